@@ -1,0 +1,59 @@
+//! What a capture gives and what a ring keeps: a frame with its place in its capture, and a packet.
+use crate::{ByteList, ItemList};
+
+/// One IEEE 802.1Q tag: its protocol identifier and its control information, both read in network order.
+#[derive(Clone, Copy, Debug, PartialEq, Eq)]
+pub struct Tag {
+    /// The tag protocol identifier, 0x8100 or 0x88a8 where `untag` took it out.
+    pub tpid: u16,
+    /// The tag control information: priority, drop eligibility and VLAN identifier.
+    pub tci: u16,
+}
+
+/// A frame of a capture.
+#[derive(Debug, Drop)]
+pub struct Frame {
+    /// The CPU whose capture it stands in, from 0.
+    pub cpu: u32,
+    /// Its number in that capture, from 0, runts counted.
+    pub index: u32,
+    /// The seconds of its time.
+    pub sec: u32,
+    /// The nanoseconds of its time, at most 999,999,999.
+    pub nsec: u32,
+    /// Its length in bytes on the wire, at least that of `bytes`.
+    pub wire: u32,
+    /// Its captured bytes, from the destination address on.
+    pub bytes: ByteList,
+    /// The tag that was taken out of it.
+    pub tag: Option<Tag>,
+}
+
+/// A packet as a reader of a ring sees it.
+#[derive(Debug, Drop)]
+pub struct Packet {
+    /// The seconds of its time.
+    pub sec: u32,
+    /// The nanoseconds of its time, at most 999,999,999.
+    pub nsec: u32,
+    /// Its length in bytes on the wire, without its tag.
+    pub wire: u32,
+    /// The receive hash, 0 where the ring isn't asked to fill it.
+    pub rxhash: u32,
+    /// The protocol of the link layer, as a number.
+    pub protocol: u16,
+    /// 0 host, 1 broadcast, 2 multicast, 3 other host.
+    pub pkttype: u8,
+    /// The source address of the link layer.
+    pub addr: [u8; 6],
+    /// The bytes that the snap length left.
+    pub bytes: ByteList,
+    /// The tag that was taken out of its frame.
+    pub tag: Option<Tag>,
+}
+
+/// Frames, in order.
+pub type Frames = ItemList<Frame>;
+
+/// Packets, in order.
+pub type Packets = ItemList<Packet>;

@@ -1,0 +1,108 @@
+//! What the link header of a frame says.
+ghost use Rattle.std.specs.Prelude.{◌≡◌, ◌+◌, ◌≤◌, ◌<◌, length, slice_index};
+ghost use Rattle.frame_view.specs.Headers.{view_of, packet_type_of, protocol_of, u16_at, address_of};
+
+/// What a frame's headers say.
+#[derive(Clone, Copy, Debug, PartialEq, Eq)]
+pub enum Headers {
+    /// Fewer than 14 bytes: no whole link header.
+    Runt,
+    /// A whole link header.
+    Plain(Link),
+}
+
+/// The link header of an Ethernet frame.
+#[derive(Clone, Copy, Debug, PartialEq, Eq)]
+pub struct Link {
+    /// The destination address.
+    pub to: [u8; 6],
+    /// The source address.
+    pub from: [u8; 6],
+    /// The protocol: the type field from 0x0600 on; for a length field below it ETH_P_802_3 (0x0001)
+    /// where a raw IPX frame follows, else ETH_P_802_2 (0x0004).
+    pub protocol: u16,
+}
+
+/// The destination address that all stations take.
+const BROADCAST: [u8; 6] = [0xff; 6];
+
+/// The least type field that is a type and no length (ETH_P_802_3_MIN of `linux/if_ether.h`).
+const LEAST_TYPE: u16 = 0x0600;
+
+/// Reads the headers of a frame, by IEEE 802.3 and the protocol numbers of `linux/if_ether.h`.
+pub fn view(bytes: &[u8]) -> Headers
+    ensures { result ≡ view_of bytes.now }
+{
+    if bytes.len() < 14 {
+        return Headers::Runt;
+    }
+    Headers::Plain(link_of(bytes))
+}
+
+fn link_of(bytes: &[u8]) -> Link
+    requires { 14 ≤ length bytes.now }
+    ensures { view_of bytes.now ≡ Headers.Plain result }
+{
+    Link {
+        to: address_at(bytes, 0),
+        from: address_at(bytes, 6),
+        protocol: protocol(bytes),
+    }
+}
+
+/// The packet type of a frame (`PACKET_HOST` and its kin of `linux/if_packet.h`): 1 for the broadcast
+/// address, else 2 for a multicast one, else 0 where no own address is given or it is the destination, else 3.
+pub fn pkttype(bytes: &[u8], own: Option<[u8; 6]>) -> u8
+    requires { 14 ≤ length bytes.now }
+    ensures { result ≡ packet_type_of bytes.now own }
+{
+    let to = address_at(bytes, 0);
+    if to == BROADCAST {
+        return 1;
+    }
+    if bytes[0] % 2 == 1 {
+        return 2;
+    }
+    match own {
+        Some(own) if to != own => 3,
+        _ => 0,
+    }
+}
+
+/// The type field, or what a length field below 0x0600 stands for.
+fn protocol(bytes: &[u8]) -> u16
+    requires { 14 ≤ length bytes.now }
+    ensures { result ≡ protocol_of bytes.now }
+{
+    let field = u16_at(bytes, 12);
+    if field >= LEAST_TYPE {
+        field
+    } else if bytes.len() > 15 && u16_at(bytes, 14) == 0xffff {
+        0x0001
+    } else {
+        0x0004
+    }
+}
+
+/// The number in the two bytes from a place, in network order.
+pub(crate) fn u16_at(bytes: &[u8], at: usize) -> u16
+    requires { at + 1 < length bytes.now }
+    ensures { result ≡ u16_at at bytes.now }
+{
+    u16::from_be_bytes([bytes[at], bytes[at + 1]])
+}
+
+/// The link address that stands from a place on.
+fn address_at(bytes: &[u8], at: usize) -> [u8; 6]
+    requires { at + 6 ≤ length bytes.now }
+    ensures { result ≡ address_of at bytes.now }
+{
+    [
+        bytes[at],
+        bytes[at + 1],
+        bytes[at + 2],
+        bytes[at + 3],
+        bytes[at + 4],
+        bytes[at + 5],
+    ]
+}
