@@ -1,0 +1,6 @@
+pub mod Sizes
+pub mod Offers
+pub mod Ring
+pub mod Fates
+pub mod Asking
+pub mod Rings
