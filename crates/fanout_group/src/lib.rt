@@ -1,0 +1,9 @@
+//! Who gets a frame: the modes of a fanout group, the log of what was tried, and the law that each frame
+//! stands exactly once.
+#![tactic(auto)]
+
+mod logs;
+mod modes;
+
+pub use logs::{ArrivalList, ArrivalLog, Fate, Try, TryList};
+pub use modes::Mode;
