@@ -1,7 +1,7 @@
 -- What the counters of a ring of lists say of its notes.
-use Rattle.std.specs.Prelude.{◌≡◌, ℕ, ◌+◌, ◌*◌, ◌%◌, ◌^◌, ◌<◌, ◌≤◌, length, option_map, IfSome}
+use Rattle.std.specs.Prelude.{◌≡◌, ℕ, ◌+◌, ◌^◌, ◌≤◌, length, option_map, IfSome}
 use Rattle.ring_model.specs.Sizes.{used_by}
-use Rattle.ring_model.specs.Ring.{Size, State, state_of}
+use Rattle.ring_model.specs.Ring.{State}
 use Rattle.ring_model.specs.Rings.{Ring, state}
 use Rattle.replay_model.specs.declared.list_ring.ListRing.TheInside.{Inside}
 
@@ -28,7 +28,6 @@ pub record IsConsistent (inside : Inside) : Type 0 where
   pub few_done : inside.done ≤ length inside.notes
   pub few_kept : inside.kept + inside.dropped ≤ length inside.notes
   pub few_freezes : inside.freezes ≤ length inside.notes
-  pub few_notes : length inside.notes < 2 ^ 63
   pub used_fits : IfSome inside.used (λ used. used ≤ inside.room)
   pub released_done : inside.released ≤ inside.done
   pub clock_small : inside.clock ≤ 2 ^ 63

@@ -1,5 +1,5 @@
 -- What a ring notes where its reader has released a known number of blocks, so that each look has one answer.
-use Rattle.std.specs.Prelude.{ℕ, ◌-◌, Bool, false, ◌||◌, List, length, nat_lt, ◌==◌, if◌then◌else◌, Option, None, Some}
+use Rattle.std.specs.Prelude.{ℕ, ◌-◌, Bool, true, false, ◌||◌, List, [], ◌∷◌, nat_lt, if◌then◌else◌, Option, None, Some}
 use Rattle.ring_model.specs.Sizes.{need_of, fits}
 use Rattle.ring_model.specs.Ring.{Size, State, next_number}
 use Rattle.ring_model.specs.declared.notes.Offer.{Offer}
@@ -42,7 +42,8 @@ try_note size released state offer = try_by offer (found_for size released state
 -- the open block has no packet
 abbrev pub is_empty_block : Option (List Offer) → Bool
 is_empty_block None = false
-is_empty_block (Some offers) = length offers == 0
+is_empty_block (Some []) = true
+is_empty_block (Some (offer ∷ offers)) = false
 
 -- what a tick finds: before the deadline and with an empty block nothing is asked
 abbrev pub tick_note : Size → ℕ → State → ℕ → Note

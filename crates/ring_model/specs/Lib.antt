@@ -4,3 +4,4 @@ pub mod Ring
 pub mod Fates
 pub mod Asking
 pub mod Rings
+pub mod Told
