@@ -3,5 +3,7 @@
 #![tactic(auto)]
 
 mod list_ring;
+mod schedule;
 
 pub use list_ring::ListRing;
+pub use schedule::{Line, Schedule};
