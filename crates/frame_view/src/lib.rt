@@ -3,12 +3,15 @@
 
 mod frames;
 mod header_reading;
+mod ip_reading;
 mod list_types;
+mod numbers;
 mod want;
 mod vlan;
 
 pub use frames::{Frame, Frames, Packet, Packets, Tag};
-pub use header_reading::{Headers, Link, pkttype, view};
+pub use header_reading::{Headers, Link, link_header, pkttype, view};
+pub use ip_reading::{V4Part, V6Part};
 pub use list_types::{ByteList, ItemList, MomentList};
 pub use vlan::{retag, untag};
 pub use want::Memory;
