@@ -40,7 +40,7 @@ abbrev pub is_v4 : List ℕ → Bool
 is_v4 bytes =
     if nat_lt (length bytes) 34 then false
     else (u16_at 12 bytes == 0x0800) && (slice_index bytes 14 / 16 == 4) && nat_le 20 (header_of bytes)
-        && nat_le (14 + header_of bytes) (length bytes) && nat_le (header_of bytes) (u16_at 16 bytes)
+    && nat_le (14 + header_of bytes) (length bytes) && nat_le (header_of bytes) (u16_at 16 bytes)
 
 -- more fragments follow: the bit 0x2000 of the two bytes of flags and offset
 abbrev pub more_of : List ℕ → Bool
@@ -59,9 +59,16 @@ v4_ports bytes =
 -- the fields of the IPv4 header
 abbrev pub v4_of : List ℕ → V4Part
 v4_of bytes = record {
-    header = header_of bytes; total = u16_at 16 bytes; ident = u16_at 18 bytes;
-    more = more_of bytes; offset = offset_of bytes; next = slice_index bytes 23;
-    from = u32_at 26 bytes; to = u32_at 30 bytes; ports = v4_ports bytes }
+  header = header_of bytes;
+  total = u16_at 16 bytes;
+  ident = u16_at 18 bytes;
+  more = more_of bytes;
+  offset = offset_of bytes;
+  next = slice_index bytes 23;
+  from = u32_at 26 bytes;
+  to = u32_at 30 bytes;
+  ports = v4_ports bytes;
+}
 
 -- whether a whole IPv6 header stands behind the link header
 abbrev pub is_v6 : List ℕ → Bool
@@ -72,8 +79,11 @@ is_v6 bytes =
 -- the fields of the IPv6 header, and the ports behind it
 abbrev pub v6_of : List ℕ → V6Part
 v6_of bytes = record {
-    next = slice_index bytes 20; from = u128_at 22 bytes; to = u128_at 38 bytes;
-    ports = ports_at 54 (slice_index bytes 20) bytes }
+  next = slice_index bytes 20;
+  from = u128_at 22 bytes;
+  to = u128_at 38 bytes;
+  ports = ports_at 54 (slice_index bytes 20) bytes;
+}
 
 -- a frame of fewer than 14 bytes is a runt; behind a whole link header may stand an IPv4 or an IPv6 header
 abbrev pub view_of : List ℕ → Headers

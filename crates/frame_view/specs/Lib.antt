@@ -1,3 +1,5 @@
+pub mod Built
 pub mod Headers
 pub mod Numbers
+pub mod PlainPacket
 pub mod Vlan

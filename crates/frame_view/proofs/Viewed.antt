@@ -1,0 +1,40 @@
+-- What the headers of a built frame say.
+use Rattle.std.proofs.Common.{◌≡◌, ℕ, ◌+◌, ◌*◌, ◌/◌, ◌%◌, ◌^◌, ◌<◌, ◌≤◌, Bool, true, false, nat_lt, nat_le, List, [], ◌∷◌, ◌++◌, length, get_or, slice_index, arith, ap, ◌∙◌, sym, refl, rules, tests, Some}
+use Rattle.std.proofs.lemmas.Bool.Decides.{nat_tests}
+use Rattle.std.specs.Int.{to_be_bytes, byte_at, w16, w32}
+use Rattle.frame_view.specs.Numbers.{u16_at, u32_at}
+use Rattle.frame_view.specs.Headers.{view_of, link_of, v4_of, v4_ports, is_v4, address_of}
+use Rattle.frame_view.specs.Built.{built, link_bytes, ip_bytes, ip_checksum, udp_bytes, headers_of}
+use Rattle.frame_view.specs.declared.frame_building.Parts.{Parts}
+use Rattle.frame_view.specs.declared.header_reading.Link.{Link}
+use Rattle.frame_view.specs.declared.header_reading.Headers.TheVariants.{V4}
+
+-- six bytes, one by one
+address_of_six : (xs : List ℕ) → length xs ≡ 6 → address_of 0 xs ≡ xs
+address_of_six (a ∷ b ∷ c ∷ d ∷ e ∷ f ∷ []) h = refl
+address_of_six xs h = absurd (omega arith)
+
+-- behind a whole link header, an IPv4 header
+view_of_v4 : (bytes : List ℕ) → nat_lt (length bytes) 14 ≡ false → is_v4 bytes ≡ true → view_of bytes ≡ V4 (link_of bytes) (v4_of bytes)
+view_of_v4 bytes whole v4 = rw (whole, v4) refl
+
+module _ (p : Parts) (to : length p.to ≡ 6) (from : length p.from ≡ 6) (few : length p.payload ≤ 1472) where
+  whole-built : nat_lt (length (built p)) 14 ≡ false
+  unfolding built link_bytes ip_bytes udp_bytes
+  whole-built = rw (← address_of_six p.to to, ← address_of_six p.from from) (grind (arith, nat_tests))
+
+  is_v4-built : is_v4 (built p) ≡ true
+  unfolding built link_bytes ip_bytes udp_bytes
+  is_v4-built = rw (← address_of_six p.to to, ← address_of_six p.from from) (grind (arith, nat_tests))
+
+  link_of-built : link_of (built p) ≡ record { to = p.to; from = p.from; protocol = 0x0800 }
+  unfolding built link_bytes ip_bytes udp_bytes
+  link_of-built = rw (← address_of_six p.to to, ← address_of_six p.from from) (grind (arith, nat_tests))
+
+  v4_of-built : p.ident < 2 ^ 16 → p.source < 2 ^ 32 → p.dest < 2 ^ 32 → p.sport < 2 ^ 16 → p.dport < 2 ^ 16 → v4_of (built p) ≡ record { header = 20; total = 28 + length p.payload; ident = p.ident; more = false; offset = 0; next = 17; from = p.source; to = p.dest; ports = Some (p.sport, p.dport) }
+  unfolding built link_bytes ip_bytes udp_bytes
+  v4_of-built ident source dest sport dport = rw (← address_of_six p.to to, ← address_of_six p.from from) (grind (arith, nat_tests))
+
+  pub view_of-built : p.ident < 2 ^ 16 → p.source < 2 ^ 32 → p.dest < 2 ^ 32 → p.sport < 2 ^ 16 → p.dport < 2 ^ 16 → view_of (built p) ≡ headers_of p
+  view_of-built ident source dest sport dport =
+      view_of_v4 (built p) whole-built is_v4-built ∙ cc (link_of-built, v4_of-built ident source dest sport dport)
