@@ -1,12 +1,9 @@
 -- What the headers of a built frame say.
-use Rattle.std.proofs.Common.{◌≡◌, ℕ, ◌+◌, ◌*◌, ◌/◌, ◌%◌, ◌^◌, ◌<◌, ◌≤◌, Bool, true, false, nat_lt, nat_le, List, [], ◌∷◌, ◌++◌, length, get_or, slice_index, arith, ap, ◌∙◌, sym, refl, rules, tests, Some}
+use Rattle.std.proofs.Common.{◌≡◌, ℕ, ◌+◌, ◌^◌, ◌<◌, ◌≤◌, true, false, nat_lt, List, [], ◌∷◌, length, arith, ◌∙◌, refl, Some}
 use Rattle.std.proofs.lemmas.Bool.Decides.{nat_tests}
-use Rattle.std.specs.Int.{to_be_bytes, byte_at, w16, w32}
-use Rattle.frame_view.specs.Numbers.{u16_at, u32_at}
-use Rattle.frame_view.specs.Headers.{view_of, link_of, v4_of, v4_ports, is_v4, address_of}
-use Rattle.frame_view.specs.Built.{built, link_bytes, ip_bytes, ip_checksum, udp_bytes, headers_of}
+use Rattle.frame_view.specs.Headers.{view_of, link_of, v4_of, is_v4, address_of}
+use Rattle.frame_view.specs.Built.{built, link_bytes, ip_bytes, udp_bytes, headers_of}
 use Rattle.frame_view.specs.declared.frame_building.Parts.{Parts}
-use Rattle.frame_view.specs.declared.header_reading.Link.{Link}
 use Rattle.frame_view.specs.declared.header_reading.Headers.TheVariants.{V4}
 
 -- six bytes, one by one

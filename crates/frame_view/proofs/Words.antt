@@ -1,6 +1,6 @@
 -- The sum of the words of some bytes, a word at a time.
-use Rattle.std.proofs.Common.{◌≡◌, ℕ, ◌+◌, ◌*◌, ◌<◌, List, [], ◌∷◌, length, get_or, drop, arith, ap, ◌∙◌, sym, refl}
-use Rattle.std.proofs.lemmas.List.{drop_more, drop_all}
+use Rattle.std.proofs.Common.{◌≡◌, ℕ, ◌+◌, ◌*◌, ◌<◌, List, ◌∷◌, length, get_or, drop, arith, ap, ◌∙◌}
+use Rattle.std.proofs.lemmas.List.{drop_more}
 use Rattle.frame_view.specs.Numbers.{u16_at}
 use Rattle.frame_view.specs.Built.{sum_of_words}
 
