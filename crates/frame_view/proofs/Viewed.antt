@@ -3,13 +3,9 @@ use Rattle.std.proofs.Common.{◌≡◌, ℕ, ◌+◌, ◌^◌, ◌<◌, ◌≤�
 use Rattle.std.proofs.lemmas.Bool.Decides.{nat_tests}
 use Rattle.frame_view.specs.Headers.{view_of, link_of, v4_of, is_v4, address_of}
 use Rattle.frame_view.specs.Built.{built, link_bytes, ip_bytes, udp_bytes, headers_of}
+use Rattle.frame_view.proofs.Addresses.{address_of_six}
 use Rattle.frame_view.specs.declared.frame_building.Parts.{Parts}
 use Rattle.frame_view.specs.declared.header_reading.Headers.TheVariants.{V4}
-
--- six bytes, one by one
-address_of_six : (xs : List ℕ) → length xs ≡ 6 → address_of 0 xs ≡ xs
-address_of_six (a ∷ b ∷ c ∷ d ∷ e ∷ f ∷ []) h = refl
-address_of_six xs h = absurd (omega arith)
 
 -- behind a whole link header, an IPv4 header
 view_of_v4 : (bytes : List ℕ) → nat_lt (length bytes) 14 ≡ false → is_v4 bytes ≡ true → view_of bytes ≡ V4 (link_of bytes) (v4_of bytes)

@@ -2,7 +2,7 @@
 use Rattle.std.proofs.Common.{◌≡◌, ℕ, ◌+◌, ◌*◌, ◌<◌, List, ◌∷◌, length, get_or, drop, arith, ap, ◌∙◌}
 use Rattle.std.proofs.lemmas.List.{drop_more}
 use Rattle.frame_view.specs.Numbers.{u16_at}
-use Rattle.frame_view.specs.Built.{sum_of_words}
+use Rattle.frame_view.specs.InternetChecksum.{sum_of_words}
 
 -- one more word from an even place
 pub sum_of_words-drop : (bytes : List ℕ) (word : ℕ) → 2 * word + 1 < length bytes → sum_of_words (drop (2 * word) bytes) ≡ u16_at (2 * word) bytes + sum_of_words (drop (2 * (word + 1)) bytes)

@@ -1,27 +1,10 @@
 -- A UDP datagram in one IPv4 packet in an Ethernet frame, byte for byte.
 use Rattle.std.specs.Prelude.{ℕ, ◌+◌, ◌-◌, ◌*◌, ◌/◌, ◌%◌, ◌^◌, List, [], ◌∷◌, ◌++◌, length, false, Some}
 use Rattle.std.specs.Int.{to_be_bytes, w16, w32}
+use Rattle.frame_view.specs.InternetChecksum.{checksum_of}
 use Rattle.frame_view.specs.declared.frame_building.Parts.{Parts}
 use Rattle.frame_view.specs.declared.header_reading.Headers.{Headers}
 use Rattle.frame_view.specs.declared.header_reading.Headers.TheVariants.{V4}
-
--- the sum of the 16-bit words of some bytes; an odd last byte has a zero behind it (RFC 1071)
-abbrev pub sum_of_words : List ℕ → ℕ
-sum_of_words [] = 0
-sum_of_words (high ∷ []) = high * 256
-sum_of_words (high ∷ low ∷ rest) = high * 256 + low + sum_of_words rest
-
--- what is above 16 bits added to what is below: the carries of a ones' complement sum
-abbrev pub folded : ℕ → ℕ
-folded sum = sum / 2 ^ 16 + sum % 2 ^ 16
-
--- the ones' complement sum of the words: of fewer than 2 ^ 32, two folds leave 16 bits
-abbrev pub ones_sum : List ℕ → ℕ
-ones_sum bytes = folded (folded (sum_of_words bytes))
-
--- the Internet checksum of RFC 1071, the ones' complement of that sum
-unfoldable pub checksum_of : List ℕ → ℕ
-checksum_of bytes = 0xffff - ones_sum bytes
 
 -- the Ethernet header, with the type of IPv4
 unfoldable pub link_bytes : Parts → List ℕ

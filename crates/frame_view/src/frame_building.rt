@@ -1,10 +1,10 @@
 //! A UDP datagram in one IPv4 packet in an Ethernet frame, made from its parts.
-ghost use Rattle.std.specs.Prelude.{◌≡◌, ◌+◌, ◌%◌, ◌≤◌, ◌<◌, ◌^◌, ◌++◌, length, IfOk, OnOk};
+ghost use Rattle.std.specs.Prelude.{◌≡◌, ◌+◌, ◌%◌, ◌≤◌, ◌<◌, ◌^◌, ◌++◌, length, take, drop, IfOk, OnOk};
 ghost use Rattle.frame_view.specs.Headers.{view_of};
-ghost use Rattle.frame_view.specs.Built.{built, link_bytes, ip_bytes, ip_checksum, udp_bytes, headers_of, checksum_of, sum_of_words, folded, ones_sum};
+ghost use Rattle.frame_view.specs.Built.{built, link_bytes, ip_bytes, ip_checksum, udp_bytes, headers_of};
+ghost use Rattle.frame_view.specs.InternetChecksum.{checksum_of};
 
-use crate::numbers::u16_at;
-use crate::{ByteList, Memory};
+use crate::{ByteList, Memory, checksum};
 use std::alloc::Global;
 
 /// What a made frame says: two link addresses, and a UDP datagram with its addresses and ports.
@@ -35,6 +35,8 @@ pub struct Parts {
 pub fn build(alloc: Global, parts: &Parts) -> Result<ByteList, Memory>
     requires { length parts.now.payload ≤ 1472 }
     ensures bytes { IfOk result (λ bytes. bytes ≡ built parts.now) }
+    // The receiver's test of the IPv4 header.
+    ensures checked { IfOk result (λ bytes. checksum_of (take 20 (drop 14 bytes)) ≡ 0) }
     ensures viewed { IfOk result (λ bytes. view_of bytes ≡ headers_of parts.now) }
 {
     let payload = parts.payload.as_slice();
@@ -93,26 +95,4 @@ fn udp_header(sport: u16, dport: u16, payload: usize) -> [u8; 8]
     let to = dport.to_be_bytes();
     let len = (8 + payload as u16).to_be_bytes();
     [from[0], from[1], to[0], to[1], len[0], len[1], 0, 0]
-}
-
-/// The Internet checksum of a header (RFC 1071): the ones' complement of the ones' complement sum of its
-/// words of 16 bits. Over a header that has its checksum in place it is 0.
-#[tactic(auto, using(crate::proofs::Words::words), unfolding(crate::specs::Built::checksum_of))]
-pub fn checksum(header: &[u8]) -> u16
-    requires even { length header.now % 2 ≡ 0 }
-    requires short { length header.now ≤ 65535 }
-    ensures { result ≡ checksum_of header.now }
-{
-    let mut sum = 0_u32;
-    for word in 0..header.len() / 2 {
-        sum += u32::from(u16_at(header, 2 * word));
-    }
-    !(fold(fold(sum)) as u16)
-}
-
-/// Adds what is above 16 bits to what is below.
-fn fold(sum: u32) -> u32
-    ensures { result ≡ folded sum }
-{
-    (sum >> 16) + (sum & 0xffff)
 }
