@@ -1,0 +1,3 @@
+pub mod Writes
+pub mod FileLists
+pub mod Counting
