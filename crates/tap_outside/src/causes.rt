@@ -1,10 +1,12 @@
 //! Why a call to the outside fails.
-ghost use Rattle.std.specs.Prelude.{◌≡◌};
+ghost use Rattle.std.specs.Prelude.{◌≡◌, ◌↔◌};
+ghost use Rattle.std.specs.IoError.{error_kind};
+ghost use Rattle.std.specs.declared.io.ErrorKind.TheVariants.{OutOfMemory};
 ghost use Rattle.tap_outside.specs.declared.causes.OutError.TheVariants.{Failed, Memory};
 
 use std::alloc::{AllocError, AllocFailed};
 use std::error::Error;
-use std::fmt;
+use std::{fmt, io};
 
 /// The outside failed: a read, a write, a fetch or a save went wrong, and its object counted a fault.
 #[derive(Clone, Copy, Debug, PartialEq, Eq)]
@@ -67,5 +69,17 @@ impl<T: Drop> From<AllocFailed<T>> for OutError {
 
     fn from(_: AllocFailed<T>) -> OutError {
         OutError::Memory
+    }
+}
+
+impl From<io::Error> for OutError {
+    ghost from_gives = { λ error e. (e ≡ Memory) ↔ (error_kind error ≡ OutOfMemory) };
+
+    /// Want of memory, where the system tells it, else a fault. Who hands it on as a fault counts it.
+    fn from(error: io::Error) -> OutError {
+        match error.kind() {
+            io::ErrorKind::OutOfMemory => OutError::Memory,
+            _ => OutError::Failed,
+        }
     }
 }
