@@ -1,0 +1,52 @@
+-- What stores in memory stand for.
+use Rattle.std.specs.Prelude.{◌≡◌, ◌≢◌, ℕ, List, Option, Some, IsNone, ◌⊎◌, Contains, find, bytes_eq, option_map}
+use Rattle.tap_outside.specs.Contents.{Contents}
+use Rattle.tap_outside.specs.Counts.{counted}
+use Rattle.tap_outside.specs.Sources.{MemSourceState, fresh_source}
+
+-- a file in memory
+pub record HeldFile : Type 0 where
+  pub name : List ℕ
+  pub bytes : List ℕ
+  -- the most bytes that one read of it gives
+  pub piece : ℕ
+  -- the numbers, from 1, of the reads of it that fail
+  pub failing : List ℕ
+
+-- the file of a name
+abbrev pub file_of : List HeldFile → List ℕ → Option HeldFile
+file_of files name = find (λ file. bytes_eq file.name name) files
+
+-- what each name holds
+abbrev pub contents_of : List HeldFile → Contents
+contents_of files name = option_map (λ file. file.bytes) (file_of files name)
+
+-- a source of a file, before its first read
+abbrev pub source_of : HeldFile → MemSourceState
+source_of file = fresh_source file.bytes file.piece file.failing
+
+-- the file stands under its name, and every other name has the file that it had
+pub record PutsFile (old new : List HeldFile) (file : HeldFile) : Type 0 where
+  pub there : file_of new file.name ≡ Some file
+  pub others : (other : List ℕ) → other ≢ file.name → file_of new other ≡ file_of old other
+
+-- a store in memory
+pub record MemStoreState : Type 0 where
+  pub files : List HeldFile
+  -- the numbers, from 1, of the fetches that fail
+  pub failing_fetches : List ℕ
+  -- the numbers, from 1, of the saves that fail
+  pub failing_saves : List ℕ
+  -- the number of fetches so far, those left out that wanted memory
+  pub fetches : ℕ
+  -- the number of saves so far, those left out that wanted memory
+  pub saves : ℕ
+  -- the number of fetches that failed, and of sources that had a fault when they were closed
+  pub read_faults : ℕ
+  -- the number of saves that failed
+  pub save_faults : ℕ
+
+-- the next fetch is one that is to fail, or the name isn't held
+abbrev pub FetchFails : MemStoreState → List ℕ → Type 0
+FetchFails store name =
+    Contains store.failing_fetches (counted store.fetches) ⊎ IsNone (file_of store.files name)
