@@ -1,5 +1,5 @@
 -- What frames arrive. Every frame is untagged first; one of fewer than 14 bytes then is no arrival.
-use Rattle.std.specs.Prelude.{ℕ, List, [], ◌∷◌, ◌++◌, length, map, nat_lt, if◌then◌else◌, Option, None, Some, option_to_list}
+use Rattle.std.specs.Prelude.{List, [], ◌∷◌, ◌++◌, length, map, nat_lt, if◌then◌else◌, Option, None, Some, option_to_list}
 use Rattle.frame_view.specs.Vlan.{untagged}
 use Rattle.frame_view.specs.declared.frames.Frame.{Frame}
 

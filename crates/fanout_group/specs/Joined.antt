@@ -7,7 +7,6 @@ use Rattle.ring_model.specs.Fates.{frame_notes}
 use Rattle.ring_model.specs.declared.notes.Note.{Note}
 use Rattle.ring_model.specs.declared.notes.Note.TheVariants as notes
 use Rattle.fanout_group.specs.Rules.{Rules}
-use Rattle.fanout_group.specs.declared.modes.Mode.{Mode}
 use Rattle.fanout_group.specs.declared.modes.Mode.TheVariants.{Lb}
 use Rattle.fanout_group.specs.declared.logs.ArrivalLog.{ArrivalLog}
 use Rattle.fanout_group.specs.declared.logs.Fate.{Fate}

@@ -2,8 +2,10 @@
 //! stands exactly once.
 #![tactic(auto)]
 
+mod laws;
 mod logs;
 mod modes;
 
+pub use laws::each_frame_stands_exactly_once;
 pub use logs::{ArrivalList, ArrivalLog, Fate, Try, TryList};
 pub use modes::Mode;
