@@ -4,8 +4,8 @@
 mod frames;
 mod header_reading;
 mod list_types;
-mod want;
 mod vlan;
+mod want;
 
 pub use frames::{Frame, Frames, Packet, Packets, Tag};
 pub use header_reading::{Headers, Link, pkttype, view};
