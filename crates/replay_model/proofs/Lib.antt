@@ -1,2 +1,10 @@
 pub mod Noted
 pub mod Closings
+pub mod Places
+pub mod Rings
+pub mod Tries
+pub mod Going
+pub mod Arriving
+pub mod Feeding
+pub mod Ending
+pub mod Captures

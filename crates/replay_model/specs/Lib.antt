@@ -1,2 +1,3 @@
 pub mod Consistent
 pub mod Replay
+pub mod Reports

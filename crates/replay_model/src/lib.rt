@@ -2,8 +2,12 @@
 //! blocks as lists, and one CPU after the other.
 #![tactic(auto)]
 
+mod laws;
 mod list_ring;
 mod schedule;
 
+pub use laws::{
+    a_replay_reports_a_group, captures_give_arrivals, each_frame_of_a_replay_stands_exactly_once,
+};
 pub use list_ring::ListRing;
 pub use schedule::{Line, Schedule};
