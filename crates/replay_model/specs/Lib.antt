@@ -1,2 +1,7 @@
 pub mod Consistent
 pub mod Replay
+pub mod Plain
+pub mod Feeds
+pub mod Rounds
+pub mod Sound
+pub mod Reported

@@ -2,8 +2,15 @@
 //! blocks as lists, and one CPU after the other.
 #![tactic(auto)]
 
+mod cpu_feed;
 mod list_ring;
+mod plain_replay;
+mod replay_run;
+mod rounds;
+mod rules;
 mod schedule;
 
 pub use list_ring::ListRing;
+pub use plain_replay::{Closed, Replayed, replay};
+pub use rules::{PlainRules, RingSize};
 pub use schedule::{Line, Schedule};
