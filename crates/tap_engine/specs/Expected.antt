@@ -1,10 +1,11 @@
 -- What a call comes to, by what the outside gave.
-use Rattle.std.specs.Prelude.{◌≡◌, ℕ, List, [], ◌∷◌, ◌++◌, codes, Option, None, Some, ⊤}
+use Rattle.std.specs.Prelude.{◌≡◌, ◌⊎◌, ℕ, ◌+◌, List, [], ◌∷◌, ◌++◌, codes, Option, None, Some, ⊤}
 use Rattle.std.specs.Fmt.{decimal}
 use Rattle.capture_file.specs.Output.{output_of}
 use Rattle.fanout_group.specs.declared.runs.CpuEnd.{CpuEnd}
 use Rattle.fanout_group.specs.declared.runs.CpuEnd.TheVariants.{Whole, Fault, Damaged}
 use Rattle.fanout_group.specs.declared.runs.CpuLog.{CpuLog}
+use Rattle.ring_model.specs.Ring.{Size}
 use Rattle.setup_text.specs.declared.reports.MemberReport.{MemberReport}
 use Rattle.setup_text.specs.declared.reports.RunReport.{RunReport}
 use Rattle.setup_text.specs.declared.setups.Setup.{Setup}
@@ -13,7 +14,7 @@ use Rattle.tap_printing.specs.Lines.{summary_of}
 use Rattle.tap_reading.specs.Fronts.{IsTextOf}
 use Rattle.tap_engine.specs.Commands.{Named}
 use Rattle.tap_engine.specs.Headline.{IsHeadline}
-use Rattle.tap_engine.specs.Runs.{accepted_schedule, accepted_setup, size_of_setup}
+use Rattle.tap_engine.specs.Runs.{accepted_schedule, accepted_setup}
 use Rattle.tap_engine.specs.declared.outcomes.Input.{Input}
 use Rattle.tap_engine.specs.declared.outcomes.Input.TheVariants as inputs
 use Rattle.tap_engine.specs.declared.outcomes.Status.{Status}
@@ -85,13 +86,17 @@ report_in unread = None
 report_in (unready input) = None
 report_in (reported report) = Some report
 
+-- the statistics that are printed hang on the time-out alone, which is that of every setup
+abbrev pub printed_size : Size
+printed_size = record { room = 0; blocks = 0; tov = 8 }
+
 -- the printed lines
 abbrev pub lines_of : Expected → List ℕ
 lines_of no_command = codes "usage: ringtap check|replay|capture|send|make CONF [SCHED]\n"
 lines_of unread = codes "read fault\n"
 lines_of (unready inputs.Setup) = codes "not built: setup\n"
 lines_of (unready inputs.Schedule) = codes "not built: schedule\n"
-lines_of (reported report) = summary_of report
+lines_of (reported report) = summary_of printed_size report
 
 -- each member's file holds the output of its packets, from a member on
 abbrev pub HoldOutputs : Option Contents → ℕ → List MemberReport → Type 0
@@ -102,3 +107,16 @@ HoldOutputs held member (report ∷ reports) =
 abbrev pub HoldsOutput : Option Contents → Expected → Type 0
 HoldsOutput held (reported report) = HoldOutputs held 0 report.members
 HoldsOutput held e = ⊤
+
+-- the line that is printed where no run is made
+abbrev pub refusal_line : Status → List ℕ
+refusal_line statuses.ReadFault = lines_of unread
+refusal_line (statuses.Unready input) = lines_of (unready input)
+refusal_line status = lines_of no_command
+
+-- no run is made, with this status
+abbrev pub IsRefusal : Status → Expected → Type 0
+IsRefusal status no_command = status ≡ statuses.Usage
+IsRefusal status unread = status ≡ statuses.ReadFault
+IsRefusal status (unready input) = status ≡ statuses.Unready input
+IsRefusal status (reported report) = ⊥

@@ -4,3 +4,8 @@ pub mod Names
 pub mod Headline
 pub mod Expected
 pub mod Conclusions
+pub mod Stops
+pub mod Jobs
+pub mod Reporting
+pub mod Concluding
+pub mod Making

@@ -5,6 +5,7 @@ ghost use Rattle.tap_engine.specs.Commands.{command_of};
 use tap_outside::Word;
 
 /// A command: a replay of a setup by a schedule, which are files.
+#[derive(Clone, Copy)]
 pub(crate) struct Command<'a> {
     /// The name of the setup.
     pub setup: &'a [u8],
@@ -21,7 +22,7 @@ pub(crate) fn command_of(words: &[Word]) -> Option<Command<'_>>
         return None;
     };
     let (setup, schedule) = (setup.bytes(), schedule.bytes());
-    if command.bytes() == b"replay" && !setup.is_empty() && !schedule.is_empty() {
+    if command.bytes() == b"replay".as_slice() && !setup.is_empty() && !schedule.is_empty() {
         Some(Command { setup, schedule })
     } else {
         None

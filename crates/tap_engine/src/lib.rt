@@ -2,9 +2,13 @@
 #![tactic(auto)]
 
 mod commands;
+mod concluding;
 mod jobs;
+mod making;
 mod outcomes;
+mod reporting;
 mod running;
+mod stops;
 mod walking;
 
 pub use outcomes::{Input, Outcome, Status};

@@ -1,7 +1,8 @@
 //! The packets that a run kept.
-ghost use Rattle.std.specs.Prelude.{◌≡◌, ◌≤◌, false, length, map, All, IfOk};
+ghost use Rattle.std.specs.Prelude.{◌≡◌, ◌≤◌, false, length, map, take, IfOk};
 ghost use Rattle.ring_model.specs.Fates.{kept_of};
 ghost use Rattle.ring_model.specs.Offers.{packet_of};
+ghost use Rattle.tap_engine.specs.Reporting.{AreKeptWhole};
 
 use frame_view::{ByteList, Memory, Packet, Packets, link_header};
 use ring_model::{Note, Notes, Offer};
@@ -9,7 +10,7 @@ use std::alloc::Global;
 
 /// The packets of the offers that were kept, in order.
 pub(crate) fn walked(alloc: Global, notes: &Notes) -> Result<Packets, Memory>
-    requires { All (λ offer. 14 ≤ length offer.frame.bytes) (kept_of notes.now) }
+    requires { AreKeptWhole notes.now }
     ensures { IfOk result (λ packets. packets ≡ map (packet_of false) (kept_of notes.now)) }
 {
     let mut packets = Packets::new(alloc);
@@ -29,7 +30,6 @@ fn packet(alloc: Global, offer: &Offer) -> Result<Packet, Memory>
     let frame = &offer.frame;
     let bytes = frame.bytes.as_slice();
     let link = link_header(bytes);
-    let (kept, _) = bytes.split_at(bytes.len().min(offer.snap as usize));
     Ok(Packet {
         sec: frame.sec,
         nsec: frame.nsec,
@@ -38,7 +38,19 @@ fn packet(alloc: Global, offer: &Offer) -> Result<Packet, Memory>
         protocol: link.protocol,
         pkttype: offer.pkttype,
         addr: link.from,
-        bytes: ByteList::from_vec(kept.to_vec(alloc)?),
+        bytes: ByteList::from_vec(front(bytes, offer.snap).to_vec(alloc)?),
         tag: frame.tag,
     })
+}
+
+/// So many bytes from the front, or all where there are fewer.
+fn front(bytes: &[u8], count: u32) -> &[u8]
+    ensures { result.now ≡ take count bytes.now }
+{
+    let count = count as usize;
+    if count < bytes.len() {
+        bytes.split_at(count).0
+    } else {
+        bytes
+    }
 }

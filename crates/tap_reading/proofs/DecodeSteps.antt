@@ -1,6 +1,7 @@
 -- What holds of a decoder and its frames between two reads.
-use Rattle.std.proofs.Common.{◌≡◌, ◌≢◌, ℕ, false, append-nil, subst, ◌+◌, ◌≤◌, List, [], ◌∷◌, ◌++◌, length, Option, None, Some, refl, sym, ap, ◌∙◌, arith, length-append}
-use Rattle.std.specs.Prelude.{Result, Ok, Err, unwrap_or}
+use Rattle.std.proofs.Common.{◌≡◌, ◌≢◌, ℕ, false, append-nil, subst, inl, inr, ◌+◌, ◌≤◌, List, [], ◌∷◌, ◌++◌, length, Option, None, Some, refl, sym, ap, ◌∙◌, arith, length-append}
+use Rattle.std.specs.Prelude.{Result, Ok, Err, unwrap_or, IsSome, ◌<◌}
+use Rattle.std.proofs.lemmas.Bool.{cases_lt}
 use Rattle.std.specs.Io.KnownBytes.{Consumes, IsAtEnd}
 use Rattle.frame_view.specs.declared.frames.Frame.{Frame}
 use Rattle.capture_file.specs.Capture.{damage_of, end_of, frames_of}
@@ -147,3 +148,12 @@ is_nothing held name cpu capture frames given end = (
     all = (end_is_fault capture.end (capture.end ≡ end_by (end_of [])) (IsAllOf held name []) end).1;
   },
 )
+
+-- what is sound isn't larger than captures may be
+pub is_small : (bytes : List ℕ) → damage_of bytes ≡ None → (33554432 < length bytes → IsSome (damage_of bytes)) → length bytes ≤ 33554432
+is_small bytes sound h =
+    elim (cases_lt 33554432 (length bytes)) [ inl more ↦ absurd (none_is_some (damage_of bytes) sound (h more)) | inr few ↦ few ]
+  where
+    none_is_some : (d : Option CaptureError) → d ≡ None → IsSome d → ⊥
+    none_is_some None e some = cc
+    none_is_some (Some x) e some = cc

@@ -10,7 +10,8 @@ ghost use Rattle.tap_reading.specs.Stores.{IsReadOnly};
 use crate::Capture;
 use crate::texts::{PIECE, zeros};
 use capture_file::{
-    CaptureError, Decoder, a_sound_capture_is_small, damage_is_the_end, no_bytes_have_no_frames,
+    CaptureError, Decoder, an_empty_capture_has_no_frames, damage_is_the_end,
+    too_many_bytes_are_damage,
 };
 use fanout_group::CpuEnd;
 use frame_view::{Frames, Memory};
@@ -50,7 +51,7 @@ fn nothing(alloc: Global) -> Capture
     ensures given { result.given ≡ 0 }
     ensures end { result.end ≡ Fault }
 {
-    no_bytes_have_no_frames();
+    an_empty_capture_has_no_frames();
     Capture {
         frames: Frames::new(alloc),
         given: 0,
@@ -65,9 +66,9 @@ fn decode<I: Source>(alloc: Global, input: &mut I, cpu: u32) -> Result<Capture, 
         IsDecoded (I.left input.old) (I.left input.new) cpu capture bytes) }
     ensures fault { IfOk result (λ capture. capture.end ≡ Fault → 0 < I.faults input.new) }
 {
-    no_bytes_have_no_frames();
+    an_empty_capture_has_no_frames();
     damage_is_the_end();
-    a_sound_capture_is_small();
+    too_many_bytes_are_damage();
     let mut decoder = Decoder::new(alloc, cpu);
     let mut frames = Frames::new(alloc);
     let mut buffer = zeros(alloc, PIECE)?;

@@ -3,7 +3,7 @@ use Rattle.std.specs.Prelude.{List, ℕ, Option}
 use Rattle.std.specs.Io.KnownBytes.{Consumes}
 use Rattle.capture_file.specs.declared.error.CaptureError.{CaptureError}
 use Rattle.tap_reading.specs.Captures.{Feeds}
-use Rattle.tap_reading.proofs.DecodeSteps.{IsDecoding, breaks, ends, goes_on}
+use Rattle.tap_reading.proofs.DecodeSteps.{IsDecoding, breaks, ends, goes_on, is_small}
 use Rattle.tap_reading.proofs.decoding.decode.Goals as goal
 
 pub returns-then-count-eq0-clause-decoded : goal.returns-then-count-eq0-clause-decoded
@@ -21,7 +21,7 @@ reading-preserved g c =
     let next : IsDecoding (left c.args.input.now) (left c.read.new.self) c.args.cpu c.feed_one.new.decoder c.feed_one.new.frames (c.reading.given + c.in-Ok.count) =
     goes_on _ _ _ _ _ _ _ _ _ _ piece c.reading.invariant.0 taken c.split_at.ensures.front_len
     (λ number fed stands. subst (λ (d : Option CaptureError). Feeds number fed piece c.feed_one.new.decoder c.reading.frames c.feed_one.new.frames d) c.in_default-2.is (c.in_ok-damage.ensures number fed stands)) in
-    let small : length next.bytes ≤ 33554432 = c.a_sound_capture_is_small.ensures next.bytes next.sound in
+    let small : length next.bytes ≤ 33554432 = is_small next.bytes next.sound (c.too_many_bytes_are_damage.ensures next.bytes) in
     (next, c.reading.invariant.1, omega arith, omega (arith, next.given_is))
 
 pub returns-in-Some-clause-decoded : goal.returns-in-Some-clause-decoded
