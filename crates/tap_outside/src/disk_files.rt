@@ -1,7 +1,6 @@
 //! Real files. What they hold is the system's word, so nothing here tells any content.
-ghost use Rattle.std.specs.Prelude.{◌≡◌, ◌<◌, ◌≤◌, true, refl, None, length, drop, IfOk, OnErr};
+ghost use Rattle.std.specs.Prelude.{◌≡◌, true, refl, None, IfOk};
 ghost use Rattle.std.specs.Io.{ReadsAtMost};
-ghost use Rattle.tap_outside.specs.Counts.{counted};
 
 use crate::{Failed, OutError, Source, Store};
 use std::fs::OpenFile;

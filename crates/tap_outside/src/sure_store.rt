@@ -1,8 +1,8 @@
 //! A store in memory that has no fault.
-ghost use Rattle.std.specs.Prelude.{◌≡◌, ◌<◌, ◌≤◌, [], true, refl, None, Some, length, drop, IfOk, OnOk, OnErr, IsOk};
+ghost use Rattle.std.specs.Prelude.{◌≡◌, ◌<◌, ◌≤◌, true, refl, None, Some, length, drop, IfOk, OnOk, OnErr, IsOk};
 ghost use Rattle.std.specs.Io.{ReadsAtMost};
 ghost use Rattle.std.specs.Io.KnownBytes.{ReadConsumes};
-ghost use Rattle.tap_outside.specs.Contents.{GivesFile, HoldsFile, KeepsOthers};
+ghost use Rattle.tap_outside.specs.Contents.{HoldsFile, KeepsOthers};
 ghost use Rattle.tap_outside.specs.Stores.{contents_of};
 
 use crate::memory_files::{MemFile, file_named, put_file};
