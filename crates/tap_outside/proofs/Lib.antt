@@ -1,2 +1,2 @@
-pub mod Writes
-pub mod FileLists
+mod Writes
+mod FileLists

@@ -78,6 +78,10 @@ abbrev pub after_failed_fetch : MemStoreState → MemStoreState
 after_failed_fetch store =
     record store { fetches = counted store.fetches; read_faults = counted store.read_faults }
 
+-- a store after it took back a source that had a fault
+abbrev pub after_faulty_close : MemStoreState → MemStoreState
+after_faulty_close store = record store { read_faults = counted store.read_faults }
+
 -- a store after a save that left it these files
 abbrev pub after_save : MemStoreState → List HeldFile → MemStoreState
 after_save store held = record store { files = held; saves = counted store.saves }

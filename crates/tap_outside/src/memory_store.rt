@@ -3,7 +3,7 @@ ghost use Rattle.std.specs.Prelude.{◌≡◌, ◌<◌, ◌≤◌, ◌↔◌, []
 ghost use Rattle.tap_outside.specs.Counts.{counted, Rose};
 ghost use Rattle.tap_outside.specs.Contents.{GivesFile, HoldsFile, KeepsOthers};
 ghost use Rattle.tap_outside.specs.Outcomes.{OnFailed, OnMemory};
-ghost use Rattle.tap_outside.specs.Stores.{FetchFails, PutsFile, after_failed_fetch, after_failed_save, after_fetch, after_save, contents_of, file_of, file_with, fresh_store, source_of};
+ghost use Rattle.tap_outside.specs.Stores.{FetchFails, PutsFile, after_failed_fetch, after_failed_save, after_faulty_close, after_fetch, after_save, contents_of, file_of, file_with, fresh_store, source_of};
 
 use crate::memory_files::{MemFile, file_named, put_file};
 use crate::{MemSource, OutError, Store};
@@ -12,7 +12,7 @@ use std::alloc::Global;
 use std::marker::Model;
 
 /// The most bytes that one read of a saved file gives.
-const SAVED_PIECE: usize = 65_536;
+pub(crate) const SAVED_PIECE: usize = 65_536;
 
 /// A store that keeps its files in memory. Contracts see its files, the numbers of the fetches and of the
 /// saves that fail, and how many of each there were and failed.
@@ -154,10 +154,14 @@ impl Store for MemStore {
     }
 
     fn close(&mut self, input: MemSource)
-        ensures faulty { 0 < input.faults → Rose self.old.read_faults self.new.read_faults }
-        ensures faultless { input.faults ≡ 0 → self.new.read_faults ≡ self.old.read_faults }
+        ensures faulty { 0 < input.faults → self.new ≡ after_faulty_close self.old }
+        ensures faultless { input.faults ≡ 0 → self.new ≡ self.old }
+
+        // What each store promises.
+        ensures rose { 0 < input.faults → Rose self.old.read_faults self.new.read_faults }
         ensures later { self.old.read_faults ≤ self.new.read_faults }
-        ensures same { self.new ≡ record self.old { read_faults = self.new.read_faults } }
+        ensures same_files { self.new.files ≡ self.old.files }
+        ensures same_faults { self.new.save_faults ≡ self.old.save_faults }
     {
         if input.faults() > 0 {
             self.read_faults = self.read_faults.saturating_add(1);
