@@ -1,0 +1,4 @@
+pub mod Members
+pub mod Settling
+pub mod Routing
+pub mod Standing

@@ -1,0 +1,23 @@
+-- What the headers of the frame say, and that its checksum is right, at the bytes that it was built of.
+use Rattle.std.proofs.Common.{◌≡◌, ℕ, List, ap, ◌∙◌, arith, take, drop}
+use Rattle.std.proofs.lemmas.Grind.{common_steps}
+use Rattle.frame_view.specs.Headers.{view_of}
+use Rattle.frame_view.specs.Built.{built}
+use Rattle.frame_view.specs.InternetChecksum.{checksum_of}
+use Rattle.frame_view.proofs.Viewed.{view_of-built}
+use Rattle.frame_view.proofs.Checked.{checksum_of-built}
+use Rattle.frame_view.proofs.frame_building.build.Goals as goal
+
+pub returns-clause-viewed : goal.returns-clause-viewed
+unfolding built
+returns-clause-viewed c =
+    let viewed = view_of-built c.args.parts.now (omega arith) (omega arith) (omega arith) (omega arith) (omega arith) (omega arith) (omega arith) (omega arith) in
+    let bytes : c.from_vec.result ≡ built c.args.parts.now = grind (arith, common_steps) in
+    ap view_of bytes ∙ viewed
+
+pub returns-clause-checked : goal.returns-clause-checked
+unfolding built
+returns-clause-checked c =
+    let checked = checksum_of-built c.args.parts.now (omega arith) (omega arith) in
+    let bytes : c.from_vec.result ≡ built c.args.parts.now = grind (arith, common_steps) in
+    ap (λ (b : List ℕ). checksum_of (take 20 (drop 14 b))) bytes ∙ checked

@@ -1,0 +1,10 @@
+//! The notes of a receive ring, what they speak of, and the definitions of the ring.
+#![tactic(auto)]
+
+mod laws;
+mod notes;
+mod sizes;
+
+pub use laws::{a_ring_with_blocks_left_drops_nothing, puts_stand, ticks_stand, tries_stand};
+pub use notes::{Found, Note, Notes, Offer, Put, Stats, Tried, Unput};
+pub use sizes::{due, need};
