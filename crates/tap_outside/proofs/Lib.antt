@@ -1,2 +1,3 @@
-mod Writes
+pub mod Fronts
 mod FileLists
+mod Writes

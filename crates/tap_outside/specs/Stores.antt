@@ -7,6 +7,7 @@ use Rattle.tap_outside.specs.Sources.{MemSourceState, fresh_source}
 -- a file in memory
 pub record HeldFile : Type 0 where
   pub name : List ℕ
+  -- what the name holds
   pub bytes : List ℕ
   -- the most bytes that one read of it gives
   pub piece : ℕ
@@ -37,6 +38,7 @@ pub record PutsFile (old new : List HeldFile) (file : HeldFile) : Type 0 where
 
 -- a store in memory
 pub record MemStoreState : Type 0 where
+  -- the files, of which the first of a name is that name's
   pub files : List HeldFile
   -- the numbers, from 1, of the fetches that fail
   pub failing_fetches : List ℕ

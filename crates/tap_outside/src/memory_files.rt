@@ -11,6 +11,7 @@ use std::marker::Model;
 #[derive(Debug, Drop)]
 pub(crate) struct MemFile {
     name: ByteList,
+    /// What the name holds.
     bytes: ByteList,
     /// The most bytes that one read gives, at least 1.
     piece: usize,

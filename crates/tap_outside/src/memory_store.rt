@@ -18,6 +18,7 @@ pub(crate) const SAVED_PIECE: usize = 65_536;
 /// saves that fail, and how many of each there were and failed.
 #[derive(Debug, Drop)]
 pub struct MemStore {
+    /// What gives memory for the files and for the sources.
     alloc: Global,
     /// The files, each name once.
     files: Vec<MemFile>,

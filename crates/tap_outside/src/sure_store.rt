@@ -64,6 +64,7 @@ impl Source for SureSource {
 /// Contracts see its files.
 #[derive(Debug, Drop)]
 pub struct SureStore {
+    /// What gives memory for the files and for the sources.
     alloc: Global,
     /// What keeps the files. No list makes it fail, and its counts are not looked at.
     files: MemStore,
