@@ -24,7 +24,7 @@ home_below Cpu members hash ticket cpu queue present some at = omega arith
 home_below Qm members hash ticket cpu queue present some at = omega arith
 home_below Rollover members hash ticket cpu queue present some at = at
 
-home_is_member : (rules : Rules) (present : ℕ) (ticket : Option ℕ) (frame : Frame) → 0 < rules.members → present < rules.members
+pub home_is_member : (rules : Rules) (present : ℕ) (ticket : Option ℕ) (frame : Frame) → 0 < rules.members → present < rules.members
     → home_of rules present ticket frame < rules.members
 home_is_member rules present ticket frame some at =
     home_below rules.mode rules.members (rules.hash frame) (unwrap_or ticket 0) frame.cpu (rules.queue frame.cpu) present some at

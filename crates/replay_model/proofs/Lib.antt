@@ -1,2 +1,14 @@
 pub mod Noted
 pub mod Closings
+pub mod Places
+pub mod Rings
+pub mod Tries
+pub mod Going
+pub mod Arriving
+pub mod Feeding
+pub mod Ending
+pub mod Captures
+pub mod Turns
+pub mod Soundness
+pub mod Clocks
+pub mod FeedSteps
