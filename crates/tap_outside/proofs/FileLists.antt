@@ -22,7 +22,7 @@ other_name : (a b : List ℕ) → b ≢ a → bytes_eq a b ≡ false
 other_name a b h = search (rules, bytes_eq-Decides)
 
 -- the place of the first file of a name is one of its own
-pub first_named : (files : List HeldFile) (name : List ℕ) (at : ℕ) (default : HeldFile)
+first_named : (files : List HeldFile) (name : List ℕ) (at : ℕ) (default : HeldFile)
     → position (λ f. bytes_eq f.name name) files ≡ Some at
     → (at ≡ position_or_len (λ f. bytes_eq f.name name) files) × (at < length files)
     × ((get_or files at default).name ≡ name)
@@ -51,8 +51,9 @@ PutsFile-set files at file found =
 none_named : (files : List HeldFile) (name : List ℕ)
     → position (λ f. bytes_eq f.name name) files ≡ None → file_of files name ≡ None
 none_named files name absent =
-    let past : length files ≤ position_or_len (λ (f : HeldFile). bytes_eq f.name name) files = grind (arith, nat_tests) in
-    find_at (λ (f : HeldFile). bytes_eq f.name name) files ∙ slice_get_past files _ past
+    let named = λ (f : HeldFile). bytes_eq f.name name in
+    let past : length files ≤ position_or_len named files = grind (arith, nat_tests) in
+    find_at named files ∙ slice_get_past files _ past
 
 -- a push of a file of a new name puts the file
 pub PutsFile-push : (files : List HeldFile) (file : HeldFile)
@@ -60,5 +61,6 @@ pub PutsFile-push : (files : List HeldFile) (file : HeldFile)
     → PutsFile files (files ++ file ∷ []) file
 PutsFile-push files file absent = record {
   there = rw (find-append, none_named files file.name absent, same_name file.name);
-  others = λ other differs. rw (find-append, other_name file.name other differs) (option_or-None (file_of files other));
+  others = λ other differs. rw (find-append, other_name file.name other differs)
+      (option_or-None (file_of files other));
 }

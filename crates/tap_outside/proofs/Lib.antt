@@ -1,2 +1,3 @@
-pub mod Writes
-pub mod FileLists
+pub mod Fronts
+mod FileLists
+mod Writes

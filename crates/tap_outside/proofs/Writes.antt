@@ -11,4 +11,5 @@ Appends-take None mid new at n bytes rest first is_rest second = tt
 Appends-take (Some xs) None new at n bytes rest first is_rest second = absurd first
 Appends-take (Some xs) (Some ys) None at n bytes rest first is_rest second = absurd second
 Appends-take (Some xs) (Some ys) (Some zs) at n bytes rest first is_rest second =
-    rw (second, first, is_rest, take-add at n bytes) (append_assoc xs (take at bytes) (take n (drop at bytes)))
+    rw (second, first, is_rest, take-add at n bytes)
+    (append_assoc xs (take at bytes) (take n (drop at bytes)))

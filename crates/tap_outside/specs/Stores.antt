@@ -1,5 +1,5 @@
 -- What stores in memory stand for.
-use Rattle.std.specs.Prelude.{◌≡◌, ◌≢◌, ℕ, List, Option, Some, IsNone, ◌⊎◌, Contains, find, bytes_eq, option_map}
+use Rattle.std.specs.Prelude.{◌≡◌, ◌≢◌, ℕ, List, [], Option, Some, IsNone, ◌⊎◌, Contains, find, bytes_eq, option_map}
 use Rattle.tap_outside.specs.Contents.{Contents}
 use Rattle.tap_outside.specs.Counts.{counted}
 use Rattle.tap_outside.specs.Sources.{MemSourceState, fresh_source}
@@ -7,11 +7,17 @@ use Rattle.tap_outside.specs.Sources.{MemSourceState, fresh_source}
 -- a file in memory
 pub record HeldFile : Type 0 where
   pub name : List ℕ
+  -- what the name holds
   pub bytes : List ℕ
   -- the most bytes that one read of it gives
   pub piece : ℕ
   -- the numbers, from 1, of the reads of it that fail
   pub failing : List ℕ
+
+-- the file of a name with these bytes, its pieces and the reads that fail
+abbrev pub file_with : List ℕ → List ℕ → ℕ → List ℕ → HeldFile
+file_with its_name held most numbers =
+    record { name = its_name; bytes = held; piece = most; failing = numbers }
 
 -- the file of a name
 abbrev pub file_of : List HeldFile → List ℕ → Option HeldFile
@@ -32,6 +38,7 @@ pub record PutsFile (old new : List HeldFile) (file : HeldFile) : Type 0 where
 
 -- a store in memory
 pub record MemStoreState : Type 0 where
+  -- the files, of which the first of a name is that name's
   pub files : List HeldFile
   -- the numbers, from 1, of the fetches that fail
   pub failing_fetches : List ℕ
@@ -50,3 +57,38 @@ pub record MemStoreState : Type 0 where
 abbrev pub FetchFails : MemStoreState → List ℕ → Type 0
 FetchFails store name =
     Contains store.failing_fetches (counted store.fetches) ⊎ IsNone (file_of store.files name)
+
+-- a store before its first file
+abbrev pub fresh_store : List ℕ → List ℕ → MemStoreState
+fresh_store fetch_numbers save_numbers =
+    record {
+      files = [];
+      failing_fetches = fetch_numbers;
+      failing_saves = save_numbers;
+      fetches = 0;
+      saves = 0;
+      read_faults = 0;
+      save_faults = 0;
+    }
+
+-- a store after a fetch
+abbrev pub after_fetch : MemStoreState → MemStoreState
+after_fetch store = record store { fetches = counted store.fetches }
+
+-- a store after a fetch that failed
+abbrev pub after_failed_fetch : MemStoreState → MemStoreState
+after_failed_fetch store =
+    record store { fetches = counted store.fetches; read_faults = counted store.read_faults }
+
+-- a store after it took back a source that had a fault
+abbrev pub after_faulty_close : MemStoreState → MemStoreState
+after_faulty_close store = record store { read_faults = counted store.read_faults }
+
+-- a store after a save that left it these files
+abbrev pub after_save : MemStoreState → List HeldFile → MemStoreState
+after_save store held = record store { files = held; saves = counted store.saves }
+
+-- a store after a save that failed
+abbrev pub after_failed_save : MemStoreState → MemStoreState
+after_failed_save store =
+    record store { saves = counted store.saves; save_faults = counted store.save_faults }

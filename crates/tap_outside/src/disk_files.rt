@@ -1,7 +1,6 @@
 //! Real files. What they hold is the system's word, so nothing here tells any content.
-ghost use Rattle.std.specs.Prelude.{◌≡◌, ◌<◌, ◌≤◌, true, refl, None, length, drop, IfOk, OnErr};
+ghost use Rattle.std.specs.Prelude.{◌≡◌, true, refl, None, IfOk};
 ghost use Rattle.std.specs.Io.{ReadsAtMost};
-ghost use Rattle.tap_outside.specs.Counts.{counted};
 
 use crate::{Failed, OutError, Source, Store};
 use std::fs::OpenFile;
@@ -18,9 +17,11 @@ pub(crate) const TRIES: u32 = 16;
 /// A real file, open for reading.
 #[derive(Drop)]
 pub struct DiskSource<F> {
+    /// The file, open; it is closed where the source is dropped.
     file: F,
     /// What a read takes from the system, before it goes to the caller.
     buffer: Vec<u8>,
+    /// How many reads failed; it stands still at the greatest u64.
     faults: u64,
 }
 
@@ -46,6 +47,7 @@ impl<F: Read + Drop> Source for DiskSource<F> {
     }
 }
 
+/// One read, tried again where a signal interrupts it.
 fn read_some<F: Read>(file: &mut F, into: &mut [u8]) -> io::Result<usize>
     ensures { ReadsAtMost result into.new }
 {
@@ -59,11 +61,15 @@ fn read_some<F: Read>(file: &mut F, into: &mut [u8]) -> io::Result<usize>
 }
 
 /// Real files, by their paths in UTF-8. A file that isn't there, a folder, and a name that is no path count
-/// as faults when they are fetched.
+/// as faults when they are fetched. A save writes over the file that is there. An error that the system
+/// tells only after a file is closed isn't seen.
 #[derive(Drop)]
 pub struct DiskStore<'a, R> {
+    /// What opens files, and gives memory for a source's buffer.
     rt: &'a R,
+    /// How many fetches failed, and how many sources had a fault when they were closed.
     read_faults: u64,
+    /// How many saves failed.
     save_faults: u64,
 }
 

@@ -1,6 +1,6 @@
 //! Named files in memory, under the stores that keep them there.
-ghost use Rattle.std.specs.Prelude.{◌≡◌, ◌≢◌, ◌<◌, ◌≤◌, [], None, Some, bytes_eq, option_copied, IfOk, OnOk, OnErr, length, slice_set, slice_index_or, ◌++◌, ◌∷◌, position};
-ghost use Rattle.tap_outside.specs.Stores.{HeldFile, PutsFile, file_of, source_of};
+ghost use Rattle.std.specs.Prelude.{◌≡◌, ◌≤◌, bytes_eq, option_copied, IfOk, OnOk, OnErr, position};
+ghost use Rattle.tap_outside.specs.Stores.{PutsFile, file_of, file_with, source_of};
 
 use crate::MemSource;
 use frame_view::{ByteList, Memory, MomentList};
@@ -11,6 +11,7 @@ use std::marker::Model;
 #[derive(Debug, Drop)]
 pub(crate) struct MemFile {
     name: ByteList,
+    /// What the name holds.
     bytes: ByteList,
     /// The most bytes that one read gives, at least 1.
     piece: usize,
@@ -44,12 +45,7 @@ impl MemFile {
         failing: MomentList,
     ) -> Result<MemFile, Memory>
         requires { 1 ≤ piece }
-        ensures { IfOk result (λ file. file ≡ record {
-          name = name.now;
-          bytes = bytes.now;
-          piece = piece;
-          failing = failing;
-        }) }
+        ensures { IfOk result (λ file. file ≡ file_with name.now bytes.now piece failing) }
     {
         Ok(MemFile {
             name: ByteList::from_vec(name.to_vec(alloc)?),

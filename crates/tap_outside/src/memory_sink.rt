@@ -1,8 +1,9 @@
 //! A sink that keeps its bytes in memory, and fails where it is told to.
-ghost use Rattle.std.specs.Prelude.{◌≡◌, ◌<◌, ◌≤◌, ◌↔◌, [], ◌++◌, Some, length, Contains, IfOk, OnOk, IsErrOf};
+ghost use Rattle.std.specs.Prelude.{◌≡◌, ◌<◌, ◌≤◌, ◌↔◌, [], Some, length, Contains, IfOk, OnOk, IsErrOf};
 ghost use Rattle.std.specs.Io.KnownBytes.{WriteAppends};
 ghost use Rattle.tap_outside.specs.Counts.{counted, Rose};
 ghost use Rattle.tap_outside.specs.Outcomes.{OnFailed, OnMemory};
+ghost use Rattle.tap_outside.specs.Sinks.{after_failed_write, after_write, fresh_sink};
 
 use crate::{OutError, Sink};
 use frame_view::MomentList;
@@ -40,7 +41,7 @@ impl MemSink {
     /// A sink without a byte. The writes fail whose numbers, counted from 1, stand in `failing`; a write that
     /// wants memory isn't counted. It takes no memory.
     pub fn new(alloc: Global, failing: MomentList) -> MemSink
-        ensures fresh { result ≡ record { written = []; failing = failing; writes = 0; faults = 0 } }
+        ensures fresh { result ≡ fresh_sink failing }
         ensures written { ⟦<MemSink as Sink>⟧.written result ≡ Some [] }
         ensures faults { ⟦<MemSink as Sink>⟧.faults result ≡ 0 }
     {
@@ -73,14 +74,8 @@ impl Sink for MemSink {
         ensures fails { IsErrOf result OutError.Failed ↔
             Contains self.old.failing (counted self.old.writes) }
         ensures whole { IfOk result (λ n. n ≡ length from.now) }
-        ensures ok { OnOk result (self.new ≡ record self.old {
-          written = self.old.written ++ from.now;
-          writes = counted self.old.writes;
-        }) }
-        ensures failed { OnFailed result (self.new ≡ record self.old {
-          writes = counted self.old.writes;
-          faults = counted self.old.faults;
-        }) }
+        ensures ok { OnOk result (self.new ≡ after_write self.old from.now) }
+        ensures failed { OnFailed result (self.new ≡ after_failed_write self.old) }
         ensures memory { OnMemory result (self.new ≡ self.old) }
 
         // What each sink promises.

@@ -3,7 +3,7 @@ ghost use Rattle.std.specs.Prelude.{◌≡◌, ◌<◌, ◌≤◌, ◌↔◌, So
 ghost use Rattle.std.specs.Io.{ReadsAtMost};
 ghost use Rattle.std.specs.Io.KnownBytes.{ReadConsumes};
 ghost use Rattle.tap_outside.specs.Counts.{counted, Rose};
-ghost use Rattle.tap_outside.specs.Sources.{fresh_source, read_length};
+ghost use Rattle.tap_outside.specs.Sources.{after_failed_read, after_read, fresh_source, read_length};
 
 use crate::{Failed, Source};
 use frame_view::{ByteList, MomentList};
@@ -82,14 +82,8 @@ impl Source for MemSource {
         // A read fails exactly where its number stands among those that are to fail.
         ensures fails { IsErr result ↔ Contains self.old.failing (counted self.old.reads) }
         ensures given { IfOk result (λ n. n ≡ read_length self.old (length into.old)) }
-        ensures ok { IfOk result (λ n. self.new ≡ record self.old {
-          left = drop n self.old.left;
-          reads = counted self.old.reads;
-        }) }
-        ensures err { OnErr result (self.new ≡ record self.old {
-          reads = counted self.old.reads;
-          faults = counted self.old.faults;
-        }) }
+        ensures ok { IfOk result (λ n. self.new ≡ after_read self.old n) }
+        ensures err { OnErr result (self.new ≡ after_failed_read self.old) }
 
         // What each source promises.
         ensures bound { ReadsAtMost result into.new }

@@ -3,7 +3,7 @@ ghost use Rattle.std.specs.Prelude.{◌≡◌, ◌<◌, ◌≤◌, ◌↔◌, []
 ghost use Rattle.tap_outside.specs.Counts.{counted, Rose};
 ghost use Rattle.tap_outside.specs.Contents.{GivesFile, HoldsFile, KeepsOthers};
 ghost use Rattle.tap_outside.specs.Outcomes.{OnFailed, OnMemory};
-ghost use Rattle.tap_outside.specs.Stores.{FetchFails, PutsFile, contents_of, file_of, source_of};
+ghost use Rattle.tap_outside.specs.Stores.{FetchFails, PutsFile, after_failed_fetch, after_failed_save, after_faulty_close, after_fetch, after_save, contents_of, file_of, file_with, fresh_store, source_of};
 
 use crate::memory_files::{MemFile, file_named, put_file};
 use crate::{MemSource, OutError, Store};
@@ -12,12 +12,13 @@ use std::alloc::Global;
 use std::marker::Model;
 
 /// The most bytes that one read of a saved file gives.
-const SAVED_PIECE: usize = 65_536;
+pub(crate) const SAVED_PIECE: usize = 65_536;
 
 /// A store that keeps its files in memory. Contracts see its files, the numbers of the fetches and of the
 /// saves that fail, and how many of each there were and failed.
 #[derive(Debug, Drop)]
 pub struct MemStore {
+    /// What gives memory for the files and for the sources.
     alloc: Global,
     /// The files, each name once.
     files: Vec<MemFile>,
@@ -55,15 +56,7 @@ impl MemStore {
     /// A store without a file. The fetches and the saves fail whose numbers, each counted from 1, stand in the
     /// two lists; a call that wants memory isn't counted. It takes no memory.
     pub fn new(alloc: Global, failing_fetches: MomentList, failing_saves: MomentList) -> MemStore
-        ensures fresh { result ≡ record {
-          files = [];
-          failing_fetches = failing_fetches;
-          failing_saves = failing_saves;
-          fetches = 0;
-          saves = 0;
-          read_faults = 0;
-          save_faults = 0;
-        } }
+        ensures fresh { result ≡ fresh_store failing_fetches failing_saves }
         ensures held { ⟦<MemStore as Store>⟧.held result ≡ Some (λ name. None) }
         ensures read_faults { ⟦<MemStore as Store>⟧.read_faults result ≡ 0 }
         ensures save_faults { ⟦<MemStore as Store>⟧.save_faults result ≡ 0 }
@@ -91,12 +84,8 @@ impl MemStore {
         failing: MomentList,
     ) -> Result<(), Memory>
         requires { 1 ≤ piece }
-        ensures ok { OnOk result (PutsFile self.old.files self.new.files (record {
-          name = name.now;
-          bytes = bytes.now;
-          piece = piece;
-          failing = failing;
-        })) }
+        ensures ok { OnOk result (PutsFile self.old.files self.new.files
+            (file_with name.now bytes.now piece failing)) }
         ensures same { self.new ≡ record self.old { files = self.new.files } }
         ensures err { OnErr result (self.new ≡ self.old) }
 
@@ -135,11 +124,8 @@ impl Store for MemStore {
         ensures fails { IsErrOf result OutError.Failed ↔ FetchFails self.old name.now }
         ensures given { IfOk result (λ input.
             option_map source_of (file_of self.old.files name.now) ≡ Some input) }
-        ensures ok { OnOk result (self.new ≡ record self.old { fetches = counted self.old.fetches }) }
-        ensures failed { OnFailed result (self.new ≡ record self.old {
-          fetches = counted self.old.fetches;
-          read_faults = counted self.old.read_faults;
-        }) }
+        ensures ok { OnOk result (self.new ≡ after_fetch self.old) }
+        ensures failed { OnFailed result (self.new ≡ after_failed_fetch self.old) }
         ensures want { OnMemory result (self.new ≡ self.old) }
 
         // What each store promises.
@@ -169,10 +155,14 @@ impl Store for MemStore {
     }
 
     fn close(&mut self, input: MemSource)
-        ensures faulty { 0 < input.faults → Rose self.old.read_faults self.new.read_faults }
-        ensures faultless { input.faults ≡ 0 → self.new.read_faults ≡ self.old.read_faults }
+        ensures faulty { 0 < input.faults → self.new ≡ after_faulty_close self.old }
+        ensures faultless { input.faults ≡ 0 → self.new ≡ self.old }
+
+        // What each store promises.
+        ensures rose { 0 < input.faults → Rose self.old.read_faults self.new.read_faults }
         ensures later { self.old.read_faults ≤ self.new.read_faults }
-        ensures same { self.new ≡ record self.old { read_faults = self.new.read_faults } }
+        ensures same_files { self.new.files ≡ self.old.files }
+        ensures same_faults { self.new.save_faults ≡ self.old.save_faults }
     {
         if input.faults() > 0 {
             self.read_faults = self.read_faults.saturating_add(1);
@@ -183,20 +173,10 @@ impl Store for MemStore {
         // A save fails exactly where its number stands among those that are to fail; no file changes then.
         ensures fails { IsErrOf result OutError.Failed ↔
             Contains self.old.failing_saves (counted self.old.saves) }
-        ensures puts { OnOk result (PutsFile self.old.files self.new.files (record {
-          name = name.now;
-          bytes = bytes.now;
-          piece = SAVED_PIECE;
-          failing = [];
-        })) }
-        ensures ok { OnOk result (self.new ≡ record self.old {
-          files = self.new.files;
-          saves = counted self.old.saves;
-        }) }
-        ensures failed { OnFailed result (self.new ≡ record self.old {
-          saves = counted self.old.saves;
-          save_faults = counted self.old.save_faults;
-        }) }
+        ensures puts { OnOk result (PutsFile self.old.files self.new.files
+            (file_with name.now bytes.now SAVED_PIECE [])) }
+        ensures ok { OnOk result (self.new ≡ after_save self.old self.new.files) }
+        ensures failed { OnFailed result (self.new ≡ after_failed_save self.old) }
         ensures want { OnMemory result (self.new ≡ self.old) }
 
         // What each store promises.

@@ -9,7 +9,9 @@ use std::io::ErrorKind;
 /// Standard output. Each write goes to the system at once.
 #[derive(Drop)]
 pub struct StdSink<'a, R> {
+    /// What prints.
     rt: &'a R,
+    /// How many writes failed; it stands still at the greatest u64.
     faults: u64,
 }
 
@@ -46,6 +48,7 @@ impl<'a, R: Print> Sink for StdSink<'a, R> {
     }
 }
 
+/// One write of at least a byte, tried again where a signal interrupts it.
 fn write_some<R: Print>(rt: &R, from: &[u8]) -> Result<usize, OutError>
     ensures { IfOk result (λ n. (0 < n) × (n ≤ length from.now)) }
 {

@@ -1,12 +1,12 @@
 //! A store in memory that has no fault.
-ghost use Rattle.std.specs.Prelude.{◌≡◌, ◌<◌, ◌≤◌, [], true, refl, None, Some, length, drop, IfOk, OnOk, OnErr, IsOk};
+ghost use Rattle.std.specs.Prelude.{◌≡◌, ◌<◌, ◌≤◌, true, refl, None, Some, length, drop, IfOk, OnOk, OnErr, IsOk};
 ghost use Rattle.std.specs.Io.{ReadsAtMost};
 ghost use Rattle.std.specs.Io.KnownBytes.{ReadConsumes};
-ghost use Rattle.tap_outside.specs.Contents.{GivesFile, HoldsFile, KeepsOthers};
+ghost use Rattle.tap_outside.specs.Contents.{HoldsFile, KeepsOthers};
 ghost use Rattle.tap_outside.specs.Stores.{contents_of};
 
-use crate::memory_files::{MemFile, file_named, put_file};
-use crate::{Failed, OutError, Source, Store};
+use crate::memory_store::SAVED_PIECE;
+use crate::{Failed, MemStore, OutError, Source, Store};
 use frame_view::{ByteList, Memory, MomentList};
 use std::alloc::Global;
 use std::marker::Model;
@@ -64,8 +64,10 @@ impl Source for SureSource {
 /// Contracts see its files.
 #[derive(Debug, Drop)]
 pub struct SureStore {
+    /// What gives memory for the files and for the sources.
     alloc: Global,
-    files: Vec<MemFile>,
+    /// What keeps the files. No list makes it fail, and its counts are not looked at.
+    files: MemStore,
 }
 
 impl Model for SureStore {
@@ -74,7 +76,7 @@ impl Model for SureStore {
 
     ghost Value = { List HeldFile };
 
-    ghost view = { λ store. store.files.items };
+    ghost view = { λ store. store.files.files };
 }
 
 impl SureStore {
@@ -82,10 +84,8 @@ impl SureStore {
     pub fn new(alloc: Global) -> SureStore
         ensures { ⟦<SureStore as Store>⟧.held result ≡ Some (λ name. None) }
     {
-        SureStore {
-            alloc,
-            files: Vec::new(alloc),
-        }
+        let files = MemStore::new(alloc, MomentList::new(alloc), MomentList::new(alloc));
+        SureStore { alloc, files }
     }
 
     /// Makes a name hold these bytes. After `Memory` the store is as before.
@@ -96,8 +96,7 @@ impl SureStore {
         ensures err { OnErr result (self.new ≡ self.old) }
     {
         let failing = MomentList::new(self.alloc);
-        let file = MemFile::new(self.alloc, name, bytes, 1, failing)?;
-        put_file(&mut self.files, file)
+        self.files.put(name, bytes, SAVED_PIECE, failing)
     }
 }
 
@@ -115,8 +114,8 @@ impl Store for SureStore {
     ghost save_faults = { λ _. 0 };
 
     fn fetch(&mut self, name: &[u8]) -> Result<SureSource, OutError> {
-        let bytes = match file_named(self.files.as_slice(), name) {
-            Some(file) => file.bytes().to_vec(self.alloc)?,
+        let bytes = match self.files.file(name) {
+            Some(held) => held.to_vec(self.alloc)?,
             None => Vec::new(self.alloc),
         };
         Ok(SureSource::new(ByteList::from_vec(bytes)))

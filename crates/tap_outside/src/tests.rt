@@ -1,4 +1,6 @@
 //! Each call once with ample memory, and what real files and standard output do.
+ghost use Rattle.std.specs.Prelude.{IsTrue};
+
 use crate::{
     DiskStore, Failed, MemSink, MemSource, MemStore, OutError, Sink, Source, StdSink, Store,
     SureStore, Word, write_whole,
@@ -8,52 +10,51 @@ use std::alloc::{AllocError, Global};
 use std::fs;
 use std::test::Fail;
 
-fn bytes(alloc: Global, text: &str) -> Result<ByteList, AllocError> {
-    Ok(ByteList::from_vec(text.as_bytes().to_vec(alloc)?))
-}
-
 fn numbers(alloc: Global, numbers: &[u64]) -> Result<MomentList, AllocError> {
     Ok(MomentList::from_vec(numbers.to_vec(alloc)?))
 }
 
-/// One read into a buffer of four bytes, as text.
-fn read_four(alloc: Global, source: &mut impl Source) -> Result<Result<String, Failed>, Fail> {
-    let mut buffer = [0; 4];
-    Ok(match source.read(&mut buffer) {
-        Ok(given) => Ok(String::from_str(alloc, str::from_utf8(&buffer[..given])?)?),
-        Err(failed) => Err(failed),
-    })
+/// All that a name gives, read by four bytes.
+fn fetched<S: Store>(alloc: Global, store: &mut S, name: &[u8]) -> Result<Vec<u8>, OutError>
+    requires { IsTrue (S.meant_to_read store.old name.now) }
+{
+    let mut input = store.fetch(name)?;
+    let mut bytes = Vec::new(alloc);
+    for _ in 0..9 {
+        let mut piece = [0; 4];
+        let given = input.read(&mut piece)?;
+        bytes.extend_from_slice(&piece[..given])?;
+    }
+    store.close(input);
+    Ok(bytes)
 }
 
 #[test]
 fn words_have_their_bytes(rt: HostRuntime) -> Result<(), Fail> {
     assert_eq!(rt;
         Word::new(rt.alloc(), "ré")?.bytes(),
-        [0x72, 0xc3, 0xa9].as_slice()
+        b"r\xc3\xa9".as_slice()
     );
     assert_eq!(rt;
-        Word::from_bytes(rt.alloc(), &[0xff, 0])?.bytes(),
-        [0xff, 0].as_slice()
+        Word::from_bytes(rt.alloc(), b"\xff")?.bytes(),
+        b"\xff".as_slice()
     );
     Ok(())
 }
 
 #[test]
 fn sources_give_pieces_and_fail_where_told(rt: HostRuntime) -> Result<(), Fail> {
-    let rows: [(usize, &[u64], [&str; 4]); 4] = [
-        (2, &[], ["ab", "cd", "e", ""]),
-        (9, &[], ["abcd", "e", "", ""]),
-        (3, &[2], ["abc", "fails", "de", ""]),
-        (1, &[3, 1], ["fails", "a", "fails", "b"]),
+    let rows: [(usize, &[u64], [Result<usize, Failed>; 4]); 4] = [
+        (2, &[], [Ok(2), Ok(2), Ok(1), Ok(0)]),
+        (9, &[], [Ok(4), Ok(1), Ok(0), Ok(0)]),
+        (3, &[2], [Ok(3), Err(Failed), Ok(2), Ok(0)]),
+        (1, &[3, 1], [Err(Failed), Ok(1), Err(Failed), Ok(1)]),
     ];
     for (piece, failing, answers) in rows {
-        let failing = numbers(rt.alloc(), failing)?;
-        let mut source = MemSource::new(bytes(rt.alloc(), "abcde")?, piece, failing);
+        let bytes = ByteList::from_vec(b"abcde".to_vec(rt.alloc())?);
+        let mut source = MemSource::new(bytes, piece, numbers(rt.alloc(), failing)?);
         for answer in answers {
-            match read_four(rt.alloc(), &mut source)? {
-                Ok(given) => assert_eq!(rt; given.as_str(), answer, "pieces of {piece}"),
-                Err(Failed) => assert_eq!(rt; "fails", answer, "pieces of {piece}"),
-            }
+            assert_eq!(rt; source.read(&mut [0; 4]), answer, "pieces of {piece}");
         }
     }
     Ok(())
@@ -73,29 +74,20 @@ fn sinks_keep_what_they_take(rt: HostRuntime) -> Result<(), Fail> {
 fn a_store_in_memory_fails_where_told(rt: HostRuntime) -> Result<(), Fail> {
     let alloc = rt.alloc();
     let mut store = MemStore::new(alloc, numbers(alloc, &[2])?, numbers(alloc, &[1])?);
-    assert_eq!(rt; store.put(b"a", b"first", 3, numbers(alloc, &[2])?), Ok(()));
-    let mut input = store.fetch(b"a")?;
-    assert_eq!(rt; read_four(alloc, &mut input)?.as_deref(), Ok("fir"));
-    assert_eq!(rt; read_four(alloc, &mut input)?.as_deref(), Err(&Failed));
-    store.close(input);
+    assert_eq!(rt; store.put(b"a", b"first", 3, numbers(alloc, &[])?), Ok(()));
     assert_eq!(rt;
-        store.fetch(b"a").err(),
-        Some(OutError::Failed),
-        "the second fetch"
+        fetched(alloc, &mut store, b"a")?.as_slice(),
+        b"first".as_slice()
     );
     assert_eq!(rt;
-        store.fetch(b"b").err(),
-        Some(OutError::Failed),
-        "a name that isn't held"
+        fetched(alloc, &mut store, b"a").err(),
+        Some(OutError::Failed)
     );
-    assert_eq!(rt;
-        store.save(b"b", b"more"),
-        Err(OutError::Failed),
-        "the first save"
-    );
-    assert_eq!(rt; store.file(b"b"), None);
-    assert_eq!(rt; store.save(b"a", b"more"), Ok(()));
-    assert_eq!(rt; store.file(b"a"), Some(b"more".as_slice()));
+    assert_eq!(rt; store.save(b"a", b"second"), Err(OutError::Failed));
+    assert_eq!(rt; store.save(b"b", b"third"), Ok(()));
+    assert_eq!(rt; store.file(b"a"), Some(b"first".as_slice()));
+    assert_eq!(rt; store.file(b"b"), Some(b"third".as_slice()));
+    assert_eq!(rt; store.file(b"c"), None);
     Ok(())
 }
 
@@ -103,11 +95,10 @@ fn a_store_in_memory_fails_where_told(rt: HostRuntime) -> Result<(), Fail> {
 fn a_sure_store_has_every_name(rt: HostRuntime) -> Result<(), Fail> {
     let mut store = SureStore::new(rt.alloc());
     assert_eq!(rt; store.put(b"a", b"first"), Ok(()));
-    assert_eq!(rt; store.save(b"b", b"more"), Ok(()));
-    for (name, held) in [("a", "firs"), ("b", "more"), ("c", "")] {
-        let mut input = store.fetch(name.as_bytes())?;
-        assert_eq!(rt; read_four(rt.alloc(), &mut input)?.as_deref(), Ok(held));
-        store.close(input);
+    assert_eq!(rt; store.save(b"b", b"second"), Ok(()));
+    for (name, held) in [("a", "first"), ("b", "second"), ("c", "")] {
+        let bytes = fetched(rt.alloc(), &mut store, name.as_bytes())?;
+        assert_eq!(rt; bytes.as_slice(), held.as_bytes());
     }
     Ok(())
 }
@@ -115,23 +106,21 @@ fn a_sure_store_has_every_name(rt: HostRuntime) -> Result<(), Fail> {
 #[test]
 fn the_real_adapters(rt: HostRuntime) -> Result<(), Fail> {
     let mut store = DiskStore::new(&rt);
-    for name in [b"tap_outside.none".as_slice(), b".", b"\xff", b"", b"a\0b"] {
-        let faults = store.read_faults();
-        assert_eq!(rt; store.fetch(name).err(), Some(OutError::Failed), "{name:?}");
-        assert_eq!(rt; store.read_faults(), faults.saturating_add(1), "{name:?}");
+    for name in ["tap_outside.none", ".", "", "a\0b"] {
+        let failed = fetched(rt.alloc(), &mut store, name.as_bytes()).err();
+        assert_eq!(rt; failed, Some(OutError::Failed), "{name:?}");
     }
+    assert_eq!(rt;
+        fetched(rt.alloc(), &mut store, b"\xff").err(),
+        Some(OutError::Failed)
+    );
     assert_eq!(rt;
         store.save(b"tap_outside.none/file", b"x"),
         Err(OutError::Failed)
     );
-    assert_eq!(rt; store.save_faults(), 1);
-
     assert_eq!(rt; store.save(b"tap_outside.saved", b"saved bytes"), Ok(()));
-    let mut input = store.fetch(b"tap_outside.saved")?;
-    for piece in ["save", "d by", "tes", ""] {
-        assert_eq!(rt; read_four(rt.alloc(), &mut input)?.as_deref(), Ok(piece));
-    }
-    store.close(input);
+    let bytes = fetched(rt.alloc(), &mut store, b"tap_outside.saved")?;
+    assert_eq!(rt; bytes.as_slice(), b"saved bytes".as_slice());
     fs::remove_file(&rt, "tap_outside.saved")?;
     assert_eq!(rt; (store.read_faults(), store.save_faults()), (5, 1));
 
