@@ -1,7 +1,7 @@
 #!/usr/bin/env python3
 """Values that the tests of frame_view and frame_maker compare with, computed apart from them.
 
-Each line is the path of a test and a text that must stand in it: `frame_values.sh` looks for each.
+Each line is the path of a test and a text that must stand in it: `test_values.sh` looks for each.
 """
 import struct
 

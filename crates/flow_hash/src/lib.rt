@@ -3,6 +3,8 @@
 
 mod flows;
 mod hash_keys;
+#[cfg(test)]
+mod tests;
 mod toeplitz_hash;
 
 pub use flows::flow_hash;
