@@ -1,8 +1,9 @@
 -- Lists of bits and the hash, a piece at a time.
-use Rattle.std.proofs.Common.{◌≡◌, ℕ, zero, suc, ◌+◌, ◌*◌, List, [], ◌∷◌, ◌++◌, length, get_or, take, drop, ◌-◌, ◌<◌, refl, sym, ap, ◌∙◌, arith}
+use Rattle.std.proofs.Common.{Bool, true, false, length-append, ◌≡◌, ℕ, zero, suc, ◌+◌, ◌*◌, List, [], ◌∷◌, ◌++◌, length, get_or, take, drop, ◌-◌, ◌<◌, refl, sym, ap, ◌∙◌, arith}
 use Rattle.std.proofs.lemmas.List.{drop-drop, length-take-le, take_more}
 use Rattle.std.specs.Int.Bits.{bit_xor, xor_assoc, xor_zero_l, xor_zero_r}
 use Rattle.std.specs.Int.{bit_at}
+use Rattle.flow_hash.specs.FlowHash.{ordered}
 use Rattle.flow_hash.specs.Toeplitz.{bits_of, bits_of_byte, toeplitz_of, share_of, hash_of}
 
 -- the hash of two lists of bits: the key of the second begins where the first ends
@@ -89,3 +90,30 @@ hash_of-byte key input place h =
     ap (hash_of key) (take_more input place 0 h) ∙ hash_of-append key (take place input) (get_or input place 0 ∷ [])
     ∙ ap (λ (n : ℕ). bit_xor (hash_of key (take place input)) (hash_of (drop n key) (get_or input place 0 ∷ []))) (length-take-le place input (omega arith))
     ∙ ap (bit_xor (hash_of key (take place input))) (hash_of_byte (drop place key) (get_or input place 0))
+
+-- ---- the same, with the key from a place on
+
+pub hash_of-both : (key a b : List ℕ) (at : ℕ) → hash_of (drop at key) (a ++ b) ≡ bit_xor (hash_of (drop at key) a) (hash_of (drop (at + length a) key) b)
+hash_of-both key a b at =
+    let both = hash_of-append (drop at key) a b in
+    let rest = drop-drop (length a) at key in
+    cc
+
+pub hash_of-place : (key input : List ℕ) (at place : ℕ) → place < length input
+    → hash_of (drop at key) (take (place + 1) input) ≡ bit_xor (hash_of (drop at key) (take place input)) (toeplitz_of (bits_of (drop (at + place) key)) (bits_of_byte (get_or input place 0)))
+hash_of-place key input at place h =
+    let more = hash_of-byte (drop at key) input place h in
+    let rest = drop-drop place at key in
+    cc
+
+length-ordered : (first : Bool) (a b : List ℕ) → length (ordered first a b) ≡ length a + length b
+length-ordered true a b = length-append a b
+length-ordered false a b = length-append b a ∙ omega arith
+
+pub hash_of-ordered : (key a b rest : List ℕ) (first : Bool) → hash_of key (ordered first a b ++ rest) ≡ bit_xor (hash_of key (ordered first a b)) (hash_of (drop (length a + length b) key) rest)
+hash_of-ordered key a b rest first =
+    let both = hash_of-append key (ordered first a b) rest in
+    let len = length-ordered first a b in
+    cc
+
+pub ruleset pieces = (hash_of_nothing, hash_of-both, hash_of-place, hash_of-ordered)

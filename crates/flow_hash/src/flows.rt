@@ -62,6 +62,7 @@ fn source_first(from: u128, to: u128, ports: Option<(u16, u16)>) -> bool
 }
 
 /// The hash of two addresses and the ports, the source's first or the other way round.
+#[tactic(auto, using(crate::proofs::BitLists::pieces))]
 fn hash_ends(key: &Key, first: bool, from: &[u8], to: &[u8], ports: Option<(u16, u16)>) -> u32
     requires { length from.now + length to.now ≤ 32 }
     ensures { result ≡ hash_of key.now (ordered first from.now to.now ++ port_bytes first ports) }
@@ -70,7 +71,7 @@ fn hash_ends(key: &Key, first: bool, from: &[u8], to: &[u8], ports: Option<(u16,
 }
 
 /// The hash of the ports, where they are there, that stand from a byte's place on.
-#[tactic(auto, using(crate::proofs::BitLists::hash_of_nothing))]
+#[tactic(auto, using(crate::proofs::BitLists::pieces))]
 fn hash_ports(key: &Key, at: usize, first: bool, ports: Option<(u16, u16)>) -> u32
     requires { at ≤ 32 }
     ensures { result ≡ hash_of (drop at key.now) (port_bytes first ports) }
@@ -100,6 +101,7 @@ fn hash_pair(key: &Key, at: usize, first: bool, a: &[u8], b: &[u8]) -> u32
 }
 
 /// The hash of two texts, one behind the other, that stand from a byte's place on.
+#[tactic(auto, using(crate::proofs::BitLists::pieces))]
 fn hash_both(key: &Key, at: usize, a: &[u8], b: &[u8]) -> u32
     requires { at + length a.now + length b.now ≤ 36 }
     ensures { result ≡ hash_of (drop at key.now) (a.now ++ b.now) }

@@ -15,6 +15,7 @@ pub fn toeplitz(key: &Key, input: &[u8]) -> u32
 }
 
 /// The hash of an input that stands from a byte's place on.
+#[tactic(auto, using(crate::proofs::BitLists::pieces))]
 pub(crate) fn hash_from(key: &Key, at: usize, input: &[u8]) -> u32
     requires { at + length input.now ≤ 36 }
     ensures { result ≡ hash_of (drop at key.now) input.now }
