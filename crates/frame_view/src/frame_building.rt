@@ -35,6 +35,7 @@ pub struct Parts {
 pub fn build(alloc: Global, parts: &Parts) -> Result<ByteList, Memory>
     requires { length parts.now.payload ≤ 1472 }
     ensures bytes { IfOk result (λ bytes. bytes ≡ built parts.now) }
+    ensures len { IfOk result (λ bytes. length bytes ≡ 42 + length parts.now.payload) }
     // The receiver's test of the IPv4 header.
     ensures checked { IfOk result (λ bytes. checksum_of (take 20 (drop 14 bytes)) ≡ 0) }
     ensures viewed { IfOk result (λ bytes. view_of bytes ≡ headers_of parts.now) }
