@@ -4,7 +4,7 @@ set -u
 cd "$(dirname "${BASH_SOURCE[0]}")/.." || exit 2
 status=0
 for script in checks/*_values.py; do
-    values=$(python3 "$script") || { echo "$script failed"; status=1; }
+    values=$(python3 -B "$script") || { echo "$script failed"; status=1; }
     while IFS=$'\t' read -r path text; do
         grep -qF -- "$text" "$path" || { echo "$path lacks $text"; status=1; }
     done <<<"$values"

@@ -3,5 +3,7 @@
 
 mod generator;
 mod making;
+#[cfg(test)]
+mod tests;
 
 pub use making::make;
