@@ -5,6 +5,7 @@ use Rattle.std.proofs.lemmas.Bool.Decides.{nat_tests}
 use Rattle.std.specs.Int.{Width, to_be_bytes, w32, w128}
 use Rattle.flow_hash.specs.Toeplitz.{hash_of}
 use Rattle.flow_hash.specs.FlowHash.{flow_input, way_back, ends_input, ports_back, source_first, ordered, port_bytes}
+use Rattle.flow_hash.proofs.BitLists.{hash_of_nothing}
 use Rattle.frame_view.specs.declared.header_reading.Headers.{Headers}
 use Rattle.frame_view.specs.declared.header_reading.Headers.TheVariants.{Runt, Plain, V4, V6}
 
@@ -67,3 +68,5 @@ pub hash_of_ends : (key : List ℕ) (w : Width) (from to : ℕ) (ports : Option 
     → hash_of key (ordered first a b ++ port_bytes first ports) ≡ hash_of key (ends_input w from to ports)
 unfolding ends_input
 hash_of_ends key w from to ports first a b e f g = rw (e, f, g) refl
+
+pub ruleset flows = (both_ways, hash_of_nothing)

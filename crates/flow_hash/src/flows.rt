@@ -11,7 +11,7 @@ use frame_view::{Headers, V4Part, V6Part};
 /// The hash of a frame's flow: the Toeplitz hash over the two addresses of its IP header and, where it has them,
 /// the two ports, the smaller end first, by address and then port. So both directions of a flow have one hash.
 /// It is 0 for a frame without an IP header. What is hashed is this project's own choice. It takes no memory.
-#[tactic(auto, using(crate::proofs::BothWays::both_ways, crate::proofs::BitLists::hash_of_nothing), unfolding(crate::specs::FlowHash::flow_input))]
+#[tactic(auto, using(crate::proofs::BothWays::flows), unfolding(crate::specs::FlowHash::flow_input))]
 pub fn flow_hash(key: &Key, view: &Headers) -> u32
     ensures hash { result ≡ hash_of key.now (flow_input view.now) }
     ensures both_ways { result ≡ hash_of key.now (flow_input (way_back view.now)) }
@@ -25,7 +25,8 @@ pub fn flow_hash(key: &Key, view: &Headers) -> u32
 
 /// The hash of the two ends of an IPv4 packet.
 fn hash_v4(key: &Key, part: &V4Part) -> u32
-    ensures { result ≡ hash_of key.now (ends_input w32 part.now.from part.now.to part.now.ports) }
+    ensures { result
+        ≡ hash_of key.now (ends_input w32 part.now.from part.now.to part.now.ports) }
 {
     let first = source_first(u128::from(part.from), u128::from(part.to), part.ports);
     hash_ends(
@@ -39,7 +40,8 @@ fn hash_v4(key: &Key, part: &V4Part) -> u32
 
 /// The hash of the two ends of an IPv6 packet.
 fn hash_v6(key: &Key, part: &V6Part) -> u32
-    ensures { result ≡ hash_of key.now (ends_input w128 part.now.from part.now.to part.now.ports) }
+    ensures { result
+        ≡ hash_of key.now (ends_input w128 part.now.from part.now.to part.now.ports) }
 {
     let first = source_first(part.from, part.to, part.ports);
     hash_ends(

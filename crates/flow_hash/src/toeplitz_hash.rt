@@ -43,7 +43,8 @@ fn byte_share(key: &[u8], byte: u8) -> u32
 /// What one bit of a byte adds, counted from the left: the 32 bits of the window from its place on, where it is set.
 fn bit_share(window: u64, byte: u8, bit: u32) -> u32
     requires { bit < 8 }
-    ensures { result ≡ (if bit_at byte (7 - bit) == 1 then window / 2 ^ (8 - bit) % 2 ^ 32 else 0) }
+    ensures { result
+        ≡ (if bit_at byte (7 - bit) == 1 then window / 2 ^ (8 - bit) % 2 ^ 32 else 0) }
 {
     if (byte >> (7 - bit)) & 1 == 1 {
         ((window >> (8 - bit)) & 0xffff_ffff) as u32

@@ -4,7 +4,7 @@ use Rattle.std.specs.List.{All}
 use Rattle.std.proofs.lemmas.List.Elements.{All-cons, All-nil}
 use Rattle.frame_view.specs.Built.{built}
 use Rattle.frame_view.proofs.Viewed.{length-built}
-use Rattle.frame_maker.specs.Made.{made, made_from, made_frame, made_parts, after_frame, parts_of, frame_of, payload_of, IsMade}
+use Rattle.frame_maker.specs.Made.{made, made_from, made_frame, made_parts, after_frame, parts_of, frame_with, payload_of, IsMade}
 use Rattle.frame_maker.proofs.Steps.{length-payload_of}
 
 length-parts : (i a b c d : ℕ) → length (built (parts_of i a b c d)) ≡ 42 + d % 1401
@@ -12,14 +12,14 @@ length-parts i a b c d =
     let len : length (payload_of i (d % 1401)) ≡ d % 1401 = length-payload_of i (d % 1401) in
     length-built (parts_of i a b c d) refl refl (omega (arith, len)) ∙ omega (arith, len)
 
-IsMade-frame_of : (i a b c d : ℕ) → IsMade (frame_of i (built (parts_of i a b c d)))
-IsMade-frame_of i a b c d =
+IsMade-frame_with : (i a b c d : ℕ) → IsMade (frame_with i (built (parts_of i a b c d)))
+IsMade-frame_with i a b c d =
     let len = length-parts i a b c d in
     record { long = omega (arith, len); short = omega (arith, len); whole = refl; time = omega arith; plain = refl }
 
 IsMade-made_frame : (i state : ℕ) → IsMade (made_frame i state)
 unfolding made_frame made_parts
-IsMade-made_frame i state = IsMade-frame_of i _ _ _ _
+IsMade-made_frame i state = IsMade-frame_with i _ _ _ _
 
 All-made_from : (n i state : ℕ) → All IsMade (made_from n i state)
 unfolding made_from

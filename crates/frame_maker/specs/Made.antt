@@ -40,8 +40,8 @@ unfoldable pub after_frame : ℕ → ℕ
 after_frame state = next_state (next_state (next_state (next_state state)))
 
 -- frame i, of these bytes: a thousand frames a second
-abbrev pub frame_of : ℕ → List ℕ → Frame
-frame_of i bytes = record {
+abbrev pub frame_with : ℕ → List ℕ → Frame
+frame_with i bytes = record {
   cpu = 0;
   index = i;
   sec = i / 1000;
@@ -53,7 +53,7 @@ frame_of i bytes = record {
 
 -- frame i, from the state before its draws
 unfoldable pub made_frame : ℕ → ℕ → Frame
-made_frame i state = frame_of i (built (made_parts i state))
+made_frame i state = frame_with i (built (made_parts i state))
 
 -- so many frames from frame i on, from the state before them
 unfoldable pub made_from : ℕ → ℕ → ℕ → List Frame
