@@ -1,7 +1,7 @@
 #!/usr/bin/env python3
 """Values that the tests of frame_view and frame_maker compare with, computed apart from them.
 
-Each line is the path of a test and a text that must stand in it: `frame_values.sh` looks for each.
+Each line is the path of a test and a text that must stand in it: `test_values.sh` looks for each.
 """
 import struct
 
@@ -37,14 +37,15 @@ def say(path, text):
     print(f"{path}\t{text}")
 
 
-TO = bytes.fromhex("020000000002")
-FROM = bytes.fromhex("020000000001")
-VIEW = "crates/frame_view/src/tests.rt"
+if __name__ == "__main__":
+    TO = bytes.fromhex("020000000002")
+    FROM = bytes.fromhex("020000000001")
+    VIEW = "crates/frame_view/src/tests.rt"
 
-small = built(TO, FROM, 0x1234, address("10.0.0.1"), address("10.1.0.2"), 1024, 53, b"hello")
-say(VIEW, array(small[:14]))
-say(VIEW, array(small[14:34]))
-say(VIEW, array(small[34:]))
-large = built(TO, FROM, 0xFFFF, address("10.0.255.255"), address("10.1.0.255"), 5119, 53, bytes(1472))
-say(VIEW, array(large[14:34]))
-say(VIEW, array(large[34:42]))
+    small = built(TO, FROM, 0x1234, address("10.0.0.1"), address("10.1.0.2"), 1024, 53, b"hello")
+    say(VIEW, array(small[:14]))
+    say(VIEW, array(small[14:34]))
+    say(VIEW, array(small[34:]))
+    large = built(TO, FROM, 0xFFFF, address("10.0.255.255"), address("10.1.0.255"), 5119, 53, bytes(1472))
+    say(VIEW, array(large[14:34]))
+    say(VIEW, array(large[34:42]))

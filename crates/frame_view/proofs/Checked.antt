@@ -1,8 +1,7 @@
 -- The checksum of a header that has its checksum in place is 0.
-use Rattle.std.proofs.Common.{◌≡◌, ℕ, ◌+◌, ◌-◌, ◌<◌, ◌≤◌, ◌^◌, ◌*◌, ◌/◌, ◌%◌, List, ◌∷◌, ◌++◌, length, take, drop, arith, ap, ◌∙◌, refl}
-use Rattle.std.proofs.lemmas.List.{take_at, drop_at}
-use Rattle.frame_view.specs.InternetChecksum.{checksum_of, sum_of_words, folded, ones_sum}
-use Rattle.frame_view.specs.Built.{built, link_bytes, ip_bytes, ip_checksum, udp_bytes}
+use Rattle.std.proofs.Common.{◌≡◌, ℕ, ◌+◌, ◌-◌, ◌<◌, ◌^◌, length, take, drop, arith, ap, ◌∙◌, refl}
+use Rattle.frame_view.specs.InternetChecksum.{checksum_of, sum_of_words, folded}
+use Rattle.frame_view.specs.Built.{built, link_bytes, ip_bytes, ip_checksum}
 use Rattle.frame_view.proofs.Addresses.{address_of_six}
 use Rattle.frame_view.specs.declared.frame_building.Parts.{Parts}
 

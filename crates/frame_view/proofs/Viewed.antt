@@ -1,7 +1,7 @@
 -- What the headers of a built frame say.
-use Rattle.std.proofs.Common.{◌≡◌, ℕ, ◌+◌, ◌^◌, ◌<◌, ◌≤◌, true, false, nat_lt, List, [], ◌∷◌, length, arith, ◌∙◌, refl, Some}
+use Rattle.std.proofs.Common.{◌≡◌, ℕ, ◌+◌, ◌^◌, ◌<◌, ◌≤◌, true, false, nat_lt, List, length, drop, arith, ◌∙◌, refl, Some}
 use Rattle.std.proofs.lemmas.Bool.Decides.{nat_tests}
-use Rattle.frame_view.specs.Headers.{view_of, link_of, v4_of, is_v4, address_of}
+use Rattle.frame_view.specs.Headers.{view_of, link_of, v4_of, is_v4}
 use Rattle.frame_view.specs.Built.{built, link_bytes, ip_bytes, udp_bytes, headers_of}
 use Rattle.frame_view.proofs.Addresses.{address_of_six}
 use Rattle.frame_view.specs.declared.frame_building.Parts.{Parts}
@@ -12,6 +12,14 @@ view_of_v4 : (bytes : List ℕ) → nat_lt (length bytes) 14 ≡ false → is_v4
 view_of_v4 bytes whole v4 = rw (whole, v4) refl
 
 module _ (p : Parts) (to : length p.to ≡ 6) (from : length p.from ≡ 6) (few : length p.payload ≤ 1472) where
+  pub length-built : length (built p) ≡ 42 + length p.payload
+  unfolding built link_bytes ip_bytes udp_bytes
+  length-built = rw (← address_of_six p.to to, ← address_of_six p.from from) (omega arith)
+
+  pub payload-built : drop 42 (built p) ≡ p.payload
+  unfolding built link_bytes ip_bytes udp_bytes
+  payload-built = rw (← address_of_six p.to to, ← address_of_six p.from from) refl
+
   whole-built : nat_lt (length (built p)) 14 ≡ false
   unfolding built link_bytes ip_bytes udp_bytes
   whole-built = rw (← address_of_six p.to to, ← address_of_six p.from from) (grind (arith, nat_tests))

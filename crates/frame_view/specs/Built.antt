@@ -1,5 +1,5 @@
 -- A UDP datagram in one IPv4 packet in an Ethernet frame, byte for byte.
-use Rattle.std.specs.Prelude.{ℕ, ◌+◌, ◌-◌, ◌*◌, ◌/◌, ◌%◌, ◌^◌, List, [], ◌∷◌, ◌++◌, length, false, Some}
+use Rattle.std.specs.Prelude.{ℕ, ◌+◌, List, ◌∷◌, ◌++◌, length, false, Some}
 use Rattle.std.specs.Int.{to_be_bytes, w16, w32}
 use Rattle.frame_view.specs.InternetChecksum.{checksum_of}
 use Rattle.frame_view.specs.declared.frame_building.Parts.{Parts}

@@ -30,14 +30,16 @@ pub struct Parts {
 
 /// Makes the frame of some parts: an Ethernet header with the type of IPv4, an IPv4 header without options
 /// (RFC 791) with don't-fragment, time to live 64 and its checksum, a UDP header (RFC 768) with no checksum,
-/// and the payload. `view` of the frame gives the parts back.
+/// and the payload. `view` of the frame gives the parts back, and its bytes from 42 on are the payload.
 #[tactic(auto, unfolding(crate::specs::Built::built))]
 pub fn build(alloc: Global, parts: &Parts) -> Result<ByteList, Memory>
     requires { length parts.now.payload ≤ 1472 }
     ensures bytes { IfOk result (λ bytes. bytes ≡ built parts.now) }
+    ensures len { IfOk result (λ bytes. length bytes ≡ 42 + length parts.now.payload) }
     // The receiver's test of the IPv4 header.
     ensures checked { IfOk result (λ bytes. checksum_of (take 20 (drop 14 bytes)) ≡ 0) }
     ensures viewed { IfOk result (λ bytes. view_of bytes ≡ headers_of parts.now) }
+    ensures payload { IfOk result (λ bytes. drop 42 bytes ≡ parts.now.payload) }
 {
     let payload = parts.payload.as_slice();
     let mut frame = Vec::with_capacity(alloc, 42 + payload.len())?;
