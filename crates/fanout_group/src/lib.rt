@@ -5,7 +5,9 @@
 mod laws;
 mod logs;
 mod modes;
+mod runs;
 
 pub use laws::{arrivals_rise, each_frame_stands_exactly_once};
 pub use logs::{ArrivalList, ArrivalLog, Fate, Try, TryList};
 pub use modes::Mode;
+pub use runs::{CpuEnd, CpuLog, CpuLogList};

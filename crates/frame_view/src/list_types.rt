@@ -88,6 +88,13 @@ impl<T: Drop> ItemList<T> {
         self.items.push(item)?;
         Ok(())
     }
+
+    /// Keeps the first `len` items, or all where there are fewer. It takes no memory.
+    pub fn truncate(&mut self, len: usize)
+        ensures { self.new ≡ take len self.old }
+    {
+        self.items.truncate(len);
+    }
 }
 
 impl ItemList<u8> {

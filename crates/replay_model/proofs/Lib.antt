@@ -10,3 +10,7 @@ pub mod Arriving
 pub mod Feeding
 pub mod Ending
 pub mod Captures
+pub mod Turns
+pub mod Soundness
+pub mod Clocks
+pub mod FeedSteps

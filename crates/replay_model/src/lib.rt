@@ -3,11 +3,18 @@
 #![tactic(auto)]
 
 mod laws;
+mod cpu_feed;
 mod list_ring;
+mod plain_replay;
+mod replay_run;
+mod rounds;
+mod rules;
 mod schedule;
 
 pub use laws::{
     a_replay_reports_a_group, captures_give_arrivals, each_frame_of_a_replay_stands_exactly_once,
 };
 pub use list_ring::ListRing;
+pub use plain_replay::{Closed, Replayed, replay};
+pub use rules::{PlainRules, RingSize};
 pub use schedule::{Line, Schedule};

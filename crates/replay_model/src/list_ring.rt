@@ -257,7 +257,6 @@ impl ListRing {
     /// The clock goes on to a moment, in milliseconds. Where the deadline is reached an open block that has
     /// packets is retired, and a next block is asked for.
     pub fn tick(&mut self, ms: u64) -> Result<(), Memory>
-        requires later { (state self.old).clock ≤ ms }
         requires small { ms ≤ 2 ^ 63 }
         ensures ok { OnOk result (self.new ≡ noted self.old (note_of_tick self.old ms)) }
         ensures err { OnErr result (self.new ≡ self.old) }
@@ -286,7 +285,6 @@ impl ListRing {
     /// A due tick, where the ring is frozen or its open block has packets.
     fn time_out(&mut self, ms: u64) -> Result<(), Memory>
         requires over { (state self.old).deadline ≤ ms }
-        requires later { (state self.old).clock ≤ ms }
         requires small { ms ≤ 2 ^ 63 }
         requires packets { is_empty_block (state self.old).now ≡ false }
         ensures ok { OnOk result (self.new ≡ noted self.old (note_of_tick self.old ms)) }

@@ -1,0 +1,41 @@
+use Rattle.std.proofs.Common.{◌≡◌, ℕ, List, ◌++◌, drop, arith, sym, ◌∙◌, ap}
+use Rattle.capture_file.specs.declared.stage.Stage.TheVariants.{Damaged}
+use Rattle.capture_file.specs.Capture.{frames_of}
+use Rattle.capture_file.specs.Reading.{error_of}
+use Rattle.capture_file.specs.Decoding.{Stands, decoder_value}
+use Rattle.capture_file.proofs.Settling.{Settles, settles_here, stands_on, stands_damaged, settles_damage, no_error, unless_wanted}
+use Rattle.capture_file.proofs.decoder.Decoder.feed.Goals as goal
+
+damaged : (c : goal.After-clear) (number : ℕ) (fed : List ℕ) → Stands number c.args.self.now fed
+    → Settles number (frames_of number fed) (fed ++ c.args.piece.now) c.args.into.now c.read_on-progress.new.into c.stage_with-self-inside.result c.in-Ok.progress.next (drop c.in-Ok.progress.cut c.read_on-progress.new.kept.items)
+damaged c number fed stands =
+    settles_here number fed c.args.piece.now c.args.self.now (decoder_value c.self.inside) _ _ c.in-Ok.progress _ c.split_at.result.0.now c.len-kept.result c.min.result _
+    c.self.view_is stands (omega (arith, c.len-kept.ensures)) c.min.ensures c.split_at.ensures.front c.stage_with-self-inside.ensures c.in-Ok.ensures.ok
+
+pub returns-in-Damaged-clause-stands : goal.returns-in-Damaged-clause-stands
+returns-in-Damaged-clause-stands c = unless_wanted c.in-Damaged.damage (λ number fed stands.
+    stands_damaged number _ fed _ _ _ c.args.self.now (decoder_value c.self.inside) _ _ _ _ c.self.view_is stands (damaged c number fed stands) c.in-Damaged.damage c.in-Damaged.is c.clear.ensures.items)
+
+pub returns-in-Damaged-clause-frames : goal.returns-in-Damaged-clause-frames
+returns-in-Damaged-clause-frames c = unless_wanted c.in-Damaged.damage (λ number fed stands. (damaged c number fed stands).frames)
+
+pub returns-in-Damaged-clause-damage : goal.returns-in-Damaged-clause-damage
+returns-in-Damaged-clause-damage c = unless_wanted c.in-Damaged.damage (λ number fed stands.
+    settles_damage number _ _ _ _ _ _ _ _ (damaged c number fed stands) (ap error_of c.in-Damaged.is))
+
+more : (c : goal.After-cut_front) (number : ℕ) (fed : List ℕ) → Stands number c.args.self.now fed
+    → Settles number (frames_of number fed) (fed ++ c.args.piece.now) c.args.into.now c.read_on-progress.new.into c.stage_with-self-inside.result c.in-Ok.progress.next (drop c.in-Ok.progress.cut c.read_on-progress.new.kept.items)
+more c number fed stands =
+    settles_here number fed c.args.piece.now c.args.self.now (decoder_value c.self.inside) _ _ c.in-Ok.progress _ c.split_at.result.0.now c.len-kept.result c.min.result _
+    c.self.view_is stands (omega (arith, c.len-kept.ensures)) c.min.ensures c.split_at.ensures.front c.stage_with-self-inside.ensures c.in-Ok.ensures.ok
+
+pub returns-clause-stands : goal.returns-clause-stands
+returns-clause-stands c number fed stands =
+    stands_on number _ fed _ _ _ c.args.self.now (decoder_value c.self.inside) _ _ _ _ c.self.view_is stands (more c number fed stands) (no_error _ c.in_default-stage.not-Damaged) c.cut_front.ensures
+
+pub returns-clause-frames : goal.returns-clause-frames
+returns-clause-frames c number fed stands = (more c number fed stands).frames
+
+pub returns-clause-damage : goal.returns-clause-damage
+returns-clause-damage c number fed stands =
+    settles_damage number _ _ _ _ _ _ _ _ (more c number fed stands) (no_error _ c.in_default-stage.not-Damaged)

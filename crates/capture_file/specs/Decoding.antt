@@ -1,0 +1,69 @@
+-- What a decoder stands for: the bytes that it was fed.
+use Rattle.std.specs.Prelude.{◌≡◌, ℕ, nat_lt, if◌then◌else◌, List, [], length, drop, Option, None, Some, Result, Ok, Err, ⊤}
+use Rattle.frame_view.specs.declared.frames.Frame.{Frame}
+use Rattle.capture_file.specs.declared.error.CaptureError.{CaptureError}
+use Rattle.capture_file.specs.declared.error.CaptureError.TheVariants as errors
+use Rattle.capture_file.specs.declared.format.Format.{Format}
+use Rattle.capture_file.specs.declared.decoder.Decoder.TheInside.{Inside}
+use Rattle.capture_file.specs.declared.stage.Stage.{Stage}
+use Rattle.capture_file.specs.declared.stage.Stage.TheVariants.{Header, Records, Damaged}
+use Rattle.capture_file.specs.Reading.{IsSoundAt}
+use Rattle.capture_file.specs.Capture.{frames_of, damage_of, stop_of, header_of}
+
+-- A decoder: its CPU, what comes next, the place where its kept bytes begin, the number of the next frame, and the kept bytes
+pub record DecoderValue : Type 0 where
+  pub cpu : ℕ
+  pub stage : Stage
+  pub stop : ℕ
+  pub index : ℕ
+  pub rest : List ℕ
+
+abbrev pub decoder_value : Inside → DecoderValue
+decoder_value d = record { cpu = d.cpu; stage = d.stage; stop = d.next.stop; index = d.next.index; rest = d.kept.items }
+
+abbrev pub IsSound : Inside → Type 0
+IsSound d = IsSoundAt d.stage d.next d.kept.items
+
+-- what comes behind a header that is whole
+abbrev pub stage_behind : Result Format CaptureError → Stage
+stage_behind (Ok format) = Records format
+stage_behind (Err damage) = Damaged damage
+
+abbrev pub stage_by : Option CaptureError → List ℕ → Stage
+stage_by (Some damage) bytes = Damaged damage
+stage_by None bytes = if nat_lt (length bytes) 24 then Header else stage_behind (header_of bytes)
+
+-- what comes next after these bytes
+abbrev pub stage_of : List ℕ → Stage
+stage_of bytes = stage_by (damage_of bytes) bytes
+
+abbrev pub kept_by : Option CaptureError → List ℕ → List ℕ
+kept_by (Some damage) bytes = []
+kept_by None bytes = drop (stop_of bytes) bytes
+
+-- the bytes that are kept: those from the stop on, none after damage
+abbrev pub kept_of : List ℕ → List ℕ
+kept_of bytes = kept_by (damage_of bytes) bytes
+
+-- the decoder stands for the bytes that it was fed
+pub record Stands (number : ℕ) (decoder : DecoderValue) (fed : List ℕ) : Type 0 where
+  pub cpu : decoder.cpu ≡ number
+  pub stage : decoder.stage ≡ stage_of fed
+  pub stop : decoder.stop ≡ stop_of fed
+  pub index : decoder.index ≡ length (frames_of number fed)
+  pub rest : decoder.rest ≡ kept_of fed
+
+abbrev pub UnlessWanted : CaptureError → Type 0 → Type 0
+UnlessWanted errors.Memory P = ⊤
+UnlessWanted errors.BadMagic P = P
+UnlessWanted errors.BadVersion P = P
+UnlessWanted (errors.BadLink field) P = P
+UnlessWanted (errors.BadLength place) P = P
+UnlessWanted (errors.Truncated place) P = P
+UnlessWanted errors.TooLarge P = P
+UnlessWanted (errors.BadInterface place) P = P
+
+-- the fact, unless the answer is want of memory
+abbrev pub UnlessMemory : {X : Type 0} → Result X CaptureError → Type 0 → Type 0
+UnlessMemory (Ok x) P = P
+UnlessMemory (Err error) P = UnlessWanted error P

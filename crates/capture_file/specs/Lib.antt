@@ -1,0 +1,4 @@
+pub mod Capture
+pub mod Output
+pub mod Decoding
+pub mod Reading

@@ -1,0 +1,141 @@
+//! A capture that comes in pieces.
+//!
+//! The header is gathered first. Then each piece completes the record of which bytes are kept, its further whole
+//! records are read where they lie, and what is behind them is kept for the next piece. Damage ends it all.
+ghost use Rattle.std.specs.Prelude.{◌≡◌, ◌≢◌, ℕ, ◌≤◌, List, [], ◌++◌, length, IsErrOf, Err};
+ghost use Rattle.std.specs.Result.{result_err};
+ghost use Rattle.frame_view.specs.declared.frames.Frame.{Frame};
+ghost use Rattle.capture_file.specs.Capture.{frames_of, damage_of, end_of};
+ghost use Rattle.capture_file.specs.Reading.{stage_with};
+
+use crate::CaptureError;
+use crate::reading::{Place, cut_front, read_on};
+use crate::stage::Stage;
+use frame_view::{Frames, Memory};
+use std::alloc::Global;
+use std::marker::Model;
+
+/// The number of bytes of a capture that count.
+const LARGEST_CAPTURE: usize = 33_554_432;
+
+/// Reads a pcap capture of version 2.4 that is fed piece by piece, however it is cut. That no more than the first
+/// 33,554,432 bytes count, and no more than 262,144 bytes of a record, is this project's own choice.
+#[derive(Debug, Drop)]
+pub struct Decoder {
+    /// Gives the memory for the frames.
+    alloc: Global,
+    /// The number that its frames carry.
+    cpu: u32,
+    /// What comes next.
+    stage: Stage,
+    /// Where the kept bytes begin, and the number of the next frame.
+    next: Place,
+    /// The bytes behind the last whole record; none after damage.
+    kept: Vec<u8>,
+}
+
+impl Model for Decoder {
+    ghost use Rattle.capture_file.specs.Decoding.{DecoderValue, decoder_value, IsSound};
+
+    ghost Value = { DecoderValue };
+
+    ghost view = { decoder_value };
+
+    ghost invariant = { IsSound };
+}
+
+impl Decoder {
+    ghost use Rattle.capture_file.specs.Decoding.{Stands, kept_of, UnlessMemory};
+
+    /// A decoder that nothing was fed to. It takes no memory.
+    pub fn new(alloc: Global, cpu: u32) -> Decoder
+        ensures { Stands cpu result [] }
+    {
+        Decoder {
+            alloc,
+            cpu,
+            stage: Stage::Header,
+            next: Place { stop: 0, index: 0 },
+            kept: Vec::new(alloc),
+        }
+    }
+
+    /// Takes the next bytes of the capture, and appends the frames that are whole now. The error is the capture's
+    /// damage, with the frames before it in `into`; after it every call gives the same error and appends nothing.
+    /// After `Memory` the decoder and `into` are as before the call.
+    pub fn feed(&mut self, piece: &[u8], into: &mut Frames) -> Result<(), CaptureError>
+        // The decoder stands for all bytes that it was fed.
+        ensures stands { UnlessMemory result ((cpu : ℕ) (fed : List ℕ) → Stands cpu self.old fed
+            → Stands cpu self.new (fed ++ piece.now)) }
+
+        // The frames that are new are appended.
+        ensures frames { UnlessMemory result ((cpu : ℕ) (fed : List ℕ) → Stands cpu self.old fed
+            → (more : List Frame) × (into.new ≡ into.old ++ more) × (frames_of cpu (fed ++ piece.now) ≡ frames_of cpu fed ++ more)) }
+
+        // The error is the damage of all bytes that were fed.
+        ensures damage { UnlessMemory result ((cpu : ℕ) (fed : List ℕ) → Stands cpu self.old fed
+            → result_err result ≡ damage_of (fed ++ piece.now)) }
+
+        // After want of memory all is as before.
+        ensures memory { IsErrOf result CaptureError.Memory → (self.new ≡ self.old) × (into.new ≡ into.old) }
+    {
+        let frames = into.len();
+        let kept = self.kept.len();
+        let room = LARGEST_CAPTURE - (self.next.stop + kept);
+        let (counted, _) = piece.split_at(room.min(piece.len()));
+        let progress = read_on(
+            self.alloc,
+            self.cpu,
+            self.stage,
+            self.next,
+            &mut self.kept,
+            counted,
+            into,
+        );
+        let Ok(progress) = progress else {
+            self.kept.truncate(kept);
+            into.truncate(frames);
+            return Err(CaptureError::Memory);
+        };
+        self.next = progress.next;
+        self.stage = stage_with(progress.stage, piece.len() > room);
+        if let Stage::Damaged(damage) = self.stage {
+            self.kept.clear();
+            return Err(damage);
+        }
+        cut_front(&mut self.kept, progress.cut);
+        Ok(())
+    }
+
+    /// How the capture ends where nothing more comes: its damage, or `Truncated` with the place of the header or
+    /// record that isn't whole. It takes no memory and is never `Memory`.
+    pub fn end(&self) -> Result<(), CaptureError>
+        ensures end { (cpu : ℕ) (fed : List ℕ) → Stands cpu self.now fed → result_err result ≡ end_of fed }
+        ensures memory { result ≢ Err CaptureError.Memory }
+    {
+        match self.stage {
+            Stage::Damaged(damage) => Err(damage),
+            Stage::Records(_) if self.kept.is_empty() => Ok(()),
+            _ => Err(CaptureError::Truncated(self.next.stop as u64)),
+        }
+    }
+
+    /// The number of bytes that are kept: those behind the last whole record, none after damage. It takes no memory.
+    pub fn rest(&self) -> u32
+        ensures kept { (cpu : ℕ) (fed : List ℕ) → Stands cpu self.now fed → result ≡ length (kept_of fed) }
+        ensures few { result ≤ 262159 }
+    {
+        self.kept.len() as u32
+    }
+}
+
+/// The stage where bytes were fed that are beyond those that count.
+fn stage_with(stage: Stage, has_beyond: bool) -> Stage
+    ensures { result ≡ stage_with stage has_beyond }
+{
+    match stage {
+        Stage::Damaged(damage) => Stage::Damaged(damage),
+        _ if has_beyond => Stage::Damaged(CaptureError::TooLarge),
+        stage => stage,
+    }
+}

@@ -1,0 +1,4 @@
+mod LineCuts
+mod Positions
+mod WordCuts
+mod Digits

@@ -1,0 +1,10 @@
+//! The lines of a text, the words of a line, and numbers, read in place and without memory.
+#![tactic(auto)]
+
+mod lines;
+mod numbers;
+mod words;
+
+pub use lines::{LARGEST_TEXT, next_line};
+pub use numbers::number;
+pub use words::{is_plain, next_word};
