@@ -40,7 +40,8 @@ settles_in members t = one_if (is_settled t.fate && ltb t.member members)
 refusals_settle_nothing : (members bound at count : ℕ) → sum_by (settles_in bound) (refused_from members at count) ≡ 0
 refusals_settle_nothing members bound at zero = refl
 refusals_settle_nothing members bound at (suc count) =
-    omega (arith, sum_by-cons (settles_in bound) (a_try at Refused) (refused_from members ((at + 1) % members) count), refusals_settle_nothing members bound ((at + 1) % members) count)
+    let next = (at + 1) % members in
+    omega (arith, sum_by-cons (settles_in bound) (a_try at Refused) (refused_from members next count), refusals_settle_nothing members bound next count)
 
 settles_once : (members at : ℕ) (fate : Fate) → at < members → IsSettled fate → settles_in members (a_try at fate) ≡ 1
 settles_once members at Kept h settled = ap one_if (lt-ltb at members h)
@@ -50,7 +51,8 @@ settles_once members at Refused h settled = absurd settled
 ends_settled : (members from count at : ℕ) (fate : Fate) → at < members → IsSettled fate
     → sum_by (settles_in members) (refused_from members from count ++ a_try at fate ∷ []) ≡ 1
 ends_settled members from count at fate h settled =
-    omega (arith, sum_by-append (settles_in members) (refused_from members from count) (a_try at fate ∷ []), refusals_settle_nothing members members from count, settles_once members at fate h settled)
+    let both = sum_by-append (settles_in members) (refused_from members from count) (a_try at fate ∷ []) in
+    omega (arith, both, refusals_settle_nothing members members from count, settles_once members at fate h settled)
 
 ends_at : (members from count at member : ℕ) (fate : Fate) → last_member member (refused_from members from count ++ a_try at fate ∷ []) ≡ at
 ends_at members from zero at member fate = refl

@@ -33,7 +33,9 @@ one_note cpu index Finished = refl
 pub settled_of : (cpu index : ℕ) (notes : List Note) → sum_by (settles cpu index) notes ≡ sum_by (settles cpu index) (frame_notes cpu notes)
 settled_of cpu index [] = refl
 settled_of cpu index (note ∷ notes) =
-    omega (arith, sum_by-cons (settles cpu index) note notes, one_note cpu index note, settled_of cpu index notes, sum_by-append (settles cpu index) (frame_note cpu note) (frame_notes cpu notes))
+    let f : Note → ℕ = settles cpu index in
+    let both = sum_by-append f (frame_note cpu note) (frame_notes cpu notes) in
+    omega (arith, both, sum_by-cons f note notes, one_note cpu index note, settled_of cpu index notes)
 
 -- whether a fate is none of a packet that was handed back
 abbrev pub is_settled : Fate → Bool
@@ -65,4 +67,6 @@ settled_by_tries room own cpu index [] [] h = refl
 settled_by_tries room own cpu index [] (note ∷ notes) h = absurd h
 settled_by_tries room own cpu index (attempt ∷ attempts) [] h = absurd h
 settled_by_tries room own cpu index (attempt ∷ attempts) (note ∷ notes) h =
-    omega (arith, sum_by-cons (settles cpu index) note notes, sum_by-cons (try_settles cpu index) attempt attempts, noted_so room own cpu index attempt note h.0, settled_by_tries room own cpu index attempts notes h.1)
+    let first = noted_so room own cpu index attempt note h.0 in
+    let rest = settled_by_tries room own cpu index attempts notes h.1 in
+    omega (arith, first, rest, sum_by-cons (settles cpu index) note notes, sum_by-cons (try_settles cpu index) attempt attempts)

@@ -52,7 +52,8 @@ module _ (cpu index members : ℕ) (frame : Frame) (entry : ArrivalLog) where
       let attempt = attempt_of frame entry t in
       let rest : ℕ → ℕ = λ k. sum_by f (attempts_in k frame entry tries) in
       sum_below-same _ (λ k. cond (eqb t.member k) (f attempt) 0 + rest k) members (λ k below.
-      sum_by-append f (cond (eqb t.member k) (attempt ∷ []) []) (attempts_in k frame entry tries) ∙ ap (λ n. n + rest k) (try_at f attempt (eqb t.member k)))
+      sum_by-append f (cond (eqb t.member k) (attempt ∷ []) []) (attempts_in k frame entry tries)
+      ∙ ap (λ n. n + rest k) (try_at f attempt (eqb t.member k)))
       ∙ sum_below-add (λ k. cond (eqb t.member k) (f attempt) 0) rest members
       ∙ ap (λ n. n + sum_below rest members) (sum_below-at t.member (f attempt) members)
 
@@ -60,13 +61,15 @@ module _ (cpu index members : ℕ) (frame : Frame) (entry : ArrivalLog) where
       → sum_below (λ k. sum_by (try_settles cpu index) (attempts_in k frame entry tries)) members ≡ sum_by (settles_in members) tries
   entry_settles [] it = sum_below-zero members
   entry_settles (t ∷ tries) it =
-      omega (arith, tries_split t tries, settled_below (is_settled t.fate) (ltb t.member members) (is_it cpu index frame) it, sum_by-cons (settles_in members) t tries, entry_settles tries it)
+      let first = settled_below (is_settled t.fate) (ltb t.member members) (is_it cpu index frame) it in
+      omega (arith, first, tries_split t tries, sum_by-cons (settles_in members) t tries, entry_settles tries it)
 
   entry_silent : (tries : List Try) → is_it cpu index frame ≡ false
       → sum_below (λ k. sum_by (try_settles cpu index) (attempts_in k frame entry tries)) members ≡ 0
   entry_silent [] it = sum_below-zero members
   entry_silent (t ∷ tries) it =
-      omega (arith, tries_split t tries, nothing_at (ltb t.member members) _ (unsettled (is_settled t.fate) (is_it cpu index frame) it), entry_silent tries it)
+      let first = nothing_at (ltb t.member members) _ (unsettled (is_settled t.fate) (is_it cpu index frame) it) in
+      omega (arith, first, tries_split t tries, entry_silent tries it)
 
   entry_stands : (it ended : Bool) → is_it cpu index frame ≡ it → sum_by (settles_in members) entry.tries ≡ one_if (not ended)
       → sum_below (λ k. sum_by (try_settles cpu index) (attempts_in k frame entry entry.tries)) members ≡ one_if (it && not ended)
@@ -88,8 +91,8 @@ either_once : (x y : Bool) → (x ≡ true → y ≡ false) → one_if x + one_i
 either_once true y h = ap (λ b. 1 + one_if b) (h refl)
 either_once false y h = omega arith
 
-log_stands : (rules : Rules) (cpu index least present : ℕ) (frames : List Frame) (log : List ArrivalLog) → 0 < rules.members → present < rules.members
-    → AreOf cpu least frames → IsLawfulFrom rules present frames log
+log_stands : (rules : Rules) (cpu index least present : ℕ) (frames : List Frame) (log : List ArrivalLog) → 0 < rules.members
+    → present < rules.members → AreOf cpu least frames → IsLawfulFrom rules present frames log
     → sum_below (λ k. sum_by (try_settles cpu index) (attempts_at k frames log)) rules.members ≡ one_if (passes index log)
 log_stands rules cpu index least present [] [] some at of lawful = sum_below-zero rules.members
 log_stands rules cpu index least present [] (entry ∷ log) some at of lawful = absurd lawful

@@ -1,10 +1,7 @@
 -- An arrival keeps what holds of a replay.
-use Rattle.std.proofs.Common.{◌≡◌, ℕ, ◌+◌, ◌<◌, ◌≤◌, eqb, ltb, List, [], ◌∷◌, ◌++◌, length, get_or, refl, sym, ap, subst, ◌∙◌, arith, append_assoc}
-use Rattle.std.specs.Prelude.{Option, None, Some, sum_by, count_by, slice_set}
-use Rattle.std.proofs.lemmas.List.{get_or-set_same, length-set, length_push, set-set}
-use Rattle.std.proofs.lemmas.Grind.{common_steps}
-use Rattle.std.specs.List.{cons_option}
-use Rattle.std.proofs.lemmas.List.Sums.{sum_by-set, sum_by_push}
+use Rattle.std.proofs.Common.{◌≡◌, ℕ, ◌+◌, ◌<◌, eqb, ltb, List, [], ◌∷◌, ◌++◌, length, get_or, refl, sym, ap, subst, ◌∙◌, arith, append_assoc}
+use Rattle.std.specs.Prelude.{Some, slice_set}
+use Rattle.std.proofs.lemmas.List.{get_or-set_same, length-set, set-set}
 use Rattle.frame_view.specs.declared.frames.Frame.{Frame}
 use Rattle.ring_model.specs.Fates.{frame_notes}
 use Rattle.ring_model.specs.Offers.{offer_of}
@@ -21,9 +18,11 @@ use Rattle.fanout_group.specs.declared.modes.Mode.TheVariants.{Hash, Lb, Cpu as 
 use Rattle.fanout_group.proofs.Members.{one_if}
 use Rattle.fanout_group.proofs.Routing.{home_is_member, present_is_member}
 use Rattle.replay_model.specs.Replay.{Cpu, Replay, Tried, arrived, cpu_at, next_ticket, no_cpu, no_ring, ticket_of, tries_of}
-use Rattle.replay_model.proofs.Going.{Goes, Joins, Logs, Tickets, silent_joins}
+use Rattle.replay_model.proofs.Drawing.{once_more, one_more, rises_from, tickets_more, total_more}
+use Rattle.replay_model.proofs.Going.{Waiting, Goes, Joins, Logs, Tickets, silent_joins}
 use Rattle.replay_model.proofs.Places.{set_everywhere}
-use Rattle.replay_model.proofs.Tries.{Adds, Made, Spread, notes-append, frame_notes-append, tries_made}
+use Rattle.replay_model.proofs.Adding.{Adds, Arrival, Spread, notes-append, frame_notes-append}
+use Rattle.replay_model.proofs.Tries.{Made, tries_made}
 
 has_ticket : (mode : Mode) (ticket : ℕ) → HasTicket mode (ticket_of mode ticket)
 has_ticket Hash ticket = refl
@@ -33,7 +32,7 @@ has_ticket Rollover ticket = refl
 has_ticket Qm ticket = refl
 
 -- the log of the CPU that the frame arrives at
-log_more : (rules : Rules) (number : ℕ) (arrivals : List Frame) (old : Cpu) (frame : Frame) (waiting : List (Option Frame)) (entry : ArrivalLog)
+log_more : (rules : Rules) (number : ℕ) (arrivals : List Frame) (old : Cpu) (frame : Frame) (waiting : Waiting) (entry : ArrivalLog)
     → 0 < rules.members → Logs rules number arrivals (record old { waiting = Some frame ∷ waiting }) → IsEntry rules old.present frame entry
     → Logs rules number arrivals (record { waiting = waiting; present = present_after rules.mode old.present entry.tries; log = old.log ++ entry ∷ [] })
 log_more rules number arrivals old frame waiting entry some h is = record {
@@ -44,9 +43,10 @@ log_more rules number arrivals old frame waiting entry some h is = record {
 }
 
 -- its notes at a member
-joins_more : (room : ℕ) (rules : Rules) (number member : ℕ) (arrivals : List Frame) (old : Cpu) (frame : Frame) (waiting : List (Option Frame)) (entry : ArrivalLog) (present : ℕ) (a b : Ring)
+joins_more : (room : ℕ) (rules : Rules) (number member : ℕ) (arrivals : List Frame) (old : Cpu) (frame : Frame) (waiting : Waiting)
+    (entry : ArrivalLog) (present : ℕ) (a b : Ring)
     → frame.cpu ≡ number → Joins room rules.own number member arrivals (record old { waiting = Some frame ∷ waiting }) a.notes
-    → Adds room rules.own frame entry member entry.tries a b
+    → Adds (record { room = room; own = rules.own; frame = frame; entry = entry }) member entry.tries a b
     → Joins room rules.own number member arrivals (record { waiting = waiting; present = present; log = old.log ++ entry ∷ [] }) b.notes
 joins_more room rules number member arrivals old frame waiting entry present a b of h adds = record {
   joined = λ log more k.
@@ -56,78 +56,35 @@ joins_more room rules number member arrivals old frame waiting entry present a b
       rw (append_assoc, adds.new_is, append_assoc) (h.joined (entry ∷ log) (adds.notes ++ more) (rw (frame_notes-append number adds.notes more) both));
 }
 
--- tickets
-front-append : (ticket : Option ℕ) (a b : List ℕ) → cons_option ticket (a ++ b) ≡ cons_option ticket a ++ b
-front-append None a b = refl
-front-append (Some ticket) a b = refl
-
-tickets-append : (a b : List ArrivalLog) → tickets_of (a ++ b) ≡ tickets_of a ++ tickets_of b
-tickets-append [] b = refl
-tickets-append (entry ∷ a) b = ap (cons_option entry.ticket) (tickets-append a b) ∙ front-append entry.ticket (tickets_of a) (tickets_of b)
-
--- the tickets of a log with an entry more
-tickets_more : (log : List ArrivalLog) (entry : ArrivalLog) (ticket : ℕ) → entry.ticket ≡ Some ticket
-    → tickets_of (log ++ entry ∷ []) ≡ tickets_of log ++ ticket ∷ []
-tickets_more log entry ticket e =
-    tickets-append log (entry ∷ []) ∙ ap (λ (t : Option ℕ). tickets_of log ++ cons_option t []) e
-
-rises_from : (low high : ℕ) (numbers : List ℕ) → low ≤ high → Rises high numbers → Rises low numbers
-rises_from low high [] h rises = tt
-rises_from low high (number ∷ numbers) h rises = let first = rises.0 in (omega arith, rises.1)
-
--- the numbers below the next one, and that one
-one_more : (at next : ℕ) → one_if (ltb at next) + one_if (eqb next at) ≡ one_if (ltb at (next + 1))
-one_more at next = grind (arith, common_steps)
-
-module _ (cpus : List Cpu) (at ticket : ℕ) (new : Cpu) (entry : ArrivalLog) (inside : at < length cpus)
-    (log_is : new.log ≡ (get_or cpus at no_cpu).log ++ entry ∷ []) (ticket_is : entry.ticket ≡ Some ticket) where
-  once_more : (drawn : ℕ) → sum_by (λ cpu. count_by (λ t. eqb t drawn) (tickets_of cpu.log)) (slice_set cpus at new)
-      ≡ sum_by (λ cpu. count_by (λ t. eqb t drawn) (tickets_of cpu.log)) cpus + one_if (eqb ticket drawn)
-  once_more drawn =
-      let old = get_or cpus at no_cpu in
-      let f : Cpu → ℕ = λ cpu. count_by (λ t. eqb t drawn) (tickets_of cpu.log) in
-      let more : f new ≡ f old + one_if (eqb ticket drawn) =
-      ap (λ (log : List ArrivalLog). count_by (λ t. eqb t drawn) (tickets_of log)) log_is
-      ∙ ap (λ (ts : List ℕ). count_by (λ t. eqb t drawn) ts) (tickets_more old.log entry ticket ticket_is)
-      ∙ sum_by_push (λ t. one_if (eqb t drawn)) (tickets_of old.log) ticket in
-      omega (arith, sum_by-set f cpus at new no_cpu inside)
-
-  total_more : sum_by (λ cpu. length cpu.log) (slice_set cpus at new) ≡ sum_by (λ cpu. length cpu.log) cpus + 1
-  total_more =
-      let old = get_or cpus at no_cpu in
-      let f : Cpu → ℕ = λ cpu. length cpu.log in
-      let more : f new ≡ f old + 1 = ap (λ (log : List ArrivalLog). length log) log_is ∙ length_push old.log entry in
-      omega (arith, sum_by-set f cpus at new no_cpu inside)
-
 -- the CPU after an arrival with this entry
-abbrev logged : Rules → Cpu → List (Option Frame) → ArrivalLog → Cpu
+abbrev logged : Rules → Cpu → Waiting → ArrivalLog → Cpu
 logged rules old waiting entry = record {
   waiting = waiting;
   present = present_after rules.mode old.present entry.tries;
   log = old.log ++ entry ∷ [];
 }
 
-module _ (rules : Rules) (size : Size) (arriving : List (List (Option Frame))) (clock cpu : ℕ) (frame : Frame) (waiting : List (Option Frame)) (replay : Replay)
+module _ (rules : Rules) (size : Size) (arriving : List Waiting) (clock cpu : ℕ) (frame : Frame) (waiting : Waiting) (replay : Replay)
     (some : 0 < rules.members) (inside : cpu < length replay.cpus) (next_frame : (cpu_at replay cpu).waiting ≡ Some frame ∷ waiting)
     (h : Goes rules size arriving clock replay) where
   -- as if the frame had been looked at
   logs_at : Logs rules cpu (somes (get_or arriving cpu [])) (record (cpu_at replay cpu) { waiting = Some frame ∷ waiting })
   logs_at =
-      subst (λ (ws : List (Option Frame)). Logs rules cpu (somes (get_or arriving cpu [])) (record (cpu_at replay cpu) { waiting = ws })) next_frame (h.logs cpu)
+      subst (λ (ws : Waiting). Logs rules cpu (somes (get_or arriving cpu [])) (record (cpu_at replay cpu) { waiting = ws })) next_frame (h.logs cpu)
 
   joins_at : (member : ℕ) → member < length replay.members
       → Joins size.room rules.own cpu member (somes (get_or arriving cpu [])) (record (cpu_at replay cpu) { waiting = Some frame ∷ waiting })
       (get_or replay.members member no_ring).notes
   joins_at member below =
-      subst (λ (ws : List (Option Frame)). Joins size.room rules.own cpu member (somes (get_or arriving cpu [])) (record (cpu_at replay cpu) { waiting = ws })
+      subst (λ (ws : Waiting). Joins size.room rules.own cpu member (somes (get_or arriving cpu [])) (record (cpu_at replay cpu) { waiting = ws })
       (get_or replay.members member no_ring).notes) next_frame (h.joins cpu member below)
 
   module _ (entry : ArrivalLog) (rings : List Ring) (next : ℕ) (is : IsEntry rules (cpu_at replay cpu).present frame entry)
-      (spread : Spread size.room rules.own frame entry entry.tries replay.members rings)
+      (spread : Spread (record { room = size.room; own = rules.own; frame = frame; entry = entry }) entry.tries replay.members rings)
       (drawn : rules.mode ≡ Lb → (entry.ticket ≡ Some replay.ticket) × (next ≡ replay.ticket + 1)) where
     joined_at : (number member : ℕ) → member < length replay.members
-        → Joins size.room rules.own number member (somes (get_or arriving number [])) (get_or (slice_set replay.cpus cpu (logged rules (cpu_at replay cpu) waiting entry)) number no_cpu)
-        (get_or rings member no_ring).notes
+        → Joins size.room rules.own number member (somes (get_or arriving number []))
+        (get_or (slice_set replay.cpus cpu (logged rules (cpu_at replay cpu) waiting entry)) number no_cpu) (get_or rings member no_ring).notes
     joined_at number member below =
         let new = logged rules (cpu_at replay cpu) waiting entry in
         let adds = spread.each member below in
@@ -139,23 +96,27 @@ module _ (rules : Rules) (size : Size) (arriving : List (List (Option Frame))) (
         (adds.others k (λ e. other (e ∙ logs_at.of.0))) (h.joins k member below))
         number
 
-    tickets_at : rules.mode ≡ Lb → Tickets (record { cpus = slice_set replay.cpus cpu (logged rules (cpu_at replay cpu) waiting entry); members = rings; ticket = next })
+    tickets_at : rules.mode ≡ Lb
+        → Tickets (record { cpus = slice_set replay.cpus cpu (logged rules (cpu_at replay cpu) waiting entry); members = rings; ticket = next })
     tickets_at lb =
         let new = logged rules (cpu_at replay cpu) waiting entry in
         let t = h.tickets lb in
         let ticket = (drawn lb).0 in
         let next_is = (drawn lb).1 in
         record {
-          rising = set_everywhere (λ k (c : Cpu). (more : List ℕ) → Rises next more → Rises 0 (tickets_of c.log ++ more)) replay.cpus cpu new no_cpu inside
+          rising = set_everywhere (λ k (c : Cpu). (more : List ℕ) → Rises next more → Rises 0 (tickets_of c.log ++ more))
+              replay.cpus cpu new no_cpu inside
               (λ more rises. rw (tickets_more (cpu_at replay cpu).log entry replay.ticket ticket, append_assoc)
               (t.rising cpu (replay.ticket ∷ more) (omega arith, rw next_is at rises)))
               (λ k other more rises. t.rising k more (rises_from replay.ticket next more (omega arith) rises));
-          once = λ at. once_more replay.cpus cpu replay.ticket new entry inside refl ticket at ∙ ap (λ n. n + one_if (eqb replay.ticket at)) (t.once at)
+          once = λ at. once_more replay.cpus cpu replay.ticket new entry inside refl ticket at
+              ∙ ap (λ n. n + one_if (eqb replay.ticket at)) (t.once at)
               ∙ one_more at replay.ticket ∙ ap (λ n. one_if (ltb at n)) (sym next_is);
           total = next_is ∙ ap (λ n. n + 1) t.total ∙ sym (total_more replay.cpus cpu replay.ticket new entry inside refl ticket);
         }
 
-    goes_on : Goes rules size arriving clock (record { cpus = slice_set replay.cpus cpu (logged rules (cpu_at replay cpu) waiting entry); members = rings; ticket = next })
+    goes_on : Goes rules size arriving clock
+        (record { cpus = slice_set replay.cpus cpu (logged rules (cpu_at replay cpu) waiting entry); members = rings; ticket = next })
     goes_on =
         let new = logged rules (cpu_at replay cpu) waiting entry in
         record {
@@ -184,7 +145,7 @@ entry_with rules room frame of replay = record {
   tries = (tried_with rules room frame of replay).tries;
 }
 
-abbrev pub arrived_with : Rules → ℕ → ℕ → Frame → Cpu → List (Option Frame) → Replay → Replay
+abbrev pub arrived_with : Rules → ℕ → ℕ → Frame → Cpu → Waiting → Replay → Replay
 arrived_with rules room cpu frame of waiting replay = record {
   cpus = slice_set replay.cpus cpu (logged rules of waiting (entry_with rules room frame of replay));
   members = (tried_with rules room frame of replay).members;
@@ -192,20 +153,22 @@ arrived_with rules room cpu frame of waiting replay = record {
 }
 
 -- the CPU's frame is taken and then logged: one step
-pub arrived_is : (rules : Rules) (room cpu : ℕ) (frame : Frame) (waiting : List (Option Frame)) (replay : Replay) → cpu < length replay.cpus
+pub arrived_is : (rules : Rules) (room cpu : ℕ) (frame : Frame) (waiting : Waiting) (replay : Replay) → cpu < length replay.cpus
     → arrived rules room cpu frame (record replay { cpus = slice_set replay.cpus cpu (record (cpu_at replay cpu) { waiting = waiting }) })
     ≡ arrived_with rules room cpu frame (cpu_at replay cpu) waiting replay
 arrived_is rules room cpu frame waiting replay inside =
     let taken : Cpu = record (cpu_at replay cpu) { waiting = waiting } in
     let between : Replay = record replay { cpus = slice_set replay.cpus cpu taken } in
     ap (λ (of : Cpu). arrived_with rules room cpu frame of of.waiting between) (get_or-set_same replay.cpus cpu taken no_cpu inside)
-    ∙ ap (λ (cs : List Cpu). record (arrived_with rules room cpu frame (cpu_at replay cpu) waiting replay) { cpus = cs }) (set-set replay.cpus cpu taken _)
+    ∙ ap (λ (cs : List Cpu). record (arrived_with rules room cpu frame (cpu_at replay cpu) waiting replay) { cpus = cs })
+    (set-set replay.cpus cpu taken _)
 
 drawn_is : (mode : Mode) (ticket : ℕ) → mode ≡ Lb → (ticket_of mode ticket ≡ Some ticket) × (next_ticket mode ticket ≡ ticket + 1)
 drawn_is mode ticket e = (ap (λ (m : Mode). ticket_of m ticket) e, ap (λ (m : Mode). next_ticket m ticket) e)
 
-pub arrived_goes : (rules : Rules) (size : Size) (arriving : List (List (Option Frame))) (clock cpu : ℕ) (frame : Frame) (waiting : List (Option Frame)) (replay : Replay)
-    → 0 < rules.members → cpu < length replay.cpus → (cpu_at replay cpu).waiting ≡ Some frame ∷ waiting → Goes rules size arriving clock replay
+pub arrived_goes : (rules : Rules) (size : Size) (arriving : List Waiting) (clock cpu : ℕ) (frame : Frame) (waiting : Waiting)
+    (replay : Replay) → 0 < rules.members → cpu < length replay.cpus → (cpu_at replay cpu).waiting ≡ Some frame ∷ waiting
+    → Goes rules size arriving clock replay
     → Goes rules size arriving clock (arrived_with rules size.room cpu frame (cpu_at replay cpu) waiting replay)
 arrived_goes rules size arriving clock cpu frame waiting replay some inside e h =
     let old = cpu_at replay cpu in
@@ -214,9 +177,10 @@ arrived_goes rules size arriving clock cpu frame waiting replay some inside e h 
     let ticket = ticket_of rules.mode replay.ticket in
     let home = home_of rules old.present ticket frame in
     let present = (h.logs cpu).present in
-    let made : Made size.room rules.own frame entry (rolls_over rules) (eqb entry.verdict 0) rules.members home replay.members tried =
-    tries_made size.room rules frame entry home replay.members (home_is_member rules old.present ticket frame some present) h.members in
+    let a : Arrival = record { room = size.room; own = rules.own; frame = frame; entry = entry } in
+    let made : Made a (rolls_over rules) (eqb entry.verdict 0) rules.members home replay.members tried =
+    tries_made a rules home replay.members (home_is_member rules old.present ticket frame some present) h.members in
     let is : IsEntry rules old.present frame entry =
     record { index = refl; hash = refl; verdict = refl; ticket = has_ticket rules.mode replay.ticket; tries = made.tries } in
-    goes_on rules size arriving clock cpu frame waiting replay some inside e h entry tried.members (next_ticket rules.mode replay.ticket) is made.spread
-    (drawn_is rules.mode replay.ticket)
+    goes_on rules size arriving clock cpu frame waiting replay some inside e h entry tried.members (next_ticket rules.mode replay.ticket) is
+    made.spread (drawn_is rules.mode replay.ticket)

@@ -14,4 +14,5 @@ captured_at (frames ∷ captures) (suc cpu) = captured_at captures cpu
 
 pub captures_arrive : (captures : List (List Frame)) → ((cpu : ℕ) → AreOf cpu 0 (get_or captures cpu [])) → AreArrivals (map arrivals_at captures)
 captures_arrive captures of cpu =
-    subst (λ (waiting : List (Option Frame)). AreOf cpu 0 (somes waiting)) (sym (captured_at captures cpu)) (arrivals_are_of cpu 0 (get_or captures cpu []) (of cpu))
+    subst (λ (waiting : List (Option Frame)). AreOf cpu 0 (somes waiting)) (sym (captured_at captures cpu))
+    (arrivals_are_of cpu 0 (get_or captures cpu []) (of cpu))

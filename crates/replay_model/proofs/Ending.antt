@@ -1,10 +1,9 @@
 -- How a replay begins and ends: what holds at each moment gives the report of a group.
 use Rattle.std.proofs.Common.{◌≡◌, ℕ, zero, suc, ◌+◌, ◌<◌, eqb, ltb, List, [], ◌∷◌, ◌++◌, length, get_or, inl, inr, refl, sym, ap, subst, ◌∙◌, arith}
-use Rattle.std.specs.Prelude.{Option, map, replicate, sum_by, count_by, All}
+use Rattle.std.specs.Prelude.{map, replicate, sum_by, count_by, All}
 use Rattle.std.proofs.lemmas.Bool.{cases_lt, le-ltb}
 use Rattle.std.proofs.lemmas.List.{append-nil, get_or-map, get_or-replicate, get_or_past, length-map, length-replicate}
 use Rattle.std.proofs.lemmas.List.Sums.{sum_by-cons}
-use Rattle.frame_view.specs.declared.frames.Frame.{Frame}
 use Rattle.ring_model.specs.Fates.{frame_notes}
 use Rattle.ring_model.specs.Ring.{Size}
 use Rattle.ring_model.specs.Rings.{Ring, fresh, noted}
@@ -21,24 +20,24 @@ use Rattle.replay_model.specs.Replay.{Cpu, Replay, closed, cpu_at, feed_from, do
 use Rattle.replay_model.specs.Reports.{AreArrivals, IsReplayReport, IsRingReport, IsSchedule, logged_of, notes_of}
 use Rattle.replay_model.specs.declared.schedule.Line.{Line}
 use Rattle.replay_model.proofs.Feeding.{all_fed, lines_go}
-use Rattle.replay_model.proofs.Going.{Goes, Joins}
+use Rattle.replay_model.proofs.Going.{Waiting, Goes, Joins}
 use Rattle.replay_model.proofs.Rings.{IsOpen, closed_run, fresh_open}
 
 -- a CPU before the first line
-abbrev new_cpu : List (Option Frame) → Cpu
+abbrev new_cpu : Waiting → Cpu
 new_cpu waiting = record { waiting = waiting; present = 0; log = [] }
 
-started_at : (arriving : List (List (Option Frame))) (cpu : ℕ) → get_or (map new_cpu arriving) cpu no_cpu ≡ new_cpu (get_or arriving cpu [])
+started_at : (arriving : List Waiting) (cpu : ℕ) → get_or (map new_cpu arriving) cpu no_cpu ≡ new_cpu (get_or arriving cpu [])
 started_at [] cpu = refl
 started_at (waiting ∷ arriving) zero = refl
 started_at (waiting ∷ arriving) (suc cpu) = started_at arriving cpu
 
-nothing_yet : (f : List ArrivalLog → ℕ) (arriving : List (List (Option Frame))) → f [] ≡ 0 → sum_by (λ cpu. f cpu.log) (map new_cpu arriving) ≡ 0
+nothing_yet : (f : List ArrivalLog → ℕ) (arriving : List Waiting) → f [] ≡ 0 → sum_by (λ cpu. f cpu.log) (map new_cpu arriving) ≡ 0
 nothing_yet f [] e = refl
 nothing_yet f (waiting ∷ arriving) e =
     let count : Cpu → ℕ = λ cpu. f cpu.log in omega (arith, sum_by-cons count (new_cpu waiting) (map new_cpu arriving), nothing_yet f arriving e)
 
-started_goes : (rules : Rules) (size : Size) (arriving : List (List (Option Frame))) → 0 < rules.members → AreArrivals arriving
+started_goes : (rules : Rules) (size : Size) (arriving : List Waiting) → 0 < rules.members → AreArrivals arriving
     → Goes rules size arriving 0 (started rules size arriving)
 started_goes rules size arriving some of =
     let rings = replicate rules.members (fresh size) in
@@ -51,17 +50,19 @@ started_goes rules size arriving some of =
       opens = λ member below. subst (λ (ring : Ring). IsOpen size 0 ring) (ring_at member below) (fresh_open size);
       logs = λ cpu. rw (started_at arriving cpu) (record { present = some; least = 0; of = of cpu; lawful = λ more rest. rest });
       joins = λ cpu member below.
-          subst (λ (ring : Ring). Joins size.room rules.own cpu member (somes (get_or arriving cpu [])) (cpu_at (started rules size arriving) cpu) ring.notes) (ring_at member below)
+          subst (λ (ring : Ring). Joins size.room rules.own cpu member (somes (get_or arriving cpu [])) (cpu_at (started rules size arriving) cpu)
+          ring.notes) (ring_at member below)
           (rw (started_at arriving cpu) (record { joined = λ log more k. k }));
       tickets = λ lb. record {
         rising = λ cpu more rises. rw (started_at arriving cpu) rises;
-        once = λ ticket. nothing_yet (λ log. count_by (λ drawn. eqb drawn ticket) (tickets_of log)) arriving refl ∙ sym (ap one_if (le-ltb ticket 0 (omega arith)));
+        once = λ ticket. nothing_yet (λ log. count_by (λ drawn. eqb drawn ticket) (tickets_of log)) arriving refl
+            ∙ sym (ap one_if (le-ltb ticket 0 (omega arith)));
         total = sym (nothing_yet length arriving refl);
       };
     }
 
 -- the arrivals and logs, CPU by CPU
-logged_at : (arriving : List (List (Option Frame))) (cpus : List Cpu) (cpu : ℕ) → length cpus ≡ length arriving
+logged_at : (arriving : List Waiting) (cpus : List Cpu) (cpu : ℕ) → length cpus ≡ length arriving
     → record { arrivals = somes (get_or arriving cpu []); log = (get_or cpus cpu no_cpu).log } ≡ get_or (logged_of arriving cpus) cpu nothing_logged
 logged_at [] [] cpu e = refl
 logged_at [] (c ∷ cpus) cpu e = absurd (omega arith)
@@ -69,7 +70,7 @@ logged_at (waiting ∷ arriving) [] cpu e = absurd (omega arith)
 logged_at (waiting ∷ arriving) (c ∷ cpus) zero e = refl
 logged_at (waiting ∷ arriving) (c ∷ cpus) (suc cpu) e = logged_at arriving cpus cpu (omega arith)
 
-logged_sum : (f : List ArrivalLog → ℕ) (arriving : List (List (Option Frame))) (cpus : List Cpu) → length cpus ≡ length arriving
+logged_sum : (f : List ArrivalLog → ℕ) (arriving : List Waiting) (cpus : List Cpu) → length cpus ≡ length arriving
     → sum_by (λ logged. f logged.log) (logged_of arriving cpus) ≡ sum_by (λ cpu. f cpu.log) cpus
 logged_sum f [] [] e = refl
 logged_sum f [] (c ∷ cpus) e = absurd (omega arith)
@@ -77,10 +78,12 @@ logged_sum f (waiting ∷ arriving) [] e = absurd (omega arith)
 logged_sum f (waiting ∷ arriving) (c ∷ cpus) e =
     let a : Logged → ℕ = λ logged. f logged.log in
     let b : Cpu → ℕ = λ cpu. f cpu.log in
-    omega (arith, sum_by-cons a (record { arrivals = somes waiting; log = c.log }) (logged_of arriving cpus), sum_by-cons b c cpus, logged_sum f arriving cpus (omega arith))
+    let first = sum_by-cons a (record { arrivals = somes waiting; log = c.log }) (logged_of arriving cpus) in
+    let same = logged_sum f arriving cpus (omega arith) in
+    omega (arith, first, same, sum_by-cons b c cpus)
 
 -- a replay whose CPUs are all fed to their ends
-module _ (rules : Rules) (size : Size) (arriving : List (List (Option Frame))) (clock : ℕ) (replay : Replay) (h : Goes rules size arriving clock replay)
+module _ (rules : Rules) (size : Size) (arriving : List Waiting) (clock : ℕ) (replay : Replay) (h : Goes rules size arriving clock replay)
     (fed : (k : ℕ) → (cpu_at replay k).waiting ≡ []) where
   count : length (closed replay).members ≡ length replay.members
   count = length-map replay.members (λ ring. noted ring notes.Finished)
@@ -93,12 +96,13 @@ module _ (rules : Rules) (size : Size) (arriving : List (List (Option Frame))) (
       → (get_or replay.members member no_ring).notes ++ notes.Finished ∷ [] ≡ get_or (notes_of (closed replay).members) member []
   notes_at member below =
       let there : member < length (closed replay).members = omega (arith, count) in
-      ap (λ (ring : Ring). ring.notes) (sym (closed_at member no_ring below)) ∙ sym (get_or-map (λ ring. ring.notes) (closed replay).members member no_ring [] there)
+      ap (λ (ring : Ring). ring.notes) (sym (closed_at member no_ring below))
+      ∙ sym (get_or-map (λ ring. ring.notes) (closed replay).members member no_ring [] there)
 
   lawful_at : (cpu : ℕ) → IsLawful rules (somes (get_or arriving cpu [])) (cpu_at replay cpu).log
   lawful_at cpu =
       let of = cpu_at replay cpu in
-      let none = subst (λ (ws : List (Option Frame)). IsLawfulFrom rules of.present (somes ws) []) (sym (fed cpu)) tt in
+      let none = subst (λ (ws : Waiting). IsLawfulFrom rules of.present (somes ws) []) (sym (fed cpu)) tt in
       subst (λ (log : List ArrivalLog). IsLawful rules (somes (get_or arriving cpu [])) log) (append-nil of.log) ((h.logs cpu).lawful [] none)
 
   joined_at : (cpu member : ℕ) → member < length replay.members
@@ -107,9 +111,9 @@ module _ (rules : Rules) (size : Size) (arriving : List (List (Option Frame))) (
   joined_at cpu member below =
       let of = cpu_at replay cpu in
       let ns = (get_or replay.members member no_ring).notes ++ notes.Finished ∷ [] in
-      let none = subst (λ (ws : List (Option Frame)). AreNotesOf size.room rules.own (attempts_at member (somes ws) []) []) (sym (fed cpu)) tt in
-      subst (λ (log : List ArrivalLog). AreNotesOf size.room rules.own (attempts_at member (somes (get_or arriving cpu [])) log) (frame_notes cpu ns)) (append-nil of.log)
-      ((h.joins cpu member below).joined [] (notes.Finished ∷ []) none)
+      let none = subst (λ (ws : Waiting). AreNotesOf size.room rules.own (attempts_at member (somes ws) []) []) (sym (fed cpu)) tt in
+      subst (λ (log : List ArrivalLog). AreNotesOf size.room rules.own (attempts_at member (somes (get_or arriving cpu [])) log) (frame_notes cpu ns))
+      (append-nil of.log) ((h.joins cpu member below).joined [] (notes.Finished ∷ []) none)
 
   closed_rings : All (IsRingReport size) (closed replay).members
   closed_rings = λ member d below.
@@ -122,13 +126,15 @@ module _ (rules : Rules) (size : Size) (arriving : List (List (Option Frame))) (
         let there : member < length replay.members = omega (arith, count, length-map (closed replay).members (λ ring. ring.notes)) in
         subst (λ (logged : Logged). AreNotesOf size.room rules.own (attempts_at member logged.arrivals logged.log)
         (frame_notes cpu (get_or (notes_of (closed replay).members) member []))) (logged_at arriving replay.cpus cpu h.cpus)
-        (subst (λ (ns : List Note). AreNotesOf size.room rules.own (attempts_at member (somes (get_or arriving cpu [])) (cpu_at replay cpu).log) (frame_notes cpu ns))
+        (subst (λ (ns : List Note). AreNotesOf size.room rules.own
+        (attempts_at member (somes (get_or arriving cpu [])) (cpu_at replay cpu).log) (frame_notes cpu ns))
         (notes_at member there) (joined_at cpu member there));
     rising = λ cpu lb.
         subst (λ (logged : Logged). Rises 0 (tickets_of logged.log)) (logged_at arriving replay.cpus cpu h.cpus)
         (subst (λ (tickets : List ℕ). Rises 0 tickets) (append-nil (tickets_of (cpu_at replay cpu).log)) ((h.tickets lb).rising cpu [] tt));
     once = λ ticket lb.
-        logged_sum (λ log. count_by (λ drawn. eqb drawn ticket) (tickets_of log)) arriving replay.cpus h.cpus ∙ (h.tickets lb).once ticket
+        logged_sum (λ log. count_by (λ drawn. eqb drawn ticket) (tickets_of log)) arriving replay.cpus h.cpus
+        ∙ (h.tickets lb).once ticket
         ∙ ap (λ n. one_if (ltb ticket n)) ((h.tickets lb).total ∙ sym (logged_sum length arriving replay.cpus h.cpus));
   }
 
@@ -141,13 +147,14 @@ module _ (rules : Rules) (size : Size) (arriving : List (List (Option Frame))) (
     joined = joined;
   }
 
-none_past : (cpus : List Cpu) (upto : ℕ) → length cpus ≡ upto → ((k : ℕ) → k < upto → (get_or cpus k no_cpu).waiting ≡ []) → (k : ℕ) → (get_or cpus k no_cpu).waiting ≡ []
+none_past : (cpus : List Cpu) (upto : ℕ) → length cpus ≡ upto → ((k : ℕ) → k < upto → (get_or cpus k no_cpu).waiting ≡ [])
+    → (k : ℕ) → (get_or cpus k no_cpu).waiting ≡ []
 none_past cpus upto e empty k = elim (cases_lt k upto) [
   | inl below ↦ empty k below
   | inr past ↦ ap (λ (cpu : Cpu). cpu.waiting) (get_or_past cpus k no_cpu (omega arith))
 ]
 
-pub report_is : (rules : Rules) (size : Size) (arriving : List (List (Option Frame))) (lines : List Line) → 0 < rules.members → AreArrivals arriving
+pub report_is : (rules : Rules) (size : Size) (arriving : List Waiting) (lines : List Line) → 0 < rules.members → AreArrivals arriving
     → IsSchedule lines → IsReplayReport rules size arriving (replayed rules size arriving lines)
 unfolding replayed
 report_is rules size arriving lines some of ascending =

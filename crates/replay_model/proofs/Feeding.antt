@@ -15,27 +15,30 @@ use Rattle.replay_model.specs.Reports.{AreAscending}
 use Rattle.replay_model.specs.declared.schedule.Line.{Line}
 use Rattle.replay_model.specs.declared.schedule.Line.TheVariants.{Feed, Read, Tick, Stats}
 use Rattle.replay_model.proofs.Arriving.{arrived_goes, arrived_is}
-use Rattle.replay_model.proofs.Going.{Goes, Joins, Logs, count_goes, read_goes, tick_goes}
+use Rattle.replay_model.proofs.Going.{Waiting, Goes, Joins, Logs, count_goes, read_goes, tick_goes}
 use Rattle.replay_model.proofs.Places.{set_everywhere}
 
 -- a CPU whose next frame is no arrival
-module _ (rules : Rules) (size : Size) (arriving : List (List (Option Frame))) (clock cpu : ℕ) (waiting : List (Option Frame)) (replay : Replay)
+module _ (rules : Rules) (size : Size) (arriving : List Waiting) (clock cpu : ℕ) (waiting : Waiting) (replay : Replay)
     (inside : cpu < length replay.cpus) (next_frame : (cpu_at replay cpu).waiting ≡ None ∷ waiting)
     (h : Goes rules size arriving clock replay) where
   log_passes : Logs rules cpu (somes (get_or arriving cpu [])) (record (cpu_at replay cpu) { waiting = waiting })
   log_passes =
-      let was = subst (λ (ws : List (Option Frame)). Logs rules cpu (somes (get_or arriving cpu [])) (record (cpu_at replay cpu) { waiting = ws })) next_frame (h.logs cpu) in
+      let was = subst (λ (ws : Waiting). Logs rules cpu (somes (get_or arriving cpu [])) (record (cpu_at replay cpu) { waiting = ws }))
+      next_frame (h.logs cpu) in
       record { present = was.present; least = was.least; of = was.of; lawful = was.lawful }
 
   joins_pass : (member : ℕ) → member < length replay.members
-      → Joins size.room rules.own cpu member (somes (get_or arriving cpu [])) (record (cpu_at replay cpu) { waiting = waiting }) (get_or replay.members member no_ring).notes
+      → Joins size.room rules.own cpu member (somes (get_or arriving cpu [])) (record (cpu_at replay cpu) { waiting = waiting })
+      (get_or replay.members member no_ring).notes
   joins_pass member below =
-      let was = subst (λ (ws : List (Option Frame)). Joins size.room rules.own cpu member (somes (get_or arriving cpu [])) (record (cpu_at replay cpu) { waiting = ws })
+      let was = subst (λ (ws : Waiting). Joins size.room rules.own cpu member (somes (get_or arriving cpu [])) (record (cpu_at replay cpu) { waiting = ws })
       (get_or replay.members member no_ring).notes) next_frame (h.joins cpu member below) in
       record { joined = was.joined }
 
   same_logs : (f : List ArrivalLog → ℕ)
-      → sum_by (λ c. f c.log) (slice_set replay.cpus cpu (record (cpu_at replay cpu) { waiting = waiting })) ≡ sum_by (λ c. f c.log) replay.cpus
+      → sum_by (λ c. f c.log) (slice_set replay.cpus cpu (record (cpu_at replay cpu) { waiting = waiting }))
+      ≡ sum_by (λ c. f c.log) replay.cpus
   same_logs f =
       let count : Cpu → ℕ = λ c. f c.log in
       omega (arith, sum_by-set count replay.cpus cpu (record (cpu_at replay cpu) { waiting = waiting }) no_cpu inside)
@@ -47,12 +50,14 @@ module _ (rules : Rules) (size : Size) (arriving : List (List (Option Frame))) (
         cpus = length-set replay.cpus cpu new ∙ h.cpus;
         members = h.members;
         opens = h.opens;
-        logs = set_everywhere (λ k c. Logs rules k (somes (get_or arriving k [])) c) replay.cpus cpu new no_cpu inside log_passes (λ k other. h.logs k);
+        logs = set_everywhere (λ k c. Logs rules k (somes (get_or arriving k [])) c) replay.cpus cpu new no_cpu inside log_passes
+            (λ k other. h.logs k);
         joins = λ number member below.
-            set_everywhere (λ k c. Joins size.room rules.own k member (somes (get_or arriving k [])) c (get_or replay.members member no_ring).notes) replay.cpus cpu new no_cpu inside
-            (joins_pass member below) (λ k other. h.joins k member below) number;
+            set_everywhere (λ k c. Joins size.room rules.own k member (somes (get_or arriving k [])) c (get_or replay.members member no_ring).notes)
+            replay.cpus cpu new no_cpu inside (joins_pass member below) (λ k other. h.joins k member below) number;
         tickets = λ lb. let t = h.tickets lb in record {
-          rising = set_everywhere (λ k (c : Cpu). (more : List ℕ) → Rises replay.ticket more → Rises 0 (tickets_of c.log ++ more)) replay.cpus cpu new no_cpu inside
+          rising = set_everywhere (λ k (c : Cpu). (more : List ℕ) → Rises replay.ticket more → Rises 0 (tickets_of c.log ++ more))
+              replay.cpus cpu new no_cpu inside
               (t.rising cpu) (λ k other. t.rising k);
           once = λ ticket. same_logs _ ∙ t.once ticket;
           total = t.total ∙ sym (same_logs _);
@@ -60,19 +65,20 @@ module _ (rules : Rules) (size : Size) (arriving : List (List (Option Frame))) (
       }
 
 -- after so many frames of a CPU
-record Feeds (rules : Rules) (size : Size) (arriving : List (List (Option Frame))) (clock cpu times : ℕ) (old new : Replay) : Type 0 where
+record Feeds (rules : Rules) (size : Size) (arriving : List Waiting) (clock cpu times : ℕ) (old new : Replay) : Type 0 where
   goes : Goes rules size arriving clock new
   here : (cpu_at new cpu).waiting ≡ drop times (cpu_at old cpu).waiting
   others : (k : ℕ) → k ≢ cpu → (cpu_at new k).waiting ≡ (cpu_at old k).waiting
 
-some_waiting : (cpus : List Cpu) (cpu : ℕ) (next : Option Frame) (waiting : List (Option Frame)) → (get_or cpus cpu no_cpu).waiting ≡ next ∷ waiting → cpu < length cpus
+some_waiting : (cpus : List Cpu) (cpu : ℕ) (next : Option Frame) (waiting : Waiting) → (get_or cpus cpu no_cpu).waiting ≡ next ∷ waiting
+    → cpu < length cpus
 some_waiting cpus cpu next waiting e = elim (cases_lt cpu (length cpus)) [
   | inl below ↦ below
   | inr past ↦ let none = ap (λ (c : Cpu). c.waiting) (get_or_past cpus cpu no_cpu past) in cc
 ]
 
 -- all CPUs below one are fed to their ends
-pub record Emptied (rules : Rules) (size : Size) (arriving : List (List (Option Frame))) (clock upto : ℕ) (replay : Replay) : Type 0 where
+pub record Emptied (rules : Rules) (size : Size) (arriving : List Waiting) (clock upto : ℕ) (replay : Replay) : Type 0 where
   pub goes : Goes rules size arriving clock replay
   pub waiting : (k : ℕ) → k < upto → (cpu_at replay k).waiting ≡ []
 
@@ -84,8 +90,9 @@ drop_next : {X : Type 0} (n : ℕ) (xs : List X) → drop n (drop 1 xs) ≡ drop
 drop_next n [] = drop_none n
 drop_next n (x ∷ xs) = refl
 
-module _ (rules : Rules) (size : Size) (arriving : List (List (Option Frame))) (some : 0 < rules.members) where
-  fed : (clock cpu : ℕ) (waiting : List (Option Frame)) (replay : Replay) → (cpu_at replay cpu).waiting ≡ waiting → Goes rules size arriving clock replay
+module _ (rules : Rules) (size : Size) (arriving : List Waiting) (some : 0 < rules.members) where
+  fed : (clock cpu : ℕ) (waiting : Waiting) (replay : Replay) → (cpu_at replay cpu).waiting ≡ waiting
+      → Goes rules size arriving clock replay
       → Feeds rules size arriving clock cpu 1 replay (fed_by rules size.room cpu waiting replay)
   fed clock cpu [] replay e h = record { goes = h; here = e ∙ sym (ap (drop 1) e); others = λ k other. refl }
   fed clock cpu (None ∷ waiting) replay e h =
@@ -97,13 +104,15 @@ module _ (rules : Rules) (size : Size) (arriving : List (List (Option Frame))) (
       }
   fed clock cpu (Some frame ∷ waiting) replay e h =
       let inside = some_waiting replay.cpus cpu (Some frame) waiting e in
-      subst (λ (new : Replay). Feeds rules size arriving clock cpu 1 replay new) (sym (arrived_is rules size.room cpu frame waiting replay inside)) (record {
+      subst (λ (new : Replay). Feeds rules size arriving clock cpu 1 replay new)
+      (sym (arrived_is rules size.room cpu frame waiting replay inside)) (record {
         goes = arrived_goes rules size arriving clock cpu frame waiting replay some inside e h;
         here = ap (λ (c : Cpu). c.waiting) (get_or-set_same replay.cpus cpu _ no_cpu inside) ∙ sym (ap (drop 1) e);
         others = λ k other. ap (λ (c : Cpu). c.waiting) (get_or-set_other replay.cpus cpu k _ no_cpu other);
       })
 
-  feed_goes : (clock cpu : ℕ) (replay : Replay) → Goes rules size arriving clock replay → Feeds rules size arriving clock cpu 1 replay (feed rules size.room cpu replay)
+  feed_goes : (clock cpu : ℕ) (replay : Replay) → Goes rules size arriving clock replay
+      → Feeds rules size arriving clock cpu 1 replay (feed rules size.room cpu replay)
   feed_goes clock cpu replay h = fed clock cpu (cpu_at replay cpu).waiting replay refl h
 
   pub lines_go : (lines : List Line) (clock : ℕ) (replay : Replay) → Goes rules size arriving clock replay → AreAscending clock lines

@@ -19,7 +19,11 @@ use Rattle.fanout_group.proofs.Members.{one_if}
 use Rattle.replay_model.specs.Replay.{Cpu, Replay, cpu_at, no_ring, noted_at}
 use Rattle.replay_model.proofs.Places.{set_within}
 use Rattle.replay_model.proofs.Rings.{IsOpen, count_open, read_notes, read_open, tick_open}
-use Rattle.replay_model.proofs.Tries.{frame_notes-append}
+use Rattle.replay_model.proofs.Adding.{frame_notes-append}
+
+-- what arrives at each frame that isn't fed yet
+abbrev pub Waiting : Type 0
+Waiting = List (Option Frame)
 
 -- The log of a CPU so far is lawful: a lawful log of what waits completes it.
 pub record Logs (rules : Rules) (number : ℕ) (arrivals : List Frame) (cpu : Cpu) : Type 0 where
@@ -30,16 +34,18 @@ pub record Logs (rules : Rules) (number : ℕ) (arrivals : List Frame) (cpu : Cp
 
 -- The log of a CPU and the notes of a member are joined so far: what is joined of what waits completes them.
 pub record Joins (room : ℕ) (own : Option (List ℕ)) (number member : ℕ) (arrivals : List Frame) (cpu : Cpu) (notes : List Note) : Type 0 where
-  pub joined : (log : List ArrivalLog) (more : List Note) → AreNotesOf room own (attempts_at member (somes cpu.waiting) log) (frame_notes number more)
+  pub joined : (log : List ArrivalLog) (more : List Note)
+      → AreNotesOf room own (attempts_at member (somes cpu.waiting) log) (frame_notes number more)
       → AreNotesOf room own (attempts_at member arrivals (cpu.log ++ log)) (frame_notes number (notes ++ more))
 
 -- the tickets drawn so far are those below the next one, each once
 pub record Tickets (replay : Replay) : Type 0 where
   pub rising : (cpu : ℕ) (more : List ℕ) → Rises replay.ticket more → Rises 0 (tickets_of (cpu_at replay cpu).log ++ more)
-  pub once : (ticket : ℕ) → sum_by (λ cpu. count_by (λ drawn. eqb drawn ticket) (tickets_of cpu.log)) replay.cpus ≡ one_if (ltb ticket replay.ticket)
+  pub once : (ticket : ℕ)
+      → sum_by (λ cpu. count_by (λ drawn. eqb drawn ticket) (tickets_of cpu.log)) replay.cpus ≡ one_if (ltb ticket replay.ticket)
   pub total : replay.ticket ≡ sum_by (λ cpu. length cpu.log) replay.cpus
 
-pub record Goes (rules : Rules) (size : Size) (arriving : List (List (Option Frame))) (clock : ℕ) (replay : Replay) : Type 0 where
+pub record Goes (rules : Rules) (size : Size) (arriving : List Waiting) (clock : ℕ) (replay : Replay) : Type 0 where
   pub cpus : length replay.cpus ≡ length arriving
   pub members : length replay.members ≡ rules.members
   pub opens : (member : ℕ) → member < length replay.members → IsOpen size clock (get_or replay.members member no_ring)
@@ -50,7 +56,8 @@ pub record Goes (rules : Rules) (size : Size) (arriving : List (List (Option Fra
 
 -- notes that aren't about frames of this CPU change nothing for it
 pub silent_joins : (room : ℕ) (own : Option (List ℕ)) (number member : ℕ) (arrivals : List Frame) (cpu : Cpu) (old new more : List Note)
-    → new ≡ old ++ more → frame_notes number more ≡ [] → Joins room own number member arrivals cpu old → Joins room own number member arrivals cpu new
+    → new ≡ old ++ more → frame_notes number more ≡ [] → Joins room own number member arrivals cpu old
+    → Joins room own number member arrivals cpu new
 silent_joins room own number member arrivals cpu old new added new_is silent h = record {
   joined = λ log more k.
       let same = frame_notes-append number added more ∙ ap (λ (ns : List Note). ns ++ frame_notes number more) silent in
@@ -64,7 +71,7 @@ record Quiet (size : Size) (now : ℕ) (old new : Ring) : Type 0 where
   new_is : new.notes ≡ old.notes ++ notes
   silent : (cpu : ℕ) → frame_notes cpu notes ≡ []
 
-quiet_goes : (rules : Rules) (size : Size) (arriving : List (List (Option Frame))) (clock now : ℕ) (replay : Replay) (rings : List Ring)
+quiet_goes : (rules : Rules) (size : Size) (arriving : List Waiting) (clock now : ℕ) (replay : Replay) (rings : List Ring)
     → Goes rules size arriving clock replay → length rings ≡ length replay.members
     → ((member : ℕ) → member < length replay.members → Quiet size now (get_or replay.members member no_ring) (get_or rings member no_ring))
     → Goes rules size arriving now (record replay { members = rings })
@@ -79,12 +86,13 @@ quiet_goes rules size arriving clock now replay rings h count quiet = record {
   tickets = λ e. let t = h.tickets e in record { rising = t.rising; once = t.once; total = t.total };
 }
 
-pub tick_goes : (rules : Rules) (size : Size) (arriving : List (List (Option Frame))) (clock ms : ℕ) (replay : Replay) → clock ≤ ms
+pub tick_goes : (rules : Rules) (size : Size) (arriving : List Waiting) (clock ms : ℕ) (replay : Replay) → clock ≤ ms
     → Goes rules size arriving clock replay
     → Goes rules size arriving ms (record replay { members = map (λ ring. noted ring (note_of_tick ring ms)) replay.members })
 tick_goes rules size arriving clock ms replay later h =
     quiet_goes rules size arriving clock ms replay _ h (length-map replay.members _) (λ member below.
-    subst (λ (ring : Ring). Quiet size ms (get_or replay.members member no_ring) ring) (sym (get_or-map _ replay.members member no_ring no_ring below))
+    subst (λ (ring : Ring). Quiet size ms (get_or replay.members member no_ring) ring)
+    (sym (get_or-map _ replay.members member no_ring no_ring below))
     (record { opens = tick_open size clock ms _ later (h.opens member below); notes = _; new_is = refl; silent = λ cpu. refl }))
 
 -- one ring changes, if it is there
@@ -96,13 +104,13 @@ one_quiet size clock at rings new opens here =
     set_within (λ member ring. Quiet size clock (get_or rings member no_ring) ring) rings at new no_ring here (λ member below other.
     record { opens = opens member below; notes = []; new_is = sym (append-nil _); silent = λ cpu. refl })
 
-pub read_goes : (rules : Rules) (size : Size) (arriving : List (List (Option Frame))) (clock at : ℕ) (replay : Replay) → Goes rules size arriving clock replay
+pub read_goes : (rules : Rules) (size : Size) (arriving : List Waiting) (clock at : ℕ) (replay : Replay) → Goes rules size arriving clock replay
     → Goes rules size arriving clock (record replay { members = slice_set replay.members at (read_once (get_or replay.members at no_ring)) })
 read_goes rules size arriving clock at replay h =
     quiet_goes rules size arriving clock clock replay _ h (length-set replay.members at _) (one_quiet size clock at replay.members _ h.opens (λ inside.
     record { opens = read_open size clock _ (h.opens at inside); notes = []; new_is = read_notes _ ∙ sym (append-nil _); silent = λ cpu. refl }))
 
-pub count_goes : (rules : Rules) (size : Size) (arriving : List (List (Option Frame))) (clock at : ℕ) (replay : Replay) → Goes rules size arriving clock replay
+pub count_goes : (rules : Rules) (size : Size) (arriving : List Waiting) (clock at : ℕ) (replay : Replay) → Goes rules size arriving clock replay
     → Goes rules size arriving clock (record replay { members = noted_at at notes.Counted replay.members })
 count_goes rules size arriving clock at replay h =
     quiet_goes rules size arriving clock clock replay _ h (length-set replay.members at _) (one_quiet size clock at replay.members _ h.opens (λ inside.

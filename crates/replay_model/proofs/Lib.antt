@@ -2,8 +2,10 @@ pub mod Noted
 pub mod Closings
 pub mod Places
 pub mod Rings
+pub mod Adding
 pub mod Tries
 pub mod Going
+pub mod Drawing
 pub mod Arriving
 pub mod Feeding
 pub mod Ending
