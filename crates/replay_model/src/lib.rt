@@ -2,15 +2,21 @@
 //! blocks as lists, and one CPU after the other.
 #![tactic(auto)]
 
+mod closing;
 mod cpu_feed;
 mod list_ring;
+mod opening;
 mod plain_replay;
 mod replay_run;
+mod reports;
 mod rounds;
 mod rules;
 mod schedule;
+#[cfg(test)]
+mod tests;
 
 pub use list_ring::ListRing;
-pub use plain_replay::{Closed, Replayed, replay};
+pub use plain_replay::replay;
+pub use reports::{Closed, Logs, Members, Replayed};
 pub use rules::{PlainRules, RingSize};
 pub use schedule::{Line, Schedule};
