@@ -1,6 +1,6 @@
 -- Feeding one frame, and one CPU, in a loop that has so many to feed.
 use Rattle.std.proofs.Common.{◌≡◌, ℕ, zero, suc, ◌+◌, ◌-◌, ◌<◌, List, [], ◌∷◌, length, Option, None, Some, ◌++◌, refl, sym, ap, ◌∙◌, append_assoc, length-set}
-use Rattle.std.specs.Prelude.{map, slice_set}
+use Rattle.std.specs.Prelude.{map}
 use Rattle.frame_view.specs.declared.frames.Frame.{Frame}
 use Rattle.fanout_group.specs.Arrivals.{arrivals_at}
 use Rattle.fanout_group.specs.Rules.{Rules}

@@ -1,10 +1,9 @@
 -- What one note more does to the state of a ring.
-use Rattle.std.proofs.Common.{◌≡◌, ℕ, ◌+◌, ◌<◌, ◌≤◌, Bool, true, false, cond, List, [], ◌∷◌, ◌++◌, length, Option, None, Some, refl, sym, ap, ◌∙◌, arith, length-append}
-use Rattle.std.specs.Prelude.{option_map, is_some, ◌==◌}
+use Rattle.std.proofs.Common.{◌≡◌, ℕ, ◌+◌, List, [], ◌∷◌, ◌++◌, length, Option, None, Some, refl, sym, ap, arith, length-append}
+use Rattle.std.specs.Prelude.{option_map}
 use Rattle.std.proofs.lemmas.List.Sums.{sum_by-append}
 use Rattle.ring_model.specs.Sizes.{used_by, need_of}
-use Rattle.ring_model.specs.Asking.{is_empty_block}
-use Rattle.ring_model.specs.Ring.{Size, State, after, after_all, first_state, retired, finished, with_offer, open_count}
+use Rattle.ring_model.specs.Ring.{Size, State, after, after_all, first_state, retired, with_offer, open_count}
 use Rattle.ring_model.specs.Rings.{Ring, state, noted}
 use Rattle.ring_model.specs.declared.notes.Offer.{Offer}
 use Rattle.ring_model.specs.declared.notes.Note.{Note}

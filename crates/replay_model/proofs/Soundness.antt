@@ -1,6 +1,6 @@
 -- Each step of a replay leaves it sound.
-use Rattle.std.proofs.Common.{◌≡◌, ℕ, zero, suc, ◌+◌, ◌-◌, ◌*◌, ◌%◌, ◌^◌, ◌<◌, ◌≤◌, Bool, true, false, List, [], ◌∷◌, ◌++◌, length, Option, None, Some, refl, sym, ap, ◌∙◌, subst, arith, drop, drop-cons, get_or, length-set, inl, inr}
-use Rattle.std.specs.Prelude.{All, map, min, sum_by, slice_get, slice_index_or, slice_set, if◌then◌else◌, nat_eq, nat_lt}
+use Rattle.std.proofs.Common.{◌≡◌, ℕ, zero, suc, ◌+◌, ◌-◌, ◌*◌, ◌%◌, ◌^◌, ◌<◌, ◌≤◌, true, false, List, [], ◌∷◌, ◌++◌, length, Option, None, Some, refl, sym, ap, ◌∙◌, subst, arith, drop, drop-cons, get_or, length-set, inl, inr}
+use Rattle.std.specs.Prelude.{All, map, sum_by, slice_get, slice_index_or, slice_set, if◌then◌else◌, nat_eq, nat_lt}
 use Rattle.std.proofs.lemmas.List.{length-map, length-replicate, set_past}
 use Rattle.std.proofs.lemmas.Bool.{cases_lt}
 use Rattle.ring_model.specs.Ring.{Size}
@@ -16,7 +16,7 @@ use Rattle.ring_model.specs.Rings.{Ring, note_of_put, note_of_tick, note_of_try,
 use Rattle.ring_model.specs.declared.notes.Offer.{Offer}
 use Rattle.ring_model.specs.declared.notes.Note.{Note}
 use Rattle.ring_model.specs.declared.notes.Note.TheVariants.{Kept, Refused, Dropped, Ticked, Counted, Finished}
-use Rattle.fanout_group.specs.Routes.{a_try, last_member, present_after}
+use Rattle.fanout_group.specs.Routes.{last_member, present_after}
 use Rattle.fanout_group.specs.Rules.{Rules, home_by, home_of, rolls_over}
 use Rattle.fanout_group.specs.declared.logs.Try.{Try}
 use Rattle.fanout_group.specs.declared.modes.Mode.{Mode}

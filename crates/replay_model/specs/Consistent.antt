@@ -1,5 +1,5 @@
 -- What the counters of a ring of lists say of its notes.
-use Rattle.std.specs.Prelude.{◌≡◌, ℕ, ◌+◌, ◌^◌, ◌≤◌, length, option_map, IfSome}
+use Rattle.std.specs.Prelude.{◌≡◌, ◌+◌, ◌^◌, ◌≤◌, length, option_map, IfSome}
 use Rattle.ring_model.specs.Sizes.{used_by}
 use Rattle.ring_model.specs.Ring.{State}
 use Rattle.ring_model.specs.Rings.{Ring, state}

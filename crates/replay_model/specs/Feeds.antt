@@ -1,5 +1,5 @@
 -- A CPU as it is kept: its frames wait as they were captured, and each is untagged once it is fed.
-use Rattle.std.specs.Prelude.{◌≡◌, ℕ, ◌≤◌, List, [], ◌∷◌, length, Option, None, All}
+use Rattle.std.specs.Prelude.{◌≡◌, ◌≤◌, List, [], ◌∷◌, length, Option, None, All}
 use Rattle.frame_view.specs.declared.frames.Frame.{Frame}
 use Rattle.fanout_group.specs.Arrivals.{arrivals_at}
 use Rattle.replay_model.specs.Replay.{Cpu}

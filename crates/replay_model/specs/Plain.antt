@@ -1,8 +1,8 @@
 -- The rules of a group without a filter and without a key, and what a replay by them asks of its arguments.
-use Rattle.std.specs.Prelude.{◌≡◌, ℕ, ◌%◌, ◌^◌, ◌<◌, ◌≤◌, List, length, Option, None, All}
+use Rattle.std.specs.Prelude.{◌≡◌, ℕ, ◌%◌, ◌^◌, ◌≤◌, List, length, All}
 use Rattle.frame_view.specs.declared.frames.Frame.{Frame}
 use Rattle.ring_model.specs.Ring.{Size}
-use Rattle.fanout_group.specs.Rules.{Rules, home_by, keep_all}
+use Rattle.fanout_group.specs.Rules.{Rules, keep_all}
 use Rattle.replay_model.specs.Feeds.{IsBare}
 use Rattle.replay_model.specs.declared.rules.PlainRules.{PlainRules}
 use Rattle.replay_model.specs.declared.rules.RingSize.{RingSize}
@@ -40,7 +40,7 @@ IsTimely (Stats member) = Unit {0}
 -- what a ring is made of; its time-out is below 50 days
 pub record IsRingSize (size : RingSize) : Type 0 where
   pub room : IsRoom size.room
-  pub tov : size.tov ≤ 4294967295
+  pub tov : size.tov ≤ 2 ^ 32
 
 -- the frames of a CPU as a capture gives them
 pub record IsCapture (frames : List Frame) : Type 0 where

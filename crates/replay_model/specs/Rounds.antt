@@ -1,5 +1,5 @@
 -- What one try and one put leave, and a round of tries that goes on from earlier ones.
-use Rattle.std.specs.Prelude.{◌≡◌, ℕ, ◌≤◌, Bool, List, [], ◌∷◌, ◌++◌, All, is_some, not, slice_index_or, Option, None, Some}
+use Rattle.std.specs.Prelude.{◌≡◌, ℕ, ◌≤◌, List, [], ◌∷◌, ◌++◌, All, is_some, not, slice_index_or, Option, None, Some}
 use Rattle.ring_model.specs.Rings.{Ring, note_of_put, note_of_try}
 use Rattle.ring_model.specs.Sizes.{need_of}
 use Rattle.ring_model.specs.declared.notes.Offer.{Offer}
@@ -14,11 +14,11 @@ abbrev pub AllFit : Offer → List Ring → Type 0
 AllFit offer members = All (λ ring. need_of offer.snap ≤ ring.size.room) members
 
 -- the notes that a try and a put make at a member
-abbrev pub try_at : ℕ → Offer → List Ring → Note
-try_at at offer members = note_of_try (slice_index_or members at no_ring) offer
+abbrev pub note_at_try : ℕ → Offer → List Ring → Note
+note_at_try at offer members = note_of_try (slice_index_or members at no_ring) offer
 
-abbrev pub put_in : ℕ → Offer → List Ring → Note
-put_in at offer members = note_of_put (slice_index_or members at no_ring) offer
+abbrev pub note_at_put : ℕ → Offer → List Ring → Note
+note_at_put at offer members = note_of_put (slice_index_or members at no_ring) offer
 
 -- what comes back of a packet: all of it where it was refused
 abbrev pub back_of : Offer → Note → Option Offer
@@ -26,8 +26,8 @@ back_of offer (notes.Refused cpu index need number) = Some offer
 back_of offer note = None
 
 -- tries behind earlier ones
-abbrev pub behind : List Try → Tried → Tried
-behind earlier tried = record tried { tries = earlier ++ tried.tries }
+abbrev pub after_tries : List Try → Tried → Tried
+after_tries earlier tried = record tried { tries = earlier ++ tried.tries }
 
 -- tries, the packet that came back of the last, and the rings
 abbrev pub tried_by : List Try → Option Offer → List Ring → Tried

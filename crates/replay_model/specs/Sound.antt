@@ -1,6 +1,6 @@
 -- What a replay keeps true at every step, so that no index and no number goes out of range.
 use Rattle.std.specs.Prelude.{◌≡◌, ℕ, ◌+◌, ◌^◌, ◌<◌, ◌≤◌, length, sum_by, All}
-use Rattle.replay_model.specs.Replay.{Cpu, Replay}
+use Rattle.replay_model.specs.Replay.{Replay}
 
 pub record IsSound (members room : ℕ) (replay : Replay) : Type 0 where
   pub count : length replay.members ≡ members

@@ -11,7 +11,7 @@ use std::collections::VecDeque;
 use std::marker::Model;
 
 /// A CPU. Contracts see what arrives at each frame that isn't fed yet, the present member and the log.
-#[derive(Debug, Drop)]
+#[derive(Drop)]
 pub(crate) struct CpuFeed {
     /// The frames that aren't fed yet, as they were captured.
     waiting: VecDeque<Frame>,

@@ -17,7 +17,7 @@ use std::alloc::Global;
 use std::marker::Model;
 
 /// A replay. Contracts see its CPUs, its rings and the next ticket.
-#[derive(Debug, Drop)]
+#[derive(Drop)]
 pub(crate) struct ReplayRun {
     /// The CPUs, from 0 up.
     pub(crate) cpus: Vec<CpuFeed>,
@@ -32,7 +32,8 @@ impl Model for ReplayRun {
 
     ghost Value = { Replay };
 
-    ghost view = { λ run. record { cpus = run.cpus.items; members = run.rings.items; ticket = run.ticket } };
+    ghost view = { λ run.
+        record { cpus = run.cpus.items; members = run.rings.items; ticket = run.ticket } };
 }
 
 impl ReplayRun {

@@ -2,7 +2,7 @@
 ghost use Rattle.std.specs.Prelude.{◌≡◌, ◌<◌, length, IfOk, IfSome, OnOk};
 ghost use Rattle.replay_model.specs.Plain.{rules_of};
 ghost use Rattle.replay_model.specs.Replay.{routed, try_round};
-ghost use Rattle.replay_model.specs.Rounds.{AllFit, Tells, back_of, behind, put_in, tried_by, try_at};
+ghost use Rattle.replay_model.specs.Rounds.{AllFit, Tells, after_tries, back_of, note_at_put, note_at_try, tried_by};
 
 use crate::{ListRing, PlainRules};
 use fanout_group::{Fate, Try, TryList};
@@ -19,9 +19,10 @@ fn try_at(
 ) -> Result<Option<Offer>, Memory>
     requires member { member < length rings.old.items }
     requires fits { AllFit offer rings.old.items }
-    ensures tells { IfOk result (λ _. let note = try_at member offer rings.old.items in
+    ensures tells { IfOk result (λ _. let note = note_at_try member offer rings.old.items in
         Tells member note rings.old.items rings.new.items tries.old tries.new) }
-    ensures back { IfOk result (λ back. back ≡ back_of offer (try_at member offer rings.old.items)) }
+    ensures back { IfOk result (λ back. let note = note_at_try member offer rings.old.items in
+        back ≡ back_of offer note) }
 {
     match rings[member as usize].try_put(offer)? {
         Tried::Kept => {
@@ -50,7 +51,7 @@ fn put_at(
 ) -> Result<(), Memory>
     requires member { member < length rings.old.items }
     requires fits { AllFit offer rings.old.items }
-    ensures tells { IfOk result (λ _. let note = put_in member offer rings.old.items in
+    ensures tells { IfOk result (λ _. let note = note_at_put member offer rings.old.items in
         Tells member note rings.old.items rings.new.items tries.old tries.new) }
 {
     let fate = match rings[member as usize].put(offer)? {
@@ -72,7 +73,7 @@ fn try_round(
     requires home { home < members }
     requires fits { AllFit offer rings.old.items }
     ensures round { IfOk result (λ back. tried_by tries.new back rings.new.items
-        ≡ behind tries.old (try_round members members home offer rings.old.items)) }
+        ≡ after_tries tries.old (try_round members members home offer rings.old.items)) }
     ensures same { IfOk result (λ back. IfSome back (λ back. back ≡ offer)) }
     ensures count { OnOk result (length rings.new.items ≡ length rings.old.items) }
     ensures fits { OnOk result (AllFit offer rings.new.items) }

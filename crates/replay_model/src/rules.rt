@@ -74,7 +74,8 @@ impl PlainRules {
     pub(crate) fn home(&self, present: u32, ticket: Option<u64>, cpu: u32) -> u32
         requires some { 0 < self.now.members }
         requires present { present < self.now.members }
-        ensures home { result ≡ home_by self.now.mode self.now.members 0 (unwrap_or ticket 0) cpu cpu present }
+        ensures home { result
+            ≡ home_by self.now.mode self.now.members 0 (unwrap_or ticket 0) cpu cpu present }
         ensures member { result < self.now.members }
     {
         match self.mode {

@@ -1,4 +1,4 @@
-use Rattle.std.proofs.Common.{◌≡◌, ◌<◌, ◌∙◌, arith, get_or, length, rules, subst, sym, List}
+use Rattle.std.proofs.Common.{◌≡◌, ◌<◌, ◌∙◌, get_or, length, rules, subst, sym, List}
 use Rattle.replay_model.specs.Plain.{rules_of, size_of}
 use Rattle.replay_model.specs.Replay.{Replay, done_line}
 use Rattle.replay_model.specs.Sound.{IsSound}

@@ -1,8 +1,6 @@
-use Rattle.std.proofs.Common.{◌≡◌, ◌∙◌, ◌+◌, ◌<◌, ◌%◌, length, sym, ap, subst, arith, rules}
+use Rattle.std.proofs.Common.{◌≡◌, ◌∙◌, length, sym, subst, arith}
 use Rattle.ring_model.specs.declared.notes.Offer.{Offer}
-use Rattle.ring_model.specs.Rings.{Ring}
-use Rattle.replay_model.specs.Replay.{try_round}
-use Rattle.replay_model.specs.Rounds.{AllFit, behind}
+use Rattle.replay_model.specs.Rounds.{AllFit}
 use Rattle.replay_model.proofs.Turns.{goes_on, ends}
 use Rattle.replay_model.proofs.rounds.try_round.Goals as goal
 

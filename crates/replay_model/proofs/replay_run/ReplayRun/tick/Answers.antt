@@ -1,4 +1,4 @@
-use Rattle.std.proofs.Common.{◌≡◌, ◌<◌, length, rules, arith}
+use Rattle.std.proofs.Common.{◌<◌, length, rules}
 use Rattle.ring_model.specs.Rings.{Ring, noted, note_of_tick}
 use Rattle.replay_model.proofs.Clocks.{one_more}
 use Rattle.replay_model.proofs.replay_run.ReplayRun.tick.Goals as goal

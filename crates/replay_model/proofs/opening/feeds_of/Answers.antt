@@ -4,7 +4,7 @@ use Rattle.std.proofs.lemmas.List.Elements.{All-tail}
 use Rattle.frame_view.specs.declared.frames.Frame.{Frame}
 use Rattle.replay_model.specs.Plain.{IsCapture}
 use Rattle.replay_model.proofs.FeedSteps.{one_cpu_more}
-use Rattle.replay_model.proofs.plain_replay.feeds_of.Goals as goal
+use Rattle.replay_model.proofs.opening.feeds_of.Goals as goal
 
 pub loop-frames-preserved : goal.loop-frames-preserved
 loop-frames-preserved c =

@@ -1,7 +1,7 @@
 use Rattle.std.proofs.Common.{◌≡◌, ◌++◌}
 use Rattle.std.specs.Prelude.{map}
 use Rattle.replay_model.specs.Reported.{closed_of, finished_ring}
-use Rattle.replay_model.proofs.plain_replay.close_rings.Given as goal
+use Rattle.replay_model.proofs.closing.close_rings.Given as goal
 
 abbrev pub invariant-loop-ring : goal.invariant-loop-ring
 invariant-loop-ring l =

@@ -3,7 +3,7 @@ use Rattle.std.specs.Prelude.{map, All}
 use Rattle.fanout_group.specs.Arrivals.{arrivals_at}
 use Rattle.replay_model.specs.Plain.{IsCapture}
 use Rattle.replay_model.specs.Reported.{first_cpu}
-use Rattle.replay_model.proofs.plain_replay.feeds_of.Given as goal
+use Rattle.replay_model.proofs.opening.feeds_of.Given as goal
 
 abbrev pub invariant-loop-frames : goal.invariant-loop-frames
 invariant-loop-frames l = record {
