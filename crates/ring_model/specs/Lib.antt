@@ -5,3 +5,4 @@ pub mod Fates
 pub mod Asking
 pub mod Rings
 pub mod Told
+pub mod Ledgers

@@ -4,7 +4,9 @@
 mod laws;
 mod notes;
 mod sizes;
+mod tallying;
 
 pub use laws::{a_ring_with_blocks_left_drops_nothing, puts_stand, ticks_stand, tries_stand};
 pub use notes::{Found, Note, Notes, Offer, Put, Stats, Tried, Unput};
 pub use sizes::{due, need};
+pub use tallying::{StatsList, Tally, tally_notes};

@@ -7,7 +7,7 @@ use Rattle.ring_model.specs.Offers.{packet_of}
 use Rattle.ring_model.specs.declared.notes.Note.{Note}
 use Rattle.replay_model.specs.Plain.{IsTimely}
 use Rattle.replay_model.specs.Reports.{IsSchedule}
-use Rattle.replay_model.specs.declared.plain_replay.Closed.{Closed}
+use Rattle.replay_model.specs.declared.reports.Closed.{Closed}
 use Rattle.replay_model.specs.declared.schedule.Line.{Line}
 use Rattle.setup_text.specs.declared.reports.MemberReport.{MemberReport}
 use Rattle.setup_text.specs.declared.reports.RunReport.{RunReport}
