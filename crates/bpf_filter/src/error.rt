@@ -1,5 +1,5 @@
 //! Why a filter is refused.
-ghost use Rattle.std.specs.Prelude.{◌≡◌};
+ghost use Rattle.std.specs.Prelude.{◌≡◌, Some};
 ghost use Rattle.bpf_filter.specs.Words.{word_of};
 ghost use Rattle.bpf_filter.specs.declared.error.FilterError.TheVariants.{Memory};
 
@@ -54,6 +54,8 @@ impl FilterError {
 }
 
 impl fmt::Display for FilterError {
+    ghost output = { λ error. Some (word_of error) };
+
     fn fmt<W: fmt::Write>(&self, f: &mut fmt::Formatter<W>) -> fmt::Result {
         f.write_str(self.word())
     }
