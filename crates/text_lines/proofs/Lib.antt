@@ -2,3 +2,4 @@ mod LineCuts
 mod Positions
 mod WordCuts
 mod Digits
+mod LinesOfStr

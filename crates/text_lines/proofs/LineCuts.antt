@@ -12,7 +12,7 @@ abbrev HasNoLineFeed : List ℕ → Type 0
 HasNoLineFeed bytes = AllFail (λ b. nat_eq b 10) bytes
 
 -- what stands before the last byte stays where that byte goes
-strip_more : (b c : ℕ) (bytes : List ℕ) → strip_carriage_return (b ∷ c ∷ bytes) ≡ b ∷ strip_carriage_return (c ∷ bytes)
+pub strip_more : (b c : ℕ) (bytes : List ℕ) → strip_carriage_return (b ∷ c ∷ bytes) ≡ b ∷ strip_carriage_return (c ∷ bytes)
 strip_more b c bytes = grind (arith, common_steps)
 
 -- a byte that ends no line and isn't dropped stands in the first line

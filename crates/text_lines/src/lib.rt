@@ -5,6 +5,9 @@ mod lines;
 mod numbers;
 mod words;
 
-pub use lines::{LARGEST_TEXT, next_line};
+pub use lines::{LARGEST_TEXT, lines_are_those_of_str, next_line};
 pub use numbers::number;
 pub use words::{is_plain, next_word};
+
+#[cfg(test)]
+mod tests;

@@ -1,7 +1,7 @@
 //! The lines of a text.
-ghost use Rattle.std.specs.Prelude.{◌≡◌, ◌<◌, ◌==◌, [], ◌∷◌, length, MatchOption, IfNone, IfSome};
+ghost use Rattle.std.specs.Prelude.{◌≡◌, ℕ, ◌<◌, ◌==◌, List, [], ◌∷◌, length, MatchOption, IfNone, IfSome};
 ghost use Rattle.std.specs.List.{position};
-ghost use Rattle.std.specs.Str.Lines.{strip_carriage_return};
+ghost use Rattle.std.specs.Str.Lines.{lines, strip_carriage_return};
 ghost use Rattle.text_lines.specs.Lines.{lines_of};
 
 /// The most bytes that a text may have, by this project's own choice.
@@ -46,3 +46,8 @@ fn without_carriage_return(line: &[u8]) -> &[u8]
         _ => line,
     }
 }
+
+/// A law: the lines of a text are those that Rust's `str::lines` gives.
+pub fn lines_are_those_of_str()
+    ensures { (text : List ℕ) → lines_of text ≡ lines text }
+{}
