@@ -4,7 +4,8 @@ use Rattle.frame_view.specs.Headers.{address_of, packet_type_of, protocol_of}
 use Rattle.frame_view.specs.Vlan.{is_tpid}
 use Rattle.frame_view.specs.declared.frames.Frame.{Frame}
 use Rattle.frame_view.specs.declared.frames.Packet.{Packet}
-use Rattle.ring_model.specs.Sizes.{snap_of}
+use Rattle.frame_view.specs.declared.frames.Tag.{Tag}
+use Rattle.ring_model.specs.Sizes.{need_of, snap_of}
 use Rattle.ring_model.specs.declared.notes.Offer.{Offer}
 
 -- the offer of an arrival, for blocks with this room and a station with this address

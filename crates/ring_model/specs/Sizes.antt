@@ -1,5 +1,5 @@
 -- The room that packets take. Lengths are in bytes.
-use Rattle.std.specs.Prelude.{ℕ, ◌+◌, ◌-◌, ◌*◌, ◌/◌, min, Bool, List, sum_by, nat_le}
+use Rattle.std.specs.Prelude.{ℕ, ◌+◌, ◌-◌, ◌*◌, ◌/◌, min, Bool, List, [], ◌∷◌, sum_by, nat_le}
 use Rattle.ring_model.specs.declared.notes.Offer.{Offer}
 
 -- what a packet takes: 82 bytes and its data, rounded up to 8 together
