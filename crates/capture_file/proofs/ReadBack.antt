@@ -1,24 +1,22 @@
 -- An output file is a capture that gives its packets back.
-use Rattle.std.proofs.Common.{◌≡◌, ℕ, zero, suc, ◌+◌, ◌*◌, ◌-◌, ◌^◌, ◌≤◌, ◌<◌, Bool, true, false, List, [], ◌∷◌, ◌++◌, length, take, drop, refl, sym, ap, subst, ◌∙◌, inl, inr, arith, append_assoc, zero-add}
-use Rattle.std.specs.Prelude.{◌≢◌, min, max, nat_lt, Option, None, Some, Result, Ok, Err}
-use Rattle.std.specs.Option.{option_or}
+use Rattle.std.proofs.Common.{◌≡◌, ℕ, ◌+◌, ◌*◌, ◌^◌, ◌≤◌, ◌<◌, true, List, [], ◌∷◌, ◌++◌, length, take, drop, refl, sym, ap, subst, ◌∙◌, inl, inr, arith, append_assoc}
+use Rattle.std.specs.Prelude.{min, max, Option, None, Some, Ok}
 use Rattle.std.specs.List.{flat_map, AllByRecursion}
-use Rattle.std.proofs.lemmas.Bool.{cases_Bool, both_ways, cases_lt, le-ltb, lt-ltb}
-use Rattle.std.proofs.lemmas.List.{append-nil, length-append, length-drop, length-take, take-append-drop, take_at, take_all, drop_at, drop-drop, drop-append-le}
+use Rattle.std.proofs.lemmas.Bool.{cases_lt, le-ltb, lt-ltb}
+use Rattle.std.proofs.lemmas.List.{append-nil, length-append, length-drop, length-take, take_at, take_all, drop_at, drop-drop}
 use Rattle.byteorder.specs.Numbers.{little_number-reads_back, length-bytes_low_first}
 use Rattle.frame_view.specs.Vlan.{with_tag, frame_of}
 use Rattle.frame_view.specs.declared.frames.Frame.{Frame}
 use Rattle.frame_view.specs.declared.frames.Packet.{Packet}
 use Rattle.frame_view.specs.declared.frames.Tag.{Tag}
 use Rattle.capture_file.specs.declared.format.Format.{Format}
-use Rattle.capture_file.specs.declared.format.Order.{Order}
-use Rattle.capture_file.specs.declared.format.Order.TheVariants.{Little, Big}
+use Rattle.capture_file.specs.declared.format.Order.TheVariants.{Little}
 use Rattle.capture_file.specs.declared.reading.Place.{Place}
-use Rattle.capture_file.specs.Capture.{number_at, captured, record_size, begins_whole, begins_oversized, header_of, counted, frame_of_record, frames_of, stop_of, damage_of, cut_of, end_of}
+use Rattle.capture_file.specs.Capture.{number_at, captured, record_size, begins_whole, header_of, counted, frame_of_record, frames_of, stop_of, damage_of, end_of}
 use Rattle.capture_file.specs.Output.{four_bytes, output_header, tag_size, original, record_text, output_of}
 use Rattle.capture_file.specs.Reading.{Reached, place_behind, read_from, first_place}
 use Rattle.capture_file.specs.Laws.{IsWritable, frames_back}
-use Rattle.capture_file.proofs.Records.{number_at-append, HasRecord, has_whole, header_of-append, read_from-none, read_from-step}
+use Rattle.capture_file.proofs.Records.{number_at-append, has_whole, header_of-append, read_from-none, read_from-step}
 use Rattle.capture_file.proofs.Steps.{empty_not_whole, empty_not_oversized}
 use Rattle.capture_file.proofs.Whole.{all_of, all_read_from}
 use Rattle.capture_file.proofs.Feeding.{damage_none}
@@ -40,7 +38,7 @@ number_behind : (number at : ℕ) (rest : List ℕ) → number_at Little 4 (4 + 
 unfolding number_at
 number_behind number at rest =
     let skip : drop (4 + at) (four_bytes number ++ rest) ≡ drop at rest =
-        sym (drop-drop at 4 (four_bytes number ++ rest)) ∙ ap (drop at) (drop_at (four_bytes number) rest 4 (length_four number)) in
+    sym (drop-drop at 4 (four_bytes number ++ rest)) ∙ ap (drop at) (drop_at (four_bytes number) rest 4 (length_four number)) in
     rw skip refl
 
 -- ---- one record
@@ -112,7 +110,7 @@ says packet h =
 -- the frame of a packet's record
 frame_back : (cpu index : ℕ) (packet : Packet) → IsWritable packet
     → frame_of_record cpu format index (record_text packet)
-      ≡ record { cpu = cpu; index = index; sec = packet.sec; nsec = packet.nsec; wire = original packet; bytes = frame_of packet; tag = None }
+    ≡ record { cpu = cpu; index = index; sec = packet.sec; nsec = packet.nsec; wire = original packet; bytes = frame_of packet; tag = None }
 unfolding frame_of_record
 frame_back cpu index packet h =
     let s = says packet h in
@@ -180,7 +178,7 @@ module _ (packets : List Packet) (h : AllByRecursion IsWritable packets) (few : 
   output_read cpu =
       let body : drop 24 (counted (output_of packets)) ≡ flat_map record_text packets = ap (drop 24) output_all ∙ output_body in
       let read : read_from cpu format first_place [] (flat_map record_text packets) ≡ all_of cpu (output_of packets) =
-          ap (read_from cpu format first_place []) (sym body) ∙ all_read_from cpu format (output_of packets) output_full output_passed in
+      ap (read_from cpu format first_place []) (sym body) ∙ all_read_from cpu format (output_of packets) output_full output_passed in
       subst (λ (r : Reached). ReadsBack (frames_back cpu 0 packets) r) read (reads_back cpu first_place [] packets h)
 
   pub output_frames : (cpu : ℕ) → frames_of cpu (output_of packets) ≡ frames_back cpu 0 packets

@@ -1,5 +1,5 @@
 -- What reading bytes that follow a capture's header gives, for the steps of a feed.
-use Rattle.std.specs.Prelude.{◌≡◌, ◌≢◌, ℕ, ◌+◌, ◌-◌, ◌*◌, ◌≤◌, ◌<◌, Option, None, Some, Bool, true, false, nat_lt, if◌then◌else◌, MatchBool, ◌⊎◌, List, [], ◌∷◌, ◌++◌, length, take, drop, Result, Ok, Err}
+use Rattle.std.specs.Prelude.{◌≡◌, ◌≢◌, ℕ, ◌+◌, ◌*◌, ◌≤◌, ◌<◌, Option, None, Some, Bool, true, false, nat_lt, if◌then◌else◌, MatchBool, ◌⊎◌, List, [], ◌++◌, length, take, drop, Result, Ok, Err}
 use Rattle.std.specs.List.{concat}
 use Rattle.frame_view.specs.declared.frames.Frame.{Frame}
 use Rattle.capture_file.specs.declared.error.CaptureError.{CaptureError}
@@ -25,6 +25,12 @@ left_in order bytes = drop (length (concat (records_in order bytes))) bytes
 -- the place behind a record
 abbrev pub place_behind : Place → List ℕ → Place
 place_behind next bytes = record { stop = next.stop + length bytes; index = next.index + 1 }
+
+-- the bytes are a whole record and what is behind it
+pub record BeginsWith (order : Order) (bytes first behind : List ℕ) : Type 0 where
+  pub whole : begins_whole order bytes ≡ true
+  pub first_is : first ≡ take (record_size order bytes) bytes
+  pub behind_is : behind ≡ drop (record_size order bytes) bytes
 
 -- the frames of the whole records at the front are appended
 unfoldable pub read_from : ℕ → Format → Place → List Frame → List ℕ → Reached

@@ -10,5 +10,4 @@ pub fn damage_is_the_end()
     ensures end { (bytes : List ℕ) (damage : CaptureError) → damage_of bytes ≡ Some damage
         → end_of bytes ≡ Some damage }
     ensures uncut { (bytes : List ℕ) (place : ℕ) → damage_of bytes ≢ Some (Truncated place) }
-{
-}
+{}

@@ -5,7 +5,6 @@ use std::env::{Env, FillError};
 use std::str;
 use tap_outside::Word;
 
-
 /// The arguments behind the program's name. One that isn't UTF-8 is the empty word.
 pub(crate) fn words<R: Env>(rt: &R, alloc: Global) -> Result<Vec<Word>, Memory> {
     let mut words = Vec::new(alloc);

@@ -53,12 +53,11 @@ first_output = refl
 concluded_at : (log : CpuLog) (member : MemberReport) (held : Option Contents) (before now : Option (List ℕ)) (unsaved unprinted : Type 0) (saved printed : Bool)
     → MatchBool saved (HoldsFile held (codes "out." ++ (decimal 0 ++ codes ".pcap")) (output_of member.walked)) unsaved
     → MatchBool printed (Appends before now (lines_of (reported (record { cpus = log ∷ []; members = member ∷ [] }))))
-        (unprinted × AppendsFront before now (lines_of (reported (record { cpus = log ∷ []; members = member ∷ [] }))))
+    (unprinted × AppendsFront before now (lines_of (reported (record { cpus = log ∷ []; members = member ∷ [] }))))
     → Concludes (reported (record { cpus = log ∷ []; members = member ∷ [] }))
-        (record { status = status_with (saved && printed) log.end; report = Some (record { cpus = log ∷ []; members = member ∷ [] }) })
-        held before now unsaved unprinted
+    (record { status = status_with (saved && printed) log.end; report = Some (record { cpus = log ∷ []; members = member ∷ [] }) })
+    held before now unsaved unprinted
 concluded_at log member held before now unsaved unprinted true true s p = record {
-
   status = λ plain. refl;
   fault = λ e. absurd (no_write log.end e);
   report = λ ne. refl;
@@ -103,10 +102,10 @@ concluded_at log member held before now unsaved unprinted false false s p = reco
 pub concluded : (log : CpuLog) (member : MemberReport) (held : Option Contents) (before now : Option (List ℕ)) (unsaved unprinted : Type 0) (saved printed : Bool)
     → MatchBool saved (HoldsFile held output_name (output_of member.walked)) unsaved
     → MatchBool printed (Appends before now (lines_of (reported (record { cpus = log ∷ []; members = member ∷ [] }))))
-        (unprinted × AppendsFront before now (lines_of (reported (record { cpus = log ∷ []; members = member ∷ [] }))))
+    (unprinted × AppendsFront before now (lines_of (reported (record { cpus = log ∷ []; members = member ∷ [] }))))
     → Concludes (reported (record { cpus = log ∷ []; members = member ∷ [] }))
-        (record { status = status_with (saved && printed) log.end; report = Some (record { cpus = log ∷ []; members = member ∷ [] }) })
-        held before now unsaved unprinted
+    (record { status = status_with (saved && printed) log.end; report = Some (record { cpus = log ∷ []; members = member ∷ [] }) })
+    held before now unsaved unprinted
 concluded log member held before now unsaved unprinted saved printed s p =
     concluded_at log member held before now unsaved unprinted saved printed (subst (λ (name : List ℕ). MatchBool saved (HoldsFile held name (output_of member.walked)) unsaved) (sym first_output) s) p
 
@@ -125,13 +124,13 @@ pub concluded_by : (log : CpuLog) (member : MemberReport) (held : Option Content
     → OnOk save (HoldsFile held output_name text) → OnFailed save unsaved
     → OnOk write (Appends before now lines) → OnErr write (AppendsFront before now lines) → OnFailed write unprinted
     → Concludes (reported (record { cpus = log ∷ []; members = member ∷ [] })) (record { status = status; report = Some report })
-        held before now unsaved unprinted
+    held before now unsaved unprinted
 concluded_by log member held before now unsaved unprinted saved printed save write text lines report status et el er es s p holds unheld appends front unwritten =
     let reports : RunReport = record { cpus = log ∷ []; members = member ∷ [] } in
     let lines_are : List ℕ = lines_of (reported reports) in
     let done = concluded log member held before now unsaved unprinted saved printed
-        (told save saved _ _ s (subst (λ (t : List ℕ). OnOk save (HoldsFile held output_name t)) et holds) unheld)
-        (told write printed _ _ p (subst (λ (l : List ℕ). OnOk write (Appends before now l)) el appends)
-          (failed_front write _ _ (subst (λ (l : List ℕ). OnErr write (AppendsFront before now l)) el front) unwritten)) in
+    (told save saved _ _ s (subst (λ (t : List ℕ). OnOk save (HoldsFile held output_name t)) et holds) unheld)
+    (told write printed _ _ p (subst (λ (l : List ℕ). OnOk write (Appends before now l)) el appends)
+    (failed_front write _ _ (subst (λ (l : List ℕ). OnErr write (AppendsFront before now l)) el front) unwritten)) in
     subst (λ (r : RunReport). Concludes (reported reports) (record { status = status; report = Some r }) held before now unsaved unprinted) (sym er)
     (subst (λ (n : Status). Concludes (reported reports) (record { status = n; report = Some reports }) held before now unsaved unprinted) (sym es) done)

@@ -104,9 +104,10 @@ first_of P offer found rest false e all = cc
 
 pub kept_by_cpus : (P : Offer → Type 0) (ns : List Note) → ((cpu : ℕ) → AllByRecursion P (kept_of (frame_notes cpu ns))) → AllByRecursion P (kept_of ns)
 kept_by_cpus P [] all = tt
-kept_by_cpus P (notes.Kept offer found ∷ ns) all =
-    (first_of P offer found (frame_notes offer.frame.cpu ns) (offer.frame.cpu == offer.frame.cpu) (eq-eqb offer.frame.cpu offer.frame.cpu refl) (all offer.frame.cpu),
-      kept_by_cpus P ns (rest_of P (notes.Kept offer found) ns all))
+kept_by_cpus P (notes.Kept offer found ∷ ns) all = (
+  first_of P offer found (frame_notes offer.frame.cpu ns) (offer.frame.cpu == offer.frame.cpu) (eq-eqb offer.frame.cpu offer.frame.cpu refl) (all offer.frame.cpu),
+  kept_by_cpus P ns (rest_of P (notes.Kept offer found) ns all),
+)
 kept_by_cpus P (notes.Refused cpu index need number ∷ ns) all = kept_by_cpus P ns (rest_of P (notes.Refused cpu index need number) ns all)
 kept_by_cpus P (notes.Dropped cpu index need number ∷ ns) all = kept_by_cpus P ns (rest_of P (notes.Dropped cpu index need number) ns all)
 kept_by_cpus P (notes.Ticked ms found ∷ ns) all = kept_by_cpus P ns (rest_of P (notes.Ticked ms found) ns all)

@@ -105,7 +105,7 @@ lawful size frames cpus rings log closed e f grouped reports =
     let cpu = first_log cpus log.arrivals e in
     let ring = first_ring rings closed f in
     let logs : logged_of (arrivals_at frames ∷ []) cpus ≡ logged_with frames log.arrivals =
-        ap (logged_of (arrivals_at frames ∷ [])) cpu.1 ∙ ap (λ (l : List ArrivalLog). logged_with frames l) cpu.2 in
+    ap (logged_of (arrivals_at frames ∷ [])) cpu.1 ∙ ap (λ (l : List ArrivalLog). logged_with frames l) cpu.2 in
     let notes : notes_of rings ≡ closed.notes ∷ [] = ap notes_of ring.1 ∙ ap (λ (c : Closed). c.notes ∷ []) ring.2 in
     let one : IsRingReport size ring.0 = first_all (IsRingReport size) ring.0 (subst (λ (r : List Ring). All (IsRingReport size) r) ring.1 reports) in
     record {

@@ -50,3 +50,16 @@ pub output_meant : (held : Option Contents) (meant : List ℕ → Bool) (named :
 output_meant None meant named text setup untold all h = untold output_name refl
 output_meant (Some files) meant named text setup untold all h =
     (subst (λ (s : Option Setup). AllByRecursion (λ name. IsTrue (meant name)) (saved_by s)) (held_setup files named text setup h) all).0
+
+-- a store that means every name means those of a command
+any_meant : (named : Named) (setup : Option Setup) → AllByRecursion (λ name. IsTrue true) (read_by named setup) × AllByRecursion (λ name. IsTrue true) (saved_by setup)
+any_meant named None = ((refl, tt), tt)
+any_meant named (Some setup) = ((refl, refl, refl, tt), (refl, tt))
+
+pub every_read : (files : Contents) (command : Option Named) → AreMeant names_to_read command (Some files) (λ _. true)
+every_read files None = tt
+every_read files (Some named) = (any_meant named (setup_held files named)).0
+
+pub every_save : (files : Contents) (command : Option Named) → AreMeant names_to_save command (Some files) (λ _. true)
+every_save files None = tt
+every_save files (Some named) = (any_meant named (setup_held files named)).1

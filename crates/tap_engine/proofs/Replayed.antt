@@ -77,14 +77,14 @@ pub record Ran (ran : Replayed) (setup : Setup) (lines : List Line) (bytes : Lis
 
 pub ran_as : (ran : Replayed) (room : ℕ) (captures : List (List Frame)) (setup : Setup) (lines : List Line) (bytes : List ℕ) (frames : List Frame)
     → ran ≡ reported (record { members = 1; mode = Cpu; backup = false; own = None })
-        (record { room = room; blocks = setup.request.block_nr; tov = 8 }) captures lines
+    (record { room = room; blocks = setup.request.block_nr; tov = 8 }) captures lines
     → room ≡ room_of setup.request → captures ≡ frames ∷ [] → frames ≡ frames_of 0 bytes → Ran ran setup lines bytes
 ran_as ran room captures setup lines bytes frames is room_is captures_are frames_are =
     let plain : PlainRules = record { members = 1; mode = Cpu; backup = false; own = None } in
     let all = is
-        ∙ ap (λ (r : ℕ). reported plain (record { room = r; blocks = setup.request.block_nr; tov = 8 }) captures lines) room_is
-        ∙ ap (λ (c : List (List Frame)). reported plain (record { room = room_of setup.request; blocks = setup.request.block_nr; tov = 8 }) c lines)
-            (captures_are ∙ ap (λ (f : List Frame). f ∷ []) frames_are) in
+    ∙ ap (λ (r : ℕ). reported plain (record { room = r; blocks = setup.request.block_nr; tov = 8 }) captures lines) room_is
+    ∙ ap (λ (c : List (List Frame)). reported plain (record { room = room_of setup.request; blocks = setup.request.block_nr; tov = 8 }) c lines)
+    (captures_are ∙ ap (λ (f : List Frame). f ∷ []) frames_are) in
     record { logs = ap (λ (r : Replayed). r.logs) all; members = ap (λ (r : Replayed). r.members) all }
 
 -- it is lawful
@@ -133,11 +133,11 @@ is_report setup lines bytes frames given end count log closed member read count_
     let replay = replay_of setup lines bytes in
     let first : CpuLog = record { frames = count; given = given; end = end; arrivals = log } in
     let cpu : first ≡ log_of bytes end replay =
-        ap (λ (n : ℕ). record { frames = n; given = given; end = end; arrivals = log }) (count_is ∙ ap (λ (f : List Frame). length f) read.frames)
-        ∙ ap (λ (n : ℕ). record { frames = length (frames_of 0 bytes); given = n; end = end; arrivals = log }) read.given
-        ∙ ap (λ (l : List ArrivalLog). record { frames = length (frames_of 0 bytes); given = length bytes; end = end; arrivals = l }) (log_is replay.cpus log logs) in
+    ap (λ (n : ℕ). record { frames = n; given = given; end = end; arrivals = log }) (count_is ∙ ap (λ (f : List Frame). length f) read.frames)
+    ∙ ap (λ (n : ℕ). record { frames = length (frames_of 0 bytes); given = n; end = end; arrivals = log }) read.given
+    ∙ ap (λ (l : List ArrivalLog). record { frames = length (frames_of 0 bytes); given = length bytes; end = end; arrivals = l }) (log_is replay.cpus log logs) in
     let reports_are : member ∷ [] ≡ map member_of replay.members =
-        ap (λ (m : MemberReport). m ∷ []) is ∙ member_is replay.members closed members in
+    ap (λ (m : MemberReport). m ∷ []) is ∙ member_is replay.members closed members in
     ap (λ (l : CpuLog). record { cpus = l ∷ []; members = member ∷ [] }) cpu
     ∙ ap (λ (m : List MemberReport). record { cpus = log_of bytes end replay ∷ []; members = m }) reports_are
 

@@ -19,24 +19,19 @@ pub record IsHeadline (held : Option Contents) (named : Named) (report : RunRepo
   pub setup_read : IsTextOf held named.setup setup_text
   pub setup : Setup
   pub setup_is : accepted_setup setup_text ≡ Some setup
-
   -- so was the schedule's
   pub schedule_text : List ℕ
   pub schedule_read : IsTextOf held named.schedule schedule_text
   pub lines : List Line
   pub lines_are : accepted_schedule schedule_text ≡ Some lines
-
   -- the capture gave these bytes, from its front
   pub bytes : List ℕ
   pub capture_read : IsFrontOf held setup.file bytes
-
   -- how it ended: unless reading failed as the bytes say, and whole or cut only where they are all
   pub end : CpuEnd
   pub end_is : UnlessFault end (end ≡ end_by (end_of bytes))
   pub all_read : WhereEnded end (IsAllOf held setup.file bytes)
-
   -- the report is the replay report
   pub replay : report ≡ report_of setup lines bytes end
-
   -- so its log is lawful over the arrivals, joined with its notes, and these are a run of the ring
   pub lawful : IsReport group (size_of_setup setup) (arrivals_of (frames_of 0 bytes) ∷ []) report

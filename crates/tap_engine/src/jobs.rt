@@ -50,11 +50,7 @@ pub(crate) fn load_job<S: Store>(
 }
 
 /// Reads the setup of a name.
-pub(crate) fn load_setup<S: Store>(
-    alloc: Global,
-    store: &mut S,
-    name: &[u8],
-) -> Result<Setup, Stop>
+pub(crate) fn load_setup<S: Store>(alloc: Global, store: &mut S, name: &[u8]) -> Result<Setup, Stop>
     requires { IsTrue (S.meant_to_read store.old name.now) }
     ensures setup { IfOk result (λ setup. (text : List ℕ) ×
         IsAccepted accepted_setup (S.held store.old) name.now text setup) }

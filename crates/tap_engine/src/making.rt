@@ -9,10 +9,10 @@ ghost use Rattle.tap_engine.specs.Making.{Makes};
 ghost use Rattle.tap_engine.specs.Jobs.{IsJob};
 ghost use Rattle.tap_engine.specs.Names.{output_name};
 
+use crate::Outcome;
 use crate::concluding::conclude;
 use crate::jobs::Job;
 use crate::reporting::report;
-use crate::Outcome;
 use frame_view::Memory;
 use std::alloc::Global;
 use tap_outside::{Sink, Store};
@@ -30,8 +30,8 @@ pub(crate) fn make<S: Store, O: Sink>(
     requires job { (named : Named) × IsJob (S.held store.old) named job }
     ensures made { IfOk result (λ outcome. (named : Named) → IsJob (S.held store.old) named job
         → Makes (S.held store.old) named outcome (S.held store.new) (O.written out.old) (O.written out.new)
-            (Rose (S.read_faults store.old) (S.read_faults store.new))
-            (Rose (S.save_faults store.old) (S.save_faults store.new)) (Rose (O.faults out.old) (O.faults out.new))) }
+        (Rose (S.read_faults store.old) (S.read_faults store.new))
+        (Rose (S.save_faults store.old) (S.save_faults store.new)) (Rose (O.faults out.old) (O.faults out.new))) }
     ensures others { KeepsOthers (S.held store.old) (S.held store.new) output_name }
 {
     let capture = read_capture(alloc, store, job.setup.file.bytes(), 0)?;

@@ -31,7 +31,7 @@ pub fn run_plain<S: Store, O: Sink>(
     ensures told { result.status ≢ Status.Memory → (e : Expected)
         × IsExpected (S.held store.old) (Rose (S.read_faults store.old) (S.read_faults store.new)) (command_of words.now) e
         × Concludes e result (S.held store.new) (O.written out.old) (O.written out.new)
-            (Rose (S.save_faults store.old) (S.save_faults store.new)) (Rose (O.faults out.old) (O.faults out.new)) }
+        (Rose (S.save_faults store.old) (S.save_faults store.new)) (Rose (O.faults out.old) (O.faults out.new)) }
 
     ensures want { result.status ≡ Status.Memory → result.report ≡ None }
 
@@ -57,7 +57,7 @@ pub fn run_plain<S: Store, O: Sink>(
 fn refuse<O: Sink>(status: Status, out: &mut O) -> Outcome
     ensures concludes { (e : Expected) (held : Option Contents) (before now : ℕ) → IsRefusal status e
         → Concludes e result held (O.written out.old) (O.written out.new)
-            (Rose before now) (Rose (O.faults out.old) (O.faults out.new)) }
+        (Rose before now) (Rose (O.faults out.old) (O.faults out.new)) }
     ensures report { result.report ≡ None }
 {
     match write_whole(out, line_of(status)) {

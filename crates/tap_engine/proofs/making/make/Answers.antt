@@ -17,7 +17,7 @@ pub returns-clause-made : goal.returns-clause-made
 returns-clause-made g c =
     if_ok _ _ c.conclude.result
     (λ outcome concludes. λ named job.
-      makes _ named c.args.job c.in_ok-capture.capture c.in_ok-one.one c.in_ok-capture.ensures.capture.0 outcome _ _ _ _ _ _ _ _ _ _
-      job (subst (λ (name : List ℕ). IsCapture (g.S.Store.held c.args.store.now) name 0 c.in_ok-capture.capture c.in_ok-capture.ensures.capture.0) c.bytes.ensures c.in_ok-capture.ensures.capture.1) c.in_ok-one.ensures.replay c.in_ok-one.ensures.lawful c.in_ok-capture.ensures.fault
-      c.conclude.ensures.reads c.in_ok-capture.ensures.store.save_faults concludes)
+    makes _ named c.args.job c.in_ok-capture.capture c.in_ok-one.one c.in_ok-capture.ensures.capture.0 outcome _ _ _ _ _ _ _ _ _ _
+    job (subst (λ (name : List ℕ). IsCapture (g.S.Store.held c.args.store.now) name 0 c.in_ok-capture.capture c.in_ok-capture.ensures.capture.0) c.bytes.ensures c.in_ok-capture.ensures.capture.1) c.in_ok-one.ensures.replay c.in_ok-one.ensures.lawful c.in_ok-capture.ensures.fault
+    c.conclude.ensures.reads c.in_ok-capture.ensures.store.save_faults concludes)
     c.conclude.ensures.concludes
