@@ -52,6 +52,7 @@ impl Machine {
     }
 
     /// Does one step.
+    #[inline]
     pub(crate) fn perform(&mut self, step: Step, packet: &Seen<'_>) -> Next
         requires { HasWords step }
         ensures { next_of result self.new ≡ outcome step (sight_of packet.now) (state_of self.old) }
@@ -88,6 +89,7 @@ impl Machine {
     }
 
     /// The number that a load takes. `None` comes where it lies past the captured bytes.
+    #[inline]
     fn value(&self, value: Value, packet: &Seen<'_>) -> Option<u32>
         requires { HasWord value }
         ensures { result ≡ number_of_value value (sight_of packet.now) (state_of self.now) }
@@ -108,6 +110,7 @@ impl Machine {
         }
     }
 
+    #[inline]
     fn operand(&self, operand: Operand) -> u32
         ensures { result ≡ number_of_operand operand (state_of self.now) }
     {
@@ -134,6 +137,7 @@ fn fact_of(fact: Fact, packet: &Seen<'_>) -> u32
 }
 
 /// The number that the bytes from a place on write, in network order. `None` comes where they aren't all there.
+#[inline]
 fn number_at(size: Size, at: usize, bytes: &[u8]) -> Option<u32>
     ensures { result ≡ number_at (bytes_of size) at bytes.now }
 {
@@ -147,6 +151,7 @@ fn number_at(size: Size, at: usize, bytes: &[u8]) -> Option<u32>
 }
 
 /// What an operation makes of A and its operand, in 32 bits. `None` comes for a division by 0.
+#[inline]
 fn calculate(operation: Operation, a: u32, b: u32) -> Option<u32>
     ensures { result ≡ result_of operation a b }
 {
@@ -165,6 +170,7 @@ fn calculate(operation: Operation, a: u32, b: u32) -> Option<u32>
 }
 
 /// Whether a test of A against its operand holds.
+#[inline]
 fn holds(test: Test, a: u32, b: u32) -> bool
     ensures { result ≡ answer_of test a b }
 {

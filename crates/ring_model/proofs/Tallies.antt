@@ -2,7 +2,7 @@
 use Rattle.std.proofs.Common.{◌≡◌, ℕ, ◌+◌, ◌<◌, ◌≤◌, suc, Bool, true, false, cond, List, [], ◌∷◌, ◌++◌, length, drop, get_or, Option, None, Some, refl, sym, ap, ◌∙◌, subst, arith, append_assoc, append-nil, add-one, drop-cons}
 use Rattle.std.proofs.lemmas.List.{drop_all}
 use Rattle.std.proofs.lemmas.List.Sums.{sum_by_push}
-use Rattle.std.specs.Prelude.{nat_lt, sum_by}
+use Rattle.std.specs.Prelude.{nat_lt}
 use Rattle.ring_model.specs.Fates.{counts_from, counts_of, stretches_from, stats_of, sum_of, totals_of}
 use Rattle.ring_model.specs.Ledgers.{Counts, plus, taken_at, with_taken}
 use Rattle.ring_model.specs.Ring.{Size, State, after, after_drop, after_due, first_state}

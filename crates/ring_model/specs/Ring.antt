@@ -13,6 +13,10 @@ pub record Size : Type 0 where
   pub blocks : ℕ
   pub tov : ℕ
 
+-- it holds of each size with this time-out
+abbrev pub AtEachSize : ℕ → (Size → Type 0) → Type 0
+AtEachSize tov P = (room blocks : ℕ) → P (record { room = room; blocks = blocks; tov = tov })
+
 -- what notes leave behind
 pub record State : Type 0 where
   -- the retired blocks in order, each with its status; the block of number s is the s-th

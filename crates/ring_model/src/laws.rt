@@ -1,6 +1,6 @@
 //! Laws of the definitions, each the contract of a function that does nothing.
-ghost use Rattle.std.specs.Prelude.{◌≡◌, ◌<◌, ◌≤◌, ℕ, List, [], length};
-ghost use Rattle.ring_model.specs.Fates.{drops_of};
+ghost use Rattle.std.specs.Prelude.{◌≡◌, ◌+◌, ◌<◌, ◌≤◌, ℕ, List, [], length};
+ghost use Rattle.ring_model.specs.Fates.{drops_of, kept_of, totals_of};
 ghost use Rattle.ring_model.specs.Ring.{Size, IsRun, MayStand, first_state, state_of};
 ghost use Rattle.ring_model.specs.Rings.{Ring, note_of_put, note_of_tick, note_of_try, state};
 ghost use Rattle.ring_model.specs.declared.notes.Note.{Note};
@@ -26,4 +26,12 @@ pub fn ticks_stand()
 pub fn a_ring_with_blocks_left_drops_nothing()
     ensures { (size : Size) (notes : List Note) → IsRun size (first_state size) notes
         → length (state_of size notes).done < size.blocks → drops_of notes ≡ [] }
+{}
+
+/// Over a whole run the statistics count each packet that a note keeps or drops, and no other.
+pub fn statistics_count_each_packet()
+    ensures packets { (size : Size) (notes : List Note)
+        → (totals_of size notes).packets ≡ length (kept_of notes) + length (drops_of notes) }
+    ensures drops { (size : Size) (notes : List Note)
+        → (totals_of size notes).drops ≡ length (drops_of notes) }
 {}

@@ -1,8 +1,8 @@
 //! What the notes of a ring come to in statistics: each time they were taken, and over the whole run.
-ghost use Rattle.std.specs.Prelude.{◌≡◌, ◌+◌, ◌<◌, ◌≤◌, ◌^◌, ◌++◌, ℕ, List, Option, IfOk, OnOk};
+ghost use Rattle.std.specs.Prelude.{◌≡◌, ◌+◌, ◌<◌, ◌≤◌, ◌^◌, ◌++◌, List, Option, IfOk, OnOk};
 ghost use Rattle.ring_model.specs.Fates.{counts_of, totals_of};
 ghost use Rattle.ring_model.specs.Ledgers.{Counts, open_of, plus, taken_at, with_taken};
-ghost use Rattle.ring_model.specs.Ring.{Size, State, after, after_drop, after_due, first_state, with_offer};
+ghost use Rattle.ring_model.specs.Ring.{AtEachSize, State, after, after_drop, after_due, first_state, with_offer};
 ghost use Rattle.ring_model.specs.declared.notes.Note.TheVariants as notes;
 ghost use Rattle.ring_model.specs.declared.notes.Offer.{Offer};
 
@@ -26,10 +26,10 @@ pub struct Tally {
 /// kernel's `packet_getsockopt` gives at each PACKET_STATISTICS, and their sums. They don't hang on the size of a
 /// block, nor on the number of blocks.
 pub fn tally_notes(alloc: Global, tov: u64, notes: &Notes) -> Result<Tally, Memory>
-    ensures counts { IfOk result (λ tally. (room blocks : ℕ)
-        → tally.counts ≡ counts_of (record { room = room; blocks = blocks; tov = tov }) notes.now) }
-    ensures totals { IfOk result (λ tally. (room blocks : ℕ)
-        → tally.totals ≡ totals_of (record { room = room; blocks = blocks; tov = tov }) notes.now) }
+    ensures counts { IfOk result
+        (λ tally. AtEachSize tov (λ size. tally.counts ≡ counts_of size notes.now)) }
+    ensures totals { IfOk result
+        (λ tally. AtEachSize tov (λ size. tally.totals ≡ totals_of size notes.now)) }
     ensures fewer { IfOk result (λ tally. tally.totals.drops ≤ tally.totals.packets) }
 {
     let mut tally = Tally {
@@ -93,7 +93,8 @@ enum Open {
 
 /// The open block with one packet more.
 fn with_packet(block: Open) -> Open
-    ensures { (offer : Offer) (now : Option (List Offer)) → block ≡ open_of now → result ≡ open_of (with_offer offer now) }
+    ensures { (offer : Offer) (now : Option (List Offer)) → block ≡ open_of now
+        → result ≡ open_of (with_offer offer now) }
 {
     match block {
         Open::Frozen => Open::Frozen,
@@ -120,7 +121,7 @@ struct Ledger {
 impl Ledger {
     /// What no note leaves.
     fn new(tov: u64) -> Ledger
-        ensures { (room blocks : ℕ) → Counts result (first_state (record { room = room; blocks = blocks; tov = tov })) }
+        ensures { AtEachSize tov (λ size. Counts result (first_state size)) }
     {
         Ledger {
             open: Open::Empty,
@@ -153,8 +154,8 @@ impl Ledger {
         requires kept { self.kept < 2 ^ 63 }
         requires dropped { self.dropped < 2 ^ 63 }
         requires freezes { self.freezes < 2 ^ 63 }
-        ensures { (room blocks : ℕ) (state : State) → Counts self state
-            → Counts result (after (record { room = room; blocks = blocks; tov = tov }) state note.now) }
+        ensures { AtEachSize tov (λ size. (state : State) → Counts self state
+            → Counts result (after size state note.now)) }
     {
         match note {
             Note::Kept { found, .. } => self.kept(*found, tov),
@@ -177,8 +178,8 @@ impl Ledger {
     /// What a packet leaves that was kept: it went into the open block where none was asked for, else into the next.
     fn kept(self, found: Found, tov: u64) -> Ledger
         requires { self.kept < 2 ^ 63 }
-        ensures { (room blocks : ℕ) (state : State) (offer : Offer) → Counts self state
-            → Counts result (after (record { room = room; blocks = blocks; tov = tov }) state (notes.Kept offer found)) }
+        ensures { AtEachSize tov (λ size. (state : State) (offer : Offer) → Counts self state
+            → Counts result (after size state (notes.Kept offer found))) }
     {
         let kept = self.kept + 1;
         match found {
@@ -217,8 +218,8 @@ impl Ledger {
     /// What a tick leaves.
     fn ticked(self, ms: u64, found: Found, tov: u64) -> Ledger
         requires { self.freezes < 2 ^ 63 }
-        ensures { (room blocks : ℕ) (state : State) → Counts self state
-            → Counts result (after (record { room = room; blocks = blocks; tov = tov }) state (notes.Ticked ms found)) }
+        ensures { AtEachSize tov (λ size. (state : State) → Counts self state
+            → Counts result (after size state (notes.Ticked ms found))) }
     {
         let moment = u128::from(ms);
         if moment < self.deadline {

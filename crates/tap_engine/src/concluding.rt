@@ -1,12 +1,12 @@
 //! The end of a run: its file is saved, its lines are printed, and it has a status.
-ghost use Rattle.std.specs.Prelude.{◌≡◌, ◌≤◌, length, All, IfOk, IsTrue};
+ghost use Rattle.std.specs.Prelude.{◌≡◌, ◌≤◌, length, All, IfOk, IsTrue, ◌&&◌};
 ghost use Rattle.tap_outside.specs.Contents.{KeepsOthers};
 ghost use Rattle.tap_outside.specs.Counts.{Rose};
 ghost use Rattle.tap_engine.specs.Conclusions.{Concludes};
-ghost use Rattle.tap_engine.specs.Expected.{reported, status_by_end};
+ghost use Rattle.tap_engine.specs.Expected.{reported};
 ghost use Rattle.tap_engine.specs.Names.{output_name};
 ghost use Rattle.tap_engine.specs.Reporting.{alone};
-ghost use Rattle.tap_engine.specs.Concluding.{tried};
+ghost use Rattle.tap_engine.specs.Concluding.{status_with, tried};
 
 use crate::reporting::{Alone, TIME_OUT};
 use crate::{Outcome, Status};
@@ -44,13 +44,8 @@ pub(crate) fn conclude<S: Store, O: Sink>(
     let lines = summary(alloc, TIME_OUT, &report)?;
     let saved = done(store.save(OUTPUT, text.as_slice()))?;
     let printed = done(write_whole(out, lines.as_slice()))?;
-    let status = if saved && printed {
-        status_of(end)
-    } else {
-        Status::WriteFault
-    };
     Ok(Outcome {
-        status,
+        status: status_of(saved, printed, end),
         report: Some(report),
     })
 }
@@ -77,10 +72,13 @@ fn report_of(alloc: Global, one: Alone) -> Result<RunReport, Memory>
     Ok(RunReport { cpus, members })
 }
 
-/// The status by the end of CPU 0.
-fn status_of(end: CpuEnd) -> Status
-    ensures { result ≡ status_by_end 0 end Status.Fine }
+/// The status of a run: a fault of saving or printing, else what the end of CPU 0 says.
+fn status_of(saved: bool, printed: bool, end: CpuEnd) -> Status
+    ensures { result ≡ status_with (saved && printed) end }
 {
+    if !saved || !printed {
+        return Status::WriteFault;
+    }
     match end {
         CpuEnd::Whole => Status::Fine,
         CpuEnd::Fault => Status::ReadFault,

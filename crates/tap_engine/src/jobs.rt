@@ -35,9 +35,10 @@ pub(crate) fn load_job<S: Store>(
     requires { AreMeant names_to_read (Some (record { setup = command.setup.now; schedule = command.schedule.now }))
         (S.held store.old) (S.meant_to_read store.old) }
     ensures job { IfOk result (IsJob (S.held store.old)
-        (record { setup = command.setup.now; schedule = command.schedule.now })) }
+        (record { setup = command.entry.setup.now; schedule = command.entry.schedule.now })) }
+    ensures capture { IfOk result (λ job. IsTrue (S.meant_to_read store.old job.setup.file)) }
     ensures stop { IfErr result (StopsJob (S.held store.old)
-        (record { setup = command.setup.now; schedule = command.schedule.now })
+        (record { setup = command.entry.setup.now; schedule = command.entry.schedule.now })
         (Rose (S.read_faults store.old) (S.read_faults store.new))) }
     ensures store { IsReadOnly
         (record { held = S.held store.old; to_read = S.meant_to_read store.old; to_save = S.meant_to_save store.old; read_faults = S.read_faults store.old; save_faults = S.save_faults store.old })

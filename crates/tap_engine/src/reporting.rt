@@ -1,5 +1,5 @@
 //! The report of a run.
-ghost use Rattle.std.specs.Prelude.{◌≡◌, ℕ, List, [], ◌∷◌, IfOk, IsTrue, length};
+ghost use Rattle.std.specs.Prelude.{◌≡◌, ◌≤◌, ℕ, List, [], ◌∷◌, All, IfOk, IsTrue, length};
 ghost use Rattle.capture_file.specs.Capture.{frames_of};
 ghost use Rattle.fanout_group.specs.Arrivals.{arrivals_of};
 ghost use Rattle.setup_text.specs.Requests.{can_be_had};
@@ -44,6 +44,7 @@ pub(crate) fn report(
         → alone one ≡ report_of setup.now schedule.now bytes capture.end) }
     ensures lawful { IfOk result (λ one. (bytes : List ℕ) → IsReadAs capture bytes
         → IsReport group (size_of_setup setup.now) (arrivals_of (frames_of 0 bytes) ∷ []) (alone one)) }
+    ensures small { IfOk result (λ one. All (λ packet. length packet.bytes ≤ 4294967291) one.member.walked) }
 {
     frames_are_captured();
     frames_are_numbered();

@@ -26,11 +26,14 @@ pub fn run_plain<S: Store, O: Sink>(
     requires reads { AreMeant names_to_read (command_of words.now) (S.held store.old) (S.meant_to_read store.old) }
     requires saves { AreMeant names_to_save (command_of words.now) (S.held store.old) (S.meant_to_save store.old) }
 
-    // What the call comes to by what the outside gave, and what it answers, prints and saves by that.
-    ensures told { (e : Expected)
+    // Unless memory was wanted: what the call comes to by what the outside gave, and what it answers, prints and
+    // saves by that.
+    ensures told { result.status ≢ Status.Memory → (e : Expected)
         × IsExpected (S.held store.old) (Rose (S.read_faults store.old) (S.read_faults store.new)) (command_of words.now) e
         × Concludes e result (S.held store.new) (O.written out.old) (O.written out.new)
             (Rose (S.save_faults store.old) (S.save_faults store.new)) (Rose (O.faults out.old) (O.faults out.new)) }
+
+    ensures want { result.status ≡ Status.Memory → result.report ≡ None }
 
     // No other file changes, and none where no run was made.
     ensures others { KeepsOthers (S.held store.old) (S.held store.new) output_name }

@@ -1,6 +1,7 @@
 //! The lines of members, and the sums over them.
-ghost use Rattle.std.specs.Prelude.{◌≡◌, ◌++◌, ◌≤◌, ℕ, IfOk, OnOk, flat_map, string_bytes};
+ghost use Rattle.std.specs.Prelude.{◌≡◌, ◌++◌, ◌≤◌, IfOk, OnOk, flat_map, string_bytes};
 ghost use Rattle.ring_model.specs.Fates.{totals_of};
+ghost use Rattle.ring_model.specs.Ring.{AtEachSize};
 ghost use Rattle.tap_printing.specs.Lines.{count_line, drops_in, kept_in, member_line, member_lines, member_text, stats_text};
 
 use frame_view::Memory;
@@ -22,12 +23,12 @@ pub(crate) fn push_members(
     tov: u64,
     members: &[MemberReport],
 ) -> Result<Passed, Memory>
-    ensures lines { OnOk result ((room blocks : ℕ)
-        → text.new.items ≡ text.old.items ++ member_lines (record { room = room; blocks = blocks; tov = tov }) 0 members.now) }
-    ensures kept { IfOk result (λ passed. (room blocks : ℕ)
-        → passed.kept ≡ kept_in (record { room = room; blocks = blocks; tov = tov }) members.now) }
-    ensures drops { IfOk result (λ passed. (room blocks : ℕ)
-        → passed.drops ≡ drops_in (record { room = room; blocks = blocks; tov = tov }) members.now) }
+    ensures lines { OnOk result (AtEachSize tov
+        (λ size. text.new.items ≡ text.old.items ++ member_lines size 0 members.now)) }
+    ensures kept { IfOk result
+        (λ passed. AtEachSize tov (λ size. passed.kept ≡ kept_in size members.now)) }
+    ensures drops { IfOk result
+        (λ passed. AtEachSize tov (λ size. passed.drops ≡ drops_in size members.now)) }
 {
     let mut passed = Passed { kept: 0, drops: 0 };
     for (member, report) in members.iter().enumerate() {
@@ -47,10 +48,10 @@ fn push_member(
     member: usize,
     report: &MemberReport,
 ) -> Result<Stats, Memory>
-    ensures lines { OnOk result ((room blocks : ℕ)
-        → text.new.items ≡ text.old.items ++ member_text (record { room = room; blocks = blocks; tov = tov }) member report.now) }
-    ensures stats { IfOk result (λ stats. (room blocks : ℕ)
-        → stats ≡ totals_of (record { room = room; blocks = blocks; tov = tov }) report.now.notes) }
+    ensures lines { OnOk result (AtEachSize tov
+        (λ size. text.new.items ≡ text.old.items ++ member_text size member report.now)) }
+    ensures stats { IfOk result
+        (λ stats. AtEachSize tov (λ size. stats ≡ totals_of size report.now.notes)) }
     ensures fewer { IfOk result (λ stats. stats.drops ≤ stats.packets) }
 {
     let tally = tally_notes(alloc, tov, &report.notes)?;

@@ -1,5 +1,6 @@
 //! The lines of a whole run.
-ghost use Rattle.std.specs.Prelude.{◌≡◌, ℕ, IfOk, string_bytes};
+ghost use Rattle.std.specs.Prelude.{◌≡◌, IfOk, string_bytes};
+ghost use Rattle.ring_model.specs.Ring.{AtEachSize};
 ghost use Rattle.tap_printing.specs.Lines.{summary_of, total_line};
 
 use crate::cpu_lines::{arrivals_in, filtered_in, push_cpus};
@@ -13,8 +14,8 @@ use std::alloc::Global;
 /// size of a block, nor on the number of blocks.
 #[tactic(auto, unfolding(crate::specs::Lines::summary_of))]
 pub fn summary(alloc: Global, tov: u64, report: &RunReport) -> Result<ByteList, Memory>
-    ensures { IfOk result (λ text. (room blocks : ℕ)
-        → text ≡ summary_of (record { room = room; blocks = blocks; tov = tov }) report.now) }
+    ensures { IfOk result
+        (λ text. AtEachSize tov (λ size. text ≡ summary_of size report.now)) }
 {
     let mut text = Vec::new(alloc);
     let cpus = report.cpus.as_slice();
@@ -33,7 +34,8 @@ fn total_line(
     filtered: u128,
     passed: Passed,
 ) -> Result<String, Memory>
-    ensures { IfOk result (λ line. string_bytes line ≡ total_line arrivals filtered passed.kept passed.drops) }
+    ensures { IfOk result
+        (λ line. string_bytes line ≡ total_line arrivals filtered passed.kept passed.drops) }
 {
     let Passed { kept, drops } = passed;
     Ok(format!(in alloc;
