@@ -1,15 +1,16 @@
 #!/usr/bin/env python3
 """Times `ringtap replay` on captures of 4 to 32 MiB, beside `tcpdump -r IN -w OUT` of the same file in the same run.
 
-    bench/run.py [--sizes 4,8,16,32] [--runs 3] [PROGRAM]
+    bench/run.py [--sizes 4,8,16,32] [--runs 5] [PROGRAM]
 
 PROGRAM is crates/ringtap/out/ringtap where none is named; it is built where it isn't there. The captures have frames of 60
 bytes, of 1514 bytes, or of 60, 590 and 1514 bytes by turns. Each is replayed with a ring that keeps every frame and with one
-that drops, and the shortest of some runs counts. Files are written below bench/work.
+that drops. Files are written below bench/work.
 
-Memory is the largest resident size, below which the system doesn't count less than this script's own, about 12 MiB.
+Time is that from start to end, CPU that of the processor for user and system, each the least of some runs. Memory is the
+largest resident size; the system counts no less than this script's own, about 14 MiB.
 
-It ends with status 1 where a run fails, or where time or memory from 16 to 32 MiB grows by more than 2.2 times.
+It ends with status 1 where a run fails, or where CPU time or memory grows by more than 2.2 times from 16 to 32 MiB.
 """
 import argparse
 import os
@@ -56,21 +57,22 @@ def write_setup(path, ring):
 
 
 def measure(words, runs):
-    """The shortest time of some runs in seconds, the largest memory in bytes, and what the last run printed."""
-    best, memory, printed = float("inf"), 0, b""
+    """Of some runs the least time and CPU time in seconds, the largest memory in bytes, and what the last one printed."""
+    best, least, memory, printed = float("inf"), float("inf"), 0, b""
     for _ in range(runs):
         with open("printed", "wb") as out:
             start = time.monotonic()
             process = subprocess.Popen(words, stdout=out, stderr=subprocess.DEVNULL)
             _, status, usage = os.wait4(process.pid, 0)
             best = min(best, time.monotonic() - start)
+            least = min(least, usage.ru_utime + usage.ru_stime)
             process.returncode = os.waitstatus_to_exitcode(status)
         if process.returncode != 0:
             sys.exit(f"{' '.join(words)} ended with status {process.returncode}")
         memory = max(memory, usage.ru_maxrss * 1024)
         with open("printed", "rb") as out:
             printed = out.read()
-    return best, memory, printed.decode()
+    return best, least, memory, printed.decode()
 
 
 def total_of(printed):
@@ -90,7 +92,7 @@ def tested(kind, ring, count, printed):
 def main():
     words = argparse.ArgumentParser(description=__doc__, formatter_class=argparse.RawDescriptionHelpFormatter)
     words.add_argument("--sizes", default="4,8,16,32")
-    words.add_argument("--runs", type=int, default=3)
+    words.add_argument("--runs", type=int, default=5)
     words.add_argument("program", nargs="?", default=PROGRAM)
     asked = words.parse_args()
     program = os.path.abspath(asked.program)
@@ -104,8 +106,8 @@ def main():
     os.chdir(WORK)
     open("sched", "wb").close()
 
-    print("| Frames | MiB | Ring | Kept | Dropped | Time, s | MiB/s | Memory, MiB | To tcpdump |")
-    print("|---|---|---|---|---|---|---|---|---|")
+    print("| Frames | MiB | Ring | Kept | Dropped | Time, s | CPU, s | MiB/s | Memory, MiB | To tcpdump |")
+    print("|---|---|---|---|---|---|---|---|---|---|")
     found = {}
     for kind, lengths in FRAMES.items():
         for size in map(int, asked.sizes.split(",")):
@@ -113,12 +115,12 @@ def main():
             by_dump = measure([dump, "-n", "-r", "in.pcap", "-w", "out.pcap"], asked.runs)[0] if dump else None
             for ring, numbers in RINGS.items():
                 write_setup("conf", numbers)
-                taken, memory, printed = measure([program, "replay", "conf", "sched"], asked.runs)
+                taken, cpu, memory, printed = measure([program, "replay", "conf", "sched"], asked.runs)
                 kept, drops = tested(kind, ring, count, printed)
-                found[kind, size, ring] = taken, memory
+                found[kind, size, ring] = cpu, memory
                 ratio = f"{taken / by_dump:.1f}" if by_dump else "-"
                 print(
-                    f"| {kind} | {size} | {ring} | {kept:,} | {drops:,} | {taken:.3f} | {size / taken:.0f}"
+                    f"| {kind} | {size} | {ring} | {kept:,} | {drops:,} | {taken:.3f} | {cpu:.3f} | {size / taken:.0f}"
                     f" | {memory / MIB:.0f} | {ratio} |",
                     flush=True,
                 )
@@ -127,16 +129,16 @@ def main():
 
 
 def grows(found):
-    """Prints how time and memory grow from 16 to 32 MiB, and gives whether one of them grows too much."""
+    """Prints how CPU time and memory grow from 16 to 32 MiB, and gives whether one of them grows too much."""
     too_much = False
-    for (kind, size, ring), (taken, memory) in found.items():
+    for (kind, size, ring), (cpu, memory) in found.items():
         if size == 32 and (kind, 16, ring) in found:
             before, small = found[kind, 16, ring]
-            in_time, in_memory = taken / before, memory / small
+            in_time, in_memory = cpu / before, memory / small
             is_bad = max(in_time, in_memory) > GROWTH
             too_much = too_much or is_bad
             print(
-                f"from 16 to 32 MiB, {kind}, ring that {ring}: time by {in_time:.2f}, memory by {in_memory:.2f}"
+                f"from 16 to 32 MiB, {kind}, ring that {ring}: CPU time by {in_time:.2f}, memory by {in_memory:.2f}"
                 f"{', which is too much' if is_bad else ''}"
             )
     return too_much
