@@ -54,7 +54,7 @@ output_meant (Some files) meant named text setup untold all h =
 -- a store that means every name means those of a command
 any_meant : (named : Named) (setup : Option Setup) → AllByRecursion (λ name. IsTrue true) (read_by named setup) × AllByRecursion (λ name. IsTrue true) (saved_by setup)
 any_meant named None = ((refl, tt), tt)
-any_meant named (Some setup) = ((refl, refl, refl, tt), (refl, tt))
+any_meant named (Some setup) = ((refl, (refl, (refl, tt))), (refl, tt))
 
 pub every_read : (files : Contents) (command : Option Named) → AreMeant names_to_read command (Some files) (λ _. true)
 every_read files None = tt

@@ -42,4 +42,5 @@ pub room_small : (request : RingRequest) → IsTrue (can_be_had request) → roo
 room_small request had =
     let blocks = (and_parts (has_blocks request) _ had).0 in
     let small : nat_le request.block_size 1048576 ≡ true = (and_parts _ _ (and_parts _ _ (and_parts _ _ blocks).0).0).1 in
-    omega (arith, leb-true request.block_size 1048576 small)
+    let size : request.block_size ≤ 1048576 = leb-true request.block_size 1048576 small in
+    omega (arith, size)

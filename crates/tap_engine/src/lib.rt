@@ -13,3 +13,6 @@ mod walking;
 
 pub use outcomes::{Input, Outcome, Status};
 pub use running::run_plain;
+
+#[cfg(test)]
+mod tests;
