@@ -6,3 +6,4 @@ pub mod Meant
 pub mod Requested
 pub mod Replayed
 pub mod Made
+pub mod Complete

@@ -9,3 +9,4 @@ pub mod Jobs
 pub mod Reporting
 pub mod Concluding
 pub mod Making
+pub mod Complete
