@@ -1,6 +1,6 @@
 -- What follows from what a call was told: its report is worth the headline, and where nothing fails it is fine.
-use Rattle.std.proofs.Common.{◌≡◌, ◌≢◌, ℕ, ◌+◌, ◌≤◌, Bool, true, false, cond, List, [], ◌∷◌, ◌++◌, length, inl, inr, Option, None, Some, refl, sym, ap, subst, ◌∙◌, arith}
-use Rattle.std.specs.Prelude.{◌⊎◌, IfSome, if◌then◌else◌, nat_le, nat_lt, unwrap_or}
+use Rattle.std.proofs.Common.{◌≡◌, ◌≢◌, ℕ, ◌+◌, ◌≤◌, Bool, true, false, List, [], ◌++◌, length, inl, inr, Option, None, Some, refl, sym, ap, subst, ◌∙◌, arith}
+use Rattle.std.specs.Prelude.{◌⊎◌, if◌then◌else◌, nat_lt, unwrap_or}
 use Rattle.std.specs.Option.{option_or}
 use Rattle.std.proofs.lemmas.Bool.{leb-true}
 use Rattle.std.proofs.lemmas.List.{length-append}
@@ -9,16 +9,15 @@ use Rattle.capture_file.specs.declared.error.CaptureError.{CaptureError}
 use Rattle.capture_file.specs.declared.error.CaptureError.TheVariants.{Truncated}
 use Rattle.fanout_group.specs.declared.runs.CpuEnd.{CpuEnd}
 use Rattle.fanout_group.specs.declared.runs.CpuEnd.TheVariants.{Whole, Fault, Damaged}
-use Rattle.fanout_group.specs.declared.runs.CpuLog.{CpuLog}
 use Rattle.replay_model.specs.declared.schedule.Line.{Line}
 use Rattle.setup_text.specs.declared.reports.RunReport.{RunReport}
 use Rattle.setup_text.specs.declared.setups.Setup.{Setup}
 use Rattle.tap_outside.specs.Contents.{Contents}
 use Rattle.tap_reading.specs.Captures.{UnlessFault, WhereEnded, end_by}
-use Rattle.tap_reading.specs.Fronts.{IsAllOf, IsFront, IsTextOf}
+use Rattle.tap_reading.specs.Fronts.{IsTextOf}
 use Rattle.tap_engine.specs.Commands.{Named}
 use Rattle.tap_engine.specs.Complete.{IsComplete, IsSound, IsWorth}
-use Rattle.tap_engine.specs.Conclusions.{Concludes, IsPlain}
+use Rattle.tap_engine.specs.Conclusions.{Concludes}
 use Rattle.tap_engine.specs.Expected.{Expected, HasFault, IsExpected, IsUnreadySchedule, IsUnreadySetup, no_command, report_in, reported, status_of, unread, unready}
 use Rattle.tap_engine.specs.Headline.{IsHeadline}
 use Rattle.tap_engine.specs.Runs.{accepted_schedule, accepted_setup, is_text, report_of}

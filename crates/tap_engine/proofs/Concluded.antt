@@ -1,10 +1,9 @@
 -- What follows from a save and a print, each of which may fail.
-use Rattle.std.proofs.Common.{◌≡◌, ◌≢◌, ℕ, Bool, true, false, List, [], ◌∷◌, inl, inr, refl, sym, ap, subst, ◌∙◌}
+use Rattle.std.proofs.Common.{◌≡◌, ◌≢◌, ℕ, Bool, true, false, List, [], ◌∷◌, inl, inr, refl, sym, subst}
 use Rattle.std.specs.Fmt.{decimal, digits}
 use Rattle.std.specs.Prelude.{◌++◌, codes, Option, Some, Result, Ok, Err, MatchBool, OnOk, OnErr, ◌&&◌}
 use Rattle.std.specs.Io.KnownBytes.{Appends}
 use Rattle.capture_file.specs.Output.{output_of}
-use Rattle.capture_file.specs.declared.error.CaptureError.{CaptureError}
 use Rattle.fanout_group.specs.declared.runs.CpuEnd.{CpuEnd}
 use Rattle.fanout_group.specs.declared.runs.CpuEnd.TheVariants.{Whole, Fault, Damaged}
 use Rattle.fanout_group.specs.declared.runs.CpuLog.{CpuLog}
@@ -15,9 +14,8 @@ use Rattle.tap_outside.specs.Outcomes.{OnFailed}
 use Rattle.tap_outside.specs.Sinks.{AppendsFront}
 use Rattle.tap_outside.specs.declared.causes.OutError.{OutError}
 use Rattle.tap_outside.specs.declared.causes.OutError.TheVariants as errors
-use Rattle.frame_view.specs.declared.want.Memory.{Memory}
 use Rattle.tap_engine.specs.Concluding.{status_with, tried}
-use Rattle.tap_engine.specs.Conclusions.{Concludes, IsPlain}
+use Rattle.tap_engine.specs.Conclusions.{Concludes}
 use Rattle.tap_engine.specs.Expected.{reported, lines_of}
 use Rattle.tap_engine.specs.Names.{output_name}
 use Rattle.tap_engine.specs.declared.outcomes.Status.{Status}

@@ -1,17 +1,16 @@
 -- The packets that the notes of a group keep: each is of an arrival, cut to the room of a block.
-use Rattle.std.proofs.Common.{◌≡◌, ℕ, zero, suc, ◌+◌, ◌-◌, ◌<◌, ◌≤◌, Bool, true, false, cond, eqb, List, [], ◌∷◌, ◌++◌, length, append_assoc, Option, None, Some, refl, sym, ap, subst, ◌∙◌, arith, eq-eqb}
+use Rattle.std.proofs.Common.{◌≡◌, ℕ, ◌-◌, ◌≤◌, Bool, true, false, List, [], ◌∷◌, ◌++◌, length, append_assoc, Option, None, Some, refl, sym, ap, subst, arith, eq-eqb}
 use Rattle.std.specs.Prelude.{min, nat_lt, option_to_list, if◌then◌else◌, ◌==◌}
 use Rattle.std.specs.List.{AllByRecursion}
 use Rattle.std.proofs.lemmas.Bool.{ltb-false}
 use Rattle.frame_view.specs.declared.frames.Frame.{Frame}
 use Rattle.ring_model.specs.Fates.{frame_note, frame_notes, kept_of}
-use Rattle.ring_model.specs.Offers.{offer_of}
 use Rattle.ring_model.specs.declared.notes.Offer.{Offer}
 use Rattle.ring_model.specs.declared.notes.Note.{Note}
 use Rattle.ring_model.specs.declared.notes.Note.TheVariants as notes
-use Rattle.fanout_group.specs.Arrivals.{arrivals_at, arrivals_of, somes, unless_runt}
+use Rattle.fanout_group.specs.Arrivals.{arrivals_of}
 use Rattle.frame_view.specs.Vlan.{untagged}
-use Rattle.fanout_group.specs.Joined.{Attempt, AreNotesOf, IsNoteOf, Logged, attempts_at, attempts_in, nothing_logged}
+use Rattle.fanout_group.specs.Joined.{Attempt, AreNotesOf, attempts_at, attempts_in}
 use Rattle.fanout_group.specs.declared.logs.ArrivalLog.{ArrivalLog}
 use Rattle.fanout_group.specs.declared.logs.Try.{Try}
 

@@ -1,6 +1,6 @@
 -- The replay of one CPU and one member, as it is reported.
-use Rattle.std.proofs.Common.{◌≡◌, ℕ, zero, suc, ◌+◌, ◌-◌, ◌<◌, ◌≤◌, false, List, [], ◌∷◌, length, get_or, refl, sym, ap, subst, ◌∙◌, arith}
-use Rattle.std.specs.Prelude.{Option, None, Some, IfSome, All, map, slice_get, take, min}
+use Rattle.std.proofs.Common.{◌≡◌, ℕ, zero, suc, ◌+◌, ◌≤◌, false, List, [], ◌∷◌, length, get_or, refl, sym, ap, subst, ◌∙◌, arith}
+use Rattle.std.specs.Prelude.{None, IfSome, All, map, slice_get}
 use Rattle.std.specs.List.{AllByRecursion}
 use Rattle.std.proofs.lemmas.List.{length-take}
 use Rattle.std.proofs.lemmas.List.Elements.{All-from_recursion, recursion_from_All}
@@ -10,11 +10,11 @@ use Rattle.capture_file.specs.Laws.{IsCaptured, IsNumbered}
 use Rattle.ring_model.specs.Fates.{kept_of}
 use Rattle.ring_model.specs.Offers.{packet_of}
 use Rattle.ring_model.specs.Ring.{Size, state_of}
-use Rattle.ring_model.specs.Rings.{Ring, state}
+use Rattle.ring_model.specs.Rings.{Ring}
 use Rattle.ring_model.specs.declared.notes.Offer.{Offer}
 use Rattle.ring_model.specs.declared.notes.Note.{Note}
-use Rattle.fanout_group.specs.Arrivals.{arrivals_at, arrivals_of, somes}
-use Rattle.fanout_group.specs.Joined.{Attempt, Logged, attempts_at, nothing_logged}
+use Rattle.fanout_group.specs.Arrivals.{arrivals_at, arrivals_of}
+use Rattle.fanout_group.specs.Joined.{Logged, attempts_at, nothing_logged}
 use Rattle.fanout_group.specs.Once.{AreOf, IsGroupReport}
 use Rattle.fanout_group.specs.declared.logs.ArrivalLog.{ArrivalLog}
 use Rattle.fanout_group.specs.declared.runs.CpuLog.{CpuLog}
@@ -24,7 +24,7 @@ use Rattle.replay_model.specs.Reported.{closed_of}
 use Rattle.replay_model.specs.Reports.{IsRingReport, logged_of, notes_of}
 use Rattle.replay_model.specs.declared.reports.Closed.{Closed}
 use Rattle.setup_text.specs.declared.reports.MemberReport.{MemberReport}
-use Rattle.tap_engine.specs.Reporting.{AreKeptWhole, member_by}
+use Rattle.tap_engine.specs.Reporting.{member_by}
 use Rattle.tap_engine.specs.Runs.{IsMember, IsReport, group, member_of}
 use Rattle.tap_engine.proofs.Kept.{IsKept, IsOf, IsWhole, arrivals_whole, attempts_of, kept_are}
 

@@ -1,6 +1,6 @@
 -- A run that was made, from its parts.
 use Rattle.std.proofs.Common.{◌≡◌, ℕ, List, [], ◌∷◌, inl, inr, refl, sym, ap, subst, ◌∙◌}
-use Rattle.std.specs.Prelude.{Option, Result, Ok, Err, IfOk, ◌⊎◌}
+use Rattle.std.specs.Prelude.{Option, Result, Ok, Err, IfOk}
 use Rattle.capture_file.specs.Capture.{frames_of}
 use Rattle.fanout_group.specs.Arrivals.{arrivals_of}
 use Rattle.fanout_group.specs.declared.runs.CpuEnd.{CpuEnd}

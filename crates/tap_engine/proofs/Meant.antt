@@ -1,11 +1,10 @@
 -- The names that a command reads and saves are meant, where its setup is accepted.
-use Rattle.std.proofs.Common.{◌≡◌, ℕ, ◌≤◌, Bool, true, false, cond, List, [], ◌∷◌, length, Option, None, Some, refl, sym, ap, subst, ◌∙◌}
-use Rattle.std.specs.Prelude.{IsTrue, if◌then◌else◌, unwrap_or, nat_le}
+use Rattle.std.proofs.Common.{◌≡◌, ℕ, ◌≤◌, Bool, true, false, List, length, Option, None, Some, refl, sym, ap, subst, ◌∙◌}
+use Rattle.std.specs.Prelude.{IsTrue, if◌then◌else◌}
 use Rattle.std.specs.List.{AllByRecursion}
 use Rattle.std.proofs.lemmas.Bool.{leb-true}
 use Rattle.setup_text.specs.declared.setups.Setup.{Setup}
 use Rattle.tap_outside.specs.Contents.{Contents}
-use Rattle.tap_reading.specs.Fronts.{IsTextOf}
 use Rattle.tap_engine.specs.Commands.{Named}
 use Rattle.tap_engine.specs.Jobs.{IsAccepted}
 use Rattle.tap_engine.specs.Names.{AreMeant, names_to_read, names_to_save, output_name, read_by, saved_by, setup_held}

@@ -1,10 +1,9 @@
 -- The replay of one CPU and one member: what is reported of it, and what that is worth.
-use Rattle.std.proofs.Common.{◌≡◌, ℕ, zero, suc, ◌+◌, ◌-◌, ◌<◌, ◌≤◌, false, List, [], ◌∷◌, length, refl, sym, ap, subst, ◌∙◌, arith}
-use Rattle.std.specs.Prelude.{Option, None, Some, All, map, slice_get, slice_index_or, IfSome, IsTrue}
+use Rattle.std.proofs.Common.{◌≡◌, ℕ, ◌<◌, ◌≤◌, false, List, [], ◌∷◌, length, sym, ap, subst, ◌∙◌, arith}
+use Rattle.std.specs.Prelude.{Option, None, All, map, slice_get, slice_index_or, IfSome, IsTrue}
 use Rattle.std.specs.List.{AllByRecursion}
 use Rattle.std.proofs.lemmas.List.{length-map}
 use Rattle.frame_view.specs.declared.frames.Frame.{Frame}
-use Rattle.frame_view.specs.declared.frames.Packet.{Packet}
 use Rattle.capture_file.specs.Capture.{frames_of}
 use Rattle.capture_file.specs.Laws.{IsNumbered}
 use Rattle.fanout_group.specs.Arrivals.{arrivals_at, arrivals_of}
@@ -15,20 +14,17 @@ use Rattle.fanout_group.specs.declared.modes.Mode.TheVariants.{Cpu}
 use Rattle.fanout_group.specs.declared.runs.CpuEnd.{CpuEnd}
 use Rattle.fanout_group.specs.declared.runs.CpuLog.{CpuLog}
 use Rattle.ring_model.specs.Fates.{kept_of}
-use Rattle.ring_model.specs.Offers.{packet_of}
 use Rattle.ring_model.specs.Ring.{Size}
-use Rattle.replay_model.specs.Replay.{Replay, replayed}
+use Rattle.replay_model.specs.Replay.{replayed}
 use Rattle.replay_model.specs.Reported.{closed_of, reported}
 use Rattle.replay_model.specs.Reports.{AreArrivals, IsReplayReport, IsSchedule}
 use Rattle.replay_model.specs.declared.reports.Closed.{Closed}
 use Rattle.replay_model.specs.declared.reports.Replayed.{Replayed}
 use Rattle.replay_model.specs.declared.rules.PlainRules.{PlainRules}
-use Rattle.replay_model.specs.declared.rules.RingSize.{RingSize}
 use Rattle.replay_model.specs.declared.schedule.Line.{Line}
 use Rattle.setup_text.specs.Requests.{can_be_had, room_of}
 use Rattle.setup_text.specs.declared.setups.Setup.{Setup}
 use Rattle.setup_text.specs.declared.reports.MemberReport.{MemberReport}
-use Rattle.tap_reading.specs.declared.captures.Capture.{Capture}
 use Rattle.tap_engine.specs.Reporting.{AreKeptWhole, IsPlainSchedule, IsReadAs, alone, member_by}
 use Rattle.tap_engine.specs.Runs.{IsReport, arriving, group, log_of, member_of, replay_of, report_of, size_of_setup}
 use Rattle.tap_engine.proofs.Kept.{IsKept}

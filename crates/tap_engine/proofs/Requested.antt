@@ -1,12 +1,11 @@
 -- An accepted setup asks for rings that can be had.
-use Rattle.std.proofs.Common.{◌≡◌, ℕ, ◌+◌, ◌-◌, ◌*◌, ◌/◌, ◌%◌, ◌≤◌, Bool, true, false, cond, List, length, Option, None, Some, refl, sym, ap, subst, ◌∙◌, arith}
-use Rattle.std.specs.Prelude.{if◌then◌else◌, nat_le, not, ◌&&◌, ◌==◌, IsTrue}
-use Rattle.std.proofs.lemmas.Bool.{leb-true, eqb-true, and_parts}
+use Rattle.std.proofs.Common.{◌≡◌, ℕ, ◌≤◌, Bool, true, false, List, Option, None, Some, refl, ap, subst, arith}
+use Rattle.std.specs.Prelude.{if◌then◌else◌, nat_le, IsTrue}
+use Rattle.std.proofs.lemmas.Bool.{leb-true, and_parts}
 use Rattle.setup_text.specs.Requests.{can_be_had, has_blocks, room_of}
 use Rattle.setup_text.specs.Setups.{◌>>=◌, file_in, request_in, setup_in}
 use Rattle.setup_text.specs.declared.requests.RingRequest.{RingRequest}
 use Rattle.setup_text.specs.declared.setups.Setup.{Setup}
-use Rattle.replay_model.specs.Plain.{IsRoom}
 use Rattle.tap_engine.specs.Runs.{accepted_setup, is_text}
 
 abbrev request_or : RingRequest → Option Setup → RingRequest

@@ -1,13 +1,13 @@
 -- A schedule in its narrow form has no ticks.
-use Rattle.std.proofs.Common.{◌≡◌, ℕ, zero, suc, ◌≤◌, Bool, true, false, cond, List, [], ◌∷◌, length, Option, None, Some, refl, sym, ap, subst, ◌∙◌, arith}
-use Rattle.std.specs.Prelude.{codes, nat_eq, nat_le, if◌then◌else◌, drop}
+use Rattle.std.proofs.Common.{◌≡◌, ℕ, zero, suc, Bool, true, false, List, [], ◌∷◌, length, Option, None, Some, subst}
+use Rattle.std.specs.Prelude.{codes, nat_eq, if◌then◌else◌, drop}
 use Rattle.std.specs.List.{AllByRecursion, starts_with}
 use Rattle.std.proofs.lemmas.List.Elements.{All-from_recursion}
 use Rattle.replay_model.specs.Plain.{IsTimely}
-use Rattle.replay_model.specs.Reports.{IsSchedule, AreAscending}
+use Rattle.replay_model.specs.Reports.{AreAscending}
 use Rattle.replay_model.specs.declared.schedule.Line.{Line}
 use Rattle.replay_model.specs.declared.schedule.Line.TheVariants.{Feed, Read, Tick, Stats}
-use Rattle.setup_text.specs.Schedules.{lines_within, schedule_in, schedule_line_in}
+use Rattle.setup_text.specs.Schedules.{lines_within, schedule_in}
 use Rattle.setup_text.specs.Setups.{◌>>=◌}
 use Rattle.tap_engine.specs.Reporting.{IsPlainSchedule}
 use Rattle.tap_engine.specs.Runs.{accepted_schedule, is_text}

@@ -1,5 +1,5 @@
 -- A command that nothing is wrong with.
-use Rattle.std.specs.Prelude.{◌≡◌, ◌≢◌, ◌⊎◌, ℕ, List, [], Option, None, Some, unwrap_or, IfSome}
+use Rattle.std.specs.Prelude.{◌≡◌, ◌⊎◌, List, [], Option, None, Some, unwrap_or, IfSome}
 use Rattle.capture_file.specs.Capture.{end_of}
 use Rattle.replay_model.specs.declared.schedule.Line.{Line}
 use Rattle.setup_text.specs.declared.reports.RunReport.{RunReport}

@@ -1,5 +1,5 @@
 -- The headline: what a report is worth.
-use Rattle.std.specs.Prelude.{◌≡◌, ℕ, List, [], ◌∷◌, length, Option, Some}
+use Rattle.std.specs.Prelude.{◌≡◌, ℕ, List, [], ◌∷◌, Option, Some}
 use Rattle.tap_outside.specs.Contents.{Contents}
 use Rattle.capture_file.specs.Capture.{frames_of, end_of}
 use Rattle.fanout_group.specs.Arrivals.{arrivals_of}

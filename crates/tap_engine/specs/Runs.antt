@@ -1,14 +1,12 @@
 -- What a run of a setup and a schedule reports of a capture.
-use Rattle.std.specs.Prelude.{◌≡◌, ℕ, Bool, false, List, [], ◌∷◌, length, map, nat_le, if◌then◌else◌, Option, None, Some, All}
+use Rattle.std.specs.Prelude.{◌≡◌, ℕ, Bool, false, List, [], ◌∷◌, length, map, nat_le, if◌then◌else◌, Option, None, All}
 use Rattle.capture_file.specs.Capture.{frames_of}
 use Rattle.frame_view.specs.declared.frames.Frame.{Frame}
-use Rattle.frame_view.specs.declared.frames.Packet.{Packet}
 use Rattle.ring_model.specs.Fates.{kept_of}
 use Rattle.ring_model.specs.Offers.{packet_of}
 use Rattle.ring_model.specs.Ring.{Size, IsWholeRun, state_of}
 use Rattle.ring_model.specs.Rings.{Ring, state}
-use Rattle.ring_model.specs.declared.notes.Note.{Note}
-use Rattle.fanout_group.specs.Arrivals.{arrivals_at, arrivals_of}
+use Rattle.fanout_group.specs.Arrivals.{arrivals_at}
 use Rattle.fanout_group.specs.Joined.{Logged}
 use Rattle.fanout_group.specs.Once.{IsGroupReport}
 use Rattle.fanout_group.specs.Rules.{Rules}

@@ -1,13 +1,8 @@
-use Rattle.std.proofs.Common.{◌≡◌, ℕ, List, refl, sym, ap, subst, ◌∙◌}
-use Rattle.std.specs.Prelude.{Option, OnOk}
-use Rattle.std.specs.Io.KnownBytes.{Appends}
+use Rattle.std.proofs.Common.{◌≡◌, ap, ◌∙◌}
 use Rattle.setup_text.specs.declared.reports.RunReport.{RunReport}
 use Rattle.capture_file.specs.Output.{output_of}
-use Rattle.tap_outside.specs.Contents.{HoldsFile}
-use Rattle.tap_outside.specs.Sinks.{AppendsFront}
 use Rattle.tap_printing.specs.Lines.{summary_of}
 use Rattle.tap_engine.specs.Expected.{printed_size}
-use Rattle.tap_engine.specs.Names.{output_name}
 use Rattle.tap_engine.specs.Reporting.{alone}
 use Rattle.tap_engine.proofs.Concluded.{concluded_by}
 use Rattle.tap_engine.proofs.concluding.conclude.Goals as goal

@@ -1,6 +1,6 @@
-use Rattle.std.proofs.Common.{◌≡◌, ◌++◌, ℕ, List, [], ◌∷◌, length, refl, sym, ap, subst, ◌∙◌}
+use Rattle.std.proofs.Common.{◌++◌, List, [], ◌∷◌, length, sym, ap, ◌∙◌}
 use Rattle.frame_view.specs.declared.frames.Frame.{Frame}
-use Rattle.tap_engine.proofs.Replayed.{Laws, Ran, are_small, are_whole, is_report, is_worth, one_log, one_member, ran_as}
+use Rattle.tap_engine.proofs.Replayed.{Laws, are_small, are_whole, is_report, is_worth, one_log, one_member, ran_as}
 use Rattle.tap_engine.proofs.reporting.report.Goals as goal
 
 pub only-arrivals-requires-clause-logs : goal.only-arrivals-requires-clause-logs

@@ -1,4 +1,4 @@
-use Rattle.std.proofs.Common.{◌≡◌, List, refl, sym, ap, subst}
+use Rattle.std.proofs.Common.{ap, subst}
 use Rattle.std.specs.Prelude.{Option}
 use Rattle.tap_outside.specs.Counts.{Rose}
 use Rattle.tap_engine.specs.Commands.{Named}
