@@ -13,6 +13,3 @@ mod walking;
 
 pub use outcomes::{Input, Outcome, Status};
 pub use running::run_plain;
-
-#[cfg(test)]
-mod tests;

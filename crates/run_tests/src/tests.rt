@@ -3,11 +3,11 @@
 //! which need 1,600 bytes each, and for 28 of 60 bytes, which need 144.
 ghost use Rattle.std.specs.Prelude.{◌≤◌};
 
-use crate::{Input, Outcome, Status, run_plain};
 use capture_file::CaptureError;
 use frame_view::{Memory, MomentList};
 use std::alloc::Global;
 use std::test::Fail;
+use tap_engine::{Input, Outcome, Status, run_plain};
 use tap_outside::{MemSink, MemStore, Sink, Store, SureStore, Word};
 
 const SETUP: &[u8] = b"block_size 4096\nblock_nr 2\nframe_size 2048\nframe_nr 4\ncpu a.pcap\n";
@@ -34,11 +34,11 @@ fn push_record(bytes: &mut Vec<u8>, length: u32, frame: &[u8]) -> Result<(), Mem
     Ok(())
 }
 
-/// A capture of frames of so many bytes.
+/// A capture of frames of so many bytes, each of which is the number of its frame.
 fn capture(alloc: Global, lengths: &[u16]) -> Result<Vec<u8>, Memory> {
     let mut bytes = header(alloc)?;
-    for length in lengths {
-        let frame = vec![in alloc; 7; usize::from(*length)]?;
+    for (number, length) in lengths.iter().enumerate() {
+        let frame = vec![in alloc; u8::try_from(number).unwrap_or(0); usize::from(*length)]?;
         push_record(&mut bytes, u32::from(*length), frame.as_slice())?;
     }
     Ok(bytes)
@@ -133,26 +133,57 @@ fn run_sure(alloc: Global, schedule: &[u8], capture: &[u8]) -> Result<(Status, V
     Ok((outcome.status, printed))
 }
 
-/// A run of whole frames: their lengths, the schedule, the lengths that were kept, the lines, and how long the
-/// output file is.
+/// A run of whole frames: their lengths, the schedule, the frames that were kept with how many bytes of each, and
+/// the lines.
 #[derive(Clone, Copy)]
 struct Row<'a> {
     lengths: &'a [u16],
     schedule: &'a [u8],
-    kept: &'a [usize],
+    kept: &'a [(u8, u32)],
     lines: &'a str,
-    output: usize,
 }
+
+/// Twenty-nine frames of 60 bytes.
+const SMALL: [(u8, u32); 29] = [
+    (0, 60),
+    (1, 60),
+    (2, 60),
+    (3, 60),
+    (4, 60),
+    (5, 60),
+    (6, 60),
+    (7, 60),
+    (8, 60),
+    (9, 60),
+    (10, 60),
+    (11, 60),
+    (12, 60),
+    (13, 60),
+    (14, 60),
+    (15, 60),
+    (16, 60),
+    (17, 60),
+    (18, 60),
+    (19, 60),
+    (20, 60),
+    (21, 60),
+    (22, 60),
+    (23, 60),
+    (24, 60),
+    (25, 60),
+    (26, 60),
+    (27, 60),
+    (28, 60),
+];
 
 const ROWS: [Row<'static>; 7] = [
     Row {
         lengths: &[60; 3],
         schedule: b"feed 0\nfeed 0\nfeed 0\n",
-        kept: &[60; 3],
+        kept: &[(0, 60), (1, 60), (2, 60)],
         lines: "cpu 0 frames 3 arrivals 3 end ok\n\
                 member 0 packets 3 drops 0 freezes 0 blocks 1\n\
                 total arrivals 3 filtered 0 kept 3 drops 0\n",
-        output: 252,
     },
     Row {
         lengths: &[],
@@ -161,54 +192,88 @@ const ROWS: [Row<'static>; 7] = [
         lines: "cpu 0 frames 0 arrivals 0 end ok\n\
                 member 0 packets 0 drops 0 freezes 0 blocks 0\n\
                 total arrivals 0 filtered 0 kept 0 drops 0\n",
-        output: 24,
     },
     Row {
         lengths: &[1514; 7],
         schedule: b"",
-        kept: &[1514; 4],
+        kept: &[(0, 1514), (1, 1514), (2, 1514), (3, 1514)],
         lines: "cpu 0 frames 7 arrivals 7 end ok\n\
                 member 0 packets 7 drops 3 freezes 1 blocks 2\n\
                 total arrivals 7 filtered 0 kept 4 drops 3\n",
-        output: 6144,
     },
     Row {
         lengths: &[1514; 7],
         schedule: b"feed 0\nfeed 0\nfeed 0\nfeed 0\nfeed 0\nread 0\nfeed 0\nfeed 0\n",
-        kept: &[1514; 6],
+        kept: &[
+            (0, 1514),
+            (1, 1514),
+            (2, 1514),
+            (3, 1514),
+            (5, 1514),
+            (6, 1514),
+        ],
         lines: "cpu 0 frames 7 arrivals 7 end ok\n\
                 member 0 packets 7 drops 1 freezes 1 blocks 3\n\
                 total arrivals 7 filtered 0 kept 6 drops 1\n",
-        output: 9204,
     },
     Row {
         lengths: &[60; 29],
         schedule: b"",
-        kept: &[60; 29],
+        kept: &SMALL,
         lines: "cpu 0 frames 29 arrivals 29 end ok\n\
                 member 0 packets 29 drops 0 freezes 0 blocks 2\n\
                 total arrivals 29 filtered 0 kept 29 drops 0\n",
-        output: 2228,
     },
     Row {
         lengths: &[9000],
         schedule: b"",
-        kept: &[3966],
+        kept: &[(0, 3966)],
         lines: "cpu 0 frames 1 arrivals 1 end ok\n\
                 member 0 packets 1 drops 0 freezes 0 blocks 1\n\
                 total arrivals 1 filtered 0 kept 1 drops 0\n",
-        output: 4006,
     },
     Row {
         lengths: &[3966; 2],
         schedule: b"",
-        kept: &[3966; 2],
+        kept: &[(0, 3966), (1, 3966)],
         lines: "cpu 0 frames 2 arrivals 2 end ok\n\
                 member 0 packets 2 drops 0 freezes 0 blocks 2\n\
                 total arrivals 2 filtered 0 kept 2 drops 0\n",
-        output: 7988,
     },
 ];
+
+/// The output file of frames that were kept: in nanoseconds, each with its length on the wire.
+fn output(alloc: Global, row: Row) -> Result<Vec<u8>, Memory> {
+    let mut bytes = Vec::new(alloc);
+    bytes.extend_from_slice(&[0x4d, 0x3c, 0xb2, 0xa1, 2, 0, 4, 0, 0, 0, 0, 0, 0, 0, 0, 0])?;
+    bytes.extend_from_slice(&[0, 0, 4, 0, 1, 0, 0, 0])?;
+    for (number, kept) in row.kept {
+        let wire = row.lengths.get(usize::from(*number)).copied().unwrap_or(0);
+        for number in [1, 2_000, *kept, u32::from(wire)] {
+            bytes.extend_from_slice(&field(number))?;
+        }
+        let frame = vec![in alloc; *number; *kept as usize]?;
+        bytes.extend_from_slice(frame.as_slice())?;
+    }
+    Ok(bytes)
+}
+
+#[test]
+fn rings_fill_drop_thaw_and_cut(rt: HostRuntime) -> Result<(), Fail> {
+    for row in ROWS {
+        let alloc = rt.alloc();
+        let bytes = capture(alloc, row.lengths)?;
+        let output = output(alloc, row)?;
+        let ran = run(alloc, row.schedule, bytes.as_slice(), NONE)?;
+        assert_eq!(rt; ran.outcome.status, Status::Fine, "{}", row.lines);
+        assert_eq!(rt; ran.printed.as_slice(), row.lines.as_bytes());
+        assert_eq!(rt; ran.saved.as_slice(), output.as_slice());
+        let (status, printed) = run_sure(alloc, row.schedule, bytes.as_slice())?;
+        assert_eq!(rt; status, Status::Fine, "{}", row.lines);
+        assert_eq!(rt; printed.as_slice(), row.lines.as_bytes());
+    }
+    Ok(())
+}
 
 /// How many bytes were kept of each packet of member 0.
 fn kept(alloc: Global, outcome: &Outcome) -> Result<Vec<usize>, Memory> {
@@ -221,39 +286,6 @@ fn kept(alloc: Global, outcome: &Outcome) -> Result<Vec<usize>, Memory> {
         }
     }
     Ok(lengths)
-}
-
-#[test]
-fn rings_fill_drop_thaw_and_cut(rt: HostRuntime) -> Result<(), Fail> {
-    for row in ROWS {
-        let alloc = rt.alloc();
-        let bytes = capture(alloc, row.lengths)?;
-        let ran = run(alloc, row.schedule, bytes.as_slice(), NONE)?;
-        assert_eq!(rt; ran.outcome.status, Status::Fine, "{}", row.lines);
-        assert_eq!(rt; ran.printed.as_slice(), row.lines.as_bytes());
-        assert_eq!(rt; ran.saved.len(), row.output, "{}", row.lines);
-        let kept = kept(alloc, &ran.outcome)?;
-        assert_eq!(rt; kept.as_slice(), row.kept, "{}", row.lines);
-        let (status, printed) = run_sure(alloc, row.schedule, bytes.as_slice())?;
-        assert_eq!(rt; status, Status::Fine, "{}", row.lines);
-        assert_eq!(rt; printed.as_slice(), row.lines.as_bytes());
-    }
-    Ok(())
-}
-
-#[test]
-fn an_output_has_its_packets_in_nanoseconds(rt: HostRuntime) -> Result<(), Fail> {
-    let bytes = capture(rt.alloc(), &[60])?;
-    let ran = run(rt.alloc(), b"", bytes.as_slice(), NONE)?;
-    let mut expected = Vec::new(rt.alloc());
-    expected.extend_from_slice(&[0x4d, 0x3c, 0xb2, 0xa1, 2, 0, 4, 0, 0, 0, 0, 0, 0, 0, 0, 0])?;
-    expected.extend_from_slice(&[0, 0, 4, 0, 1, 0, 0, 0])?;
-    for number in [1, 2_000, 60, 60] {
-        expected.extend_from_slice(&field(number))?;
-    }
-    expected.extend_from_slice(&[7; 60])?;
-    assert_eq!(rt; ran.saved.as_slice(), expected.as_slice());
-    Ok(())
 }
 
 #[test]
