@@ -10,3 +10,4 @@ pub mod Reporting
 pub mod Concluding
 pub mod Making
 pub mod Complete
+pub mod Numbers

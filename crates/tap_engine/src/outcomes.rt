@@ -1,4 +1,7 @@
 //! What a call answers.
+ghost use Rattle.std.specs.Prelude.{◌≡◌};
+ghost use Rattle.tap_engine.specs.Numbers.{number_of};
+
 use capture_file::CaptureError;
 use setup_text::RunReport;
 
@@ -32,7 +35,9 @@ pub enum Status {
 
 impl Status {
     /// The number of the status, with which the program ends.
-    pub fn number(&self) -> u8 {
+    pub fn number(&self) -> u8
+        ensures { result ≡ number_of self.now }
+    {
         match self {
             Status::Fine => 0,
             Status::Usage => 1,
