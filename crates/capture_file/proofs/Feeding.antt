@@ -1,6 +1,6 @@
 -- A feed brings a decoder from standing for some bytes to standing for them and the piece.
 use Rattle.std.proofs.Common.{◌≡◌, ℕ, zero, suc, ◌+◌, ◌*◌, ◌-◌, ◌≤◌, ◌<◌, Bool, true, false, List, [], ◌∷◌, ◌++◌, length, take, drop, refl, sym, ap, subst, ◌∙◌, inl, inr, arith, append_assoc, zero-add}
-use Rattle.std.specs.Prelude.{◌⊎◌, ◌≢◌, nat_lt, Option, None, Some, Result, Ok, Err}
+use Rattle.std.specs.Prelude.{◌⊎◌, ◌≢◌, nat_lt, Option, None, Some, IsSome, Result, Ok, Err}
 use Rattle.std.proofs.lemmas.Bool.{cases_Bool, both_ways, cases_lt, le-ltb, lt-ltb, ltb-true, ltb-false}
 use Rattle.std.proofs.lemmas.List.{append-nil, length-append, length-drop, length-take, take-append-drop, take-append-le, take_all, drop_at, drop_all, drop-drop, drop-append-le}
 use Rattle.frame_view.specs.declared.frames.Frame.{Frame}
@@ -155,3 +155,7 @@ stays number bytes more damage e =
       | inl less ↦ let none = (short number bytes less).damage in absurd (cc (e, none))
       | inr full ↦ stays_behind number bytes more damage (header_of bytes) full refl e
     ]
+
+pub stays_frames : (number : ℕ) (bytes more : List ℕ) (damage : Option CaptureError) → damage_of bytes ≡ damage → IsSome damage → frames_of number (bytes ++ more) ≡ frames_of number bytes
+stays_frames number bytes more (Some damage) e some = (stays number bytes more damage e).frames
+stays_frames number bytes more None e some = absurd cc

@@ -5,4 +5,7 @@ pub mod Whole
 pub mod Feeding
 pub mod Settling
 pub mod Ending
+pub mod Frames
+pub mod Damage
+pub mod ReadBack
 pub mod Vectors

@@ -204,7 +204,7 @@ read_from-step cpu format next frames bytes w =
 -- where reading came to accounts for each byte, and each record has at least 16
 pub record Accounts (order : Order) (next : Place) (bytes : List ℕ) (reached : Reached) : Type 0 where
   pub stop : reached.next.stop + length reached.left ≡ next.stop + length bytes
-  pub index : 16 * next.index ≤ next.stop → 16 * reached.next.index ≤ reached.next.stop
+  pub count : 16 * reached.next.index + next.stop ≤ reached.next.stop + 16 * next.index
   pub part : begins_whole order reached.left ≡ false
 
 accounts_within : (most cpu : ℕ) (format : Format) (next : Place) (frames : List Frame) (bytes : List ℕ) → length bytes ≤ most
@@ -212,7 +212,7 @@ accounts_within : (most cpu : ℕ) (format : Format) (next : Place) (frames : Li
 accounts_within zero cpu format next frames bytes h =
     elim (cases_Bool (begins_whole format.order bytes)) [
       | inl w ↦ absurd (omega (arith, (whole_has format.order bytes w).header))
-      | inr not ↦ rw (read_from-none cpu format next frames bytes not) (record { stop = refl; index = λ i. i; part = not })
+      | inr not ↦ rw (read_from-none cpu format next frames bytes not) (record { stop = refl; count = omega arith; part = not })
     ]
 accounts_within (suc most) cpu format next frames bytes h =
     elim (cases_Bool (begins_whole format.order bytes)) [
@@ -224,10 +224,10 @@ accounts_within (suc most) cpu format next frames bytes h =
           let rest = accounts_within most cpu format (place_behind next (take size bytes)) (frames ++ frame_of_record cpu format next.index (take size bytes) ∷ []) (drop size bytes) (omega (arith, has.here)) in
           rw (read_from-step cpu format next frames bytes w) (record {
             stop = omega (arith, rest.stop, has.here);
-            index = λ i. rest.index (omega arith);
+            count = omega (arith, rest.count, has.header);
             part = rest.part;
           })
-      | inr not ↦ rw (read_from-none cpu format next frames bytes not) (record { stop = refl; index = λ i. i; part = not })
+      | inr not ↦ rw (read_from-none cpu format next frames bytes not) (record { stop = refl; count = omega arith; part = not })
     ]
 
 pub accounts : (cpu : ℕ) (format : Format) (next : Place) (frames : List Frame) (bytes : List ℕ) → Accounts format.order next bytes (read_from cpu format next frames bytes)

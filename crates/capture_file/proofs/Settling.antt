@@ -150,7 +150,7 @@ settles_begun number fed piece before after progress kept taken beyond less part
 -- ---- from a decoder that waits for a record
 
 -- the place of a capture that isn't damaged, and the bytes from there on, are all its bytes
-stop_accounts : (number : ℕ) (format : Format) (bytes : List ℕ) → 24 ≤ length bytes → header_of bytes ≡ Ok format → damage_of bytes ≡ None
+pub stop_accounts : (number : ℕ) (format : Format) (bytes : List ℕ) → 24 ≤ length bytes → header_of bytes ≡ Ok format → damage_of bytes ≡ None
     → stop_of bytes + length (drop (stop_of bytes) bytes) ≡ length bytes
 stop_accounts number format bytes full passed none =
     let told = undamaged format bytes full passed none in

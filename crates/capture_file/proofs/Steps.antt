@@ -108,11 +108,11 @@ completes_record_if order old new piece behind last now (Err e) part n b header 
 
 -- ---- going on
 
-empty_not_whole : (order : Order) → begins_whole order [] ≡ false
+pub empty_not_whole : (order : Order) → begins_whole order [] ≡ false
 unfolding begins_whole
 empty_not_whole order = refl
 
-empty_not_oversized : (order : Order) → begins_oversized order [] ≡ false
+pub empty_not_oversized : (order : Order) → begins_oversized order [] ≡ false
 unfolding begins_oversized
 empty_not_oversized order = refl
 
@@ -293,7 +293,7 @@ pub comes_sound : (cpu : ℕ) (format : Format) (next : Place) (frames : List Fr
 comes_sound cpu format next frames bytes progress kept appended bound count h =
     let reached = read_from cpu format next frames bytes in
     let told = accounts cpu format next frames bytes in
-    let counts = told.index count in
+    let counts : 16 * reached.next.index ≤ reached.next.stop = omega (arith, told.count) in
     elim (cases_Bool (begins_oversized format.order reached.left)) [
       | inl over ↦
           let stage : progress.stage ≡ Damaged (BadLength reached.next.stop) = h.stage ∙ stage_oversized format reached.next.stop reached.left over in

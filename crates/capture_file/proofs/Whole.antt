@@ -39,7 +39,7 @@ all_of number bytes = record {
   left = drop (stop_of bytes) (counted bytes);
 }
 
-length-frames_from : (number : ℕ) (format : Format) (index : ℕ) (records : List (List ℕ)) → length (frames_from number format index records) ≡ length records
+pub length-frames_from : (number : ℕ) (format : Format) (index : ℕ) (records : List (List ℕ)) → length (frames_from number format index records) ≡ length records
 length-frames_from number format index [] = refl
 length-frames_from number format index (r ∷ records) = ap suc (length-frames_from number format (index + 1) records)
 

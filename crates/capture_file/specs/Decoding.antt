@@ -1,5 +1,6 @@
 -- What a decoder stands for: the bytes that it was fed.
-use Rattle.std.specs.Prelude.{◌≡◌, ℕ, nat_lt, if◌then◌else◌, List, [], length, drop, Option, None, Some, Result, Ok, Err, ⊤}
+use Rattle.std.specs.Result.{result_err}
+use Rattle.std.specs.Prelude.{◌≡◌, ℕ, nat_lt, if◌then◌else◌, List, [], ◌++◌, length, drop, Option, None, Some, Result, Ok, Err, ⊤}
 use Rattle.frame_view.specs.declared.frames.Frame.{Frame}
 use Rattle.capture_file.specs.declared.error.CaptureError.{CaptureError}
 use Rattle.capture_file.specs.declared.error.CaptureError.TheVariants as errors
@@ -8,7 +9,7 @@ use Rattle.capture_file.specs.declared.decoder.Decoder.TheInside.{Inside}
 use Rattle.capture_file.specs.declared.stage.Stage.{Stage}
 use Rattle.capture_file.specs.declared.stage.Stage.TheVariants.{Header, Records, Damaged}
 use Rattle.capture_file.specs.Reading.{IsSoundAt}
-use Rattle.capture_file.specs.Capture.{frames_of, damage_of, stop_of, header_of}
+use Rattle.capture_file.specs.Capture.{frames_of, damage_of, end_of, stop_of, header_of}
 
 -- A decoder: its CPU, what comes next, the place where its kept bytes begin, the number of the next frame, and the kept bytes
 pub record DecoderValue : Type 0 where
@@ -67,3 +68,25 @@ UnlessWanted (errors.BadInterface place) P = P
 abbrev pub UnlessMemory : {X : Type 0} → Result X CaptureError → Type 0 → Type 0
 UnlessMemory (Ok x) P = P
 UnlessMemory (Err error) P = UnlessWanted error P
+
+-- what stood for some bytes before a feed stands for them and the piece after it
+abbrev pub StandsOn : DecoderValue → DecoderValue → List ℕ → Type 0
+StandsOn old new piece = (cpu : ℕ) (fed : List ℕ) → Stands cpu old fed → Stands cpu new (fed ++ piece)
+
+-- a feed appended the frames that are new with the piece
+abbrev pub AppendsNew : DecoderValue → List ℕ → List Frame → List Frame → Type 0
+AppendsNew decoder piece before after =
+    (cpu : ℕ) (fed : List ℕ) → Stands cpu decoder fed
+    → (more : List Frame) × (after ≡ before ++ more) × (frames_of cpu (fed ++ piece) ≡ frames_of cpu fed ++ more)
+
+-- a feed answered the damage of all bytes that were fed, the piece with them
+abbrev pub AnswersDamage : {X : Type 0} → DecoderValue → List ℕ → Result X CaptureError → Type 0
+AnswersDamage decoder piece answer = (cpu : ℕ) (fed : List ℕ) → Stands cpu decoder fed → result_err answer ≡ damage_of (fed ++ piece)
+
+-- the answer is the end of all bytes that were fed
+abbrev pub AnswersEnd : {X : Type 0} → DecoderValue → Result X CaptureError → Type 0
+AnswersEnd decoder answer = (cpu : ℕ) (fed : List ℕ) → Stands cpu decoder fed → result_err answer ≡ end_of fed
+
+-- the number of bytes that are kept of those that were fed
+abbrev pub CountsKept : DecoderValue → ℕ → Type 0
+CountsKept decoder count = (cpu : ℕ) (fed : List ℕ) → Stands cpu decoder fed → count ≡ length (kept_of fed)

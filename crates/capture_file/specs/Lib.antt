@@ -2,3 +2,4 @@ pub mod Capture
 pub mod Output
 pub mod Decoding
 pub mod Reading
+pub mod Laws

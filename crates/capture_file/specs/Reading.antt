@@ -26,6 +26,12 @@ left_in order bytes = drop (length (concat (records_in order bytes))) bytes
 abbrev pub place_behind : Place → List ℕ → Place
 place_behind next bytes = record { stop = next.stop + length bytes; index = next.index + 1 }
 
+-- the bytes are a whole record and what is behind it
+pub record BeginsWith (order : Order) (bytes first behind : List ℕ) : Type 0 where
+  pub whole : begins_whole order bytes ≡ true
+  pub first_is : first ≡ take (record_size order bytes) bytes
+  pub behind_is : behind ≡ drop (record_size order bytes) bytes
+
 -- the frames of the whole records at the front are appended
 unfoldable pub read_from : ℕ → Format → Place → List Frame → List ℕ → Reached
 read_from cpu format next frames bytes = record {

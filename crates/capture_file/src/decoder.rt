@@ -2,10 +2,7 @@
 //!
 //! The header is gathered first. Then each piece completes the record of which bytes are kept, its further whole
 //! records are read where they lie, and what is behind them is kept for the next piece. Damage ends it all.
-ghost use Rattle.std.specs.Prelude.{◌≡◌, ◌≢◌, ℕ, ◌≤◌, List, [], ◌++◌, length, IsErrOf, Err};
-ghost use Rattle.std.specs.Result.{result_err};
-ghost use Rattle.frame_view.specs.declared.frames.Frame.{Frame};
-ghost use Rattle.capture_file.specs.Capture.{frames_of, damage_of, end_of};
+ghost use Rattle.std.specs.Prelude.{◌≡◌, ◌≢◌, ◌≤◌, [], IsErrOf, Err};
 ghost use Rattle.capture_file.specs.Reading.{stage_with};
 
 use crate::CaptureError;
@@ -45,7 +42,7 @@ impl Model for Decoder {
 }
 
 impl Decoder {
-    ghost use Rattle.capture_file.specs.Decoding.{Stands, kept_of, UnlessMemory};
+    ghost use Rattle.capture_file.specs.Decoding.{Stands, StandsOn, AppendsNew, AnswersDamage, AnswersEnd, CountsKept, UnlessMemory};
 
     /// A decoder that nothing was fed to. It takes no memory.
     pub fn new(alloc: Global, cpu: u32) -> Decoder
@@ -65,19 +62,17 @@ impl Decoder {
     /// After `Memory` the decoder and `into` are as before the call.
     pub fn feed(&mut self, piece: &[u8], into: &mut Frames) -> Result<(), CaptureError>
         // The decoder stands for all bytes that it was fed.
-        ensures stands { UnlessMemory result ((cpu : ℕ) (fed : List ℕ) → Stands cpu self.old fed
-            → Stands cpu self.new (fed ++ piece.now)) }
+        ensures stands { UnlessMemory result (StandsOn self.old self.new piece.now) }
 
-        // The frames that are new are appended.
-        ensures frames { UnlessMemory result ((cpu : ℕ) (fed : List ℕ) → Stands cpu self.old fed
-            → (more : List Frame) × (into.new ≡ into.old ++ more) × (frames_of cpu (fed ++ piece.now) ≡ frames_of cpu fed ++ more)) }
+        // The frames that are new are appended, and no others.
+        ensures frames { UnlessMemory result (AppendsNew self.old piece.now into.old into.new) }
 
-        // The error is the damage of all bytes that were fed.
-        ensures damage { UnlessMemory result ((cpu : ℕ) (fed : List ℕ) → Stands cpu self.old fed
-            → result_err result ≡ damage_of (fed ++ piece.now)) }
+        // The error is the damage of all bytes that were fed, and comes exactly where there is one.
+        ensures damage { UnlessMemory result (AnswersDamage self.old piece.now result) }
 
         // After want of memory all is as before.
-        ensures memory { IsErrOf result CaptureError.Memory → (self.new ≡ self.old) × (into.new ≡ into.old) }
+        ensures decoder { IsErrOf result CaptureError.Memory → self.new ≡ self.old }
+        ensures into { IsErrOf result CaptureError.Memory → into.new ≡ into.old }
     {
         let frames = into.len();
         let kept = self.kept.len();
@@ -110,7 +105,7 @@ impl Decoder {
     /// How the capture ends where nothing more comes: its damage, or `Truncated` with the place of the header or
     /// record that isn't whole. It takes no memory and is never `Memory`.
     pub fn end(&self) -> Result<(), CaptureError>
-        ensures end { (cpu : ℕ) (fed : List ℕ) → Stands cpu self.now fed → result_err result ≡ end_of fed }
+        ensures end { AnswersEnd self.now result }
         ensures memory { result ≢ Err CaptureError.Memory }
     {
         match self.stage {
@@ -122,7 +117,7 @@ impl Decoder {
 
     /// The number of bytes that are kept: those behind the last whole record, none after damage. It takes no memory.
     pub fn rest(&self) -> u32
-        ensures kept { (cpu : ℕ) (fed : List ℕ) → Stands cpu self.now fed → result ≡ length (kept_of fed) }
+        ensures kept { CountsKept self.now result }
         ensures few { result ≤ 262159 }
     {
         self.kept.len() as u32

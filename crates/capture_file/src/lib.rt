@@ -4,12 +4,18 @@
 mod decoder;
 mod error;
 mod format;
+mod laws;
 mod output;
 mod reading;
 mod stage;
 
 pub use decoder::Decoder;
 pub use error::CaptureError;
+pub use laws::{
+    an_empty_capture_has_no_frames, damage_is_not_memory, damage_stays, frames_are_captured,
+    frames_are_few, frames_are_numbered, frames_fit, frames_only_grow, output_reads_back,
+    too_many_bytes_are_damage,
+};
 pub use output::pcap_text;
 
 #[cfg(test)]

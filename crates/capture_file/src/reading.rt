@@ -1,7 +1,7 @@
 //! Records read from bytes, in one pass: each whole record's bytes are copied once, into its frame.
 ghost use Rattle.std.specs.Prelude.{◌≡◌, ◌+◌, ◌*◌, ◌-◌, ◌≤◌, ◌<◌, ◌⊎◌, [], ◌++◌, false, true, length, take, drop, IfOk, OnOk, OnErr, IfSome, MatchOption};
 ghost use Rattle.capture_file.specs.Capture.{begins_whole, begins_oversized, record_size, frame_of_record};
-ghost use Rattle.capture_file.specs.Reading.{place_behind, read_from, IsPart, Completes, IsRead, Comes, Begins, Feeds, IsSoundAt, kept_at};
+ghost use Rattle.capture_file.specs.Reading.{BeginsWith, place_behind, read_from, IsPart, Completes, IsRead, Comes, Begins, Feeds, IsSoundAt, kept_at};
 
 use crate::CaptureError;
 use crate::format::{Format, HEADER_SIZE, Order, read_header};
@@ -138,7 +138,8 @@ impl Reader {
         requires count { 16 * next.index ≤ next.stop }
         requires bound { next.stop + length kept.old.items + length piece.now ≤ 33554432 }
         ensures ok { IfOk result (λ progress.
-            Comes self.format (read_from self.cpu self.format next into.old (kept.old.items ++ piece.now)) progress kept.new.items into.new) }
+            Comes self.format (read_from self.cpu self.format next into.old (kept.old.items ++ piece.now))
+            progress kept.new.items into.new) }
         ensures kept { take (length kept.old.items) kept.new.items ≡ kept.old.items }
         ensures frames { take (length into.old) into.new ≡ into.old }
     {
@@ -148,8 +149,8 @@ impl Reader {
         self.read_fresh(next, cut, kept, fresh, into)
     }
 
-    #[tactic(auto, unfolding(crate::specs::Reading::stage_at))]
     /// Reads the whole records of fresh bytes, of which none is kept, and keeps what is behind them.
+    #[tactic(auto, unfolding(crate::specs::Reading::stage_at))]
     fn read_fresh(
         self,
         next: Place,
@@ -162,7 +163,8 @@ impl Reader {
         requires count { 16 * next.index ≤ next.stop }
         requires bound { next.stop + length fresh.now ≤ 33554432 }
         ensures ok { IfOk result (λ progress.
-            IsRead self.format (read_from self.cpu self.format next into.old fresh.now) cut kept.old.items progress kept.new.items into.new) }
+            IsRead self.format (read_from self.cpu self.format next into.old fresh.now) cut
+            kept.old.items progress kept.new.items into.new) }
         ensures kept { take (length kept.old.items) kept.new.items ≡ kept.old.items }
         ensures frames { take (length into.old) into.new ≡ into.old }
     {
@@ -245,9 +247,8 @@ impl Place {
 fn first_record(order: Order, bytes: &[u8]) -> Option<(&[u8], &[u8])>
     ensures size { IfSome result (λ x. 16 ≤ length x.0.now) }
     ensures parts { IfSome result (λ x. length x.0.now + length x.1.now ≡ length bytes.now) }
-    ensures whole { MatchOption result (begins_whole order bytes.now ≡ false) (λ x. (begins_whole order bytes.now ≡ true)
-        × (x.0.now ≡ take (record_size order bytes.now) bytes.now)
-        × (x.1.now ≡ drop (record_size order bytes.now) bytes.now)) }
+    ensures whole { MatchOption result (begins_whole order bytes.now ≡ false)
+        (λ x. BeginsWith order bytes.now x.0.now x.1.now) }
 {
     if bytes.len() < RECORD_HEADER_SIZE {
         return None;
@@ -275,7 +276,8 @@ fn begins_oversized(order: Order, bytes: &[u8]) -> bool
 /// behind that; none where the record is oversized.
 fn complete<'a>(order: Order, kept: &mut Vec<u8>, piece: &'a [u8]) -> Result<&'a [u8], Memory>
     requires { IsPart order kept.old.items }
-    ensures ok { IfOk result (λ fresh. Completes order kept.old.items kept.new.items piece.now fresh.now) }
+    ensures ok { IfOk result (λ fresh.
+        Completes order kept.old.items kept.new.items piece.now fresh.now) }
     ensures fewer { IfOk result (λ fresh.
         length kept.new.items + length fresh.now ≤ length kept.old.items + length piece.now) }
     ensures front { take (length kept.old.items) kept.new.items ≡ kept.old.items }
@@ -296,7 +298,8 @@ fn complete<'a>(order: Order, kept: &mut Vec<u8>, piece: &'a [u8]) -> Result<&'a
 
 /// Appends bytes of the piece to the kept ones until there are `size`, and gives the bytes behind those.
 fn top_up<'a>(kept: &mut Vec<u8>, size: usize, piece: &'a [u8]) -> Result<&'a [u8], Memory>
-    ensures kept { OnOk result (kept.new.items ≡ kept.old.items ++ take (size - length kept.old.items) piece.now) }
+    ensures kept { OnOk result
+        (kept.new.items ≡ kept.old.items ++ take (size - length kept.old.items) piece.now) }
     ensures behind { IfOk result (λ behind. behind.now ≡ drop (size - length kept.old.items) piece.now) }
     ensures err { OnErr result (kept.new.items ≡ kept.old.items) }
 {
@@ -311,7 +314,10 @@ pub(crate) fn cut_front(kept: &mut Vec<u8>, cut: usize)
     requires { cut ≤ length kept.old.items }
     ensures { kept.new.items ≡ drop cut kept.old.items }
 {
-    let left = kept.len() - cut;
-    kept.copy_within(cut.., 0);
-    kept.truncate(left);
+    // Most pieces of a long record cut nothing, and then nothing is to be moved.
+    if cut > 0 {
+        let left = kept.len() - cut;
+        kept.copy_within(cut.., 0);
+        kept.truncate(left);
+    }
 }

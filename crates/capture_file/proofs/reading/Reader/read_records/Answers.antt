@@ -7,7 +7,7 @@ pub loop-record-preserved : goal.loop-record-preserved
 loop-record-preserved c =
     let whole = c.in-Some.ensures.whole in
     record {
-      reads = rw (c.behind-next.ensures, c.in_ok-push.ensures.ok, c.in_ok-frame.ensures) (reads_on c.args.self.cpu c.args.self.format c.loop-record.next c.loop-record.into c.loop-record.rest.now c.in-Some.record.now c.in-Some.behind.now _ whole.0 whole.1 whole.2 c.loop-record.invariant.reads);
+      reads = rw (c.behind-next.ensures, c.in_ok-push.ensures.ok, c.in_ok-frame.ensures) (reads_on c.args.self.cpu c.args.self.format c.loop-record.next c.loop-record.into c.loop-record.rest.now c.in-Some.record.now c.in-Some.behind.now _ whole.whole whole.first_is whole.behind_is c.loop-record.invariant.reads);
       front = rw c.in_ok-push.ensures.ok (front_more c.args.into.now c.loop-record.into _ c.loop-record.invariant.front);
       count = search rules;
       places = search rules;
