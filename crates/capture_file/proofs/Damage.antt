@@ -1,14 +1,14 @@
 -- What the damage and the end of a capture may be.
-use Rattle.std.proofs.Common.{◌≡◌, ℕ, ◌+◌, ◌≤◌, ◌<◌, Bool, true, false, List, [], length, drop, refl, sym, ap, ◌∙◌, inl, inr, arith}
+use Rattle.std.proofs.Common.{◌≡◌, ℕ, ◌≤◌, ◌<◌, List, length, drop, refl, inl, inr, arith}
 use Rattle.std.specs.Prelude.{◌≢◌, nat_lt, Option, None, Some, IsSome, Result, Ok, Err}
 use Rattle.std.specs.Option.{option_or}
-use Rattle.std.proofs.lemmas.Bool.{cases_Bool, both_ways, cases_lt, le-ltb, lt-ltb, ltb-true, ltb-false}
+use Rattle.std.proofs.lemmas.Bool.{cases_Bool, cases_lt, le-ltb, lt-ltb, ltb-false}
 use Rattle.capture_file.specs.declared.error.CaptureError.{CaptureError}
-use Rattle.capture_file.specs.declared.error.CaptureError.TheVariants.{BadLength, Truncated, TooLarge, Memory}
+use Rattle.capture_file.specs.declared.error.CaptureError.TheVariants.{BadLength, TooLarge, Memory}
 use Rattle.capture_file.specs.declared.format.Format.{Format}
 use Rattle.capture_file.specs.Capture.{header_of, counted, begins_oversized, stop_of, damage_of, cut_of, end_of}
 use Rattle.capture_file.proofs.Steps.{header_not_memory}
-use Rattle.capture_file.proofs.Feeding.{IsShort, short, IsRefused, refused, damage_oversized, damage_too_large, damage_none}
+use Rattle.capture_file.proofs.Feeding.{short, refused, damage_oversized, damage_too_large, damage_none}
 
 -- the three ways of a capture behind a good header
 data Ways (bytes : List ℕ) : Type 0 where

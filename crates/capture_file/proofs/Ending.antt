@@ -1,19 +1,18 @@
 -- How a capture ends, by the stage of the decoder that stands for it.
-use Rattle.std.proofs.Common.{◌≡◌, ℕ, ◌+◌, ◌≤◌, ◌<◌, Bool, true, false, List, [], length, drop, refl, sym, ap, ◌∙◌, inl, inr, arith}
-use Rattle.std.specs.Prelude.{◌≢◌, nat_lt, Option, None, Some, Result, Ok, Err}
-use Rattle.std.proofs.lemmas.Bool.{cases_Bool, both_ways, cases_lt, le-ltb, lt-ltb}
+use Rattle.std.proofs.Common.{◌≡◌, ℕ, ◌≤◌, List, [], length, drop, refl, sym, ap, ◌∙◌, inl, inr, arith}
+use Rattle.std.specs.Prelude.{None, Some, Result, Ok, Err}
+use Rattle.std.proofs.lemmas.Bool.{both_ways, cases_lt, le-ltb, lt-ltb}
 use Rattle.std.proofs.lemmas.List.{length-drop, drop_all}
 use Rattle.capture_file.specs.declared.error.CaptureError.{CaptureError}
 use Rattle.capture_file.specs.declared.error.CaptureError.TheVariants.{Truncated}
 use Rattle.capture_file.specs.declared.format.Format.{Format}
-use Rattle.capture_file.specs.declared.format.Order.{Order}
 use Rattle.capture_file.specs.declared.stage.Stage.{Stage}
 use Rattle.capture_file.specs.declared.stage.Stage.TheVariants.{Header, Records, Damaged}
-use Rattle.capture_file.specs.Capture.{header_of, captured, begins_oversized, frames_of, stop_of, damage_of, end_of}
-use Rattle.capture_file.specs.Reading.{error_of, IsPart, IsSoundStage}
+use Rattle.capture_file.specs.Capture.{header_of, captured, stop_of, damage_of, end_of}
+use Rattle.capture_file.specs.Reading.{error_of, IsSoundStage}
 use Rattle.capture_file.specs.Decoding.{stage_of, stage_behind, kept_of, Stands, DecoderValue}
 use Rattle.capture_file.proofs.Records.{has_whole, has_oversized}
-use Rattle.capture_file.proofs.Feeding.{IsShort, short, damage_is_error}
+use Rattle.capture_file.proofs.Feeding.{short, damage_is_error}
 use Rattle.capture_file.proofs.Settling.{kept_none}
 
 -- a decoder that nothing was fed to

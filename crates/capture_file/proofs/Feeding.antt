@@ -1,21 +1,17 @@
 -- A feed brings a decoder from standing for some bytes to standing for them and the piece.
-use Rattle.std.proofs.Common.{◌≡◌, ℕ, zero, suc, ◌+◌, ◌*◌, ◌-◌, ◌≤◌, ◌<◌, Bool, true, false, List, [], ◌∷◌, ◌++◌, length, take, drop, refl, sym, ap, subst, ◌∙◌, inl, inr, arith, append_assoc, zero-add}
-use Rattle.std.specs.Prelude.{◌⊎◌, ◌≢◌, nat_lt, Option, None, Some, IsSome, Result, Ok, Err}
-use Rattle.std.proofs.lemmas.Bool.{cases_Bool, both_ways, cases_lt, le-ltb, lt-ltb, ltb-true, ltb-false}
-use Rattle.std.proofs.lemmas.List.{append-nil, length-append, length-drop, length-take, take-append-drop, take-append-le, take_all, drop_at, drop_all, drop-drop, drop-append-le}
-use Rattle.frame_view.specs.declared.frames.Frame.{Frame}
+use Rattle.std.proofs.Common.{◌≡◌, ℕ, ◌-◌, ◌≤◌, ◌<◌, true, false, List, [], ◌++◌, length, take, drop, refl, sym, ap, ◌∙◌, inl, inr, arith}
+use Rattle.std.specs.Prelude.{nat_lt, Option, None, Some, IsSome, Result, Ok, Err}
+use Rattle.std.proofs.lemmas.Bool.{cases_Bool, cases_lt, le-ltb, lt-ltb, ltb-true}
+use Rattle.std.proofs.lemmas.List.{append-nil, length-append}
 use Rattle.capture_file.specs.declared.error.CaptureError.{CaptureError}
-use Rattle.capture_file.specs.declared.error.CaptureError.TheVariants.{BadLength, Truncated, TooLarge}
+use Rattle.capture_file.specs.declared.error.CaptureError.TheVariants.{BadLength, TooLarge}
 use Rattle.capture_file.specs.declared.format.Format.{Format}
-use Rattle.capture_file.specs.declared.reading.Place.{Place}
-use Rattle.capture_file.specs.declared.reading.Progress.{Progress}
-use Rattle.capture_file.specs.declared.stage.Stage.{Stage}
-use Rattle.capture_file.specs.declared.stage.Stage.TheVariants.{Header, Records, Damaged}
-use Rattle.capture_file.specs.Capture.{header_of, counted, begins_whole, begins_oversized, frames_of, stop_of, damage_of}
-use Rattle.capture_file.specs.Reading.{Reached, read_from, start, first_place, stage_at, stage_with, error_of, Comes, Begins, Feeds}
-use Rattle.capture_file.specs.Decoding.{stage_of, stage_by, stage_behind, kept_of, Stands, DecoderValue}
-use Rattle.capture_file.proofs.Records.{header_of-append, oversized-append, oversized_not_whole, whole_not_oversized, read_from-none, read_from-frames, Accounts, accounts}
-use Rattle.capture_file.proofs.Whole.{counted-append, all_of, all_read_from, all_accounts, all_append}
+use Rattle.capture_file.specs.declared.stage.Stage.TheVariants.{Header, Damaged}
+use Rattle.capture_file.specs.Capture.{header_of, counted, begins_oversized, frames_of, stop_of, damage_of}
+use Rattle.capture_file.specs.Reading.{Reached, stage_at, stage_with, error_of}
+use Rattle.capture_file.specs.Decoding.{stage_of, stage_by, stage_behind}
+use Rattle.capture_file.proofs.Records.{header_of-append, oversized-append, oversized_not_whole, read_from-none}
+use Rattle.capture_file.proofs.Whole.{all_of, all_accounts, all_append}
 
 -- ---- the stage of a capture
 

@@ -1,25 +1,23 @@
 -- What holds of the frames of a capture, by going over its records.
-use Rattle.std.proofs.Common.{◌≡◌, ℕ, zero, suc, ◌+◌, ◌*◌, ◌-◌, ◌^◌, ◌≤◌, ◌<◌, Bool, true, false, List, [], ◌∷◌, ◌++◌, length, get_or, take, drop, refl, sym, ap, subst, ◌∙◌, inl, inr, arith, add-zero, zero-add}
-use Rattle.std.specs.Prelude.{◌⊎◌, ◌≢◌, nat_lt, slice_get, All, Option, None, Some, IfSome, IsSome, Result, Ok, Err}
+use Rattle.std.proofs.Common.{◌≡◌, ℕ, zero, suc, ◌+◌, ◌-◌, ◌^◌, ◌≤◌, ◌<◌, true, List, [], ◌∷◌, ◌++◌, length, get_or, take, drop, refl, sym, ap, subst, ◌∙◌, inl, inr, arith, zero-add}
+use Rattle.std.specs.Prelude.{slice_get, All, IfSome, Result, Ok, Err}
 use Rattle.std.specs.List.{concat, AllByRecursion, sum_by}
-use Rattle.std.proofs.lemmas.Bool.{cases_Bool, both_ways, cases_lt, le-ltb, lt-ltb}
+use Rattle.std.proofs.lemmas.Bool.{cases_Bool, cases_lt, le-ltb}
 use Rattle.std.proofs.lemmas.List.{append-nil, length-append, length-drop, length-take, take-append-drop, get_or-drop, get_or-take, get_or_past, get_or_default}
 use Rattle.std.proofs.lemmas.List.Elements.{All-from_recursion}
 use Rattle.std.proofs.lemmas.List.Sums.{sum_by-cons}
 use Rattle.byteorder.specs.Numbers.{little_from-lt, big_from-lt}
 use Rattle.frame_view.specs.declared.frames.Frame.{Frame}
 use Rattle.capture_file.specs.declared.error.CaptureError.{CaptureError}
-use Rattle.capture_file.specs.declared.error.CaptureError.TheVariants.{BadLength, Truncated, TooLarge, Memory}
 use Rattle.capture_file.specs.declared.format.Format.{Format}
 use Rattle.capture_file.specs.declared.format.Order.{Order}
 use Rattle.capture_file.specs.declared.format.Order.TheVariants.{Little, Big}
-use Rattle.capture_file.specs.declared.reading.Place.{Place}
-use Rattle.capture_file.specs.Capture.{number_at, captured, record_size, begins_whole, begins_oversized, header_of, counted, records_in, frame_of_record, frames_from, frames_of, stop_of, damage_of, end_of}
+use Rattle.capture_file.specs.Capture.{number_at, captured, record_size, begins_whole, header_of, counted, records_in, frame_of_record, frames_from, frames_of}
 use Rattle.capture_file.specs.Reading.{Reached, read_from, first_place}
 use Rattle.capture_file.specs.Laws.{IsNumbered, IsCaptured, FitsFrame}
-use Rattle.capture_file.proofs.Records.{number_at-append, header_of-append, HasRecord, whole_has, length_record, records_in-none, records_in-step, read_from-frames, Accounts, accounts}
-use Rattle.capture_file.proofs.Whole.{all_of, all_read_from, all_accounts, all_append, length-frames_from}
-use Rattle.capture_file.proofs.Feeding.{IsShort, short, IsRefused, refused, damage_oversized, damage_too_large, damage_none}
+use Rattle.capture_file.proofs.Records.{number_at-append, header_of-append, whole_has, length_record, records_in-none, records_in-step, read_from-frames, accounts}
+use Rattle.capture_file.proofs.Whole.{all_of, all_accounts, all_append, length-frames_from}
+use Rattle.capture_file.proofs.Feeding.{short, refused}
 
 -- ---- the frames of a capture are those of its records
 

@@ -1,24 +1,22 @@
 -- An output file is a capture that gives its packets back.
-use Rattle.std.proofs.Common.{◌≡◌, ℕ, zero, suc, ◌+◌, ◌*◌, ◌-◌, ◌^◌, ◌≤◌, ◌<◌, Bool, true, false, List, [], ◌∷◌, ◌++◌, length, take, drop, refl, sym, ap, subst, ◌∙◌, inl, inr, arith, append_assoc, zero-add}
-use Rattle.std.specs.Prelude.{◌≢◌, min, max, nat_lt, Option, None, Some, Result, Ok, Err}
-use Rattle.std.specs.Option.{option_or}
+use Rattle.std.proofs.Common.{◌≡◌, ℕ, ◌+◌, ◌*◌, ◌^◌, ◌≤◌, ◌<◌, true, List, [], ◌∷◌, ◌++◌, length, take, drop, refl, sym, ap, subst, ◌∙◌, inl, inr, arith, append_assoc}
+use Rattle.std.specs.Prelude.{min, max, Option, None, Some, Ok}
 use Rattle.std.specs.List.{flat_map, AllByRecursion}
-use Rattle.std.proofs.lemmas.Bool.{cases_Bool, both_ways, cases_lt, le-ltb, lt-ltb}
-use Rattle.std.proofs.lemmas.List.{append-nil, length-append, length-drop, length-take, take-append-drop, take_at, take_all, drop_at, drop-drop, drop-append-le}
+use Rattle.std.proofs.lemmas.Bool.{cases_lt, le-ltb, lt-ltb}
+use Rattle.std.proofs.lemmas.List.{append-nil, length-append, length-drop, length-take, take_at, take_all, drop_at, drop-drop}
 use Rattle.byteorder.specs.Numbers.{little_number-reads_back, length-bytes_low_first}
 use Rattle.frame_view.specs.Vlan.{with_tag, frame_of}
 use Rattle.frame_view.specs.declared.frames.Frame.{Frame}
 use Rattle.frame_view.specs.declared.frames.Packet.{Packet}
 use Rattle.frame_view.specs.declared.frames.Tag.{Tag}
 use Rattle.capture_file.specs.declared.format.Format.{Format}
-use Rattle.capture_file.specs.declared.format.Order.{Order}
-use Rattle.capture_file.specs.declared.format.Order.TheVariants.{Little, Big}
+use Rattle.capture_file.specs.declared.format.Order.TheVariants.{Little}
 use Rattle.capture_file.specs.declared.reading.Place.{Place}
-use Rattle.capture_file.specs.Capture.{number_at, captured, record_size, begins_whole, begins_oversized, header_of, counted, frame_of_record, frames_of, stop_of, damage_of, cut_of, end_of}
+use Rattle.capture_file.specs.Capture.{number_at, captured, record_size, begins_whole, header_of, counted, frame_of_record, frames_of, stop_of, damage_of, end_of}
 use Rattle.capture_file.specs.Output.{four_bytes, output_header, tag_size, original, record_text, output_of}
 use Rattle.capture_file.specs.Reading.{Reached, place_behind, read_from, first_place}
 use Rattle.capture_file.specs.Laws.{IsWritable, frames_back}
-use Rattle.capture_file.proofs.Records.{number_at-append, HasRecord, has_whole, header_of-append, read_from-none, read_from-step}
+use Rattle.capture_file.proofs.Records.{number_at-append, has_whole, header_of-append, read_from-none, read_from-step}
 use Rattle.capture_file.proofs.Steps.{empty_not_whole, empty_not_oversized}
 use Rattle.capture_file.proofs.Whole.{all_of, all_read_from}
 use Rattle.capture_file.proofs.Feeding.{damage_none}

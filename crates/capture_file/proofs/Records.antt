@@ -1,10 +1,10 @@
 -- Splitting bytes into records, one record after the other and piece after piece.
-use Rattle.std.proofs.Common.{◌≡◌, ℕ, zero, suc, ◌+◌, ◌*◌, ◌-◌, ◌≤◌, ◌<◌, Bool, true, false, cond, List, [], ◌∷◌, ◌++◌, length, take, drop, refl, sym, ap, subst, ◌∙◌, inl, inr, arith, append_assoc, add-zero}
-use Rattle.std.specs.Prelude.{nat_le, nat_lt, ◌&&◌, Option, None, Some}
+use Rattle.std.proofs.Common.{◌≡◌, ℕ, zero, suc, ◌+◌, ◌*◌, ◌-◌, ◌≤◌, ◌<◌, true, false, List, [], ◌∷◌, ◌++◌, length, take, drop, refl, sym, ap, ◌∙◌, inl, inr, arith, append_assoc, add-zero}
+use Rattle.std.specs.Prelude.{Option, None, Some}
 use Rattle.std.specs.Option.{option_or}
 use Rattle.std.specs.List.{concat}
-use Rattle.std.proofs.lemmas.Bool.{cases_Bool, both_ways, leb-true, le-leb, lt-leb, ltb-true, le-ltb, lt-ltb, and_parts, and_from, and_left, and_right}
-use Rattle.std.proofs.lemmas.List.{append-nil, drop-append-le, take-append-le, length-append, length-drop, length-take, take-append-drop, drop_all, drop-drop}
+use Rattle.std.proofs.lemmas.Bool.{cases_Bool, both_ways, leb-true, le-leb, ltb-true, lt-ltb, and_parts, and_from}
+use Rattle.std.proofs.lemmas.List.{append-nil, drop-append-le, take-append-le, length-append, length-drop, length-take, drop-drop}
 use Rattle.byteorder.specs.Numbers.{little_from-append, big_from-append}
 use Rattle.frame_view.specs.declared.frames.Frame.{Frame}
 use Rattle.capture_file.specs.declared.format.Format.{Format}

@@ -1,7 +1,7 @@
 -- What a feed leaves: a decoder that stands for all bytes, and the frames that are new.
-use Rattle.std.proofs.Common.{◌≡◌, ℕ, zero, suc, ◌+◌, ◌*◌, ◌-◌, ◌≤◌, ◌<◌, Bool, true, false, List, [], ◌∷◌, ◌++◌, length, take, drop, refl, sym, ap, subst, ◌∙◌, inl, inr, arith, append_assoc}
-use Rattle.std.specs.Prelude.{◌⊎◌, ◌≢◌, min, nat_lt, Option, None, Some, Result, Ok, Err}
-use Rattle.std.proofs.lemmas.Bool.{cases_Bool, both_ways, cases_lt, le-ltb, lt-ltb, ltb-true, ltb-false}
+use Rattle.std.proofs.Common.{◌≡◌, ℕ, ◌+◌, ◌-◌, ◌≤◌, ◌<◌, Bool, false, List, [], ◌++◌, length, take, drop, refl, sym, ap, subst, ◌∙◌, inl, inr, arith}
+use Rattle.std.specs.Prelude.{min, nat_lt, Option, None, Some, Result, Ok, Err}
+use Rattle.std.proofs.lemmas.Bool.{cases_Bool, cases_lt, le-ltb, lt-ltb, ltb-false}
 use Rattle.std.proofs.lemmas.List.{append-nil, length-append, length-drop, length-take, take-append-drop, take_all, take_min}
 use Rattle.frame_view.specs.declared.frames.Frame.{Frame}
 use Rattle.capture_file.specs.declared.error.CaptureError.{CaptureError}
@@ -12,11 +12,11 @@ use Rattle.capture_file.specs.declared.reading.Progress.{Progress}
 use Rattle.capture_file.specs.declared.stage.Stage.{Stage}
 use Rattle.capture_file.specs.declared.stage.Stage.TheVariants.{Header, Records, Damaged}
 use Rattle.capture_file.specs.Capture.{header_of, counted, begins_oversized, frames_of, stop_of, damage_of}
-use Rattle.capture_file.specs.Reading.{Reached, read_from, start, first_place, stage_at, stage_with, error_of, Comes, ComesBehind, Begins, Feeds}
+use Rattle.capture_file.specs.Reading.{Reached, read_from, start, first_place, stage_with, error_of, Comes, ComesBehind, Begins, Feeds}
 use Rattle.capture_file.specs.Decoding.{stage_of, stage_by, stage_behind, kept_by, kept_of, Stands, DecoderValue, UnlessWanted}
 use Rattle.capture_file.proofs.Records.{header_of-append, read_from-frames}
 use Rattle.capture_file.proofs.Whole.{counted-append, all_of, all_read_from, all_accounts, all_append}
-use Rattle.capture_file.proofs.Feeding.{IsShort, short, IsRefused, refused, damage_oversized, damage_too_large, damage_none, stage_whole, damage_is_error, Stays, stays}
+use Rattle.capture_file.proofs.Feeding.{short, refused, damage_oversized, damage_too_large, stage_whole, damage_is_error, stays}
 
 -- a stage, a place, kept bytes and frames are those of a capture, of which the first frames are `base`
 pub record Settles (number : ℕ) (base : List Frame) (bytes : List ℕ) (before after : List Frame) (stage : Stage) (next : Place) (rest : List ℕ) : Type 0 where

@@ -1,12 +1,12 @@
 -- The steps of a feed: kept bytes are completed, their record is read, and then the fresh bytes.
-use Rattle.std.proofs.Common.{◌≡◌, ℕ, zero, suc, ◌+◌, ◌*◌, ◌-◌, ◌≤◌, ◌<◌, Bool, true, false, List, [], ◌∷◌, ◌++◌, length, take, drop, refl, sym, ap, subst, ◌∙◌, inl, inr, arith, append_assoc}
-use Rattle.std.specs.Prelude.{◌⊎◌, ◌≢◌, ◌%◌, ◌==◌, ◌&&◌, nat_lt, Option, None, Some, Result, Ok, Err, IfOk, OnOk}
+use Rattle.std.proofs.Common.{◌≡◌, ℕ, ◌+◌, ◌*◌, ◌-◌, ◌≤◌, ◌<◌, true, false, List, [], ◌∷◌, ◌++◌, length, take, drop, refl, sym, ap, ◌∙◌, inl, inr, arith, append_assoc}
+use Rattle.std.specs.Prelude.{◌≢◌, ◌%◌, ◌==◌, ◌&&◌, nat_lt, Option, None, Some, Result, Ok, Err, IfOk, OnOk}
 use Rattle.std.proofs.lemmas.Bool.{cases_Bool, both_ways, cases_lt, le-ltb, lt-ltb}
-use Rattle.std.proofs.lemmas.List.{append-nil, length-append, length-drop, length-take, take-append-drop, take_at, take_all, drop_at, drop_all, nil_from_length}
+use Rattle.std.proofs.lemmas.List.{append-nil, length-append, length-drop, length-take, take-append-drop, take_all, drop_at, drop_all}
 use Rattle.frame_view.specs.declared.frames.Frame.{Frame}
 use Rattle.capture_file.specs.declared.error.CaptureError.{CaptureError}
-use Rattle.capture_file.specs.declared.error.CaptureError.TheVariants.{BadMagic, BadVersion, BadLink, BadLength, Memory}
-use Rattle.capture_file.specs.declared.stage.Stage.TheVariants.{Header, Records, Damaged}
+use Rattle.capture_file.specs.declared.error.CaptureError.TheVariants.{BadLength, Memory}
+use Rattle.capture_file.specs.declared.stage.Stage.TheVariants.{Records, Damaged}
 use Rattle.capture_file.specs.declared.format.Format.{Format}
 use Rattle.capture_file.specs.declared.format.Order.{Order}
 use Rattle.capture_file.specs.declared.reading.Place.{Place}
@@ -15,7 +15,7 @@ use Rattle.std.specs.Option.{option_or}
 use Rattle.capture_file.specs.declared.format.Order.TheVariants.{Little, Big}
 use Rattle.capture_file.specs.Capture.{number_at, format_in, checked, header_of, captured, record_size, begins_whole, begins_oversized, frame_of_record}
 use Rattle.capture_file.specs.Reading.{Reached, place_behind, read_from, stage_at, IsPart, Completes, IsRead, Comes, start, first_place, ComesBehind, Begins, kept_at, IsSoundAt}
-use Rattle.capture_file.proofs.Records.{number_at-append, header_of-append, HasRecord, whole_has, has_whole, HasOversized, oversized_has, has_oversized, oversized-append, oversized_not_whole, whole_not_oversized, read_from-none, read_from-step, read_from-append, Accounts, accounts}
+use Rattle.capture_file.proofs.Records.{number_at-append, header_of-append, whole_has, has_whole, has_oversized, oversized-append, oversized_not_whole, whole_not_oversized, read_from-none, read_from-step, read_from-append, accounts}
 
 -- ---- completing
 

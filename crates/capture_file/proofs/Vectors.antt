@@ -1,8 +1,7 @@
 -- The definitions, computed on captures and packets whose meaning is known from elsewhere: a check of the definitions
 -- themselves, which no other proof rests on.
-use Rattle.std.proofs.Common.{◌≡◌, ℕ, List, [], ◌∷◌, ◌++◌, Some, None, Option, refl, take}
+use Rattle.std.proofs.Common.{◌≡◌, ℕ, List, [], ◌∷◌, Some, None, Option, refl, take}
 use Rattle.frame_view.specs.declared.frames.Frame.{Frame}
-use Rattle.frame_view.specs.declared.frames.Packet.{Packet}
 use Rattle.capture_file.specs.declared.error.CaptureError.{CaptureError}
 use Rattle.capture_file.specs.declared.error.CaptureError.TheVariants.{BadMagic, BadVersion, BadLink, BadLength, Truncated}
 use Rattle.capture_file.specs.Capture.{frames_of, damage_of, end_of, stop_of, header_of, number_at, records_within, records_in, begins_whole, begins_oversized, frame_of_record}

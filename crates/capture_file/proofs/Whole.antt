@@ -1,22 +1,14 @@
 -- A whole capture, and what more bytes behind it change.
-use Rattle.std.proofs.Common.{◌≡◌, ℕ, zero, suc, ◌+◌, ◌*◌, ◌-◌, ◌≤◌, ◌<◌, Bool, true, false, List, [], ◌∷◌, ◌++◌, length, take, drop, refl, sym, ap, subst, ◌∙◌, inl, inr, arith, append_assoc, zero-add}
-use Rattle.std.specs.Prelude.{◌⊎◌, ◌≢◌, nat_lt, Option, None, Some, Result, Ok, Err}
+use Rattle.std.proofs.Common.{◌≡◌, ℕ, suc, ◌+◌, ◌-◌, ◌≤◌, false, List, [], ◌∷◌, ◌++◌, length, take, drop, refl, sym, ap, subst, ◌∙◌, inl, inr, arith, zero-add}
+use Rattle.std.specs.Prelude.{nat_lt, Ok}
 use Rattle.std.specs.List.{concat}
-use Rattle.std.proofs.Math.Seq.{take-append-add, take-length}
-use Rattle.std.proofs.lemmas.Bool.{cases_Bool, both_ways, cases_lt, le-ltb, lt-ltb, ltb-true, ltb-false}
-use Rattle.std.proofs.lemmas.List.{append-nil, length-append, length-drop, length-take, take-append-drop, take-append-le, take_all, drop_at, drop_all, drop-drop, drop-append-le}
-use Rattle.frame_view.specs.declared.frames.Frame.{Frame}
-use Rattle.capture_file.specs.declared.error.CaptureError.{CaptureError}
-use Rattle.capture_file.specs.declared.error.CaptureError.TheVariants.{BadLength, Truncated, TooLarge}
+use Rattle.std.proofs.Math.Seq.{take-append-add}
+use Rattle.std.proofs.lemmas.Bool.{cases_lt, le-ltb}
+use Rattle.std.proofs.lemmas.List.{append-nil, length-append, length-take, take-append-le, take_all, drop-drop, drop-append-le}
 use Rattle.capture_file.specs.declared.format.Format.{Format}
-use Rattle.capture_file.specs.declared.format.Order.{Order}
-use Rattle.capture_file.specs.declared.reading.Place.{Place}
-use Rattle.capture_file.specs.declared.stage.Stage.{Stage}
-use Rattle.capture_file.specs.declared.stage.Stage.TheVariants.{Header, Records, Damaged}
-use Rattle.capture_file.specs.Capture.{header_of, counted, begins_whole, begins_oversized, records_in, frames_from, frames_of, stop_of, damage_of}
-use Rattle.capture_file.specs.Reading.{Reached, left_in, read_from, first_place, stage_at, stage_with, error_of}
-use Rattle.capture_file.specs.Decoding.{stage_of}
-use Rattle.capture_file.proofs.Records.{header_of-append, whole_not_oversized, read_from-append, Accounts, accounts}
+use Rattle.capture_file.specs.Capture.{header_of, counted, records_in, frames_from, frames_of, stop_of}
+use Rattle.capture_file.specs.Reading.{Reached, left_in, read_from, first_place}
+use Rattle.capture_file.proofs.Records.{header_of-append, read_from-append, Accounts, accounts}
 
 -- the bytes that count of two lists
 pub counted-append : (xs ys : List ℕ) → counted (xs ++ ys) ≡ counted xs ++ take (33554432 - length xs) ys

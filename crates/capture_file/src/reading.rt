@@ -63,10 +63,12 @@ pub(crate) fn read_on(
     requires sound { IsSoundAt stage next kept.old.items }
     requires bound { next.stop + length kept.old.items + length piece.now ≤ 33554432 }
     ensures ok { IfOk result (λ progress.
-        Feeds cpu stage next (kept.old.items ++ piece.now) progress kept.new.items into.old into.new) }
+        Feeds cpu stage next (kept.old.items ++ piece.now) progress
+        kept.new.items into.old into.new) }
     ensures cut { IfOk result (λ progress. progress.cut ≤ length kept.new.items) }
     ensures sound { IfOk result (λ progress.
-        IsSoundAt progress.stage progress.next (kept_at progress.stage (drop progress.cut kept.new.items))) }
+        IsSoundAt progress.stage progress.next
+        (kept_at progress.stage (drop progress.cut kept.new.items))) }
     ensures kept { take (length kept.old.items) kept.new.items ≡ kept.old.items }
     ensures frames { take (length into.old) into.new ≡ into.old }
 {
@@ -138,7 +140,8 @@ impl Reader {
         requires count { 16 * next.index ≤ next.stop }
         requires bound { next.stop + length kept.old.items + length piece.now ≤ 33554432 }
         ensures ok { IfOk result (λ progress.
-            Comes self.format (read_from self.cpu self.format next into.old (kept.old.items ++ piece.now))
+            Comes self.format
+            (read_from self.cpu self.format next into.old (kept.old.items ++ piece.now))
             progress kept.new.items into.new) }
         ensures kept { take (length kept.old.items) kept.new.items ≡ kept.old.items }
         ensures frames { take (length into.old) into.new ≡ into.old }
@@ -192,7 +195,8 @@ impl Reader {
         ensures ok { IfOk result (λ x. record { next = x.0; frames = into.new; left = x.1.now }
             ≡ read_from self.cpu self.format next into.old bytes.now) }
         ensures count { IfOk result (λ x. 16 * x.0.index ≤ x.0.stop) }
-        ensures places { IfOk result (λ x. x.0.stop + length x.1.now ≡ next.stop + length bytes.now) }
+        ensures places { IfOk result (λ x.
+            x.0.stop + length x.1.now ≡ next.stop + length bytes.now) }
         ensures fewer { IfOk result (λ x. length x.1.now ≤ length bytes.now) }
         ensures front { take (length into.old) into.new ≡ into.old }
     {
@@ -210,7 +214,8 @@ impl Reader {
     #[tactic(auto, unfolding(crate::specs::Capture::frame_of_record))]
     fn frame(self, index: u32, bytes: &[u8]) -> Result<Frame, Memory>
         requires { 16 ≤ length bytes.now }
-        ensures { IfOk result (λ frame. frame ≡ frame_of_record self.cpu self.format index bytes.now) }
+        ensures { IfOk result (λ frame.
+            frame ≡ frame_of_record self.cpu self.format index bytes.now) }
     {
         let order = self.format.order;
         let fraction = order.u32_at(bytes, 4) as u64 * self.format.unit as u64;
@@ -300,7 +305,8 @@ fn complete<'a>(order: Order, kept: &mut Vec<u8>, piece: &'a [u8]) -> Result<&'a
 fn top_up<'a>(kept: &mut Vec<u8>, size: usize, piece: &'a [u8]) -> Result<&'a [u8], Memory>
     ensures kept { OnOk result
         (kept.new.items ≡ kept.old.items ++ take (size - length kept.old.items) piece.now) }
-    ensures behind { IfOk result (λ behind. behind.now ≡ drop (size - length kept.old.items) piece.now) }
+    ensures behind { IfOk result (λ behind.
+        behind.now ≡ drop (size - length kept.old.items) piece.now) }
     ensures err { OnErr result (kept.new.items ≡ kept.old.items) }
 {
     let missing = size.saturating_sub(kept.len()).min(piece.len());

@@ -1,5 +1,4 @@
-use Rattle.std.proofs.Common.{◌≡◌, ℕ, List, ◌++◌, drop, arith, sym, ◌∙◌, ap}
-use Rattle.capture_file.specs.declared.stage.Stage.TheVariants.{Damaged}
+use Rattle.std.proofs.Common.{ℕ, List, ◌++◌, drop, arith, ap}
 use Rattle.capture_file.specs.Capture.{frames_of}
 use Rattle.capture_file.specs.Reading.{error_of}
 use Rattle.capture_file.specs.Decoding.{Stands, decoder_value}

@@ -1,4 +1,4 @@
-use Rattle.std.proofs.Common.{◌≡◌, sym, ◌∙◌, arith, rules}
+use Rattle.std.proofs.Common.{sym, ◌∙◌, rules}
 use Rattle.capture_file.proofs.Lists.{front_more}
 use Rattle.capture_file.proofs.Records.{read_from-none, reads_on}
 use Rattle.capture_file.proofs.reading.Reader.read_records.Goals as goal
