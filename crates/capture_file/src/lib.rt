@@ -2,6 +2,7 @@
 #![tactic(auto)]
 
 mod decoder;
+mod endings;
 mod error;
 mod format;
 mod laws;
@@ -10,6 +11,7 @@ mod reading;
 mod stage;
 
 pub use decoder::Decoder;
+pub use endings::damage_is_the_end;
 pub use error::CaptureError;
 pub use laws::{
     an_empty_capture_has_no_frames, damage_is_not_memory, damage_stays, frames_are_captured,

@@ -1,5 +1,8 @@
 //! What a capture gives and what a ring keeps: a frame with its place in its capture, and a packet.
-use crate::{ByteList, ItemList};
+ghost use Rattle.std.specs.Prelude.{◌≡◌, ◌≤◌, ◌<◌, ◌^◌, length};
+ghost use Rattle.frame_view.specs.PlainPacket.{plain_of};
+
+use crate::{ByteList, ItemList, link_header, pkttype};
 
 /// One IEEE 802.1Q tag: its protocol identifier and its control information, both read in network order.
 #[derive(Clone, Copy, Debug, PartialEq, Eq)]
@@ -50,6 +53,31 @@ pub struct Packet {
     pub bytes: ByteList,
     /// The tag that was taken out of its frame.
     pub tag: Option<Tag>,
+}
+
+impl Packet {
+    /// The packet of a frame that stands alone, as one that is to be sent: times and hash are 0, the length on
+    /// the wire is its own, no tag was taken out, and the packet type is that without an own address. It takes
+    /// no memory.
+    pub fn plain(bytes: ByteList) -> Packet
+        requires whole { 14 ≤ length bytes }
+        requires short { length bytes < 2 ^ 32 }
+        ensures { result ≡ plain_of bytes }
+    {
+        let link = link_header(bytes.as_slice());
+        let addr = link.from;
+        Packet {
+            sec: 0,
+            nsec: 0,
+            wire: bytes.len() as u32,
+            rxhash: 0,
+            protocol: link.protocol,
+            pkttype: pkttype(bytes.as_slice(), None),
+            addr,
+            bytes,
+            tag: None,
+        }
+    }
 }
 
 /// Frames, in order.

@@ -1,14 +1,21 @@
-//! What the link header of a frame says.
-ghost use Rattle.std.specs.Prelude.{◌≡◌, ◌+◌, ◌≤◌, ◌<◌, length, slice_index};
-ghost use Rattle.frame_view.specs.Headers.{view_of, packet_type_of, protocol_of, u16_at, address_of};
+//! What the headers of a frame say, and the packet type that follows from its destination.
+ghost use Rattle.std.specs.Prelude.{◌≡◌, ◌+◌, ◌≤◌, length};
+ghost use Rattle.frame_view.specs.Headers.{view_of, link_of, packet_type_of, protocol_of, address_of};
+
+use crate::ip_reading::{V4Part, V6Part, has_v4, has_v6, read_v4, read_v6};
+use crate::numbers::u16_at;
 
 /// What a frame's headers say.
 #[derive(Clone, Copy, Debug, PartialEq, Eq)]
 pub enum Headers {
     /// Fewer than 14 bytes: no whole link header.
     Runt,
-    /// A whole link header.
+    /// A whole link header, and no whole IPv4 or IPv6 header behind it.
     Plain(Link),
+    /// A link header and an IPv4 header.
+    V4(Link, V4Part),
+    /// A link header and an IPv6 header.
+    V6(Link, V6Part),
 }
 
 /// The link header of an Ethernet frame.
@@ -29,19 +36,29 @@ const BROADCAST: [u8; 6] = [0xff; 6];
 /// The least type field that is a type and no length (ETH_P_802_3_MIN of `linux/if_ether.h`).
 const LEAST_TYPE: u16 = 0x0600;
 
-/// Reads the headers of a frame, by IEEE 802.3 and the protocol numbers of `linux/if_ether.h`.
+/// Reads the headers of a frame, by IEEE 802.3, RFC 791, RFC 8200 and the protocol numbers of
+/// `linux/if_ether.h`. An IP header that is cut off, or whose lengths contradict each other, leaves the frame
+/// `Plain`; its checksum isn't tested.
 pub fn view(bytes: &[u8]) -> Headers
     ensures { result ≡ view_of bytes.now }
 {
     if bytes.len() < 14 {
         return Headers::Runt;
     }
-    Headers::Plain(link_of(bytes))
+    let link = link_header(bytes);
+    if has_v4(bytes) {
+        Headers::V4(link, read_v4(bytes))
+    } else if has_v6(bytes) {
+        Headers::V6(link, read_v6(bytes))
+    } else {
+        Headers::Plain(link)
+    }
 }
 
-fn link_of(bytes: &[u8]) -> Link
+/// The link header of a frame, by IEEE 802.3 and the protocol numbers of `linux/if_ether.h`.
+pub fn link_header(bytes: &[u8]) -> Link
     requires { 14 ≤ length bytes.now }
-    ensures { view_of bytes.now ≡ Headers.Plain result }
+    ensures { result ≡ link_of bytes.now }
 {
     Link {
         to: address_at(bytes, 0),
@@ -82,14 +99,6 @@ fn protocol(bytes: &[u8]) -> u16
     } else {
         0x0004
     }
-}
-
-/// The number in the two bytes from a place, in network order.
-pub(crate) fn u16_at(bytes: &[u8], at: usize) -> u16
-    requires { at + 1 < length bytes.now }
-    ensures { result ≡ u16_at at bytes.now }
-{
-    u16::from_be_bytes([bytes[at], bytes[at + 1]])
 }
 
 /// The link address that stands from a place on.

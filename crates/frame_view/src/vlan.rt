@@ -2,7 +2,7 @@
 ghost use Rattle.std.specs.Prelude.{◌≡◌, ◌≤◌, None, Some, length, IfOk};
 ghost use Rattle.frame_view.specs.Vlan.{untagged, frame_of, is_tagged, with_tag};
 
-use crate::header_reading::u16_at;
+use crate::numbers::u16_at;
 use crate::{ByteList, Frame, Memory, Packet, Tag};
 use std::alloc::Global;
 

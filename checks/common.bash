@@ -1,0 +1,46 @@
+# Read by the checks: they run in the top folder, on the programs that the gate has built.
+cd "$(dirname "${BASH_SOURCE[0]}")/.." || exit 1
+top=$PWD
+
+# Ends the check where a tool that it needs isn't there.
+wants() {
+    local tool
+    for tool; do
+        if ! command -v "$tool" >/dev/null; then
+            echo "skipped: ${0##*/} needs $tool"
+            exit 0
+        fi
+    done
+}
+
+# Sets `programs`: the one that RINGTAP names, or those of both compilers, or one that is built now.
+find_programs() {
+    local out=$top/crates/ringtap/out
+    programs=()
+    if [ -n "${RINGTAP:-}" ]; then
+        programs=("$(realpath "$RINGTAP")")
+        return
+    fi
+    if [ ! -x "$out/ringtap" ]; then
+        wants rt
+        sh demo/build.sh || exit 1
+    fi
+    programs=("$out/ringtap")
+    if [ -x "$out/ringtap.by-rattle" ]; then
+        programs+=("$out/ringtap.by-rattle")
+    fi
+}
+
+# Makes a folder of this check's own, `room`, that is gone at its end.
+make_room() {
+    room=$(mktemp -d) || exit 1
+    trap 'rm -rf "$room"' EXIT
+    chmod 755 "$room"
+}
+
+# Says what is wrong, and remembers it.
+failed=0
+wrong() {
+    echo "${0##*/}: $*"
+    failed=1
+}

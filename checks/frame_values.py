@@ -1,0 +1,51 @@
+#!/usr/bin/env python3
+"""Values that the tests of frame_view and frame_maker compare with, computed apart from them.
+
+Each line is the path of a test and a text that must stand in it: `test_values.sh` looks for each.
+"""
+import struct
+
+
+def ones_sum(data):
+    """The ones' complement sum of 16-bit words with the carry brought round at each step (RFC 1071)."""
+    total = 0
+    for (word,) in struct.iter_unpack(">H", data):
+        total += word
+        if total > 0xFFFF:
+            total -= 0xFFFF
+    return total
+
+
+def built(to, source_mac, ident, source, dest, sport, dport, payload):
+    udp = struct.pack(">HHHH", sport, dport, 8 + len(payload), 0)
+    head = struct.pack(">BBHHHBBHII", 0x45, 0, 20 + len(udp) + len(payload), ident, 0x4000, 64, 17, 0, source, dest)
+    checksum = 0xFFFF ^ ones_sum(head)
+    head = head[:10] + struct.pack(">H", checksum) + head[12:]
+    assert ones_sum(head) == 0xFFFF
+    return to + source_mac + b"\x08\x00" + head + udp + payload
+
+
+def array(data):
+    return "".join(f"{byte:02x}" for byte in data)
+
+
+def address(text):
+    return struct.unpack(">I", bytes(int(part) for part in text.split(".")))[0]
+
+
+def say(path, text):
+    print(f"{path}\t{text}")
+
+
+if __name__ == "__main__":
+    TO = bytes.fromhex("020000000002")
+    FROM = bytes.fromhex("020000000001")
+    VIEW = "crates/frame_view/src/tests.rt"
+
+    small = built(TO, FROM, 0x1234, address("10.0.0.1"), address("10.1.0.2"), 1024, 53, b"hello")
+    say(VIEW, array(small[:14]))
+    say(VIEW, array(small[14:34]))
+    say(VIEW, array(small[34:]))
+    large = built(TO, FROM, 0xFFFF, address("10.0.255.255"), address("10.1.0.255"), 5119, 53, bytes(1472))
+    say(VIEW, array(large[14:34]))
+    say(VIEW, array(large[34:42]))

@@ -1,0 +1,50 @@
+#!/usr/bin/env python3
+"""Values that the tests of frame_maker compare with, computed apart from them.
+
+Each line is the path of a test and a text that must stand in it: `test_values.sh` looks for each.
+"""
+from frame_values import address, built
+
+TESTS = "crates/frame_maker/src/tests.rt"
+TO = bytes.fromhex("020000000002")
+FROM = bytes.fromhex("020000000001")
+
+
+def draws(state):
+    while True:
+        state = (state * 6364136223846793005 + 1442695040888963407) % 2**64
+        yield state >> 32
+
+
+def made(seed, count):
+    numbers = draws(seed)
+    for i in range(count):
+        a, b, c, d = (next(numbers) for _ in range(4))
+        payload = bytes((i + j) % 256 for j in range(d % 1401))
+        yield built(
+            TO, FROM, i % 65536, address("10.0.0.0") + a % 65536, address("10.1.0.0") + b % 256, 1024 + c % 4096, 53, payload
+        )
+
+
+def fnv(data, value=0x811C9DC5):
+    """FNV-1a of 32 bits."""
+    for byte in data:
+        value = (value ^ byte) * 0x01000193 % 2**32
+    return value
+
+
+def number(value):
+    text = f"{value:08x}"
+    return f"0x{text[:4]}_{text[4:]}"
+
+
+if __name__ == "__main__":
+    for seed, count in ((1, 20000), (2**64 - 1, 3)):
+        frames = list(made(seed, count))
+        whole = 0x811C9DC5
+        for frame in frames:
+            whole = fnv(frame, whole)
+        for frame in (frames[0], frames[-1]):
+            print(f"{TESTS}\t{frame[:42].hex()}")
+            print(f"{TESTS}\t{number(fnv(frame))}")
+        print(f"{TESTS}\t{number(whole)}")

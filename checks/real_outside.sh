@@ -1,0 +1,209 @@
+#!/usr/bin/env bash
+# Real files, folders, devices and pipes: each fault of the outside gives its status and its line, and no crash.
+set -u
+. "$(dirname "${BASH_SOURCE[0]}")/common.bash"
+find_programs
+make_room
+
+# Without root the checks run as they are; root reads every file, so there they run as nobody, if that can be had.
+as_nobody=()
+has_rights=yes
+if [ "$(id -u)" -eq 0 ]; then
+    as_nobody=(setpriv --reuid=65534 --regid=65534 --clear-groups --no-new-privs)
+    if ! "${as_nobody[@]}" true 2>/dev/null; then
+        as_nobody=()
+        has_rights=no
+    fi
+fi
+
+setup() {
+    printf 'block_size 4096\nblock_nr 2\nframe_size 2048\nframe_nr 4\ncpu %s\n' "$1"
+}
+
+# A folder with a setup, a schedule and a capture that are in order, in which the program runs.
+fresh() {
+    chmod -R u+rwx "$room/here" 2>/dev/null
+    rm -rf "$room/here"
+    mkdir "$room/here" && cd "$room/here" || exit 1
+    cp "$top/demo/lo.pcap" in.pcap
+    setup in.pcap >conf
+    printf 'feed 0\nread 0\n' >sched
+    give . ./*
+}
+
+# Hands files to whom the program runs as.
+give() {
+    [ "${#as_nobody[@]}" -eq 0 ] || chown 65534:65534 "$@"
+}
+
+# Runs the program with these words, its output to `$said`, and compares its status and, where it isn't `-`, the text.
+said=$room/said
+expect() {
+    local what=$1 wanted=$2 text=$3
+    shift 3
+    timeout 60 "${as_nobody[@]}" "$room/ringtap" "$@" >"$said" 2>"$room/complained"
+    check "$what" "$wanted" $?
+    if [ "$text" != - ] && [ "$(cat "$said")" != "$text" ]; then
+        wrong "$what: printed '$(cat "$said")' in place of '$text'"
+    fi
+    [ ! -s "$room/complained" ] || wrong "$what: standard error has '$(cat "$room/complained")'"
+}
+
+check() {
+    [ "$3" -eq "$2" ] || wrong "$1: status $3 in place of $2"
+}
+
+# The file holds the output of the demo over this ring.
+saved() {
+    cmp -s out.0.pcap "$room/whole.pcap" || wrong "$1: out.0.pcap isn't what it is without the fault"
+}
+
+usage='usage: ringtap check|replay|capture|send|make CONF [SCHED]'
+fault='cpu 0 frames 0 arrivals 0 end fault
+member 0 packets 0 drops 0 freezes 0 blocks 0
+total arrivals 0 filtered 0 kept 0 drops 0'
+
+without_a_fault() {
+    fresh
+    expect 'a run without a fault' 0 - replay conf sched
+    cp "$said" "$room/whole.txt"
+    cp out.0.pcap "$room/whole.pcap"
+    grep -q 'end ok$' "$room/whole.txt" || wrong 'a run without a fault has another end'
+}
+
+texts() {
+    for name in none . conf/; do
+        fresh
+        expect "'$name' as the setup" 5 'read fault' replay "$name" sched
+        expect "'$name' as the schedule" 5 'read fault' replay conf "$name"
+        [ ! -e out.0.pcap ] || wrong "'$name': a run was made"
+    done
+    fresh
+    expect '/dev/zero as the setup' 8 'not built: setup' replay /dev/zero sched
+    expect '/dev/zero as the schedule' 8 'not built: schedule' replay conf /dev/zero
+    expect '/dev/null as the setup' 8 'not built: setup' replay /dev/null sched
+    printf 'tick 1\n' >ticks
+    expect 'a schedule that ticks' 8 'not built: schedule' replay conf ticks
+    expect '/dev/null as the schedule' 0 - replay conf /dev/null
+}
+
+captures() {
+    for name in none . conf/; do
+        fresh
+        setup "$name" >conf
+        expect "'$name' as the capture" 5 "$fault" replay conf sched
+        [ "$(wc -c <out.0.pcap)" -eq 24 ] || wrong "'$name' as the capture: the output isn't a header alone"
+    done
+    fresh
+    setup /dev/null >conf
+    expect '/dev/null as the capture' 4 "${fault/fault/truncated 0}" replay conf sched
+    setup /dev/zero >conf
+    expect '/dev/zero as the capture' 4 "${fault/fault/bad_magic 0}" replay conf sched
+    endless
+}
+
+rights() {
+    for name in conf sched; do
+        fresh
+        chmod 000 "$name"
+        expect "no right to read $name" 5 'read fault' replay conf sched
+    done
+    fresh
+    chmod 000 in.pcap
+    expect 'no right to read the capture' 5 "$fault" replay conf sched
+    fresh
+    touch out.0.pcap && give out.0.pcap && chmod 444 out.0.pcap
+    expect 'no right to write the output' 6 "$(cat "$room/whole.txt")" replay conf sched
+    fresh
+    chmod 555 .
+    expect 'no right to make the output' 6 "$(cat "$room/whole.txt")" replay conf sched
+    chmod 755 .
+}
+
+saving_and_printing() {
+    fresh
+    mkdir out.0.pcap
+    expect 'a folder as the output' 6 "$(cat "$room/whole.txt")" replay conf sched
+    fresh
+    head -c 100000 /dev/zero >out.0.pcap && give out.0.pcap
+    expect 'an output over another file' 0 "$(cat "$room/whole.txt")" replay conf sched
+    saved 'an output over another file'
+    fresh
+    ln -s /dev/full out.0.pcap
+    expect 'a full device as the output' 6 "$(cat "$room/whole.txt")" replay conf sched
+    # A pipe that nobody reads any more.
+    fresh
+    mkfifo gone
+    exec 3<>gone 4>gone 3>&-
+    timeout 60 "${as_nobody[@]}" "$room/ringtap" replay conf sched >&4 2>"$room/complained"
+    check 'a pipe without a reader' 6 $?
+    saved 'a pipe without a reader'
+    exec 4>&-
+    for line in 'replay conf sched' 'replay none sched' 'replay conf ticks' 'no command'; do
+        fresh
+        printf 'tick 1\n' >ticks
+        # shellcheck disable=SC2086
+        timeout 60 "${as_nobody[@]}" "$room/ringtap" $line >/dev/full 2>"$room/complained"
+        check "$line, standard output full" 6 $?
+        # shellcheck disable=SC2086
+        timeout 60 "${as_nobody[@]}" "$room/ringtap" $line >&- 2>"$room/complained"
+        check "$line, standard output closed" 6 $?
+        [ "$line" != 'replay conf sched' ] || saved 'standard output closed'
+    done
+}
+
+words() {
+    fresh
+    expect 'no word' 1 "$usage"
+    expect 'no schedule' 1 "$usage" replay conf
+    expect 'a word too many' 1 "$usage" replay conf sched sched
+    expect 'an empty setup' 1 "$usage" replay '' sched
+    expect 'an empty schedule' 1 "$usage" replay conf ''
+    expect 'a command that is not built' 1 "$usage" capture conf
+    expect 'no command' 1 "$usage" --help
+    for name in $'\xff' $'conf\xff' $'\xed\xa0\x80' $'\xc0\xaf'; do
+        expect 'a setup that is not UTF-8' 1 "$usage" replay "$name" sched
+        expect 'a schedule that is not UTF-8' 1 "$usage" replay conf "$name"
+        expect 'a command that is not UTF-8' 1 "$usage" "replay$name" conf sched
+    done
+    cp conf $'r\xc3\xa9glage'
+    expect 'a name in UTF-8' 0 "$(cat "$room/whole.txt")" replay $'r\xc3\xa9glage' sched
+    expect 'a name that no file can have' 5 'read fault' replay "$(printf '%05000d' 0)" sched
+}
+
+# A capture without end, as a pipe that somebody keeps writing to: 127 records of 262,144 bytes fit into what counts.
+endless() {
+    command -v python3 >/dev/null || return
+    fresh
+    mkfifo pipe
+    give pipe
+    setup pipe >conf
+    python3 - <<'PYTHON' 2>/dev/null &
+import struct
+with open("pipe", "wb") as pipe:
+    pipe.write(struct.pack("<IHHiIII", 0xA1B2C3D4, 2, 4, 0, 0, 262144, 1))
+    record = struct.pack("<IIII", 0, 0, 262144, 262144) + bytes(262144)
+    while True:
+        pipe.write(record)
+PYTHON
+    local writer=$!
+    expect 'a capture without end' 4 'cpu 0 frames 127 arrivals 127 end too_large 33554432
+member 0 packets 127 drops 125 freezes 1 blocks 2
+total arrivals 127 filtered 0 kept 2 drops 125' replay conf sched
+    kill "$writer" 2>/dev/null
+    wait "$writer" 2>/dev/null
+}
+
+for program in "${programs[@]}"; do
+    cp "$program" "$room/ringtap" && chmod 755 "$room/ringtap"
+    without_a_fault
+    texts
+    captures
+    [ "$has_rights" = no ] || rights
+    saving_and_printing
+    words
+done
+cd "$top" || exit 1
+chmod -R u+rwx "$room"
+[ "$has_rights" = yes ] || echo "skipped: in ${0##*/} the cases on rights, as root runs it and setpriv is missing"
+exit "$failed"

@@ -1,0 +1,11 @@
+#!/usr/bin/env bash
+# Made captures of many kinds, each replayed over rings of several sizes, give the status, the lines and the file that
+# by_hand.py works out.
+set -u
+. "$(dirname "${BASH_SOURCE[0]}")/common.bash"
+wants python3
+find_programs
+for program in "${programs[@]}"; do
+    python3 -B checks/replays.py "$program" || wrong "$program gives something else"
+done
+exit "$failed"

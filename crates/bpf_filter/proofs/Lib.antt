@@ -1,0 +1,5 @@
+mod Agreement
+mod Checks
+mod Listed
+mod Rows
+mod Runs

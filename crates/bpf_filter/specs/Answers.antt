@@ -1,0 +1,18 @@
+-- What a call answers, where it doesn't want memory.
+use Rattle.std.specs.Prelude.{◌≡◌, Option, Some, Result, Ok, Err}
+use Rattle.bpf_filter.specs.declared.error.FilterError.{FilterError}
+use Rattle.bpf_filter.specs.declared.error.FilterError.TheVariants.{Memory}
+
+abbrev pub Refuses : {Y : Type 0} → FilterError → Result Y FilterError → Type 0
+Refuses Memory right = Unit {0}
+Refuses error right = right ≡ Err error
+
+-- the answer, looked at by a view, is the right one, unless memory was wanted
+abbrev pub Gives : {X Y : Type 0} → (X → Y) → Result X FilterError → Result Y FilterError → Type 0
+Gives view (Ok value) right = right ≡ Ok (view value)
+Gives view (Err error) right = Refuses error right
+
+-- the error is the fault, unless memory was wanted
+abbrev pub IsFault : FilterError → Option FilterError → Type 0
+IsFault Memory fault = Unit {0}
+IsFault error fault = fault ≡ Some error

@@ -1,0 +1,20 @@
+//! Classic BPF: the text of `tcpdump -ddd`, the programs that a filter accepts, and the verdict on a packet.
+#![tactic(auto)]
+
+mod error;
+mod insn;
+mod listing;
+mod machine;
+mod meanings;
+mod packets;
+mod program;
+mod steps;
+
+pub use error::FilterError;
+pub use insn::Insn;
+pub use listing::read_ddd;
+pub use packets::Seen;
+pub use program::{LARGEST_PROGRAM, Program, verdict_with};
+
+#[cfg(test)]
+mod tests;

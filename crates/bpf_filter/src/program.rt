@@ -1,0 +1,156 @@
+//! The programs that are accepted, and their verdicts.
+ghost use Rattle.std.specs.Prelude.{◌≡◌, ℕ, ◌+◌, ◌≤◌, length, MatchResult, None, Some, option_copied};
+ghost use Rattle.bpf_filter.specs.Answers.{Gives, IsFault};
+ghost use Rattle.bpf_filter.specs.Programs.{program_of, fault_of, fault_of_known, first_fault, ends_with_return};
+ghost use Rattle.bpf_filter.specs.Sight.{sight_of};
+ghost use Rattle.bpf_filter.specs.Stands.{StandFor, StandsFor};
+ghost use Rattle.bpf_filter.specs.Verdict.{verdict_of, verdict_with};
+
+use crate::error::FilterError;
+use crate::insn::Insn;
+use crate::machine::{Machine, Next, WORDS};
+use crate::meanings::{fact, meaning};
+use crate::packets::Seen;
+use crate::steps::Step;
+use std::alloc::Global;
+use std::marker::Model;
+
+/// The most instructions of a program (`BPF_MAXINSNS` of `linux/bpf_common.h`).
+pub const LARGEST_PROGRAM: usize = 4096;
+
+/// A program that was accepted. Contracts see it as the list of its instructions.
+#[derive(Drop)]
+pub struct Program {
+    /// The instructions as they were given.
+    code: Vec<Insn>,
+    /// Their meanings, one for one.
+    steps: Vec<Step>,
+}
+
+impl Model for Program {
+    ghost use Rattle.std.specs.Prelude.{List};
+    ghost use Rattle.bpf_filter.specs.declared.insn.Insn.{Insn};
+    ghost use Rattle.bpf_filter.specs.Stands.{StandFor};
+
+    ghost Value = { List Insn };
+
+    ghost view = { λ program. program.code.items };
+
+    ghost invariant = { λ program. StandFor program.steps.items program.code.items };
+}
+
+impl Program {
+    /// Accepts a program, or says what is the first fault of one that isn't accepted.
+    ///
+    /// `BadCount` comes for more than 4096 instructions. Then, for each instruction from the first on, `BadCode` for a
+    /// code that isn't known, `BadConstant` for a division by the constant 0 or a shift by a constant of 32 or more,
+    /// `BadMemory` for a memory word from 16 on, `BadAncillary` for a place in the packet from 0x80000000 on that
+    /// isn't ancillary, and `BadJump` for a jump past the last instruction. Last, `NoReturn` comes for a program that
+    /// doesn't end with a return. That memory words may be read before they are written is this project's own choice.
+    pub fn check(alloc: Global, code: Vec<Insn>) -> Result<Program, FilterError>
+        ensures { Gives (λ program. program) result (program_of code.items) }
+    {
+        if code.len() > LARGEST_PROGRAM {
+            return Err(FilterError::BadCount);
+        }
+        let steps = steps_of(alloc, code.as_slice())?;
+        if !ends_with_return(code.as_slice()) {
+            return Err(FilterError::NoReturn);
+        }
+        Ok(Program { code, steps })
+    }
+
+    /// The instructions of the program, as they were given.
+    pub fn code(&self) -> &[Insn]
+        ensures { result.now ≡ self.now }
+    {
+        self.code.as_slice()
+    }
+
+    /// How many bytes of a packet to keep; 0 refuses it. It takes no memory, and always returns, since all jumps go
+    /// forward.
+    pub fn verdict(&self, packet: &Seen<'_>) -> u32
+        ensures { result ≡ verdict_of self.now (sight_of packet.now) }
+    {
+        let mut machine = Machine::new();
+        let mut at = 0;
+        while let Some(step) = self.steps.get(at) {
+            match machine.perform(*step, packet) {
+                Next::Answer(answer) => return answer,
+                Next::Skip(skip) => at += 1 + skip as usize,
+            }
+        }
+        0
+    }
+}
+
+/// The verdict of a filter on a packet: how many bytes to keep. Without a filter it is the greatest number, which keeps
+/// all.
+pub fn verdict_with(filter: Option<&Program>, packet: &Seen<'_>) -> u32
+    ensures { result ≡ verdict_with (option_copied filter.entry) (sight_of packet.now) }
+{
+    match filter {
+        Some(program) => program.verdict(packet),
+        None => u32::MAX,
+    }
+}
+
+/// The meanings of instructions, or the first fault of one.
+fn steps_of(alloc: Global, code: &[Insn]) -> Result<Vec<Step>, FilterError>
+    requires { length code.now ≤ 4096 }
+    ensures { MatchResult result
+        (λ steps. (first_fault 0 code.now ≡ None) × StandFor steps.items code.now)
+        (λ error. IsFault error (first_fault 0 code.now)) }
+{
+    let mut steps = Vec::with_capacity(alloc, code.len())?;
+    for (at, insn) in code.iter().enumerate() {
+        let behind = code.len() - at - 1;
+        steps.push(step_of(*insn, at as u32, behind)?)?;
+    }
+    Ok(steps)
+}
+
+/// The meaning of the instruction of a number, behind which a number of instructions stand, or its first fault.
+fn step_of(insn: Insn, at: u32, behind: usize) -> Result<Step, FilterError>
+    ensures { MatchResult result
+        (λ step. (fault_of at behind insn ≡ None) × StandsFor step insn)
+        (λ fault. fault_of at behind insn ≡ Some fault) }
+{
+    let Some(step) = meaning(insn) else {
+        return Err(FilterError::BadCode(at));
+    };
+    match fault(insn, at, behind) {
+        Some(fault) => Err(fault),
+        None => Ok(step),
+    }
+}
+
+/// The fault of an instruction whose code is known.
+fn fault(insn: Insn, at: u32, behind: usize) -> Option<FilterError>
+    ensures { result ≡ fault_of_known at behind insn }
+{
+    match insn.code {
+        0x34 | 0x94 if insn.k == 0 => Some(FilterError::BadConstant(at)),
+        0x64 | 0x74 if insn.k >= 32 => Some(FilterError::BadConstant(at)),
+        0x60 | 0x61 | 0x02 | 0x03 if insn.k as usize >= WORDS => Some(FilterError::BadMemory(at)),
+        0x20 | 0x28 | 0x30 if insn.k >= 0x8000_0000 && fact(insn.k).is_none() => {
+            Some(FilterError::BadAncillary(at))
+        }
+        0x05 if insn.k as usize >= behind => Some(FilterError::BadJump(at)),
+        0x15 | 0x1d | 0x25 | 0x2d | 0x35 | 0x3d | 0x45 | 0x4d
+            if usize::from(insn.jt) >= behind || usize::from(insn.jf) >= behind => {
+            Some(FilterError::BadJump(at))
+        }
+        _ => None,
+    }
+}
+
+/// Whether a program ends with a return.
+fn ends_with_return(code: &[Insn]) -> bool
+    ensures { result ≡ ends_with_return code.now }
+{
+    match code {
+        [.., last] => last.code == 0x06 || last.code == 0x16,
+        [] => false,
+    }
+}

@@ -1,0 +1,5 @@
+pub mod Members
+pub mod Settling
+pub mod Routing
+pub mod Standing
+pub mod Rising

@@ -1,0 +1,20 @@
+//! Laws of the definitions, each the contract of a function that does nothing.
+ghost use Rattle.std.specs.Prelude.{ℕ, List};
+ghost use Rattle.frame_view.specs.declared.frames.Frame.{Frame};
+ghost use Rattle.fanout_group.specs.Arrivals.{arrivals_of};
+ghost use Rattle.fanout_group.specs.Joined.{Logged};
+ghost use Rattle.fanout_group.specs.Once.{AreOf, EachStandsOnce, IsGroupReport};
+ghost use Rattle.fanout_group.specs.Rules.{Rules};
+ghost use Rattle.ring_model.specs.declared.notes.Note.{Note};
+
+/// Where logs are lawful and joined with notes, each arrival that the filter passes stands once among all Kept
+/// and Dropped notes of all members, and nothing else stands there.
+pub fn each_frame_stands_exactly_once()
+    ensures { (rules : Rules) (room : ℕ) (cpus : List Logged) (members : List (List Note))
+        → IsGroupReport rules room cpus members → EachStandsOnce cpus members }
+{}
+
+/// The arrivals of a CPU's frames have its number, and indexes that rise.
+pub fn arrivals_rise()
+    ensures { (cpu least : ℕ) (frames : List Frame) → AreOf cpu least frames → AreOf cpu least (arrivals_of frames) }
+{}

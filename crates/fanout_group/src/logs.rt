@@ -1,0 +1,43 @@
+//! The log of a CPU: each arrival with its ticket, hash and verdict, and what was tried with it.
+use frame_view::ItemList;
+
+/// What came of a try.
+#[derive(Clone, Copy, Debug, PartialEq, Eq)]
+pub enum Fate {
+    /// The member kept the packet.
+    Kept,
+    /// The member had no room and was left as it was.
+    Refused,
+    /// The member had no room and the packet is lost.
+    Dropped,
+}
+
+/// One try to give an arrival to a member.
+#[derive(Clone, Copy, Debug, PartialEq, Eq)]
+pub struct Try {
+    /// The member, from 0.
+    pub member: u32,
+    /// What came of it.
+    pub fate: Fate,
+}
+
+/// Tries, in order.
+pub type TryList = ItemList<Try>;
+
+/// One arrival of a CPU.
+#[derive(Debug, Drop)]
+pub struct ArrivalLog {
+    /// The index of its frame in the capture, from 0.
+    pub index: u32,
+    /// Its number among all arrivals of the group, from 0; there exactly in mode `Lb`.
+    pub ticket: Option<u64>,
+    /// Its flow hash, 0 without a key.
+    pub hash: u32,
+    /// How many bytes the filter keeps at most; 0 ends the arrival.
+    pub verdict: u32,
+    /// The tries that were made with it, none where the verdict is 0.
+    pub tries: TryList,
+}
+
+/// The arrivals of a CPU, in order.
+pub type ArrivalList = ItemList<ArrivalLog>;

@@ -1,0 +1,31 @@
+//! What a run logs of a CPU.
+use crate::ArrivalList;
+use capture_file::CaptureError;
+use frame_view::ItemList;
+
+/// How the frames of a CPU ended.
+#[derive(Clone, Copy, Debug, PartialEq, Eq)]
+pub enum CpuEnd {
+    /// The capture was read to its end, and is whole.
+    Whole,
+    /// The capture couldn't be had, or reading it failed.
+    Fault,
+    /// What was read is damaged, or is cut.
+    Damaged(CaptureError),
+}
+
+/// What a run logs of a CPU.
+#[derive(Debug, Drop)]
+pub struct CpuLog {
+    /// The number of frames that were read.
+    pub frames: u32,
+    /// The number of bytes that the capture gave.
+    pub given: u64,
+    /// How it ended.
+    pub end: CpuEnd,
+    /// The arrivals, in order.
+    pub arrivals: ArrivalList,
+}
+
+/// The logs of the CPUs, from 0 up.
+pub type CpuLogList = ItemList<CpuLog>;

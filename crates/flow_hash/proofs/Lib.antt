@@ -1,0 +1,4 @@
+pub mod BitLists
+pub mod BothWays
+pub mod HexTexts
+pub mod Windows

@@ -1,0 +1,12 @@
+use Rattle.std.proofs.Common.{◌≡◌, ◌∙◌}
+use Rattle.std.specs.Int.{w32}
+use Rattle.flow_hash.specs.FlowHash.{source_first}
+use Rattle.flow_hash.proofs.BothWays.{hash_of_ends}
+use Rattle.flow_hash.proofs.flows.hash_v4.Goals as goal
+
+pub returns : goal.returns
+returns c =
+    let part = c.args.part.now in
+    let first : c.source_first-first.result ≡ source_first part.from part.to part.ports = cc in
+    c.hash_ends.ensures
+    ∙ hash_of_ends c.args.key.now w32 part.from part.to part.ports _ _ _ first c.to_be_bytes.ensures c.to_be_bytes-2.ensures

@@ -1,0 +1,3 @@
+pub mod FlowHash
+pub mod HexKey
+pub mod Toeplitz

@@ -1,0 +1,34 @@
+-- The checksum of a header that has its checksum in place is 0.
+use Rattle.std.proofs.Common.{◌≡◌, ℕ, ◌+◌, ◌-◌, ◌<◌, ◌^◌, length, take, drop, arith, ap, ◌∙◌, refl}
+use Rattle.frame_view.specs.InternetChecksum.{checksum_of, sum_of_words, folded}
+use Rattle.frame_view.specs.Built.{built, link_bytes, ip_bytes, ip_checksum}
+use Rattle.frame_view.proofs.Addresses.{address_of_six}
+use Rattle.frame_view.specs.declared.frame_building.Parts.{Parts}
+
+-- a sum of a few words, and what its ones' complement adds to it
+ones_sum_whole : (s : ℕ) → 0 < s → s < 655361 → 0xffff - folded (folded (s + (0xffff - folded (folded s)))) ≡ 0
+ones_sum_whole s some few = omega arith
+
+sum_of_words-ip_bytes : (p : Parts) (k : ℕ) → k < 2 ^ 16 → sum_of_words (ip_bytes p k) ≡ sum_of_words (ip_bytes p 0) + k
+unfolding ip_bytes
+sum_of_words-ip_bytes p k h = omega arith
+
+sum_of_words-bounds : (p : Parts) → (0 < sum_of_words (ip_bytes p 0)) × (sum_of_words (ip_bytes p 0) < 655361)
+unfolding ip_bytes
+sum_of_words-bounds p = (omega arith, omega arith)
+
+checksum_of-ip_bytes : (p : Parts) → checksum_of (ip_bytes p (ip_checksum p)) ≡ 0
+unfolding checksum_of ip_checksum
+checksum_of-ip_bytes p =
+    let s : ℕ = sum_of_words (ip_bytes p 0) in
+    let summed = sum_of_words-ip_bytes p (0xffff - folded (folded s)) (omega arith) in
+    let bounds = sum_of_words-bounds p in
+    ap (λ (n : ℕ). 0xffff - folded (folded n)) summed ∙ ones_sum_whole s bounds.0 bounds.1
+
+-- the IPv4 header of a built frame stands behind its first 14 bytes
+ip_bytes-built : (p : Parts) → length p.to ≡ 6 → length p.from ≡ 6 → take 20 (drop 14 (built p)) ≡ ip_bytes p (ip_checksum p)
+unfolding built link_bytes ip_bytes
+ip_bytes-built p to from = rw (← address_of_six p.to to, ← address_of_six p.from from) refl
+
+pub checksum_of-built : (p : Parts) → length p.to ≡ 6 → length p.from ≡ 6 → checksum_of (take 20 (drop 14 (built p))) ≡ 0
+checksum_of-built p to from = ap checksum_of (ip_bytes-built p to from) ∙ checksum_of-ip_bytes p

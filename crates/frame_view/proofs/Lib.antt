@@ -1,0 +1,4 @@
+pub mod Addresses
+pub mod Checked
+pub mod Viewed
+pub mod Words

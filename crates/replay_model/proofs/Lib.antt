@@ -1,0 +1,16 @@
+pub mod Noted
+pub mod Closings
+pub mod Places
+pub mod Rings
+pub mod Adding
+pub mod Tries
+pub mod Going
+pub mod Drawing
+pub mod Arriving
+pub mod Feeding
+pub mod Ending
+pub mod Captures
+pub mod Turns
+pub mod Soundness
+pub mod Clocks
+pub mod FeedSteps

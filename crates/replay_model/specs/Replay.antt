@@ -1,0 +1,170 @@
+-- The replay report: what a schedule makes of the frames of several CPUs and the rings of a group, where every
+-- look at a status word has the answer that the released blocks give. CPUs and members count from 0.
+use Rattle.std.specs.Prelude.{ℕ, zero, suc, ◌+◌, ◌%◌, Bool, true, false, List, [], ◌∷◌, ◌++◌, length, map, replicate, slice_index_or, slice_set, ◌==◌, if◌then◌else◌, Option, None, Some}
+use Rattle.frame_view.specs.declared.frames.Frame.{Frame}
+use Rattle.ring_model.specs.Offers.{offer_of}
+use Rattle.ring_model.specs.Ring.{Size}
+use Rattle.ring_model.specs.Rings.{Ring, fresh, note_of_put, note_of_tick, note_of_try, noted, read_once}
+use Rattle.ring_model.specs.declared.notes.Offer.{Offer}
+use Rattle.ring_model.specs.declared.notes.Note.{Note}
+use Rattle.ring_model.specs.declared.notes.Note.TheVariants as notes
+use Rattle.fanout_group.specs.Rules.{Rules, home_of, rolls_over}
+use Rattle.fanout_group.specs.Routes.{a_try, present_after}
+use Rattle.fanout_group.specs.declared.logs.ArrivalLog.{ArrivalLog}
+use Rattle.fanout_group.specs.declared.logs.Fate.{Fate}
+use Rattle.fanout_group.specs.declared.logs.Fate.TheVariants.{Kept, Refused, Dropped}
+use Rattle.fanout_group.specs.declared.logs.Try.{Try}
+use Rattle.fanout_group.specs.declared.modes.Mode.{Mode}
+use Rattle.fanout_group.specs.declared.modes.Mode.TheVariants.{Lb}
+use Rattle.replay_model.specs.declared.schedule.Line.{Line}
+use Rattle.replay_model.specs.declared.schedule.Line.TheVariants.{Feed, Read, Tick, Stats}
+
+-- a CPU: what arrives at each frame that isn't fed yet, its present member and its log
+pub record Cpu : Type 0 where
+  pub waiting : List (Option Frame)
+  pub present : ℕ
+  pub log : List ArrivalLog
+
+-- a replay: its CPUs, the rings of its members, and the next ticket
+pub record Replay : Type 0 where
+  pub cpus : List Cpu
+  pub members : List Ring
+  pub ticket : ℕ
+
+abbrev pub no_cpu : Cpu
+no_cpu = record { waiting = []; present = 0; log = [] }
+
+abbrev pub no_ring : Ring
+no_ring = fresh (record { room = 0; blocks = 0; tov = 0 })
+
+abbrev pub cpu_at : Replay → ℕ → Cpu
+cpu_at replay cpu = slice_index_or replay.cpus cpu no_cpu
+
+-- a note more at a member
+abbrev pub noted_at : ℕ → Note → List Ring → List Ring
+noted_at member note members = slice_set members member (noted (slice_index_or members member no_ring) note)
+
+-- what a note says of a try
+abbrev pub fate_of : Note → Fate
+fate_of (notes.Refused cpu index need number) = Refused
+fate_of (notes.Dropped cpu index need number) = Dropped
+fate_of note = Kept
+
+-- tries, whether one of them kept the packet, and the rings after them
+pub record Tried : Type 0 where
+  pub tries : List Try
+  pub kept : Bool
+  pub members : List Ring
+
+-- one try, of a packet that comes back where it isn't kept, and then the tries that follow
+abbrev pub and_then : ℕ → Note → List Ring → Tried → Tried
+and_then member (notes.Refused cpu index need number) members rest = record rest { tries = a_try member Refused ∷ rest.tries }
+and_then member note members rest = record { tries = a_try member Kept ∷ []; kept = true; members = members }
+
+-- tries at so many members, from one on round the group, until one keeps the packet
+abbrev pub try_round : ℕ → ℕ → ℕ → Offer → List Ring → Tried
+try_round count zero at offer members = record { tries = []; kept = false; members = members }
+try_round count (suc left) at offer members =
+    let note = note_of_try (slice_index_or members at no_ring) offer in
+    let after = noted_at at note members in
+    and_then at note after (try_round count left ((at + 1) % count) offer after)
+
+-- a packet that a member keeps or drops
+abbrev pub put_at : ℕ → Offer → List Ring → Tried
+put_at member offer members =
+    let note = note_of_put (slice_index_or members member no_ring) offer in
+    record { tries = a_try member (fate_of note) ∷ []; kept = true; members = noted_at member note members }
+
+-- after tries that kept nothing the packet is put at home
+abbrev pub or_put_at : ℕ → Offer → Tried → Tried
+or_put_at home offer tried =
+    let put = put_at home offer tried.members in
+    if tried.kept then tried else record put { tries = tried.tries ++ put.tries }
+
+-- the tries of an arrival whose home this is
+abbrev pub routed : Rules → ℕ → Offer → List Ring → Tried
+routed rules home offer members =
+    if rolls_over rules then or_put_at home offer (try_round rules.members rules.members home offer members)
+    else put_at home offer members
+
+-- what a verdict leaves of the tries: 0 ends the arrival
+abbrev pub tries_of : Rules → ℕ → Offer → ℕ → List Ring → Tried
+tries_of rules home offer verdict members =
+    if verdict == 0 then record { tries = []; kept = false; members = members } else routed rules home offer members
+
+-- an arrival draws a ticket exactly in mode Lb
+abbrev pub ticket_of : Mode → ℕ → Option ℕ
+ticket_of Lb ticket = Some ticket
+ticket_of mode ticket = None
+
+abbrev pub next_ticket : Mode → ℕ → ℕ
+next_ticket Lb ticket = ticket + 1
+next_ticket mode ticket = ticket
+
+-- an arrival of a CPU
+abbrev pub arrived : Rules → ℕ → ℕ → Frame → Replay → Replay
+arrived rules room cpu frame replay =
+    let of = cpu_at replay cpu in
+    let ticket = ticket_of rules.mode replay.ticket in
+    let offer = offer_of room rules.own (rules.hash frame) (rules.verdict frame) frame in
+    let tried = tries_of rules (home_of rules of.present ticket frame) offer (rules.verdict frame) replay.members in
+    let entry : ArrivalLog = record { index = frame.index; ticket = ticket; hash = rules.hash frame; verdict = rules.verdict frame; tries = tried.tries } in
+    record {
+      cpus = slice_set replay.cpus cpu (record of { present = present_after rules.mode of.present tried.tries; log = of.log ++ entry ∷ [] });
+      members = tried.members;
+      ticket = next_ticket rules.mode replay.ticket;
+    }
+
+-- what is fed: nothing, a frame at which nothing arrives, or one at which a frame arrives
+abbrev pub fed_by : Rules → ℕ → ℕ → List (Option Frame) → Replay → Replay
+fed_by rules room cpu [] replay = replay
+fed_by rules room cpu (None ∷ waiting) replay =
+    record replay { cpus = slice_set replay.cpus cpu (record (cpu_at replay cpu) { waiting = waiting }) }
+fed_by rules room cpu (Some frame ∷ waiting) replay =
+    arrived rules room cpu frame (record replay { cpus = slice_set replay.cpus cpu (record (cpu_at replay cpu) { waiting = waiting }) })
+
+-- the next frame of a CPU
+abbrev pub feed : Rules → ℕ → ℕ → Replay → Replay
+feed rules room cpu replay = fed_by rules room cpu (cpu_at replay cpu).waiting replay
+
+-- one line of the schedule
+abbrev pub done_line : Rules → ℕ → Line → Replay → Replay
+done_line rules room (Feed cpu) replay = feed rules room cpu replay
+done_line rules room (Read member) replay =
+    record replay { members = slice_set replay.members member (read_once (slice_index_or replay.members member no_ring)) }
+done_line rules room (Tick ms) replay = record replay { members = map (λ ring. noted ring (note_of_tick ring ms)) replay.members }
+done_line rules room (Stats member) replay = record replay { members = noted_at member notes.Counted replay.members }
+
+-- the lines in order
+abbrev pub done_lines : Rules → ℕ → List Line → Replay → Replay
+done_lines rules room [] replay = replay
+done_lines rules room (line ∷ lines) replay = done_lines rules room lines (done_line rules room line replay)
+
+-- so many frames of a CPU
+abbrev pub feed_times : Rules → ℕ → ℕ → ℕ → Replay → Replay
+feed_times rules room cpu zero replay = replay
+feed_times rules room cpu (suc times) replay = feed_times rules room cpu times (feed rules room cpu replay)
+
+-- all frames of so many CPUs, from one on
+abbrev pub feed_from : Rules → ℕ → ℕ → ℕ → Replay → Replay
+feed_from rules room cpu zero replay = replay
+feed_from rules room cpu (suc left) replay =
+    feed_from rules room (cpu + 1) left (feed_times rules room cpu (length (cpu_at replay cpu).waiting) replay)
+
+-- each ring is closed
+abbrev pub closed : Replay → Replay
+closed replay = record replay { members = map (λ ring. noted ring notes.Finished) replay.members }
+
+-- before the first line
+abbrev pub started : Rules → Size → List (List (Option Frame)) → Replay
+started rules size arriving = record {
+  cpus = map (λ waiting. record { waiting = waiting; present = 0; log = [] }) arriving;
+  members = replicate rules.members (fresh size);
+  ticket = 0;
+}
+
+-- after the last line each CPU from 0 up is fed to its end, and the rings are closed
+unfoldable pub replayed : Rules → Size → List (List (Option Frame)) → List Line → Replay
+replayed rules size arriving lines =
+    let last = done_lines rules size.room lines (started rules size arriving) in
+    closed (feed_from rules size.room 0 (length last.cpus) last)

@@ -1,0 +1,37 @@
+//! Laws of the definitions, each the contract of a function that does nothing.
+ghost use Rattle.std.specs.Prelude.{◌≡◌, ◌+◌, ◌<◌, ◌≤◌, ℕ, List, [], length};
+ghost use Rattle.ring_model.specs.Fates.{drops_of, kept_of, totals_of};
+ghost use Rattle.ring_model.specs.Ring.{Size, IsRun, MayStand, first_state, state_of};
+ghost use Rattle.ring_model.specs.Rings.{Ring, note_of_put, note_of_tick, note_of_try, state};
+ghost use Rattle.ring_model.specs.declared.notes.Note.{Note};
+ghost use Rattle.ring_model.specs.declared.notes.Offer.{Offer};
+
+/// What a put notes may stand, whatever the reader has released.
+pub fn puts_stand()
+    ensures { (ring : Ring) (offer : Offer) → MayStand ring.size (state ring) (note_of_put ring offer) }
+{}
+
+/// What a try notes may stand.
+pub fn tries_stand()
+    ensures { (ring : Ring) (offer : Offer) → MayStand ring.size (state ring) (note_of_try ring offer) }
+{}
+
+/// What a tick notes may stand, where the clock doesn't go back.
+pub fn ticks_stand()
+    ensures { (ring : Ring) (ms : ℕ) → (state ring).clock ≤ ms
+        → MayStand ring.size (state ring) (note_of_tick ring ms) }
+{}
+
+/// A ring whose notes retire fewer blocks than it has drops nothing.
+pub fn a_ring_with_blocks_left_drops_nothing()
+    ensures { (size : Size) (notes : List Note) → IsRun size (first_state size) notes
+        → length (state_of size notes).done < size.blocks → drops_of notes ≡ [] }
+{}
+
+/// Over a whole run the statistics count each packet that a note keeps or drops, and no other.
+pub fn statistics_count_each_packet()
+    ensures packets { (size : Size) (notes : List Note)
+        → (totals_of size notes).packets ≡ length (kept_of notes) + length (drops_of notes) }
+    ensures drops { (size : Size) (notes : List Note)
+        → (totals_of size notes).drops ≡ length (drops_of notes) }
+{}

@@ -1,0 +1,29 @@
+//! What a run reports.
+use fanout_group::CpuLogList;
+use frame_view::{ByteList, ItemList, Packets};
+use ring_model::Notes;
+
+/// What a run reports of its CPUs and its members.
+#[derive(Debug, Drop)]
+pub struct RunReport {
+    /// The CPUs, from 0 up.
+    pub cpus: CpuLogList,
+    /// The members, from 0 up.
+    pub members: MemberList,
+}
+
+/// What a run reports of a member.
+#[derive(Debug, Drop)]
+pub struct MemberReport {
+    /// The notes of its ring.
+    pub notes: Notes,
+    /// The packets that its reader took out of retired blocks.
+    pub walked: Packets,
+    /// The retired blocks as bytes, where they were asked for.
+    pub dump: ByteList,
+    /// The number of blocks that its reader walked.
+    pub blocks: u64,
+}
+
+/// The members, from 0 up.
+pub type MemberList = ItemList<MemberReport>;

@@ -1,0 +1,12 @@
+pub mod Commands
+pub mod Runs
+pub mod Names
+pub mod Headline
+pub mod Expected
+pub mod Conclusions
+pub mod Stops
+pub mod Jobs
+pub mod Reporting
+pub mod Concluding
+pub mod Making
+pub mod Complete

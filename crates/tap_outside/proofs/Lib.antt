@@ -1,0 +1,3 @@
+pub mod Fronts
+mod FileLists
+mod Writes

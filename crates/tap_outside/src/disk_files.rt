@@ -1,0 +1,174 @@
+//! Real files. What they hold is the system's word, so nothing here tells any content.
+ghost use Rattle.std.specs.Prelude.{◌≡◌, true, refl, None, IfOk};
+ghost use Rattle.std.specs.Io.{ReadsAtMost};
+
+use crate::{Failed, OutError, Source, Store};
+use std::fs::OpenFile;
+use std::io::{ErrorKind, Read, Write};
+use std::rt::Files;
+use std::{fs, io};
+
+/// The most bytes that one read of a real file gives.
+const PIECE: usize = 65_536;
+
+/// How often a read or a write is tried that a signal interrupts.
+pub(crate) const TRIES: u32 = 16;
+
+/// A real file, open for reading.
+#[derive(Drop)]
+pub struct DiskSource<F> {
+    /// The file, open; it is closed where the source is dropped.
+    file: F,
+    /// What a read takes from the system, before it goes to the caller.
+    buffer: Vec<u8>,
+    /// How many reads failed; it stands still at the greatest u64.
+    faults: u64,
+}
+
+impl<F: Read + Drop> Source for DiskSource<F> {
+    ghost left = { λ _. None };
+
+    ghost faults = { λ source. source.faults };
+
+    /// A read that a signal interrupts is tried again, 16 times at most. Each error that is left is a fault.
+    fn read(&mut self, into: &mut [u8]) -> Result<usize, Failed> {
+        let room = into.len().min(self.buffer.len());
+        let window = &mut self.buffer[..room];
+        match read_some(&mut self.file, window) {
+            Ok(given) => {
+                into[..given].copy_from_slice(&window[..given]);
+                Ok(given)
+            }
+            Err(_) => {
+                self.faults = self.faults.saturating_add(1);
+                Err(Failed)
+            }
+        }
+    }
+}
+
+/// One read, tried again where a signal interrupts it.
+fn read_some<F: Read>(file: &mut F, into: &mut [u8]) -> io::Result<usize>
+    ensures { ReadsAtMost result into.new }
+{
+    for _ in 1..TRIES {
+        match file.read(into) {
+            Err(error) if error.kind() == ErrorKind::Interrupted => {}
+            result => return result,
+        }
+    }
+    file.read(into)
+}
+
+/// Real files, by their paths in UTF-8. A file that isn't there, a folder, and a name that is no path count
+/// as faults when they are fetched. A save writes over the file that is there. An error that the system
+/// tells only after a file is closed isn't seen.
+#[derive(Drop)]
+pub struct DiskStore<'a, R> {
+    /// What opens files, and gives memory for a source's buffer.
+    rt: &'a R,
+    /// How many fetches failed, and how many sources had a fault when they were closed.
+    read_faults: u64,
+    /// How many saves failed.
+    save_faults: u64,
+}
+
+impl<'a, R: Files + AllocGlobal> DiskStore<'a, R>
+where
+    R::File: Send,
+{
+    /// The files of this system, with no fault so far. It takes no memory.
+    pub fn new(rt: &'a R) -> DiskStore<'a, R>
+        ensures held { ⟦<DiskStore<'a, R> as Store>⟧.held result ≡ None }
+        ensures read_faults { ⟦<DiskStore<'a, R> as Store>⟧.read_faults result ≡ 0 }
+        ensures save_faults { ⟦<DiskStore<'a, R> as Store>⟧.save_faults result ≡ 0 }
+    {
+        DiskStore {
+            rt,
+            read_faults: 0,
+            save_faults: 0,
+        }
+    }
+
+    /// The number of faults of reading so far; it stands still at the greatest u64.
+    pub fn read_faults(&self) -> u64
+        ensures { result ≡ ⟦<DiskStore<'a, R> as Store>⟧.read_faults self.now }
+    {
+        self.read_faults
+    }
+
+    /// The number of faults of saving so far; it stands still at the greatest u64.
+    pub fn save_faults(&self) -> u64
+        ensures { result ≡ ⟦<DiskStore<'a, R> as Store>⟧.save_faults self.now }
+    {
+        self.save_faults
+    }
+}
+
+impl<'a, R: Files + AllocGlobal> Store for DiskStore<'a, R>
+where
+    R::File: Send,
+{
+    type Input = DiskSource<R::File>;
+
+    ghost held = { λ _. None };
+
+    ghost meant_to_read = { λ _ _. true };
+
+    ghost meant_to_save = { λ _ _. true };
+
+    ghost read_faults = { λ store. store.read_faults };
+
+    ghost save_faults = { λ store. store.save_faults };
+
+    fn fetch(&mut self, name: &[u8]) -> Result<DiskSource<R::File>, OutError> {
+        let opened = open_source(self.rt, name);
+        if let Err(OutError::Failed) = opened {
+            self.read_faults = self.read_faults.saturating_add(1);
+        }
+        opened
+    }
+
+    fn close(&mut self, input: DiskSource<R::File>) {
+        if input.faults > 0 {
+            self.read_faults = self.read_faults.saturating_add(1);
+        }
+    }
+
+    fn save(&mut self, name: &[u8], bytes: &[u8]) -> Result<(), OutError> {
+        let saved = write_file(self.rt, name, bytes);
+        if let Err(OutError::Failed) = saved {
+            self.save_faults = self.save_faults.saturating_add(1);
+        }
+        saved
+    }
+
+    ghost untold_reads = { λ store name untold. refl };
+
+    ghost untold_saves = { λ store name untold. refl };
+}
+
+/// Opens a file for reading. A folder, which the system would open too, has failed.
+fn open_source<R: Files + AllocGlobal>(rt: &R, name: &[u8]) -> Result<DiskSource<R::File>, OutError>
+    ensures { IfOk result (λ input. input.faults ≡ 0) }
+{
+    let path = str::from_utf8(name).map_err(|_| Failed)?;
+    let file = fs::open(rt, path)?;
+    if file.metadata()?.is_dir() {
+        return Err(OutError::Failed);
+    }
+    Ok(DiskSource {
+        file,
+        buffer: vec![in rt.alloc(); 0; PIECE]?,
+        faults: 0,
+    })
+}
+
+/// Makes a file of these bytes. Once it is open its old bytes are gone, so want of memory is a fault from
+/// there on: the file may hold anything then.
+fn write_file<R: Files>(rt: &R, name: &[u8], bytes: &[u8]) -> Result<(), OutError> {
+    let path = str::from_utf8(name).map_err(|_| Failed)?;
+    let mut file = fs::create(rt, path)?;
+    file.write_all(bytes).map_err(|_| Failed)?;
+    Ok(())
+}

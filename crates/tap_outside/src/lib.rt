@@ -1,0 +1,30 @@
+//! The outside as the product sees it: sources that are read, sinks that are written and stores of named
+//! files, each with a count of its faults; in memory, on disk, and standard output.
+#![tactic(auto)]
+
+mod causes;
+mod disk_files;
+mod memory_files;
+mod memory_sink;
+mod memory_source;
+mod memory_store;
+mod reading;
+mod standard_output;
+mod storing;
+mod sure_store;
+#[cfg(test)]
+mod tests;
+mod words;
+mod writing;
+
+pub use causes::{Failed, OutError};
+pub use disk_files::{DiskSource, DiskStore};
+pub use memory_sink::MemSink;
+pub use memory_source::MemSource;
+pub use memory_store::MemStore;
+pub use reading::Source;
+pub use standard_output::StdSink;
+pub use storing::Store;
+pub use sure_store::{SureSource, SureStore};
+pub use words::Word;
+pub use writing::{Sink, write_whole};

@@ -1,0 +1,97 @@
+//! A sink that keeps its bytes in memory, and fails where it is told to.
+ghost use Rattle.std.specs.Prelude.{◌≡◌, ◌<◌, ◌≤◌, ◌↔◌, [], Some, length, Contains, IfOk, OnOk, IsErrOf};
+ghost use Rattle.std.specs.Io.KnownBytes.{WriteAppends};
+ghost use Rattle.tap_outside.specs.Counts.{counted, Rose};
+ghost use Rattle.tap_outside.specs.Outcomes.{OnFailed, OnMemory};
+ghost use Rattle.tap_outside.specs.Sinks.{after_failed_write, after_write, fresh_sink};
+
+use crate::{OutError, Sink};
+use frame_view::MomentList;
+use std::alloc::Global;
+use std::marker::Model;
+
+/// A sink that keeps its bytes in memory. Contracts see the bytes written, the numbers of the writes that
+/// fail, and how many writes there were and failed.
+#[derive(Debug, Drop)]
+pub struct MemSink {
+    /// The bytes written so far.
+    bytes: Vec<u8>,
+    /// The numbers of the writes that fail, from 1, in any order.
+    failing: MomentList,
+    /// How many writes there were, those left out that wanted memory; it stands still at the greatest u64.
+    writes: u64,
+    /// How many of them failed; it stands still at the greatest u64.
+    faults: u64,
+}
+
+impl Model for MemSink {
+    ghost use Rattle.tap_outside.specs.Sinks.{MemSinkState};
+
+    ghost Value = { MemSinkState };
+
+    ghost view = { λ sink. record {
+      written = sink.bytes.items;
+      failing = sink.failing;
+      writes = sink.writes;
+      faults = sink.faults;
+    } };
+}
+
+impl MemSink {
+    /// A sink without a byte. The writes fail whose numbers, counted from 1, stand in `failing`; a write that
+    /// wants memory isn't counted. It takes no memory.
+    pub fn new(alloc: Global, failing: MomentList) -> MemSink
+        ensures fresh { result ≡ fresh_sink failing }
+        ensures written { ⟦<MemSink as Sink>⟧.written result ≡ Some [] }
+        ensures faults { ⟦<MemSink as Sink>⟧.faults result ≡ 0 }
+    {
+        MemSink {
+            bytes: Vec::new(alloc),
+            failing,
+            writes: 0,
+            faults: 0,
+        }
+    }
+
+    /// The bytes written so far, lent.
+    pub fn written(&self) -> &[u8]
+        ensures { ⟦<MemSink as Sink>⟧.written self.now ≡ Some result.now }
+    {
+        self.bytes.as_slice()
+    }
+}
+
+impl Sink for MemSink {
+    ghost written = { λ sink. Some sink.written };
+
+    ghost faults = { λ sink. sink.faults };
+
+    fn write(&mut self, from: &[u8]) -> Result<usize, OutError>
+        requires { 0 < length from.now }
+
+        // A write fails exactly where its number stands among those that are to fail. Else it takes the whole
+        // piece, or wants memory.
+        ensures fails { IsErrOf result OutError.Failed ↔
+            Contains self.old.failing (counted self.old.writes) }
+        ensures whole { IfOk result (λ n. n ≡ length from.now) }
+        ensures ok { OnOk result (self.new ≡ after_write self.old from.now) }
+        ensures failed { OnFailed result (self.new ≡ after_failed_write self.old) }
+        ensures memory { OnMemory result (self.new ≡ self.old) }
+
+        // What each sink promises.
+        ensures bound { IfOk result (λ n. (0 < n) × (n ≤ length from.now)) }
+        ensures bytes { WriteAppends (Some self.old.written) (Some self.new.written) result from.now }
+        ensures later { self.old.faults ≤ self.new.faults }
+        ensures cause { OnFailed result (Rose self.old.faults self.new.faults) }
+    {
+        let number = self.writes.saturating_add(1);
+        if self.failing.as_slice().contains(&number) {
+            self.writes = number;
+            self.faults = self.faults.saturating_add(1);
+            return Err(OutError::Failed);
+        }
+        self.bytes.extend_from_slice(from)?;
+        self.writes = number;
+        Ok(from.len())
+    }
+}

@@ -1,0 +1,108 @@
+//! A source over bytes in memory, which fails where it is told to.
+ghost use Rattle.std.specs.Prelude.{◌≡◌, ◌<◌, ◌≤◌, ◌↔◌, Some, length, drop, Contains, IsErr, IfOk, OnErr};
+ghost use Rattle.std.specs.Io.{ReadsAtMost};
+ghost use Rattle.std.specs.Io.KnownBytes.{ReadConsumes};
+ghost use Rattle.tap_outside.specs.Counts.{counted, Rose};
+ghost use Rattle.tap_outside.specs.Sources.{after_failed_read, after_read, fresh_source, read_length};
+
+use crate::{Failed, Source};
+use frame_view::{ByteList, MomentList};
+use std::marker::Model;
+
+/// A source over bytes in memory. Contracts see the bytes that are left, the most that one read gives, the
+/// numbers of the reads that fail, and how many reads there were and failed.
+#[derive(Debug, Drop)]
+pub struct MemSource {
+    /// All bytes of the source, those read among them.
+    bytes: ByteList,
+    /// How many of them were read, at most all.
+    at: usize,
+    /// The most bytes that one read gives, at least 1.
+    piece: usize,
+    /// The numbers of the reads that fail, from 1, in any order.
+    failing: MomentList,
+    /// How many reads there were; it stands still at the greatest u64.
+    reads: u64,
+    /// How many of them failed; it stands still at the greatest u64.
+    faults: u64,
+}
+
+impl Model for MemSource {
+    ghost use Rattle.std.specs.Prelude.{◌≤◌, length, drop};
+    ghost use Rattle.tap_outside.specs.Sources.{MemSourceState};
+
+    ghost Value = { MemSourceState };
+
+    ghost view = { λ source. record {
+      left = drop source.at source.bytes;
+      piece = source.piece;
+      failing = source.failing;
+      reads = source.reads;
+      faults = source.faults;
+    } };
+
+    ghost invariant = { λ source. (1 ≤ source.piece) × (source.at ≤ length source.bytes) };
+}
+
+impl MemSource {
+    /// A source of these bytes, of which a read gives at most `piece`. The reads fail whose numbers, counted
+    /// from 1, stand in `failing`. It takes no memory.
+    pub fn new(bytes: ByteList, piece: usize, failing: MomentList) -> MemSource
+        requires { 1 ≤ piece }
+        ensures fresh { result ≡ fresh_source bytes piece failing }
+        ensures left { ⟦<MemSource as Source>⟧.left result ≡ Some bytes }
+        ensures faults { ⟦<MemSource as Source>⟧.faults result ≡ 0 }
+    {
+        MemSource {
+            bytes,
+            at: 0,
+            piece,
+            failing,
+            reads: 0,
+            faults: 0,
+        }
+    }
+
+    /// The number of reads that failed so far; it stands still at the greatest u64.
+    pub(crate) fn faults(&self) -> u64
+        ensures { result ≡ self.now.faults }
+    {
+        self.faults
+    }
+}
+
+impl Source for MemSource {
+    ghost left = { λ source. Some source.left };
+
+    ghost faults = { λ source. source.faults };
+
+    fn read(&mut self, into: &mut [u8]) -> Result<usize, Failed>
+        requires { 0 < length into.old }
+
+        // A read fails exactly where its number stands among those that are to fail.
+        ensures fails { IsErr result ↔ Contains self.old.failing (counted self.old.reads) }
+        ensures given { IfOk result (λ n. n ≡ read_length self.old (length into.old)) }
+        ensures ok { IfOk result (λ n. self.new ≡ after_read self.old n) }
+        ensures err { OnErr result (self.new ≡ after_failed_read self.old) }
+
+        // What each source promises.
+        ensures bound { ReadsAtMost result into.new }
+        ensures bytes { ReadConsumes (Some self.old.left) (Some self.new.left) result into.new }
+        ensures rest { IfOk result (λ n. drop n into.new ≡ drop n into.old) }
+        ensures unchanged { OnErr result (into.new ≡ into.old) }
+        ensures later { self.old.faults ≤ self.new.faults }
+        ensures cause { OnErr result (Rose self.old.faults self.new.faults) }
+    {
+        self.reads = self.reads.saturating_add(1);
+        if self.failing.as_slice().contains(&self.reads) {
+            self.faults = self.faults.saturating_add(1);
+            return Err(Failed);
+        }
+        let (_, left) = self.bytes.as_slice().split_at(self.at);
+        let given = into.len().min(self.piece).min(left.len());
+        let (front, _) = left.split_at(given);
+        into[..given].copy_from_slice(front);
+        self.at += given;
+        Ok(given)
+    }
+}

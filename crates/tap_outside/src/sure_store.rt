@@ -1,0 +1,134 @@
+//! A store in memory that has no fault.
+ghost use Rattle.std.specs.Prelude.{◌≡◌, ◌<◌, ◌≤◌, true, refl, None, Some, length, drop, IfOk, OnOk, OnErr, IsOk};
+ghost use Rattle.std.specs.Io.{ReadsAtMost};
+ghost use Rattle.std.specs.Io.KnownBytes.{ReadConsumes};
+ghost use Rattle.tap_outside.specs.Contents.{HoldsFile, KeepsOthers};
+ghost use Rattle.tap_outside.specs.Stores.{contents_of};
+
+use crate::memory_store::SAVED_PIECE;
+use crate::{Failed, MemStore, OutError, Source, Store};
+use frame_view::{ByteList, Memory, MomentList};
+use std::alloc::Global;
+use std::marker::Model;
+
+/// A source over bytes in memory that never fails. Contracts see the bytes that are left.
+#[derive(Debug, Drop)]
+pub struct SureSource {
+    /// All bytes of the source, those read among them.
+    bytes: ByteList,
+    /// How many of them were read, at most all.
+    at: usize,
+}
+
+impl Model for SureSource {
+    ghost use Rattle.std.specs.Prelude.{◌≤◌, ℕ, List, length, drop};
+
+    ghost Value = { List ℕ };
+
+    ghost view = { λ source. drop source.at source.bytes };
+
+    ghost invariant = { λ source. source.at ≤ length source.bytes };
+}
+
+impl SureSource {
+    /// A source of these bytes. It takes no memory.
+    fn new(bytes: ByteList) -> SureSource
+        ensures { result ≡ bytes }
+    {
+        SureSource { bytes, at: 0 }
+    }
+}
+
+impl Source for SureSource {
+    ghost left = { λ source. Some source };
+
+    ghost faults = { λ _. 0 };
+
+    fn read(&mut self, into: &mut [u8]) -> Result<usize, Failed>
+        requires { 0 < length into.old }
+        ensures sure { IsOk result }
+        ensures bound { ReadsAtMost result into.new }
+        ensures bytes { ReadConsumes (Some self.old) (Some self.new) result into.new }
+        ensures rest { IfOk result (λ n. drop n into.new ≡ drop n into.old) }
+    {
+        let (_, left) = self.bytes.as_slice().split_at(self.at);
+        let given = into.len().min(left.len());
+        let (front, _) = left.split_at(given);
+        into[..given].copy_from_slice(front);
+        self.at += given;
+        Ok(given)
+    }
+}
+
+/// A store in memory that has no fault: a name that was never set up or saved gives an empty source.
+/// Contracts see its files.
+#[derive(Debug, Drop)]
+pub struct SureStore {
+    /// What gives memory for the files and for the sources.
+    alloc: Global,
+    /// What keeps the files. No list makes it fail, and its counts are not looked at.
+    files: MemStore,
+}
+
+impl Model for SureStore {
+    ghost use Rattle.std.specs.Prelude.{List};
+    ghost use Rattle.tap_outside.specs.Stores.{HeldFile};
+
+    ghost Value = { List HeldFile };
+
+    ghost view = { λ store. store.files.files };
+}
+
+impl SureStore {
+    /// A store without a file. It takes no memory.
+    pub fn new(alloc: Global) -> SureStore
+        ensures { ⟦<SureStore as Store>⟧.held result ≡ Some (λ name. None) }
+    {
+        let files = MemStore::new(alloc, MomentList::new(alloc), MomentList::new(alloc));
+        SureStore { alloc, files }
+    }
+
+    /// Makes a name hold these bytes. After `Memory` the store is as before.
+    pub fn put(&mut self, name: &[u8], bytes: &[u8]) -> Result<(), Memory>
+        ensures held { OnOk result (HoldsFile (⟦<SureStore as Store>⟧.held self.new) name.now bytes.now) }
+        ensures others { KeepsOthers (⟦<SureStore as Store>⟧.held self.old)
+            (⟦<SureStore as Store>⟧.held self.new) name.now }
+        ensures err { OnErr result (self.new ≡ self.old) }
+    {
+        let failing = MomentList::new(self.alloc);
+        self.files.put(name, bytes, SAVED_PIECE, failing)
+    }
+}
+
+impl Store for SureStore {
+    type Input = SureSource;
+
+    ghost held = { λ store. Some (contents_of store) };
+
+    ghost meant_to_read = { λ _ _. true };
+
+    ghost meant_to_save = { λ _ _. true };
+
+    ghost read_faults = { λ _. 0 };
+
+    ghost save_faults = { λ _. 0 };
+
+    fn fetch(&mut self, name: &[u8]) -> Result<SureSource, OutError> {
+        let bytes = match self.files.file(name) {
+            Some(held) => held.to_vec(self.alloc)?,
+            None => Vec::new(self.alloc),
+        };
+        Ok(SureSource::new(ByteList::from_vec(bytes)))
+    }
+
+    fn close(&mut self, _input: SureSource) {}
+
+    fn save(&mut self, name: &[u8], bytes: &[u8]) -> Result<(), OutError> {
+        self.put(name, bytes)?;
+        Ok(())
+    }
+
+    ghost untold_reads = { λ store name untold. refl };
+
+    ghost untold_saves = { λ store name untold. refl };
+}

@@ -1,0 +1,93 @@
+-- The printed lines of a run, as bytes. Numbers are decimal, and a line feed ends each line.
+use Rattle.std.specs.Prelude.{ℕ, ◌+◌, ◌-◌, List, [], ◌∷◌, ◌++◌, length, sum_by, count_by, flat_map, codes, decimal, ◌==◌}
+use Rattle.capture_file.specs.declared.error.CaptureError.{CaptureError}
+use Rattle.capture_file.specs.declared.error.CaptureError.TheVariants.{BadMagic, BadVersion, BadLink, BadLength, Truncated, TooLarge, Memory, BadInterface}
+use Rattle.ring_model.specs.Fates.{counts_of, totals_of}
+use Rattle.ring_model.specs.Ring.{Size}
+use Rattle.ring_model.specs.declared.notes.Stats.{Stats}
+use Rattle.fanout_group.specs.declared.runs.CpuEnd.{CpuEnd}
+use Rattle.fanout_group.specs.declared.runs.CpuEnd.TheVariants.{Whole, Fault, Damaged}
+use Rattle.fanout_group.specs.declared.runs.CpuLog.{CpuLog}
+use Rattle.setup_text.specs.declared.reports.MemberReport.{MemberReport}
+use Rattle.setup_text.specs.declared.reports.RunReport.{RunReport}
+
+-- what is wrong with a capture, and the place of it in bytes; of a capture that is too large, the most that it may have
+unfoldable pub damage_text : CaptureError → List ℕ
+damage_text BadMagic = codes "bad_magic 0"
+damage_text BadVersion = codes "bad_version 0"
+damage_text (BadLink link) = codes "bad_link 0"
+damage_text (BadLength place) = codes "bad_length " ++ decimal place
+damage_text (Truncated place) = codes "truncated " ++ decimal place
+damage_text TooLarge = codes "too_large 33554432"
+damage_text (BadInterface place) = codes "bad_interface " ++ decimal place
+-- no end of a CPU holds want of memory
+damage_text Memory = []
+
+-- how the frames of a CPU ended
+unfoldable pub end_text : CpuEnd → List ℕ
+end_text Whole = codes "ok"
+end_text Fault = codes "fault"
+end_text (Damaged error) = damage_text error
+
+-- the line of a CPU
+unfoldable pub cpu_line : ℕ → CpuLog → List ℕ
+cpu_line cpu log =
+    codes "cpu " ++ (decimal cpu ++ (codes " frames " ++ (decimal log.frames
+    ++ (codes " arrivals " ++ (decimal (length log.arrivals) ++ (codes " end " ++ (end_text log.end ++ codes "\n")))))))
+
+-- the lines of CPUs that have the numbers from this one up
+abbrev pub cpu_lines : ℕ → List CpuLog → List ℕ
+cpu_lines cpu [] = []
+cpu_lines cpu (log ∷ logs) = cpu_line cpu log ++ cpu_lines (cpu + 1) logs
+
+-- the numbers of statistics
+unfoldable pub stats_text : Stats → List ℕ
+stats_text stats =
+    codes " packets " ++ (decimal stats.packets ++ (codes " drops " ++ (decimal stats.drops
+    ++ (codes " freezes " ++ decimal stats.freezes))))
+
+-- the line of a member, with its statistics over the whole run and the number of blocks that its reader walked
+unfoldable pub member_line : ℕ → Stats → ℕ → List ℕ
+member_line member stats blocks =
+    codes "member " ++ (decimal member ++ (stats_text stats ++ (codes " blocks " ++ (decimal blocks ++ codes "\n"))))
+
+-- the line of statistics that a member's Counted note took
+unfoldable pub count_line : ℕ → Stats → List ℕ
+count_line member stats = codes "count " ++ (decimal member ++ (stats_text stats ++ codes "\n"))
+
+-- the lines of a member: its own, and one for each of its Counted notes
+unfoldable pub member_text : Size → ℕ → MemberReport → List ℕ
+member_text size member report =
+    member_line member (totals_of size report.notes) report.blocks
+    ++ flat_map (count_line member) (counts_of size report.notes)
+
+-- the lines of members that have the numbers from this one up
+abbrev pub member_lines : Size → ℕ → List MemberReport → List ℕ
+member_lines size member [] = []
+member_lines size member (report ∷ reports) = member_text size member report ++ member_lines size (member + 1) reports
+
+-- the number of all arrivals, and of those that the filter ended: their verdict is 0
+abbrev pub arrivals_in : List CpuLog → ℕ
+arrivals_in logs = sum_by (λ log. length log.arrivals) logs
+
+abbrev pub filtered_in : List CpuLog → ℕ
+filtered_in logs = sum_by (λ log. count_by (λ entry. entry.verdict == 0) log.arrivals) logs
+
+-- the number of packets that members kept, and of those that they dropped
+abbrev pub kept_in : Size → List MemberReport → ℕ
+kept_in size reports = sum_by (λ report. (totals_of size report.notes).packets - (totals_of size report.notes).drops) reports
+
+abbrev pub drops_in : Size → List MemberReport → ℕ
+drops_in size reports = sum_by (λ report. (totals_of size report.notes).drops) reports
+
+-- the line of a run's sums
+unfoldable pub total_line : ℕ → ℕ → ℕ → ℕ → List ℕ
+total_line arrivals filtered kept drops =
+    codes "total arrivals " ++ (decimal arrivals ++ (codes " filtered " ++ (decimal filtered
+    ++ (codes " kept " ++ (decimal kept ++ (codes " drops " ++ (decimal drops ++ codes "\n")))))))
+
+-- the lines of a run: the CPUs', the members' and the sums
+unfoldable pub summary_of : Size → RunReport → List ℕ
+summary_of size report =
+    cpu_lines 0 report.cpus ++ (member_lines size 0 report.members
+    ++ total_line (arrivals_in report.cpus) (filtered_in report.cpus) (kept_in size report.members) (drops_in size report.members))

@@ -1,0 +1,109 @@
+//! The lines of members, and the sums over them.
+ghost use Rattle.std.specs.Prelude.{◌≡◌, ◌++◌, ◌≤◌, IfOk, OnOk, flat_map, string_bytes};
+ghost use Rattle.ring_model.specs.Fates.{totals_of};
+ghost use Rattle.ring_model.specs.Ring.{AtEachSize};
+ghost use Rattle.tap_printing.specs.Lines.{count_line, drops_in, kept_in, member_line, member_lines, member_text, stats_text};
+
+use frame_view::Memory;
+use ring_model::{Stats, Tally, tally_notes};
+use setup_text::MemberReport;
+use std::alloc::Global;
+
+/// Numbers of packets over several members.
+#[derive(Clone, Copy, Debug)]
+pub(crate) struct Passed {
+    pub(crate) kept: u128,
+    pub(crate) drops: u128,
+}
+
+/// Appends the lines of members, from 0 up, and says how many packets they kept and dropped.
+pub(crate) fn push_members(
+    alloc: Global,
+    text: &mut Vec<u8>,
+    tov: u64,
+    members: &[MemberReport],
+) -> Result<Passed, Memory>
+    ensures lines { OnOk result (AtEachSize tov
+        (λ size. text.new.items ≡ text.old.items ++ member_lines size 0 members.now)) }
+    ensures kept { IfOk result
+        (λ passed. AtEachSize tov (λ size. passed.kept ≡ kept_in size members.now)) }
+    ensures drops { IfOk result
+        (λ passed. AtEachSize tov (λ size. passed.drops ≡ drops_in size members.now)) }
+{
+    let mut passed = Passed { kept: 0, drops: 0 };
+    for (member, report) in members.iter().enumerate() {
+        let stats = push_member(alloc, text, tov, member, report)?;
+        passed.kept += u128::from(stats.packets - stats.drops);
+        passed.drops += u128::from(stats.drops);
+    }
+    Ok(passed)
+}
+
+/// Appends the lines of a member, and gives its statistics over the whole run.
+#[tactic(auto, unfolding(crate::specs::Lines::member_text))]
+fn push_member(
+    alloc: Global,
+    text: &mut Vec<u8>,
+    tov: u64,
+    member: usize,
+    report: &MemberReport,
+) -> Result<Stats, Memory>
+    ensures lines { OnOk result (AtEachSize tov
+        (λ size. text.new.items ≡ text.old.items ++ member_text size member report.now)) }
+    ensures stats { IfOk result
+        (λ stats. AtEachSize tov (λ size. stats ≡ totals_of size report.now.notes)) }
+    ensures fewer { IfOk result (λ stats. stats.drops ≤ stats.packets) }
+{
+    let tally = tally_notes(alloc, tov, &report.notes)?;
+    let line = member_line(alloc, member, tally.totals, report.blocks)?;
+    text.extend_from_slice(line.as_bytes())?;
+    push_counts(alloc, text, member, tally.counts.as_slice())?;
+    Ok(tally.totals)
+}
+
+/// Appends the lines of the statistics that a member's notes took.
+fn push_counts(
+    alloc: Global,
+    text: &mut Vec<u8>,
+    member: usize,
+    counts: &[Stats],
+) -> Result<(), Memory>
+    ensures { OnOk result (text.new.items ≡ text.old.items ++ flat_map (count_line member) counts.now) }
+{
+    for stats in counts {
+        let line = count_line(alloc, member, *stats)?;
+        text.extend_from_slice(line.as_bytes())?;
+    }
+    Ok(())
+}
+
+/// The line of a member.
+#[tactic(auto, unfolding(crate::specs::Lines::member_line))]
+fn member_line(alloc: Global, member: usize, stats: Stats, blocks: u64) -> Result<String, Memory>
+    ensures { IfOk result (λ line. string_bytes line ≡ member_line member stats blocks) }
+{
+    let numbers = stats_text(alloc, stats)?;
+    Ok(format!(in alloc; "member {member}{numbers} blocks {blocks}\n")?)
+}
+
+/// The line of statistics that a member's notes took.
+#[tactic(auto, unfolding(crate::specs::Lines::count_line))]
+fn count_line(alloc: Global, member: usize, stats: Stats) -> Result<String, Memory>
+    ensures { IfOk result (λ line. string_bytes line ≡ count_line member stats) }
+{
+    let numbers = stats_text(alloc, stats)?;
+    Ok(format!(in alloc; "count {member}{numbers}\n")?)
+}
+
+/// The numbers of statistics.
+#[tactic(auto, unfolding(crate::specs::Lines::stats_text))]
+fn stats_text(alloc: Global, stats: Stats) -> Result<String, Memory>
+    ensures { IfOk result (λ text. string_bytes text ≡ stats_text stats) }
+{
+    let Stats {
+        packets,
+        drops,
+        freezes,
+    } = stats;
+    Ok(format!(in alloc; " packets {packets} drops {drops} freezes {freezes}")?)
+}

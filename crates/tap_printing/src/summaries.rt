@@ -1,0 +1,44 @@
+//! The lines of a whole run.
+ghost use Rattle.std.specs.Prelude.{◌≡◌, IfOk, string_bytes};
+ghost use Rattle.ring_model.specs.Ring.{AtEachSize};
+ghost use Rattle.tap_printing.specs.Lines.{summary_of, total_line};
+
+use crate::cpu_lines::{arrivals_in, filtered_in, push_cpus};
+use crate::member_lines::{Passed, push_members};
+use frame_view::{ByteList, Memory};
+use setup_text::RunReport;
+use std::alloc::Global;
+
+/// The lines of a run, each ended by a line feed: those of the CPUs from 0 up, those of the members, and the sums.
+/// `tov` is the time-out of the rings in milliseconds. The lines are this project's own choice. They don't hang on the
+/// size of a block, nor on the number of blocks.
+#[tactic(auto, unfolding(crate::specs::Lines::summary_of))]
+pub fn summary(alloc: Global, tov: u64, report: &RunReport) -> Result<ByteList, Memory>
+    ensures { IfOk result
+        (λ text. AtEachSize tov (λ size. text ≡ summary_of size report.now)) }
+{
+    let mut text = Vec::new(alloc);
+    let cpus = report.cpus.as_slice();
+    push_cpus(alloc, &mut text, cpus)?;
+    let passed = push_members(alloc, &mut text, tov, report.members.as_slice())?;
+    let line = total_line(alloc, arrivals_in(cpus), filtered_in(cpus), passed)?;
+    text.extend_from_slice(line.as_bytes())?;
+    Ok(ByteList::from_vec(text))
+}
+
+/// The line of a run's sums.
+#[tactic(auto, unfolding(crate::specs::Lines::total_line))]
+fn total_line(
+    alloc: Global,
+    arrivals: u128,
+    filtered: u128,
+    passed: Passed,
+) -> Result<String, Memory>
+    ensures { IfOk result
+        (λ line. string_bytes line ≡ total_line arrivals filtered passed.kept passed.drops) }
+{
+    let Passed { kept, drops } = passed;
+    Ok(format!(in alloc;
+        "total arrivals {arrivals} filtered {filtered} kept {kept} drops {drops}\n"
+    )?)
+}

@@ -1,0 +1,83 @@
+//! Texts, read to their end or past their largest size.
+ghost use Rattle.std.specs.Prelude.{◌≡◌, ◌<◌, ◌≤◌, length, IfOk, IsErrOf, IsTrue, vec_len};
+ghost use Rattle.std.specs.Io.KnownBytes.{Consumes, IsAtEnd};
+ghost use Rattle.tap_outside.specs.Counts.{Rose};
+ghost use Rattle.tap_reading.specs.Fronts.{IsTextOf};
+ghost use Rattle.tap_reading.specs.Stores.{IsReadOnly};
+
+use frame_view::ByteList;
+use std::alloc::{AllocError, Global};
+use tap_outside::{OutError, Source, Store};
+use text_lines::LARGEST_TEXT;
+
+/// The most bytes that are asked for at once.
+pub(crate) const PIECE: usize = 65_536;
+
+/// Why a text can't be read.
+#[derive(Clone, Copy, Debug, PartialEq, Eq)]
+pub enum Unread {
+    /// Reading failed.
+    Failed,
+    /// A request for memory was refused.
+    Memory,
+}
+
+impl From<AllocError> for Unread {
+    ghost use Rattle.tap_reading.specs.declared.texts.Unread.TheVariants.{Memory};
+
+    ghost from_gives = { λ _ e. e ≡ Memory };
+
+    fn from(_: AllocError) -> Unread {
+        Unread::Memory
+    }
+}
+
+/// Reads the text of a name to its end, or until it has more than 1,048,576 bytes; then it has 1,048,577.
+pub fn read_text<S: Store>(alloc: Global, store: &mut S, name: &[u8]) -> Result<ByteList, Unread>
+    requires { IsTrue (S.meant_to_read store.old name.now) }
+    ensures text { IfOk result (λ text. IsTextOf (S.held store.old) name.now text) }
+    ensures failed { IsErrOf result Unread.Failed
+        → Rose (S.read_faults store.old) (S.read_faults store.new) }
+    ensures store { IsReadOnly
+        (record { held = S.held store.old; to_read = S.meant_to_read store.old; to_save = S.meant_to_save store.old; read_faults = S.read_faults store.old; save_faults = S.save_faults store.old })
+        (record { held = S.held store.new; to_read = S.meant_to_read store.new; to_save = S.meant_to_save store.new; read_faults = S.read_faults store.new; save_faults = S.save_faults store.new }) }
+{
+    let mut input = match store.fetch(name) {
+        Ok(input) => input,
+        Err(OutError::Failed) => return Err(Unread::Failed),
+        Err(OutError::Memory) => return Err(Unread::Memory),
+    };
+    let text = read_source(alloc, &mut input);
+    store.close(input);
+    text
+}
+
+/// Reads a source to its end, or until it gave more bytes than a text may have.
+fn read_source<I: Source>(alloc: Global, input: &mut I) -> Result<ByteList, Unread>
+    requires { I.faults input.old ≡ 0 }
+    ensures bytes { IfOk result (λ text. Consumes (I.left input.old) (I.left input.new) text) }
+    ensures end { IfOk result (λ text. length text ≤ 1048576 → IsAtEnd (I.left input.new)) }
+    ensures failed { IsErrOf result Unread.Failed → 0 < I.faults input.new }
+{
+    let mut text = Vec::new(alloc);
+    let mut buffer = zeros(alloc, PIECE)?;
+    while text.len() <= LARGEST_TEXT {
+        let room = (LARGEST_TEXT + 1 - text.len()).min(PIECE);
+        let piece = &mut buffer[..room];
+        let Ok(count) = input.read(piece) else {
+            return Err(Unread::Failed);
+        };
+        if count == 0 {
+            return Ok(ByteList::from_vec(text));
+        }
+        text.extend_from_slice(&piece[..count])?;
+    }
+    Ok(ByteList::from_vec(text))
+}
+
+/// A buffer of so many bytes.
+pub(crate) fn zeros(alloc: Global, size: usize) -> Result<Vec<u8>, AllocError>
+    ensures { IfOk result (λ buffer. vec_len buffer ≡ size) }
+{
+    vec![in alloc; 0u8; size]
+}

@@ -1,0 +1,5 @@
+mod LineCuts
+mod Positions
+mod WordCuts
+mod Digits
+mod LinesOfStr

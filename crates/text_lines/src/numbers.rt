@@ -1,0 +1,21 @@
+//! Numbers as a text writes them.
+ghost use Rattle.std.specs.Prelude.{◌≡◌};
+ghost use Rattle.text_lines.specs.Numbers.{number_of};
+
+/// The number that a word writes: 1 to 10 decimal digits, leading zeros allowed, worth at most 4,294,967,295. `None`
+/// comes for every other word.
+pub fn number(word: &[u8]) -> Option<u32>
+    ensures { result ≡ number_of word.now }
+{
+    if word.is_empty() || word.len() > 10 {
+        return None;
+    }
+    let mut value: u64 = 0;
+    for byte in word {
+        if !byte.is_ascii_digit() {
+            return None;
+        }
+        value = value * 10 + u64::from(*byte - b'0');
+    }
+    u32::try_from(value).ok()
+}

@@ -1,0 +1,45 @@
+//! The words of a line.
+ghost use Rattle.std.specs.Prelude.{◌≡◌, ◌<◌, [], ◌∷◌, length, not, MatchOption, IfSome};
+ghost use Rattle.std.specs.List.{position};
+ghost use Rattle.text_lines.specs.Words.{is_blank, is_plain, words_of};
+
+/// Whether a line has no other bytes than printable ASCII, spaces and tabs.
+pub fn is_plain(line: &[u8]) -> bool
+    ensures { result ≡ is_plain line.now }
+{
+    line.iter().all(|byte| matches!(*byte, b' '..=b'~' | b'\t'))
+}
+
+/// Takes the first word off a line: the word, and the line behind it. `None` comes where no word is left. Words stand
+/// between spaces or tabs, which may stand round them too.
+pub fn next_word(line: &[u8]) -> Option<(&[u8], &[u8])>
+    ensures word { MatchOption result (words_of line.now ≡ [])
+        (λ cut. words_of line.now ≡ cut.0.now ∷ words_of cut.1.now) }
+    ensures shorter { IfSome result (λ cut. length cut.1.now < length line.now) }
+{
+    let start = word_start(line)?;
+    let (_, rest) = line.split_at(start);
+    let end = blank_place(rest).unwrap_or(rest.len());
+    Some(rest.split_at(end))
+}
+
+/// The place of the first byte that is no blank.
+fn word_start(line: &[u8]) -> Option<usize>
+    ensures { result ≡ position (λ b. not (is_blank b)) line.now }
+{
+    line.iter().position(|byte| !is_blank(*byte))
+}
+
+/// The place of the first blank.
+fn blank_place(line: &[u8]) -> Option<usize>
+    ensures { result ≡ position is_blank line.now }
+{
+    line.iter().position(|byte| is_blank(*byte))
+}
+
+/// Whether a byte is a space or a tab.
+fn is_blank(byte: u8) -> bool
+    ensures { result ≡ is_blank byte }
+{
+    byte == b' ' || byte == b'\t'
+}
