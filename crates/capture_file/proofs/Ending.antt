@@ -1,15 +1,15 @@
 -- How a capture ends, by the stage of the decoder that stands for it.
-use Rattle.std.proofs.Common.{◌≡◌, ℕ, ◌≤◌, List, [], length, drop, refl, sym, ap, ◌∙◌, inl, inr, arith}
-use Rattle.std.specs.Prelude.{None, Some, Result, Ok, Err}
-use Rattle.std.proofs.lemmas.Bool.{both_ways, cases_lt, le-ltb, lt-ltb}
-use Rattle.std.proofs.lemmas.List.{length-drop, drop_all}
+use Rattle.std.proofs.Common.{Bool, Option, eqb, ◌≡◌, ℕ, ◌≤◌, List, [], length, drop, refl, sym, ap, ◌∙◌, inl, inr, arith}
+use Rattle.std.specs.Prelude.{◌≢◌, None, Some, Result, Ok, Err}
+use Rattle.std.proofs.lemmas.Bool.{cases_Bool, eqb-true, eqb-false, both_ways, cases_lt, le-ltb, lt-ltb}
+use Rattle.std.proofs.lemmas.List.{nil_from_length, length-drop, drop_all}
 use Rattle.capture_file.specs.declared.error.CaptureError.{CaptureError}
-use Rattle.capture_file.specs.declared.error.CaptureError.TheVariants.{Truncated}
+use Rattle.capture_file.specs.declared.error.CaptureError.TheVariants.{Truncated, Memory}
 use Rattle.capture_file.specs.declared.format.Format.{Format}
 use Rattle.capture_file.specs.declared.stage.Stage.{Stage}
 use Rattle.capture_file.specs.declared.stage.Stage.TheVariants.{Header, Records, Damaged}
 use Rattle.capture_file.specs.Capture.{header_of, captured, stop_of, damage_of, end_of}
-use Rattle.capture_file.specs.Reading.{error_of, IsSoundStage}
+use Rattle.capture_file.specs.Reading.{error_of, end_at, IsSoundStage}
 use Rattle.capture_file.specs.Decoding.{stage_of, stage_behind, kept_of, Stands, DecoderValue}
 use Rattle.capture_file.proofs.Records.{has_whole, has_oversized}
 use Rattle.capture_file.proofs.Feeding.{short, damage_is_error}
@@ -85,6 +85,16 @@ module _ (number : ℕ) (decoder old : DecoderValue) (fed : List ℕ) (view : de
         | inr few ↦ absurd (some (all ∙ kept_none fed good ∙ drop_all (stop_of fed) fed few))
       ]
 
+  -- the stage, its place and whether bytes are kept tell the end
+  pub end_told : (stage : Stage) (none : Bool) → decoder.stage ≡ stage → none ≡ eqb (length decoder.rest) 0 → end_at stage decoder.stop none ≡ end_of fed
+  end_told Header none e kept = end_header e
+  end_told (Damaged damage) none e kept = end_damaged damage e
+  end_told (Records format) none e kept =
+      elim (cases_Bool none) [
+        | inl empty ↦ rw empty (end_whole format e (nil_from_length decoder.rest (eqb-true _ _ (sym kept ∙ empty))))
+        | inr some ↦ rw some (end_cut format e (λ (nil : decoder.rest ≡ []). eqb-false _ _ (sym kept ∙ some) (ap length nil)))
+      ]
+
   pub rest_kept : length decoder.rest ≡ length (kept_of fed)
   rest_kept = ap length all
 
@@ -100,4 +110,14 @@ few_kept (Records format) kept told =
             | inl large ↦ absurd (both_ways _ told.oversized (has_oversized format.order kept (record { header = omega arith; large = large })))
             | inr small ↦ absurd (both_ways _ told.whole (has_whole format.order kept (record { header = omega arith; small = small; here = omega arith })))
           ]
+    ]
+
+-- the end is no want of memory
+pub end_sound : (answer : Option CaptureError) (stage : Stage) (stop : ℕ) (none : Bool) (kept : List ℕ) → answer ≡ end_at stage stop none → IsSoundStage stage kept → answer ≢ Some Memory
+end_sound answer Header stop none kept e told m = absurd cc
+end_sound answer (Damaged damage) stop none kept e told m = told.0 (cc (e, m))
+end_sound answer (Records format) stop none kept e told m =
+    elim (cases_Bool none) [
+      | inl empty ↦ let f = rw empty at e in absurd cc
+      | inr some ↦ let f = rw some at e in absurd cc
     ]

@@ -3,7 +3,7 @@ use Rattle.std.specs.Prelude.{◌≡◌, ◌≢◌, ℕ, ◌+◌, ◌*◌, ◌�
 use Rattle.std.specs.List.{concat}
 use Rattle.frame_view.specs.declared.frames.Frame.{Frame}
 use Rattle.capture_file.specs.declared.error.CaptureError.{CaptureError}
-use Rattle.capture_file.specs.declared.error.CaptureError.TheVariants.{BadLength, TooLarge, Memory}
+use Rattle.capture_file.specs.declared.error.CaptureError.TheVariants.{BadLength, Truncated, TooLarge, Memory}
 use Rattle.capture_file.specs.declared.format.Format.{Format}
 use Rattle.capture_file.specs.declared.format.Order.{Order}
 use Rattle.capture_file.specs.declared.reading.Place.{Place}
@@ -111,6 +111,12 @@ abbrev pub stage_with : Stage → Bool → Stage
 stage_with Header beyond = if beyond then Damaged TooLarge else Header
 stage_with (Records format) beyond = if beyond then Damaged TooLarge else Records format
 stage_with (Damaged damage) beyond = Damaged damage
+
+-- how a capture ends at a stage, where its last whole record ends at `stop`, and no byte is behind it or some
+abbrev pub end_at : Stage → ℕ → Bool → Option CaptureError
+end_at Header stop none_behind = Some (Truncated stop)
+end_at (Records format) stop none_behind = if none_behind then None else Some (Truncated stop)
+end_at (Damaged damage) stop none_behind = Some damage
 
 -- the bytes that a decoder at a stage may keep, of these
 abbrev pub kept_at : Stage → List ℕ → List ℕ

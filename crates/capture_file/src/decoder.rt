@@ -3,7 +3,6 @@
 //! The header is gathered first. Then each piece completes the record of which bytes are kept, its further whole
 //! records are read where they lie, and what is behind them is kept for the next piece. Damage ends it all.
 ghost use Rattle.std.specs.Prelude.{◌≡◌, ◌≢◌, ◌≤◌, [], IsErrOf, Err};
-ghost use Rattle.capture_file.specs.Reading.{stage_with};
 
 use crate::CaptureError;
 use crate::reading::{Place, cut_front, read_on};
@@ -93,7 +92,7 @@ impl Decoder {
             return Err(CaptureError::Memory);
         };
         self.next = progress.next;
-        self.stage = stage_with(progress.stage, piece.len() > room);
+        self.stage = progress.stage.with(piece.len() > room);
         if let Stage::Damaged(damage) = self.stage {
             self.kept.clear();
             return Err(damage);
@@ -108,11 +107,7 @@ impl Decoder {
         ensures end { AnswersEnd self.now result }
         ensures memory { result ≢ Err CaptureError.Memory }
     {
-        match self.stage {
-            Stage::Damaged(damage) => Err(damage),
-            Stage::Records(_) if self.kept.is_empty() => Ok(()),
-            _ => Err(CaptureError::Truncated(self.next.stop as u64)),
-        }
+        self.stage.end(self.next.stop, self.kept.is_empty())
     }
 
     /// The number of bytes that are kept: those behind the last whole record, none after damage. It takes no memory.
@@ -121,16 +116,5 @@ impl Decoder {
         ensures few { result ≤ 262159 }
     {
         self.kept.len() as u32
-    }
-}
-
-/// The stage where bytes were fed that are beyond those that count.
-fn stage_with(stage: Stage, has_beyond: bool) -> Stage
-    ensures { result ≡ stage_with stage has_beyond }
-{
-    match stage {
-        Stage::Damaged(damage) => Stage::Damaged(damage),
-        _ if has_beyond => Stage::Damaged(CaptureError::TooLarge),
-        stage => stage,
     }
 }

@@ -6,10 +6,10 @@ use Rattle.capture_file.proofs.Settling.{Settles, settles_here, stands_on, stand
 use Rattle.capture_file.proofs.decoder.Decoder.feed.Goals as goal
 
 damaged : (c : goal.After-clear) (number : ℕ) (fed : List ℕ) → Stands number c.args.self.now fed
-    → Settles number (frames_of number fed) (fed ++ c.args.piece.now) c.args.into.now c.read_on-progress.new.into c.stage_with-self-inside.result c.in-Ok.progress.next (drop c.in-Ok.progress.cut c.read_on-progress.new.kept.items)
+    → Settles number (frames_of number fed) (fed ++ c.args.piece.now) c.args.into.now c.read_on-progress.new.into c.with-self-inside.result c.in-Ok.progress.next (drop c.in-Ok.progress.cut c.read_on-progress.new.kept.items)
 damaged c number fed stands =
     settles_here number fed c.args.piece.now c.args.self.now (decoder_value c.self.inside) _ _ c.in-Ok.progress _ c.split_at.result.0.now c.len-kept.result c.min.result _
-    c.self.view_is stands (omega (arith, c.len-kept.ensures)) c.min.ensures c.split_at.ensures.front c.stage_with-self-inside.ensures c.in-Ok.ensures.ok
+    c.self.view_is stands (omega (arith, c.len-kept.ensures)) c.min.ensures c.split_at.ensures.front c.with-self-inside.ensures c.in-Ok.ensures.ok
 
 pub returns-in-Damaged-clause-stands : goal.returns-in-Damaged-clause-stands
 returns-in-Damaged-clause-stands c = unless_wanted c.in-Damaged.damage (λ number fed stands.
@@ -23,10 +23,10 @@ returns-in-Damaged-clause-damage c = unless_wanted c.in-Damaged.damage (λ numbe
     settles_damage number _ _ _ _ _ _ _ _ (damaged c number fed stands) (ap error_of c.in-Damaged.is))
 
 more : (c : goal.After-cut_front) (number : ℕ) (fed : List ℕ) → Stands number c.args.self.now fed
-    → Settles number (frames_of number fed) (fed ++ c.args.piece.now) c.args.into.now c.read_on-progress.new.into c.stage_with-self-inside.result c.in-Ok.progress.next (drop c.in-Ok.progress.cut c.read_on-progress.new.kept.items)
+    → Settles number (frames_of number fed) (fed ++ c.args.piece.now) c.args.into.now c.read_on-progress.new.into c.with-self-inside.result c.in-Ok.progress.next (drop c.in-Ok.progress.cut c.read_on-progress.new.kept.items)
 more c number fed stands =
     settles_here number fed c.args.piece.now c.args.self.now (decoder_value c.self.inside) _ _ c.in-Ok.progress _ c.split_at.result.0.now c.len-kept.result c.min.result _
-    c.self.view_is stands (omega (arith, c.len-kept.ensures)) c.min.ensures c.split_at.ensures.front c.stage_with-self-inside.ensures c.in-Ok.ensures.ok
+    c.self.view_is stands (omega (arith, c.len-kept.ensures)) c.min.ensures c.split_at.ensures.front c.with-self-inside.ensures c.in-Ok.ensures.ok
 
 pub returns-clause-stands : goal.returns-clause-stands
 returns-clause-stands c number fed stands =
