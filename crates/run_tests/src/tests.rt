@@ -5,6 +5,7 @@ ghost use Rattle.std.specs.Prelude.{◌≤◌};
 
 use capture_file::CaptureError;
 use frame_view::{Memory, MomentList};
+use ring_model::{Found, Note};
 use std::alloc::Global;
 use std::test::Fail;
 use tap_engine::{Input, Outcome, Status, run_plain};
@@ -133,12 +134,13 @@ fn run_sure(alloc: Global, schedule: &[u8], capture: &[u8]) -> Result<(Status, V
     Ok((outcome.status, printed))
 }
 
-/// A run of whole frames: their lengths, the schedule, the frames that were kept with how many bytes of each, and
-/// the lines.
+/// A run of whole frames: their lengths, the schedule, the notes of the ring by their letters, the frames that were
+/// kept with how many bytes of each, and the lines.
 #[derive(Clone, Copy)]
 struct Row<'a> {
     lengths: &'a [u16],
     schedule: &'a [u8],
+    notes: &'a str,
     kept: &'a [(u8, u32)],
     lines: &'a str,
 }
@@ -180,6 +182,7 @@ const ROWS: [Row<'static>; 7] = [
     Row {
         lengths: &[60; 3],
         schedule: b"feed 0\nfeed 0\nfeed 0\n",
+        notes: "kkk.",
         kept: &[(0, 60), (1, 60), (2, 60)],
         lines: "cpu 0 frames 3 arrivals 3 end ok\n\
                 member 0 packets 3 drops 0 freezes 0 blocks 1\n\
@@ -188,6 +191,7 @@ const ROWS: [Row<'static>; 7] = [
     Row {
         lengths: &[],
         schedule: b"",
+        notes: ".",
         kept: &[],
         lines: "cpu 0 frames 0 arrivals 0 end ok\n\
                 member 0 packets 0 drops 0 freezes 0 blocks 0\n\
@@ -196,6 +200,7 @@ const ROWS: [Row<'static>; 7] = [
     Row {
         lengths: &[1514; 7],
         schedule: b"",
+        notes: "kknkddd.",
         kept: &[(0, 1514), (1, 1514), (2, 1514), (3, 1514)],
         lines: "cpu 0 frames 7 arrivals 7 end ok\n\
                 member 0 packets 7 drops 3 freezes 1 blocks 2\n\
@@ -204,6 +209,7 @@ const ROWS: [Row<'static>; 7] = [
     Row {
         lengths: &[1514; 7],
         schedule: b"feed 0\nfeed 0\nfeed 0\nfeed 0\nfeed 0\nread 0\nfeed 0\nfeed 0\n",
+        notes: "kknkdnk.",
         kept: &[
             (0, 1514),
             (1, 1514),
@@ -219,6 +225,7 @@ const ROWS: [Row<'static>; 7] = [
     Row {
         lengths: &[60; 29],
         schedule: b"",
+        notes: "kkkkkkkkkkkkkkkkkkkkkkkkkkkkn.",
         kept: &SMALL,
         lines: "cpu 0 frames 29 arrivals 29 end ok\n\
                 member 0 packets 29 drops 0 freezes 0 blocks 2\n\
@@ -227,6 +234,7 @@ const ROWS: [Row<'static>; 7] = [
     Row {
         lengths: &[9000],
         schedule: b"",
+        notes: "k.",
         kept: &[(0, 3966)],
         lines: "cpu 0 frames 1 arrivals 1 end ok\n\
                 member 0 packets 1 drops 0 freezes 0 blocks 1\n\
@@ -235,6 +243,7 @@ const ROWS: [Row<'static>; 7] = [
     Row {
         lengths: &[3966; 2],
         schedule: b"",
+        notes: "kn.",
         kept: &[(0, 3966), (1, 3966)],
         lines: "cpu 0 frames 2 arrivals 2 end ok\n\
                 member 0 packets 2 drops 0 freezes 0 blocks 2\n\
@@ -258,6 +267,37 @@ fn output(alloc: Global, row: Row) -> Result<Vec<u8>, Memory> {
     Ok(bytes)
 }
 
+/// The letter of a note: `k` for a packet kept in the open block, `n` for one that opened the next, `d` for one dropped
+/// where block 1 is still the reader's, and a point at the end.
+fn letter(note: &Note) -> u8 {
+    match note {
+        Note::Kept {
+            found: Found::NotAsked,
+            ..
+        } => b'k',
+        Note::Kept {
+            found: Found::Free,
+            ..
+        } => b'n',
+        Note::Dropped { number: 1, .. } => b'd',
+        Note::Finished => b'.',
+        _ => b'?',
+    }
+}
+
+/// The letters of member 0's notes.
+fn notes(alloc: Global, outcome: &Outcome) -> Result<Vec<u8>, Memory> {
+    let mut letters = Vec::new(alloc);
+    if let Some(report) = &outcome.report {
+        for member in report.members.as_slice() {
+            for note in member.notes.as_slice() {
+                letters.push(letter(note))?;
+            }
+        }
+    }
+    Ok(letters)
+}
+
 #[test]
 fn rings_fill_drop_thaw_and_cut(rt: HostRuntime) -> Result<(), Fail> {
     for row in ROWS {
@@ -268,6 +308,8 @@ fn rings_fill_drop_thaw_and_cut(rt: HostRuntime) -> Result<(), Fail> {
         assert_eq!(rt; ran.outcome.status, Status::Fine, "{}", row.lines);
         assert_eq!(rt; ran.printed.as_slice(), row.lines.as_bytes());
         assert_eq!(rt; ran.saved.as_slice(), output.as_slice());
+        let notes = notes(alloc, &ran.outcome)?;
+        assert_eq!(rt; notes.as_slice(), row.notes.as_bytes());
         let (status, printed) = run_sure(alloc, row.schedule, bytes.as_slice())?;
         assert_eq!(rt; status, Status::Fine, "{}", row.lines);
         assert_eq!(rt; printed.as_slice(), row.lines.as_bytes());
