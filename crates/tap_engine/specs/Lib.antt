@@ -6,6 +6,7 @@ pub mod Expected
 pub mod Conclusions
 pub mod Stops
 pub mod Jobs
+pub mod Asked
 pub mod Reporting
 pub mod Concluding
 pub mod Making

@@ -2,6 +2,7 @@
 ghost use Rattle.std.specs.Prelude.{◌≡◌, ◌≢◌, ◌⊎◌, ℕ, Option, None};
 ghost use Rattle.tap_outside.specs.Contents.{Contents, KeepsOthers};
 ghost use Rattle.tap_outside.specs.Counts.{Rose};
+ghost use Rattle.tap_engine.specs.Asked.{ChangesIfAsked};
 ghost use Rattle.tap_engine.specs.Commands.{command_of};
 ghost use Rattle.tap_engine.specs.Complete.{IsComplete, IsWorth};
 ghost use Rattle.tap_engine.specs.Conclusions.{Concludes};
@@ -45,9 +46,14 @@ pub fn run_plain<S: Store, O: Sink>(
         ⊎ (Rose (S.save_faults store.old) (S.save_faults store.new) ⊎ Rose (O.faults out.old) (O.faults out.new)))
         result.status }
 
-    // No other file changes, and none where no run was made.
+    // Without a report a fault of writing is one of the sink.
+    ensures unprinted { result.report ≡ None → result.status ≡ Status.WriteFault
+        → Rose (O.faults out.old) (O.faults out.new) }
+
+    // No other file changes, and none where no run was made or a text isn't accepted, whatever the status.
     ensures others { KeepsOthers (S.held store.old) (S.held store.new) output_name }
     ensures untouched { result.report ≡ None → result.status ≢ Status.Memory → S.held store.new ≡ S.held store.old }
+    ensures asked { ChangesIfAsked (S.held store.old) (S.held store.new) (command_of words.now) }
 {
     damage_stays();
     damage_is_the_end();
@@ -68,8 +74,11 @@ fn carry_out<S: Store, O: Sink>(
         × Concludes e result (S.held store.new) (O.written out.old) (O.written out.new)
         (Rose (S.save_faults store.old) (S.save_faults store.new)) (Rose (O.faults out.old) (O.faults out.new)) }
     ensures want { result.status ≡ Status.Memory → result.report ≡ None }
+    ensures unprinted { result.report ≡ None → result.status ≡ Status.WriteFault
+        → Rose (O.faults out.old) (O.faults out.new) }
     ensures others { KeepsOthers (S.held store.old) (S.held store.new) output_name }
     ensures untouched { result.report ≡ None → result.status ≢ Status.Memory → S.held store.new ≡ S.held store.old }
+    ensures asked { ChangesIfAsked (S.held store.old) (S.held store.new) (command_of words.now) }
 {
     let Some(command) = command_of(words) else {
         return refuse(Status::Usage, out);
@@ -91,6 +100,8 @@ fn refuse<O: Sink>(status: Status, out: &mut O) -> Outcome
         → Concludes e result held (O.written out.old) (O.written out.new)
         (Rose before now) (Rose (O.faults out.old) (O.faults out.new)) }
     ensures report { result.report ≡ None }
+    ensures unprinted { status ≢ Status.WriteFault → result.status ≡ Status.WriteFault
+        → Rose (O.faults out.old) (O.faults out.new) }
 {
     match write_whole(out, line_of(status)) {
         Ok(()) => Outcome {
