@@ -1,0 +1,5 @@
+mod Packets
+mod Retirals
+mod Notings
+mod Steps
+mod PlainEnds

@@ -1,0 +1,9 @@
+-- Why a tick isn't done.
+use Rattle.std.specs.Prelude.{◌≡◌, ℕ}
+use Rattle.block_ring.specs.declared.error.TickError.{TickError}
+use Rattle.block_ring.specs.declared.error.TickError.TheVariants.{Backwards, Memory}
+
+-- where it would lead back, this is the moment that the last tick told
+abbrev pub IsBackwardsFrom : ℕ → TickError → Type 0
+IsBackwardsFrom clock (Backwards moment) = moment ≡ clock
+IsBackwardsFrom clock Memory = Unit {0}

@@ -1,0 +1,36 @@
+//! Why a tick isn't done.
+ghost use Rattle.std.specs.Prelude.{◌≡◌};
+
+use frame_view::Memory;
+use std::error::Error;
+use std::fmt;
+
+/// Why a tick isn't done. The ring is as it was.
+#[derive(Clone, Copy, Debug, PartialEq, Eq)]
+pub enum TickError {
+    /// The moment lies before that of the last tick, which this is, in milliseconds.
+    Backwards(u64),
+    /// A request for memory was refused.
+    Memory,
+}
+
+impl fmt::Display for TickError {
+    fn fmt<W: fmt::Write>(&self, f: &mut fmt::Formatter<W>) -> fmt::Result {
+        match self {
+            TickError::Backwards(clock) => write!(f, "the clock stands at {clock} already"),
+            TickError::Memory => write!(f, "{Memory}"),
+        }
+    }
+}
+
+impl Error for TickError {}
+
+impl From<Memory> for TickError {
+    ghost use Rattle.block_ring.specs.declared.error.TickError.TheVariants as errors;
+
+    ghost from_gives = { λ _ error. error ≡ errors.Memory };
+
+    fn from(_: Memory) -> TickError {
+        TickError::Memory
+    }
+}

@@ -1,0 +1,13 @@
+//! The receive ring: frames go into blocks, and full blocks go to the reader.
+#![tactic(auto)]
+
+mod error;
+mod machine;
+mod open_block;
+mod producer;
+#[cfg(test)]
+mod tests;
+mod walking;
+
+pub use error::TickError;
+pub use producer::Producer;

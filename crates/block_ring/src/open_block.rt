@@ -1,0 +1,127 @@
+//! The open block: packets are written one behind the other, and what its close will write is kept beside it.
+ghost use Rattle.std.specs.Prelude.{◌≡◌, ◌+◌, ◌^◌, ◌<◌, ◌≤◌, ◌++◌, ◌∷◌, ℕ, IsTrue, List, [], length, ◌↔◌};
+ghost use Rattle.ring_model.specs.Offers.{packet_of};
+ghost use Rattle.ring_model.specs.Sizes.{fits, need_of};
+ghost use Rattle.tp_layout.specs.Blocks.{BeginsWith, first_time, is_status};
+ghost use Rattle.tp_layout.specs.Dump.{packets_of_offers};
+ghost use Rattle.tp_layout.specs.Requests.{IsShape, fills_hash, room_of};
+ghost use Rattle.tp_layout.specs.declared.requests.RingRequest.{RingRequest};
+ghost use Rattle.tp_layout.specs.Writing.{IsWritable};
+ghost use Rattle.block_ring.specs.OpenBlocks.{Holds, OpenText, with_packet};
+
+use ring_model::{Offer, need};
+use tp_layout::{Block, Closing, Shape, close_header, write_header, write_packet};
+
+/// A block that packets are written into.
+#[derive(Debug, Drop)]
+pub(crate) struct OpenBlock {
+    block: Block,
+    /// What its close will write, but for the status. Its `length` is the place of the next packet, in bytes.
+    closing: Closing,
+}
+
+impl OpenBlock {
+    /// Opens a block under a number.
+    pub(crate) fn new(mut block: Block, shape: &Shape, number: u64) -> OpenBlock
+        requires { block.shape ≡ shape.now }
+        ensures { Holds shape.now (record { number = number; offers = [] }) result }
+    {
+        write_header(&mut block, shape, number);
+        let _size = shape.block_size();
+        let first = shape.first();
+        OpenBlock {
+            block,
+            closing: Closing {
+                status: 0,
+                packets: 0,
+                length: first,
+                last_at: first,
+                first_sec: 0,
+                first_nsec: 0,
+                last_sec: 0,
+                last_nsec: 0,
+            },
+        }
+    }
+
+    /// Whether it has no packet.
+    pub(crate) fn is_empty(&self) -> bool
+        ghost text: { OpenText }
+        requires { (shape : RingRequest) × Holds shape text self.now }
+        ensures { IsTrue result ↔ (text.offers ≡ []) }
+    {
+        self.closing.packets == 0
+    }
+
+    /// Whether a packet that takes so many bytes has room behind the others.
+    pub(crate) fn has_room(&self, shape: &Shape, need: u32) -> bool
+        ghost text: { OpenText }
+        requires holds { Holds shape.now text self.now }
+        requires need { need ≤ 1048576 }
+        ensures { result ≡ fits (room_of shape.now) text.offers need }
+    {
+        let size = shape.block_size();
+        let _room = shape.room();
+        self.closing.length + need <= size
+    }
+
+    /// Writes the packet of an offer behind the others.
+    pub(crate) fn add(&mut self, shape: &Shape, offer: &Offer)
+        ghost text: { OpenText }
+        requires holds { Holds shape.now text self.old }
+        requires writable { IsWritable offer.now }
+        requires room { self.old.closing.length + need_of offer.now.snap ≤ shape.now.block_size }
+        ensures { Holds shape.now (with_packet text offer.now) self.new }
+    {
+        let _size = shape.block_size();
+        let at = self.closing.length;
+        let (first_sec, first_nsec) = self.first_time(offer);
+        write_packet(&mut self.block, shape, at, offer);
+        self.closing = Closing {
+            status: 0,
+            packets: self.closing.packets + 1,
+            length: at + need(offer.snap),
+            last_at: at,
+            first_sec,
+            first_nsec,
+            last_sec: offer.frame.sec,
+            last_nsec: offer.frame.nsec,
+        };
+    }
+
+    /// Closes the block, with the status of retirement: TP_STATUS_USER (1), with TP_STATUS_LOSING (4),
+    /// TP_STATUS_BLK_TMO (32) or both.
+    pub(crate) fn close(self, shape: &Shape, status: u32) -> Block
+        ghost text: { OpenText }
+        requires holds { Holds shape.now text self }
+        requires number { 0 < text.number }
+        requires some { 0 < length text.offers }
+        requires status { IsTrue (is_status status) }
+        ensures shape { result.shape ≡ shape.now }
+        ensures text { BeginsWith shape.now text.number status
+            (packets_of_offers shape.now text.offers) result.bytes }
+    {
+        let _size = shape.block_size();
+        let closing = Closing {
+            status,
+            ..self.closing
+        };
+        let mut block = self.block;
+        close_header(&mut block, shape, &closing);
+        block
+    }
+
+    /// The time of the first packet, where an offer's comes behind those that are there.
+    fn first_time(&self, offer: &Offer) -> (u32, u32)
+        ghost text: { OpenText }
+        requires { (shape : RingRequest) × Holds shape text self.now }
+        ensures { (shape : RingRequest) → Holds shape text self.now → result
+            ≡ first_time (packets_of_offers shape (with_packet text offer.now).offers) }
+    {
+        if self.closing.packets == 0 {
+            (offer.frame.sec, offer.frame.nsec)
+        } else {
+            (self.closing.first_sec, self.closing.first_nsec)
+        }
+    }
+}

@@ -1,0 +1,215 @@
+//! A ring that frames are put into: its machine, and the notes of what happened.
+ghost use Rattle.std.specs.Prelude.{◌≡◌, ◌+◌, ◌^◌, ◌<◌, ◌≤◌, ◌≢◌, ◌↔◌, ◌∷◌, ◌++◌, ℕ, [], length, IsOk, IfOk, IfErr, OnOk, OnErr, Err};
+ghost use Rattle.ring_model.specs.Asking.{put_by, try_by};
+ghost use Rattle.ring_model.specs.Told.{put_told, try_told};
+ghost use Rattle.ring_model.specs.Fates.{stats_of};
+ghost use Rattle.ring_model.specs.Ring.{IsWholeRun, state_of};
+ghost use Rattle.ring_model.specs.declared.notes.Found.{Found};
+ghost use Rattle.ring_model.specs.declared.notes.Note.TheVariants.{Counted, Finished};
+ghost use Rattle.tp_layout.specs.Requests.{room_of, size_of};
+ghost use Rattle.tp_layout.specs.Writing.{IsWritable};
+
+use crate::TickError;
+use crate::machine::Machine;
+use frame_view::Memory;
+use ring_model::{Found, Note, Notes, Offer, Put, Stats, Tried, Unput, need};
+use ring_words::FeederEnd;
+use std::alloc::Global;
+use std::marker::Model;
+use tp_layout::{Block, Shape};
+
+/// A receive ring: the feeder's side, which keeps, refuses or drops packets. Contracts see its shape, its notes, its
+/// end, and how many more notes need no memory.
+#[derive(Drop)]
+pub struct Producer<E: FeederEnd<Block> + Drop> {
+    pub(crate) machine: Machine<E>,
+}
+
+impl<E: FeederEnd<Block> + Drop> Model for Producer<E> {
+    ghost use Rattle.std.specs.Prelude.{◌-◌};
+    ghost use Rattle.std.specs.Vec.{vec_capacity};
+    ghost use Rattle.block_ring.specs.Producing.{Keeps, Producing};
+    ghost use Rattle.std.specs.Prelude.{length};
+
+    ghost Value = { Producing E };
+
+    ghost view = { λ ring. record {
+      shape = ring.machine.shape;
+      notes = ring.machine.notes.items;
+      spare = vec_capacity ring.machine.notes - length ring.machine.notes.items - 1;
+      end = ring.machine.end;
+    } };
+
+    ghost invariant = { λ ring.
+        Keeps E.feed ring.machine ring.machine.notes.items (vec_capacity ring.machine.notes) };
+}
+
+impl<E: FeederEnd<Block> + Drop> Producer<E> {
+    ghost use Rattle.block_ring.specs.Machines.{IsFresh, KeepsEnd};
+    ghost use Rattle.block_ring.specs.Noting.{held_count};
+    ghost use Rattle.block_ring.specs.Producing.{Adds, Opens, Puts, Stays, Ticks, Tries, state};
+    ghost use Rattle.block_ring.specs.Texts.{StandsForTexts};
+    ghost use Rattle.block_ring.specs.Ticking.{IsBackwardsFrom};
+    ghost use Rattle.block_ring.specs.declared.error.TickError.{TickError};
+    ghost use Rattle.block_ring.specs.declared.error.TickError.TheVariants.{Backwards};
+
+    /// A ring of blocks of this shape, with block 1 open. The end is fresh, and its ring has as many blocks of the
+    /// shape as the shape says. After `Memory` the end is dropped.
+    pub fn new(alloc: Global, shape: Shape, end: E) -> Result<Producer<E>, Memory>
+        requires { IsFresh shape (E.feed end) }
+        ensures { IfOk result (λ ring. Opens E.feed shape end ring) }
+    {
+        let mut notes = Vec::new(alloc);
+        notes.reserve(1)?;
+        Ok(Producer {
+            machine: Machine::new(shape, end, notes),
+        })
+    }
+
+    /// Takes room for so many notes, which then need no memory: each call that notes something takes one of them.
+    pub fn reserve(&mut self, notes: u32) -> Result<(), Memory>
+        ensures ok { OnOk result (notes ≤ self.new.spare) }
+        ensures stays { Stays self.old self.new }
+        ensures more { self.old.spare ≤ self.new.spare }
+        ensures reserved { notes ≤ self.old.spare → IsOk result }
+    {
+        self.machine.notes.reserve(notes as usize + 1)?;
+        Ok(())
+    }
+
+    /// Keeps a packet, or hands it back where it finds no room in the open block and the next block is still the
+    /// reader's; then all but the notes is as before. The condition on the offer is that of `put`.
+    pub fn try_put(&mut self, offer: Offer) -> Result<Tried, Unput>
+        requires room { 82 + offer.snap ≤ room_of self.old.shape }
+        requires sound { IsWritable offer }
+        requires few { length self.old.notes < 2 ^ 39 }
+        ensures tried { IfOk result (λ tried. (found : Found)
+            × Tries E.feed self.old self.new offer found tried) }
+        ensures unput { IfErr result (λ unput. (unput.offer ≡ offer) × Stays self.old self.new) }
+        ensures reserved { 0 < self.old.spare → IsOk result }
+    {
+        let Ok(()) = self.reserve(1) else {
+            return Err(Unput { offer });
+        };
+        let _room = self.machine.shape.room();
+        let _size = self.machine.shape.block_size();
+        let found = self.machine.try_put(&offer);
+        let (note, tried) = noted_try(offer, found);
+        self.machine.notes.push_reserved(note);
+        Ok(tried)
+    }
+
+    /// Keeps a packet, or drops it where it finds no room in the open block and the next block is still the reader's;
+    /// an open block is then retired, and the ring is frozen. The offer keeps at least one byte of what was captured,
+    /// no more than goes into a block, and is sound.
+    pub fn put(&mut self, offer: Offer) -> Result<Put, Unput>
+        requires room { 82 + offer.snap ≤ room_of self.old.shape }
+        requires sound { IsWritable offer }
+        requires few { length self.old.notes < 2 ^ 39 }
+        ensures put { IfOk result (λ put. (found : Found)
+            × Puts E.feed self.old self.new offer found put) }
+        ensures unput { IfErr result (λ unput. (unput.offer ≡ offer) × Stays self.old self.new) }
+        ensures reserved { 0 < self.old.spare → IsOk result }
+    {
+        let Ok(()) = self.reserve(1) else {
+            return Err(Unput { offer });
+        };
+        let _room = self.machine.shape.room();
+        let _size = self.machine.shape.block_size();
+        let found = self.machine.put(&offer);
+        let (note, put) = noted_put(offer, found);
+        self.machine.notes.push_reserved(note);
+        Ok(put)
+    }
+
+    /// Brings the clock forward to a moment, in milliseconds. At the deadline an open block that has packets is retired
+    /// and a next one is asked for; a frozen ring asks too.
+    pub fn tick(&mut self, ms: u64) -> Result<(), TickError>
+        requires small { ms ≤ 2 ^ 63 }
+        requires few { length self.old.notes < 2 ^ 39 }
+        ensures ticked { OnOk result ((found : Found) × Ticks E.feed self.old self.new ms found) }
+        ensures err { OnErr result (Stays self.old self.new) }
+        ensures backwards { (result ≡ Err (Backwards (state self.old).clock))
+            ↔ (ms < (state self.old).clock) }
+        ensures clock { IfErr result (IsBackwardsFrom (state self.old).clock) }
+        ensures reserved { 0 < self.old.spare → result ≢ Err TickError.Memory }
+    {
+        let clock = self.machine.clock();
+        if ms < clock {
+            return Err(TickError::Backwards(clock));
+        }
+        self.reserve(1)?;
+        let found = self.machine.tick(ms);
+        self.machine.notes.push_reserved(Note::Ticked { ms, found });
+        Ok(())
+    }
+
+    /// Takes the statistics, which start anew (PACKET_STATISTICS of packet(7)).
+    pub fn take_stats(&mut self) -> Result<Stats, Memory>
+        ensures taken { IfOk result (λ stats. Adds E.feed self.old self.new Counted
+            × (stats ≡ stats_of (state self.old))) }
+        ensures end { E.feed self.new.end ≡ E.feed self.old.end }
+        ensures err { OnErr result (Stays self.old self.new) }
+        ensures reserved { 0 < self.old.spare → IsOk result }
+    {
+        self.reserve(1)?;
+        let stats = self.machine.take_stats();
+        self.machine.notes.push_reserved(Note::Counted);
+        Ok(stats)
+    }
+
+    /// Closes the ring: an open block that has packets is retired, an empty one is given up. It gives back the end and
+    /// the notes, of which the last says that the ring was closed.
+    pub fn finish(self) -> (E, Notes)
+        ensures notes { result.1 ≡ self.notes ++ Finished ∷ [] }
+        ensures run { IsWholeRun (size_of self.shape) result.1 }
+        ensures texts { StandsForTexts self.shape
+            (state_of (size_of self.shape) result.1).done (E.feed result.0) }
+        ensures looks { held_count result.1 ≤ (E.feed result.0).holds }
+        ensures end { KeepsEnd (E.feed self.end) (E.feed result.0) }
+    {
+        let (end, mut notes) = self.machine.finish();
+        notes.push_reserved(Note::Finished);
+        (end, Notes::from_vec(notes))
+    }
+}
+
+/// The note of a packet that was put, and what its call tells.
+fn noted_put(offer: Offer, found: Found) -> (Note, Put)
+    requires { offer.snap ≤ 1048576 }
+    ensures note { result.0 ≡ put_by offer found }
+    ensures put { result.1 ≡ put_told (put_by offer found) }
+{
+    match found {
+        Found::Held(number) => {
+            let note = Note::Dropped {
+                cpu: offer.frame.cpu,
+                index: offer.frame.index,
+                need: need(offer.snap),
+                number,
+            };
+            (note, Put::Dropped(number))
+        }
+        found => (Note::Kept { offer, found }, Put::Kept),
+    }
+}
+
+/// The note of a packet that was tried, and what its call tells.
+fn noted_try(offer: Offer, found: Found) -> (Note, Tried)
+    requires { offer.snap ≤ 1048576 }
+    ensures note { result.0 ≡ try_by offer found }
+    ensures tried { result.1 ≡ try_told offer (try_by offer found) }
+{
+    match found {
+        Found::Held(number) => {
+            let note = Note::Refused {
+                cpu: offer.frame.cpu,
+                index: offer.frame.index,
+                need: need(offer.snap),
+                number,
+            };
+            (note, Tried::Refused(offer))
+        }
+        found => (Note::Kept { offer, found }, Tried::Kept),
+    }
+}

@@ -1,0 +1,4 @@
+mod Adding
+mod Heaps
+mod Numbers
+mod Telling

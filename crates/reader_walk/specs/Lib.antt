@@ -1,0 +1,4 @@
+pub mod Takers
+pub mod Texts
+pub mod Readers
+pub mod ReadersInside

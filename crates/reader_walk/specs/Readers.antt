@@ -1,0 +1,74 @@
+-- A reader, by the blocks that it has read.
+use Rattle.std.specs.Prelude.{◌≡◌, ℕ, Bool, true, false, is_some, List, [], ◌∷◌, ◌++◌, length, take, drop, flat_map, sum_by, if◌then◌else◌, Option, None, Some, IfSome, option_map}
+use Rattle.frame_view.specs.declared.frames.Packet.{Packet}
+use Rattle.tp_layout.specs.declared.requests.RingRequest.{RingRequest}
+use Rattle.reader_walk.specs.Texts.{text_of_taken}
+use Rattle.reader_walk.specs.Takers.{Base, IsReadable, Taken, taken_in}
+use Rattle.reader_walk.specs.declared.outputs.Outputs.{Outputs}
+
+pub record ReaderValue : Type 0 where
+  -- the shape of the blocks that it reads, and whether it keeps their texts
+  pub shape : RingRequest
+  pub dumps : Bool
+  -- the blocks that it has read
+  pub taken : List Taken
+  -- the bytes of a block that it has taken and not read yet
+  pub held : Option (List ℕ)
+
+-- the packets of blocks, and the texts of them
+unfoldable pub walked_of : List Taken → List Packet
+walked_of taken = flat_map (λ block. block.packets) taken
+
+unfoldable pub texts_of : RingRequest → List Taken → List ℕ
+texts_of shape taken = flat_map (text_of_taken shape) taken
+
+abbrev pub dump_by : Bool → RingRequest → List Taken → List ℕ
+dump_by dumps shape taken = if dumps then texts_of shape taken else []
+
+-- what a reader gives
+abbrev pub outputs_of : ReaderValue → Outputs
+outputs_of reader = record {
+  walked = walked_of reader.taken;
+  dump = dump_by reader.dumps reader.shape reader.taken;
+  blocks = length reader.taken;
+}
+
+-- a new reader
+abbrev pub new_reader : RingRequest → Bool → ReaderValue
+new_reader shape dumps = record { shape = shape; dumps = dumps; taken = []; held = None }
+
+-- it has read a block of these bytes, and holds none
+abbrev pub has_read : List ℕ → ReaderValue → ReaderValue
+has_read bytes reader = record reader { taken = reader.taken ++ taken_in reader.shape bytes ∷ []; held = None }
+
+-- it holds a block of these bytes
+abbrev pub holds_block : List ℕ → ReaderValue → ReaderValue
+holds_block bytes reader = record reader { held = Some bytes }
+
+-- the content is that of the block that it holds, or was taken
+abbrev pub ComesFrom : Option (List ℕ) → (List ℕ → Type 0) → List ℕ → Type 0
+ComesFrom None took content = took content
+ComesFrom (Some bytes) took content = content ≡ bytes
+
+-- a step reads one block
+pub record Reads (took : List ℕ → Type 0) (before after : ReaderValue) : Type 0 where
+  pub content : List ℕ
+  pub comes : ComesFrom before.held took content
+  pub read : after ≡ has_read content before
+
+-- a step that wants memory keeps its block
+pub record Keeps (took : List ℕ → Type 0) (before after : ReaderValue) : Type 0 where
+  pub content : List ℕ
+  pub comes : ComesFrom before.held took content
+  pub held : after ≡ holds_block content before
+
+-- what no block changes of a reader: its shape, whether it keeps texts, and whether it holds a block
+abbrev pub number_of_flag : Bool → ℕ
+number_of_flag false = 0
+number_of_flag true = 1
+
+abbrev pub base_of : ReaderValue → Base
+base_of reader = record {
+  shape = reader.shape;
+  further = number_of_flag reader.dumps ∷ number_of_flag (is_some reader.held) ∷ [];
+}

@@ -1,0 +1,5 @@
+pub mod Counts
+pub mod Rings
+pub mod Looks
+pub mod PlainRings
+pub mod PlainLaws

@@ -1,0 +1,71 @@
+-- What is said of a ring in plain data. Block numbers count from 1 in the order in which the feeder is given blocks.
+use Rattle.std.specs.Prelude.{◌≡◌, ℕ, ◌%◌, ◌<◌, ◌≤◌, Bool, List, length, drop, Option}
+use Rattle.atomic_table.specs.Seated.{TableId}
+
+-- which ring an end belongs to, and what no call changes of it
+pub record Ring : Type 0 where
+  -- the table of its words; rings on one thread have none, and all tell the same
+  pub id : TableId
+  -- the number of its places: block number s stands at the place (s - 1) modulo this
+  pub places : ℕ
+  -- block numbers stay below it
+  pub bound : ℕ
+  -- what all its blocks have in common, as numbers
+  pub kind : List ℕ
+
+-- a retired block: its content, and the status that it was retired with
+abbrev pub Entry : Type 0
+Entry = List ℕ × ℕ
+
+-- a status word of the feeder's side
+pub record IsMark (word : ℕ) : Type 0 where
+  pub even : word % 2 ≡ 0
+  pub small : word < 256
+
+-- the status of a word of the reader's side, which is the block's number times 256 and this
+pub record IsStatus (status : ℕ) : Type 0 where
+  pub odd : status % 2 ≡ 1
+  pub small : status < 256
+
+-- what an end of the feeder's side tells
+pub record Feed : Type 0 where
+  -- the ring that it is an end of
+  pub ring : Ring
+  -- how many blocks it was given so far, which is the number of the last one, and how many of them it retired
+  pub given : ℕ
+  pub retired : ℕ
+  -- how many of its looks found a word of the reader's side; it may stand still at the greatest u64
+  pub holds : ℕ
+  -- how many blocks the reader released and how many it took, where the end tells that
+  pub freed : Option ℕ
+  pub fetched : Option ℕ
+  -- what it stands for: behind so many of the blocks retired so far are these
+  pub passed : ℕ
+  pub shown : List Entry
+
+-- the end stands for the list of all blocks retired so far
+pub record StandsFor (feed : Feed) (all : List Entry) : Type 0 where
+  pub count : length all ≡ feed.retired
+  pub front : feed.passed ≤ feed.retired
+  pub rest : drop feed.passed all ≡ feed.shown
+
+-- a step of the reader leaves the feeder's side as it was, and the end stands for what it stood for
+pub record LeavesFeeder (before after : Feed) : Type 0 where
+  pub ring : after.ring ≡ before.ring
+  pub given : after.given ≡ before.given
+  pub retired : after.retired ≡ before.retired
+  pub holds : after.holds ≡ before.holds
+  pub stands : (all : List Entry) → StandsFor before all → StandsFor after all
+
+-- what an end of the reader's side tells
+pub record Walk : Type 0 where
+  -- the ring that it is an end of
+  pub ring : Ring
+  -- whether a block is in hand: it was taken and not yet released
+  pub in_hand : Bool
+  -- how many blocks it took so far
+  pub taken : ℕ
+  -- how many of its looks found a word of the feeder's side; it may stand still at the greatest u64
+  pub empties : ℕ
+  -- how many retired blocks wait to be taken, where the end tells that
+  pub waiting : Option ℕ

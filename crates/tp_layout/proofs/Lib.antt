@@ -1,0 +1,10 @@
+pub mod Bytes
+pub mod Chains
+pub mod Walks
+pub mod Puts
+pub mod Opens
+pub mod Tables
+pub mod PacketTexts
+pub mod BlockTexts
+pub mod Answering
+pub mod Filling

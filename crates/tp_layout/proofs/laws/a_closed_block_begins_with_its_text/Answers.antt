@@ -1,0 +1,5 @@
+use Rattle.tp_layout.proofs.Filling.{fills_whole}
+use Rattle.tp_layout.proofs.laws.a_closed_block_begins_with_its_text.Goals as goal
+
+pub returns : goal.returns
+returns c = fills_whole

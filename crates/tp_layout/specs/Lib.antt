@@ -1,0 +1,10 @@
+pub mod Requests
+pub mod Rows
+pub mod Packets
+pub mod Blocks
+pub mod Faults
+pub mod Writing
+pub mod Reading
+pub mod Checks
+pub mod Dump
+pub mod Laws

@@ -1,0 +1,60 @@
+//! Why a ring can't be had, and why a block isn't read.
+ghost use Rattle.std.specs.Prelude.{◌≡◌};
+
+/// Why a ring can't be had. The tests are made in this order, and the first that fails is told.
+#[derive(Clone, Copy, Debug, PartialEq, Eq)]
+pub enum RequestError {
+    /// A block is no whole number of pages of 4096 bytes, at least 1, or has more than 1,048,576 bytes.
+    BlockSize,
+    /// There are fewer than 2 blocks or more than 256, or they have more than 67,108,864 bytes in all.
+    BlockCount,
+    /// The private area has more than 1024 bytes.
+    Private,
+    /// A frame has fewer than 68 bytes (TPACKET3_HDRLEN).
+    FrameSmall,
+    /// The size of a frame is no multiple of 16 (TPACKET_ALIGNMENT).
+    FrameAlign,
+    /// No frame goes into a block, or another number of frames goes into all blocks than is asked for.
+    FrameCount,
+    /// A feature is asked for that isn't TP_FT_REQ_FILL_RXHASH (1).
+    Feature,
+    /// A transmit ring is asked for with a time-out, a private area or a feature.
+    Transmit,
+    /// A ring of TPACKET_V2 has more than 65,536 slots.
+    Slots,
+}
+
+/// What is wrong at a place of a block.
+#[derive(Clone, Copy, Debug, PartialEq, Eq)]
+pub enum LayoutKind {
+    /// The version isn't 2 (TPACKET_V3).
+    Version,
+    /// The packets don't end where the block says.
+    Length,
+    /// An offset to the private area, to the first packet or to the next one is wrong.
+    Offset,
+    /// There is no packet, or no room for as many as the block says.
+    Count,
+    /// A snap length is 0, above the wire length, or leads out of the block.
+    Snap,
+    /// Another field has a number that it can't have.
+    Field,
+}
+
+/// The first fault of a block.
+#[derive(Clone, Copy, Debug, PartialEq, Eq)]
+pub struct LayoutError {
+    /// What is wrong.
+    pub kind: LayoutKind,
+    /// The place in the block, in bytes.
+    pub at: u32,
+}
+
+impl LayoutError {
+    /// The fault of this kind at this place.
+    pub(crate) fn new(kind: LayoutKind, at: u32) -> LayoutError
+        ensures { result ≡ record { kind = kind; at = at } }
+    {
+        LayoutError { kind, at }
+    }
+}

@@ -1,0 +1,30 @@
+//! Blocks as bytes: which rings can be had, how a block is filled, and how it is read.
+#![tactic(auto)]
+
+mod checking;
+mod contents;
+mod error;
+mod fields;
+mod header_writing;
+mod laws;
+mod numbers;
+mod packet_refs;
+mod packet_walks;
+mod packet_writing;
+mod requests;
+mod ring_blocks;
+mod shapes;
+#[cfg(test)]
+mod tests;
+mod walking;
+mod writing;
+
+pub use error::{LayoutError, LayoutKind, RequestError};
+pub use laws::{a_closed_block_begins_with_its_text, a_text_says_one_thing};
+pub use packet_refs::PacketRef;
+pub use packet_walks::PacketWalk;
+pub use requests::RingRequest;
+pub use ring_blocks::{Block, blocks};
+pub use shapes::Shape;
+pub use walking::{text_of, walk, walk_text};
+pub use writing::{Closing, close_header, write_header, write_packet};

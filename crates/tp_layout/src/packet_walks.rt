@@ -1,0 +1,64 @@
+//! The packets of a block that passed its tests, one after another.
+ghost use Rattle.std.specs.Prelude.{◌≡◌, ◌≤◌, length};
+ghost use Rattle.tp_layout.specs.Faults.{packets_in};
+ghost use Rattle.tp_layout.specs.Checks.{Stands};
+
+use crate::fields::u32_at;
+use crate::packet_refs::{PacketRef, packet_at};
+use ring_model::need;
+use std::marker::Model;
+
+/// The packets of a block, read in place. Contracts see it as the list of the packets that are left.
+#[derive(Debug, Drop)]
+pub struct PacketWalk<'a> {
+    /// How many packets are left.
+    left: u32,
+    /// The bytes from the next packet to the end of the last one.
+    rest: &'a [u8],
+}
+
+impl<'a> Model for PacketWalk<'a> {
+    ghost use Rattle.std.specs.Prelude.{List};
+    ghost use Rattle.frame_view.specs.declared.frames.Packet.{Packet};
+
+    ghost Value = { List Packet };
+
+    ghost use Rattle.tp_layout.specs.Faults.{packets_in};
+    ghost use Rattle.tp_layout.specs.Checks.{Stands};
+
+    ghost view = { λ walk. packets_in walk.left walk.rest.now };
+
+    ghost invariant = { λ walk. Stands walk.left walk.rest.now };
+}
+
+impl<'a> PacketWalk<'a> {
+    /// The packets of bytes that passed the tests.
+    pub(crate) fn of(left: u32, rest: &'a [u8]) -> PacketWalk<'a>
+        requires { Stands left rest.now }
+        ensures { result ≡ packets_in left rest.now }
+    {
+        PacketWalk { left, rest }
+    }
+}
+
+impl<'a> Iterator for PacketWalk<'a> {
+    ghost use Rattle.std.specs.Iterator.{YieldsFirstBy, item_count};
+    ghost use Rattle.tp_layout.specs.Reading.{seen};
+
+    type Item = PacketRef<'a>;
+
+    ghost next_gives = { YieldsFirstBy seen (λ walk. walk) };
+
+    ghost remaining = { item_count (λ walk. walk) };
+
+    fn next(&mut self) -> Option<PacketRef<'a>> {
+        if self.left == 0 {
+            return None;
+        }
+        let packet = packet_at(self.rest);
+        let (_, rest) = self.rest.split_at(need(u32_at(self.rest, 12)) as usize);
+        self.left -= 1;
+        self.rest = rest;
+        Some(packet)
+    }
+}

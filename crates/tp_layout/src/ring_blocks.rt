@@ -1,0 +1,102 @@
+//! The blocks of a ring.
+ghost use Rattle.std.specs.Prelude.{◌≡◌, ◌+◌, ◌≤◌, IfOk, length, replicate};
+ghost use Rattle.ring_model.specs.Offers.{packet_of};
+ghost use Rattle.ring_model.specs.Sizes.{need_of};
+ghost use Rattle.tp_layout.specs.Packets.{IsTyped, packet_text};
+ghost use Rattle.tp_layout.specs.Requests.{IsShape, first_of};
+ghost use Rattle.tp_layout.specs.Writing.{IsWritable, closed, open_header, put, zero_block};
+ghost use Rattle.tp_layout.specs.declared.requests.RingRequest.{RingRequest};
+
+use crate::header_writing::{put_closing, put_empty};
+use crate::packet_writing::put_packet;
+use crate::{Closing, Shape};
+use frame_view::Memory;
+use ring_model::Offer;
+use std::alloc::Global;
+use std::marker::Model;
+
+/// One block of a ring. Contracts see it as its shape and its bytes.
+#[derive(Debug, Drop)]
+pub struct Block {
+    /// The shape of the ring's blocks.
+    shape: Shape,
+    /// Its bytes, as many as the shape says.
+    bytes: Vec<u8>,
+}
+
+impl Model for Block {
+    ghost use Rattle.tp_layout.specs.Writing.{IsBlock, ShapedBytes};
+
+    ghost Value = { ShapedBytes };
+
+    ghost view = { λ block. record { shape = block.shape; bytes = block.bytes.items } };
+
+    ghost invariant = { λ block. IsBlock block.shape block.bytes.items };
+}
+
+impl Block {
+    /// Its bytes, as many as its shape says.
+    pub fn bytes(&self) -> &[u8]
+        ensures value { result.now ≡ self.now.bytes }
+        ensures size { length result.now ≡ self.now.shape.block_size }
+        ensures sound { IsShape self.now.shape }
+    {
+        self.bytes.as_slice()
+    }
+
+    /// Writes the header of a block without packets, and zeros up to the place of the first packet.
+    pub(crate) fn put_empty(&mut self, first: u32, number: u64)
+        requires order { 48 ≤ first }
+        requires fits { first ≤ self.old.shape.block_size }
+        ensures { (shape : RingRequest) → first ≡ first_of shape
+            → self.new ≡ record self.old { bytes = put 0 (open_header shape number) self.old.bytes } }
+    {
+        put_empty(self.bytes.as_mut_slice(), first, number);
+    }
+
+    /// Writes the packet of an offer at a place.
+    pub(crate) fn put_packet(&mut self, at: u32, offer: &Offer, fill: bool)
+        requires fits { at + need_of offer.now.snap ≤ self.old.shape.block_size }
+        requires small { self.old.shape.block_size ≤ 1048576 }
+        requires sound { IsWritable offer.now }
+        ensures written { self.new ≡ record self.old {
+          bytes = put at (packet_text (need_of offer.now.snap) (packet_of fill offer.now)) self.old.bytes;
+        } }
+        ensures typed { IsTyped (packet_of fill offer.now) }
+    {
+        put_packet(self.bytes.as_mut_slice(), at as usize, offer, fill);
+    }
+
+    /// Writes the fields of the descriptor that the end of a block tells, and that no packet follows the last one.
+    pub(crate) fn put_closing(&mut self, closing: &Closing)
+        requires behind { 48 ≤ closing.now.last_at }
+        requires fits { closing.now.last_at + 4 ≤ self.old.shape.block_size }
+        ensures written { self.new ≡ record self.old { bytes = closed closing.now self.old.bytes } }
+        ensures size { length self.old.bytes ≡ self.old.shape.block_size }
+    {
+        put_closing(self.bytes.as_mut_slice(), closing);
+    }
+}
+
+/// The blocks of a ring of this shape, of zeros.
+pub fn blocks(alloc: Global, shape: &Shape) -> Result<Vec<Block>, Memory>
+    ensures { IfOk result (λ blocks. blocks.items ≡ replicate shape.now.block_nr (zero_block shape.now)) }
+{
+    let mut blocks = Vec::new(alloc);
+    for _ in 0..shape.block_nr() {
+        blocks.push(zero_block(alloc, shape)?)?;
+    }
+    Ok(blocks)
+}
+
+/// A block of zeros.
+pub(crate) fn zero_block(alloc: Global, shape: &Shape) -> Result<Block, Memory>
+    ensures { IfOk result (λ block. block ≡ zero_block shape.now) }
+{
+    let size = shape.block_size() as usize;
+    let bytes = vec![in alloc; 0; size]?;
+    Ok(Block {
+        shape: *shape,
+        bytes,
+    })
+}
