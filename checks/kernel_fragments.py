@@ -1,0 +1,79 @@
+#!/usr/bin/env python3
+"""What the kernel of this machine puts together of the fragments that the tests of ip_defrag push.
+
+The fragments go to the loopback device by a raw socket, and another raw socket receives the datagram whole, with its
+header. No two of them overlap and none comes twice, so RFC 791 alone says what comes out, and ringtap's own rules play no
+part. Each datagram must have the data and the header fields that the tests compare with. For each it prints the sizes of
+the fragments in bytes, their order, and of what the kernel gives the header's length, the total length, flags and offset,
+the time to live and the SHA-256 of the data; `kernel_fragments.txt` has these lines. Without the right to open a raw socket
+it ends with status 77.
+"""
+import hashlib
+import itertools
+import socket
+import struct
+import sys
+
+PROTOCOL = 253  # for experiments, RFC 3692
+HERE = socket.inet_aton("127.0.0.1")
+
+
+def places(length):
+    """The data of a datagram: each byte is the remainder of its place by 251."""
+    return bytes(place % 251 for place in range(length))
+
+
+def fragment(ident, ttl, options, at, data, more):
+    size = 20 + len(options)
+    head = struct.pack(">BBHHHBBH", 0x40 + size // 4, 0, size + len(data), ident, at // 8 + 0x2000 * more, ttl, PROTOCOL, 0)
+    return head + HERE + HERE + options + data
+
+
+def fragments(ident, ttl, options, sizes):
+    whole, at = places(sum(sizes)), 0
+    for size in sizes:
+        yield fragment(ident, ttl, options, at, whole[at:at + size], at + size < len(whole))
+        at += size
+
+
+def received(socket_in, ident):
+    """The datagram of an identification; others that came before are passed over."""
+    while True:
+        whole = socket_in.recv(65535)
+        if struct.unpack(">H", whole[4:6])[0] == ident:
+            return whole
+
+
+def check(out, socket_in, ident, ttl, options, sizes, order):
+    pieces = list(fragments(ident, ttl, options, sizes))
+    for place in order:
+        out.sendto(pieces[place], ("127.0.0.1", 0))
+    whole = received(socket_in, ident)
+    size = (whole[0] & 0xF) * 4
+    length, _, flags = struct.unpack(">HHH", whole[2:8])
+    told = (size, length, flags, whole[8], whole[size:])
+    meant = (20 + len(options), 20 + len(options) + sum(sizes), 0, ttl, places(sum(sizes)))
+    if told != meant:
+        sys.exit(f"the kernel puts {sizes} in the order {order} together as another datagram")
+    digest = hashlib.sha256(whole[size:]).hexdigest()
+    print(*map("-".join, (map(str, sizes), map(str, order))), size, length, flags, whole[8], digest)
+
+
+def main():
+    try:
+        out = socket.socket(socket.AF_INET, socket.SOCK_RAW, socket.IPPROTO_RAW)
+        socket_in = socket.socket(socket.AF_INET, socket.SOCK_RAW, PROTOCOL)
+    except PermissionError:
+        sys.exit(77)
+    socket_in.settimeout(5)
+    ident = 0x1234
+    cases = [(64, b"", [24, 16, 8, 5], order) for order in itertools.permutations(range(4))]
+    cases += [(119, b"", [256, 196], (0, 1)), (119, b"", [256, 196], (1, 0)), (64, b"", [8, 8, 4], (2, 0, 1))]
+    cases += [(64, b"\x01" * 40, [65472, 3], (1, 0))]
+    for case in cases:
+        ident += 1
+        check(out, socket_in, ident, *case)
+
+
+if __name__ == "__main__":
+    main()

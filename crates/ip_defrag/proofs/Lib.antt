@@ -1,0 +1,11 @@
+pub mod Completed
+pub mod Covers
+pub mod Filled
+pub mod Grouping
+pub mod Holding
+pub mod Passed
+pub mod Places
+pub mod Pushed
+pub mod Rows
+pub mod Taken
+pub mod Walks

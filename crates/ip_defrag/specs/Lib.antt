@@ -1,0 +1,5 @@
+pub mod Datagrams
+pub mod Fold
+pub mod Fragments
+pub mod Grouped
+pub mod Held

@@ -1,0 +1,154 @@
+//! The fragments of one datagram, as far as they were pushed.
+ghost use Rattle.std.specs.Prelude.{◌≡◌, ◌+◌, ◌≤◌, ◌++◌, ◌∷◌, [], IfErr, IfOk, OnErr, OnOk, true, false, length};
+ghost use Rattle.std.specs.List.{list_any};
+ghost use Rattle.ip_defrag.specs.Fragments.{takes_part};
+ghost use Rattle.ip_defrag.specs.Fold.{conflicts};
+ghost use Rattle.ip_defrag.specs.Grouped.{FitsIn, completed_with, is_fresh, is_live, judgement, opened_by, with_frame};
+ghost use Rattle.ip_defrag.specs.Held.{AreHeld};
+
+use crate::NoPush;
+use crate::fragments::Fragment;
+use crate::names::Name;
+use crate::rules::{one_conflicts, one_is_copy};
+use crate::wholes::completed;
+use frame_view::Frame;
+use std::alloc::Global;
+use std::marker::Model;
+
+/// The age in seconds at which a datagram is given up, counted from its first fragment.
+const TOO_OLD: u32 = 30;
+
+/// The held fragments of one datagram. Contracts see it as a group of frames.
+#[derive(Debug, Drop)]
+pub(crate) struct Datagram {
+    /// The name that its fragments have.
+    name: Name,
+    /// The seconds of the fragment that was pushed first.
+    opened: u32,
+    /// The fragments, in the order in which they were pushed.
+    fragments: Vec<Fragment>,
+}
+
+impl Model for Datagram {
+    ghost use Rattle.ip_defrag.specs.Grouped.{Group};
+
+    ghost Value = { Group };
+
+    ghost use Rattle.ip_defrag.specs.Held.{AreHeld};
+
+    ghost view = { λ it. record { name = it.name; opened = it.opened; fragments = it.fragments.items } };
+
+    ghost invariant = { λ it. AreHeld it.fragments.items };
+}
+
+/// What a new fragment is to those that are held of its datagram.
+#[derive(Clone, Copy, Debug, PartialEq, Eq)]
+pub(crate) enum Judgement {
+    /// It is a copy of one of them.
+    Copy,
+    /// It conflicts with one of them.
+    Conflict,
+    /// It can be held beside them.
+    Fits,
+}
+
+impl Datagram {
+    /// A datagram with its first fragment. After `NoPush` the fragment's frame is handed back.
+    pub(crate) fn open(alloc: Global, fragment: Fragment) -> Result<Datagram, NoPush>
+        ensures opened { IfOk result (λ datagram. datagram ≡ opened_by fragment) }
+        ensures handed_back { IfErr result (λ no. no.frame ≡ fragment) }
+    {
+        let name = fragment.name();
+        let opened = fragment.frame().sec;
+        let mut fragments = Vec::new(alloc);
+        if let Err(refused) = fragments.push(fragment) {
+            return Err(NoPush {
+                frame: refused.value.into_frame(),
+            });
+        }
+        Ok(Datagram {
+            name,
+            opened,
+            fragments,
+        })
+    }
+
+    /// Whether its first fragment is less than 30 seconds old.
+    pub(crate) fn is_fresh(&self, now: u32) -> bool
+        ensures { result ≡ is_fresh now self.now }
+    {
+        now.saturating_sub(self.opened) < TOO_OLD
+    }
+
+    /// Whether it has a name, and is fresh.
+    #[tactic(auto, unfolding(crate::specs::Fold::same_name))]
+    pub(crate) fn is_live(&self, name: Name, now: u32) -> bool
+        ensures { result ≡ is_live name now self.now }
+    {
+        self.name == name && self.is_fresh(now)
+    }
+
+    /// The number of its fragments.
+    pub(crate) fn len(&self) -> u32
+        ensures count { result ≡ length self.now.fragments }
+        ensures most { result ≤ 65475 }
+    {
+        self.fragments.len() as u32
+    }
+
+    /// What a new fragment is to its fragments.
+    pub(crate) fn judge(&self, new: &Fragment) -> Judgement
+        ensures { result ≡ judgement new.now self.now.fragments }
+    {
+        if one_is_copy(new, &self.fragments) {
+            Judgement::Copy
+        } else if one_conflicts(new, &self.fragments) {
+            Judgement::Conflict
+        } else {
+            Judgement::Fits
+        }
+    }
+
+    /// Adds a fragment, and gives the datagram's frame where that completes it. After `NoPush` nothing has
+    /// changed, and the fragment's frame is handed back.
+    pub(crate) fn add(&mut self, alloc: Global, fragment: Fragment) -> Result<Option<Frame>, NoPush>
+        requires taken { takes_part fragment ≡ true }
+        requires fits { FitsIn fragment self.old }
+        ensures added { OnOk result (self.new ≡ with_frame fragment self.old) }
+        ensures whole { IfOk result (λ it. it ≡ completed_with fragment self.old.fragments) }
+        ensures unchanged { OnErr result (self.new ≡ self.old) }
+        ensures handed_back { IfErr result (λ no. no.frame ≡ fragment) }
+    {
+        add_to(alloc, &mut self.fragments, fragment)
+    }
+}
+
+/// Adds a fragment behind others, and gives their datagram's frame where that completes it. After `NoPush`
+/// nothing has changed, and the fragment's frame is handed back.
+fn add_to(
+    alloc: Global,
+    fragments: &mut Vec<Fragment>,
+    fragment: Fragment,
+) -> Result<Option<Frame>, NoPush>
+    requires taken { takes_part fragment ≡ true }
+    requires held { AreHeld fragments.old.items }
+    requires fits { list_any (conflicts fragment) fragments.old.items ≡ false }
+    ensures added { OnOk result (fragments.new.items ≡ fragments.old.items ++ fragment ∷ []) }
+    ensures held { AreHeld fragments.new.items }
+    ensures whole { IfOk result (λ it. it ≡ completed_with fragment fragments.old.items) }
+    ensures unchanged { OnErr result (fragments.new.items ≡ fragments.old.items) }
+    ensures handed_back { IfErr result (λ no. no.frame ≡ fragment) }
+{
+    if let Err(refused) = fragments.push(fragment) {
+        return Err(NoPush {
+            frame: refused.value.into_frame(),
+        });
+    }
+    let newest = &fragments[fragments.len() - 1];
+    if let Ok(whole) = completed(alloc, fragments, newest) {
+        return Ok(whole);
+    }
+    Err(NoPush {
+        frame: fragments.pop().unwrap().into_frame(),
+    })
+}

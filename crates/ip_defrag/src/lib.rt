@@ -1,0 +1,21 @@
+//! Reassembly of IPv4 fragments (RFC 791), frame by frame.
+#![tactic(auto)]
+
+mod datagrams;
+mod defrag;
+mod fragments;
+mod laws;
+mod names;
+mod passes;
+mod reassembling;
+mod rules;
+mod steps;
+#[cfg(test)]
+mod tests;
+mod trace;
+mod wholes;
+
+pub use defrag::Defrag;
+pub use laws::{each_byte_is_its_fragments, no_frame_is_lost};
+pub use reassembling::reassemble;
+pub use steps::{NoPush, Step};

@@ -1,0 +1,193 @@
+//! A fragment's pass over the datagrams that are held, which stand in the order in which they were opened.
+//!
+//! What wants memory is done first, so that nothing has changed where it is refused.
+ghost use Rattle.std.specs.Prelude.{◌≡◌, ◌≤◌, ◌<◌, IfErr, IfOk, HoldsAt, OnErr, OnOk, true, filter, length, vec_capacity, vec_len};
+ghost use Rattle.std.specs.List.{position_from};
+ghost use Rattle.ip_defrag.specs.Fold.{pass};
+ghost use Rattle.ip_defrag.specs.Fragments.{takes_part};
+ghost use Rattle.ip_defrag.specs.Grouped.{FitsIn, IsHeld, IsJoined, Passes, after_opening, groups, is_fresh, is_live, total};
+
+use crate::datagrams::{Datagram, Judgement};
+use crate::fragments::Fragment;
+use crate::names::Name;
+use crate::trace::Trace;
+use crate::{NoPush, Step};
+use frame_view::Frame;
+use std::alloc::Global;
+
+/// The most datagrams that are held.
+const MOST_NAMES: usize = 64;
+
+/// What came of a fragment.
+#[derive(Debug, Drop)]
+struct Answer {
+    /// The datagram's frame, where the fragment completed it.
+    whole: Option<Frame>,
+    /// The number of fragments that are in that frame.
+    used: u32,
+}
+
+/// The number of fragments that are held.
+#[tactic(auto, unfolding(crate::specs::Grouped::total))]
+pub(crate) fn pending(datagrams: &[Datagram]) -> u32
+    requires { length datagrams.now ≤ 64 }
+    ensures count { result ≡ total datagrams.now }
+    ensures most { result ≤ 4190400 }
+{
+    let mut count = 0_u32;
+    for datagram in datagrams {
+        count += datagram.len();
+    }
+    count
+}
+
+/// The place of a name's datagram, where one is held that isn't stale.
+fn place_of(datagrams: &[Datagram], name: Name, now: u32) -> Option<usize>
+    ensures { result ≡ position_from (is_live name now) 0 datagrams.now }
+{
+    datagrams
+        .iter()
+        .position(|datagram| datagram.is_live(name, now))
+}
+
+/// Gives up each datagram whose first fragment is 30 seconds old or more.
+fn drop_stale(datagrams: &mut Vec<Datagram>, now: u32)
+    ensures fresh { datagrams.new.items ≡ filter (is_fresh now) datagrams.old.items }
+    ensures fewer { vec_len datagrams.new ≤ vec_len datagrams.old }
+    ensures room { vec_capacity datagrams.new ≡ vec_capacity datagrams.old }
+{
+    datagrams.retain(|datagram| datagram.is_fresh(now));
+}
+
+/// Opens a datagram with its first fragment. The stale ones are given up, and where then as many are held as may
+/// be, the one that was opened first.
+#[tactic(auto, unfolding(crate::specs::Grouped::after_opening))]
+fn open(alloc: Global, datagrams: &mut Vec<Datagram>, fragment: Fragment) -> Result<(), NoPush>
+    ensures left { OnOk result (datagrams.new.items ≡ after_opening fragment datagrams.old.items) }
+    ensures unchanged { OnErr result (datagrams.new.items ≡ datagrams.old.items) }
+    ensures handed_back { IfErr result (λ no. no.frame ≡ fragment) }
+{
+    if datagrams.try_reserve(1).is_err() {
+        return Err(NoPush {
+            frame: fragment.into_frame(),
+        });
+    }
+    let now = fragment.frame().sec;
+    let opened = Datagram::open(alloc, fragment)?;
+    drop_stale(datagrams, now);
+    if datagrams.len() == MOST_NAMES {
+        datagrams.remove(0);
+    }
+    datagrams.push(opened).unwrap();
+    Ok(())
+}
+
+/// Joins a fragment to the datagram at a place. That leaves where the two conflict, or where it is completed.
+#[tactic(auto, unfolding(crate::specs::Grouped::joined))]
+fn join(
+    alloc: Global,
+    datagrams: &mut Vec<Datagram>,
+    at: usize,
+    fragment: Fragment,
+) -> Result<Answer, NoPush>
+    requires taken { takes_part fragment ≡ true }
+    requires below { at < length datagrams.old.items }
+    ensures is { IfOk result (λ it. IsJoined fragment at datagrams.old.items datagrams.new.items it) }
+    ensures unchanged { OnErr result (datagrams.new.items ≡ datagrams.old.items) }
+    ensures handed_back { IfErr result (λ no. no.frame ≡ fragment) }
+{
+    let nothing = Answer {
+        whole: None,
+        used: 0,
+    };
+    match datagrams[at].judge(&fragment) {
+        Judgement::Copy => Ok(nothing),
+        Judgement::Conflict => {
+            datagrams.remove(at);
+            Ok(nothing)
+        }
+        Judgement::Fits => hold(alloc, datagrams, at, fragment),
+    }
+}
+
+/// Adds a fragment that fits to the datagram at a place, which leaves where that completes it.
+fn hold(
+    alloc: Global,
+    datagrams: &mut Vec<Datagram>,
+    at: usize,
+    fragment: Fragment,
+) -> Result<Answer, NoPush>
+    requires taken { takes_part fragment ≡ true }
+    requires below { at < length datagrams.old.items }
+    requires fits { HoldsAt (FitsIn fragment) datagrams.old.items at }
+    ensures is { IfOk result (λ it. IsHeld fragment at datagrams.old.items datagrams.new.items it) }
+    ensures unchanged { OnErr result (datagrams.new.items ≡ datagrams.old.items) }
+    ensures handed_back { IfErr result (λ no. no.frame ≡ fragment) }
+{
+    let whole = datagrams[at].add(alloc, fragment)?;
+    if whole.is_none() {
+        return Ok(Answer { whole, used: 0 });
+    }
+    let used = datagrams.remove(at).len();
+    Ok(Answer { whole, used })
+}
+
+/// Passes a fragment over the datagrams. The trace tells which frames they hold. After `NoPush` nothing has
+/// changed, and the fragment's frame is handed back.
+pub(crate) fn pass(
+    alloc: Global,
+    trace: &Trace,
+    datagrams: &mut Vec<Datagram>,
+    fragment: Fragment,
+) -> Result<Step, NoPush>
+    requires taken { takes_part fragment ≡ true }
+    requires held { datagrams.old.items ≡ groups trace.now.held }
+    requires few { length datagrams.old.items ≤ 64 }
+    ensures held { OnOk result (datagrams.new.items ≡ groups (pass trace.now.held fragment).held) }
+    ensures few { length datagrams.new.items ≤ 64 }
+    ensures whole { IfOk result (λ it. it.whole ≡ (pass trace.now.held fragment).whole) }
+    ensures discarded { IfOk result (λ it. it.discarded ≡ (pass trace.now.held fragment).discarded) }
+    ensures unchanged { OnErr result (datagrams.new.items ≡ datagrams.old.items) }
+    ensures handed_back { IfErr result (λ no. no.frame ≡ fragment) }
+{
+    let before = pending(datagrams);
+    let joined = pass_by(alloc, trace, datagrams, fragment)?;
+    let after = pending(datagrams);
+    // Each frame that was held, and this one, is held still, is in what came out, or was given up.
+    Ok(Step {
+        whole: joined.whole,
+        discarded: before + 1 - after - joined.used,
+    })
+}
+
+/// Joins a fragment to its datagram, or opens one.
+fn pass_by(
+    alloc: Global,
+    trace: &Trace,
+    datagrams: &mut Vec<Datagram>,
+    fragment: Fragment,
+) -> Result<Answer, NoPush>
+    requires taken { takes_part fragment ≡ true }
+    requires held { datagrams.old.items ≡ groups trace.now.held }
+    requires few { length datagrams.old.items ≤ 64 }
+    ensures agrees { IfOk result (λ it. Passes trace.now.held fragment datagrams.new.items it) }
+    ensures few { length datagrams.new.items ≤ 64 }
+    ensures unchanged { OnErr result (datagrams.new.items ≡ datagrams.old.items) }
+    ensures handed_back { IfErr result (λ no. no.frame ≡ fragment) }
+{
+    let now = fragment.frame().sec;
+    match place_of(datagrams, fragment.name(), now) {
+        Some(at) => {
+            let joined = join(alloc, datagrams, at, fragment)?;
+            drop_stale(datagrams, now);
+            Ok(joined)
+        }
+        None => {
+            open(alloc, datagrams, fragment)?;
+            Ok(Answer {
+                whole: None,
+                used: 0,
+            })
+        }
+    }
+}
