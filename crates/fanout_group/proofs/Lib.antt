@@ -3,3 +3,9 @@ pub mod Settling
 pub mod Routing
 pub mod Standing
 pub mod Rising
+pub mod Rounds
+pub mod Passing
+pub mod Arriving
+pub mod Pathing
+pub mod Agreeing
+pub mod Sounding

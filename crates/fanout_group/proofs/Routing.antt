@@ -29,7 +29,7 @@ pub home_is_member : (rules : Rules) (present : ℕ) (ticket : Option ℕ) (fram
 home_is_member rules present ticket frame some at =
     home_below rules.mode rules.members (rules.hash frame) (unwrap_or ticket 0) frame.cpu (rules.queue frame.cpu) present some at
 
-behind_below : (members at count : ℕ) → at < members → behind members at count < members
+pub behind_below : (members at count : ℕ) → at < members → behind members at count < members
 behind_below members at zero h = h
 behind_below members at (suc count) h = behind_below members ((at + 1) % members) count (omega arith)
 
@@ -111,3 +111,9 @@ pub present_is_member : (rules : Rules) (present : ℕ) (frame : Frame) (entry :
     → IsEntry rules present frame entry → present_after rules.mode present entry.tries < rules.members
 present_is_member rules present frame entry some at is =
     present_stays rules.mode rules.members present entry.tries at (tries_end rules present frame entry some at is).last
+
+-- the same of a route
+pub present_after-route : (rolls : Bool) (mode : Mode) (members home present : ℕ) (tries : List Try) → home < members → present < members
+    → IsRoute rolls members home tries → present_after mode present tries < members
+present_after-route rolls mode members home present tries h at route =
+    present_stays mode members present tries at (route_settles rolls members home present tries h route).last

@@ -1,6 +1,14 @@
 pub mod Rules
+pub mod Plans
+pub mod PlanWords
 pub mod Arrivals
 pub mod Routes
 pub mod Logs
 pub mod Joined
 pub mod Once
+pub mod Desks
+pub mod Telling
+pub mod Judging
+pub mod Lenses
+pub mod Paths
+pub mod PathsInside

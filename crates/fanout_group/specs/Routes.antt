@@ -1,5 +1,5 @@
 -- Which tries an arrival makes.
-use Rattle.std.specs.Prelude.{◌≡◌, ◌⊎◌, ℕ, zero, suc, ◌+◌, ◌%◌, ◌<◌, Bool, List, [], ◌∷◌, ◌++◌, MatchBool}
+use Rattle.std.specs.Prelude.{◌≡◌, ◌⊎◌, ℕ, zero, suc, ◌+◌, ◌%◌, ◌<◌, ◌≤◌, Bool, List, [], ◌∷◌, ◌++◌, MatchBool}
 use Rattle.fanout_group.specs.declared.modes.Mode.{Mode}
 use Rattle.fanout_group.specs.declared.modes.Mode.TheVariants.{Rollover}
 use Rattle.fanout_group.specs.declared.logs.Fate.{Fate}
@@ -53,3 +53,7 @@ last_member member (t ∷ tries) = last_member t.member tries
 abbrev pub present_after : Mode → ℕ → List Try → ℕ
 present_after Rollover present tries = last_member present tries
 present_after mode present tries = present
+
+-- tries that are no route yet: from home on round the group, each refused
+abbrev pub AreRefusals : ℕ → ℕ → List Try → Type 0
+AreRefusals members home tries = (count : ℕ) × (count ≤ members) × (tries ≡ refused_from members home count)

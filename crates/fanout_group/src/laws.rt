@@ -1,7 +1,8 @@
 //! Laws of the definitions, each the contract of a function that does nothing.
-ghost use Rattle.std.specs.Prelude.{ℕ, List};
+ghost use Rattle.std.specs.Prelude.{◌≡◌, ℕ, Bool, None, List, All};
 ghost use Rattle.frame_view.specs.declared.frames.Frame.{Frame};
-ghost use Rattle.fanout_group.specs.Arrivals.{arrivals_of};
+ghost use Rattle.capture_file.specs.Laws.{IsCaptured};
+ghost use Rattle.fanout_group.specs.Arrivals.{IsArrival, arrivals_of};
 ghost use Rattle.fanout_group.specs.Joined.{Logged};
 ghost use Rattle.fanout_group.specs.Once.{AreOf, EachStandsOnce, IsGroupReport};
 ghost use Rattle.fanout_group.specs.Rules.{Rules};
@@ -14,7 +15,15 @@ pub fn each_frame_stands_exactly_once()
         → IsGroupReport rules room cpus members → EachStandsOnce cpus members }
 {}
 
-/// The arrivals of a CPU's frames have its number, and indexes that rise.
+/// The arrivals of a CPU's frames have its number, and indexes that rise, with and without defragmentation.
 pub fn arrivals_rise()
-    ensures { (cpu least : ℕ) (frames : List Frame) → AreOf cpu least frames → AreOf cpu least (arrivals_of frames) }
+    ensures { (defrag : Bool) (cpu least : ℕ) (frames : List Frame) → AreOf cpu least frames
+        → AreOf cpu least (arrivals_of defrag frames) }
+{}
+
+/// All that arrives of a capture's frames is sound: untagged, no runt, with a time within its second, and with no more
+/// bytes than were on the wire.
+pub fn arrivals_are_sound()
+    ensures { (defrag : Bool) (frames : List Frame) → All (λ frame. frame.tag ≡ None) frames
+        → All IsCaptured frames → All IsArrival (arrivals_of defrag frames) }
 {}

@@ -2,12 +2,27 @@
 //! stands exactly once.
 #![tactic(auto)]
 
+mod delivery;
+mod desk;
+mod judging;
 mod laws;
 mod logs;
 mod modes;
+mod plan;
+mod plan_error;
+mod receive_path;
 mod runs;
+#[cfg(test)]
+mod tests;
+mod tries;
 
-pub use laws::{arrivals_rise, each_frame_stands_exactly_once};
+pub use delivery::deliver;
+pub use desk::Desk;
+pub use judging::{ArrivalRules, Judged};
+pub use laws::{arrivals_are_sound, arrivals_rise, each_frame_stands_exactly_once};
 pub use logs::{ArrivalList, ArrivalLog, Fate, Try, TryList};
 pub use modes::Mode;
+pub use plan::Plan;
+pub use plan_error::PlanError;
+pub use receive_path::ReceivePath;
 pub use runs::{CpuEnd, CpuLog, CpuLogList};

@@ -18,3 +18,10 @@ pub one_more : {X : Type 0} (f : X → X) (xs ys : List X) (i : ℕ) (x y : X) �
 one_more f xs ys i x y h e at is =
     ap (λ z. slice_set ys i z) (is ∙ ap f at) ∙ ap (λ zs. slice_set zs i (f (get_or zs i x))) e ∙ changed f xs i x h
     ∙ ap (λ k. map f (take k xs) ++ drop k xs) (next i)
+
+-- the element whose turn comes next is as it was
+pub not_yet : {X : Type 0} (f : X → X) (xs : List X) (i : ℕ) (d : X) → i < length xs
+    → get_or (map f (take i xs) ++ drop i xs) i d ≡ get_or xs i d
+not_yet f [] i d h = absurd (omega (arith, h))
+not_yet f (x ∷ xs) zero d h = refl
+not_yet f (x ∷ xs) (suc i) d h = not_yet f xs i d (omega (arith, h))

@@ -1,5 +1,5 @@
 -- Feeding one frame, and one CPU, in a loop that has so many to feed.
-use Rattle.std.proofs.Common.{◌≡◌, ℕ, zero, suc, ◌+◌, ◌-◌, ◌<◌, List, [], ◌∷◌, length, Option, None, Some, ◌++◌, refl, sym, ap, ◌∙◌, append_assoc, length-set}
+use Rattle.std.proofs.Common.{false, ◌≡◌, ℕ, zero, suc, ◌+◌, ◌-◌, ◌<◌, List, [], ◌∷◌, length, Option, None, Some, ◌++◌, refl, sym, ap, ◌∙◌, append_assoc, length-set}
 use Rattle.std.specs.Prelude.{map}
 use Rattle.frame_view.specs.declared.frames.Frame.{Frame}
 use Rattle.fanout_group.specs.Arrivals.{arrivals_at}
@@ -35,9 +35,9 @@ count-feed_times rules room cpu (suc times) replay =
 
 -- a CPU more, for the next capture
 pub one_cpu_more : (cpus more : List Cpu) (cpu : Cpu) (frames : List Frame) (left rest : List (List Frame)) (all : List Cpu)
-    → left ≡ frames ∷ rest → cpu ≡ first_cpu (arrivals_at frames) → more ≡ cpus ++ cpu ∷ []
-    → cpus ++ map first_cpu (map arrivals_at left) ≡ all → more ++ map first_cpu (map arrivals_at rest) ≡ all
+    → left ≡ frames ∷ rest → cpu ≡ first_cpu (arrivals_at false frames) → more ≡ cpus ++ cpu ∷ []
+    → cpus ++ map first_cpu (map (arrivals_at false) left) ≡ all → more ++ map first_cpu (map (arrivals_at false) rest) ≡ all
 one_cpu_more cpus more cpu frames left rest all e f g made =
-    let tail = map first_cpu (map arrivals_at rest) in
+    let tail = map first_cpu (map (arrivals_at false) rest) in
     ap (λ (cs : List Cpu). cs ++ tail) g ∙ append_assoc cpus (cpu ∷ []) tail ∙ ap (λ (c : Cpu). cpus ++ c ∷ tail) f
-    ∙ ap (λ (ls : List (List Frame)). cpus ++ map first_cpu (map arrivals_at ls)) (sym e) ∙ made
+    ∙ ap (λ (ls : List (List Frame)). cpus ++ map first_cpu (map (arrivals_at false) ls)) (sym e) ∙ made

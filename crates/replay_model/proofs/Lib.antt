@@ -14,3 +14,5 @@ pub mod Turns
 pub mod Soundness
 pub mod Clocks
 pub mod FeedSteps
+pub mod Timed
+pub mod Held

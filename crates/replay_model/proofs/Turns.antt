@@ -14,6 +14,7 @@ use Rattle.fanout_group.specs.declared.logs.Fate.TheVariants as fates
 use Rattle.fanout_group.specs.Routes.{a_try}
 use Rattle.fanout_group.specs.declared.logs.Try.{Try}
 use Rattle.replay_model.specs.Replay.{Tried, and_then, fate_of, no_ring, noted_at, try_round}
+use Rattle.replay_model.specs.Taking.{Takes}
 use Rattle.replay_model.specs.Rounds.{AllFit, Tells, back_of, after_tries, tried_by, note_at_try}
 
 pub length-noted_at : (at : ℕ) (note : Note) (members : List Ring) → length (noted_at at note members) ≡ length members
@@ -71,9 +72,9 @@ settled count left at offer members next tries more tells e =
 pub still_fit : (at : ℕ) (offer : Offer) (note : Note) (members next : List Ring) (tries more : List Try)
     → at < length members → Tells at note members next tries more → AllFit offer members → AllFit offer next
 still_fit at offer note members next tries more h tells fit =
-    let P : Ring → Type 0 = λ ring. need_of offer.snap ≤ ring.size.room in
-    let Q : List Ring → Type 0 = λ rings. All P rings in
-    subst Q (sym tells.ring) (All-set P members at _ (All-get_or P members at no_ring h fit) fit)
+    let Q : List Ring → Type 0 = λ rings. All (Takes offer) rings in
+    let here = All-get_or (Takes offer) members at no_ring h fit in
+    subst Q (sym tells.ring) (All-set (Takes offer) members at _ (record { sound = here.sound; fits = here.fits }) fit)
 
 pub same_count : (at : ℕ) (note : Note) (members next : List Ring) (tries more : List Try)
     → Tells at note members next tries more → length next ≡ length members

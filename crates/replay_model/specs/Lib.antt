@@ -6,3 +6,4 @@ pub mod Feeds
 pub mod Rounds
 pub mod Sound
 pub mod Reported
+pub mod Taking

@@ -6,8 +6,6 @@ use Rattle.fanout_group.specs.Rules.{Rules, keep_all}
 use Rattle.replay_model.specs.Feeds.{IsBare}
 use Rattle.replay_model.specs.declared.rules.PlainRules.{PlainRules}
 use Rattle.replay_model.specs.declared.rules.RingSize.{RingSize}
-use Rattle.replay_model.specs.declared.schedule.Line.{Line}
-use Rattle.replay_model.specs.declared.schedule.Line.TheVariants.{Feed, Read, Tick, Stats}
 
 -- every arrival has hash 0 and is kept whole, and a CPU's receive queue is its number
 abbrev pub rules_of : PlainRules → Rules
@@ -29,13 +27,6 @@ pub record IsRoom (room : ℕ) : Type 0 where
   pub least : 88 ≤ room
   pub most : room ≤ 1048576
   pub even : room % 8 ≡ 0
-
--- the moment of a tick, in milliseconds
-abbrev pub IsTimely : Line → Type 0
-IsTimely (Tick ms) = ms ≤ 4294967295
-IsTimely (Feed cpu) = Unit {0}
-IsTimely (Read member) = Unit {0}
-IsTimely (Stats member) = Unit {0}
 
 -- what a ring is made of; its time-out is below 50 days
 pub record IsRingSize (size : RingSize) : Type 0 where

@@ -1,5 +1,5 @@
 -- What a replay reports: the log of each CPU, and the notes of each ring with the number of blocks it retired.
-use Rattle.std.specs.Prelude.{List, [], length, map, Option}
+use Rattle.std.specs.Prelude.{false, List, [], length, map, Option}
 use Rattle.frame_view.specs.declared.frames.Frame.{Frame}
 use Rattle.fanout_group.specs.Arrivals.{arrivals_at}
 use Rattle.ring_model.specs.declared.notes.Note.TheVariants.{Finished}
@@ -28,4 +28,4 @@ report_of replay = record { logs = map (λ cpu. cpu.log) replay.cpus; members = 
 
 -- what is reported of these frames, a capture for each CPU from 0 up, and this schedule
 abbrev pub reported : PlainRules → RingSize → List (List Frame) → List Line → Replayed
-reported plain size captures lines = report_of (replayed (rules_of plain) (size_of size) (map arrivals_at captures) lines)
+reported plain size captures lines = report_of (replayed (rules_of plain) (size_of size) (map (arrivals_at false) captures) lines)

@@ -1,17 +1,21 @@
 -- What one try and one put leave, and a round of tries that goes on from earlier ones.
 use Rattle.std.specs.Prelude.{◌≡◌, ℕ, ◌≤◌, List, [], ◌∷◌, ◌++◌, All, is_some, not, slice_index_or, Option, None, Some}
 use Rattle.ring_model.specs.Rings.{Ring, note_of_put, note_of_try}
-use Rattle.ring_model.specs.Sizes.{need_of}
 use Rattle.ring_model.specs.declared.notes.Offer.{Offer}
 use Rattle.ring_model.specs.declared.notes.Note.{Note}
 use Rattle.ring_model.specs.declared.notes.Note.TheVariants as notes
+use Rattle.ring_model.specs.declared.notes.Put.{Put}
+use Rattle.ring_model.specs.declared.notes.Put.TheVariants as puts
 use Rattle.fanout_group.specs.Routes.{a_try}
+use Rattle.fanout_group.specs.declared.logs.Fate.{Fate}
+use Rattle.fanout_group.specs.declared.logs.Fate.TheVariants.{Kept, Dropped}
 use Rattle.fanout_group.specs.declared.logs.Try.{Try}
+use Rattle.replay_model.specs.Taking.{Takes}
 use Rattle.replay_model.specs.Replay.{Tried, fate_of, no_ring, noted_at}
 
--- each of these rings has blocks with room for the offer
+-- each of these rings takes the offer
 abbrev pub AllFit : Offer → List Ring → Type 0
-AllFit offer members = All (λ ring. need_of offer.snap ≤ ring.size.room) members
+AllFit offer members = All (Takes offer) members
 
 -- the notes that a try and a put make at a member
 abbrev pub note_at_try : ℕ → Offer → List Ring → Note
@@ -19,6 +23,11 @@ note_at_try at offer members = note_of_try (slice_index_or members at no_ring) o
 
 abbrev pub note_at_put : ℕ → Offer → List Ring → Note
 note_at_put at offer members = note_of_put (slice_index_or members at no_ring) offer
+
+-- what a put tells of its packet
+abbrev pub fate_of_put : Put → Fate
+fate_of_put puts.Kept = Kept
+fate_of_put (puts.Dropped number) = Dropped
 
 -- what comes back of a packet: all of it where it was refused
 abbrev pub back_of : Offer → Note → Option Offer

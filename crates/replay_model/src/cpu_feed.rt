@@ -1,5 +1,5 @@
 //! A CPU of a replay: the frames that it is still to be fed, its present member and its log.
-ghost use Rattle.std.specs.Prelude.{◌≡◌, ◌∷◌, [], ◌++◌, drop, length, All, IfSome, OnOk};
+ghost use Rattle.std.specs.Prelude.{false, ◌≡◌, ◌∷◌, [], ◌++◌, drop, length, All, IfSome, OnOk};
 ghost use Rattle.fanout_group.specs.Arrivals.{arrivals_at};
 ghost use Rattle.fanout_group.specs.Routes.{present_after};
 ghost use Rattle.replay_model.specs.Feeds.{IsArrival, IsBare, next_of};
@@ -40,7 +40,7 @@ impl CpuFeed {
     /// A CPU that these frames wait for.
     pub(crate) fn new(alloc: Global, frames: Frames) -> CpuFeed
         requires { All IsBare frames }
-        ensures { result ≡ record { waiting = arrivals_at frames; present = 0; log = [] } }
+        ensures { result ≡ record { waiting = arrivals_at false frames; present = 0; log = [] } }
     {
         CpuFeed {
             waiting: VecDeque::from(frames.into_vec()),

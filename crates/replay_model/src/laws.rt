@@ -1,5 +1,5 @@
 //! Laws of the replay report, each the contract of a function that does nothing.
-ghost use Rattle.std.specs.Prelude.{ℕ, ◌<◌, [], List, map, slice_index_or, Option};
+ghost use Rattle.std.specs.Prelude.{false, ℕ, ◌<◌, [], List, map, slice_index_or, Option};
 ghost use Rattle.frame_view.specs.declared.frames.Frame.{Frame};
 ghost use Rattle.ring_model.specs.Ring.{Size};
 ghost use Rattle.fanout_group.specs.Arrivals.{arrivals_at};
@@ -34,5 +34,5 @@ pub fn each_frame_of_a_replay_stands_exactly_once()
 /// What arrives of captured frames has its CPU's number, and indexes that rise.
 pub fn captures_give_arrivals()
     ensures { (captures : List (List Frame)) → ((cpu : ℕ) → AreOf cpu 0 (slice_index_or captures cpu []))
-        → AreArrivals (map arrivals_at captures) }
+        → AreArrivals (map (arrivals_at false) captures) }
 {}

@@ -9,6 +9,7 @@ ghost use Rattle.ring_model.specs.Told.{found_by, put_told, try_told};
 ghost use Rattle.ring_model.specs.declared.notes.Found.TheVariants.{Free, NotAsked};
 ghost use Rattle.ring_model.specs.declared.notes.Note.TheVariants.{Counted, Dropped, Finished, Kept};
 
+use crate::MemberRing;
 use frame_view::Memory;
 use ring_model::{Found, Note, Notes, Offer, Put, Stats, Tried, need};
 use std::alloc::Global;
@@ -189,61 +190,6 @@ impl ListRing {
         Ok(())
     }
 
-    /// Keeps a packet, or drops it where it finds no room and no free block; the open block is then retired.
-    pub fn put(&mut self, offer: Offer) -> Result<Put, Memory>
-        requires { need_of offer.snap ≤ self.old.size.room }
-        ensures ok { OnOk result (self.new ≡ noted self.old (note_of_put self.old offer)) }
-        ensures put { IfOk result (λ put. put ≡ put_told (note_of_put self.old offer)) }
-        ensures err { OnErr result (self.new ≡ self.old) }
-    {
-        let need = self.need_of(&offer);
-        let found = self.found_for(need);
-        match found {
-            Found::Held(number) => {
-                self.drop_at(&offer, need, number)?;
-                Ok(Put::Dropped(number))
-            }
-            Found::NotAsked => {
-                self.keep_here(offer, need)?;
-                Ok(Put::Kept)
-            }
-            Found::Free => {
-                self.keep_next(offer, need)?;
-                Ok(Put::Kept)
-            }
-        }
-    }
-
-    /// Keeps a packet, or hands it back where it finds no room and no free block.
-    pub fn try_put(&mut self, offer: Offer) -> Result<Tried, Memory>
-        requires { need_of offer.snap ≤ self.old.size.room }
-        ensures ok { OnOk result (self.new ≡ noted self.old (note_of_try self.old offer)) }
-        ensures tried { IfOk result (λ tried. tried ≡ try_told offer (note_of_try self.old offer)) }
-        ensures err { OnErr result (self.new ≡ self.old) }
-    {
-        let need = self.need_of(&offer);
-        let found = self.found_for(need);
-        match found {
-            Found::Held(number) => {
-                self.notes.push(Note::Refused {
-                    cpu: offer.frame.cpu,
-                    index: offer.frame.index,
-                    need,
-                    number,
-                })?;
-                Ok(Tried::Refused(offer))
-            }
-            Found::NotAsked => {
-                self.keep_here(offer, need)?;
-                Ok(Tried::Kept)
-            }
-            Found::Free => {
-                self.keep_next(offer, need)?;
-                Ok(Tried::Kept)
-            }
-        }
-    }
-
     /// What an offer needs, which a block of this ring has room for.
     fn need_of(&self, offer: &Offer) -> u32
         requires { need_of offer.now.snap ≤ self.now.size.room }
@@ -252,34 +198,6 @@ impl ListRing {
     {
         let _room = self.room;
         need(offer.snap)
-    }
-
-    /// The clock goes on to a moment, in milliseconds. Where the deadline is reached an open block that has
-    /// packets is retired, and a next block is asked for.
-    pub fn tick(&mut self, ms: u64) -> Result<(), Memory>
-        requires small { ms ≤ 2 ^ 63 }
-        ensures ok { OnOk result (self.new ≡ noted self.old (note_of_tick self.old ms)) }
-        ensures err { OnErr result (self.new ≡ self.old) }
-    {
-        let idle = self.is_idle();
-        if ms < self.deadline {
-            self.notes.push(Note::Ticked {
-                ms,
-                found: Found::NotAsked,
-            })?;
-            self.clock = ms;
-            return Ok(());
-        }
-        if idle {
-            self.notes.push(Note::Ticked {
-                ms,
-                found: Found::NotAsked,
-            })?;
-            self.clock = ms;
-            self.deadline = ms + self.tov;
-            return Ok(());
-        }
-        self.time_out(ms)
     }
 
     /// A due tick, where the ring is frozen or its open block has packets.
@@ -319,34 +237,6 @@ impl ListRing {
         }
     }
 
-    /// Takes the statistics, which start anew.
-    pub fn take_stats(&mut self) -> Result<Stats, Memory>
-        ensures ok { OnOk result (self.new ≡ noted self.old Counted) }
-        ensures stats { IfOk result (λ stats. stats ≡ stats_of (state self.old)) }
-        ensures err { OnErr result (self.new ≡ self.old) }
-    {
-        let _few = self.notes.len();
-        self.notes.push(Note::Counted)?;
-        let stats = Stats {
-            packets: self.kept + self.dropped,
-            drops: self.dropped,
-            freezes: self.freezes,
-        };
-        self.kept = 0;
-        self.dropped = 0;
-        self.freezes = 0;
-        Ok(stats)
-    }
-
-    /// The reader reads a block, if one is retired and not yet released.
-    pub fn read(&mut self)
-        ensures { self.new ≡ read_once self.old }
-    {
-        if self.released < self.done {
-            self.released += 1;
-        }
-    }
-
     /// Closes the ring: an open block that has packets is retired. It gives the notes and the number of
     /// blocks that were retired.
     pub fn finish(self) -> Result<(Notes, u64), Memory>
@@ -378,5 +268,95 @@ impl ListRing {
             Some(used) => used == 0,
             None => false,
         }
+    }
+}
+
+impl MemberRing for ListRing {
+    ghost ring = { λ ring. ring };
+
+    fn put(&mut self, offer: Offer) -> Result<Put, Memory> {
+        let need = self.need_of(&offer);
+        let found = self.found_for(need);
+        match found {
+            Found::Held(number) => {
+                self.drop_at(&offer, need, number)?;
+                Ok(Put::Dropped(number))
+            }
+            Found::NotAsked => {
+                self.keep_here(offer, need)?;
+                Ok(Put::Kept)
+            }
+            Found::Free => {
+                self.keep_next(offer, need)?;
+                Ok(Put::Kept)
+            }
+        }
+    }
+
+    fn try_put(&mut self, offer: Offer) -> Result<Tried, Memory> {
+        let need = self.need_of(&offer);
+        let found = self.found_for(need);
+        match found {
+            Found::Held(number) => {
+                self.notes.push(Note::Refused {
+                    cpu: offer.frame.cpu,
+                    index: offer.frame.index,
+                    need,
+                    number,
+                })?;
+                Ok(Tried::Refused(offer))
+            }
+            Found::NotAsked => {
+                self.keep_here(offer, need)?;
+                Ok(Tried::Kept)
+            }
+            Found::Free => {
+                self.keep_next(offer, need)?;
+                Ok(Tried::Kept)
+            }
+        }
+    }
+
+    fn tick(&mut self, ms: u64) -> Result<(), Memory> {
+        let idle = self.is_idle();
+        if ms < self.deadline {
+            self.notes.push(Note::Ticked {
+                ms,
+                found: Found::NotAsked,
+            })?;
+            self.clock = ms;
+            return Ok(());
+        }
+        if idle {
+            self.notes.push(Note::Ticked {
+                ms,
+                found: Found::NotAsked,
+            })?;
+            self.clock = ms;
+            self.deadline = ms + self.tov;
+            return Ok(());
+        }
+        self.time_out(ms)
+    }
+
+    fn take_stats(&mut self) -> Result<Stats, Memory> {
+        let _few = self.notes.len();
+        self.notes.push(Note::Counted)?;
+        let stats = Stats {
+            packets: self.kept + self.dropped,
+            drops: self.dropped,
+            freezes: self.freezes,
+        };
+        self.kept = 0;
+        self.dropped = 0;
+        self.freezes = 0;
+        Ok(stats)
+    }
+
+    fn read(&mut self) -> Result<(), Memory> {
+        if self.released < self.done {
+            self.released += 1;
+        }
+        Ok(())
     }
 }

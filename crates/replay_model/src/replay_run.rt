@@ -1,16 +1,17 @@
 //! A replay on its way: its CPUs, the rings of its members and the next ticket, and what each line does to them.
-ghost use Rattle.std.specs.Prelude.{◌≡◌, ◌<◌, ◌≤◌, ◌^◌, length, map, slice_index_or, slice_set, OnOk};
+ghost use Rattle.std.specs.Prelude.{◌≡◌, ◌<◌, ◌≤◌, ◌^◌, length, map, slice_index_or, slice_set, All, OnOk};
 ghost use Rattle.replay_model.specs.Feeds.{IsArrival};
-ghost use Rattle.replay_model.specs.Plain.{IsRoom, IsTimely, rules_of};
+ghost use Rattle.replay_model.specs.Plain.{IsRoom, rules_of};
 ghost use Rattle.replay_model.specs.Replay.{arrived, cpu_at, done_line, feed, feed_from, feed_times, no_ring, noted_at};
 ghost use Rattle.replay_model.specs.Sound.{IsSound};
-ghost use Rattle.ring_model.specs.Rings.{noted, note_of_tick, read_once};
+ghost use Rattle.replay_model.specs.Taking.{MayCome};
+ghost use Rattle.ring_model.specs.Rings.{noted, note_of_tick, read_once, state};
 ghost use Rattle.ring_model.specs.declared.notes.Note.TheVariants.{Counted};
 
 use crate::cpu_feed::CpuFeed;
 use crate::rounds::deliver;
 use crate::rules::KEEP_ALL;
-use crate::{Line, ListRing, PlainRules};
+use crate::{Line, MemberRing, PlainRules};
 use fanout_group::ArrivalLog;
 use frame_view::{Frame, Memory};
 use std::alloc::Global;
@@ -18,25 +19,26 @@ use std::marker::Model;
 
 /// A replay. Contracts see its CPUs, its rings and the next ticket.
 #[derive(Drop)]
-pub(crate) struct ReplayRun {
+pub(crate) struct ReplayRun<R: MemberRing> {
     /// The CPUs, from 0 up.
     pub(crate) cpus: Vec<CpuFeed>,
     /// The rings of the members, from 0 up.
-    pub(crate) rings: Vec<ListRing>,
+    pub(crate) rings: Vec<R>,
     /// The number of the next arrival in mode `Lb`.
     pub(crate) ticket: u64,
 }
 
-impl Model for ReplayRun {
+impl<R: MemberRing> Model for ReplayRun<R> {
+    ghost use Rattle.std.specs.Prelude.{map};
     ghost use Rattle.replay_model.specs.Replay.{Replay};
 
     ghost Value = { Replay };
 
     ghost view = { λ run.
-        record { cpus = run.cpus.items; members = run.rings.items; ticket = run.ticket } };
+        record { cpus = run.cpus.items; members = map R.ring run.rings.items; ticket = run.ticket } };
 }
 
-impl ReplayRun {
+impl<R: MemberRing> ReplayRun<R> {
     /// Does one line of a schedule. A number that names no CPU or no member does nothing.
     pub(crate) fn line(
         &mut self,
@@ -47,15 +49,12 @@ impl ReplayRun {
     ) -> Result<(), Memory>
         requires sound { IsSound rules.now.members room self.old }
         requires room { IsRoom room }
-        requires timely { IsTimely line }
+        requires later { MayCome line self.old.members }
         ensures { OnOk result (self.new ≡ done_line (rules_of rules.now) room line self.old) }
     {
         match line {
             Line::Feed(cpu) => self.feed(alloc, rules, room, cpu as usize),
-            Line::Read(member) => {
-                self.read(member as usize);
-                Ok(())
-            }
+            Line::Read(member) => self.read(member as usize),
             Line::Tick(ms) => self.tick(ms),
             Line::Stats(member) => self.take_stats(member as usize),
         }
@@ -115,20 +114,22 @@ impl ReplayRun {
     }
 
     /// The reader of a member makes one step.
-    fn read(&mut self, member: usize)
-        ensures { self.new ≡ record self.old {
+    fn read(&mut self, member: usize) -> Result<(), Memory>
+        ensures { OnOk result (self.new ≡ record self.old {
           members = slice_set self.old.members member
               (read_once (slice_index_or self.old.members member no_ring));
-        } }
+        }) }
     {
         if member < self.rings.len() {
-            self.rings[member].read();
+            self.rings[member].read()?;
         }
+        Ok(())
     }
 
     /// The clock goes on for every member.
     fn tick(&mut self, ms: u64) -> Result<(), Memory>
-        requires { ms ≤ 2 ^ 63 }
+        requires later { All (λ ring. (state ring).clock ≤ ms) self.old.members }
+        requires small { ms ≤ 2 ^ 63 }
         ensures { OnOk result (self.new ≡ record self.old {
           members = map (λ ring. noted ring (note_of_tick ring ms)) self.old.members;
         }) }

@@ -1,27 +1,27 @@
 //! The tries of an arrival: one at its home, or a round of the group and then its home once more.
-ghost use Rattle.std.specs.Prelude.{◌≡◌, ◌<◌, length, IfOk, IfSome, OnOk};
+ghost use Rattle.std.specs.Prelude.{◌≡◌, ◌<◌, length, map, IfOk, IfSome, OnOk};
 ghost use Rattle.replay_model.specs.Plain.{rules_of};
 ghost use Rattle.replay_model.specs.Replay.{routed, try_round};
-ghost use Rattle.replay_model.specs.Rounds.{AllFit, Tells, after_tries, back_of, note_at_put, note_at_try, tried_by};
+ghost use Rattle.replay_model.specs.Rounds.{AllFit, Tells, after_tries, back_of, fate_of_put, note_at_put, note_at_try, tried_by};
 
-use crate::{ListRing, PlainRules};
+use crate::{MemberRing, PlainRules};
 use fanout_group::{Fate, Try, TryList};
 use frame_view::Memory;
 use ring_model::{Offer, Put, Tried};
 use std::alloc::Global;
 
 /// Tries to give an offer to a member; it comes back where the member refuses it.
-fn try_at(
-    rings: &mut Vec<ListRing>,
+fn try_at<R: MemberRing>(
+    rings: &mut Vec<R>,
     member: u32,
     offer: Offer,
     tries: &mut TryList,
 ) -> Result<Option<Offer>, Memory>
     requires member { member < length rings.old.items }
-    requires fits { AllFit offer rings.old.items }
-    ensures tells { IfOk result (λ _. let note = note_at_try member offer rings.old.items in
-        Tells member note rings.old.items rings.new.items tries.old tries.new) }
-    ensures back { IfOk result (λ back. let note = note_at_try member offer rings.old.items in
+    requires fits { AllFit offer (map R.ring rings.old.items) }
+    ensures tells { IfOk result (λ _. let note = note_at_try member offer (map R.ring rings.old.items) in
+        Tells member note (map R.ring rings.old.items) (map R.ring rings.new.items) tries.old tries.new) }
+    ensures back { IfOk result (λ back. let note = note_at_try member offer (map R.ring rings.old.items) in
         back ≡ back_of offer note) }
 {
     match rings[member as usize].try_put(offer)? {
@@ -43,27 +43,38 @@ fn try_at(
 }
 
 /// Gives an offer to a member, which keeps it or drops it.
-fn put_at(
-    rings: &mut Vec<ListRing>,
+fn put_at<R: MemberRing>(
+    rings: &mut Vec<R>,
     member: u32,
     offer: Offer,
     tries: &mut TryList,
 ) -> Result<(), Memory>
     requires member { member < length rings.old.items }
-    requires fits { AllFit offer rings.old.items }
-    ensures tells { IfOk result (λ _. let note = note_at_put member offer rings.old.items in
-        Tells member note rings.old.items rings.new.items tries.old tries.new) }
+    requires fits { AllFit offer (map R.ring rings.old.items) }
+    ensures tells { IfOk result (λ _. let note = note_at_put member offer (map R.ring rings.old.items) in
+        Tells member note (map R.ring rings.old.items) (map R.ring rings.new.items) tries.old tries.new) }
 {
-    let fate = match rings[member as usize].put(offer)? {
+    let put = rings[member as usize].put(offer)?;
+    tries.push(Try {
+        member,
+        fate: fate_of(put),
+    })?;
+    Ok(())
+}
+
+/// What a put tells of its packet.
+fn fate_of(put: Put) -> Fate
+    ensures { result ≡ fate_of_put put }
+{
+    match put {
         Put::Kept => Fate::Kept,
         Put::Dropped(_) => Fate::Dropped,
-    };
-    tries.push(Try { member, fate })
+    }
 }
 
 /// Tries each member once, from the home on round the group, until one keeps the offer.
-fn try_round(
-    rings: &mut Vec<ListRing>,
+fn try_round<R: MemberRing>(
+    rings: &mut Vec<R>,
     members: u32,
     home: u32,
     offer: Offer,
@@ -71,12 +82,12 @@ fn try_round(
 ) -> Result<Option<Offer>, Memory>
     requires members { members ≡ length rings.old.items }
     requires home { home < members }
-    requires fits { AllFit offer rings.old.items }
-    ensures round { IfOk result (λ back. tried_by tries.new back rings.new.items
-        ≡ after_tries tries.old (try_round members members home offer rings.old.items)) }
+    requires fits { AllFit offer (map R.ring rings.old.items) }
+    ensures round { IfOk result (λ back. tried_by tries.new back (map R.ring rings.new.items)
+        ≡ after_tries tries.old (try_round members members home offer (map R.ring rings.old.items))) }
     ensures same { IfOk result (λ back. IfSome back (λ back. back ≡ offer)) }
     ensures count { OnOk result (length rings.new.items ≡ length rings.old.items) }
-    ensures fits { OnOk result (AllFit offer rings.new.items) }
+    ensures fits { OnOk result (AllFit offer (map R.ring rings.new.items)) }
 {
     let mut member = home;
     let mut offer = offer;
@@ -91,20 +102,20 @@ fn try_round(
 }
 
 /// All tries of an offer whose home this is.
-pub(crate) fn deliver(
+pub(crate) fn deliver<R: MemberRing>(
     alloc: Global,
-    rings: &mut Vec<ListRing>,
+    rings: &mut Vec<R>,
     rules: &PlainRules,
     home: u32,
     offer: Offer,
 ) -> Result<TryList, Memory>
     requires home { home < length rings.old.items }
     requires members { length rings.old.items ≡ rules.now.members }
-    requires fits { AllFit offer rings.old.items }
+    requires fits { AllFit offer (map R.ring rings.old.items) }
     ensures tries { IfOk result (λ tries. tries
-        ≡ (routed (rules_of rules.now) home offer rings.old.items).tries) }
-    ensures rings { IfOk result (λ tries. rings.new.items
-        ≡ (routed (rules_of rules.now) home offer rings.old.items).members) }
+        ≡ (routed (rules_of rules.now) home offer (map R.ring rings.old.items)).tries) }
+    ensures rings { IfOk result (λ tries. (map R.ring rings.new.items)
+        ≡ (routed (rules_of rules.now) home offer (map R.ring rings.old.items)).members) }
 {
     let mut tries = TryList::new(alloc);
     if !rules.rolls_over() {

@@ -1,9 +1,10 @@
 //! A group that looks at no packet's inside: it has no filter and no key.
-ghost use Rattle.std.specs.Prelude.{◌≡◌, ◌+◌, ◌<◌, ◌≤◌, ◌^◌, ◌%◌, unwrap_or, length};
+ghost use Rattle.std.specs.Prelude.{◌≡◌, ◌+◌, ◌<◌, ◌≤◌, ◌^◌, ◌%◌, unwrap_or};
 ghost use Rattle.fanout_group.specs.Rules.{home_by, keep_all, rolls_over};
+ghost use Rattle.replay_model.specs.Feeds.{IsArrival};
 ghost use Rattle.replay_model.specs.Plain.{IsRoom, rules_of};
 ghost use Rattle.replay_model.specs.Replay.{next_ticket, ticket_of};
-ghost use Rattle.ring_model.specs.Offers.{offer_of};
+ghost use Rattle.ring_model.specs.Offers.{IsSound, offer_of};
 ghost use Rattle.ring_model.specs.Sizes.{need_of};
 
 use fanout_group::Mode;
@@ -88,10 +89,10 @@ impl PlainRules {
 
     /// The offer that an arrival makes to rings whose blocks have this room.
     pub(crate) fn offer(&self, room: u32, frame: Frame) -> Offer
-        requires no_runt { 14 ≤ length frame.bytes }
-        requires wire { length frame.bytes ≤ frame.wire }
+        requires frame { IsArrival frame }
         requires room { IsRoom room }
         ensures offer { result ≡ offer_of room self.now.own 0 keep_all frame }
+        ensures sound { IsSound room result }
         ensures fits { need_of result.snap ≤ room }
     {
         let captured = frame.bytes.len() as u32;

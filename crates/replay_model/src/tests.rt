@@ -1,7 +1,9 @@
 //! Schedules with the notes that follow from the rules of a ring, worked out by hand. A block has room for two
 //! frames of 1,514 bytes, which need 1,600 bytes each, and for 25 of 60 bytes.
-ghost use Rattle.std.specs.Prelude.{◌≤◌, length, All, IfOk, ◌↔◌, IsTrue};
-ghost use Rattle.replay_model.specs.Plain.{IsCapture, IsTimely};
+ghost use Rattle.std.specs.Prelude.{◌≤◌, ◌∷◌, length, All, List, IfOk, IfSome, IsTrue};
+ghost use Rattle.replay_model.specs.Plain.{IsCapture};
+ghost use Rattle.replay_model.specs.Reports.{AreAscending, IsSchedule};
+ghost use Rattle.replay_model.specs.declared.schedule.Line.{Line};
 
 use crate::{Line, PlainRules, Replayed, RingSize, Schedule, replay};
 use Found::{Free, NotAsked};
@@ -70,26 +72,39 @@ fn capture(alloc: Global, cpu: u32, lengths: &[u16]) -> Result<Frames, Memory>
     Ok(frames)
 }
 
-fn is_timely(line: &Line) -> bool
-    ensures { IsTrue result ↔ IsTimely line.now }
+/// The clock after a line; none where a tick leads back, or past 32 bits.
+fn clock_after(clock: u64, line: Line) -> Option<u64>
+    ensures { IfSome result (λ next. (lines : List Line)
+        → AreAscending next lines → AreAscending clock (line ∷ lines)) }
 {
     match line {
-        Line::Tick(ms) => *ms <= u64::from(u32::MAX),
-        _ => true,
+        Line::Tick(ms) if ms < clock || ms > u64::from(u32::MAX) => None,
+        Line::Tick(ms) => Some(ms),
+        _ => Some(clock),
     }
 }
 
-/// A schedule of these lines, apart from ticks past 32 bits.
-fn schedule(alloc: Global, lines: &[Line]) -> Result<Schedule, Memory>
-    ensures { IfOk result (λ schedule. All IsTimely schedule) }
+fn is_schedule(lines: &[Line]) -> bool
+    ensures { IsTrue result → IsSchedule lines.now }
 {
-    let mut schedule = Schedule::new(alloc);
+    let mut clock = 0;
     for line in lines {
-        if is_timely(line) {
-            schedule.push(*line)?;
+        match clock_after(clock, *line) {
+            Some(next) => clock = next,
+            None => return false,
         }
     }
-    Ok(schedule)
+    true
+}
+
+/// A schedule of these lines, in which ticks never lead back.
+fn schedule(alloc: Global, lines: &[Line]) -> Result<Schedule, Fail>
+    ensures { IfOk result IsSchedule }
+{
+    if !is_schedule(lines) {
+        return Err("no schedule".into());
+    }
+    Ok(Schedule::from_vec(lines.to_vec(alloc)?))
 }
 
 /// What a member's notes say.

@@ -1,3 +1,12 @@
-pub mod Requests
-pub mod Setups
+pub mod Answers
+pub mod Drafts
+pub mod FilterFaults
+pub mod Filters
+pub mod KeyFaults
+pub mod KindWords
+pub mod Moments
 pub mod Schedules
+pub mod SetupWords
+pub mod Setups
+pub mod Sound
+pub mod Values

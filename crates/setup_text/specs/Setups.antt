@@ -1,67 +1,127 @@
--- What a setup says, over the bytes of its text. A part that is read is a value and the bytes behind it.
-use Rattle.std.specs.Prelude.{ℕ, Bool, ◌&&◌, List, [], ◌∷◌, length, take, drop, position, codes, nat_le, nat_eq, ◌==◌, if◌then◌else◌, Option, None, Some, option_map}
-use Rattle.std.specs.List.{list_all, starts_with}
-use Rattle.text_lines.specs.Numbers.{number_of}
-use Rattle.setup_text.specs.Requests.{can_be_had}
-use Rattle.setup_text.specs.declared.requests.RingRequest.{RingRequest}
+-- What a setup says, over the bytes of its text.
+use Rattle.std.specs.Prelude.{ℕ, ◌+◌, Bool, List, [], ◌∷◌, codes, length, nat_lt, true, false, is_some, if◌then◌else◌, Option, None, Some, option_map, Result, Ok, Err}
+use Rattle.std.specs.Option.{is_none, option_or, unwrap_or}
+use Rattle.fanout_group.specs.Plans.{Shape, fault_of}
+use Rattle.fanout_group.specs.declared.plan_error.PlanError.{PlanError}
+use Rattle.fanout_group.specs.declared.modes.Mode.{Mode}
+use Rattle.fanout_group.specs.declared.modes.Mode.TheVariants as mode
+use Rattle.text_lines.specs.Lines.{lines_of}
+use Rattle.text_lines.specs.Readings.{read_lines}
+use Rattle.tp_layout.specs.Requests.{receive_fault}
+use Rattle.tp_layout.specs.declared.error.RequestError.{RequestError}
+use Rattle.tp_layout.specs.declared.requests.RingRequest.{RingRequest}
+use Rattle.setup_text.specs.Drafts.{line_after, nothing_said}
+use Rattle.setup_text.specs.declared.commands.Command.{Command}
+use Rattle.setup_text.specs.declared.commands.Command.TheVariants as command
+use Rattle.setup_text.specs.declared.cpu_setups.CpuSetup.{CpuSetup}
+use Rattle.setup_text.specs.declared.drafts.Draft.{Draft}
+use Rattle.setup_text.specs.declared.setup_error.Needed.{Needed}
+use Rattle.setup_text.specs.declared.setup_error.Needed.TheVariants.{BlockSize, BlockNr, FrameSize, FrameNr, Cpu}
+use Rattle.setup_text.specs.declared.setup_error.SetupError.{SetupError}
+use Rattle.setup_text.specs.declared.setup_error.SetupKind.{SetupKind}
+use Rattle.setup_text.specs.declared.setup_error.SetupKind.TheVariants.{Missing, Request, Group, TooLarge}
 use Rattle.setup_text.specs.declared.setups.Setup.{Setup}
 
-infixl 10 ◌>>=◌
-abbrev pub ◌>>=◌ : {A B : Type 0} → Option A → (A → Option B) → Option B
-None >>= f = None
-(Some x) >>= f = f x
+-- ---- what the lines say together
 
--- the bytes behind a word that the text begins with
-unfoldable pub after : List ℕ → List ℕ → Option (List ℕ)
-after word text = if starts_with nat_eq text word then Some (drop (length word) text) else None
+abbrev pub has_no_cpu : List CpuSetup → Bool
+has_no_cpu [] = true
+has_no_cpu (cpu ∷ cpus) = false
 
--- the bytes before the first line feed, and those behind it
-unfoldable pub line_in : List ℕ → Option (List ℕ × List ℕ)
-line_in text = option_map (λ place. (take place text, drop 1 (drop place text))) (position (λ byte. byte == 10) text)
+-- the first line that is missing
+unfoldable pub missing : Draft → Option Needed
+missing draft =
+    if is_none draft.block_size then Some BlockSize
+    else if is_none draft.block_nr then Some BlockNr
+    else if is_none draft.frame_size then Some FrameSize
+    else if is_none draft.frame_nr then Some FrameNr
+    else if has_no_cpu draft.cpus then Some Cpu
+    else None
 
--- a line that is a word and a number
-unfoldable pub field_in : List ℕ → List ℕ → Option (ℕ × List ℕ)
-field_in word text = do
-  behind ← after word text
-  line ← line_in behind
-  number ← number_of line.0
-  Some (number, line.1)
+-- the ring that is asked for
+abbrev pub request_of : Draft → RingRequest
+request_of draft = record {
+  block_size = unwrap_or draft.block_size 0;
+  block_nr = unwrap_or draft.block_nr 0;
+  frame_size = unwrap_or draft.frame_size 0;
+  frame_nr = unwrap_or draft.frame_nr 0;
+  tov = unwrap_or draft.tov 0;
+  sizeof_priv = unwrap_or draft.sizeof_priv 0;
+  features = unwrap_or draft.features 0;
+}
 
--- 1 to 255 printable ASCII bytes, no space among them
-abbrev pub is_name : List ℕ → Bool
-is_name word = nat_le 1 (length word) && nat_le (length word) 255 && list_all (λ byte. nat_le 33 byte && nat_le byte 126) word
+-- why the ring can't be had, for the command
+abbrev pub request_fault : Command → RingRequest → Option RequestError
+request_fault command.Check request = receive_fault request
+request_fault command.Replay request = receive_fault request
 
--- the lines of the blocks
-unfoldable pub blocks_in : List ℕ → Option ((ℕ × ℕ) × List ℕ)
-blocks_in text = do
-  size ← field_in (codes "block_size ") text
-  number ← field_in (codes "block_nr ") size.1
-  Some ((size.0, number.0), number.1)
+-- the flags as linux/if_packet.h numbers them
+abbrev pub flags_of : Draft → ℕ
+flags_of draft = (if draft.rollover then 0x1000 else 0) + (if draft.defrag then 0x8000 else 0)
 
--- the lines of the frames
-unfoldable pub frames_in : List ℕ → Option ((ℕ × ℕ) × List ℕ)
-frames_in text = do
-  size ← field_in (codes "frame_size ") text
-  number ← field_in (codes "frame_nr ") size.1
-  Some ((size.0, number.0), number.1)
+-- the group: one member that an arrival's CPU chooses, where nothing else is said
+abbrev pub members_of : Draft → ℕ
+members_of draft = unwrap_or draft.members 1
 
--- the last line: the name of the capture, and nothing behind it
-unfoldable pub file_in : List ℕ → Option (List ℕ)
-file_in text = do
-  behind ← after (codes "cpu ") text
-  line ← line_in behind
-  if is_name line.0 && (length line.1 == 0) then Some line.0 else None
+abbrev pub mode_of : Draft → Mode
+mode_of draft = unwrap_or draft.mode mode.Cpu
 
--- the lines about the ring
-unfoldable pub request_in : List ℕ → Option (RingRequest × List ℕ)
-request_in text = do
-  blocks ← blocks_in text
-  frames ← frames_in blocks.1
-  Some (record { block_size = blocks.0.0; block_nr = blocks.0.1; frame_size = frames.0.0; frame_nr = frames.0.1 }, frames.1)
+abbrev pub group_fault : Draft → Option PlanError
+group_fault draft = fault_of (members_of draft) (mode_of draft) (flags_of draft) (is_some draft.key)
 
--- the setup of a text, if it is one, for a ring that can be had
-unfoldable pub setup_in : List ℕ → Option Setup
-setup_in text = do
-  request ← request_in text
-  file ← file_in request.1
-  if can_be_had request.0 then Some (record { request = request.0; file = file }) else None
+abbrev pub group_of : Draft → Shape
+group_of draft = record { members = members_of draft; mode = mode_of draft; flags = flags_of draft }
+
+-- the first fault of lines that have none each: what is missing, then the ring, then the group
+abbrev pub fault_after : Command → Draft → Option SetupKind
+fault_after command draft =
+    option_or (option_map Missing (missing draft))
+    (option_or (option_map Request (request_fault command (request_of draft))) (option_map Group (group_fault draft)))
+
+-- the setup of lines that have no fault
+abbrev pub setup_from : Draft → Setup
+setup_from draft = record {
+  request = request_of draft;
+  shape = request_of draft;
+  plan = group_of draft;
+  key = draft.key;
+  mac = draft.mac;
+  cpus = draft.cpus;
+  filter = draft.filter;
+  ticks = draft.ticks;
+  prefix = unwrap_or draft.out (codes "out");
+  dump = draft.dump;
+}
+
+abbrev pub answer : {A : Type 0} → Option SetupKind → A → Result A SetupKind
+answer None value = Ok value
+answer (Some fault) value = Err fault
+
+-- what lines say together that have no fault each
+unfoldable pub setup_after : Command → Draft → Result Setup SetupKind
+setup_after command draft = answer (fault_after command draft) (setup_from draft)
+
+-- ---- the whole text
+
+-- a fault of a line, or of none, which is line 0
+abbrev pub at_line : {A : Type 0} → Result A (ℕ × SetupKind) → Result A SetupError
+at_line (Ok value) = Ok value
+at_line (Err fault) = Err (record { line = fault.0; kind = fault.1 })
+
+abbrev pub at_end : {A : Type 0} → Result A SetupKind → Result A SetupError
+at_end (Ok value) = Ok value
+at_end (Err fault) = Err (record { line = 0; kind = fault })
+
+-- what the lines of a text say, or the first fault of a line
+unfoldable pub draft_of : List ℕ → Result Draft SetupError
+draft_of text = at_line (read_lines line_after 1 nothing_said (lines_of text))
+
+abbrev pub completed : Command → Result Draft SetupError → Result Setup SetupError
+completed command (Ok draft) = at_end (setup_after command draft)
+completed command (Err error) = Err error
+
+-- the setup of a text, for a command, or the text's first fault
+unfoldable pub setup_of : List ℕ → Command → Result Setup SetupError
+setup_of text command =
+    if nat_lt 1048576 (length text) then Err (record { line = 0; kind = TooLarge })
+    else completed command (draft_of text)

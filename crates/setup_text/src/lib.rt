@@ -1,12 +1,30 @@
-//! The texts of a run: the setup and the schedule, in their first, narrow forms.
+//! The texts of a run: the setup, the moments and the schedule, and what a run reports.
 #![tactic(auto)]
 
+mod commands;
+mod cpu_setups;
+mod drafts;
+mod filters;
+mod jobs;
+mod moments;
 mod reports;
-mod requests;
 mod schedules;
+mod setup_error;
+mod setup_words;
 mod setups;
+mod text_error;
+mod values;
 
+pub use commands::Command;
+pub use cpu_setups::{CpuSetup, CpuSetupList};
+pub use filters::read_filter;
+pub use jobs::Job;
+pub use moments::read_ticks;
 pub use reports::{MemberList, MemberReport, RunReport};
-pub use requests::RingRequest;
 pub use schedules::read_schedule;
+pub use setup_error::{Needed, SetupError, SetupKind};
 pub use setups::{Setup, read_setup};
+pub use text_error::{TextError, TextKind, Which};
+
+#[cfg(test)]
+mod tests;

@@ -1,154 +1,191 @@
-//! The setup: five lines in one order.
-ghost use Rattle.std.specs.Prelude.{◌≡◌, ◌==◌, ◌&&◌, nat_le, option_copied, option_map, position, IfOk};
-ghost use Rattle.std.specs.List.{list_all};
-ghost use Rattle.setup_text.specs.Setups.{after, blocks_in, field_in, file_in, frames_in, is_name, line_in, request_in, setup_in};
+//! The setup of a run.
+ghost use Rattle.std.specs.Prelude.{◌≡◌, ◌≤◌, codes, length, None, Some, IfOk, IfErr, OnOk};
+ghost use Rattle.std.specs.Option.{unwrap_or};
+ghost use Rattle.fanout_group.specs.Plans.{AreFlags};
+ghost use Rattle.tp_layout.specs.Requests.{answer_of};
+ghost use Rattle.setup_text.specs.Answers.{IsRight, is_setup_want, is_want};
+ghost use Rattle.setup_text.specs.Sound.{IsSetup};
+ghost use Rattle.setup_text.specs.Setups.{draft_of, flags_of, group_fault, group_of, missing, request_fault, request_of, setup_after, setup_of};
 
-use crate::RingRequest;
+use crate::drafts::Draft;
+use crate::{Command, CpuSetupList, Needed, SetupError, SetupKind};
+use fanout_group::{Mode, Plan, PlanError};
+use flow_hash::Key;
 use frame_view::Memory;
 use std::alloc::Global;
 use tap_outside::Word;
-use text_lines::number;
+use text_lines::{LARGEST_TEXT, is_passed_over, next_line};
+use tp_layout::{RequestError, RingRequest, Shape};
 
-/// A setup: the ring that is asked for, and the capture of CPU 0.
+/// A setup: the ring and the group of a run, its captures, and what is written of it.
 #[derive(Debug, Drop)]
 pub struct Setup {
-    /// The ring, which can be had.
+    /// The ring that is asked for.
     pub request: RingRequest,
-    /// The name of the capture file.
-    pub file: Word,
+    /// The shape of the ring's blocks.
+    pub shape: Shape,
+    /// The shape of the group.
+    pub plan: Plan,
+    /// The key of the flow hash, of 40 bytes.
+    pub key: Option<Key>,
+    /// The address of this host, in network order.
+    pub mac: Option<[u8; 6]>,
+    /// The CPUs, from 0 up; 1 to 8.
+    pub cpus: CpuSetupList,
+    /// The name of the filter's file.
+    pub filter: Option<Word>,
+    /// The name of the file of the moments.
+    pub ticks: Option<Word>,
+    /// What the names of the written files begin with.
+    pub prefix: Word,
+    /// Whether the retired blocks are written too.
+    pub dump: bool,
 }
 
-/// Reads a setup: the lines `block_size N`, `block_nr N`, `frame_size N`, `frame_nr N` and `cpu FILE` in this
-/// order, each ended by a line feed, with one space, for a ring that can be had. N has 1 to 10 digits and is at
-/// most 4,294,967,295; FILE has 1 to 255 printable ASCII bytes and no space. `None` comes for every other text.
-pub fn read_setup(alloc: Global, text: &[u8]) -> Result<Option<Setup>, Memory>
-    ensures { IfOk result (λ setup. setup ≡ setup_in text.now) }
+/// Reads a setup for a command. docs/setup.md says what its lines are.
+///
+/// `TooLarge` comes for more than 1,048,576 bytes, with line 0. Then the first line with a fault answers, with its number
+/// from 1. Where no line has one, `Missing` comes for the first line that isn't there, then `Request` for a ring that
+/// can't be had, then `Group` for a group that there isn't, each with line 0. `Memory` is want of memory.
+pub fn read_setup(alloc: Global, text: &[u8], command: Command) -> Result<Setup, SetupError>
+    ensures right { IsRight is_setup_want result (setup_of text.now command) }
+    ensures sound { IfOk result IsSetup }
 {
-    let Some((request, file)) = parts(text) else {
-        return Ok(None);
-    };
-    Ok(Some(Setup {
+    if text.len() > LARGEST_TEXT {
+        return Err(SetupError {
+            line: 0,
+            kind: SetupKind::TooLarge,
+        });
+    }
+    let draft = draft_of(alloc, text)?;
+    match complete(alloc, draft, command) {
+        Ok(setup) => Ok(setup),
+        Err(kind) => Err(SetupError { line: 0, kind }),
+    }
+}
+
+/// What the lines of a text say.
+fn draft_of(alloc: Global, text: &[u8]) -> Result<Draft, SetupError>
+    requires { length text.now ≤ 1048576 }
+    ensures { IsRight is_setup_want result (draft_of text.now) }
+{
+    let mut draft = Draft::new(alloc);
+    let mut rest = text;
+    let mut number: u32 = 1;
+    while let Some((line, behind)) = next_line(rest) {
+        if !is_passed_over(line) {
+            if let Err(kind) = draft.read(alloc, line) {
+                return Err(SetupError { line: number, kind });
+            }
+        }
+        rest = behind;
+        number += 1;
+    }
+    Ok(draft)
+}
+
+/// The setup that lines without a fault say.
+#[tactic(auto, unfolding(crate::specs::Setups::setup_after))]
+fn complete(alloc: Global, draft: Draft, command: Command) -> Result<Setup, SetupKind>
+    ensures { IsRight is_want result (setup_after command draft) }
+{
+    if let Some(needed) = draft.missing() {
+        return Err(SetupKind::Missing(needed));
+    }
+    let request = draft.request();
+    let shape = shape_of(&request, command)?;
+    let plan = draft.plan()?;
+    let prefix = prefix_of(alloc, draft.out)?;
+    Ok(Setup {
         request,
-        file: Word::from_bytes(alloc, file)?,
-    }))
+        shape,
+        plan,
+        key: draft.key,
+        mac: draft.mac,
+        cpus: draft.cpus,
+        filter: draft.filter,
+        ticks: draft.ticks,
+        prefix,
+        dump: draft.dump,
+    })
 }
 
-/// The two parts of a setup, whose name is lent.
-#[tactic(auto, unfolding(crate::specs::Setups::setup_in))]
-fn parts(text: &[u8]) -> Option<(RingRequest, &[u8])>
-    ensures { option_map (λ parts. record { request = parts.0; file = parts.1.now }) result ≡ setup_in text.now }
+/// What the names of the written files begin with: `out` where no line says it.
+fn prefix_of(alloc: Global, out: Option<Word>) -> Result<Word, Memory>
+    ensures { IfOk result (λ prefix. prefix ≡ unwrap_or out (codes "out")) }
 {
-    let (request, rest) = request(text)?;
-    let file = file(rest)?;
-    if request.can_be_had() {
-        Some((request, file))
-    } else {
-        None
+    match out {
+        Some(prefix) => Ok(prefix),
+        None => Word::new(alloc, "out"),
     }
 }
 
-/// The four lines about the ring.
-#[tactic(auto, unfolding(crate::specs::Setups::request_in))]
-fn request(text: &[u8]) -> Option<(RingRequest, &[u8])>
-    ensures { option_map (λ read. (read.0, read.1.now)) result ≡ request_in text.now }
+/// The shape of the ring that a command asks for.
+fn shape_of(request: &RingRequest, command: Command) -> Result<Shape, RequestError>
+    ensures { result ≡ answer_of request.now (request_fault command request.now) }
 {
-    let ((block_size, block_nr), rest) = blocks(text)?;
-    let ((frame_size, frame_nr), rest) = frames(rest)?;
-    let request = RingRequest {
-        block_size,
-        block_nr,
-        frame_size,
-        frame_nr,
-    };
-    Some((request, rest))
-}
-
-/// The two lines about the blocks.
-#[tactic(auto, unfolding(crate::specs::Setups::blocks_in))]
-fn blocks(text: &[u8]) -> Option<((u32, u32), &[u8])>
-    ensures { option_map (λ read. (read.0, read.1.now)) result ≡ blocks_in text.now }
-{
-    let (size, rest) = field(b"block_size ", text)?;
-    let (count, rest) = field(b"block_nr ", rest)?;
-    Some(((size, count), rest))
-}
-
-/// The two lines about the frames.
-#[tactic(auto, unfolding(crate::specs::Setups::frames_in))]
-fn frames(text: &[u8]) -> Option<((u32, u32), &[u8])>
-    ensures { option_map (λ read. (read.0, read.1.now)) result ≡ frames_in text.now }
-{
-    let (size, rest) = field(b"frame_size ", text)?;
-    let (count, rest) = field(b"frame_nr ", rest)?;
-    Some(((size, count), rest))
-}
-
-/// The last line: the name of the capture.
-#[tactic(auto, unfolding(crate::specs::Setups::file_in))]
-fn file(text: &[u8]) -> Option<&[u8]>
-    ensures { option_copied result ≡ file_in text.now }
-{
-    let rest = after(b"cpu ", text)?;
-    let (name, rest) = line(rest)?;
-    if is_name(name) && rest.is_empty() {
-        Some(name)
-    } else {
-        None
+    match command {
+        Command::Check | Command::Replay => request.check(),
     }
 }
 
-/// A line that is a word and a number.
-#[tactic(auto, unfolding(crate::specs::Setups::field_in))]
-fn field<'a>(word: &[u8], text: &'a [u8]) -> Option<(u32, &'a [u8])>
-    ensures { option_map (λ read. (read.0, read.1.now)) result ≡ field_in word.now text.now }
-{
-    let rest = after(word, text)?;
-    let (digits, rest) = line(rest)?;
-    let value = number(digits)?;
-    Some((value, rest))
-}
-
-/// The first line of a text, and the text behind it.
-#[tactic(auto, unfolding(crate::specs::Setups::line_in))]
-pub(crate) fn line(text: &[u8]) -> Option<(&[u8], &[u8])>
-    ensures { option_map (λ cut. (cut.0.now, cut.1.now)) result ≡ line_in text.now }
-{
-    let end = line_feed(text)?;
-    let (line, rest) = text.split_at(end);
-    let (_, rest) = rest.split_at(1);
-    Some((line, rest))
-}
-
-/// The place of the first line feed.
-fn line_feed(text: &[u8]) -> Option<usize>
-    ensures { result ≡ position (λ byte. byte == 10) text.now }
-{
-    text.iter().position(|byte| *byte == b'\n')
-}
-
-/// The text behind a word that it begins with.
-#[tactic(auto, unfolding(crate::specs::Setups::after))]
-pub(crate) fn after<'a>(word: &[u8], text: &'a [u8]) -> Option<&'a [u8]>
-    ensures { option_copied result ≡ after word.now text.now }
-{
-    if text.starts_with(word) {
-        let (_, rest) = text.split_at(word.len());
-        Some(rest)
-    } else {
-        None
+impl Draft {
+    /// The first line that is missing.
+    #[tactic(auto, unfolding(crate::specs::Setups::missing))]
+    fn missing(&self) -> Option<Needed>
+        ensures { result ≡ missing self.now }
+    {
+        if self.block_size.is_none() {
+            Some(Needed::BlockSize)
+        } else if self.block_nr.is_none() {
+            Some(Needed::BlockNr)
+        } else if self.frame_size.is_none() {
+            Some(Needed::FrameSize)
+        } else if self.frame_nr.is_none() {
+            Some(Needed::FrameNr)
+        } else if self.cpus.is_empty() {
+            Some(Needed::Cpu)
+        } else {
+            None
+        }
     }
-}
 
-/// Whether a word can be a file's name: 1 to 255 printable ASCII bytes, no space among them.
-fn is_name(word: &[u8]) -> bool
-    ensures { result ≡ is_name word.now }
-{
-    !word.is_empty() && word.len() <= 255 && has_no_blank(word)
-}
+    /// The ring that is asked for.
+    fn request(&self) -> RingRequest
+        ensures { result ≡ request_of self.now }
+    {
+        RingRequest {
+            block_size: self.block_size.unwrap_or(0),
+            block_nr: self.block_nr.unwrap_or(0),
+            frame_size: self.frame_size.unwrap_or(0),
+            frame_nr: self.frame_nr.unwrap_or(0),
+            tov: self.tov.unwrap_or(0),
+            sizeof_priv: self.sizeof_priv.unwrap_or(0),
+            features: self.features.unwrap_or(0),
+        }
+    }
 
-/// Whether all bytes are printable ASCII other than space.
-fn has_no_blank(word: &[u8]) -> bool
-    ensures { result ≡ list_all (λ byte. nat_le 33 byte && nat_le byte 126) word.now }
-{
-    word.iter().all(|byte| matches!(*byte, b'!'..=b'~'))
+    /// The group that is asked for.
+    fn plan(&self) -> Result<Plan, PlanError>
+        ensures plan { IfOk result (λ plan. plan ≡ group_of self.now) }
+        ensures none { OnOk result (group_fault self.now ≡ None) }
+        ensures fault { IfErr result (λ error. group_fault self.now ≡ Some error) }
+    {
+        let members = self.members.unwrap_or(1);
+        let mode = self.mode.unwrap_or(Mode::Cpu);
+        Plan::check(members, mode, self.flags(), self.key.is_some())
+    }
+
+    /// The flags of the group, as `linux/if_packet.h` numbers them.
+    fn flags(&self) -> u32
+        ensures value { result ≡ flags_of self.now }
+        ensures sound { AreFlags result }
+    {
+        match (self.rollover, self.defrag) {
+            (false, false) => 0,
+            (true, false) => 0x1000,
+            (false, true) => 0x8000,
+            (true, true) => 0x9000,
+        }
+    }
 }

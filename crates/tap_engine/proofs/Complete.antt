@@ -11,7 +11,7 @@ use Rattle.fanout_group.specs.declared.runs.CpuEnd.{CpuEnd}
 use Rattle.fanout_group.specs.declared.runs.CpuEnd.TheVariants.{Whole, Fault, Damaged}
 use Rattle.replay_model.specs.declared.schedule.Line.{Line}
 use Rattle.setup_text.specs.declared.reports.RunReport.{RunReport}
-use Rattle.setup_text.specs.declared.setups.Setup.{Setup}
+use Rattle.first_forms.specs.declared.setups.Setup.{Setup}
 use Rattle.tap_outside.specs.Contents.{Contents}
 use Rattle.tap_reading.specs.Captures.{UnlessFault, WhereEnded, end_by}
 use Rattle.tap_reading.specs.Fronts.{IsTextOf}

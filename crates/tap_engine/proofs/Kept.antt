@@ -28,10 +28,10 @@ arrive_whole : (frame : Frame) (rest : List Frame) (b : Bool) → (b ≡ false �
 arrive_whole frame rest true whole all = all
 arrive_whole frame rest false whole all = (whole refl, all)
 
-pub arrivals_whole : (frames : List Frame) → AllByRecursion IsWhole (arrivals_of frames)
+pub arrivals_whole : (frames : List Frame) → AllByRecursion IsWhole (arrivals_of false frames)
 arrivals_whole [] = tt
 arrivals_whole (frame ∷ frames) =
-    arrive_whole (untagged frame) (arrivals_of frames) (nat_lt (length (untagged frame).bytes) 14)
+    arrive_whole (untagged frame) (arrivals_of false frames) (nat_lt (length (untagged frame).bytes) 14)
     (λ e. ltb-false (length (untagged frame).bytes) 14 e) (arrivals_whole frames)
 
 abbrev pub IsOf : (Frame → Type 0) → Attempt → Type 0

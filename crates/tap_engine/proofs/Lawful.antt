@@ -1,6 +1,6 @@
 -- The replay of one CPU and one member, as it is reported.
 use Rattle.std.proofs.Common.{◌≡◌, ℕ, zero, suc, ◌+◌, ◌≤◌, false, List, [], ◌∷◌, length, get_or, refl, sym, ap, subst, ◌∙◌, arith}
-use Rattle.std.specs.Prelude.{None, IfSome, All, map, slice_get}
+use Rattle.std.specs.Prelude.{Bool, None, IfSome, All, map, slice_get}
 use Rattle.std.specs.List.{AllByRecursion}
 use Rattle.std.proofs.lemmas.List.{length-take}
 use Rattle.std.proofs.lemmas.List.Elements.{All-from_recursion, recursion_from_All}
@@ -20,12 +20,12 @@ use Rattle.fanout_group.specs.declared.logs.ArrivalLog.{ArrivalLog}
 use Rattle.fanout_group.specs.declared.runs.CpuLog.{CpuLog}
 use Rattle.replay_model.specs.Feeds.{IsBare}
 use Rattle.replay_model.specs.Replay.{Cpu, no_cpu}
-use Rattle.replay_model.specs.Reported.{closed_of}
 use Rattle.replay_model.specs.Reports.{IsRingReport, logged_of, notes_of}
-use Rattle.replay_model.specs.declared.reports.Closed.{Closed}
 use Rattle.setup_text.specs.declared.reports.MemberReport.{MemberReport}
-use Rattle.tap_engine.specs.Reporting.{member_by}
-use Rattle.tap_engine.specs.Runs.{IsMember, IsReport, group, member_of}
+use Rattle.tap_replay.specs.Reported.{member_of}
+use Rattle.tp_layout.specs.Requests.{fills_hash, room_of, size_of}
+use Rattle.tp_layout.specs.declared.requests.RingRequest.{RingRequest}
+use Rattle.tap_engine.specs.Runs.{IsMember, IsReport, group}
 use Rattle.tap_engine.proofs.Kept.{IsKept, IsOf, IsWhole, arrivals_whole, attempts_of, kept_are}
 
 -- numbered frames are those of their CPU, and have no tag
@@ -43,7 +43,7 @@ frames_are_of cpu frames at = (numbered cpu 0 frames (λ k. subst (λ (n : ℕ).
 
 both_bare : (frames : List Frame) → AllByRecursion (λ frame. frame.tag ≡ None) frames → AllByRecursion IsCaptured frames → AllByRecursion IsBare frames
 both_bare [] tags captured = tt
-both_bare (frame ∷ frames) tags captured = (record { tag = tags.0; wire = captured.0.wire }, both_bare frames tags.1 captured.1)
+both_bare (frame ∷ frames) tags captured = (record { tag = tags.0; nsec = captured.0.nsec; wire = captured.0.wire }, both_bare frames tags.1 captured.1)
 
 pub frames_are_bare : (cpu : ℕ) (frames : List Frame) → ((place : ℕ) → IfSome (slice_get frames place) (IsNumbered cpu place)) → All IsCaptured frames → All IsBare frames
 frames_are_bare cpu frames at captured =
@@ -62,12 +62,13 @@ first_log (cpu ∷ []) log e = (cpu, refl, head e) where
   head e = cc
 first_log (cpu ∷ next ∷ cpus) log e = cc
 
-first_ring : (rings : List Ring) (closed : Closed) → map closed_of rings ≡ closed ∷ [] → (ring : Ring) × (rings ≡ ring ∷ []) × (closed_of ring ≡ closed)
-first_ring [] closed e = cc
-first_ring (ring ∷ []) closed e = (ring, refl, head e) where
-  head : ◌≡◌ {A = List Closed} (closed_of ring ∷ []) (closed ∷ []) → closed_of ring ≡ closed
+first_ring : (shape : RingRequest) (asked : Bool) (rings : List Ring) (member : MemberReport) → map (member_of shape asked) rings ≡ member ∷ []
+    → (ring : Ring) × (rings ≡ ring ∷ []) × (member_of shape asked ring ≡ member)
+first_ring shape asked [] member e = cc
+first_ring shape asked (ring ∷ []) member e = (ring, refl, head e) where
+  head : ◌≡◌ {A = List MemberReport} (member_of shape asked ring ∷ []) (member ∷ []) → member_of shape asked ring ≡ member
   head e = cc
-first_ring (ring ∷ next ∷ rings) closed e = cc
+first_ring shape asked (ring ∷ next ∷ rings) member e = cc
 
 -- the log of CPU 0
 pub log_is : (cpus : List Cpu) (log : List ArrivalLog) → map (λ cpu. cpu.log) cpus ≡ log ∷ [] → log ≡ (get_or cpus 0 no_cpu).log
@@ -75,14 +76,8 @@ log_is cpus log e =
     let one = first_log cpus log e in
     sym one.2 ∙ ap (λ (c : List Cpu). (get_or c 0 no_cpu).log) (sym one.1)
 
--- the report of member 0
-pub member_is : (rings : List Ring) (closed : Closed) → map closed_of rings ≡ closed ∷ [] → member_by closed ∷ [] ≡ map member_of rings
-member_is rings closed e =
-    let one = first_ring rings closed e in
-    ap (λ (c : Closed). member_by c ∷ []) (sym one.2) ∙ ap (λ (r : List Ring). map member_of r) (sym one.1)
-
-member_lawful : (size : Size) (ring : Ring) → IsRingReport size ring → IsMember size (member_of ring)
-member_lawful size ring h = record {
+member_lawful : (shape : RingRequest) (asked : Bool) (ring : Ring) → IsRingReport (size_of shape) ring → IsMember shape asked (member_of shape asked ring)
+member_lawful shape asked ring h = record {
   run = h.run;
   walked = refl;
   dump = refl;
@@ -91,46 +86,50 @@ member_lawful size ring h = record {
 
 -- the arrivals and the log of the one CPU
 abbrev logged_with : List Frame → List ArrivalLog → List Logged
-logged_with frames log = record { arrivals = arrivals_of frames; log = log } ∷ []
+logged_with frames log = record { arrivals = arrivals_of false frames; log = log } ∷ []
 
 first_all : (P : Ring → Type 0) (ring : Ring) → All P (ring ∷ []) → P ring
 first_all P ring all = (recursion_from_All P (ring ∷ []) all).0
 
 -- what is reported is lawful
-pub lawful : (size : Size) (frames : List Frame) (cpus : List Cpu) (rings : List Ring) (log : CpuLog) (closed : Closed)
-    → map (λ cpu. cpu.log) cpus ≡ log.arrivals ∷ [] → map closed_of rings ≡ closed ∷ []
-    → IsGroupReport group size.room (logged_of (arrivals_at frames ∷ []) cpus) (notes_of rings) → All (IsRingReport size) rings
-    → IsReport group size (arrivals_of frames ∷ []) (record { cpus = log ∷ []; members = member_by closed ∷ [] })
-lawful size frames cpus rings log closed e f grouped reports =
+pub lawful : (shape : RingRequest) (asked : Bool) (frames : List Frame) (cpus : List Cpu) (rings : List Ring) (log : CpuLog) (member : MemberReport)
+    → map (λ cpu. cpu.log) cpus ≡ log.arrivals ∷ [] → map (member_of shape asked) rings ≡ member ∷ []
+    → IsGroupReport group (room_of shape) (logged_of (arrivals_at false frames ∷ []) cpus) (notes_of rings) → All (IsRingReport (size_of shape)) rings
+    → IsReport group shape asked (arrivals_of false frames ∷ []) (record { cpus = log ∷ []; members = member ∷ [] })
+lawful shape asked frames cpus rings log member e f grouped reports =
     let cpu = first_log cpus log.arrivals e in
-    let ring = first_ring rings closed f in
-    let logs : logged_of (arrivals_at frames ∷ []) cpus ≡ logged_with frames log.arrivals =
-    ap (logged_of (arrivals_at frames ∷ [])) cpu.1 ∙ ap (λ (l : List ArrivalLog). logged_with frames l) cpu.2 in
-    let notes : notes_of rings ≡ closed.notes ∷ [] = ap notes_of ring.1 ∙ ap (λ (c : Closed). c.notes ∷ []) ring.2 in
-    let one : IsRingReport size ring.0 = first_all (IsRingReport size) ring.0 (subst (λ (r : List Ring). All (IsRingReport size) r) ring.1 reports) in
+    let ring = first_ring shape asked rings member f in
+    let logs : logged_of (arrivals_at false frames ∷ []) cpus ≡ logged_with frames log.arrivals =
+    ap (logged_of (arrivals_at false frames ∷ [])) cpu.1 ∙ ap (λ (l : List ArrivalLog). logged_with frames l) cpu.2 in
+    let notes : notes_of rings ≡ member.notes ∷ [] = ap notes_of ring.1 ∙ ap (λ (m : MemberReport). m.notes ∷ []) ring.2 in
+    let one : IsRingReport (size_of shape) ring.0 = first_all (IsRingReport (size_of shape)) ring.0 (subst (λ (r : List Ring). All (IsRingReport (size_of shape)) r) ring.1 reports) in
     record {
-      group = subst (λ (n : List (List Note)). IsGroupReport group size.room (logged_with frames log.arrivals) n) notes
-          (subst (λ (l : List Logged). IsGroupReport group size.room l (notes_of rings)) logs grouped);
-      members = All-from_recursion (IsMember size) (member_by closed ∷ [])
-          (subst (λ (c : Closed). IsMember size (member_by c)) ring.2 (member_lawful size ring.0 one), tt);
+      group = subst (λ (n : List (List Note)). IsGroupReport group (room_of shape) (logged_with frames log.arrivals) n) notes
+          (subst (λ (l : List Logged). IsGroupReport group (room_of shape) l (notes_of rings)) logs grouped);
+      members = All-from_recursion (IsMember shape asked) (member ∷ [])
+          (subst (λ (m : MemberReport). IsMember shape asked m) ring.2 (member_lawful shape asked ring.0 one), tt);
     }
+
+-- the packets that a member's reader read are those of the offers that its notes keep
+pub walked_is : (shape : RingRequest) (asked : Bool) (rings : List Ring) (member : MemberReport) → map (member_of shape asked) rings ≡ member ∷ []
+    → member.walked ≡ map (packet_of (fills_hash shape)) (kept_of member.notes)
+walked_is shape asked rings member f =
+    let ring = first_ring shape asked rings member f in
+    sym (ap (λ (m : MemberReport). m.walked) ring.2) ∙ ap (λ (m : MemberReport). map (packet_of (fills_hash shape)) (kept_of m.notes)) ring.2
 
 whole_attempts : (frames : List Frame) (log : List ArrivalLog) (cpu : ℕ) →
     AllByRecursion (IsOf IsWhole) (attempts_at 0 (get_or (logged_with frames log) cpu nothing_logged).arrivals (get_or (logged_with frames log) cpu nothing_logged).log)
-whole_attempts frames log zero = attempts_of IsWhole 0 (arrivals_of frames) log (arrivals_whole frames)
+whole_attempts frames log zero = attempts_of IsWhole 0 (arrivals_of false frames) log (arrivals_whole frames)
 whole_attempts frames log (suc cpu) = tt
 
 -- what the one member keeps
-pub kept_alone : (size : Size) (frames : List Frame) (log : CpuLog) (member : MemberReport)
-    → IsReport group size (arrivals_of frames ∷ []) (record { cpus = log ∷ []; members = member ∷ [] }) → AllByRecursion (IsKept size.room) (kept_of member.notes)
-kept_alone size frames log member h =
-    kept_are size.room group.own member.notes
+pub kept_alone : (shape : RingRequest) (asked : Bool) (frames : List Frame) (log : CpuLog) (member : MemberReport)
+    → IsReport group shape asked (arrivals_of false frames ∷ []) (record { cpus = log ∷ []; members = member ∷ [] })
+    → AllByRecursion (IsKept (room_of shape)) (kept_of member.notes)
+kept_alone shape asked frames log member h =
+    kept_are (room_of shape) group.own member.notes
     (λ cpu. attempts_at 0 (get_or (logged_with frames log.arrivals) cpu nothing_logged).arrivals (get_or (logged_with frames log.arrivals) cpu nothing_logged).log)
     (whole_attempts frames log.arrivals) (λ cpu. h.group.joined.each cpu 0 (omega arith))
-
-pub kept_whole : (room : ℕ) (offers : List Offer) → AllByRecursion (IsKept room) offers → AllByRecursion (λ offer. 14 ≤ length offer.frame.bytes) offers
-kept_whole room [] all = tt
-kept_whole room (offer ∷ offers) all = (all.0.0, kept_whole room offers all.1)
 
 kept_small : (room : ℕ) (offers : List Offer) → room ≤ 1048576 → AllByRecursion (IsKept room) offers
     → AllByRecursion (λ packet. length packet.bytes ≤ 4294967291) (map (packet_of false) offers)

@@ -1,5 +1,5 @@
 -- A run that was made, from its parts.
-use Rattle.std.proofs.Common.{◌≡◌, ℕ, List, [], ◌∷◌, inl, inr, refl, sym, ap, subst, ◌∙◌}
+use Rattle.std.proofs.Common.{false, ◌≡◌, ℕ, List, [], ◌∷◌, inl, inr, refl, sym, ap, subst, ◌∙◌}
 use Rattle.std.specs.Prelude.{Option, Result, Ok, Err, IfOk}
 use Rattle.capture_file.specs.Capture.{frames_of}
 use Rattle.fanout_group.specs.Arrivals.{arrivals_of}
@@ -7,7 +7,7 @@ use Rattle.fanout_group.specs.declared.runs.CpuEnd.{CpuEnd}
 use Rattle.fanout_group.specs.declared.runs.CpuEnd.TheVariants.{Whole, Fault}
 use Rattle.fanout_group.specs.declared.runs.CpuLog.{CpuLog}
 use Rattle.setup_text.specs.declared.reports.RunReport.{RunReport}
-use Rattle.setup_text.specs.declared.setups.Setup.{Setup}
+use Rattle.first_forms.specs.declared.setups.Setup.{Setup}
 use Rattle.replay_model.specs.declared.schedule.Line.{Line}
 use Rattle.tap_outside.specs.Contents.{Contents}
 use Rattle.tap_outside.specs.Counts.{Rose}
@@ -19,7 +19,7 @@ use Rattle.tap_engine.specs.Expected.{HasFault, reported}
 use Rattle.tap_engine.specs.Jobs.{IsJob}
 use Rattle.tap_engine.specs.Making.{Makes}
 use Rattle.tap_engine.specs.Reporting.{IsReadAs, alone}
-use Rattle.tap_engine.specs.Runs.{IsReport, group, report_of, size_of_setup}
+use Rattle.tap_engine.specs.Runs.{IsReport, asks_dump, group, report_of, shape_of}
 use Rattle.tap_engine.specs.declared.jobs.Job.{Job}
 use Rattle.tap_engine.specs.declared.outcomes.Outcome.{Outcome}
 use Rattle.tap_engine.specs.declared.reporting.Alone.{Alone}
@@ -46,7 +46,7 @@ pub makes : (held : Option Contents) (named : Named) (job : Job) (capture : Capt
     (outcome : Outcome) (after : Option Contents) (before now : Option (List ℕ)) (r0 r1 r2 s0 s1 s2 : ℕ) (unprinted : Type 0)
     → IsJob held named job → IsCapture held job.setup.file 0 capture bytes
     → ((read : List ℕ) → IsReadAs capture read → alone one ≡ report_of job.setup job.schedule read capture.end)
-    → ((read : List ℕ) → IsReadAs capture read → IsReport group (size_of_setup job.setup) (arrivals_of (frames_of 0 read) ∷ []) (alone one))
+    → ((read : List ℕ) → IsReadAs capture read → IsReport group (shape_of job.setup) (asks_dump job.setup) (arrivals_of false (frames_of 0 read) ∷ []) (alone one))
     → (capture.end ≡ Fault → Rose r0 r1) → r2 ≡ r1 → s1 ≡ s0
     → Concludes (reported (alone one)) outcome after before now (Rose s1 s2) unprinted
     → Makes held named outcome after before now (Rose r0 r2) (Rose s0 s2) unprinted

@@ -2,14 +2,11 @@
 use Rattle.std.proofs.Common.{◌≡◌, ℕ, zero, suc, Bool, true, false, List, [], ◌∷◌, length, Option, None, Some, subst}
 use Rattle.std.specs.Prelude.{codes, nat_eq, if◌then◌else◌, drop}
 use Rattle.std.specs.List.{AllByRecursion, starts_with}
-use Rattle.std.proofs.lemmas.List.Elements.{All-from_recursion}
-use Rattle.replay_model.specs.Plain.{IsTimely}
-use Rattle.replay_model.specs.Reports.{AreAscending}
+use Rattle.replay_model.specs.Reports.{AreAscending, IsSchedule}
 use Rattle.replay_model.specs.declared.schedule.Line.{Line}
 use Rattle.replay_model.specs.declared.schedule.Line.TheVariants.{Feed, Read, Tick, Stats}
-use Rattle.setup_text.specs.Schedules.{lines_within, schedule_in}
-use Rattle.setup_text.specs.Setups.{◌>>=◌}
-use Rattle.tap_engine.specs.Reporting.{IsPlainSchedule}
+use Rattle.first_forms.specs.Schedules.{lines_within, schedule_in}
+use Rattle.first_forms.specs.Setups.{◌>>=◌}
 use Rattle.tap_engine.specs.Runs.{accepted_schedule, is_text}
 
 -- no tick and no statistics
@@ -50,19 +47,12 @@ ascending clock (Read member ∷ lines) narrow = ascending clock lines narrow.1
 ascending clock (Tick ms ∷ lines) narrow = absurd narrow.0
 ascending clock (Stats member ∷ lines) narrow = absurd narrow.0
 
-timely : (lines : List Line) → AllByRecursion IsNarrow lines → AllByRecursion IsTimely lines
-timely [] narrow = tt
-timely (Feed cpu ∷ lines) narrow = (tt, timely lines narrow.1)
-timely (Read member ∷ lines) narrow = (tt, timely lines narrow.1)
-timely (Tick ms ∷ lines) narrow = absurd narrow.0
-timely (Stats member ∷ lines) narrow = absurd narrow.0
-
 narrow_of : (b : Bool) (read : Option (List Line)) (lines : List Line) → IsNarrowRead read → (if b then read else None) ≡ Some lines → AllByRecursion IsNarrow lines
 narrow_of true read lines h e = subst IsNarrowRead e h
 narrow_of false read lines h e = cc
 
-pub accepted_is_plain : (text : List ℕ) (lines : List Line) → accepted_schedule text ≡ Some lines → IsPlainSchedule lines
+pub accepted_is_plain : (text : List ℕ) (lines : List Line) → accepted_schedule text ≡ Some lines → IsSchedule lines
 unfolding schedule_in
 accepted_is_plain text lines e =
     let narrow = narrow_of (is_text text) (lines_within (length text) text) lines (narrow_within (length text) text) e in
-    record { ascending = ascending 0 lines narrow; timely = All-from_recursion IsTimely lines (timely lines narrow) }
+    ascending 0 lines narrow

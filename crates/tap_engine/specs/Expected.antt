@@ -8,7 +8,7 @@ use Rattle.fanout_group.specs.declared.runs.CpuLog.{CpuLog}
 use Rattle.ring_model.specs.Ring.{Size}
 use Rattle.setup_text.specs.declared.reports.MemberReport.{MemberReport}
 use Rattle.setup_text.specs.declared.reports.RunReport.{RunReport}
-use Rattle.setup_text.specs.declared.setups.Setup.{Setup}
+use Rattle.first_forms.specs.declared.setups.Setup.{Setup}
 use Rattle.tap_outside.specs.Contents.{Contents, HoldsFile}
 use Rattle.tap_printing.specs.Lines.{summary_of}
 use Rattle.tap_reading.specs.Fronts.{IsTextOf}

@@ -1,16 +1,16 @@
 -- The headline: what a report is worth.
-use Rattle.std.specs.Prelude.{◌≡◌, ℕ, List, [], ◌∷◌, Option, Some}
+use Rattle.std.specs.Prelude.{false, ◌≡◌, ℕ, List, [], ◌∷◌, Option, Some}
 use Rattle.tap_outside.specs.Contents.{Contents}
 use Rattle.capture_file.specs.Capture.{frames_of, end_of}
 use Rattle.fanout_group.specs.Arrivals.{arrivals_of}
 use Rattle.fanout_group.specs.declared.runs.CpuEnd.{CpuEnd}
 use Rattle.replay_model.specs.declared.schedule.Line.{Line}
 use Rattle.setup_text.specs.declared.reports.RunReport.{RunReport}
-use Rattle.setup_text.specs.declared.setups.Setup.{Setup}
+use Rattle.first_forms.specs.declared.setups.Setup.{Setup}
 use Rattle.tap_reading.specs.Captures.{UnlessFault, WhereEnded, end_by}
 use Rattle.tap_reading.specs.Fronts.{IsAllOf, IsFrontOf, IsTextOf}
 use Rattle.tap_engine.specs.Commands.{Named}
-use Rattle.tap_engine.specs.Runs.{IsReport, accepted_schedule, accepted_setup, group, report_of, size_of_setup}
+use Rattle.tap_engine.specs.Runs.{IsReport, accepted_schedule, accepted_setup, group, report_of, asks_dump, shape_of}
 
 -- A report is that of the setup, the schedule and the capture that stand under their names.
 pub record IsHeadline (held : Option Contents) (named : Named) (report : RunReport) : Type 0 where
@@ -34,4 +34,4 @@ pub record IsHeadline (held : Option Contents) (named : Named) (report : RunRepo
   -- the report is the replay report
   pub replay : report ≡ report_of setup lines bytes end
   -- so its log is lawful over the arrivals, joined with its notes, and these are a run of the ring
-  pub lawful : IsReport group (size_of_setup setup) (arrivals_of (frames_of 0 bytes) ∷ []) report
+  pub lawful : IsReport group (shape_of setup) (asks_dump setup) (arrivals_of false (frames_of 0 bytes) ∷ []) report

@@ -2,7 +2,7 @@
 use Rattle.std.specs.Prelude.{ℕ, Bool, List, [], ◌∷◌, codes, Option, None, Some, unwrap_or, IsTrue, ⊤}
 use Rattle.std.specs.List.{AllByRecursion}
 use Rattle.tap_outside.specs.Contents.{Contents}
-use Rattle.setup_text.specs.declared.setups.Setup.{Setup}
+use Rattle.first_forms.specs.declared.setups.Setup.{Setup}
 use Rattle.tap_engine.specs.Commands.{Named}
 use Rattle.tap_engine.specs.Runs.{accepted_setup}
 

@@ -9,7 +9,6 @@ mod outcomes;
 mod reporting;
 mod running;
 mod stops;
-mod walking;
 
 pub use outcomes::{Input, Outcome, Status};
 pub use running::run_plain;

@@ -3,3 +3,6 @@ mod Positions
 mod WordCuts
 mod Digits
 mod LinesOfStr
+pub mod Readings
+pub mod Kept
+pub mod Small

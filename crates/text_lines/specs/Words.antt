@@ -21,3 +21,13 @@ is_plain_byte b = (nat_le 32 b && nat_le b 126) || (b == 9)
 
 abbrev pub is_plain : List ℕ → Bool
 is_plain line = list_all is_plain_byte line
+
+-- whether a word begins with the byte `#`
+abbrev pub is_comment : List ℕ → Bool
+is_comment [] = false
+is_comment (b ∷ bytes) = b == 35
+
+-- whether the line of these words is passed over: it has no word, or the first one begins with `#`
+abbrev pub is_passed_over : List (List ℕ) → Bool
+is_passed_over [] = true
+is_passed_over (word ∷ more) = is_comment word

@@ -7,7 +7,7 @@ mod words;
 
 pub use lines::{LARGEST_TEXT, lines_are_those_of_str, next_line};
 pub use numbers::number;
-pub use words::{is_plain, next_word};
+pub use words::{is_passed_over, is_plain, next_word};
 
 #[cfg(test)]
 mod tests;

@@ -1,5 +1,5 @@
 //! Tables with values that the form of a text gives.
-use crate::{is_plain, next_line, next_word, number};
+use crate::{is_passed_over, is_plain, next_line, next_word, number};
 use std::alloc::{AllocError, Global};
 
 /// The lines of a text, each between angle brackets.
@@ -96,5 +96,20 @@ fn tells_plain_lines(rt: HostRuntime) {
     assert!(rt; is_plain(b"tov\t8 ~"));
     for line in [b"tov 8\r", b"tov 8\x7f", b"tov 8\x00", b"tov \xc3\xa9"] {
         assert!(rt; !is_plain(line.as_slice()));
+    }
+}
+
+#[test]
+fn passes_over(rt: HostRuntime) {
+    let table = [
+        ("", true),
+        (" \t", true),
+        ("# a remark", true),
+        ("\t#\u{e9}", true),
+        ("feed 0 # first", false),
+        ("\r", false),
+    ];
+    for (line, over) in &table {
+        assert_eq!(rt; is_passed_over(line.as_bytes()), *over, "{line}");
     }
 }

@@ -1,7 +1,7 @@
 //! The words of a line.
 ghost use Rattle.std.specs.Prelude.{◌≡◌, ◌<◌, [], ◌∷◌, length, not, MatchOption, IfSome};
 ghost use Rattle.std.specs.List.{position};
-ghost use Rattle.text_lines.specs.Words.{is_blank, is_plain, words_of};
+ghost use Rattle.text_lines.specs.Words.{is_blank, is_comment, is_passed_over, is_plain, words_of};
 
 /// Whether a line has no other bytes than printable ASCII, spaces and tabs.
 pub fn is_plain(line: &[u8]) -> bool
@@ -21,6 +21,26 @@ pub fn next_word(line: &[u8]) -> Option<(&[u8], &[u8])>
     let (_, rest) = line.split_at(start);
     let end = blank_place(rest).unwrap_or(rest.len());
     Some(rest.split_at(end))
+}
+
+/// Whether a line is passed over: it has no word, or its first word begins with `#`.
+pub fn is_passed_over(line: &[u8]) -> bool
+    ensures { result ≡ is_passed_over (words_of line.now) }
+{
+    match next_word(line) {
+        None => true,
+        Some((word, _)) => is_comment(word),
+    }
+}
+
+/// Whether a word begins with `#`.
+fn is_comment(word: &[u8]) -> bool
+    ensures { result ≡ is_comment word.now }
+{
+    match word {
+        [first, ..] => *first == b'#',
+        [] => false,
+    }
 }
 
 /// The place of the first byte that is no blank.

@@ -7,7 +7,7 @@ use Rattle.replay_model.proofs.Soundness.{sound-feed}
 use Rattle.replay_model.proofs.replay_run.ReplayRun.feed_all.Goals as goal
 
 pub loop-frame-preserved : goal.loop-frame-preserved
-loop-frame-preserved c =
+loop-frame-preserved g c =
     let rules = c.args.rules.now in
     let room = c.args.room in
     let before = c.loop-frame.invariant in

@@ -7,7 +7,7 @@ use Rattle.replay_model.proofs.Soundness.{sound-feed_times}
 use Rattle.replay_model.proofs.replay_run.ReplayRun.feed_rest.Goals as goal
 
 pub loop-cpu-preserved : goal.loop-cpu-preserved
-loop-cpu-preserved c =
+loop-cpu-preserved g c =
     let plain = c.args.rules.now in
     let room = c.args.room in
     let before = c.loop-cpu.invariant in

@@ -1,0 +1,5 @@
+use Rattle.fanout_group.proofs.Sounding.{arrivals_sound}
+use Rattle.fanout_group.proofs.laws.arrivals_are_sound.Goals as goal
+
+pub returns : goal.returns
+returns c = arrivals_sound

@@ -1,0 +1,13 @@
+-- What the code's rules for the arrivals of a CPU stand for.
+use Rattle.std.specs.Prelude.{option_copied}
+use Rattle.fanout_group.specs.Judging.{Lens}
+use Rattle.fanout_group.specs.declared.judging.ArrivalRules.{ArrivalRules}
+
+-- with the CPU's receive queue as that of every CPU
+abbrev pub lens_of : ArrivalRules → Lens
+lens_of rules = record {
+  key = option_copied rules.key;
+  filter = option_copied rules.filter;
+  own = rules.own;
+  queue = λ _. rules.queue;
+}

@@ -1,0 +1,151 @@
+//! Who gets a packet: the tries of an arrival, by the rules of its group.
+ghost use Rattle.std.specs.Prelude.{◌≡◌, ◌<◌, ◌≤◌, ℕ, [], ◌++◌, unwrap_or, IfNone, IfOk, IfSome, OnErr, OnOk};
+ghost use Rattle.fanout_group.specs.Desks.{TakesTheSame};
+ghost use Rattle.fanout_group.specs.Plans.{rolls_over};
+ghost use Rattle.fanout_group.specs.Routes.{AreRefusals, IsKeptOnTheWay, IsRoute, present_after, refused_from};
+ghost use Rattle.fanout_group.specs.Rules.{HasTicket, home_by};
+
+use crate::tries::{put_at, try_at};
+use crate::{Desk, Mode, Plan, Try, TryList};
+use frame_view::Memory;
+use ring_model::Offer;
+use std::alloc::Global;
+use std::mem;
+
+/// Delivers a packet to a group by its mode: makes the tries of an arrival at a desk, in order, and tells them at
+/// the end of a list.
+///
+/// The home is by the mode the offer's hash, the ticket, the frame's CPU or the receive queue modulo the number of
+/// members, or the CPU's present member (PACKET_FANOUT of packet(7); that it is a modulo, and the present member of
+/// each CPU, are this project's own choice). Without rollover the packet is put at home. With it each member is tried
+/// once, from the home on round the group, until one keeps the packet; where all refuse it is put at home. In mode
+/// `Rollover` the member of the last try is `present` from then on.
+///
+/// After `Memory` the tries that were made stand in the list, all of them refusals, and `present` is unchanged.
+pub fn deliver<D: Desk>(
+    alloc: Global,
+    plan: &Plan,
+    desk: &mut D,
+    present: &mut u32,
+    queue: u32,
+    offer: Offer,
+    ticket: Option<u64>,
+    tries: &mut TryList,
+) -> Result<(), Memory>
+    requires present { present.old < plan.now.members }
+    requires ticket { HasTicket plan.now.mode ticket }
+    requires fresh { D.tried desk.old ≡ [] }
+    requires takes { (member : ℕ) → member < plan.now.members → D.takes desk.old member offer }
+    ensures told { tries.new ≡ tries.old ++ D.tried desk.new }
+    ensures route { OnOk result (let home = home_by plan.now.mode plan.now.members
+        offer.hash (unwrap_or ticket 0) offer.frame.cpu queue present.old in
+        IsRoute (rolls_over plan.now) plan.now.members home (D.tried desk.new)) }
+    ensures present { OnOk result (present.new
+        ≡ present_after plan.now.mode present.old (D.tried desk.new)) }
+    ensures member { present.new < plan.now.members }
+    ensures refusals { OnErr result (let home = home_by plan.now.mode plan.now.members
+        offer.hash (unwrap_or ticket 0) offer.frame.cpu queue present.old in
+        AreRefusals plan.now.members home (D.tried desk.new)) }
+    ensures err { OnErr result (present.new ≡ present.old) }
+    ensures same { TakesTheSame (D.takes desk.old) (D.takes desk.new) }
+    ensures follows { D.follows desk.old desk.new }
+{
+    let home = home(plan, *present, queue, &offer, ticket);
+    let earlier = tries.len();
+    let mut told = mem::replace(tries, TryList::new(alloc)).into_vec();
+    let made = make_tries(plan, desk, home, offer, &mut told);
+    *tries = TryList::from_vec(told);
+    made?;
+    let (_, route) = tries.as_slice().split_at(earlier);
+    *present = present_after(plan.mode(), *present, route);
+    Ok(())
+}
+
+/// The member that a packet is for first.
+fn home(plan: &Plan, present: u32, queue: u32, offer: &Offer, ticket: Option<u64>) -> u32
+    requires present { present < plan.now.members }
+    ensures home { result ≡ home_by plan.now.mode plan.now.members
+        offer.now.hash (unwrap_or ticket 0) offer.now.frame.cpu queue present }
+    ensures member { result < plan.now.members }
+{
+    let members = plan.members();
+    match plan.mode() {
+        Mode::Hash => offer.hash % members,
+        Mode::Lb => (ticket.unwrap_or(0) % u64::from(members)) as u32,
+        Mode::Cpu => offer.frame.cpu % members,
+        Mode::Qm => queue % members,
+        Mode::Rollover => present,
+    }
+}
+
+/// All tries of a packet whose home this is.
+fn make_tries<D: Desk>(
+    plan: &Plan,
+    desk: &mut D,
+    home: u32,
+    offer: Offer,
+    tries: &mut Vec<Try>,
+) -> Result<(), Memory>
+    requires home { home < plan.now.members }
+    requires fresh { D.tried desk.old ≡ [] }
+    requires takes { (member : ℕ) → member < plan.now.members → D.takes desk.old member offer }
+    ensures told { tries.new.items ≡ tries.old.items ++ D.tried desk.new }
+    ensures route { OnOk result
+        (IsRoute (rolls_over plan.now) plan.now.members home (D.tried desk.new)) }
+    ensures refusals { OnErr result (AreRefusals plan.now.members home (D.tried desk.new)) }
+    ensures same { TakesTheSame (D.takes desk.old) (D.takes desk.new) }
+    ensures follows { D.follows desk.old desk.new }
+{
+    if !plan.rolls_over() {
+        put_at(desk, home, offer, tries)?;
+        return Ok(());
+    }
+    if let Some(offer) = try_round(desk, plan.members(), home, offer, tries)? {
+        put_at(desk, home, offer, tries)?;
+    }
+    Ok(())
+}
+
+/// Tries each member once, from the home on round the group, until one keeps the packet.
+fn try_round<D: Desk>(
+    desk: &mut D,
+    members: u32,
+    home: u32,
+    offer: Offer,
+    tries: &mut Vec<Try>,
+) -> Result<Option<Offer>, Memory>
+    requires few { members ≤ 8 }
+    requires home { home < members }
+    requires fresh { D.tried desk.old ≡ [] }
+    requires takes { (member : ℕ) → member < members → D.takes desk.old member offer }
+    ensures told { tries.new.items ≡ tries.old.items ++ D.tried desk.new }
+    ensures kept { IfOk result (λ back. IfNone back
+        (IsKeptOnTheWay members home (D.tried desk.new))) }
+    ensures refused { IfOk result (λ back. IfSome back (λ _.
+        D.tried desk.new ≡ refused_from members home members)) }
+    ensures back { IfOk result (λ back. IfSome back (λ back. back ≡ offer)) }
+    ensures err { OnErr result (AreRefusals members home (D.tried desk.new)) }
+    ensures same { TakesTheSame (D.takes desk.old) (D.takes desk.new) }
+    ensures follows { D.follows desk.old desk.new }
+{
+    let mut member = home;
+    let mut offer = offer;
+    for _turn in 0..members {
+        match try_at(desk, member, offer, tries)? {
+            None => return Ok(None),
+            Some(back) => offer = back,
+        }
+        member = (member + 1) % members;
+    }
+    Ok(Some(offer))
+}
+
+/// The present member after the tries of an arrival: in mode `Rollover` the member of the last one.
+pub(crate) fn present_after(mode: Mode, present: u32, tries: &[Try]) -> u32
+    ensures { result ≡ present_after mode present tries.now }
+{
+    match (mode, tries.last()) {
+        (Mode::Rollover, Some(last)) => last.member,
+        _ => present,
+    }
+}

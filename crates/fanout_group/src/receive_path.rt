@@ -1,0 +1,204 @@
+//! The receive path of a CPU: from the frames of its capture to arrivals, and from the tries of an arrival to its log.
+ghost use Rattle.std.specs.Prelude.{◌≡◌, ◌<◌, ◌≤◌, ℕ, List, [], ◌∷◌, ◌++◌, None, Some, unwrap_or, All, IfOk, IfSome, OnErr, OnOk};
+ghost use Rattle.capture_file.specs.Laws.{IsCaptured};
+ghost use Rattle.fanout_group.specs.Arrivals.{HasPlaceOf, IsArrival, IsUntagged, arrival_at, held_after, held_behind, no_runt, whole_at};
+ghost use Rattle.fanout_group.specs.Desks.{TakesTheSame};
+ghost use Rattle.fanout_group.specs.Judging.{IsJudged, Lens, rules_by};
+ghost use Rattle.fanout_group.specs.Paths.{IsPath, IsPathBehind, IsPathTo, first_path, logged};
+ghost use Rattle.fanout_group.specs.Plans.{has_defrag};
+ghost use Rattle.fanout_group.specs.Routes.{IsRoute};
+ghost use Rattle.fanout_group.specs.Rules.{HasTicket, Rules, home_by};
+ghost use Rattle.frame_view.specs.declared.frames.Frame.{Frame};
+ghost use Rattle.ip_defrag.specs.Fold.{pass};
+
+use crate::{ArrivalList, ArrivalLog, Desk, Plan, deliver};
+use frame_view::{Frame, Memory, untag};
+use ip_defrag::Defrag;
+use ring_model::Offer;
+use std::alloc::Global;
+use std::marker::Model;
+
+/// The bytes of a link header; a frame with fewer is no arrival.
+const LINK_HEADER: usize = 14;
+
+/// The receive path of a CPU. Contracts see the fragments that it holds, the present member and the log so far.
+#[derive(Drop)]
+pub struct ReceivePath {
+    /// The shape of the group.
+    plan: Plan,
+    /// The fragments that are held, where the group is to put them together.
+    reassembly: Option<Defrag>,
+    /// The member that an arrival is for in mode `Rollover`.
+    present: u32,
+    /// The arrivals so far.
+    log: ArrivalList,
+}
+
+impl Model for ReceivePath {
+    ghost use Rattle.fanout_group.specs.Paths.{Path};
+
+    ghost Value = { Path };
+
+    ghost use Rattle.fanout_group.specs.PathsInside.{path_value, IsInGroup};
+
+    ghost view = { path_value };
+
+    ghost invariant = { IsInGroup };
+}
+
+impl ReceivePath {
+    /// The path before the first frame. It takes no memory.
+    pub fn new(alloc: Global, plan: Plan) -> ReceivePath
+        ensures path { result ≡ first_path plan }
+        ensures lawful { (rules : Rules) → IsPath rules [] result }
+    {
+        let reassembly = if plan.has_defrag() {
+            Some(Defrag::new(alloc))
+        } else {
+            None
+        };
+        ReceivePath {
+            plan,
+            reassembly,
+            present: 0,
+            log: ArrivalList::new(alloc),
+        }
+    }
+
+    /// Takes a frame of the CPU's capture, and gives what arrives at it: the frame itself, untagged, or with the flag
+    /// of defragmentation the datagram that it completed; nothing where that has fewer than 14 bytes, or where the
+    /// frame is held or given up. After `Memory` the path is unchanged, and the frame is dropped.
+    pub fn arrive(&mut self, frame: Frame) -> Result<Option<Frame>, Memory>
+        requires bare { frame.tag ≡ None }
+        requires captured { IsCaptured frame }
+        ensures arrival { IfOk result (λ arrival.
+            arrival ≡ arrival_at (has_defrag self.old.shape.flags) self.old.held frame) }
+        ensures held { OnOk result (self.new ≡ record self.old {
+          held = held_behind (has_defrag self.old.shape.flags) self.old.held frame;
+        }) }
+        ensures sound { IfOk result (λ arrival. IfSome arrival IsArrival) }
+        ensures place { IfOk result (λ arrival. IfSome arrival (HasPlaceOf frame)) }
+        ensures err { OnErr result (self.new ≡ self.old) }
+        ensures lawful { IfOk result (λ arrival. (rules : Rules) (frames : List Frame)
+            → IsPath rules frames self.old
+            → IsPathBehind rules (frames ++ frame ∷ []) arrival self.new) }
+    {
+        let mut frame = frame;
+        untag(&mut frame);
+        let whole = self.reassemble(frame)?;
+        Ok(without_runt(whole))
+    }
+
+    /// Passes an untagged frame through reassembly, where the group is to put fragments together.
+    fn reassemble(&mut self, frame: Frame) -> Result<Option<Frame>, Memory>
+        requires untagged { IsUntagged frame }
+        ensures whole { IfOk result (λ whole.
+            whole ≡ whole_at (has_defrag self.old.shape.flags) self.old.held frame) }
+        ensures held { OnOk result (self.new ≡ record self.old {
+          held = held_after (has_defrag self.old.shape.flags) self.old.held frame;
+        }) }
+        ensures sound { IfOk result (λ whole. IfSome whole IsUntagged) }
+        ensures place { IfOk result (λ whole. IfSome whole (HasPlaceOf frame)) }
+        ensures err { OnErr result (self.new ≡ self.old) }
+    {
+        match &mut self.reassembly {
+            Some(reassembly) => push(reassembly, frame),
+            None => Ok(Some(frame)),
+        }
+    }
+
+    /// Logs an arrival whose verdict is 0: no member is tried. After `Memory` the path is unchanged.
+    pub fn pass_over(&mut self, entry: ArrivalLog) -> Result<(), Memory>
+        requires none { entry.tries ≡ [] }
+        ensures ok { OnOk result (self.new ≡ logged entry self.old) }
+        ensures err { OnErr result (self.new ≡ self.old) }
+        ensures lawful { OnOk result
+            ((group : Lens) (room : ℕ) (frames : List Frame) (arrival : Frame)
+            → HasTicket self.old.shape.mode entry.ticket
+            → IsJudged group room arrival entry None
+            → IsPathTo (rules_by self.old.shape group) frames arrival self.old
+            → IsPath (rules_by self.old.shape group) frames self.new) }
+    {
+        self.log.push(entry)
+    }
+
+    /// Delivers the offer of an arrival, and logs the arrival with the tries that were made. After `Memory` the path is
+    /// unchanged.
+    pub fn deliver<D: Desk>(
+        &mut self,
+        alloc: Global,
+        desk: &mut D,
+        queue: u32,
+        entry: ArrivalLog,
+        offer: Offer,
+    ) -> Result<(), Memory>
+        requires ticket { HasTicket self.old.shape.mode entry.ticket }
+        requires none { entry.tries ≡ [] }
+        requires fresh { D.tried desk.old ≡ [] }
+        requires takes { (member : ℕ) → member < self.old.shape.members
+            → D.takes desk.old member offer }
+        ensures ok { OnOk result (self.new
+            ≡ logged (record entry { tries = D.tried desk.new }) self.old) }
+        ensures err { OnErr result (self.new ≡ self.old) }
+        ensures lawful { OnOk result
+            ((group : Lens) (room : ℕ) (frames : List Frame) (arrival : Frame)
+            → group.queue arrival.cpu ≡ queue
+            → IsJudged group room arrival entry (Some offer)
+            → IsPathTo (rules_by self.old.shape group) frames arrival self.old
+            → IsPath (rules_by self.old.shape group) frames self.new) }
+        ensures same { TakesTheSame (D.takes desk.old) (D.takes desk.new) }
+        ensures follows { D.follows desk.old desk.new }
+    {
+        let mut entry = entry;
+        let mut present = self.present;
+        let ticket = entry.ticket;
+        let tries = &mut entry.tries;
+        deliver(
+            alloc,
+            &self.plan,
+            desk,
+            &mut present,
+            queue,
+            offer,
+            ticket,
+            tries,
+        )?;
+        self.log.push(entry)?;
+        self.present = present;
+        Ok(())
+    }
+
+    /// The log.
+    pub fn into_log(self) -> ArrivalList
+        ensures { result ≡ self.log }
+    {
+        self.log
+    }
+}
+
+/// Passes an untagged frame through reassembly.
+fn push(reassembly: &mut Defrag, frame: Frame) -> Result<Option<Frame>, Memory>
+    requires untagged { IsUntagged frame }
+    requires all_untagged { All IsUntagged reassembly.old }
+    ensures whole { IfOk result (λ whole. whole ≡ (pass reassembly.old frame).whole) }
+    ensures held { OnOk result (reassembly.new ≡ (pass reassembly.old frame).held) }
+    ensures sound { IfOk result (λ whole. IfSome whole IsUntagged) }
+    ensures place { IfOk result (λ whole. IfSome whole (HasPlaceOf frame)) }
+    ensures all_untagged { All IsUntagged reassembly.new }
+    ensures err { OnErr result (reassembly.new ≡ reassembly.old) }
+{
+    match reassembly.push(frame) {
+        Ok(step) => Ok(step.whole),
+        Err(_) => Err(Memory),
+    }
+}
+
+/// What is left where a frame with fewer bytes than a link header falls.
+fn without_runt(frame: Option<Frame>) -> Option<Frame>
+    ensures { result ≡ no_runt frame }
+{
+    match frame {
+        Some(frame) if frame.bytes.len() >= LINK_HEADER => Some(frame),
+        _ => None,
+    }
+}

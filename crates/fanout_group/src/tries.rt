@@ -1,0 +1,75 @@
+//! One try at a desk, told in a list: room for it is asked for first, so that no try is made that isn't told.
+ghost use Rattle.std.specs.Prelude.{◌≡◌, ◌<◌, [], ◌∷◌, ◌++◌, length, vec_capacity, vec_len, IfOk, IfSome, OnErr};
+ghost use Rattle.fanout_group.specs.Desks.{TakesTheSame};
+ghost use Rattle.fanout_group.specs.Routes.{IsSettled, a_try};
+ghost use Rattle.fanout_group.specs.Telling.{Tells, SaysNothing, fate_by};
+
+use crate::{Desk, Fate, Try};
+use frame_view::Memory;
+use ring_model::{Offer, Put, Tried};
+
+/// Puts a try at the end of a list that has room for it.
+fn add(tries: &mut Vec<Try>, member: u32, fate: Fate)
+    requires room { vec_len tries.old < vec_capacity tries.old }
+    ensures { tries.new.items ≡ tries.old.items ++ a_try member fate ∷ [] }
+{
+    let _there_was_room = tries.push(Try { member, fate });
+}
+
+/// Tries to give an offer to a member; it comes back where the member refuses it.
+pub(crate) fn try_at<D: Desk>(
+    desk: &mut D,
+    member: u32,
+    offer: Offer,
+    tries: &mut Vec<Try>,
+) -> Result<Option<Offer>, Memory>
+    requires takes { D.takes desk.old member offer }
+    requires few { length (D.tried desk.old) < 9 }
+    ensures tells { IfOk result (λ back. Tells (a_try member (fate_by back))
+        tries.old.items tries.new.items (D.tried desk.old) (D.tried desk.new)) }
+    ensures back { IfOk result (λ back. IfSome back (λ back. back ≡ offer)) }
+    ensures err { OnErr result (SaysNothing
+        tries.old.items tries.new.items (D.tried desk.old) (D.tried desk.new)) }
+    ensures same { TakesTheSame (D.takes desk.old) (D.takes desk.new) }
+    ensures follows { D.follows desk.old desk.new }
+{
+    tries.reserve(1)?;
+    match desk.try_put(member, offer) {
+        Ok(Tried::Kept) => {
+            add(tries, member, Fate::Kept);
+            Ok(None)
+        }
+        Ok(Tried::Refused(offer)) => {
+            add(tries, member, Fate::Refused);
+            Ok(Some(offer))
+        }
+        Err(_) => Err(Memory),
+    }
+}
+
+/// Gives an offer to a member, which keeps it or drops it.
+pub(crate) fn put_at<D: Desk>(
+    desk: &mut D,
+    member: u32,
+    offer: Offer,
+    tries: &mut Vec<Try>,
+) -> Result<Fate, Memory>
+    requires takes { D.takes desk.old member offer }
+    requires few { length (D.tried desk.old) < 9 }
+    ensures tells { IfOk result (λ fate. Tells (a_try member fate)
+        tries.old.items tries.new.items (D.tried desk.old) (D.tried desk.new)) }
+    ensures settled { IfOk result (λ fate. IsSettled fate) }
+    ensures err { OnErr result (SaysNothing
+        tries.old.items tries.new.items (D.tried desk.old) (D.tried desk.new)) }
+    ensures same { TakesTheSame (D.takes desk.old) (D.takes desk.new) }
+    ensures follows { D.follows desk.old desk.new }
+{
+    tries.reserve(1)?;
+    let fate = match desk.put(member, offer) {
+        Ok(Put::Kept) => Fate::Kept,
+        Ok(Put::Dropped(_)) => Fate::Dropped,
+        Err(_) => return Err(Memory),
+    };
+    add(tries, member, fate);
+    Ok(fate)
+}

@@ -1,0 +1,33 @@
+use Rattle.std.proofs.Common.{ap, sym, ◌∙◌}
+use Rattle.text_lines.proofs.Readings.{reads_all, reads_fault, reads_more, reads_over}
+use Rattle.setup_text.specs.Drafts.{line_after, nothing_said}
+use Rattle.setup_text.specs.Setups.{at_line, draft_of}
+use Rattle.setup_text.proofs.setups.draft_of.Goals as goal
+use Rattle.setup_text.proofs.setups.draft_of.Goals.{then-not-is_passed_over+in_default-read, else-not-is_passed_over}
+
+pub returns : goal.returns
+unfolding draft_of
+returns c =
+    ap at_line (reads_all line_after nothing_said c.args.text.now c.loop-line.draft c.loop-line.number c.loop-line.rest.now c.loop-line.invariant c.in_default.ensures.line)
+
+pub returns-in-Err : goal.returns-in-Err
+unfolding draft_of
+returns-in-Err c = λ h.
+    ap at_line (reads_fault line_after nothing_said c.args.text.now c.loop-line.draft c.in-Err.kind c.loop-line.number c.loop-line.rest.now
+    c.in-Some.behind.now c.in-Some.line.now c.loop-line.invariant c.in-Some.ensures.line
+    (sym c.is_passed_over.ensures ∙ c.if-not-is_passed_over.true)
+    (c.in-Err.ensures h))
+
+pub loop-line-preserved : goal.loop-line-preserved
+loop-line-preserved c =
+    elim c.if-not-is_passed_over.branch [
+      | then-not-is_passed_over+in_default-read w ↦
+          rw w.draft-is
+          (reads_more line_after nothing_said c.args.text.now c.loop-line.draft _ c.loop-line.number c.loop-line.rest.now
+          c.in-Some.behind.now c.in-Some.line.now c.loop-line.invariant c.in-Some.ensures.line c.in-Some.ensures.shorter
+          (sym c.is_passed_over.ensures ∙ w.if-not-is_passed_over.true) w.in_default-read.ensures)
+      | else-not-is_passed_over w ↦ rw w.draft-is
+          (reads_over line_after nothing_said c.args.text.now c.loop-line.draft c.loop-line.number c.loop-line.rest.now
+          c.in-Some.behind.now c.in-Some.line.now c.loop-line.invariant c.in-Some.ensures.line c.in-Some.ensures.shorter
+          (sym c.is_passed_over.ensures ∙ w.if-not-is_passed_over.false))
+    ]

@@ -1,0 +1,36 @@
+use Rattle.std.proofs.Common.{ap, ◌∙◌, arith}
+use Rattle.std.proofs.lemmas.Result.{err_from_is_err_and}
+use Rattle.setup_text.specs.Setups.{at_end, completed, setup_of}
+use Rattle.setup_text.proofs.Accepted.{setup_sound}
+use Rattle.setup_text.proofs.Texts.{when_large, when_small}
+use Rattle.setup_text.proofs.setups.read_setup.Goals as goal
+
+pub returns-then-text-gt-LARGEST_TEXT-clause-right : goal.returns-then-text-gt-LARGEST_TEXT-clause-right
+unfolding setup_of
+returns-then-text-gt-LARGEST_TEXT-clause-right c = λ h. when_large c.args.text.now _ _ (omega arith)
+
+pub returns-in-Ok-clause-right : goal.returns-in-Ok-clause-right
+unfolding setup_of
+returns-in-Ok-clause-right c =
+    when_small c.args.text.now _ _ (omega arith)
+    ∙ ap (completed c.args.command) c.in_ok-draft.ensures
+    ∙ ap at_end c.in-Ok.ensures
+
+pub returns-in-Err-clause-right : goal.returns-in-Err-clause-right
+unfolding setup_of
+returns-in-Err-clause-right c = λ h.
+    when_small c.args.text.now _ _ (omega arith)
+    ∙ ap (completed c.args.command) c.in_ok-draft.ensures
+    ∙ ap at_end (c.in-Err.ensures h)
+
+pub returns-in_err-draft-clause-right : goal.returns-in_err-draft-clause-right
+unfolding setup_of
+returns-in_err-draft-clause-right c =
+    let p = err_from_is_err_and c.from_residual.result c.from_residual.ensures.1 in
+    rw (p.1, p.2) (λ h. when_small c.args.text.now _ _ (omega arith) ∙ ap (completed c.args.command) (c.in_err-draft.ensures h))
+
+pub returns-in-Ok-clause-sound : goal.returns-in-Ok-clause-sound
+unfolding setup_of
+returns-in-Ok-clause-sound c =
+    setup_sound c.args.text.now c.args.command c.in-Ok.setup
+    (when_small c.args.text.now _ _ (omega arith) ∙ ap (completed c.args.command) c.in_ok-draft.ensures ∙ ap at_end c.in-Ok.ensures)

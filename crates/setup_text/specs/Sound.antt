@@ -1,0 +1,44 @@
+-- What holds of every text that is accepted.
+use Rattle.std.specs.Prelude.{◌≡◌, ℕ, ◌<◌, ◌≤◌, List, [], ◌∷◌, length, is_some, All, None}
+use Rattle.fanout_group.specs.Plans.{fault_of}
+use Rattle.replay_model.specs.Reports.{AreAscending}
+use Rattle.replay_model.specs.declared.schedule.Line.{Line}
+use Rattle.replay_model.specs.declared.schedule.Line.TheVariants as line
+use Rattle.tp_layout.specs.Requests.{receive_fault}
+use Rattle.setup_text.specs.declared.cpu_setups.CpuSetup.{CpuSetup}
+use Rattle.setup_text.specs.declared.setups.Setup.{Setup}
+
+-- a CPU has a name of at most 255 bytes and a queue of 16 bits
+pub record IsCpu (cpu : CpuSetup) : Type 0 where
+  pub name : length cpu.file ≤ 255
+  pub queue : cpu.queue ≤ 65535
+
+-- a setup has 1 to 8 CPUs, a ring that can be had, and a group that there is
+pub record IsSetup (setup : Setup) : Type 0 where
+  pub some : 0 < length setup.cpus
+  pub few : length setup.cpus ≤ 8
+  pub cpus : All IsCpu setup.cpus
+  pub shape : setup.shape ≡ setup.request
+  pub ring : receive_fault setup.request ≡ None
+  pub group : fault_of setup.plan.members setup.plan.mode setup.plan.flags (is_some setup.key) ≡ None
+
+-- the moments rise or stand, in milliseconds, and each is a number of 32 bits
+abbrev pub AreRising : ℕ → List ℕ → Type 0
+AreRising before [] = Unit {0}
+AreRising before (moment ∷ moments) = (before ≤ moment) × (moment ≤ 4294967295) × AreRising moment moments
+
+pub record AreMoments (moments : List ℕ) : Type 0 where
+  pub rising : AreRising 0 moments
+  pub few : length moments ≤ 1048576
+
+-- a line names a CPU or a member that there is
+abbrev pub NamesOne : ℕ → ℕ → Line → Type 0
+NamesOne cpus members (line.Feed cpu) = cpu < cpus
+NamesOne cpus members (line.Read member) = member < members
+NamesOne cpus members (line.Tick ms) = Unit {0}
+NamesOne cpus members (line.Stats member) = member < members
+
+pub record IsScheduleFor (cpus members : ℕ) (lines : List Line) : Type 0 where
+  pub named : All (NamesOne cpus members) lines
+  pub ascending : AreAscending 0 lines
+  pub few : length lines ≤ 1048576

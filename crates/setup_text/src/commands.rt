@@ -1,0 +1,10 @@
+//! The commands that read a setup.
+
+/// What a setup is read for.
+#[derive(Clone, Copy, Debug, PartialEq, Eq)]
+pub enum Command {
+    /// The texts are read, and nothing is run.
+    Check,
+    /// The captures are replayed as a schedule says.
+    Replay,
+}

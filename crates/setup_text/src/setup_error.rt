@@ -1,0 +1,127 @@
+//! Why a setup is refused.
+ghost use Rattle.std.specs.Prelude.{◌≡◌};
+ghost use Rattle.setup_text.specs.KindWords.{kind_word, needed_word};
+ghost use Rattle.setup_text.specs.KeyFaults.{key_fault};
+ghost use Rattle.setup_text.specs.declared.setup_error.SetupKind.TheVariants.{Group, Memory, Request};
+
+use crate::setup_words::SetupWord;
+use fanout_group::PlanError;
+use flow_hash::KeyError;
+use tp_layout::RequestError;
+
+/// The first fault of a setup.
+#[derive(Clone, Copy, Debug, PartialEq, Eq)]
+pub struct SetupError {
+    /// The line, from 1; 0 where no line of its own is at fault.
+    pub line: u32,
+    /// What is wrong.
+    pub kind: SetupKind,
+}
+
+/// What is wrong with a setup. All of a line's faults come before those that the lines have together.
+#[derive(Clone, Copy, Debug, PartialEq, Eq)]
+pub enum SetupKind {
+    /// A byte that is neither printable ASCII nor space nor tab, a wrong number of values, or a ninth CPU.
+    BadLine,
+    /// A line that begins with no setup word, or a value that is none of the words that may stand there.
+    UnknownWord,
+    /// A setup word that stood before, or a flag that stood before.
+    Twice,
+    /// No number, a number out of its range, a name of more than 255 bytes, or no key or address.
+    BadNumber,
+    /// A line that is needed isn't there.
+    Missing(Needed),
+    /// The ring that is asked for can't be had.
+    Request(RequestError),
+    /// There is no such group.
+    Group(PlanError),
+    /// A text of more than 1,048,576 bytes.
+    TooLarge,
+    /// Want of memory.
+    Memory,
+}
+
+/// A line that each setup has, in the order in which they are missed.
+#[derive(Clone, Copy, Debug, PartialEq, Eq)]
+pub enum Needed {
+    /// The size of a block.
+    BlockSize,
+    /// The number of blocks.
+    BlockNr,
+    /// The size of a frame.
+    FrameSize,
+    /// The number of frames.
+    FrameNr,
+    /// A CPU with its capture.
+    Cpu,
+}
+
+impl SetupKind {
+    /// The word for the fault, as a program prints it. Behind `missing`, `request` and `group` the inner word follows.
+    pub fn word(&self) -> &'static str
+        ensures { result.now ≡ kind_word self.now }
+    {
+        match self {
+            SetupKind::BadLine => "bad_line",
+            SetupKind::UnknownWord => "unknown_word",
+            SetupKind::Twice => "twice",
+            SetupKind::BadNumber => "bad_number",
+            SetupKind::Missing(_) => "missing",
+            SetupKind::Request(_) => "request",
+            SetupKind::Group(_) => "group",
+            SetupKind::TooLarge => "too_large",
+            SetupKind::Memory => "memory",
+        }
+    }
+}
+
+impl Needed {
+    /// The setup word of the line that is missing.
+    pub fn word(&self) -> &'static str
+        ensures { result.now ≡ needed_word self.now }
+    {
+        let word = match self {
+            Needed::BlockSize => SetupWord::BlockSize,
+            Needed::BlockNr => SetupWord::BlockNr,
+            Needed::FrameSize => SetupWord::FrameSize,
+            Needed::FrameNr => SetupWord::FrameNr,
+            Needed::Cpu => SetupWord::Cpu,
+        };
+        word.name()
+    }
+}
+
+impl From<RequestError> for SetupKind {
+    ghost from_gives = { λ error kind. kind ≡ Request error };
+
+    fn from(error: RequestError) -> SetupKind {
+        SetupKind::Request(error)
+    }
+}
+
+impl From<KeyError> for SetupKind {
+    ghost from_gives = { λ error kind. kind ≡ key_fault error };
+
+    fn from(error: KeyError) -> SetupKind {
+        match error {
+            KeyError::NotHex | KeyError::WrongLength => SetupKind::BadNumber,
+            KeyError::Memory => SetupKind::Memory,
+        }
+    }
+}
+
+impl From<PlanError> for SetupKind {
+    ghost from_gives = { λ error kind. kind ≡ Group error };
+
+    fn from(error: PlanError) -> SetupKind {
+        SetupKind::Group(error)
+    }
+}
+
+impl From<frame_view::Memory> for SetupKind {
+    ghost from_gives = { λ _ kind. kind ≡ Memory };
+
+    fn from(_: frame_view::Memory) -> SetupKind {
+        SetupKind::Memory
+    }
+}

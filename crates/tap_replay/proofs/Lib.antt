@@ -1,0 +1,5 @@
+mod Growing
+mod Keeping
+mod Reading
+mod Holding
+mod Closing

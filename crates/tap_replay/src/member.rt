@@ -1,0 +1,162 @@
+//! A member: a ring of blocks, and the reader that takes them.
+//!
+//! Frames go into the ring's open block, and a full block is retired. A read takes the oldest retired block, copies its
+//! packets and gives it back. The close retires the open block, and then reads until no block waits.
+ghost use Rattle.std.specs.Prelude.{◌≡◌, IfOk};
+ghost use Rattle.replay_model.specs.Reported.{finished_ring};
+ghost use Rattle.ring_model.specs.Rings.{fresh};
+ghost use Rattle.tap_replay.specs.Reported.{member_of};
+ghost use Rattle.tp_layout.specs.Requests.{size_of};
+
+use crate::setting::Setting;
+use block_ring::{Producer, TickError};
+use frame_view::Memory;
+use reader_walk::{Reader, a_text_is_read_as_it_was_written};
+use replay_model::MemberRing;
+use ring_model::{Offer, Put, Stats, Tried};
+use ring_words::PlainRing;
+use setup_text::MemberReport;
+use std::alloc::Global;
+use std::marker::{Model, PhantomData};
+use tp_layout::{Block, Shape, blocks};
+
+/// So many notes a ring takes. No run has memory for as many.
+const MOST_NOTES: u64 = 1 << 39;
+
+/// A member. Contracts see its ring: its size, its notes, and how many blocks its reader has released.
+#[derive(Drop)]
+pub(crate) struct Member<K: Setting> {
+    /// The ring that frames go into.
+    producer: Producer<PlainRing<Block>>,
+    /// Its reader.
+    reader: Reader,
+    /// The number of notes.
+    noted: u64,
+    /// Whether a read wanted memory: the reader then holds a block, and no more is read.
+    stuck: bool,
+    /// The shape of the blocks, and whether their texts are kept, stand in the type.
+    of: PhantomData<K>,
+}
+
+impl<K: Setting> Model for Member<K> {
+    ghost use Rattle.ring_model.specs.Rings.{Ring};
+
+    ghost Value = { Ring };
+
+    ghost use Rattle.tap_replay.specs.Members.{IsMember, ring_of};
+
+    ghost view = { λ member. ring_of member.producer };
+
+    ghost invariant = { λ member. IsMember K.shape K.dumps (record {
+      producer = member.producer;
+      reader = member.reader;
+      noted = member.noted;
+      stuck = member.stuck;
+    }) };
+}
+
+impl<K: Setting> Member<K> {
+    /// A member with a new ring, whose block 1 is open.
+    pub(crate) fn new(alloc: Global, shape: &Shape, dump: bool) -> Result<Member<K>, Memory>
+        requires shape { shape.now ≡ K.shape }
+        requires dump { dump ≡ K.dumps }
+        ensures { IfOk result (λ member. member ≡ fresh (size_of shape.now)) }
+    {
+        let _size = shape.block_size();
+        let ring = PlainRing::new(alloc, blocks(alloc, shape)?)?;
+        Ok(Member {
+            producer: Producer::new(alloc, *shape, ring)?,
+            reader: Reader::new(alloc, *shape, dump),
+            noted: 0,
+            stuck: false,
+            of: PhantomData,
+        })
+    }
+
+    /// Closes the ring, and reads all blocks that still wait.
+    pub(crate) fn close(self) -> Result<MemberReport, Memory>
+        ensures { IfOk result (λ report. report ≡ member_of K.shape K.dumps (finished_ring self)) }
+    {
+        a_text_is_read_as_it_was_written();
+        if self.stuck {
+            return Err(Memory);
+        }
+        let (mut ring, notes) = self.producer.finish();
+        let mut reader = self.reader;
+        'waiting: while reader.step(&mut ring)? {}
+        let outputs = reader.outputs();
+        Ok(MemberReport {
+            notes,
+            walked: outputs.walked,
+            dump: outputs.dump,
+            blocks: outputs.blocks,
+        })
+    }
+}
+
+impl<K: Setting> MemberRing for Member<K> {
+    ghost ring = { λ member. member };
+
+    fn put(&mut self, offer: Offer) -> Result<Put, Memory> {
+        if self.noted >= MOST_NOTES {
+            return Err(Memory);
+        }
+        match self.producer.put(offer) {
+            Ok(put) => {
+                self.noted += 1;
+                Ok(put)
+            }
+            Err(_) => Err(Memory),
+        }
+    }
+
+    fn try_put(&mut self, offer: Offer) -> Result<Tried, Memory> {
+        if self.noted >= MOST_NOTES {
+            return Err(Memory);
+        }
+        match self.producer.try_put(offer) {
+            Ok(tried) => {
+                self.noted += 1;
+                Ok(tried)
+            }
+            Err(_) => Err(Memory),
+        }
+    }
+
+    fn tick(&mut self, ms: u64) -> Result<(), Memory> {
+        if self.noted >= MOST_NOTES {
+            return Err(Memory);
+        }
+        match self.producer.tick(ms) {
+            Ok(()) => {
+                self.noted += 1;
+                Ok(())
+            }
+            Err(TickError::Memory) => Err(Memory),
+            Err(TickError::Backwards(_)) => unreachable!(),
+        }
+    }
+
+    fn take_stats(&mut self) -> Result<Stats, Memory> {
+        if self.noted >= MOST_NOTES {
+            return Err(Memory);
+        }
+        let stats = self.producer.take_stats()?;
+        self.noted += 1;
+        Ok(stats)
+    }
+
+    fn read(&mut self) -> Result<(), Memory> {
+        a_text_is_read_as_it_was_written();
+        if self.stuck {
+            return Err(Memory);
+        }
+        match self.reader.step(&mut self.producer) {
+            Ok(_) => Ok(()),
+            Err(Memory) => {
+                self.stuck = true;
+                Err(Memory)
+            }
+        }
+    }
+}
