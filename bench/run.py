@@ -1,5 +1,6 @@
 #!/usr/bin/env python3
-"""Times `ringtap replay` on captures of 4 to 32 MiB, beside `tcpdump -r IN -w OUT` of the same file in the same run.
+"""Times `ringtap replay` on captures of 4 to 32 MiB, beside `tcpdump -r IN -w OUT` of the same file in the same run; then
+groups of several members and CPUs, with a filter, and with reassembly.
 
     bench/run.py [--sizes 4,8,16,32] [--runs 5] [PROGRAM]
 
@@ -10,7 +11,8 @@ that drops. Files are written below bench/work.
 Time is that from start to end, CPU that of the processor for user and system, each the least of some runs. Memory is the
 largest resident size; the system counts no less than this script's own, about 14 MiB.
 
-It ends with status 1 where a run fails, or where CPU time or memory grows by more than 2.2 times from 16 to 32 MiB.
+It ends with status 1 where a run fails, where CPU time or memory grows by more than 2.2 times from 16 to 32 MiB, or where
+memory grows by more than 256 bytes for each frame that a filter refuses.
 """
 import argparse
 import os
@@ -50,10 +52,51 @@ def make_capture(path, size, lengths):
     return count
 
 
-def write_setup(path, ring):
+def datagram(number, fragment=None):
+    """A UDP datagram of IPv4 with 1,000 bytes of data, of one of some thousand flows, or one of its two fragments."""
+    ports = struct.pack(">HHHH", 1024 + number % 4096, 53, 1000, 0)
+    data, offset, more = ports + bytes(992), 0, 0
+    if fragment is not None:
+        data, offset, more = (data[:504], 0, 1) if fragment == 0 else (data[504:], 63, 0)
+    head = struct.pack(">BBHHHBBH", 0x45, 0, 20 + len(data), number % 65536, offset + 0x2000 * more, 64, 17, 0)
+    link = bytes.fromhex("020000000002" "020000000001" "0800")
+    return link + head + struct.pack(">II", 0x0A000000 + number % 65521, 0x0A010001) + data
+
+
+def make_flows(path, size, kind):
+    """Writes a capture of UDP flows of at most so many bytes, and gives the number of its frames. Of `filter` every other frame is
+    no IPv4, of `defrag` half of the datagrams are two fragments each."""
+    left, number, count = size - 24, 0, 0
+    with open(path, "wb") as file:
+        file.write(struct.pack("<IHHiIII", 0xA1B2C3D4, 2, 4, 0, 0, 65535, 1))
+        while left >= 1100:
+            if kind == "defrag" and number % 2:
+                frames = [datagram(number, 0), datagram(number, 1)]
+            elif kind == "filter" and number % 2:
+                frames = [bytes(12) + b"\x08\x06" + bytes(1028)]
+            else:
+                frames = [datagram(number)]
+            for frame in frames:
+                file.write(struct.pack("<IIII", number // 100_000, number % 100_000 * 10, len(frame), len(frame)) + frame)
+                left -= 16 + len(frame)
+                count += 1
+            number += 1
+    return count
+
+
+KEY = "6d5a56da255b0ec24167253d43a38fb0d0ca2bcbae7b30b477cb2da38030f20c6a42b73bbeac01fa"
+PASSES_IP = "4\n40 0 0 12\n21 0 1 2048\n6 0 0 262144\n6 0 0 0\n"
+GROUPS = {
+    "hash": f"members 4\nmode hash\nkey {KEY}\nfeatures 1\n",
+    "filter": "filter pass.ddd\n",
+    "defrag": f"members 4\nmode hash\nkey {KEY}\nflag defrag\n",
+}
+
+
+def write_setup(path, ring, cpus=1, more=""):
     with open(path, "w", encoding="ascii", newline="") as file:
         file.writelines(f"{word} {number}\n" for word, number in ring.items())
-        file.write("cpu in.pcap\n")
+        file.write("cpu in.pcap\n" * cpus + more)
 
 
 def measure(words, runs):
@@ -124,8 +167,50 @@ def main():
                     f" | {memory / MIB:.0f} | {ratio} |",
                     flush=True,
                 )
+    groups, kinds = times_of_groups(program, asked), memory_of_refused(program, asked)
     shutil.rmtree(WORK)
-    sys.exit(1 if grows(found) else 0)
+    sys.exit(1 if grows({**found, **groups}) or kinds else 0)
+
+
+def times_of_groups(program, asked):
+    """Prints the table of groups, and gives their CPU times and memory."""
+    print("\n| Group | MiB | CPUs | Frames | Time, s | CPU, s | MiB/s | Memory, MiB |")
+    print("|---|---|---|---|---|---|---|---|")
+    with open("pass.ddd", "w", encoding="ascii") as file:
+        file.write(PASSES_IP)
+    found = {}
+    runs = [(kind, size, 1) for kind in GROUPS for size in map(int, asked.sizes.split(","))]
+    for kind, size, cpus in runs + [("hash", 4, cpus) for cpus in (1, 2, 4, 8)]:
+        count = make_flows("in.pcap", size * MIB, kind)
+        write_setup("conf", RINGS["keeps"], cpus, GROUPS[kind])
+        taken, cpu, memory, printed = measure([program, "replay", "conf", "sched"], asked.runs)
+        if cpus == 1:
+            found[kind, size, "group"] = cpu, memory
+        kept, drops = total_of(printed)
+        if drops or not kept:
+            sys.exit(f"{kind}: {kept} kept, {drops} dropped")
+        print(
+            f"| {kind} | {size * cpus} | {cpus} | {count * cpus:,} | {taken:.3f} | {cpu:.3f} | {size * cpus / taken:.0f}"
+            f" | {memory / MIB:.0f} |",
+            flush=True,
+        )
+    return found
+
+
+def memory_of_refused(program, asked):
+    """Prints how memory grows where a filter refuses every frame, and gives whether it grows too much."""
+    with open("refuse.ddd", "w", encoding="ascii") as file:
+        file.write("1\n6 0 0 0\n")
+    write_setup("conf", RINGS["drops"], more="filter refuse.ddd\n")
+    seen = []
+    for size in (8, 32):
+        count = make_capture("in.pcap", size * MIB, FRAMES["1514"])
+        _, _, memory, _ = measure([program, "replay", "conf", "sched"], asked.runs)
+        seen.append((count, memory))
+    (few, small), (many, large) = seen
+    each = (large - small) / (many - few)
+    print(f"\nfilter that refuses all, from 8 to 32 MiB: {small / MIB:.1f} to {large / MIB:.1f} MiB, {each:.0f} bytes a frame")
+    return each > 256
 
 
 def grows(found):

@@ -1,27 +1,30 @@
 #!/usr/bin/env python3
 """What `ringtap replay` has to print and to save, worked out a second time and apart from its code.
 
-    by_hand.py SETUP SCHEDULE [OUTPUT]      prints the lines, and writes the output file where one is named
+    by_hand.py SETUP SCHEDULE [FOLDER]      prints the lines, and writes the files that are saved below a folder
     by_hand.py --frames CAPTURE             prints a line for each frame: its time, both lengths and its bytes
     by_hand.py --demo                       writes demo/expected anew
 
-It follows docs/formats.md and docs/definitions.md with lists and slices. Paths in a setup count from the folder in which
-this is run, as they do for ringtap.
+It follows docs/formats.md, docs/setup.md and docs/definitions.md with lists and slices, for texts that are accepted. Paths
+in a setup count from the folder in which this is run, as they do for ringtap.
 """
 import os
 import struct
 import sys
 from collections import namedtuple
 
+import filter_verdicts
+
 LARGEST_CAPTURE = 33_554_432
 LARGEST_RECORD = 262_144
 DESCRIPTOR = 48  # the bytes of a block that are for its descriptor
 HEADER = 82  # the bytes of a packet in front of its data
 
-Frame = namedtuple("Frame", "sec nsec wire bytes tag")
+Frame = namedtuple("Frame", "cpu index sec nsec wire bytes tag")
+Offer = namedtuple("Offer", "frame snap hash pkttype")
 
 
-def frames_of(data):
+def frames_of(data, cpu=0):
     """The frames of a pcap capture, and the word for how it ends."""
     if len(data) < 24:
         return [], "truncated 0"
@@ -44,7 +47,7 @@ def frames_of(data):
         if place + 16 + captured > len(counted):
             break
         kept = counted[place + 16 : place + 16 + captured]
-        frames.append(Frame(sec, min(fraction * unit, 999_999_999), max(captured, original), kept, None))
+        frames.append(Frame(cpu, len(frames), sec, min(fraction * unit, 999_999_999), max(captured, original), kept, None))
         place += 16 + captured
     if len(data) > LARGEST_CAPTURE:
         return frames, f"too_large {LARGEST_CAPTURE}"
@@ -58,76 +61,344 @@ def untagged(frame):
     return frame
 
 
-def arrivals_of(frames):
-    return [frame for frame in map(untagged, frames) if len(frame.bytes) >= 14]
-
-
 def need_of(size):
     return -(-(HEADER + size) // 8) * 8
 
 
+def number(data, place, size):
+    return int.from_bytes(data[place : place + size], "big")
+
+
+def protocol_of(data):
+    kind = number(data, 12, 2)
+    return kind if kind >= 0x0600 else 1 if data[14:16] == b"\xff\xff" else 4
+
+
+def pkttype_of(data, own):
+    to = data[:6]
+    return 1 if to == b"\xff" * 6 else 2 if to[0] & 1 else 0 if own is None or own == to else 3
+
+
+def v4_of(data):
+    """Of a frame with a whole IPv4 header: header length, total length, identification, more bit, offset, protocol."""
+    if number(data, 12, 2) != 0x0800 or len(data) < 34 or data[14] >> 4 != 4:
+        return None
+    header, total = 4 * (data[14] & 15), number(data, 16, 2)
+    if header < 20 or len(data) < 14 + header or total < header:
+        return None
+    flags = number(data, 20, 2)
+    return header, total, number(data, 18, 2), bool(flags & 0x2000), flags & 0x1FFF, data[23]
+
+
+def flow_input(data):
+    """Both addresses and, where they are there, both ports, the smaller end first; nothing of what isn't IP."""
+    v4 = v4_of(data)
+    if v4:
+        header, _, _, more, offset, kind = v4
+        near, far, behind = data[26:30], data[30:34], 14 + header
+        has_ports = kind in (6, 17) and not more and offset == 0 and len(data) >= behind + 4
+    elif number(data, 12, 2) == 0x86DD and len(data) >= 54 and data[14] >> 4 == 6:
+        near, far, behind = data[22:38], data[38:54], 54
+        has_ports = data[20] in (6, 17) and len(data) >= 58
+    else:
+        return b""
+    ports = (data[behind : behind + 2], data[behind + 2 : behind + 4]) if has_ports else (b"", b"")
+    near, far = sorted([(near, ports[0]), (far, ports[1])])
+    return near[0] + far[0] + near[1] + far[1]
+
+
+def flow_hash(key, data):
+    """For each set bit of the input the 32 bits of the key from its place on."""
+    given, result = flow_input(data), 0
+    for place in range(8 * len(given)):
+        if given[place // 8] >> (7 - place % 8) & 1:
+            result ^= int.from_bytes(key, "big") >> (320 - 32 - place) & 0xFFFFFFFF
+    return result
+
+
+class Reassembly:
+    """The fragments that are held, in the order in which they came."""
+
+    def __init__(self):
+        self.held = []
+
+    def push(self, frame):
+        part = self.part_of(frame)
+        if part is None:
+            return frame
+        name, start, end, last, data = part
+        for other in {other[0] for other in self.held}:
+            if next(f.sec for n, *_, f in self.held if n == other) + 30 <= frame.sec:
+                self.lose(other)
+        names = list(dict.fromkeys(other[0] for other in self.held))
+        if name not in names and len(names) == 64:
+            self.lose(names[0])
+        mates = [other for other in self.held if other[0] == name]
+        if any(other[1:5] == (start, end, last, data) for other in mates):
+            return None
+        for _, begin, stop, ends, *_ in mates:
+            if begin < end and start < stop or ends and end > stop or last and (ends and stop != end or stop > end):
+                self.lose(name)
+                return None
+        self.held.append((name, start, end, last, data, frame))
+        mates.append(self.held[-1])
+        stops = [stop for _, _, stop, ends, *_ in mates if ends]
+        if not stops or sum(stop - begin for _, begin, stop, *_ in mates) != stops[0]:
+            return None
+        self.lose(name)
+        return self.whole(sorted(mates, key=lambda mate: mate[1]), frame)
+
+    def lose(self, name):
+        self.held = [other for other in self.held if other[0] != name]
+
+    @staticmethod
+    def part_of(frame):
+        data = frame.bytes
+        v4 = v4_of(data) if len(data) >= 14 else None
+        if not v4:
+            return None
+        header, total, ident, more, offset, kind = v4
+        length, start = total - header, 8 * offset
+        if not (more or offset) or len(data) < 14 + total or length == 0 or more and length % 8 or start + length > 65_475:
+            return None
+        return (data[26:34], kind, ident), start, start + length, not more, data[14 + header : 14 + total]
+
+    @staticmethod
+    def whole(mates, frame):
+        first = mates[0][5]
+        header = v4_of(first.bytes)[0]
+        head = bytearray(first.bytes[: 14 + header])
+        data = b"".join(mate[4] for mate in mates)
+        head[16:18] = (header + len(data)).to_bytes(2, "big")
+        head[20:22] = (number(head, 20, 2) & 0xC000).to_bytes(2, "big")
+        head[24:26] = b"\0\0"
+        total = sum(number(head, place, 2) for place in range(14, 14 + header, 2))
+        while total > 0xFFFF:
+            total = (total & 0xFFFF) + (total >> 16)
+        head[24:26] = (total ^ 0xFFFF).to_bytes(2, "big")
+        data = bytes(head) + data
+        return frame._replace(bytes=data, wire=len(data), tag=first.tag)
+
+
 class Ring:
-    """The ring with its reader: retired blocks, the open one (None where the ring is frozen), and what was released."""
+    """The ring with its reader: retired blocks with their status, the open one (None where the ring is frozen), how many
+    were released, the clock, the deadline, and the statistics since they were last taken."""
 
-    def __init__(self, block_size, block_nr):
-        self.room, self.count = block_size - DESCRIPTOR, block_nr
+    def __init__(self, setup):
+        self.setup, self.room, self.count = setup, setup.room, setup.block_nr
         self.done, self.open, self.released = [], [], 0
-        self.drops = self.freezes = 0
+        self.clock, self.deadline = 0, setup.tov
+        self.kept = self.drops = self.freezes = 0
+        self.taken, self.sums = [], [0, 0, 0]
 
-    def put(self, frame):
-        packet = frame._replace(bytes=frame.bytes[: self.room - HEADER])
-        if self.open is not None and sum(need_of(len(p.bytes)) for p in [*self.open, packet]) <= self.room:
-            self.open.append(packet)
-            return
+    def fits(self, offer):
+        return self.open is not None and sum(need_of(o.snap) for o in [*self.open, offer]) <= self.room
+
+    def held(self, retired):
+        return len(self.done) + retired + 1 - self.count > self.released
+
+    def retire(self, by_time=False):
+        self.done.append((1 + 32 * by_time + 4 * (self.drops > 0), self.open))
+
+    def try_put(self, offer):
+        if not self.fits(offer) and self.held(self.open is not None):
+            return False
+        self.put(offer)
+        return True
+
+    def put(self, offer):
+        """Whether the packet is kept."""
+        if self.fits(offer):
+            self.open.append(offer)
+            self.kept += 1
+            return True
         was_open = self.open is not None
         if was_open:
-            self.done.append(self.open)
-        if len(self.done) + 1 - self.count > self.released:
+            self.retire()
+        if self.held(False):
             self.open = None
             self.drops += 1
             self.freezes += was_open
+            return False
+        self.open = [offer]
+        self.kept += 1
+        self.deadline = self.clock + self.setup.tov
+        return True
+
+    def tick(self, moment):
+        self.clock = moment
+        if moment < self.deadline:
+            return
+        self.deadline = moment + self.setup.tov
+        if self.open == []:
+            return
+        was_open = self.open is not None
+        if was_open:
+            self.retire(by_time=True)
+        if not self.held(False):
+            self.open = []
         else:
-            self.open = [packet]
+            self.open = None
+            self.freezes += was_open
+
+    def count_now(self):
+        now = [self.kept + self.drops, self.drops, self.freezes]
+        self.sums = [a + b for a, b in zip(self.sums, now)]
+        self.kept = self.drops = self.freezes = 0
+        return now
 
     def read(self):
         self.released += self.released < len(self.done)
 
     def close(self):
         if self.open:
-            self.done.append(self.open)
+            self.retire()
+
+    def offers(self):
+        return [offer for _, offers in self.done for offer in offers]
+
+    def dump(self):
+        return b"".join(self.text(at + 1, *block) for at, block in enumerate(self.done))
+
+    def text(self, place, status, offers):
+        first = 48 + (self.setup.priv + 7) // 8 * 8
+        packets = []
+        for at, offer in enumerate(offers):
+            frame, need = offer.frame, need_of(offer.snap)
+            tpid, tci = (number(frame.tag, 0, 2), number(frame.tag, 2, 2)) if frame.tag else (0, 0)
+            head = struct.pack(
+                "<IIIIIIHHIIHH8x",
+                need if at + 1 < len(offers) else 0, frame.sec, frame.nsec, offer.snap, frame.wire, 81 if frame.tag else 1,
+                82, 96, offer.hash if self.setup.features else 0, tci, tpid, 0,
+            )
+            link = struct.pack("<H", 17) + struct.pack(">H", protocol_of(frame.bytes)) + struct.pack("<IHBB", 1, 1, offer.pkttype, 6)
+            packets.append((head + link + frame.bytes[6:12] + bytes(2 + 14) + frame.bytes[: offer.snap]).ljust(need, b"\0"))
+        begin, end = offers[0].frame, offers[-1].frame
+        size = first + sum(map(len, packets))
+        descriptor = struct.pack(
+            "<IIIIIIQIIII", 2, 48, status, len(offers), first, size, place, begin.sec, begin.nsec, end.sec, end.nsec
+        )
+        return descriptor.ljust(first, b"\0") + b"".join(packets)
 
 
-def setup_of(text):
-    """The numbers and the capture's name of a setup's five lines."""
-    fields = dict(line.split(" ") for line in text.splitlines())
-    return int(fields["block_size"]), int(fields["block_nr"]), fields["cpu"]
+class Setup:
+    """What an accepted setup says."""
+
+    def __init__(self, text):
+        fields, self.cpus, self.flags = {}, [], set()
+        for line in text.splitlines():
+            word, *values = line.split() or ["#"]
+            if word == "cpu":
+                self.cpus.append((values[0], int(values[1]) if len(values) > 1 else len(self.cpus)))
+            elif word == "flag":
+                self.flags.add(values[0])
+            elif not word.startswith("#"):
+                fields[word] = values[0]
+        self.block_size, self.block_nr = int(fields["block_size"]), int(fields["block_nr"])
+        self.priv, self.features = int(fields.get("priv", 0)), int(fields.get("features", 0))
+        self.tov = int(fields.get("tov", 0)) or 8
+        self.room = self.block_size - DESCRIPTOR - (self.priv + 7) // 8 * 8
+        self.members, self.mode = int(fields.get("members", 1)), fields.get("mode", "cpu")
+        self.key = bytes.fromhex(fields["key"]) if "key" in fields else None
+        self.mac = bytes.fromhex(fields["mac"]) if "mac" in fields else None
+        self.filter, self.prefix, self.dump = fields.get("filter"), fields.get("out", "out"), "dump" in fields
 
 
-def replay(setup, schedule, data):
-    """The printed lines, the packets that are kept, and the frames of the capture."""
-    block_size, block_nr, _ = setup
-    frames, end = frames_of(data)
-    ring, at = Ring(block_size, block_nr), 0
-    for line in schedule.splitlines():
-        if line == "feed 0":
-            for frame in arrivals_of(frames[at : at + 1]):
-                ring.put(frame)
-            at += 1
-        elif line == "read 0":
-            ring.read()
+class Replay:
+    """A run: its CPUs with what waits, its rings, and what was logged."""
+
+    def __init__(self, setup, captures, program):
+        self.setup, self.program, self.ticket = setup, program, 0
+        self.rings = [Ring(setup) for _ in range(setup.members)]
+        read = [frames_of(data, cpu) for cpu, data in enumerate(captures)]
+        self.frames, self.ends = [frames for frames, _ in read], [end for _, end in read]
+        self.waiting = [list(frames) for frames in self.frames]
+        self.held = [Reassembly() for _ in captures]
+        self.present, self.verdicts = [0] * len(captures), [[] for _ in captures]
+
+    def feed(self, cpu):
+        if not self.waiting[cpu]:
+            return
+        frame = untagged(self.waiting[cpu].pop(0))
+        if "defrag" in self.setup.flags:
+            frame = self.held[cpu].push(frame)
+        if frame is not None and len(frame.bytes) >= 14:
+            self.arrive(cpu, frame)
+
+    def arrive(self, cpu, frame):
+        setup, queue = self.setup, self.setup.cpus[cpu][1]
+        ticket, self.ticket = self.ticket, self.ticket + 1
+        hashed = flow_hash(setup.key, frame.bytes) if setup.key else 0
+        pkttype = pkttype_of(frame.bytes, setup.mac)
+        facts = {0: protocol_of(frame.bytes), 4: pkttype, 8: 1, 24: queue, 28: 1, 32: hashed, 36: cpu}
+        packet = filter_verdicts.Packet(frame.bytes, frame.wire, facts)
+        verdict = filter_verdicts.verdict(self.program, packet) if self.program else 0xFFFFFFFF
+        self.verdicts[cpu].append(verdict)
+        if verdict == 0:
+            return
+        offer = Offer(frame, min(len(frame.bytes), verdict, setup.room - HEADER), hashed, pkttype)
+        homes = {"hash": hashed, "lb": ticket, "cpu": cpu, "qm": queue}
+        home = self.present[cpu] if setup.mode == "rollover" else homes[setup.mode] % setup.members
+        if setup.mode == "rollover" or "rollover" in setup.flags:
+            for step in range(setup.members):
+                member = (home + step) % setup.members
+                if self.rings[member].try_put(offer):
+                    self.present[cpu] = member
+                    return
+        self.rings[home].put(offer)
+
+    def line(self, word, value):
+        if word == "feed":
+            self.feed(value)
+        elif word == "read":
+            self.rings[value].read()
+        elif word == "tick":
+            for ring in self.rings:
+                ring.tick(value)
         else:
-            raise ValueError(line)
-    for frame in arrivals_of(frames[at:]):
-        ring.put(frame)
-    ring.close()
-    kept = [packet for block in ring.done for packet in block]
-    arrivals = len(arrivals_of(frames))
-    lines = [
-        f"cpu 0 frames {len(frames)} arrivals {arrivals} end {end}",
-        f"member 0 packets {len(kept) + ring.drops} drops {ring.drops} freezes {ring.freezes} blocks {len(ring.done)}",
-        f"total arrivals {arrivals} filtered 0 kept {len(kept)} drops {ring.drops}",
-    ]
-    return "".join(line + "\n" for line in lines), kept, frames
+            self.rings[value].taken.append(self.rings[value].count_now())
+
+    def finish(self):
+        for cpu, waiting in enumerate(self.waiting):
+            while waiting:
+                self.feed(cpu)
+        for ring in self.rings:
+            ring.close()
+            ring.count_now()
+
+    def lines(self):
+        for cpu, verdicts in enumerate(self.verdicts):
+            yield f"cpu {cpu} frames {len(self.frames[cpu])} arrivals {len(verdicts)} end {self.ends[cpu]}\n"
+        for member, ring in enumerate(self.rings):
+            stats = "packets {} drops {} freezes {}"
+            yield f"member {member} {stats.format(*ring.sums)} blocks {len(ring.done)}\n"
+            for taken in ring.taken:
+                yield f"count {member} {stats.format(*taken)}\n"
+        verdicts = [verdict for cpu in self.verdicts for verdict in cpu]
+        drops = sum(ring.sums[1] for ring in self.rings)
+        kept = sum(ring.sums[0] for ring in self.rings) - drops
+        yield f"total arrivals {len(verdicts)} filtered {verdicts.count(0)} kept {kept} drops {drops}\n"
+
+    def files(self):
+        """The files that are saved, by their names."""
+        saved = {}
+        for member, ring in enumerate(self.rings):
+            packets = [o.frame._replace(bytes=o.frame.bytes[: o.snap]) for o in ring.offers()]
+            saved[f"{self.setup.prefix}.{member}.pcap"] = output_of(packets)
+            if self.setup.dump:
+                saved[f"{self.setup.prefix}.{member}.blk"] = ring.dump()
+        return saved
+
+
+def replay(setup, schedule, captures, program=None):
+    """The printed lines and the files of a run. Words behind a `#` in front are comments."""
+    run = Replay(setup, captures, program)
+    for line in schedule.splitlines():
+        word, *values = line.split() or ["#"]
+        if not word.startswith("#"):
+            run.line(word, int(values[0]))
+    run.finish()
+    return "".join(run.lines()), run.files()
 
 
 def output_of(packets):
@@ -154,20 +425,25 @@ def bytes_of(path):
 
 
 def run(setup_path, schedule_path):
-    """The printed lines and the output file of two texts."""
-    setup = setup_of(text_of(setup_path))
-    lines, kept, _ = replay(setup, text_of(schedule_path), bytes_of(setup[2]))
-    return lines, output_of(kept)
+    """The printed lines and the files of two texts."""
+    setup = Setup(text_of(setup_path))
+    program = filter_verdicts.program(text_of(setup.filter)) if setup.filter else None
+    return replay(setup, text_of(schedule_path), [bytes_of(file) for file, _ in setup.cpus], program)
+
+
+def save(folder, files):
+    for name, data in files.items():
+        with open(os.path.join(folder, name), "wb") as file:
+            file.write(data)
 
 
 def make_demo():
     os.chdir(os.path.join(os.path.dirname(os.path.abspath(__file__)), ".."))
-    for name in ("setup", "small"):
-        lines, output = run(f"demo/{name}.txt", "demo/schedule.txt")
-        with open(f"demo/expected/{name}.txt", "w", encoding="ascii", newline="") as file:
-            file.write(lines)
-        with open(f"demo/expected/{name}.pcap", "wb") as file:
-            file.write(output)
+    for name in ("setup", "small", "group"):
+        lines, files = run(f"demo/{name}.txt", "demo/group.sched" if name == "group" else "demo/schedule.txt")
+        folder = os.path.join("demo/expected", name)
+        os.makedirs(folder, exist_ok=True)
+        save(folder, {**files, "lines.txt": lines.encode()})
 
 
 def main(words):
@@ -177,11 +453,10 @@ def main(words):
         for frame in frames_of(bytes_of(words[1]))[0]:
             print(f"{frame.sec}.{frame.nsec:09} {len(frame.bytes)} {frame.wire} {frame.bytes.hex()}")
     elif len(words) in (2, 3):
-        lines, output = run(words[0], words[1])
+        lines, files = run(words[0], words[1])
         sys.stdout.write(lines)
         if len(words) == 3:
-            with open(words[2], "wb") as file:
-                file.write(output)
+            save(words[2], files)
     else:
         sys.exit(__doc__)
 

@@ -8,22 +8,32 @@ make_room
 
 cp -r demo "$room/demo"
 cd "$room" || exit 1
-for name in setup small; do
+
+# The files of a folder are those that are expected, and no others.
+same() {
+    diff -r "$1" "demo/expected/$2" >differs.txt || wrong "$2: $3: $(head -3 differs.txt)"
+}
+
+for name in setup small group; do
+    schedule=demo/schedule.txt
+    [ "$name" != group ] || schedule=demo/group.sched
     for program in "${programs[@]}"; do
-        rm -f out.0.pcap
-        "$program" replay "demo/$name.txt" demo/schedule.txt >lines.txt
+        rm -rf made && mkdir made
+        "$program" check "demo/$name.txt" >checked.txt || wrong "$name isn't accepted"
+        [ "$(cat checked.txt)" = ok ] || wrong "$name: check printed '$(cat checked.txt)'"
+        "$program" replay "demo/$name.txt" "$schedule" >made/lines.txt
         status=$?
         [ "$status" -eq 0 ] || wrong "$name ended with status $status"
-        cmp lines.txt "demo/expected/$name.txt" || wrong "$name printed other lines"
-        cmp out.0.pcap "demo/expected/$name.pcap" || wrong "$name saved another file"
+        for file in out.* group.*; do
+            [ ! -e "$file" ] || mv "$file" made
+        done
+        same made "$name" 'the program gives something else'
     done
+    if command -v python3 >/dev/null; then
+        rm -rf by_hand && mkdir by_hand
+        python3 -B "$top/checks/by_hand.py" "demo/$name.txt" "$schedule" by_hand >lines.txt
+        mv lines.txt by_hand
+        same by_hand "$name" 'by_hand.py gives something else'
+    fi
 done
-
-if command -v python3 >/dev/null; then
-    for name in setup small; do
-        python3 -B "$top/checks/by_hand.py" "demo/$name.txt" demo/schedule.txt by_hand.pcap >by_hand.txt
-        cmp by_hand.txt "demo/expected/$name.txt" || wrong "by_hand.py gives other lines for $name"
-        cmp by_hand.pcap "demo/expected/$name.pcap" || wrong "by_hand.py gives another file for $name"
-    done
-fi
 exit "$failed"

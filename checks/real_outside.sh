@@ -79,11 +79,16 @@ texts() {
         [ ! -e out.0.pcap ] || wrong "'$name': a run was made"
     done
     fresh
-    expect '/dev/zero as the setup' 8 'not built: setup' replay /dev/zero sched
-    expect '/dev/zero as the schedule' 8 'not built: schedule' replay conf /dev/zero
-    expect '/dev/null as the setup' 8 'not built: setup' replay /dev/null sched
-    printf 'tick 1\n' >ticks
-    expect 'a schedule that ticks' 8 'not built: schedule' replay conf ticks
+    expect '/dev/zero as the setup' 2 'setup line 0: too_large' replay /dev/zero sched
+    expect '/dev/zero as the schedule' 3 'schedule line 0: too_large' replay conf /dev/zero
+    expect '/dev/null as the setup' 2 'setup line 0: missing block_size' replay /dev/null sched
+    printf 'tick 2\ntick 1\n' >ticks
+    expect 'a schedule that ticks back' 3 'schedule line 2: not_ascending' replay conf ticks
+    expect 'a setup that is checked' 0 ok check conf
+    { cat conf && printf 'filter none\n'; } >filtered
+    expect 'a filter that is not there' 5 'read fault' check filtered
+    { cat conf && printf 'out none/out\n'; } >elsewhere
+    expect 'an output folder that is not there' 6 - replay elsewhere sched
     expect '/dev/null as the schedule' 0 - replay conf /dev/null
 }
 
@@ -141,7 +146,7 @@ saving_and_printing() {
     exec 4>&-
     for line in 'replay conf sched' 'replay none sched' 'replay conf ticks' 'no command'; do
         fresh
-        printf 'tick 1\n' >ticks
+        printf 'tick 2\ntick 1\n' >ticks
         # shellcheck disable=SC2086
         timeout 60 "${as_nobody[@]}" "$room/ringtap" $line >/dev/full 2>"$room/complained"
         check "$line, standard output full" 6 $?

@@ -1,5 +1,5 @@
 #!/usr/bin/env python3
-"""Replays made captures with a program, and compares its status, lines and file with those of by_hand.py.
+"""Replays made captures with a program, and compares its status, lines and files with those of by_hand.py.
 
     replays.py PROGRAM
 
@@ -13,6 +13,7 @@ import sys
 import tempfile
 
 import by_hand
+import filter_verdicts
 
 SIZES = [(4096, 2, 2048, 4), (4096, 3, 128, 96), (8192, 2, 2048, 8), (65536, 4, 2048, 128)]
 
@@ -106,43 +107,122 @@ def random_capture(numbers):
     return data[: numbers.randrange(len(data))] if numbers.random() < 0.2 else data
 
 
-def random_schedule(numbers):
-    lines = ["feed 0\n", "read 0\n"]
-    reads = numbers.choice([0.05, 0.2, 0.5])
-    return "".join(lines[numbers.random() < reads] for _ in range(numbers.randrange(120)))
+def random_schedule(numbers, cpus=1, members=1):
+    reads, clock, lines = numbers.choice([0.05, 0.2, 0.5]), 0, []
+    for _ in range(numbers.randrange(160)):
+        chance = numbers.random()
+        if chance < reads:
+            lines.append(f"read {numbers.randrange(members)}\n")
+        elif chance < reads + 0.1 and members > 1:
+            clock += numbers.randrange(6)
+            lines.append(numbers.choice([f"tick {clock}\n", f"stats {numbers.randrange(members)}\n"]))
+        else:
+            lines.append(f"feed {numbers.randrange(cpus)}\n")
+    return "".join(lines)
+
+
+def datagram(numbers):
+    """A UDP datagram of IPv4, whole or in fragments, which may be out of order, lost, doubled or overlapping."""
+    addresses = bytes([10, 0, 0, numbers.randrange(1, 4), 10, 0, 0, numbers.randrange(1, 4)])
+    data = struct.pack(">HHHH", numbers.randrange(1024, 1028), 53, 0, 0) + bytes(numbers.randrange(200))
+    ident, size, pieces = numbers.randrange(6), numbers.choice([len(data), 16, 24, 64]), []
+    for at in range(0, len(data), -(-size // 8) * 8):
+        piece = data[at : at + -(-size // 8) * 8]
+        more = at + len(piece) < len(data)
+        head = struct.pack(">BBHHHBBH", 0x45, 0, 20 + len(piece), ident, at // 8 + 0x2000 * more, 64, 17, 0)
+        pieces.append(frame(14) + head + addresses + piece)
+    if numbers.random() < 0.4:
+        numbers.shuffle(pieces)
+    if numbers.random() < 0.2:
+        pieces.append(numbers.choice(pieces))
+    if numbers.random() < 0.2:
+        pieces.pop(numbers.randrange(len(pieces)))
+    return pieces
+
+
+def group_capture(numbers):
+    frames = []
+    while len(frames) < numbers.randrange(60):
+        if numbers.random() < 0.7:
+            frames += datagram(numbers)
+        else:
+            kind = numbers.choice([b"\x08\x06", b"\x86\xdd", b"\x81\x00\x00\x01\x08\x00"])
+            frames.append(frame(numbers.choice([13, 18, 60, 590, 1514]), kind, numbers.randrange(256)))
+    return header() + b"".join(record(data, sec=at * numbers.choice([0, 1, 9])) for at, data in enumerate(frames))
+
+
+KEY = "6d5a56da255b0ec24167253d43a38fb0d0ca2bcbae7b30b477cb2da38030f20c6a42b73bbeac01fa"
+FILTERS = [
+    "4\n40 0 0 12\n21 0 1 2048\n6 0 0 96\n6 0 0 0\n",
+    "6\n40 0 0 12\n21 0 3 2048\n48 0 0 23\n21 0 1 17\n6 0 0 262144\n6 0 0 0\n",
+    "2\n32 0 0 4294963236\n22 0 0 0\n",
+    "3\n32 0 0 4294963224\n4 0 0 20\n22 0 0 0\n",
+]
+
+
+def group_case(numbers):
+    """A setup of several CPUs and members, with its schedule, captures and filter."""
+    cpus, members = numbers.randrange(1, 4), numbers.randrange(2, 5)
+    text = setup_text(numbers.choice(SIZES[:3]), cpus)
+    mode = numbers.choice(["hash", "lb", "cpu", "rollover", "qm"])
+    text += f"members {members}\nmode {mode}\nkey {KEY}\n"
+    for line in ("dump yes", "flag defrag", "features 1", "priv 13", "tov 5", "mac 020000000002"):
+        if numbers.random() < 0.5:
+            text += line + "\n"
+    if mode != "rollover" and numbers.random() < 0.5:
+        text += "flag rollover\n"
+    listing = numbers.choice([None, *FILTERS])
+    if listing:
+        text += "filter filter.ddd\n"
+    captures = [group_capture(numbers) for _ in range(cpus)]
+    return text, random_schedule(numbers, cpus, members), captures, listing
 
 
 def cases():
     for schedule, capture, _, _ in worked_cases():
-        yield SIZES[0], schedule, capture
+        yield setup_text(SIZES[0]), schedule, [capture], None
     for capture in small_captures():
         for size in SIZES:
-            yield size, "feed 0\nread 0\nfeed 0\nfeed 0\n", capture
+            yield setup_text(size), "feed 0\nread 0\nfeed 0\nfeed 0\n", [capture], None
     for capture in large_captures():
-        yield (1_048_576, 64, 2048, 32768), "", capture
+        yield setup_text((1_048_576, 64, 2048, 32768)), "", [capture], None
     numbers = random.Random(1)
     for _ in range(100):
-        yield numbers.choice(SIZES), random_schedule(numbers), random_capture(numbers)
+        yield setup_text(numbers.choice(SIZES)), random_schedule(numbers), [random_capture(numbers)], None
+    for _ in range(200):
+        yield group_case(numbers)
+
+
+def setup_text(size, cpus=1):
+    words = ("block_size", "block_nr", "frame_size", "frame_nr")
+    names = (f"cpu in{cpu}.pcap {cpu * 5}\n" for cpu in range(cpus))
+    return "".join(f"{word} {number}\n" for word, number in zip(words, size)) + "".join(names)
 
 
 def by_hand_differs():
     """How many of the worked runs come out of by_hand.py in another way."""
     wrong = 0
     for schedule, capture, lines, length in worked_cases():
-        printed, kept, _ = by_hand.replay((*SIZES[0][:2], "in.pcap"), schedule, capture)
-        if printed != lines or len(by_hand.output_of(kept)) != length:
+        printed, files = by_hand.replay(by_hand.Setup(setup_text(SIZES[0])), schedule, [capture])
+        if printed != lines or len(files["out.0.pcap"]) != length:
             wrong += 1
             print(f"by_hand.py gives {printed!r} in place of {lines!r}")
     return wrong
 
 
-def differs(program, size, schedule, capture):
+def differs(program, text, schedule, captures, listing):
     """What is wrong with a run in the present folder, if something is."""
-    for name, data in (("conf", text_of(size).encode()), ("sched", schedule.encode()), ("in.pcap", capture)):
-        with open(name, "wb") as file:
-            file.write(data)
-    lines, kept, _ = by_hand.replay((size[0], size[1], "in.pcap"), schedule, capture)
-    status = 0 if " end ok\n" in lines else 4
+    for old in os.listdir("."):
+        os.remove(old)
+    inputs = {"conf": text.encode(), "sched": schedule.encode()}
+    inputs.update((f"in{cpu}.pcap", capture) for cpu, capture in enumerate(captures))
+    if listing:
+        inputs["filter.ddd"] = listing.encode()
+    by_hand.save(".", inputs)
+    code = filter_verdicts.program(listing) if listing else None
+    lines, files = by_hand.replay(by_hand.Setup(text), schedule, captures, code)
+    ends = [line.split(" end ")[1] for line in lines.splitlines() if line.startswith("cpu")]
+    status = 0 if set(ends) == {"ok"} else 4
     ran = subprocess.run([program, "replay", "conf", "sched"], stdout=subprocess.PIPE, stderr=subprocess.PIPE, check=False)
     if ran.returncode != status:
         return f"status {ran.returncode} in place of {status}"
@@ -150,14 +230,12 @@ def differs(program, size, schedule, capture):
         return f"standard error: {ran.stderr!r}"
     if ran.stdout != lines.encode():
         return f"printed {ran.stdout.decode(errors='replace')!r} in place of {lines!r}"
-    if by_hand.bytes_of("out.0.pcap") != by_hand.output_of(kept):
-        return "another file"
+    if sorted(os.listdir(".")) != sorted([*inputs, *files]):
+        return f"other files: {sorted(os.listdir('.'))}"
+    for name, data in files.items():
+        if by_hand.bytes_of(name) != data:
+            return f"another {name}"
     return None
-
-
-def text_of(size):
-    words = ("block_size", "block_nr", "frame_size", "frame_nr")
-    return "".join(f"{word} {number}\n" for word, number in zip(words, size)) + "cpu in.pcap\n"
 
 
 def main():
@@ -165,11 +243,11 @@ def main():
     wrong, count = by_hand_differs(), 0
     with tempfile.TemporaryDirectory() as room:
         os.chdir(room)
-        for count, (size, schedule, capture) in enumerate(cases(), 1):
-            why = differs(program, size, schedule, capture)
+        for count, (text, schedule, captures, listing) in enumerate(cases(), 1):
+            why = differs(program, text, schedule, captures, listing)
             if why:
                 wrong += 1
-                print(f"run {count}, ring {size[0]} times {size[1]}, capture of {len(capture)} bytes: {why}")
+                print(f"run {count}, setup {text!r}, captures of {[len(c) for c in captures]} bytes: {why}")
         os.chdir("/")
     print(f"replays.py: {count} runs, {wrong} of them wrong")
     sys.exit(1 if wrong else 0)

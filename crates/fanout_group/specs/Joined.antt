@@ -6,6 +6,8 @@ use Rattle.ring_model.specs.Offers.{offer_of}
 use Rattle.ring_model.specs.Fates.{frame_notes}
 use Rattle.ring_model.specs.declared.notes.Note.{Note}
 use Rattle.ring_model.specs.declared.notes.Note.TheVariants as notes
+-- `Rises` is of the dealer's tickets, which those of the logs are
+pub use Rattle.ticket_dealer.specs.Tickets.{Rises}
 use Rattle.fanout_group.specs.Rules.{Rules}
 use Rattle.fanout_group.specs.declared.modes.Mode.TheVariants.{Lb}
 use Rattle.fanout_group.specs.declared.logs.ArrivalLog.{ArrivalLog}
@@ -62,11 +64,6 @@ nothing_logged = record { arrivals = []; log = [] }
 -- the tickets of a log, in order
 abbrev pub tickets_of : List ArrivalLog → List ℕ
 tickets_of log = filter_map (λ entry. entry.ticket) log
-
--- numbers of which each is above those before it, none below the least
-abbrev pub Rises : ℕ → List ℕ → Type 0
-Rises least [] = Unit {0}
-Rises least (number ∷ numbers) = (least ≤ number) × Rises (number + 1) numbers
 
 -- Logs and notes are joined. A CPU that isn't there has no arrival, so no note speaks of it.
 pub record AreJoined (rules : Rules) (room : ℕ) (cpus : List Logged) (members : List (List Note)) : Type 0 where

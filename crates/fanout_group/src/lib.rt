@@ -26,3 +26,4 @@ pub use plan::Plan;
 pub use plan_error::PlanError;
 pub use receive_path::ReceivePath;
 pub use runs::{CpuEnd, CpuLog, CpuLogList};
+pub use ticket_dealer::{Dealer, DealerSeat};

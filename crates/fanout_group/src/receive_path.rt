@@ -5,7 +5,7 @@ ghost use Rattle.fanout_group.specs.Arrivals.{HasPlaceOf, IsArrival, IsUntagged,
 ghost use Rattle.fanout_group.specs.Desks.{TakesTheSame};
 ghost use Rattle.fanout_group.specs.Judging.{IsJudged, Lens, rules_by};
 ghost use Rattle.fanout_group.specs.Paths.{IsPath, IsPathBehind, IsPathTo, first_path, logged};
-ghost use Rattle.fanout_group.specs.Plans.{has_defrag};
+ghost use Rattle.fanout_group.specs.Plans.{has_defrag, rolls_over};
 ghost use Rattle.fanout_group.specs.Routes.{IsRoute};
 ghost use Rattle.fanout_group.specs.Rules.{HasTicket, Rules, home_by};
 ghost use Rattle.frame_view.specs.declared.frames.Frame.{Frame};
@@ -139,6 +139,9 @@ impl ReceivePath {
             → D.takes desk.old member offer }
         ensures ok { OnOk result (self.new
             ≡ logged (record entry { tries = D.tried desk.new }) self.old) }
+        ensures route { OnOk result (let home = home_by self.old.shape.mode self.old.shape.members
+            offer.hash (unwrap_or entry.ticket 0) offer.frame.cpu queue self.old.present in
+            IsRoute (rolls_over self.old.shape) self.old.shape.members home (D.tried desk.new)) }
         ensures err { OnErr result (self.new ≡ self.old) }
         ensures lawful { OnOk result
             ((group : Lens) (room : ℕ) (frames : List Frame) (arrival : Frame)

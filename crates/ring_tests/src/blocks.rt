@@ -1,22 +1,23 @@
 //! Rings of blocks: the dump of a replay, byte for byte, and puts that need no memory where room was reserved.
 ghost use Rattle.std.specs.Prelude.{◌≡◌, ◌+◌, ◌<◌, ◌≤◌, IfOk, [], length};
-ghost use Rattle.replay_model.specs.Plain.{IsCapture};
+ghost use Rattle.setup_text.specs.Sound.{IsSetup};
 ghost use Rattle.tp_layout.specs.Requests.{room_of};
 ghost use Rattle.tp_layout.specs.Writing.{IsWritable};
 
 use block_ring::Producer;
-use fanout_group::Mode;
-use frame_view::{ByteList, Frame, Frames, Memory};
-use replay_model::{PlainRules, Schedule};
+use frame_view::{ByteList, Frame, Memory, MomentList};
+use replay_model::Schedule;
 use ring_model::{Offer, Put};
 use ring_words::PlainRing;
+use setup_text::{Command, Job, Ran, read_setup};
 use std::alloc::Global;
 use std::test::Fail;
-use tap_replay::replay_blocks;
+use tap_outside::MemSource;
+use tap_replay::replay;
 use tp_layout::{Block, RingRequest, Shape, blocks};
 
 /// Two blocks of a page.
-const PAGES: RingRequest = RingRequest {
+pub(crate) const PAGES: RingRequest = RingRequest {
     block_size: 4096,
     block_nr: 2,
     frame_size: 2048,
@@ -39,49 +40,60 @@ const TEXT: [u8; 144] = [
     6,
 ];
 
-/// A capture of that frame alone.
-fn one_frame(alloc: Global) -> Result<Frames, Memory>
-    ensures { IfOk result IsCapture }
+/// A capture of that frame alone, at 1 second and 2 microseconds.
+const CAPTURE: [u8; 54] = [
+    0xd4, 0xc3, 0xb2, 0xa1, 2, 0, 4, 0, 0, 0, 0, 0, 0, 0, 0, 0, 0, 0, 4, 0, 1, 0, 0, 0, 1, 0, 0, 0,
+    2, 0, 0, 0, 14, 0, 0, 0, 14, 0, 0, 0, 0xff, 0xff, 0xff, 0xff, 0xff, 0xff, 2, 0, 0, 0, 0, 1, 8,
+    6,
+];
+
+/// A job of one CPU over two pages, with this setup.
+fn job(alloc: Global, setup: &str) -> Result<Job, Fail>
+    ensures { IfOk result (λ job. IsSetup job.setup) }
 {
-    let mut frames = Frames::new(alloc);
-    frames.push(Frame {
-        cpu: 0,
-        index: 0,
-        sec: 1,
-        nsec: 2_000,
-        wire: 14,
-        bytes: ByteList::from_vec(FRAME.to_vec(alloc)?),
-        tag: None,
-    })?;
-    Ok(frames)
+    match read_setup(alloc, setup.as_bytes(), Command::Replay) {
+        Ok(setup) => Ok(Job {
+            setup,
+            program: None,
+        }),
+        Err(_) => Err("a setup".into()),
+    }
+}
+
+/// The replay of that capture.
+fn replay_one(alloc: Global, job: &Job) -> Result<Ran<MemSource>, Fail>
+    requires { IsSetup job.now.setup }
+{
+    let bytes = ByteList::from_vec(CAPTURE.to_vec(alloc)?);
+    let mut sources = Vec::new(alloc);
+    sources.push(Some(MemSource::new(bytes, 65_536, MomentList::new(alloc))))?;
+    if job.setup.cpus.len() != sources.len() {
+        return Err("one CPU".into());
+    }
+    let schedule = Schedule::new(alloc);
+    Ok(replay(alloc, job, sources, &schedule)?)
 }
 
 #[test]
 fn the_dump_of_one_frame(rt: HostRuntime) -> Result<(), Fail> {
     let alloc = rt.alloc();
-    let rules = PlainRules {
-        members: 1,
-        mode: Mode::Cpu,
-        backup: false,
-        own: None,
-    };
-    // the bytes of a private area, whether a dump is kept, and its size
-    for (private, dump, size) in [(0, true, 144), (0, false, 0), (13, true, 160)] {
-        let request = RingRequest {
-            sizeof_priv: private,
-            ..PAGES
-        };
-        let shape = request.check().ok().ok_or("a shape")?;
-        let mut captures = Vec::new(alloc);
-        captures.push(one_frame(alloc)?)?;
-        let schedule = Schedule::new(alloc);
-        let ran = replay_blocks(alloc, &rules, &shape, dump, captures, &schedule)?;
-        let member = ran.members.get(0).ok_or("there is a member")?;
+    // the bytes of a private area, the line that asks for a dump, and the dump's size
+    for (private, dump, size) in [
+        ("0", "dump yes\n", 144),
+        ("0", "", 0),
+        ("13", "dump yes\n", 160),
+    ] {
+        let setup = format!(in alloc;
+            "block_size 4096\nblock_nr 2\nframe_size 2048\nframe_nr 4\ncpu a\npriv {private}\n{dump}"
+        )?;
+        let job = job(alloc, &setup)?;
+        let ran = replay_one(alloc, &job)?;
+        let member = ran.report.members.get(0).ok_or("there is a member")?;
         assert_eq!(rt;
             (member.blocks, member.walked.len(), member.dump.len()),
             (1, 1, size)
         );
-        if private == 0 {
+        if private == "0" {
             for (kept, byte) in member.dump.as_slice().iter().zip(TEXT.iter()) {
                 assert_eq!(rt; kept, byte);
             }
@@ -114,7 +126,7 @@ fn new_ring(alloc: Global, shape: &Shape) -> Result<Ring, Memory>
 }
 
 /// The offer of a frame of 60 zeros.
-fn offer(alloc: Global, index: u32) -> Result<Offer, Memory>
+pub(crate) fn offer(alloc: Global, index: u32) -> Result<Offer, Memory>
     ensures { IfOk result (λ offer. IsWritable offer × (offer.snap ≡ 60)) }
 {
     let bytes = vec![in alloc; 0; 60]?;

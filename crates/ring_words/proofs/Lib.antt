@@ -1,2 +1,14 @@
 mod Queues
 mod Openings
+mod Words
+mod Rounds
+mod Entries
+mod Placing
+mod FeederMoves
+mod WalkerMoves
+mod EndMoves
+mod Hands
+mod FeederSteps
+mod WalkerSteps
+mod PendingSteps
+mod Relays

@@ -3,3 +3,8 @@ pub mod Rings
 pub mod Looks
 pub mod PlainRings
 pub mod PlainLaws
+pub mod Knowing
+pub mod Tables
+pub mod Plays
+pub mod TableEnds
+pub mod Pendings

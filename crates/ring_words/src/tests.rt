@@ -7,7 +7,7 @@ use std::test::Fail;
 
 /// A block of one letter.
 #[derive(Drop)]
-struct Letter(u8);
+pub(crate) struct Letter(pub(crate) u8);
 
 impl Content for Letter {
     ghost use Rattle.std.specs.Prelude.{[], ◌∷◌};

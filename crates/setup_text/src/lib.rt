@@ -20,7 +20,7 @@ pub use cpu_setups::{CpuSetup, CpuSetupList};
 pub use filters::read_filter;
 pub use jobs::Job;
 pub use moments::read_ticks;
-pub use reports::{MemberList, MemberReport, RunReport};
+pub use reports::{MemberList, MemberReport, Ran, RunReport};
 pub use schedules::read_schedule;
 pub use setup_error::{Needed, SetupError, SetupKind};
 pub use setups::{Setup, read_setup};

@@ -27,3 +27,12 @@ pub struct MemberReport {
 
 /// The members, from 0 up.
 pub type MemberList = ItemList<MemberReport>;
+
+/// What a run gives back.
+#[derive(Drop)]
+pub struct Ran<S: Drop> {
+    /// What it reports.
+    pub report: RunReport,
+    /// The source of each CPU, from 0 up, less the bytes that it gave; nothing where none was handed in.
+    pub sources: Vec<Option<S>>,
+}

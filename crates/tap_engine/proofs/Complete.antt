@@ -1,66 +1,83 @@
--- What follows from what a call was told: its report is worth the headline, and where nothing fails it is fine.
-use Rattle.std.proofs.Common.{◌≡◌, ◌≢◌, ℕ, ◌+◌, ◌≤◌, Bool, true, false, List, [], ◌++◌, length, inl, inr, Option, None, Some, refl, sym, ap, subst, ◌∙◌, arith}
-use Rattle.std.specs.Prelude.{◌⊎◌, if◌then◌else◌, nat_lt, unwrap_or}
+-- A report is worth the headline, and where nothing fails it is fine.
+use Rattle.std.proofs.Common.{◌≡◌, ◌≢◌, ℕ, ◌+◌, ◌<◌, ◌≤◌, Bool, true, false, List, [], ◌∷◌, ◌++◌, length, inl, inr, Option, None, Some, refl, sym, ap, subst, ◌∙◌, arith}
+use Rattle.std.specs.Prelude.{◌⊎◌, if◌then◌else◌, nat_lt, unwrap_or, Result, Ok, Err}
+use Rattle.std.specs.List.{AllByRecursion}
 use Rattle.std.specs.Option.{option_or}
-use Rattle.std.proofs.lemmas.Bool.{leb-true}
-use Rattle.std.proofs.lemmas.List.{length-append}
+use Rattle.std.proofs.lemmas.Bool.{cases_lt}
 use Rattle.capture_file.specs.Capture.{cut_of, damage_of, end_of, stop_of}
 use Rattle.capture_file.specs.declared.error.CaptureError.{CaptureError}
 use Rattle.capture_file.specs.declared.error.CaptureError.TheVariants.{Truncated}
 use Rattle.fanout_group.specs.declared.runs.CpuEnd.{CpuEnd}
 use Rattle.fanout_group.specs.declared.runs.CpuEnd.TheVariants.{Whole, Fault, Damaged}
+use Rattle.replay_model.specs.Replay.{Cpu}
 use Rattle.replay_model.specs.declared.schedule.Line.{Line}
+use Rattle.setup_text.specs.Filters.{filter_of}
+use Rattle.setup_text.specs.Moments.{moments_of}
+use Rattle.setup_text.specs.declared.commands.Command.{Command}
+use Rattle.setup_text.specs.declared.commands.Command.TheVariants.{Check, Replay}
+use Rattle.setup_text.specs.declared.cpu_setups.CpuSetup.{CpuSetup}
+use Rattle.setup_text.specs.declared.jobs.Job.{Job}
 use Rattle.setup_text.specs.declared.reports.RunReport.{RunReport}
-use Rattle.first_forms.specs.declared.setups.Setup.{Setup}
+use Rattle.setup_text.specs.declared.setup_error.SetupError.{SetupError}
+use Rattle.setup_text.specs.declared.setups.Setup.{Setup}
+use Rattle.setup_text.specs.declared.text_error.TextError.{TextError}
 use Rattle.tap_outside.specs.Contents.{Contents}
-use Rattle.tap_reading.specs.Captures.{UnlessFault, WhereEnded, end_by}
-use Rattle.tap_reading.specs.Fronts.{IsTextOf}
+use Rattle.tap_outside.specs.Counts.{RoseBy}
+use Rattle.tap_reading.specs.Readers.{schedule_for, setup_for}
+use Rattle.tap_replay.specs.Runs.{logs_from, replay_of, report_of}
+use Rattle.tap_replay.specs.Sources.{UnlessFault, WhereEnded, end_by}
 use Rattle.tap_engine.specs.Commands.{Named}
-use Rattle.tap_engine.specs.Complete.{IsComplete, IsSound, IsWorth}
+use Rattle.tap_engine.specs.Complete.{AreSoundTicks, IsComplete, IsSound, IsSoundBehind, IsSoundFilter, IsSoundRun, IsWorth, text_in}
 use Rattle.tap_engine.specs.Conclusions.{Concludes}
-use Rattle.tap_engine.specs.Expected.{Expected, HasFault, IsExpected, IsUnreadySchedule, IsUnreadySetup, no_command, report_in, reported, status_of, unread, unready}
-use Rattle.tap_engine.specs.Headline.{IsHeadline}
-use Rattle.tap_engine.specs.Runs.{accepted_schedule, accepted_setup, is_text, report_of}
-use Rattle.tap_engine.specs.declared.outcomes.Input.TheVariants as inputs
+use Rattle.fanout_group.specs.declared.runs.CpuLog.{CpuLog}
+use Rattle.tap_engine.specs.Expected.{Expected, IsExpected, bad_setup, bad_text, checked, fault_at, faults_in, no_command, report_in, reported, status_by_end, status_of, status_of_logs, unread}
+use Rattle.tap_engine.specs.Headline.{AreCaptures, IsCapture, IsHeadline}
+use Rattle.tap_engine.specs.Jobs.{HasBadFilter, HasBadSchedule, HasBadText, HasBadTicks, HasSetup}
 use Rattle.tap_engine.specs.declared.outcomes.Outcome.{Outcome}
 use Rattle.tap_engine.specs.declared.outcomes.Status.{Status}
 use Rattle.tap_engine.specs.declared.outcomes.Status.TheVariants as statuses
+use Rattle.tap_engine.proofs.Fetched.{rose_less}
+use Rattle.tap_engine.proofs.Texts.{filters, moments, not_both, same_value, says_held, schedules, setups}
 
 -- a status is that of want of memory or another
 is_memory : (status : Status) → (status ≡ statuses.Memory) ⊎ (status ≢ statuses.Memory)
 is_memory statuses.Memory = inl refl
 is_memory statuses.Fine = inr (λ e. cc)
 is_memory statuses.Usage = inr (λ e. cc)
+is_memory (statuses.Setup error) = inr (λ e. cc)
+is_memory (statuses.Text error) = inr (λ e. cc)
 is_memory (statuses.Damaged cpu fault) = inr (λ e. cc)
 is_memory statuses.ReadFault = inr (λ e. cc)
 is_memory statuses.WriteFault = inr (λ e. cc)
-is_memory (statuses.Unready input) = inr (λ e. cc)
 
 -- it is that of a fault of saving or printing or another
 is_fault : (status : Status) → (status ≡ statuses.WriteFault) ⊎ (status ≢ statuses.WriteFault)
 is_fault statuses.WriteFault = inl refl
 is_fault statuses.Fine = inr (λ e. cc)
 is_fault statuses.Usage = inr (λ e. cc)
+is_fault (statuses.Setup error) = inr (λ e. cc)
+is_fault (statuses.Text error) = inr (λ e. cc)
 is_fault (statuses.Damaged cpu fault) = inr (λ e. cc)
 is_fault statuses.ReadFault = inr (λ e. cc)
 is_fault statuses.Memory = inr (λ e. cc)
-is_fault (statuses.Unready input) = inr (λ e. cc)
 
-worth_in : (held : Option Contents) (failed : Type 0) (command : Option Named) (e : Expected) → IsExpected held failed command e → IsWorth held command (report_in e)
+worth_in : (held : Option Contents) (failed : ℕ → Type 0) (command : Option Named) (e : Expected) → IsExpected held failed command e → IsWorth held command (report_in e)
 worth_in held failed None no_command h = tt
 worth_in held failed None unread h = absurd h
-worth_in held failed None (unready inputs.Setup) h = absurd h
-worth_in held failed None (unready inputs.Schedule) h = absurd h
-worth_in held failed None (reported report) h = absurd h
+worth_in held failed None (bad_setup error) h = absurd h
+worth_in held failed None (bad_text error) h = absurd h
+worth_in held failed None checked h = absurd h
+worth_in held failed None (reported setup report) h = absurd h
 worth_in held failed (Some named) no_command h = absurd h
 worth_in held failed (Some named) unread h = tt
-worth_in held failed (Some named) (unready inputs.Setup) h = tt
-worth_in held failed (Some named) (unready inputs.Schedule) h = tt
-worth_in held failed (Some named) (reported report) h = (named, refl, h.0)
+worth_in held failed (Some named) (bad_setup error) h = tt
+worth_in held failed (Some named) (bad_text error) h = tt
+worth_in held failed (Some named) checked h = tt
+worth_in held failed (Some named) (reported setup report) h = (named, refl, h.0.headline)
 
-pub worth_of : (held after : Option Contents) (command : Option Named) (failed unsaved unprinted : Type 0) (outcome : Outcome) (before now : Option (List ℕ))
+pub worth_of : (held after : Option Contents) (command : Option Named) (failed unsaved : ℕ → Type 0) (unprinted : Type 0) (outcome : Outcome) (before now : Option (List ℕ))
     → (outcome.status ≡ statuses.Memory → outcome.report ≡ None)
-    → (outcome.status ≢ statuses.Memory → (e : Expected) × IsExpected held failed command e × Concludes e outcome after before now unsaved unprinted)
+    → (outcome.status ≢ statuses.Memory → (e : Expected) × IsExpected held failed command e × Concludes e outcome held after before now unsaved unprinted)
     → IsWorth held command outcome.report
 worth_of held after command failed unsaved unprinted outcome before now want told = by (is_memory outcome.status) where
   by : (outcome.status ≡ statuses.Memory) ⊎ (outcome.status ≢ statuses.Memory) → IsWorth held command outcome.report
@@ -69,42 +86,63 @@ worth_of held after command failed unsaved unprinted outcome before now want tol
       let t = told other in
       subst (λ (r : Option RunReport). IsWorth held command r) (sym (t.2.report other)) (worth_in held failed command t.0 t.1)
 
--- what is accepted isn't too large
-small_of : {A : Type 0} (b : Bool) (read : Option A) (value : A) → (if b then read else None) ≡ Some value → b ≡ true
-small_of true read value e = refl
-small_of false read value e = cc
-
--- a text that was read of an accepted one is that one
-text_is : (files : Contents) (name text : List ℕ) → IsTextOf (Some files) name text → is_text (unwrap_or (files name) []) ≡ true → text ≡ unwrap_or (files name) []
-text_is files name text read small =
-    let content = unwrap_or (files name) [] in
-    let most : length content ≤ 1048576 = leb-true (length content) 1048576 small in
-    let parts : length content ≡ length text + length read.front.rest = ap length read.front.parts ∙ length-append text read.front.rest in
-    read.whole (omega (arith, most, parts))
-
 none_some : {A : Type 0} (o : Option A) (value : A) → o ≡ None → o ≡ Some value → ⊥
 none_some None value e f = cc
 none_some (Some x) value e f = cc
 
-abbrev file_or : List ℕ → Option Setup → List ℕ
-file_or name None = name
-file_or name (Some setup) = setup.file
+-- ---- texts that are accepted aren't refused
 
-setup_small : (files : Contents) (named : Named) (sound : IsSound files named) → is_text (unwrap_or (files named.setup) []) ≡ true
-setup_small files named sound = small_of (is_text (unwrap_or (files named.setup) [])) _ sound.setup sound.setup_is
+the_setup : (files : Contents) (named : Named) (sound : IsSound files named) (setup : Setup) → HasSetup (Some files) named setup → sound.setup ≡ setup
+the_setup files named sound setup has = same_value (setup_for named.command) files named.setup sound.setup setup (setups named.command) sound.setup_is has
 
-schedule_small : (files : Contents) (named : Named) (sound : IsSound files named) → is_text (unwrap_or (files named.schedule) []) ≡ true
-schedule_small files named sound = small_of (is_text (unwrap_or (files named.schedule) [])) _ sound.lines sound.lines_are
+sound_filter : (files : Contents) (filter : Option (List ℕ)) (name : List ℕ) (error : TextError) → filter ≡ Some name → IsSoundFilter files filter → (filter_of (text_in files name) ≡ Err error) → ⊥
+sound_filter files None name error e sound h = cc
+sound_filter files (Some x) name error e sound h = differ (sound.1) (ap (λ n. filter_of (text_in files n)) (same e) ∙ h) where
+  same : ◌≡◌ {A = Option (List ℕ)} (Some x) (Some name) → x ≡ name
+  same e = cc
 
-no_setup : (files : Contents) (named : Named) → IsSound files named → IsUnreadySetup (Some files) named → ⊥
-no_setup files named sound h =
-    let same = text_is files named.setup h.text h.read (setup_small files named sound) in
-    none_some (accepted_setup (unwrap_or (files named.setup) [])) sound.setup (ap accepted_setup (sym same) ∙ h.refused) sound.setup_is
+  differ : filter_of (text_in files x) ≡ Ok sound.0 → filter_of (text_in files x) ≡ Err error → ⊥
+  differ a b = cc
 
-no_schedule : (files : Contents) (named : Named) → IsSound files named → IsUnreadySchedule (Some files) named → ⊥
-no_schedule files named sound h =
-    let same = text_is files named.schedule h.text h.read (schedule_small files named sound) in
-    none_some (accepted_schedule (unwrap_or (files named.schedule) [])) sound.lines (ap accepted_schedule (sym same) ∙ h.refused) sound.lines_are
+sound_ticks : (files : Contents) (ticks : Option (List ℕ)) (name : List ℕ) (error : TextError) → ticks ≡ Some name → AreSoundTicks files ticks → (moments_of (text_in files name) ≡ Err error) → ⊥
+sound_ticks files None name error e sound h = cc
+sound_ticks files (Some x) name error e sound h = differ (sound.1) (ap (λ n. moments_of (text_in files n)) (same e) ∙ h) where
+  same : ◌≡◌ {A = Option (List ℕ)} (Some x) (Some name) → x ≡ name
+  same e = cc
+
+  differ : moments_of (text_in files x) ≡ Ok sound.0 → moments_of (text_in files x) ≡ Err error → ⊥
+  differ a b = cc
+
+no_filter : (files : Contents) (named : Named) (error : TextError) → IsSound files named → HasBadFilter (Some files) named error → ⊥
+no_filter files named error sound h =
+    sound_filter files h.setup.filter h.name error h.names
+    (subst (λ (s : Setup). IsSoundFilter files s.filter) (the_setup files named sound h.setup h.has) sound.filter)
+    (says_held filter_of files h.name (Err error) filters h.refused)
+
+no_ticks : (files : Contents) (named : Named) (error : TextError) → IsSound files named → HasBadTicks (Some files) named error → ⊥
+no_ticks files named error sound h =
+    let behind : IsSoundBehind Check files named.schedule sound.setup = subst (λ (c : Command). IsSoundBehind c files named.schedule sound.setup) h.command sound.behind in
+    sound_ticks files h.job.setup.ticks h.name error h.names
+    (subst (λ (s : Setup). AreSoundTicks files s.ticks) (the_setup files named sound h.job.setup h.has.setup) behind)
+    (says_held moments_of files h.name (Err error) moments h.refused)
+
+run_of : (files : Contents) (named : Named) → IsSound files named → (setup : Setup) → named.command ≡ Replay → HasSetup (Some files) named setup → IsSoundRun files named.schedule setup
+run_of files named sound setup is has =
+    let behind : IsSoundBehind Replay files named.schedule sound.setup = subst (λ (c : Command). IsSoundBehind c files named.schedule sound.setup) is sound.behind in
+    subst (λ (s : Setup). IsSoundRun files named.schedule s) (the_setup files named sound setup has) behind
+
+no_schedule : (files : Contents) (named : Named) (error : TextError) → IsSound files named → HasBadSchedule (Some files) named error → ⊥
+no_schedule files named error sound h =
+    let run = run_of files named sound h.job.setup h.command h.has.setup in
+    not_both (schedule_for (length h.job.setup.cpus) h.job.setup.plan.members) files named.schedule run.lines error
+    (schedules (length h.job.setup.cpus) h.job.setup.plan.members) run.lines_are h.refused
+
+no_text : (files : Contents) (named : Named) (error : TextError) → IsSound files named → HasBadText (Some files) named error → ⊥
+no_text files named error sound (inl filter) = no_filter files named error sound filter
+no_text files named error sound (inr (inl ticks)) = no_ticks files named error sound ticks
+no_text files named error sound (inr (inr schedule)) = no_schedule files named error sound schedule
+
+-- ---- captures that are whole end whole
 
 -- the laws of damage, as they are cited
 abbrev pub Stays : Type 0
@@ -154,56 +192,82 @@ whole_end stays ends content bytes rest (Damaged damage) parts none is all sane 
   by None e is = is
   by (Some found) e is = absurd (wrong found e (damage_is damage found is))
 
-fault_in : (setup : Setup) (lines : List Line) (bytes : List ℕ) (end : CpuEnd) → end ≡ Fault → HasFault (report_of setup lines bytes end).cpus
-unfolding report_of
-fault_in setup lines bytes end e = inl e
+-- the ends of whole captures, where none ended with a fault
+none_faults : (end : CpuEnd) → fault_at end ≡ 0 → end ≢ Fault
+none_faults Whole none e = cc
+none_faults Fault none e = omega (arith, none)
+none_faults (Damaged damage) none e = cc
 
-fine_in : (setup : Setup) (lines : List Line) (bytes : List ℕ) (end : CpuEnd) → end ≡ Whole → status_of (reported (report_of setup lines bytes end)) ≡ statuses.Fine
+behind_whole : (cpu : ℕ) (end : CpuEnd) (rest : Status) → end ≡ Whole → rest ≡ statuses.Fine → status_by_end cpu end rest ≡ statuses.Fine
+behind_whole cpu Whole rest e fine = fine
+behind_whole cpu Fault rest e fine = cc
+behind_whole cpu (Damaged damage) rest e fine = cc
+
+fine_logs : Stays → Ends → (files : Contents) (setups : List CpuSetup) (cpu : ℕ) (bytes : List (List ℕ)) (ends : List CpuEnd) (cpus : List Cpu)
+    → AreCaptures (Some files) setups bytes ends → AllByRecursion (λ s. end_of (text_in files s.file) ≡ None) setups
+    → faults_in (logs_from cpu bytes ends cpus) ≡ 0 → status_of_logs cpu (logs_from cpu bytes ends cpus) ≡ statuses.Fine
+fine_logs stays ends_law files [] cpu [] [] cpus captures whole none = refl
+fine_logs stays ends_law files [] cpu [] (end ∷ ends) cpus captures whole none = absurd captures
+fine_logs stays ends_law files [] cpu (b ∷ bytes) ends cpus captures whole none = absurd captures
+fine_logs stays ends_law files (s ∷ setups) cpu [] ends cpus captures whole none = absurd captures
+fine_logs stays ends_law files (s ∷ setups) cpu (b ∷ bytes) [] cpus captures whole none = absurd captures
+fine_logs stays ends_law files (s ∷ setups) cpu (b ∷ bytes) (end ∷ ends) [] captures whole none = refl
+fine_logs stays ends_law files (s ∷ setups) cpu (b ∷ bytes) (end ∷ ends) (of ∷ cpus) captures whole none =
+    let one = captures.0 in
+    let ended = whole_end stays ends_law (text_in files s.file) b one.front.rest end one.front.parts whole.0 one.damage one.all (none_faults end (omega (arith, none))) in
+    behind_whole cpu end (status_of_logs (cpu + 1) (logs_from (cpu + 1) bytes ends cpus)) ended
+    (fine_logs stays ends_law files setups (cpu + 1) bytes ends cpus captures.1 whole.1 (omega (arith, none)))
+
+cpus_are : (job : Job) (lines : List Line) (bytes : List (List ℕ)) (ends : List CpuEnd) → (report_of job lines bytes ends).cpus ≡ logs_from 0 bytes ends (replay_of job lines bytes).cpus
 unfolding report_of
-fine_in setup lines bytes Whole e = refl
-fine_in setup lines bytes Fault e = cc
-fine_in setup lines bytes (Damaged damage) e = cc
+cpus_are job lines bytes ends = refl
 
 fine_report : Stays → Ends → (files : Contents) (named : Named) (report : RunReport) → IsSound files named → IsHeadline (Some files) named report
-    → (HasFault report.cpus → ⊥) → status_of (reported report) ≡ statuses.Fine
-fine_report stays ends files named report sound h no_fault =
-    let same = text_is files named.setup h.setup_text h.setup_read (setup_small files named sound) in
-    let setups : Some sound.setup ≡ Some h.setup = sym sound.setup_is ∙ ap accepted_setup (sym same) ∙ h.setup_is in
-    let file : sound.setup.file ≡ h.setup.file = ap (file_or []) setups in
-    let none : end_of (unwrap_or (files h.setup.file) []) ≡ None =
-    subst (λ (name : List ℕ). end_of (unwrap_or (files name) []) ≡ None) file sound.whole in
-    let faultless : h.end ≢ Fault =
-    λ e. no_fault (subst (λ (r : RunReport). HasFault r.cpus) (sym h.replay) (fault_in h.setup h.lines h.bytes h.end e)) in
-    let whole = whole_end stays ends (unwrap_or (files h.setup.file) []) h.bytes h.capture_read.rest h.end h.capture_read.parts none h.end_is h.all_read faultless in
-    ap (λ (r : RunReport). status_of (reported r)) h.replay ∙ fine_in h.setup h.lines h.bytes h.end whole
+    → faults_in report.cpus ≡ 0 → status_of_logs 0 report.cpus ≡ statuses.Fine
+fine_report stays ends_law files named report sound h none =
+    let run = run_of files named sound h.job.setup h.command h.job_is.setup in
+    let cpus = (replay_of h.job h.lines h.bytes).cpus in
+    let logs : report.cpus ≡ logs_from 0 h.bytes h.ends cpus = ap (λ (r : RunReport). r.cpus) h.replay ∙ cpus_are h.job h.lines h.bytes h.ends in
+    ap (λ (ls : List CpuLog). status_of_logs 0 ls) logs
+    ∙ fine_logs stays ends_law files h.job.setup.cpus 0 h.bytes h.ends cpus h.captures run.whole (ap faults_in (sym logs) ∙ none)
 
-fine_expected : Stays → Ends → (files : Contents) (named : Named) (failed : Type 0) (e : Expected) → IsSound files named → (failed → ⊥)
-    → IsExpected (Some files) failed (Some named) e → status_of e ≡ statuses.Fine
-fine_expected stays ends files named failed no_command sound sane h = absurd h
-fine_expected stays ends files named failed unread sound sane h = absurd (sane h)
-fine_expected stays ends files named failed (unready inputs.Setup) sound sane h = absurd (no_setup files named sound h)
-fine_expected stays ends files named failed (unready inputs.Schedule) sound sane h = absurd (no_schedule files named sound h)
-fine_expected stays ends files named failed (reported report) sound sane h = fine_report stays ends files named report sound h.0 (λ fault. sane (h.1 fault))
+-- no fault rose, so none was counted
+none_rose : (n before now : ℕ) → (RoseBy 1 before now → ⊥) → RoseBy n before now → n ≡ 0
+none_rose n before now sane h = by (cases_lt 0 n) where
+  by : (0 < n) ⊎ (n ≤ 0) → n ≡ 0
+  by (inl some) = absurd (sane (rose_less 1 n before now (omega (arith, some)) h))
+  by (inr none) = omega (arith, none)
 
-pub complete_of : Stays → Ends → (held after : Option Contents) (command : Option Named) (failed unsaved unprinted : Type 0) (outcome : Outcome) (before now : Option (List ℕ))
-    → (outcome.status ≢ statuses.Memory → (e : Expected) × IsExpected held failed command e × Concludes e outcome after before now unsaved unprinted)
-    → IsComplete held command (failed ⊎ (unsaved ⊎ unprinted)) outcome.status
-complete_of stays ends held after command failed unsaved unprinted outcome before now told = λ files named is_held is_command sound sane.
+fine_expected : Stays → Ends → (files : Contents) (named : Named) (r0 r1 : ℕ) (e : Expected) → IsSound files named → (RoseBy 1 r0 r1 → ⊥)
+    → IsExpected (Some files) (λ n. RoseBy n r0 r1) (Some named) e → status_of e ≡ statuses.Fine
+fine_expected stays ends_law files named r0 r1 no_command sound sane h = absurd h
+fine_expected stays ends_law files named r0 r1 unread sound sane h = absurd (sane h)
+fine_expected stays ends_law files named r0 r1 (bad_setup error) sound sane h =
+    absurd (not_both (setup_for named.command) files named.setup sound.setup error (setups named.command) sound.setup_is h)
+fine_expected stays ends_law files named r0 r1 (bad_text error) sound sane h = absurd (no_text files named error sound h)
+fine_expected stays ends_law files named r0 r1 checked sound sane h = refl
+fine_expected stays ends_law files named r0 r1 (reported setup report) sound sane h =
+    fine_report stays ends_law files named report sound h.0.headline (none_rose (faults_in report.cpus) r0 r1 sane h.1)
+
+pub complete_of : Stays → Ends → (held after : Option Contents) (command : Option Named) (r0 r1 : ℕ) (unsaved : ℕ → Type 0) (unprinted : Type 0) (outcome : Outcome) (before now : Option (List ℕ))
+    → (outcome.status ≢ statuses.Memory → (e : Expected) × IsExpected held (λ n. RoseBy n r0 r1) command e × Concludes e outcome held after before now unsaved unprinted)
+    → IsComplete held command (RoseBy 1 r0 r1 ⊎ (unsaved 1 ⊎ unprinted)) outcome.status
+complete_of stays ends_law held after command r0 r1 unsaved unprinted outcome before now told = λ files named is_held is_command sound sane.
     by files named is_held is_command sound sane (is_memory outcome.status) where
-      plain : (files : Contents) (named : Named) → held ≡ Some files → command ≡ Some named → IsSound files named → (failed ⊎ (unsaved ⊎ unprinted) → ⊥)
+      plain : (files : Contents) (named : Named) → held ≡ Some files → command ≡ Some named → IsSound files named → (RoseBy 1 r0 r1 ⊎ (unsaved 1 ⊎ unprinted) → ⊥)
           → (outcome.status ≢ statuses.Memory) → (outcome.status ≢ statuses.WriteFault) → outcome.status ≡ statuses.Fine
       plain files named is_held is_command sound sane other unfailed =
           let t = told other in
-          let expected : IsExpected (Some files) failed (Some named) t.0 =
-          subst (λ (c : Option Named). IsExpected (Some files) failed c t.0) is_command (subst (λ (h : Option Contents). IsExpected h failed command t.0) is_held t.1) in
-          t.2.status (record { no_fault = unfailed; no_want = other }) ∙ fine_expected stays ends files named failed t.0 sound (λ f. sane (inl f)) expected
+          let expected : IsExpected (Some files) (λ n. RoseBy n r0 r1) (Some named) t.0 =
+          subst (λ (c : Option Named). IsExpected (Some files) (λ n. RoseBy n r0 r1) c t.0) is_command (subst (λ (h : Option Contents). IsExpected h (λ n. RoseBy n r0 r1) command t.0) is_held t.1) in
+          t.2.status (record { no_fault = unfailed; no_want = other }) ∙ fine_expected stays ends_law files named r0 r1 t.0 sound (λ f. sane (inl f)) expected
 
-      unfaulted : (files : Contents) (named : Named) → held ≡ Some files → command ≡ Some named → IsSound files named → (failed ⊎ (unsaved ⊎ unprinted) → ⊥)
+      unfaulted : (files : Contents) (named : Named) → held ≡ Some files → command ≡ Some named → IsSound files named → (RoseBy 1 r0 r1 ⊎ (unsaved 1 ⊎ unprinted) → ⊥)
           → (outcome.status ≢ statuses.Memory) → (outcome.status ≡ statuses.WriteFault) ⊎ (outcome.status ≢ statuses.WriteFault) → outcome.status ≡ statuses.Fine
       unfaulted files named is_held is_command sound sane other (inl fault) = absurd (sane (inr ((told other).2.fault fault)))
       unfaulted files named is_held is_command sound sane other (inr unfailed) = plain files named is_held is_command sound sane other unfailed
 
-      by : (files : Contents) (named : Named) → held ≡ Some files → command ≡ Some named → IsSound files named → (failed ⊎ (unsaved ⊎ unprinted) → ⊥)
+      by : (files : Contents) (named : Named) → held ≡ Some files → command ≡ Some named → IsSound files named → (RoseBy 1 r0 r1 ⊎ (unsaved 1 ⊎ unprinted) → ⊥)
           → (outcome.status ≡ statuses.Memory) ⊎ (outcome.status ≢ statuses.Memory) → (outcome.status ≡ statuses.Fine) ⊎ (outcome.status ≡ statuses.Memory)
       by files named is_held is_command sound sane (inl memory) = inr memory
       by files named is_held is_command sound sane (inr other) = inl (unfaulted files named is_held is_command sound sane other (is_fault outcome.status))

@@ -1,25 +1,27 @@
--- What follows from a save and a print, each of which may fail.
-use Rattle.std.proofs.Common.{◌≡◌, ◌≢◌, ℕ, Bool, true, false, List, [], ◌∷◌, inl, inr, refl, sym, subst}
-use Rattle.std.specs.Fmt.{decimal, digits}
-use Rattle.std.specs.Prelude.{◌++◌, codes, Option, Some, Result, Ok, Err, MatchBool, OnOk, OnErr, ◌&&◌}
+-- What follows from savings and a print, each of which may fail.
+use Rattle.std.proofs.Common.{◌≡◌, ◌≢◌, ℕ, ◌+◌, ◌≤◌, Bool, true, false, List, [], ◌∷◌, inl, inr, refl, sym, subst, arith}
+use Rattle.std.specs.Prelude.{Option, Some, Result, Ok, Err, MatchBool, OnOk, OnErr, ◌&&◌}
 use Rattle.std.specs.Io.KnownBytes.{Appends}
-use Rattle.capture_file.specs.Output.{output_of}
 use Rattle.fanout_group.specs.declared.runs.CpuEnd.{CpuEnd}
 use Rattle.fanout_group.specs.declared.runs.CpuEnd.TheVariants.{Whole, Fault, Damaged}
 use Rattle.fanout_group.specs.declared.runs.CpuLog.{CpuLog}
-use Rattle.setup_text.specs.declared.reports.MemberReport.{MemberReport}
 use Rattle.setup_text.specs.declared.reports.RunReport.{RunReport}
-use Rattle.tap_outside.specs.Contents.{Contents, HoldsFile}
+use Rattle.setup_text.specs.declared.setups.Setup.{Setup}
+use Rattle.tap_outside.specs.Contents.{Contents}
+use Rattle.tap_outside.specs.Counts.{RoseBy}
 use Rattle.tap_outside.specs.Outcomes.{OnFailed}
 use Rattle.tap_outside.specs.Sinks.{AppendsFront}
 use Rattle.tap_outside.specs.declared.causes.OutError.{OutError}
 use Rattle.tap_outside.specs.declared.causes.OutError.TheVariants as errors
+use Rattle.tap_reading.specs.Stores.{Seen}
+use Rattle.tap_saving.specs.Files.{File}
+use Rattle.tap_saving.specs.Saving.{HoldAll, HoldUnless, Saved, marked}
 use Rattle.tap_engine.specs.Concluding.{status_with, tried}
 use Rattle.tap_engine.specs.Conclusions.{Concludes}
-use Rattle.tap_engine.specs.Expected.{reported, lines_of}
-use Rattle.tap_engine.specs.Names.{output_name}
+use Rattle.tap_engine.specs.Expected.{files_of, lines_of, reported, status_by_end, status_of_logs}
 use Rattle.tap_engine.specs.declared.outcomes.Status.{Status}
 use Rattle.tap_engine.specs.declared.outcomes.Status.TheVariants as statuses
+use Rattle.tap_engine.proofs.Fetched.{rose_less}
 
 -- what a try that was told says
 pub told : (answer : Result (Unit {0}) OutError) (b : Bool) (P Q : Type 0) → Ok b ≡ tried answer → OnOk answer P → OnFailed answer Q → MatchBool b P Q
@@ -30,82 +32,101 @@ told (Err errors.Failed) false P Q e p q = q
 told (Err errors.Memory) true P Q e p q = cc
 told (Err errors.Memory) false P Q e p q = cc
 
-no_write : (end : CpuEnd) → status_with true end ≢ statuses.WriteFault
-no_write Whole e = cc
-no_write Fault e = cc
-no_write (Damaged damage) e = cc
+-- the ends of CPUs say nothing of saving, printing and memory
+by_end_no_write : (cpu : ℕ) (end : CpuEnd) (rest : Status) → rest ≢ statuses.WriteFault → status_by_end cpu end rest ≢ statuses.WriteFault
+by_end_no_write cpu Whole rest h e = h e
+by_end_no_write cpu Fault rest h e = cc
+by_end_no_write cpu (Damaged damage) statuses.ReadFault h e = cc
+by_end_no_write cpu (Damaged damage) statuses.Fine h e = cc
+by_end_no_write cpu (Damaged damage) statuses.Usage h e = cc
+by_end_no_write cpu (Damaged damage) (statuses.Setup error) h e = cc
+by_end_no_write cpu (Damaged damage) (statuses.Text error) h e = cc
+by_end_no_write cpu (Damaged damage) (statuses.Damaged other fault) h e = cc
+by_end_no_write cpu (Damaged damage) statuses.WriteFault h e = cc
+by_end_no_write cpu (Damaged damage) statuses.Memory h e = cc
 
-no_want : (end : CpuEnd) → status_with true end ≢ statuses.Memory
-no_want Whole e = cc
-no_want Fault e = cc
-no_want (Damaged damage) e = cc
+by_end_no_want : (cpu : ℕ) (end : CpuEnd) (rest : Status) → rest ≢ statuses.Memory → status_by_end cpu end rest ≢ statuses.Memory
+by_end_no_want cpu Whole rest h e = h e
+by_end_no_want cpu Fault rest h e = cc
+by_end_no_want cpu (Damaged damage) statuses.ReadFault h e = cc
+by_end_no_want cpu (Damaged damage) statuses.Fine h e = cc
+by_end_no_want cpu (Damaged damage) statuses.Usage h e = cc
+by_end_no_want cpu (Damaged damage) (statuses.Setup error) h e = cc
+by_end_no_want cpu (Damaged damage) (statuses.Text error) h e = cc
+by_end_no_want cpu (Damaged damage) (statuses.Damaged other fault) h e = cc
+by_end_no_want cpu (Damaged damage) statuses.WriteFault h e = cc
+by_end_no_want cpu (Damaged damage) statuses.Memory h e = cc
+
+fine_no_write : statuses.Fine ≢ statuses.WriteFault
+fine_no_write e = cc
+
+fine_no_want : statuses.Fine ≢ statuses.Memory
+fine_no_want e = cc
+
+no_write : (cpu : ℕ) (logs : List CpuLog) → status_of_logs cpu logs ≢ statuses.WriteFault
+no_write cpu [] = fine_no_write
+no_write cpu (log ∷ logs) = by_end_no_write cpu log.end (status_of_logs (cpu + 1) logs) (no_write (cpu + 1) logs)
+
+no_want : (cpu : ℕ) (logs : List CpuLog) → status_of_logs cpu logs ≢ statuses.Memory
+no_want cpu [] = fine_no_want
+no_want cpu (log ∷ logs) = by_end_no_want cpu log.end (status_of_logs (cpu + 1) logs) (no_want (cpu + 1) logs)
 
 fault_no_want : statuses.WriteFault ≢ statuses.Memory
 fault_no_want e = cc
 
--- member 0's file
-first_output : codes "out." ++ (decimal 0 ++ codes ".pcap") ≡ output_name
-unfolding digits
-first_output = refl
+-- where none is missed all files hold their bytes
+hold_all : (missed : List Bool) (before after : Option Contents) (files : List File) → marked missed ≡ 0 → HoldUnless missed before after files → HoldAll before after files
+hold_all [] before after [] none hold = tt
+hold_all [] before after (file ∷ files) none hold = absurd hold
+hold_all (true ∷ missed) before after files none hold = absurd (omega (arith, none))
+hold_all (false ∷ missed) before after [] none hold = absurd hold
+hold_all (false ∷ missed) before after (file ∷ files) none hold = (hold.0, hold_all missed before after files none hold.1)
 
-concluded_at : (log : CpuLog) (member : MemberReport) (held : Option Contents) (before now : Option (List ℕ)) (unsaved unprinted : Type 0) (saved printed : Bool)
-    → MatchBool saved (HoldsFile held (codes "out." ++ (decimal 0 ++ codes ".pcap")) (output_of member.walked)) unsaved
-    → MatchBool printed (Appends before now (lines_of (reported (record { cpus = log ∷ []; members = member ∷ [] }))))
-    (unprinted × AppendsFront before now (lines_of (reported (record { cpus = log ∷ []; members = member ∷ [] }))))
-    → Concludes (reported (record { cpus = log ∷ []; members = member ∷ [] }))
-    (record { status = status_with (saved && printed) log.end; report = Some (record { cpus = log ∷ []; members = member ∷ [] }) })
-    held before now unsaved unprinted
-concluded_at log member held before now unsaved unprinted true true s p = record {
+pub concluded : (setup : Setup) (report : RunReport) (old new : Seen) (before now : Option (List ℕ)) (unprinted : Type 0) (saved printed : Bool)
+    → Saved old new (files_of (reported setup report)) saved
+    → MatchBool printed (Appends before now (lines_of (reported setup report))) (unprinted × AppendsFront before now (lines_of (reported setup report)))
+    → Concludes (reported setup report) (record { status = status_with (saved && printed) report.cpus; report = Some report })
+    old.held new.held before now (λ n. RoseBy n old.save_faults new.save_faults) unprinted
+concluded setup report old new before now unprinted true true s p = record {
   status = λ plain. refl;
-  fault = λ e. absurd (no_write log.end e);
+  fault = λ e. absurd (no_write 0 report.cpus e);
   report = λ ne. refl;
-  no_report = λ e. absurd (no_want log.end e);
+  no_report = λ e. absurd (no_want 0 report.cpus e);
   lines = λ plain. p;
-  front = λ e. absurd (no_write log.end e);
-  output = λ plain. (s, tt);
-  file = λ e. absurd (no_write log.end e);
+  front = λ e. absurd (no_write 0 report.cpus e);
+  files = λ plain. hold_all s.missed old.held new.held (files_of (reported setup report)) s.none_or_some s.hold;
+  most = λ e. absurd (no_write 0 report.cpus e);
 }
-concluded_at log member held before now unsaved unprinted true false s p = record {
+concluded setup report old new before now unprinted true false s p = record {
   status = λ plain. absurd (plain.no_fault refl);
   fault = λ e. inr p.0;
   report = λ ne. refl;
   no_report = λ e. absurd (fault_no_want e);
   lines = λ plain. absurd (plain.no_fault refl);
   front = λ e. inr p;
-  output = λ plain. absurd (plain.no_fault refl);
-  file = λ e. inl (s, tt);
+  files = λ plain. absurd (plain.no_fault refl);
+  most = λ e. record { missed = s.missed; hold = s.hold; rose = s.rose };
 }
-concluded_at log member held before now unsaved unprinted false true s p = record {
+concluded setup report old new before now unprinted false true s p = record {
   status = λ plain. absurd (plain.no_fault refl);
-  fault = λ e. inl s;
+  fault = λ e. inl (rose_less 1 (marked s.missed) old.save_faults new.save_faults s.none_or_some s.rose);
   report = λ ne. refl;
   no_report = λ e. absurd (fault_no_want e);
   lines = λ plain. absurd (plain.no_fault refl);
   front = λ e. inl p;
-  output = λ plain. absurd (plain.no_fault refl);
-  file = λ e. inr s;
+  files = λ plain. absurd (plain.no_fault refl);
+  most = λ e. record { missed = s.missed; hold = s.hold; rose = s.rose };
 }
-concluded_at log member held before now unsaved unprinted false false s p = record {
+concluded setup report old new before now unprinted false false s p = record {
   status = λ plain. absurd (plain.no_fault refl);
-  fault = λ e. inl s;
+  fault = λ e. inr p.0;
   report = λ ne. refl;
   no_report = λ e. absurd (fault_no_want e);
   lines = λ plain. absurd (plain.no_fault refl);
   front = λ e. inr p;
-  output = λ plain. absurd (plain.no_fault refl);
-  file = λ e. inr s;
+  files = λ plain. absurd (plain.no_fault refl);
+  most = λ e. record { missed = s.missed; hold = s.hold; rose = s.rose };
 }
-
--- what follows from a save of member 0's file and a print, each of which may fail
-pub concluded : (log : CpuLog) (member : MemberReport) (held : Option Contents) (before now : Option (List ℕ)) (unsaved unprinted : Type 0) (saved printed : Bool)
-    → MatchBool saved (HoldsFile held output_name (output_of member.walked)) unsaved
-    → MatchBool printed (Appends before now (lines_of (reported (record { cpus = log ∷ []; members = member ∷ [] }))))
-    (unprinted × AppendsFront before now (lines_of (reported (record { cpus = log ∷ []; members = member ∷ [] }))))
-    → Concludes (reported (record { cpus = log ∷ []; members = member ∷ [] }))
-    (record { status = status_with (saved && printed) log.end; report = Some (record { cpus = log ∷ []; members = member ∷ [] }) })
-    held before now unsaved unprinted
-concluded log member held before now unsaved unprinted saved printed s p =
-    concluded_at log member held before now unsaved unprinted saved printed (subst (λ (name : List ℕ). MatchBool saved (HoldsFile held name (output_of member.walked)) unsaved) (sym first_output) s) p
 
 -- where printing failed, a front of the lines was written
 failed_front : (answer : Result (Unit {0}) OutError) (P Q : Type 0) → OnErr answer P → OnFailed answer Q → OnFailed answer (Q × P)
@@ -113,22 +134,18 @@ failed_front (Ok x) P Q p q = tt
 failed_front (Err errors.Failed) P Q p q = (q, p)
 failed_front (Err errors.Memory) P Q p q = tt
 
--- as above, by what the store and the sink answered to the bytes they were given
-pub concluded_by : (log : CpuLog) (member : MemberReport) (held : Option Contents) (before now : Option (List ℕ)) (unsaved unprinted : Type 0) (saved printed : Bool)
-    (save write : Result (Unit {0}) OutError) (text lines : List ℕ) (report : RunReport) (status : Status)
-    → text ≡ output_of member.walked → lines ≡ lines_of (reported (record { cpus = log ∷ []; members = member ∷ [] }))
-    → report ≡ record { cpus = log ∷ []; members = member ∷ [] } → status ≡ status_with (saved && printed) log.end
-    → Ok saved ≡ tried save → Ok printed ≡ tried write
-    → OnOk save (HoldsFile held output_name text) → OnFailed save unsaved
+-- as above, by what the sink answered to the lines it was given
+pub concluded_by : (setup : Setup) (report : RunReport) (old new : Seen) (before now : Option (List ℕ)) (unprinted : Type 0) (saved printed : Bool)
+    (write : Result (Unit {0}) OutError) (lines : List ℕ) (status : Status)
+    → lines ≡ lines_of (reported setup report) → status ≡ status_with (saved && printed) report.cpus → Ok printed ≡ tried write
+    → Saved old new (files_of (reported setup report)) saved
     → OnOk write (Appends before now lines) → OnErr write (AppendsFront before now lines) → OnFailed write unprinted
-    → Concludes (reported (record { cpus = log ∷ []; members = member ∷ [] })) (record { status = status; report = Some report })
-    held before now unsaved unprinted
-concluded_by log member held before now unsaved unprinted saved printed save write text lines report status et el er es s p holds unheld appends front unwritten =
-    let reports : RunReport = record { cpus = log ∷ []; members = member ∷ [] } in
-    let lines_are : List ℕ = lines_of (reported reports) in
-    let done = concluded log member held before now unsaved unprinted saved printed
-    (told save saved _ _ s (subst (λ (t : List ℕ). OnOk save (HoldsFile held output_name t)) et holds) unheld)
-    (told write printed _ _ p (subst (λ (l : List ℕ). OnOk write (Appends before now l)) el appends)
-    (failed_front write _ _ (subst (λ (l : List ℕ). OnErr write (AppendsFront before now l)) el front) unwritten)) in
-    subst (λ (r : RunReport). Concludes (reported reports) (record { status = status; report = Some r }) held before now unsaved unprinted) (sym er)
-    (subst (λ (n : Status). Concludes (reported reports) (record { status = n; report = Some reports }) held before now unsaved unprinted) (sym es) done)
+    → Concludes (reported setup report) (record { status = status; report = Some report })
+    old.held new.held before now (λ n. RoseBy n old.save_faults new.save_faults) unprinted
+concluded_by setup report old new before now unprinted saved printed write lines status lines_are status_is is s appends front unwritten =
+    let all : List ℕ = lines_of (reported setup report) in
+    subst (λ (n : Status). Concludes (reported setup report) (record { status = n; report = Some report })
+    old.held new.held before now (λ n. RoseBy n old.save_faults new.save_faults) unprinted) (sym status_is)
+    (concluded setup report old new before now unprinted saved printed s
+    (told write printed _ _ is (subst (λ (l : List ℕ). OnOk write (Appends before now l)) lines_are appends)
+    (failed_front write _ _ (subst (λ (l : List ℕ). OnErr write (AppendsFront before now l)) lines_are front) unwritten)))

@@ -1,9 +1,8 @@
-pub mod Kept
-pub mod Schedules
-pub mod Lawful
-pub mod Concluded
+pub mod Texts
 pub mod Meant
-pub mod Requested
-pub mod Replayed
-pub mod Made
+pub mod Fetched
+pub mod Concluded
 pub mod Complete
+pub mod Loaded
+pub mod Made
+pub mod Carried

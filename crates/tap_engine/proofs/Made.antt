@@ -1,78 +1,157 @@
 -- A run that was made, from its parts.
-use Rattle.std.proofs.Common.{false, ◌≡◌, ℕ, List, [], ◌∷◌, inl, inr, refl, sym, ap, subst, ◌∙◌}
-use Rattle.std.specs.Prelude.{Option, Result, Ok, Err, IfOk}
-use Rattle.capture_file.specs.Capture.{frames_of}
-use Rattle.fanout_group.specs.Arrivals.{arrivals_of}
+use Rattle.std.proofs.Common.{◌≡◌, ℕ, zero, suc, ◌+◌, ◌≤◌, Bool, true, false, List, [], ◌∷◌, length, refl, sym, ap, subst, ◌∙◌, arith, Option, None, Some}
+use Rattle.std.specs.Prelude.{IsTrue, if◌then◌else◌, is_some, map, nat_lt, Result, Ok, Err, IfOk, All}
+use Rattle.std.specs.List.{AllByRecursion}
+use Rattle.std.proofs.lemmas.Bool.{ltb-false}
+use Rattle.std.proofs.lemmas.List.{length-map}
+use Rattle.fanout_group.specs.Plans.{fault_of}
+use Rattle.fanout_group.specs.declared.plan_error.PlanError.{PlanError}
 use Rattle.fanout_group.specs.declared.runs.CpuEnd.{CpuEnd}
-use Rattle.fanout_group.specs.declared.runs.CpuEnd.TheVariants.{Whole, Fault}
 use Rattle.fanout_group.specs.declared.runs.CpuLog.{CpuLog}
-use Rattle.setup_text.specs.declared.reports.RunReport.{RunReport}
-use Rattle.first_forms.specs.declared.setups.Setup.{Setup}
+use Rattle.replay_model.specs.Replay.{Cpu}
+use Rattle.replay_model.specs.Reports.{IsSchedule}
 use Rattle.replay_model.specs.declared.schedule.Line.{Line}
+use Rattle.setup_text.specs.Sound.{IsSetup}
+use Rattle.setup_text.specs.declared.jobs.Job.{Job}
+use Rattle.setup_text.specs.declared.reports.MemberReport.{MemberReport}
+use Rattle.setup_text.specs.declared.reports.RunReport.{RunReport}
+use Rattle.setup_text.specs.declared.setups.Setup.{Setup}
 use Rattle.tap_outside.specs.Contents.{Contents}
-use Rattle.tap_outside.specs.Counts.{Rose}
-use Rattle.tap_reading.specs.Captures.{IsCapture}
-use Rattle.tap_reading.specs.declared.captures.Capture.{Capture}
+use Rattle.tap_outside.specs.Counts.{RoseBy}
+use Rattle.tap_replay.specs.Runs.{AreShort, IsReplayed, IsReport, arriving_of, logs_from, replay_of, report_of, rules_of}
+use Rattle.tap_replay.specs.Sources.{Seen}
+use Rattle.tap_saving.specs.Files.{names_from}
 use Rattle.tap_engine.specs.Commands.{Named}
 use Rattle.tap_engine.specs.Conclusions.{Concludes}
-use Rattle.tap_engine.specs.Expected.{HasFault, reported}
-use Rattle.tap_engine.specs.Jobs.{IsJob}
+use Rattle.tap_engine.specs.Expected.{IsReported, faults_in, reported}
+use Rattle.tap_engine.specs.Jobs.{IsRun}
 use Rattle.tap_engine.specs.Making.{Makes}
-use Rattle.tap_engine.specs.Reporting.{IsReadAs, alone}
-use Rattle.tap_engine.specs.Runs.{IsReport, asks_dump, group, report_of, shape_of}
-use Rattle.tap_engine.specs.declared.jobs.Job.{Job}
+use Rattle.tap_engine.specs.Sources.{AreFetched, faulty_in, missing_in}
 use Rattle.tap_engine.specs.declared.outcomes.Outcome.{Outcome}
-use Rattle.tap_engine.specs.declared.reporting.Alone.{Alone}
+use Rattle.tap_engine.proofs.Fetched.{as_many, bytes_as_many, captures_are, faults_are, rose_less, rose_then}
 
 pub if_ok : {A E : Type 0} (P Q : A → Type 0) (result : Result A E) → ((x : A) → P x → Q x) → IfOk result P → IfOk result Q
 if_ok P Q (Ok x) f p = f x p
 if_ok P Q (Err e) f p = p
 
--- the end of the first CPU
-abbrev end_in : List CpuLog → CpuEnd
-end_in [] = Whole
-end_in (log ∷ logs) = log.end
+-- the law of the replay report, as it is cited
+abbrev pub Law : Type 0
+Law = (job : Job) (lines : List Line) (all : List (List ℕ)) (ends : List CpuEnd) → IsSetup job.setup
+    → IsSchedule lines → length all ≡ length job.setup.cpus → length ends ≡ length all
+    → IsReport (rules_of job) job.setup.shape job.setup.dump (arriving_of job all) (report_of job lines all ends)
 
--- a report says how its capture ended
-report_end : (setup : Setup) (lines : List Line) (bytes : List ℕ) (end : CpuEnd) → end_in (report_of setup lines bytes end).cpus ≡ end
+abbrev pub Short : Type 0
+Short = (job : Job) (lines : List Line) (all : List (List ℕ)) (ends : List CpuEnd) → IsSetup job.setup
+    → IsSchedule lines → length all ≡ length job.setup.cpus → length ends ≡ length all
+    → AreShort (report_of job lines all ends).members
+
+-- a job that was replayed, of sources that were fetched
+pub record Replays (held : Option Contents) (job : Job) (lines : List Line) (old new : List (Option Seen)) (report : RunReport) : Type 0 where
+  pub sound : IsSetup job.setup
+  pub ascending : IsSchedule lines
+  pub fetched : AreFetched held job.setup.cpus old
+  pub replayed : IsReplayed job lines old new report
+
+as_many_bytes : (held : Option Contents) (job : Job) (lines : List Line) (old new : List (Option Seen)) (report : RunReport) (r : Replays held job lines old new report)
+    → (length r.replayed.bytes ≡ length job.setup.cpus) × (length r.replayed.ends ≡ length r.replayed.bytes)
+as_many_bytes held job lines old new report r =
+    let counts = bytes_as_many old new r.replayed.bytes r.replayed.ends r.replayed.gave in
+    let sources = as_many held job.setup.cpus old r.fetched in
+    (counts.0 ∙ sources, counts.1 ∙ sym counts.0)
+
+pub lawful_of : Law → (held : Option Contents) (job : Job) (lines : List Line) (old new : List (Option Seen)) (report : RunReport) (r : Replays held job lines old new report)
+    → IsReport (rules_of job) job.setup.shape job.setup.dump (arriving_of job r.replayed.bytes) report
+lawful_of law held job lines old new report r =
+    let counts = as_many_bytes held job lines old new report r in
+    subst (λ (one : RunReport). IsReport (rules_of job) job.setup.shape job.setup.dump (arriving_of job r.replayed.bytes) one) (sym r.replayed.report_is)
+    (law job lines r.replayed.bytes r.replayed.ends r.sound r.ascending counts.0 counts.1)
+
+pub short_of : Short → (held : Option Contents) (job : Job) (lines : List Line) (old new : List (Option Seen)) (report : RunReport) → Replays held job lines old new report → AreShort report.members
+short_of short held job lines old new report r =
+    let counts = as_many_bytes held job lines old new report r in
+    subst (λ (one : RunReport). AreShort one.members) (sym r.replayed.report_is)
+    (short job lines r.replayed.bytes r.replayed.ends r.sound r.ascending counts.0 counts.1)
+
+cpus_are : (job : Job) (lines : List Line) (bytes : List (List ℕ)) (ends : List CpuEnd) → (report_of job lines bytes ends).cpus ≡ logs_from 0 bytes ends (replay_of job lines bytes).cpus
 unfolding report_of
-report_end setup lines bytes end = refl
+cpus_are job lines bytes ends = refl
 
-first_fault : (log : CpuLog) (P : Type 0) → (log.end ≡ Fault → P) → HasFault (log ∷ []) → P
-first_fault log P p (inl e) = p e
-first_fault log P p (inr none) = absurd none
+logs_are : (held : Option Contents) (job : Job) (lines : List Line) (old new : List (Option Seen)) (report : RunReport) (r : Replays held job lines old new report)
+    → report.cpus ≡ logs_from 0 r.replayed.bytes r.replayed.ends (replay_of job lines r.replayed.bytes).cpus
+logs_are held job lines old new report r = ap (λ (one : RunReport). one.cpus) r.replayed.report_is ∙ cpus_are job lines r.replayed.bytes r.replayed.ends
 
-pub makes : (held : Option Contents) (named : Named) (job : Job) (capture : Capture) (one : Alone) (bytes : List ℕ)
-    (outcome : Outcome) (after : Option Contents) (before now : Option (List ℕ)) (r0 r1 r2 s0 s1 s2 : ℕ) (unprinted : Type 0)
-    → IsJob held named job → IsCapture held job.setup.file 0 capture bytes
-    → ((read : List ℕ) → IsReadAs capture read → alone one ≡ report_of job.setup job.schedule read capture.end)
-    → ((read : List ℕ) → IsReadAs capture read → IsReport group (shape_of job.setup) (asks_dump job.setup) (arrivals_of false (frames_of 0 read) ∷ []) (alone one))
-    → (capture.end ≡ Fault → Rose r0 r1) → r2 ≡ r1 → s1 ≡ s0
-    → Concludes (reported (alone one)) outcome after before now (Rose s1 s2) unprinted
-    → Makes held named outcome after before now (Rose r0 r2) (Rose s0 s2) unprinted
-makes held named job capture one bytes outcome after before now r0 r1 r2 s0 s1 s2 unprinted asked read replay worth fault reads saves concludes =
-    let given : IsReadAs capture bytes = record { given = read.given; frames = read.frames } in
-    let is = replay bytes given in
-    let end : one.log.end ≡ capture.end = ap (λ (r : RunReport). end_in r.cpus) is ∙ report_end job.setup job.schedule bytes capture.end in
-    record {
-      report = alone one;
-      headline = record {
-        setup_text = asked.setup_text;
-        setup_read = asked.setup.read;
-        setup = job.setup;
-        setup_is = asked.setup.is;
-        schedule_text = asked.schedule_text;
-        schedule_read = asked.schedule.read;
-        lines = job.schedule;
-        lines_are = asked.schedule.is;
-        bytes = bytes;
-        capture_read = read.front;
-        end = capture.end;
-        end_is = read.end;
-        all_read = read.all;
-        replay = is;
-        lawful = worth bytes given;
-      };
-      fault = first_fault one.log (Rose r0 r2) (λ e. subst (λ (n : ℕ). Rose r0 n) (sym reads) (fault (sym end ∙ e)));
-      concludes = subst (λ (n : ℕ). Concludes (reported (alone one)) outcome after before now (Rose n s2) unprinted) saves concludes;
-    }
+few_logs : (cpu : ℕ) (bytes : List (List ℕ)) (ends : List CpuEnd) (cpus : List Cpu) → length (logs_from cpu bytes ends cpus) ≤ length bytes
+few_logs cpu [] ends cpus = omega arith
+few_logs cpu (b ∷ bytes) [] cpus = omega arith
+few_logs cpu (b ∷ bytes) (end ∷ ends) [] = omega arith
+few_logs cpu (b ∷ bytes) (end ∷ ends) (of ∷ cpus) = let rest = few_logs (cpu + 1) bytes ends cpus in omega (arith, rest)
+
+-- at most eight CPUs
+pub few_cpus : (held : Option Contents) (job : Job) (lines : List Line) (old new : List (Option Seen)) (report : RunReport) → Replays held job lines old new report → length report.cpus ≤ 8
+few_cpus held job lines old new report r =
+    let logs = ap (λ (ls : List CpuLog). length ls) (logs_are held job lines old new report r) in
+    let most = few_logs 0 r.replayed.bytes r.replayed.ends (replay_of job lines r.replayed.bytes).cpus in
+    let count = (as_many_bytes held job lines old new report r).0 in
+    let few = r.sound.few in
+    omega (arith, logs, most, count, few)
+
+second_test : (a b : Bool) (first second : PlanError) (rest : Option PlanError) → (if a then Some first else if b then Some second else rest) ≡ None → b ≡ false
+second_test true b first second rest e = cc
+second_test false true first second rest e = cc
+second_test false false first second rest e = refl
+
+few_in_group : (setup : Setup) → IsSetup setup → setup.plan.members ≤ 8
+few_in_group setup sound = ltb-false 8 setup.plan.members (second_test _ (nat_lt 8 setup.plan.members) _ _ _ sound.group)
+
+-- as many members as the setup has, and at most eight
+pub members_are : Law → (held : Option Contents) (job : Job) (lines : List Line) (old new : List (Option Seen)) (report : RunReport) → Replays held job lines old new report
+    → length report.members ≡ job.setup.plan.members
+members_are law held job lines old new report r =
+    sym (length-map report.members (λ (member : MemberReport). member.notes)) ∙ (lawful_of law held job lines old new report r).group.count
+
+pub few_members : Law → (held : Option Contents) (job : Job) (lines : List Line) (old new : List (Option Seen)) (report : RunReport) → Replays held job lines old new report
+    → length report.members ≤ 8
+few_members law held job lines old new report r =
+    let count = members_are law held job lines old new report r in
+    let few = few_in_group job.setup r.sound in omega (arith, count, few)
+
+-- no more CPUs ended with a fault than reading failed
+pub faults_rose : (held : Option Contents) (job : Job) (lines : List Line) (old new : List (Option Seen)) (report : RunReport) (a b c d : ℕ) → Replays held job lines old new report
+    → RoseBy (missing_in old) a b → RoseBy (faulty_in new) b c → d ≡ c → RoseBy (faults_in report.cpus) a d
+faults_rose held job lines old new report a b c d r missing faulty same =
+    let most = faults_are held job.setup.cpus 0 old new r.replayed.bytes r.replayed.ends (replay_of job lines r.replayed.bytes).cpus r.fetched r.replayed.gave in
+    let logs = ap faults_in (logs_are held job lines old new report r) in
+    let both = rose_then (missing_in old) (faulty_in new) a b c missing faulty in
+    subst (λ n. RoseBy (faults_in report.cpus) a n) (sym same)
+    (rose_less (faults_in report.cpus) (missing_in old + faulty_in new) a c (omega (arith, most, logs)) both)
+
+pub reports : Law → (held : Option Contents) (named : Named) (job : Job) (lines : List Line) (old new : List (Option Seen)) (report : RunReport)
+    → Replays held job lines old new report → IsRun held named job lines → IsReported held named job.setup report
+reports law held named job lines old new report r run = record {
+  headline = record {
+    command = run.command;
+    job = job;
+    job_is = run.job_is;
+    lines = lines;
+    lines_are = run.lines_are;
+    bytes = r.replayed.bytes;
+    ends = r.replayed.ends;
+    captures = captures_are held job.setup.cpus old new r.replayed.bytes r.replayed.ends r.fetched r.replayed.gave;
+    replay = r.replayed.report_is;
+    lawful = lawful_of law held job lines old new report r;
+  };
+  setup_is = refl;
+}
+
+pub makes : (held now : Option Contents) (named : Named) (setup : Setup) (report : RunReport) (outcome : Outcome) (after : Option Contents) (before written : Option (List ℕ)) (a b c s0 s1 s2 : ℕ) (unprinted : Type 0)
+    → IsReported held named setup report → RoseBy (faults_in report.cpus) a b → c ≡ b → now ≡ held → s1 ≡ s0
+    → Concludes (reported setup report) outcome now after before written (λ n. RoseBy n s1 s2) unprinted
+    → Makes held named outcome after before written (λ n. RoseBy n a c) (λ n. RoseBy n s0 s2) unprinted
+makes held now named setup report outcome after before written a b c s0 s1 s2 unprinted is faults same held_is saves concludes = record {
+  setup = setup;
+  report = report;
+  is = is;
+  faults = subst (λ n. RoseBy (faults_in report.cpus) a n) (sym same) faults;
+  concludes = subst (λ (o : Option Contents). Concludes (reported setup report) outcome o after before written (λ n. RoseBy n s0 s2) unprinted) held_is
+      (subst (λ s. Concludes (reported setup report) outcome now after before written (λ n. RoseBy n s s2) unprinted) saves concludes);
+}

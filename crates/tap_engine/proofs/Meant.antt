@@ -1,64 +1,108 @@
 -- The names that a command reads and saves are meant, where its setup is accepted.
-use Rattle.std.proofs.Common.{◌≡◌, ℕ, ◌≤◌, Bool, true, false, List, length, Option, None, Some, refl, sym, ap, subst, ◌∙◌}
-use Rattle.std.specs.Prelude.{IsTrue, if◌then◌else◌}
+use Rattle.std.proofs.Common.{◌≡◌, ℕ, Bool, true, List, [], ◌∷◌, ◌++◌, length, Option, None, Some, refl, sym, ap, subst, ◌∙◌}
+use Rattle.std.specs.Prelude.{IsTrue, IfSome, Result, Ok, Err, map, option_to_list, All}
 use Rattle.std.specs.List.{AllByRecursion}
-use Rattle.std.proofs.lemmas.Bool.{leb-true}
-use Rattle.first_forms.specs.declared.setups.Setup.{Setup}
+use Rattle.std.proofs.lemmas.List.Elements.{All-from_recursion}
+use Rattle.setup_text.specs.declared.commands.Command.{Command}
+use Rattle.setup_text.specs.declared.commands.Command.TheVariants.{Check, Replay}
+use Rattle.setup_text.specs.declared.cpu_setups.CpuSetup.{CpuSetup}
+use Rattle.setup_text.specs.declared.setup_error.SetupError.{SetupError}
+use Rattle.setup_text.specs.declared.setups.Setup.{Setup}
 use Rattle.tap_outside.specs.Contents.{Contents}
+use Rattle.tap_reading.specs.Readers.{Says, setup_for}
+use Rattle.tap_saving.specs.Files.{names_from}
 use Rattle.tap_engine.specs.Commands.{Named}
-use Rattle.tap_engine.specs.Jobs.{IsAccepted}
-use Rattle.tap_engine.specs.Names.{AreMeant, names_to_read, names_to_save, output_name, read_by, saved_by, setup_held}
-use Rattle.tap_engine.specs.Runs.{accepted_setup, is_text}
+use Rattle.tap_engine.specs.Jobs.{HasSetup}
+use Rattle.tap_engine.specs.Names.{AreMeant, names_to_read, names_to_save, read_behind, read_by, saved_by, setup_held}
+use Rattle.tap_engine.proofs.Texts.{says_held, setups}
 
--- what is accepted isn't too large
-accepted_small : {A : Type 0} (b : Bool) (read : Option A) (value : A) → (if b then read else None) ≡ Some value → b ≡ true
-accepted_small true read value e = refl
-accepted_small false read value e = cc
+-- every name of a store that doesn't tell what it holds
+abbrev pub Untold : Option Contents → (List ℕ → Bool) → Type 0
+Untold held meant = (name : List ℕ) → held ≡ None → IsTrue (meant name)
 
--- the setup that was read is the one that the store holds
-held_setup : (files : Contents) (named : Named) (text : List ℕ) (setup : Setup) → IsAccepted accepted_setup (Some files) named.setup text setup
-    → setup_held files named ≡ Some setup
-held_setup files named text setup h =
-    let small : length text ≤ 1048576 = leb-true (length text) 1048576 (accepted_small (is_text text) _ setup h.is) in
-    ap accepted_setup (sym (h.read.whole small)) ∙ h.is
-
-first_meant : (meant : List ℕ → Bool) (named : Named) (setup : Option Setup) → AllByRecursion (λ name. IsTrue (meant name)) (read_by named setup)
+first_meant : (meant : List ℕ → Bool) (named : Named) (setup : Result Setup SetupError) → AllByRecursion (λ name. IsTrue (meant name)) (read_by named setup)
     → IsTrue (meant named.setup)
-first_meant meant named None all = all.0
-first_meant meant named (Some setup) all = all.0
+first_meant meant named (Err error) all = all.0
+first_meant meant named (Ok setup) all = all.0
 
 -- a command's setup is meant for reading
 pub setup_meant : (held : Option Contents) (meant : List ℕ → Bool) (named : Named)
-    → ((name : List ℕ) → held ≡ None → IsTrue (meant name)) → AreMeant names_to_read (Some named) held meant → IsTrue (meant named.setup)
+    → Untold held meant → AreMeant names_to_read (Some named) held meant → IsTrue (meant named.setup)
 setup_meant None meant named untold all = untold named.setup refl
 setup_meant (Some files) meant named untold all = first_meant meant named (setup_held files named) all
 
--- so are its schedule and its capture
-pub rest_meant : (held : Option Contents) (meant : List ℕ → Bool) (named : Named) (text : List ℕ) (setup : Setup)
-    → ((name : List ℕ) → held ≡ None → IsTrue (meant name)) → AreMeant names_to_read (Some named) held meant
-    → IsAccepted accepted_setup held named.setup text setup → IsTrue (meant named.schedule) × IsTrue (meant setup.file)
-rest_meant None meant named text setup untold all h = (untold named.schedule refl, untold setup.file refl)
-rest_meant (Some files) meant named text setup untold all h =
-    let each = subst (λ (s : Option Setup). AllByRecursion (λ name. IsTrue (meant name)) (read_by named s)) (held_setup files named text setup h) all in
-    (each.1.0, each.1.1.0)
+held_setup : (files : Contents) (named : Named) (setup : Setup) → HasSetup (Some files) named setup → setup_held files named ≡ Ok setup
+held_setup files named setup has = says_held (setup_for named.command) files named.setup (Ok setup) (setups named.command) has
 
--- and member 0's file is meant for saving
-pub output_meant : (held : Option Contents) (meant : List ℕ → Bool) (named : Named) (text : List ℕ) (setup : Setup)
-    → ((name : List ℕ) → held ≡ None → IsTrue (meant name)) → AreMeant names_to_save (Some named) held meant
-    → IsAccepted accepted_setup held named.setup text setup → IsTrue (meant output_name)
-output_meant None meant named text setup untold all h = untold output_name refl
-output_meant (Some files) meant named text setup untold all h =
-    (subst (λ (s : Option Setup). AllByRecursion (λ name. IsTrue (meant name)) (saved_by s)) (held_setup files named text setup h) all).0
+-- so are the names behind it
+abbrev pub Behind : (List ℕ → Bool) → Named → Setup → Type 0
+Behind meant named setup = AllByRecursion (λ name. IsTrue (meant name)) (option_to_list setup.filter ++ read_behind named.command named.schedule setup)
 
--- a store that means every name means those of a command
-any_meant : (named : Named) (setup : Option Setup) → AllByRecursion (λ name. IsTrue true) (read_by named setup) × AllByRecursion (λ name. IsTrue true) (saved_by setup)
-any_meant named None = ((refl, tt), tt)
-any_meant named (Some setup) = ((refl, (refl, (refl, tt))), (refl, tt))
+any_name : (meant : List ℕ → Bool) (names : List (List ℕ)) → ((name : List ℕ) → IsTrue (meant name)) → AllByRecursion (λ name. IsTrue (meant name)) names
+any_name meant [] any = tt
+any_name meant (name ∷ names) any = (any name, any_name meant names any)
 
-pub every_read : (files : Contents) (command : Option Named) → AreMeant names_to_read command (Some files) (λ _. true)
-every_read files None = tt
-every_read files (Some named) = (any_meant named (setup_held files named)).0
+pub behind_meant : (held : Option Contents) (meant : List ℕ → Bool) (named : Named) (setup : Setup)
+    → Untold held meant → AreMeant names_to_read (Some named) held meant → HasSetup held named setup → Behind meant named setup
+behind_meant None meant named setup untold all has = any_name meant _ (λ name. untold name refl)
+behind_meant (Some files) meant named setup untold all has =
+    (subst (λ (s : Result Setup SetupError). AllByRecursion (λ name. IsTrue (meant name)) (read_by named s)) (held_setup files named setup has) all).1
 
-pub every_save : (files : Contents) (command : Option Named) → AreMeant names_to_save command (Some files) (λ _. true)
-every_save files None = tt
-every_save files (Some named) = (any_meant named (setup_held files named)).1
+front_meant : (meant : List ℕ → Bool) (filter : Option (List ℕ)) (names : List (List ℕ)) → AllByRecursion (λ name. IsTrue (meant name)) (option_to_list filter ++ names)
+    → IfSome filter (λ name. IsTrue (meant name)) × AllByRecursion (λ name. IsTrue (meant name)) names
+front_meant meant None names all = (tt, all)
+front_meant meant (Some filter) names all = (all.0, all.1)
+
+pub filter_meant : (meant : List ℕ → Bool) (named : Named) (setup : Setup) → Behind meant named setup → IfSome setup.filter (λ name. IsTrue (meant name))
+filter_meant meant named setup all = (front_meant meant setup.filter (read_behind named.command named.schedule setup) all).0
+
+rest_meant : (meant : List ℕ → Bool) (named : Named) (setup : Setup) (command : Command) → named.command ≡ command → Behind meant named setup
+    → AllByRecursion (λ name. IsTrue (meant name)) (read_behind command named.schedule setup)
+rest_meant meant named setup command is all =
+    subst (λ (c : Command). AllByRecursion (λ name. IsTrue (meant name)) (read_behind c named.schedule setup)) is
+    (front_meant meant setup.filter (read_behind named.command named.schedule setup) all).1
+
+ticks_of : (meant : List ℕ → Bool) (ticks : Option (List ℕ)) → AllByRecursion (λ name. IsTrue (meant name)) (option_to_list ticks) → IfSome ticks (λ name. IsTrue (meant name))
+ticks_of meant None all = tt
+ticks_of meant (Some ticks) all = all.0
+
+pub ticks_meant : (meant : List ℕ → Bool) (named : Named) (setup : Setup) → named.command ≡ Check → Behind meant named setup
+    → IfSome setup.ticks (λ name. IsTrue (meant name))
+ticks_meant meant named setup is all = ticks_of meant setup.ticks (rest_meant meant named setup Check is all)
+
+pub schedule_meant : (meant : List ℕ → Bool) (named : Named) (setup : Setup) → named.command ≡ Replay → Behind meant named setup → IsTrue (meant named.schedule)
+schedule_meant meant named setup is all = (rest_meant meant named setup Replay is all).0
+
+files_of : (meant : List ℕ → Bool) (cpus : List CpuSetup) → AllByRecursion (λ name. IsTrue (meant name)) (map (λ cpu. cpu.file) cpus)
+    → AllByRecursion (λ cpu. IsTrue (meant cpu.file)) cpus
+files_of meant [] all = tt
+files_of meant (cpu ∷ cpus) all = (all.0, files_of meant cpus all.1)
+
+pub captures_meant : (meant : List ℕ → Bool) (named : Named) (setup : Setup) → named.command ≡ Replay → Behind meant named setup
+    → All (λ cpu. IsTrue (meant cpu.file)) setup.cpus
+captures_meant meant named setup is all =
+    All-from_recursion (λ (cpu : CpuSetup). IsTrue (meant cpu.file)) setup.cpus (files_of meant setup.cpus (rest_meant meant named setup Replay is all).1)
+
+-- and the members' files are meant for saving
+saved_meant : (meant : List ℕ → Bool) (setup : Setup) (command : Command) → command ≡ Replay → AllByRecursion (λ name. IsTrue (meant name)) (saved_by command (Ok setup))
+    → AllByRecursion (λ name. IsTrue (meant name)) (names_from setup 0 setup.plan.members)
+saved_meant meant setup Check is all = cc
+saved_meant meant setup Replay is all = all
+
+pub outputs_meant : (held : Option Contents) (meant : List ℕ → Bool) (named : Named) (setup : Setup)
+    → Untold held meant → AreMeant names_to_save (Some named) held meant → named.command ≡ Replay → HasSetup held named setup
+    → AllByRecursion (λ name. IsTrue (meant name)) (names_from setup 0 setup.plan.members)
+outputs_meant None meant named setup untold all is has = any_name meant _ (λ name. untold name refl)
+outputs_meant (Some files) meant named setup untold all is has =
+    saved_meant meant setup named.command is
+    (subst (λ (s : Result Setup SetupError). AllByRecursion (λ name. IsTrue (meant name)) (saved_by named.command s)) (held_setup files named setup has) all)
+
+-- the names that are saved, by what the store holds
+names_are : (setup : Setup) (command : Command) → command ≡ Replay → names_from setup 0 setup.plan.members ≡ saved_by command (Ok setup)
+names_are setup Check is = cc
+names_are setup Replay is = refl
+
+pub saved_names : (files : Contents) (named : Named) (setup : Setup) → named.command ≡ Replay → HasSetup (Some files) named setup
+    → names_from setup 0 setup.plan.members ≡ names_to_save (Some named) files
+saved_names files named setup is has =
+    names_are setup named.command is ∙ ap (λ (s : Result Setup SetupError). saved_by named.command s) (sym (held_setup files named setup has))

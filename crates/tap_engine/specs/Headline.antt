@@ -1,37 +1,45 @@
 -- The headline: what a report is worth.
-use Rattle.std.specs.Prelude.{false, ◌≡◌, ℕ, List, [], ◌∷◌, Option, Some}
-use Rattle.tap_outside.specs.Contents.{Contents}
-use Rattle.capture_file.specs.Capture.{frames_of, end_of}
-use Rattle.fanout_group.specs.Arrivals.{arrivals_of}
+use Rattle.std.specs.Prelude.{◌≡◌, ℕ, List, [], ◌∷◌, ⊤, Option, Some}
+use Rattle.capture_file.specs.Capture.{end_of}
 use Rattle.fanout_group.specs.declared.runs.CpuEnd.{CpuEnd}
 use Rattle.replay_model.specs.declared.schedule.Line.{Line}
+use Rattle.setup_text.specs.declared.commands.Command.TheVariants.{Replay}
+use Rattle.setup_text.specs.declared.cpu_setups.CpuSetup.{CpuSetup}
+use Rattle.setup_text.specs.declared.jobs.Job.{Job}
 use Rattle.setup_text.specs.declared.reports.RunReport.{RunReport}
-use Rattle.first_forms.specs.declared.setups.Setup.{Setup}
-use Rattle.tap_reading.specs.Captures.{UnlessFault, WhereEnded, end_by}
-use Rattle.tap_reading.specs.Fronts.{IsAllOf, IsFrontOf, IsTextOf}
+use Rattle.tap_outside.specs.Contents.{Contents}
+use Rattle.tap_reading.specs.Fronts.{IsAllOf, IsFrontOf}
+use Rattle.tap_replay.specs.Runs.{IsReport, arriving_of, report_of, rules_of}
+use Rattle.tap_replay.specs.Sources.{UnlessFault, WhereEnded, end_by}
 use Rattle.tap_engine.specs.Commands.{Named}
-use Rattle.tap_engine.specs.Runs.{IsReport, accepted_schedule, accepted_setup, group, report_of, asks_dump, shape_of}
+use Rattle.tap_engine.specs.Jobs.{HasJob, HasSchedule}
 
--- A report is that of the setup, the schedule and the capture that stand under their names.
+-- the capture under a name gave these bytes, from its front, and ended so: unless reading failed as the bytes say, and
+-- whole or cut only where they are all
+pub record IsCapture (held : Option Contents) (name bytes : List ℕ) (end : CpuEnd) : Type 0 where
+  pub front : IsFrontOf held name bytes
+  pub damage : UnlessFault end (end ≡ end_by (end_of bytes))
+  pub all : WhereEnded end (IsAllOf held name bytes)
+
+-- the capture of each CPU
+abbrev pub AreCaptures : Option Contents → List CpuSetup → List (List ℕ) → List CpuEnd → Type 0
+AreCaptures held [] [] [] = ⊤
+AreCaptures held (cpu ∷ cpus) (bytes ∷ all) (end ∷ ends) = IsCapture held cpu.file bytes end × AreCaptures held cpus all ends
+AreCaptures held cpus all ends = ⊥
+
+-- A report is that of the setup, the filter, the schedule and the captures that stand under their names.
 pub record IsHeadline (held : Option Contents) (named : Named) (report : RunReport) : Type 0 where
-  -- the setup's text was read and is accepted
-  pub setup_text : List ℕ
-  pub setup_read : IsTextOf held named.setup setup_text
-  pub setup : Setup
-  pub setup_is : accepted_setup setup_text ≡ Some setup
-  -- so was the schedule's
-  pub schedule_text : List ℕ
-  pub schedule_read : IsTextOf held named.schedule schedule_text
+  pub command : named.command ≡ Replay
+  -- the texts were read and are accepted
+  pub job : Job
+  pub job_is : HasJob held named job
   pub lines : List Line
-  pub lines_are : accepted_schedule schedule_text ≡ Some lines
-  -- the capture gave these bytes, from its front
-  pub bytes : List ℕ
-  pub capture_read : IsFrontOf held setup.file bytes
-  -- how it ended: unless reading failed as the bytes say, and whole or cut only where they are all
-  pub end : CpuEnd
-  pub end_is : UnlessFault end (end ≡ end_by (end_of bytes))
-  pub all_read : WhereEnded end (IsAllOf held setup.file bytes)
+  pub lines_are : HasSchedule held named job lines
+  -- what the captures gave
+  pub bytes : List (List ℕ)
+  pub ends : List CpuEnd
+  pub captures : AreCaptures held job.setup.cpus bytes ends
   -- the report is the replay report
-  pub replay : report ≡ report_of setup lines bytes end
-  -- so its log is lawful over the arrivals, joined with its notes, and these are a run of the ring
-  pub lawful : IsReport group (shape_of setup) (asks_dump setup) (arrivals_of false (frames_of 0 bytes) ∷ []) report
+  pub replay : report ≡ report_of job lines bytes ends
+  -- so its logs are lawful over the arrivals, joined with its notes, and these are runs of the rings
+  pub lawful : IsReport (rules_of job) job.setup.shape job.setup.dump (arriving_of job bytes) report

@@ -1,48 +1,104 @@
--- What reading a text came to.
-use Rattle.std.specs.Prelude.{◌≡◌, ℕ, List, Option, None, Some, ⊤}
+-- What a command asks for, by the texts under its names: setup, filter, and then the moments or the schedule.
+use Rattle.std.specs.Prelude.{◌≡◌, ◌⊎◌, ℕ, List, length, ⊤, Option, None, Some, Ok, Err}
+use Rattle.bpf_filter.specs.declared.insn.Insn.{Insn}
+use Rattle.replay_model.specs.declared.schedule.Line.{Line}
+use Rattle.replay_model.specs.Reports.{IsSchedule}
+use Rattle.setup_text.specs.Filters.{filter_of}
+use Rattle.setup_text.specs.Moments.{moments_of}
+use Rattle.setup_text.specs.Sound.{IsSetup}
+use Rattle.setup_text.specs.declared.commands.Command.TheVariants.{Check, Replay}
+use Rattle.setup_text.specs.declared.jobs.Job.{Job}
+use Rattle.setup_text.specs.declared.setup_error.SetupError.{SetupError}
+use Rattle.setup_text.specs.declared.setups.Setup.{Setup}
+use Rattle.setup_text.specs.declared.text_error.TextError.{TextError}
 use Rattle.tap_outside.specs.Contents.{Contents}
-use Rattle.tap_reading.specs.Fronts.{IsTextOf}
+use Rattle.tap_reading.specs.Readers.{Says, schedule_for, setup_for}
+use Rattle.tap_reading.specs.declared.stops.Stop.{Stop}
+use Rattle.tap_reading.specs.declared.stops.Stop.TheVariants as stops
 use Rattle.tap_engine.specs.Commands.{Named}
-use Rattle.tap_engine.specs.Expected.{IsExpected, unready}
-use Rattle.tap_engine.specs.declared.jobs.Job.{Job}
-use Rattle.tap_engine.specs.Runs.{accepted_schedule, accepted_setup}
-use Rattle.tap_engine.specs.declared.outcomes.Input.TheVariants.{Setup, Schedule}
-use Rattle.tap_engine.specs.declared.stops.Stop.{Stop}
-use Rattle.tap_engine.specs.declared.stops.Stop.TheVariants.{Memory, Unread, Unready}
+use Rattle.tap_engine.specs.declared.jobs.Loaded.{Loaded}
+use Rattle.tap_engine.specs.declared.jobs.Loaded.TheVariants.{Checked, Run}
 
--- the text under the name is accepted as this
-pub record IsAccepted {A : Type 0} (accepted : List ℕ → Option A) (held : Option Contents) (name text : List ℕ) (value : A) : Type 0 where
-  pub read : IsTextOf held name text
-  pub is : accepted text ≡ Some value
+-- ---- what is accepted
 
--- the text under the name was read and isn't accepted
-pub record IsRefused {A : Type 0} (accepted : List ℕ → Option A) (held : Option Contents) (name text : List ℕ) : Type 0 where
-  pub read : IsTextOf held name text
-  pub refused : accepted text ≡ None
+-- the setup was read and is accepted
+abbrev pub HasSetup : Option Contents → Named → Setup → Type 0
+HasSetup held named setup = Says (setup_for named.command) held named.setup (Ok setup)
 
--- the setup stops the command: it can't be read, which comes only where reading failed, or isn't accepted
-abbrev pub StopsAtSetup : Option Contents → List ℕ → Type 0 → Stop → Type 0
-StopsAtSetup held name failed Unread = failed
-StopsAtSetup held name failed (Unready Setup) = (text : List ℕ) × IsRefused accepted_setup held name text
-StopsAtSetup held name failed (Unready Schedule) = ⊥
-StopsAtSetup held name failed Memory = ⊤
+-- so was the filter that a setup names; where it names none there is no program
+abbrev pub HasProgram : Option Contents → Option (List ℕ) → Option (List Insn) → Type 0
+HasProgram held None None = ⊤
+HasProgram held (Some name) (Some program) = Says filter_of held name (Ok program)
+HasProgram held name program = ⊥
 
--- the schedule does
-abbrev pub StopsAtSchedule : Option Contents → List ℕ → Type 0 → Stop → Type 0
-StopsAtSchedule held name failed Unread = failed
-StopsAtSchedule held name failed (Unready Schedule) = (text : List ℕ) × IsRefused accepted_schedule held name text
-StopsAtSchedule held name failed (Unready Setup) = ⊥
-StopsAtSchedule held name failed Memory = ⊤
+pub record HasJob (held : Option Contents) (named : Named) (job : Job) : Type 0 where
+  pub setup : HasSetup held named job.setup
+  pub program : HasProgram held job.setup.filter job.program
 
--- the texts under a command's names are accepted as this
-pub record IsJob (held : Option Contents) (named : Named) (job : Job) : Type 0 where
-  pub setup_text : List ℕ
-  pub setup : IsAccepted accepted_setup held named.setup setup_text job.setup
-  pub schedule_text : List ℕ
-  pub schedule : IsAccepted accepted_schedule held named.schedule schedule_text job.schedule
+-- the moments that a setup names, where it names some
+abbrev pub HasTicks : Option Contents → Option (List ℕ) → Type 0
+HasTicks held None = ⊤
+HasTicks held (Some name) = (moments : List ℕ) × Says moments_of held name (Ok moments)
 
--- a text of a command stops it: it can't be read, which comes only where reading failed, or isn't accepted
-abbrev pub StopsJob : Option Contents → Named → Type 0 → Stop → Type 0
-StopsJob held named failed Unread = failed
-StopsJob held named failed (Unready input) = IsExpected held failed (Some named) (unready input)
-StopsJob held named failed Memory = ⊤
+-- the schedule
+abbrev pub HasSchedule : Option Contents → Named → Job → List Line → Type 0
+HasSchedule held named job lines =
+    Says (schedule_for (length job.setup.cpus) job.setup.plan.members) held named.schedule (Ok lines)
+
+-- ---- what is refused, all texts before it being accepted
+
+abbrev pub HasBadSetup : Option Contents → Named → SetupError → Type 0
+HasBadSetup held named error = Says (setup_for named.command) held named.setup (Err error)
+
+pub record HasBadFilter (held : Option Contents) (named : Named) (error : TextError) : Type 0 where
+  pub setup : Setup
+  pub has : HasSetup held named setup
+  pub name : List ℕ
+  pub names : setup.filter ≡ Some name
+  pub refused : Says filter_of held name (Err error)
+
+pub record HasBadTicks (held : Option Contents) (named : Named) (error : TextError) : Type 0 where
+  pub command : named.command ≡ Check
+  pub job : Job
+  pub has : HasJob held named job
+  pub name : List ℕ
+  pub names : job.setup.ticks ≡ Some name
+  pub refused : Says moments_of held name (Err error)
+
+pub record HasBadSchedule (held : Option Contents) (named : Named) (error : TextError) : Type 0 where
+  pub command : named.command ≡ Replay
+  pub job : Job
+  pub has : HasJob held named job
+  pub refused : Says (schedule_for (length job.setup.cpus) job.setup.plan.members) held named.schedule (Err error)
+
+abbrev pub HasBadText : Option Contents → Named → TextError → Type 0
+HasBadText held named error =
+    HasBadFilter held named error ⊎ (HasBadTicks held named error ⊎ HasBadSchedule held named error)
+
+-- a text stops the command: it can't be read, which comes only where reading failed, or is refused
+abbrev pub Stops : Option Contents → Named → Type 0 → Stop → Type 0
+Stops held named failed stops.Unread = failed
+Stops held named failed (stops.Setup error) = HasBadSetup held named error
+Stops held named failed (stops.Text error) = HasBadText held named error
+Stops held named failed stops.Memory = ⊤
+
+-- ---- what was loaded
+
+-- a run: its job and its lines; both are sound, so that they can be replayed
+pub record IsRun (held : Option Contents) (named : Named) (job : Job) (lines : List Line) : Type 0 where
+  pub command : named.command ≡ Replay
+  pub job_is : HasJob held named job
+  pub lines_are : HasSchedule held named job lines
+  pub sound : IsSetup job.setup
+  pub ascending : IsSchedule lines
+
+-- the moments are accepted where a check ends
+pub record IsChecked (held : Option Contents) (named : Named) : Type 0 where
+  pub command : named.command ≡ Check
+  pub job : Job
+  pub job_is : HasJob held named job
+  pub ticks : HasTicks held job.setup.ticks
+
+abbrev pub IsLoaded : Option Contents → Named → Loaded → Type 0
+IsLoaded held named Checked = IsChecked held named
+IsLoaded held named (Run job lines) = IsRun held named job lines

@@ -1,27 +1,35 @@
 -- Which files a command reads and which it saves.
-use Rattle.std.specs.Prelude.{ℕ, Bool, List, [], ◌∷◌, codes, Option, None, Some, unwrap_or, IsTrue, ⊤}
+use Rattle.std.specs.Prelude.{ℕ, Bool, List, [], ◌∷◌, ◌++◌, map, option_to_list, Option, None, Some, unwrap_or, IsTrue, ⊤, Result, Ok, Err}
 use Rattle.std.specs.List.{AllByRecursion}
+use Rattle.setup_text.specs.declared.commands.Command.{Command}
+use Rattle.setup_text.specs.declared.commands.Command.TheVariants.{Check, Replay}
+use Rattle.setup_text.specs.declared.setup_error.SetupError.{SetupError}
+use Rattle.setup_text.specs.declared.setups.Setup.{Setup}
 use Rattle.tap_outside.specs.Contents.{Contents}
-use Rattle.first_forms.specs.declared.setups.Setup.{Setup}
+use Rattle.tap_reading.specs.Readers.{setup_for}
+use Rattle.tap_saving.specs.Files.{names_from}
 use Rattle.tap_engine.specs.Commands.{Named}
-use Rattle.tap_engine.specs.Runs.{accepted_setup}
 
--- the file that member 0's packets are saved in
-abbrev pub output_name : List ℕ
-output_name = codes "out.0.pcap"
+-- behind setup and filter `check` reads the moments, and `replay` the schedule and the captures
+abbrev pub read_behind : Command → List ℕ → Setup → List (List ℕ)
+read_behind Check schedule setup = option_to_list setup.ticks
+read_behind Replay schedule setup = schedule ∷ map (λ cpu. cpu.file) setup.cpus
 
--- the setup alone where it isn't accepted, else the schedule and the capture too
-abbrev pub read_by : Named → Option Setup → List (List ℕ)
-read_by named None = named.setup ∷ []
-read_by named (Some setup) = named.setup ∷ named.schedule ∷ setup.file ∷ []
+-- the setup alone where it isn't accepted
+abbrev pub read_by : Named → Result Setup SetupError → List (List ℕ)
+read_by named (Err error) = named.setup ∷ []
+read_by named (Ok setup) =
+    named.setup ∷ (option_to_list setup.filter ++ read_behind named.command named.schedule setup)
 
-abbrev pub saved_by : Option Setup → List (List ℕ)
-saved_by None = []
-saved_by (Some setup) = output_name ∷ []
+-- `replay` saves the files of its members
+abbrev pub saved_by : Command → Result Setup SetupError → List (List ℕ)
+saved_by Check setup = []
+saved_by Replay (Err error) = []
+saved_by Replay (Ok setup) = names_from setup 0 setup.plan.members
 
 -- the setup that the store holds; a name that isn't held holds the empty text
-abbrev pub setup_held : Contents → Named → Option Setup
-setup_held files named = accepted_setup (unwrap_or (files named.setup) [])
+abbrev pub setup_held : Contents → Named → Result Setup SetupError
+setup_held files named = setup_for named.command (unwrap_or (files named.setup) [])
 
 abbrev pub names_to_read : Option Named → Contents → List (List ℕ)
 names_to_read None files = []
@@ -29,7 +37,12 @@ names_to_read (Some named) files = read_by named (setup_held files named)
 
 abbrev pub names_to_save : Option Named → Contents → List (List ℕ)
 names_to_save None files = []
-names_to_save (Some named) files = saved_by (setup_held files named)
+names_to_save (Some named) files = saved_by named.command (setup_held files named)
+
+-- the names of a command, where the store tells what it holds
+abbrev pub names_in : (Option Named → Contents → List (List ℕ)) → Option Named → Option Contents → List (List ℕ)
+names_in names command None = []
+names_in names command (Some files) = names command files
 
 -- each of the names is meant; of a store that doesn't tell what it holds nothing is asked
 abbrev pub AreMeant : (Option Named → Contents → List (List ℕ)) → Option Named → Option Contents → (List ℕ → Bool) → Type 0

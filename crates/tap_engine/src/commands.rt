@@ -1,30 +1,61 @@
 //! The words of a command.
-ghost use Rattle.std.specs.Prelude.{◌≡◌, option_map};
+ghost use Rattle.std.specs.Prelude.{◌≡◌, [], ◌∷◌, option_map};
 ghost use Rattle.tap_engine.specs.Commands.{command_of};
 
+use setup_text::Command;
 use tap_outside::Word;
 
-/// A command: a replay of a setup by a schedule, which are files.
+/// A command with the names of its texts.
 #[derive(Clone, Copy)]
-pub(crate) struct Command<'a> {
+pub(crate) struct Asked<'a> {
+    /// What is asked for.
+    pub command: Command,
     /// The name of the setup.
     pub setup: &'a [u8],
-    /// The name of the schedule.
+    /// The name of the schedule; empty where the command has none.
     pub schedule: &'a [u8],
 }
 
 /// The command that the words are, if they are one.
-pub(crate) fn command_of(words: &[Word]) -> Option<Command<'_>>
-    ensures { option_map (λ command. record { setup = command.setup.now; schedule = command.schedule.now }) result
+pub(crate) fn command_of(words: &[Word]) -> Option<Asked<'_>>
+    ensures { option_map (λ asked. record { command = asked.command; setup = asked.setup.now; schedule = asked.schedule.now }) result
         ≡ command_of words.now }
 {
-    let [command, setup, schedule] = words else {
-        return None;
-    };
-    let (setup, schedule) = (setup.bytes(), schedule.bytes());
-    if command.bytes() == b"replay".as_slice() && !setup.is_empty() && !schedule.is_empty() {
-        Some(Command { setup, schedule })
-    } else {
-        None
+    match words {
+        [word, setup] => check_of(word, setup),
+        [word, setup, schedule] => replay_of(word, setup, schedule),
+        _ => None,
     }
+}
+
+/// The command `check CONF`.
+fn check_of<'a>(word: &Word, setup: &'a Word) -> Option<Asked<'a>>
+    ensures { option_map (λ asked. record { command = asked.command; setup = asked.setup.now; schedule = asked.schedule.now }) result
+        ≡ command_of (word.now ∷ setup.now ∷ []) }
+{
+    let setup = setup.bytes();
+    if word.bytes() != b"check".as_slice() || setup.is_empty() {
+        return None;
+    }
+    Some(Asked {
+        command: Command::Check,
+        setup,
+        schedule: &[],
+    })
+}
+
+/// The command `replay CONF SCHED`.
+fn replay_of<'a>(word: &Word, setup: &'a Word, schedule: &'a Word) -> Option<Asked<'a>>
+    ensures { option_map (λ asked. record { command = asked.command; setup = asked.setup.now; schedule = asked.schedule.now }) result
+        ≡ command_of (word.now ∷ setup.now ∷ schedule.now ∷ []) }
+{
+    let (setup, schedule) = (setup.bytes(), schedule.bytes());
+    if word.bytes() != b"replay".as_slice() || setup.is_empty() || schedule.is_empty() {
+        return None;
+    }
+    Some(Asked {
+        command: Command::Replay,
+        setup,
+        schedule,
+    })
 }

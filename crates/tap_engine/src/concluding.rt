@@ -1,51 +1,50 @@
-//! The end of a run: its file is saved, its lines are printed, and it has a status.
-ghost use Rattle.std.specs.Prelude.{◌≡◌, ◌≤◌, length, All, IfOk, IsTrue, ◌&&◌};
-ghost use Rattle.tap_outside.specs.Contents.{KeepsOthers};
-ghost use Rattle.tap_outside.specs.Counts.{Rose};
+//! The end of a run: its files are saved, its lines are printed, and it has a status.
+ghost use Rattle.std.specs.Prelude.{◌≡◌, ◌≤◌, ℕ, Bool, length, IfOk, IsTrue, ◌&&◌};
+ghost use Rattle.std.specs.List.{AllByRecursion};
+ghost use Rattle.tap_outside.specs.Counts.{Rose, RoseBy};
+ghost use Rattle.tap_replay.specs.Runs.{AreShort};
+ghost use Rattle.tap_saving.specs.Files.{names_from};
+ghost use Rattle.tap_saving.specs.Saving.{Touches};
 ghost use Rattle.tap_engine.specs.Conclusions.{Concludes};
-ghost use Rattle.tap_engine.specs.Expected.{reported};
-ghost use Rattle.tap_engine.specs.Names.{output_name};
-ghost use Rattle.tap_engine.specs.Reporting.{alone};
 ghost use Rattle.tap_engine.specs.Concluding.{status_with, tried};
+ghost use Rattle.tap_engine.specs.Expected.{reported, status_by_end, status_of_logs};
 
-use crate::reporting::{Alone, TIME_OUT};
 use crate::{Outcome, Status};
-use capture_file::pcap_text;
-use fanout_group::{CpuEnd, CpuLogList};
+use fanout_group::{CpuEnd, CpuLog};
 use frame_view::Memory;
-use setup_text::{MemberList, RunReport};
+use setup_text::{RunReport, Setup};
 use std::alloc::Global;
 use tap_outside::{OutError, Sink, Store, write_whole};
 use tap_printing::summary;
+use tap_saving::save_members;
 
-/// The file that member 0's packets are saved in.
-const OUTPUT: &[u8; 10] = b"out.0.pcap";
-
-/// Saves the output of a run and prints its lines. Each is tried whether the other fails or not.
+/// Saves the files of a run and prints its lines. Each is tried whether the other fails or not.
 pub(crate) fn conclude<S: Store, O: Sink>(
     alloc: Global,
-    one: Alone,
+    setup: &Setup,
+    report: RunReport,
     store: &mut S,
     out: &mut O,
 ) -> Result<Outcome, Memory>
-    requires name { IsTrue (S.meant_to_save store.old output_name) }
-    requires packets { All (λ packet. length packet.bytes ≤ 4294967291) one.member.walked }
-    ensures concludes { IfOk result (λ outcome. Concludes (reported (alone one)) outcome (S.held store.new)
+    requires cpus { length report.cpus ≤ 8 }
+    requires members { length report.members ≤ 8 }
+    requires names { AllByRecursion (λ name. IsTrue (S.meant_to_save store.old name))
+        (names_from setup.now 0 (length report.members)) }
+    requires packets { AreShort report.members }
+    ensures concludes { IfOk result (λ outcome. Concludes (reported setup.now report) outcome (S.held store.old) (S.held store.new)
         (O.written out.old) (O.written out.new)
-        (Rose (S.save_faults store.old) (S.save_faults store.new)) (Rose (O.faults out.old) (O.faults out.new))) }
-    ensures others { KeepsOthers (S.held store.old) (S.held store.new) output_name }
-    ensures reads { S.read_faults store.new ≡ S.read_faults store.old }
-    ensures saves { S.save_faults store.old ≤ S.save_faults store.new }
-    ensures prints { O.faults out.old ≤ O.faults out.new }
+        (λ n. RoseBy n (S.save_faults store.old) (S.save_faults store.new)) (Rose (O.faults out.old) (O.faults out.new))) }
+    ensures touches { Touches
+        (record { held = S.held store.old; to_read = S.meant_to_read store.old; to_save = S.meant_to_save store.old; read_faults = S.read_faults store.old; save_faults = S.save_faults store.old })
+        (record { held = S.held store.new; to_read = S.meant_to_read store.new; to_save = S.meant_to_save store.new; read_faults = S.read_faults store.new; save_faults = S.save_faults store.new })
+        (names_from setup.now 0 (length report.members)) }
 {
-    let text = pcap_text(alloc, &one.member.walked)?;
-    let end = one.log.end;
-    let report = report_of(alloc, one)?;
-    let lines = summary(alloc, TIME_OUT, &report)?;
-    let saved = done(store.save(OUTPUT, text.as_slice()))?;
+    let lines = summary(alloc, setup.shape.tov(), &report)?;
+    let saved = save_members(alloc, setup, report.members.as_slice(), store)?;
     let printed = done(write_whole(out, lines.as_slice()))?;
+    let status = status_of(saved, printed, report.cpus.as_slice());
     Ok(Outcome {
-        status: status_of(saved, printed, end),
+        status,
         report: Some(report),
     })
 }
@@ -61,27 +60,41 @@ fn done(answer: Result<(), OutError>) -> Result<bool, Memory>
     }
 }
 
-/// The report of one CPU and one member.
-fn report_of(alloc: Global, one: Alone) -> Result<RunReport, Memory>
-    ensures { IfOk result (λ report. report ≡ alone one) }
-{
-    let mut cpus = CpuLogList::new(alloc);
-    cpus.push(one.log)?;
-    let mut members = MemberList::new(alloc);
-    members.push(one.member)?;
-    Ok(RunReport { cpus, members })
-}
-
-/// The status of a run: a fault of saving or printing, else what the end of CPU 0 says.
-fn status_of(saved: bool, printed: bool, end: CpuEnd) -> Status
-    ensures { result ≡ status_with (saved && printed) end }
+/// The status of a run: a fault of saving or printing, else what the ends of the CPUs say.
+fn status_of(saved: bool, printed: bool, logs: &[CpuLog]) -> Status
+    requires { length logs.now ≤ 8 }
+    ensures { result ≡ status_with (saved && printed) logs.now }
 {
     if !saved || !printed {
         return Status::WriteFault;
     }
+    status_of_ends(logs)
+}
+
+/// What the ends of CPUs say: a fault of any, else damage, that of the lowest CPU.
+fn status_of_ends(logs: &[CpuLog]) -> Status
+    requires { length logs.now ≤ 8 }
+    ensures { result ≡ status_of_logs 0 logs.now }
+{
+    let mut status = Status::Fine;
+    let mut cpu = logs.len() as u32;
+    while cpu > 0 {
+        cpu -= 1;
+        status = with_end(cpu, logs[cpu as usize].end, status);
+    }
+    status
+}
+
+/// The status where a CPU of this number ended so, and those behind it have this status.
+fn with_end(cpu: u32, end: CpuEnd, rest: Status) -> Status
+    ensures { result ≡ status_by_end cpu end rest }
+{
     match end {
-        CpuEnd::Whole => Status::Fine,
+        CpuEnd::Whole => rest,
         CpuEnd::Fault => Status::ReadFault,
-        CpuEnd::Damaged(fault) => Status::Damaged { cpu: 0, fault },
+        CpuEnd::Damaged(fault) => match rest {
+            Status::ReadFault => Status::ReadFault,
+            _ => Status::Damaged { cpu, fault },
+        },
     }
 }

@@ -1,110 +1,138 @@
 //! What a command asks for: its texts, read and accepted.
-ghost use Rattle.std.specs.Prelude.{◌≡◌, ℕ, List, Some, IfErr, IfOk, IsTrue};
+ghost use Rattle.std.specs.Prelude.{◌≡◌, ℕ, ◌≤◌, List, Some, IfErr, IfOk, IfSome, IsTrue, OnOk, Ok, length};
+ghost use Rattle.replay_model.specs.Reports.{IsSchedule};
+ghost use Rattle.setup_text.specs.Sound.{IsSetup};
+ghost use Rattle.setup_text.specs.declared.commands.Command.TheVariants.{Check};
+ghost use Rattle.setup_text.specs.declared.jobs.Job.{Job};
+ghost use Rattle.setup_text.specs.declared.setups.Setup.{Setup};
+ghost use Rattle.tap_engine.specs.Commands.{Named};
 ghost use Rattle.tap_outside.specs.Counts.{Rose};
+ghost use Rattle.tap_reading.specs.Readers.{Says, StopsAtText, schedule_for};
 ghost use Rattle.tap_reading.specs.Stores.{IsReadOnly};
-ghost use Rattle.tap_engine.specs.Jobs.{IsAccepted, IsJob, StopsAtSchedule, StopsAtSetup, StopsJob};
+ghost use Rattle.tap_engine.specs.Jobs.{HasJob, HasProgram, HasSetup, HasTicks, IsLoaded, Stops};
 ghost use Rattle.tap_engine.specs.Names.{AreMeant, names_to_read};
-ghost use Rattle.tap_engine.specs.Runs.{accepted_schedule, accepted_setup};
 
-use crate::Input;
-use crate::commands::Command;
-use crate::stops::Stop;
-use first_forms::{Setup, read_schedule, read_setup};
-use frame_view::Memory;
+use crate::commands::Asked;
+use bpf_filter::Program;
 use replay_model::Schedule;
+use setup_text::{Command, Job, Setup};
 use std::alloc::Global;
-use tap_outside::Store;
-use tap_reading::read_text;
-use text_lines::LARGEST_TEXT;
+use tap_outside::{Store, Word};
+use tap_reading::{Stop, load_filter, load_schedule, load_setup, load_ticks};
 
-/// What a command asks for.
+/// What the texts of a command ask for.
 #[derive(Drop)]
-pub(crate) struct Job {
-    /// The ring and the capture.
-    pub setup: Setup,
-    /// What is done.
-    pub schedule: Schedule,
+pub(crate) enum Loaded {
+    /// Nothing more: the texts are accepted.
+    Checked,
+    /// A replay of a job by a schedule.
+    Run(Job, Schedule),
 }
 
-/// Reads the texts of a command, the setup first.
-pub(crate) fn load_job<S: Store>(
-    alloc: Global,
-    command: Command<'_>,
-    store: &mut S,
-) -> Result<Job, Stop>
-    requires { AreMeant names_to_read (Some (record { setup = command.setup.now; schedule = command.schedule.now }))
+/// Reads the texts of a command, one after the other.
+pub(crate) fn load<S: Store>(alloc: Global, asked: Asked<'_>, store: &mut S) -> Result<Loaded, Stop>
+    requires { AreMeant names_to_read (Some (record { command = asked.command; setup = asked.setup.now; schedule = asked.schedule.now }))
         (S.held store.old) (S.meant_to_read store.old) }
-    ensures job { IfOk result (IsJob (S.held store.old)
-        (record { setup = command.entry.setup.now; schedule = command.entry.schedule.now })) }
-    ensures capture { IfOk result (λ job. IsTrue (S.meant_to_read store.old job.setup.file)) }
-    ensures stop { IfErr result (StopsJob (S.held store.old)
-        (record { setup = command.entry.setup.now; schedule = command.entry.schedule.now })
+    ensures loaded { IfOk result (IsLoaded (S.held store.old)
+        (record { command = asked.entry.command; setup = asked.entry.setup.now; schedule = asked.entry.schedule.now })) }
+    ensures stop { IfErr result (Stops (S.held store.old)
+        (record { command = asked.entry.command; setup = asked.entry.setup.now; schedule = asked.entry.schedule.now })
         (Rose (S.read_faults store.old) (S.read_faults store.new))) }
     ensures store { IsReadOnly
         (record { held = S.held store.old; to_read = S.meant_to_read store.old; to_save = S.meant_to_save store.old; read_faults = S.read_faults store.old; save_faults = S.save_faults store.old })
         (record { held = S.held store.new; to_read = S.meant_to_read store.new; to_save = S.meant_to_save store.new; read_faults = S.read_faults store.new; save_faults = S.save_faults store.new }) }
 {
-    let setup = load_setup(alloc, store, command.setup)?;
-    let schedule = load_schedule(alloc, store, command.schedule)?;
-    Ok(Job { setup, schedule })
-}
-
-/// Reads the setup of a name.
-pub(crate) fn load_setup<S: Store>(alloc: Global, store: &mut S, name: &[u8]) -> Result<Setup, Stop>
-    requires { IsTrue (S.meant_to_read store.old name.now) }
-    ensures setup { IfOk result (λ setup. (text : List ℕ) ×
-        IsAccepted accepted_setup (S.held store.old) name.now text setup) }
-    ensures stop { IfErr result (StopsAtSetup (S.held store.old) name.now
-        (Rose (S.read_faults store.old) (S.read_faults store.new))) }
-    ensures store { IsReadOnly
-        (record { held = S.held store.old; to_read = S.meant_to_read store.old; to_save = S.meant_to_save store.old; read_faults = S.read_faults store.old; save_faults = S.save_faults store.old })
-        (record { held = S.held store.new; to_read = S.meant_to_read store.new; to_save = S.meant_to_save store.new; read_faults = S.read_faults store.new; save_faults = S.save_faults store.new }) }
-{
-    let text = read_text(alloc, store, name)?;
-    match setup_of(alloc, text.as_slice())? {
-        Some(setup) => Ok(setup),
-        None => Err(Stop::Unready(Input::Setup)),
+    let job = load_job(alloc, asked, store)?;
+    match asked.command {
+        Command::Check => {
+            check_ticks(alloc, store, &job.setup.ticks)?;
+            Ok(Loaded::Checked)
+        }
+        Command::Replay => {
+            let schedule = load_lines(alloc, store, asked.schedule, &job.setup)?;
+            Ok(Loaded::Run(job, schedule))
+        }
     }
 }
 
-/// Reads the schedule of a name.
-pub(crate) fn load_schedule<S: Store>(
+/// Reads the setup of a command, and its filter.
+fn load_job<S: Store>(alloc: Global, asked: Asked<'_>, store: &mut S) -> Result<Job, Stop>
+    requires { AreMeant names_to_read (Some (record { command = asked.command; setup = asked.setup.now; schedule = asked.schedule.now }))
+        (S.held store.old) (S.meant_to_read store.old) }
+    ensures job { IfOk result (HasJob (S.held store.old)
+        (record { command = asked.entry.command; setup = asked.entry.setup.now; schedule = asked.entry.schedule.now })) }
+    ensures sound { IfOk result (λ job. IsSetup job.setup) }
+    ensures stop { IfErr result (Stops (S.held store.old)
+        (record { command = asked.entry.command; setup = asked.entry.setup.now; schedule = asked.entry.schedule.now })
+        (Rose (S.read_faults store.old) (S.read_faults store.new))) }
+    ensures store { IsReadOnly
+        (record { held = S.held store.old; to_read = S.meant_to_read store.old; to_save = S.meant_to_save store.old; read_faults = S.read_faults store.old; save_faults = S.save_faults store.old })
+        (record { held = S.held store.new; to_read = S.meant_to_read store.new; to_save = S.meant_to_save store.new; read_faults = S.read_faults store.new; save_faults = S.save_faults store.new }) }
+{
+    let setup = load_setup(alloc, store, asked.setup, asked.command)?;
+    let program = load_program(alloc, store, &setup.filter)?;
+    Ok(Job { setup, program })
+}
+
+/// Reads the filter that a setup names, if it names one.
+fn load_program<S: Store>(
+    alloc: Global,
+    store: &mut S,
+    filter: &Option<Word>,
+) -> Result<Option<Program>, Stop>
+    requires { IfSome filter.now (λ name. IsTrue (S.meant_to_read store.old name)) }
+    ensures program { IfOk result (HasProgram (S.held store.old) filter.now) }
+    ensures stop { IfErr result (λ stop. (named : Named) (setup : Setup) → HasSetup (S.held store.old) named setup
+        → setup.filter ≡ filter.now
+        → Stops (S.held store.old) named (Rose (S.read_faults store.old) (S.read_faults store.new)) stop) }
+    ensures store { IsReadOnly
+        (record { held = S.held store.old; to_read = S.meant_to_read store.old; to_save = S.meant_to_save store.old; read_faults = S.read_faults store.old; save_faults = S.save_faults store.old })
+        (record { held = S.held store.new; to_read = S.meant_to_read store.new; to_save = S.meant_to_save store.new; read_faults = S.read_faults store.new; save_faults = S.save_faults store.new }) }
+{
+    match filter {
+        None => Ok(None),
+        Some(name) => {
+            let program = load_filter(alloc, store, name.bytes())?;
+            Ok(Some(program))
+        }
+    }
+}
+
+/// Reads the moments that a setup names, if it names some. They must be accepted; no command uses them yet.
+fn check_ticks<S: Store>(alloc: Global, store: &mut S, ticks: &Option<Word>) -> Result<(), Stop>
+    requires { IfSome ticks.now (λ name. IsTrue (S.meant_to_read store.old name)) }
+    ensures ticks { OnOk result (HasTicks (S.held store.old) ticks.now) }
+    ensures stop { IfErr result (λ stop. (named : Named) (job : Job) → HasJob (S.held store.old) named job
+        → named.command ≡ Check → job.setup.ticks ≡ ticks.now
+        → Stops (S.held store.old) named (Rose (S.read_faults store.old) (S.read_faults store.new)) stop) }
+    ensures store { IsReadOnly
+        (record { held = S.held store.old; to_read = S.meant_to_read store.old; to_save = S.meant_to_save store.old; read_faults = S.read_faults store.old; save_faults = S.save_faults store.old })
+        (record { held = S.held store.new; to_read = S.meant_to_read store.new; to_save = S.meant_to_save store.new; read_faults = S.read_faults store.new; save_faults = S.save_faults store.new }) }
+{
+    if let Some(name) = ticks {
+        load_ticks(alloc, store, name.bytes())?;
+    }
+    Ok(())
+}
+
+/// Reads a schedule for the CPUs and the members of a setup.
+fn load_lines<S: Store>(
     alloc: Global,
     store: &mut S,
     name: &[u8],
+    setup: &Setup,
 ) -> Result<Schedule, Stop>
-    requires { IsTrue (S.meant_to_read store.old name.now) }
-    ensures schedule { IfOk result (λ schedule. (text : List ℕ) ×
-        IsAccepted accepted_schedule (S.held store.old) name.now text schedule) }
-    ensures stop { IfErr result (StopsAtSchedule (S.held store.old) name.now
-        (Rose (S.read_faults store.old) (S.read_faults store.new))) }
+    requires name { IsTrue (S.meant_to_read store.old name.now) }
+    requires few { length setup.now.cpus ≤ 8 }
+    ensures schedule { IfOk result (λ lines. Says (schedule_for (length setup.now.cpus) setup.now.plan.members)
+        (S.held store.old) name.now (Ok lines)) }
+    ensures ascending { IfOk result IsSchedule }
+    ensures stop { IfErr result (StopsAtText (schedule_for (length setup.now.cpus) setup.now.plan.members)
+        (S.held store.old) name.now (Rose (S.read_faults store.old) (S.read_faults store.new))) }
     ensures store { IsReadOnly
         (record { held = S.held store.old; to_read = S.meant_to_read store.old; to_save = S.meant_to_save store.old; read_faults = S.read_faults store.old; save_faults = S.save_faults store.old })
         (record { held = S.held store.new; to_read = S.meant_to_read store.new; to_save = S.meant_to_save store.new; read_faults = S.read_faults store.new; save_faults = S.save_faults store.new }) }
 {
-    let text = read_text(alloc, store, name)?;
-    match schedule_of(alloc, text.as_slice())? {
-        Some(schedule) => Ok(schedule),
-        None => Err(Stop::Unready(Input::Schedule)),
-    }
-}
-
-/// The setup of a text that isn't too large.
-fn setup_of(alloc: Global, text: &[u8]) -> Result<Option<Setup>, Memory>
-    ensures { IfOk result (λ setup. setup ≡ accepted_setup text.now) }
-{
-    if text.len() > LARGEST_TEXT {
-        return Ok(None);
-    }
-    read_setup(alloc, text)
-}
-
-/// The schedule of a text that isn't too large.
-fn schedule_of(alloc: Global, text: &[u8]) -> Result<Option<Schedule>, Memory>
-    ensures { IfOk result (λ schedule. schedule ≡ accepted_schedule text.now) }
-{
-    if text.len() > LARGEST_TEXT {
-        return Ok(None);
-    }
-    read_schedule(alloc, text)
+    let cpus = setup.cpus.len() as u32;
+    load_schedule(alloc, store, name, cpus, setup.plan.members())
 }

@@ -4,11 +4,12 @@
 mod commands;
 mod concluding;
 mod jobs;
+mod laws;
 mod making;
 mod outcomes;
-mod reporting;
 mod running;
-mod stops;
+mod sources;
 
-pub use outcomes::{Input, Outcome, Status};
+pub use laws::each_frame_of_a_run_stands_exactly_once;
+pub use outcomes::{Outcome, Status};
 pub use running::run_plain;

@@ -1,40 +1,73 @@
 //! A run from its job to its outcome.
-ghost use Rattle.std.specs.Prelude.{◌≡◌, ◌≢◌, ◌≤◌, ℕ, None, IsTrue, IfOk};
-ghost use Rattle.tap_outside.specs.Contents.{KeepsOthers};
-ghost use Rattle.tap_outside.specs.Counts.{Rose};
+ghost use Rattle.std.specs.Prelude.{◌≡◌, ◌≤◌, ℕ, Some, length, All, IfOk, IsTrue};
+ghost use Rattle.replay_model.specs.Reports.{IsSchedule};
+ghost use Rattle.setup_text.specs.Sound.{IsSetup};
+ghost use Rattle.tap_outside.specs.Counts.{Rose, RoseBy};
+ghost use Rattle.tap_reading.specs.Stores.{IsReadOnly};
+ghost use Rattle.tap_replay.specs.Runs.{AreShort};
+ghost use Rattle.tap_saving.specs.Files.{names_from};
+ghost use Rattle.tap_saving.specs.Saving.{KeepsAllBut};
 ghost use Rattle.tap_engine.specs.Commands.{Named};
-ghost use Rattle.tap_engine.specs.Conclusions.{Concludes};
-ghost use Rattle.tap_engine.specs.Expected.{reported};
+ghost use Rattle.tap_engine.specs.Expected.{IsReported, faults_in};
+ghost use Rattle.tap_engine.specs.Jobs.{IsRun};
 ghost use Rattle.tap_engine.specs.Making.{Makes};
-ghost use Rattle.tap_engine.specs.Jobs.{IsJob};
-ghost use Rattle.tap_engine.specs.Names.{output_name};
+ghost use Rattle.tap_engine.specs.Names.{AreMeant, names_to_read, names_to_save};
 
 use crate::Outcome;
 use crate::concluding::conclude;
-use crate::jobs::Job;
-use crate::reporting::report;
+use crate::sources::{close_captures, fetch_captures};
 use frame_view::Memory;
+use replay_model::Schedule;
+use setup_text::{Job, Ran, RunReport};
 use std::alloc::Global;
 use tap_outside::{Sink, Store};
-use tap_reading::read_capture;
+use tap_replay::{a_job_reports_a_group, replay};
 
-/// Makes the run of a job.
+/// Makes the run of a job, saves its files and prints its lines.
 pub(crate) fn make<S: Store, O: Sink>(
     alloc: Global,
     job: Job,
+    schedule: Schedule,
     store: &mut S,
     out: &mut O,
 ) -> Result<Outcome, Memory>
-    requires capture { IsTrue (S.meant_to_read store.old job.setup.file) }
-    requires output { IsTrue (S.meant_to_save store.old output_name) }
-    requires job { (named : Named) × IsJob (S.held store.old) named job }
-    ensures made { IfOk result (λ outcome. (named : Named) → IsJob (S.held store.old) named job
+    requires run { (named : Named) × IsRun (S.held store.old) named job schedule
+        × AreMeant names_to_read (Some named) (S.held store.old) (S.meant_to_read store.old)
+        × AreMeant names_to_save (Some named) (S.held store.old) (S.meant_to_save store.old) }
+    ensures made { IfOk result (λ outcome. (named : Named) → IsRun (S.held store.old) named job schedule
         → Makes (S.held store.old) named outcome (S.held store.new) (O.written out.old) (O.written out.new)
-        (Rose (S.read_faults store.old) (S.read_faults store.new))
-        (Rose (S.save_faults store.old) (S.save_faults store.new)) (Rose (O.faults out.old) (O.faults out.new))) }
-    ensures others { KeepsOthers (S.held store.old) (S.held store.new) output_name }
+        (λ n. RoseBy n (S.read_faults store.old) (S.read_faults store.new))
+        (λ n. RoseBy n (S.save_faults store.old) (S.save_faults store.new)) (Rose (O.faults out.old) (O.faults out.new))) }
+    ensures others { KeepsAllBut (S.held store.old) (S.held store.new) (names_from job.setup 0 job.setup.plan.members) }
 {
-    let capture = read_capture(alloc, store, job.setup.file.bytes(), 0)?;
-    let one = report(alloc, &job.setup, &job.schedule, capture)?;
-    conclude(alloc, one, store, out)
+    let report = replay_captures(alloc, &job, &schedule, store)?;
+    conclude(alloc, &job.setup, report, store, out)
+}
+
+/// Replays a job over the captures that a store holds.
+fn replay_captures<S: Store>(
+    alloc: Global,
+    job: &Job,
+    schedule: &Schedule,
+    store: &mut S,
+) -> Result<RunReport, Memory>
+    requires setup { IsSetup job.now.setup }
+    requires schedule { IsSchedule schedule.now }
+    requires meant { All (λ cpu. IsTrue (S.meant_to_read store.old cpu.file)) job.now.setup.cpus }
+    ensures reported { IfOk result (λ report. (named : Named) → IsRun (S.held store.old) named job.now schedule.now
+        → IsReported (S.held store.old) named job.now.setup report) }
+    ensures faults { IfOk result (λ report. RoseBy (faults_in report.cpus) (S.read_faults store.old) (S.read_faults store.new)) }
+    ensures cpus { IfOk result (λ report. length report.cpus ≤ 8) }
+    ensures members { IfOk result (λ report. length report.members ≡ job.now.setup.plan.members) }
+    ensures few { IfOk result (λ report. length report.members ≤ 8) }
+    ensures short { IfOk result (λ report. AreShort report.members) }
+    ensures store { IsReadOnly
+        (record { held = S.held store.old; to_read = S.meant_to_read store.old; to_save = S.meant_to_save store.old; read_faults = S.read_faults store.old; save_faults = S.save_faults store.old })
+        (record { held = S.held store.new; to_read = S.meant_to_read store.new; to_save = S.meant_to_save store.new; read_faults = S.read_faults store.new; save_faults = S.save_faults store.new }) }
+{
+    a_job_reports_a_group();
+    let sources = fetch_captures(alloc, store, &job.setup.cpus)?;
+    let Ran { report, sources } = replay(alloc, job, sources, schedule)?;
+    close_captures(store, sources);
+    Ok(report)
 }

@@ -3,16 +3,7 @@ ghost use Rattle.std.specs.Prelude.{◌≡◌};
 ghost use Rattle.tap_engine.specs.Numbers.{number_of};
 
 use capture_file::CaptureError;
-use setup_text::RunReport;
-
-/// A text whose form isn't built yet.
-#[derive(Clone, Copy, Debug, PartialEq, Eq)]
-pub enum Input {
-    /// The setup.
-    Setup,
-    /// The schedule.
-    Schedule,
-}
+use setup_text::{RunReport, SetupError, TextError};
 
 /// How a call ended.
 #[derive(Clone, Copy, Debug, PartialEq, Eq)]
@@ -21,6 +12,10 @@ pub enum Status {
     Fine,
     /// 1: the words are no command.
     Usage,
+    /// 2: the setup was read and is refused.
+    Setup(SetupError),
+    /// 3: a further text was read and is refused, all before it being accepted.
+    Text(TextError),
     /// 4: a capture is damaged, or cut; the lowest such CPU.
     Damaged { cpu: u32, fault: CaptureError },
     /// 5: a file couldn't be read.
@@ -29,8 +24,6 @@ pub enum Status {
     WriteFault,
     /// 7: a request for memory was refused.
     Memory,
-    /// 8: a text was read and is in a form that isn't built yet.
-    Unready(Input),
 }
 
 impl Status {
@@ -41,11 +34,12 @@ impl Status {
         match self {
             Status::Fine => 0,
             Status::Usage => 1,
+            Status::Setup(_) => 2,
+            Status::Text(_) => 3,
             Status::Damaged { .. } => 4,
             Status::ReadFault => 5,
             Status::WriteFault => 6,
             Status::Memory => 7,
-            Status::Unready(_) => 8,
         }
     }
 }

@@ -1,24 +1,28 @@
 //! The top call.
-ghost use Rattle.std.specs.Prelude.{◌≡◌, ◌≢◌, ◌⊎◌, ℕ, Option, None};
-ghost use Rattle.tap_outside.specs.Contents.{Contents, KeepsOthers};
-ghost use Rattle.tap_outside.specs.Counts.{Rose};
+ghost use Rattle.std.specs.Prelude.{◌≡◌, ◌≢◌, ◌≤◌, ◌⊎◌, ℕ, Option, None, IfOk, string_bytes};
+ghost use Rattle.tap_outside.specs.Contents.{Contents};
+ghost use Rattle.tap_outside.specs.Counts.{Rose, RoseBy};
+ghost use Rattle.tap_saving.specs.Saving.{KeepsAllBut};
 ghost use Rattle.tap_engine.specs.Asked.{ChangesIfAsked};
 ghost use Rattle.tap_engine.specs.Commands.{command_of};
 ghost use Rattle.tap_engine.specs.Complete.{IsComplete, IsWorth};
+ghost use Rattle.tap_engine.specs.Concluding.{IsSaid, said_of};
 ghost use Rattle.tap_engine.specs.Conclusions.{Concludes};
-ghost use Rattle.tap_engine.specs.Expected.{Expected, IsExpected, IsRefusal, refusal_line};
-ghost use Rattle.tap_engine.specs.Names.{AreMeant, names_to_read, names_to_save, output_name};
+ghost use Rattle.tap_engine.specs.Expected.{Expected, IsExpected};
+ghost use Rattle.tap_engine.specs.Names.{AreMeant, names_in, names_to_read, names_to_save};
 
 use crate::commands::command_of;
-use crate::jobs::load_job;
+use crate::jobs::{Loaded, load};
 use crate::making::make;
-use crate::stops::Stop;
-use crate::{Input, Outcome, Status};
+use crate::{Outcome, Status};
 use capture_file::{damage_is_the_end, damage_stays};
+use frame_view::Memory;
 use std::alloc::Global;
 use tap_outside::{OutError, Sink, Store, Word, write_whole};
+use tap_printing::{setup_refusal, text_refusal};
+use tap_reading::Stop;
 
-/// Carries out a command over a store and a sink: `replay CONF SCHED`, with one CPU and one member.
+/// Carries out a command over a store and a sink: `check CONF` or `replay CONF SCHED`.
 pub fn run_plain<S: Store, O: Sink>(
     alloc: Global,
     words: &[Word],
@@ -35,9 +39,9 @@ pub fn run_plain<S: Store, O: Sink>(
     // Unless memory was wanted: what the call comes to by what the outside gave, and what it answers, prints and
     // saves by that.
     ensures told { result.status ≢ Status.Memory → (e : Expected)
-        × IsExpected (S.held store.old) (Rose (S.read_faults store.old) (S.read_faults store.new)) (command_of words.now) e
-        × Concludes e result (S.held store.new) (O.written out.old) (O.written out.new)
-        (Rose (S.save_faults store.old) (S.save_faults store.new)) (Rose (O.faults out.old) (O.faults out.new)) }
+        × IsExpected (S.held store.old) (λ n. RoseBy n (S.read_faults store.old) (S.read_faults store.new)) (command_of words.now) e
+        × Concludes e result (S.held store.old) (S.held store.new) (O.written out.old) (O.written out.new)
+        (λ n. RoseBy n (S.save_faults store.old) (S.save_faults store.new)) (Rose (O.faults out.old) (O.faults out.new)) }
     ensures want { result.status ≡ Status.Memory → result.report ≡ None }
 
     // Where the store holds a sound command and no count of faults rose, the status is 0, or 7.
@@ -50,8 +54,10 @@ pub fn run_plain<S: Store, O: Sink>(
     ensures unprinted { result.report ≡ None → result.status ≡ Status.WriteFault
         → Rose (O.faults out.old) (O.faults out.new) }
 
-    // No other file changes, and none where no run was made or a text isn't accepted, whatever the status.
-    ensures others { KeepsOthers (S.held store.old) (S.held store.new) output_name }
+    // No file changes but those of the members, and none where no run was made or a text isn't accepted, whatever the
+    // status.
+    ensures others { KeepsAllBut (S.held store.old) (S.held store.new)
+        (names_in names_to_save (command_of words.now) (S.held store.old)) }
     ensures untouched { result.report ≡ None → result.status ≢ Status.Memory → S.held store.new ≡ S.held store.old }
     ensures asked { ChangesIfAsked (S.held store.old) (S.held store.new) (command_of words.now) }
 {
@@ -70,40 +76,46 @@ fn carry_out<S: Store, O: Sink>(
     requires reads { AreMeant names_to_read (command_of words.now) (S.held store.old) (S.meant_to_read store.old) }
     requires saves { AreMeant names_to_save (command_of words.now) (S.held store.old) (S.meant_to_save store.old) }
     ensures told { result.status ≢ Status.Memory → (e : Expected)
-        × IsExpected (S.held store.old) (Rose (S.read_faults store.old) (S.read_faults store.new)) (command_of words.now) e
-        × Concludes e result (S.held store.new) (O.written out.old) (O.written out.new)
-        (Rose (S.save_faults store.old) (S.save_faults store.new)) (Rose (O.faults out.old) (O.faults out.new)) }
+        × IsExpected (S.held store.old) (λ n. RoseBy n (S.read_faults store.old) (S.read_faults store.new)) (command_of words.now) e
+        × Concludes e result (S.held store.old) (S.held store.new) (O.written out.old) (O.written out.new)
+        (λ n. RoseBy n (S.save_faults store.old) (S.save_faults store.new)) (Rose (O.faults out.old) (O.faults out.new)) }
     ensures want { result.status ≡ Status.Memory → result.report ≡ None }
     ensures unprinted { result.report ≡ None → result.status ≡ Status.WriteFault
         → Rose (O.faults out.old) (O.faults out.new) }
-    ensures others { KeepsOthers (S.held store.old) (S.held store.new) output_name }
+    ensures others { KeepsAllBut (S.held store.old) (S.held store.new)
+        (names_in names_to_save (command_of words.now) (S.held store.old)) }
     ensures untouched { result.report ≡ None → result.status ≢ Status.Memory → S.held store.new ≡ S.held store.old }
     ensures asked { ChangesIfAsked (S.held store.old) (S.held store.new) (command_of words.now) }
 {
-    let Some(command) = command_of(words) else {
-        return refuse(Status::Usage, out);
+    let Some(asked) = command_of(words) else {
+        return say(alloc, Status::Usage, out);
     };
-    match load_job(alloc, command, store) {
-        Ok(job) => match make(alloc, job, store, out) {
+    match load(alloc, asked, store) {
+        Ok(Loaded::Checked) => say(alloc, Status::Fine, out),
+        Ok(Loaded::Run(job, schedule)) => match make(alloc, job, schedule, store, out) {
             Ok(outcome) => outcome,
             Err(_) => give_up(out),
         },
-        Err(Stop::Unread) => refuse(Status::ReadFault, out),
-        Err(Stop::Unready(input)) => refuse(Status::Unready(input), out),
+        Err(Stop::Unread) => say(alloc, Status::ReadFault, out),
+        Err(Stop::Setup(error)) => say(alloc, Status::Setup(error), out),
+        Err(Stop::Text(error)) => say(alloc, Status::Text(error), out),
         Err(Stop::Memory) => give_up(out),
     }
 }
 
-/// Prints why no run is made.
-fn refuse<O: Sink>(status: Status, out: &mut O) -> Outcome
-    ensures concludes { (e : Expected) (held : Option Contents) (before now : ℕ) → IsRefusal status e
-        → Concludes e result held (O.written out.old) (O.written out.new)
-        (Rose before now) (Rose (O.faults out.old) (O.faults out.new)) }
+/// Prints the line of a call that makes no run.
+fn say<O: Sink>(alloc: Global, status: Status, out: &mut O) -> Outcome
+    ensures concludes { (e : Expected) (held after : Option Contents) (before now : ℕ) → IsSaid status e
+        → before ≤ now → Concludes e result held after (O.written out.old) (O.written out.new)
+        (λ n. RoseBy n before now) (Rose (O.faults out.old) (O.faults out.new)) }
     ensures report { result.report ≡ None }
     ensures unprinted { status ≢ Status.WriteFault → result.status ≡ Status.WriteFault
         → Rose (O.faults out.old) (O.faults out.new) }
 {
-    match write_whole(out, line_of(status)) {
+    let Ok(line) = line_of(alloc, status) else {
+        return give_up(out);
+    };
+    match write_whole(out, line.as_bytes()) {
         Ok(()) => Outcome {
             status,
             report: None,
@@ -128,14 +140,16 @@ fn give_up<O: Sink>(out: &mut O) -> Outcome
     }
 }
 
-/// The line that is printed where no run is made.
-fn line_of(status: Status) -> &'static [u8]
-    ensures { result.now ≡ refusal_line status }
+/// The line of a call that makes no run.
+fn line_of(alloc: Global, status: Status) -> Result<String, Memory>
+    ensures { IfOk result (λ line. string_bytes line ≡ said_of status) }
 {
-    match status {
-        Status::ReadFault => b"read fault\n",
-        Status::Unready(Input::Setup) => b"not built: setup\n",
-        Status::Unready(Input::Schedule) => b"not built: schedule\n",
-        _ => b"usage: ringtap check|replay|capture|send|make CONF [SCHED]\n",
-    }
+    let line = match status {
+        Status::Fine => format!(in alloc; "ok\n")?,
+        Status::Setup(error) => setup_refusal(alloc, &error)?,
+        Status::Text(error) => text_refusal(alloc, &error)?,
+        Status::ReadFault => format!(in alloc; "read fault\n")?,
+        _ => format!(in alloc; "usage: ringtap check|replay|capture|send|make CONF [SCHED]\n")?,
+    };
+    Ok(line)
 }

@@ -1,3 +1,3 @@
 pub mod Fronts
 pub mod Stores
-pub mod Captures
+pub mod Readers

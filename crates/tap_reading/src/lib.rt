@@ -1,10 +1,10 @@
-//! Texts and captures read out of a store, piece by piece.
+//! The texts of a command, read out of a store piece by piece and understood.
 #![tactic(auto)]
 
-mod captures;
-mod decoding;
+mod loading;
+mod stops;
 mod texts;
 
-pub use captures::Capture;
-pub use decoding::read_capture;
+pub use loading::{load_filter, load_schedule, load_setup, load_ticks};
+pub use stops::Stop;
 pub use texts::{Unread, read_text};

@@ -1,6 +1,6 @@
 -- A member's fields stand for its ring after each call.
-use Rattle.std.proofs.Common.{◌≡◌, ℕ, ◌+◌, ◌^◌, ◌<◌, ◌≤◌, Bool, true, false, List, [], ◌∷◌, ◌++◌, length, take, drop, zero, suc, Option, None, Some, refl, sym, ap, ◌∙◌, subst, arith, length-append, map}
-use Rattle.std.specs.Prelude.{is_some, nat_lt, if◌then◌else◌, replicate}
+use Rattle.std.proofs.Common.{◌≡◌, ℕ, ◌+◌, ◌^◌, ◌<◌, ◌≤◌, Bool, true, false, List, [], ◌∷◌, ◌++◌, length, take, drop, zero, suc, Some, refl, sym, ap, ◌∙◌, subst, arith, length-append}
+use Rattle.std.specs.Prelude.{is_some, if◌then◌else◌, replicate}
 use Rattle.std.specs.List.{AllByRecursion}
 use Rattle.std.proofs.lemmas.List.{length-take}
 use Rattle.std.proofs.lemmas.Bool.{le-ltb, lt-ltb}
@@ -27,7 +27,7 @@ use Rattle.tap_replay.specs.Blocks.{HasRead, taken_from}
 use Rattle.tap_replay.specs.Members.{IsMember, Parts, ring_of}
 use Rattle.tap_replay.proofs.Growing.{Grows, few_done, front_stays, grows_noted}
 use Rattle.tap_replay.proofs.Keeping.{as_many}
-use Rattle.tap_replay.proofs.Reading.{ReadNone, ReadOne, Tells, came, none_read, one_read, released_done}
+use Rattle.tap_replay.proofs.Reading.{Tells, came, none_read, one_read, released_done}
 
 some_same : (a b : ℕ) → Some a ≡ Some b → a ≡ b
 some_same a b e = cc

@@ -2,4 +2,16 @@ mod Growing
 mod Keeping
 mod Reading
 mod Holding
-mod Closing
+mod LastReads
+mod Consumed
+mod Piecewise
+mod Totals
+mod Routing
+mod Stepping
+mod Whole
+mod Arriving
+mod RunSteps
+mod Lines
+mod Concluding
+mod KeptOffers
+mod GroupLaw

@@ -1,14 +1,14 @@
 -- What a reader reads of a ring on one thread, block by block.
-use Rattle.std.proofs.Common.{◌≡◌, ℕ, zero, suc, ◌+◌, ◌<◌, ◌≤◌, Bool, true, false, List, [], ◌∷◌, ◌++◌, length, take, drop, Option, None, Some, refl, sym, ap, ◌∙◌, subst, arith}
+use Rattle.std.proofs.Common.{◌≡◌, ℕ, zero, suc, ◌+◌, ◌<◌, ◌≤◌, Bool, false, List, [], ◌∷◌, ◌++◌, length, take, drop, Option, None, refl, sym, ap, ◌∙◌, subst, arith}
 use Rattle.std.specs.Prelude.{is_some, if◌then◌else◌}
 use Rattle.std.proofs.lemmas.Bool.{le-ltb}
-use Rattle.block_ring.specs.Texts.{AreTexts, StandsForTexts}
+use Rattle.block_ring.specs.Texts.{AreTexts}
 use Rattle.frame_view.specs.declared.frames.Packet.{Packet}
 use Rattle.reader_walk.specs.Readers.{ComesFrom, ReaderValue, Reads, has_read}
 use Rattle.reader_walk.specs.Takers.{Taken, taken_in}
 use Rattle.ring_model.specs.declared.notes.Offer.{Offer}
 use Rattle.ring_words.specs.PlainLaws.{stays_leaves, took_leaves}
-use Rattle.ring_words.specs.PlainRings.{PlainState, Stays, Took, feed_of, has_block}
+use Rattle.ring_words.specs.PlainRings.{PlainState, Stays, Took, has_block}
 use Rattle.ring_words.specs.Rings.{Entry}
 use Rattle.tp_layout.specs.Blocks.{BeginsWith}
 use Rattle.tp_layout.specs.Dump.{packets_of_offers}

@@ -1,3 +1,12 @@
 pub mod Reported
 pub mod Blocks
 pub mod Members
+pub mod Sources
+pub mod Runs
+pub mod Feeding
+pub mod Pieces
+pub mod Fed
+pub mod Deliveries
+pub mod DeskLaws
+pub mod Running
+pub mod Turning

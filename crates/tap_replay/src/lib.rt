@@ -1,12 +1,19 @@
 //! The replay over rings of blocks: each frame travels as bytes in a block, and its reader reads it out of there.
 #![tactic(auto)]
 
+mod buffer;
+mod closing;
+mod cpu_feed;
+mod decoding;
+mod drawing;
+mod fed;
+mod looking;
 mod member;
-mod replaying;
-mod reports;
+mod replay_run;
+mod ring_desk;
+mod runs;
 mod setting;
-#[cfg(test)]
-mod tests;
+mod starting;
+mod trace;
 
-pub use replaying::replay_blocks;
-pub use reports::BlockReplay;
+pub use runs::{a_job_reports_a_group, replay};

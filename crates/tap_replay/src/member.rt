@@ -2,9 +2,12 @@
 //!
 //! Frames go into the ring's open block, and a full block is retired. A read takes the oldest retired block, copies its
 //! packets and gives it back. The close retires the open block, and then reads until no block waits.
-ghost use Rattle.std.specs.Prelude.{◌≡◌, IfOk};
+ghost use Rattle.std.specs.Prelude.{◌≡◌, ◌^◌, ◌≤◌, IfErr, IfOk, OnErr, OnOk};
 ghost use Rattle.replay_model.specs.Reported.{finished_ring};
-ghost use Rattle.ring_model.specs.Rings.{fresh};
+ghost use Rattle.replay_model.specs.Taking.{Takes};
+ghost use Rattle.ring_model.specs.Rings.{fresh, note_of_put, note_of_tick, note_of_try, noted, read_once, state};
+ghost use Rattle.ring_model.specs.Told.{put_told, try_told};
+ghost use Rattle.ring_model.specs.declared.notes.Note.TheVariants.{Counted};
 ghost use Rattle.tap_replay.specs.Reported.{member_of};
 ghost use Rattle.tp_layout.specs.Requests.{size_of};
 
@@ -12,8 +15,7 @@ use crate::setting::Setting;
 use block_ring::{Producer, TickError};
 use frame_view::Memory;
 use reader_walk::{Reader, a_text_is_read_as_it_was_written};
-use replay_model::MemberRing;
-use ring_model::{Offer, Put, Stats, Tried};
+use ring_model::{Offer, Put, Tried, Unput};
 use ring_words::PlainRing;
 use setup_text::MemberReport;
 use std::alloc::Global;
@@ -73,6 +75,89 @@ impl<K: Setting> Member<K> {
         })
     }
 
+    /// Keeps a packet, or drops it where it finds no room and no free block; the open block is then retired. After
+    /// `Unput` the ring is as before, and the offer comes back.
+    pub(crate) fn put(&mut self, offer: Offer) -> Result<Put, Unput>
+        requires { Takes offer self.old }
+        ensures ok { OnOk result (self.new ≡ noted self.old (note_of_put self.old offer)) }
+        ensures put { IfOk result (λ put. put ≡ put_told (note_of_put self.old offer)) }
+        ensures unput { IfErr result (λ unput. unput.offer ≡ offer) }
+        ensures err { OnErr result (self.new ≡ self.old) }
+    {
+        if self.noted >= MOST_NOTES {
+            return Err(Unput { offer });
+        }
+        let put = self.producer.put(offer)?;
+        self.noted += 1;
+        Ok(put)
+    }
+
+    /// Keeps a packet, or hands it back where it finds no room and no free block. After `Unput` the ring is as before,
+    /// and the offer comes back.
+    pub(crate) fn try_put(&mut self, offer: Offer) -> Result<Tried, Unput>
+        requires { Takes offer self.old }
+        ensures ok { OnOk result (self.new ≡ noted self.old (note_of_try self.old offer)) }
+        ensures tried { IfOk result (λ tried. tried ≡ try_told offer (note_of_try self.old offer)) }
+        ensures unput { IfErr result (λ unput. unput.offer ≡ offer) }
+        ensures err { OnErr result (self.new ≡ self.old) }
+    {
+        if self.noted >= MOST_NOTES {
+            return Err(Unput { offer });
+        }
+        let tried = self.producer.try_put(offer)?;
+        self.noted += 1;
+        Ok(tried)
+    }
+
+    /// The clock goes on to a moment, in milliseconds. Where the deadline is reached an open block that has packets is
+    /// retired, and a next block is asked for.
+    pub(crate) fn tick(&mut self, ms: u64) -> Result<(), Memory>
+        requires later { (state self.old).clock ≤ ms }
+        requires small { ms ≤ 2 ^ 63 }
+        ensures { OnOk result (self.new ≡ noted self.old (note_of_tick self.old ms)) }
+    {
+        if self.noted >= MOST_NOTES {
+            return Err(Memory);
+        }
+        match self.producer.tick(ms) {
+            Ok(()) => {
+                self.noted += 1;
+                Ok(())
+            }
+            Err(TickError::Memory) => Err(Memory),
+            Err(TickError::Backwards(_)) => unreachable!(),
+        }
+    }
+
+    /// Takes the statistics, which start anew.
+    pub(crate) fn take_stats(&mut self) -> Result<(), Memory>
+        ensures { OnOk result (self.new ≡ noted self.old Counted) }
+    {
+        if self.noted >= MOST_NOTES {
+            return Err(Memory);
+        }
+        self.producer.take_stats()?;
+        self.noted += 1;
+        Ok(())
+    }
+
+    /// The reader reads a block, if one is retired and not yet released.
+    pub(crate) fn read(&mut self) -> Result<(), Memory>
+        ensures { OnOk result (self.new ≡ read_once self.old) }
+    {
+        a_text_is_read_as_it_was_written();
+        if self.stuck {
+            return Err(Memory);
+        }
+        match self.reader.step(&mut self.producer) {
+            Ok(_) => Ok(()),
+            Err(Memory) => {
+                self.stuck = true;
+                Err(Memory)
+            }
+        }
+    }
+
     /// Closes the ring, and reads all blocks that still wait.
     pub(crate) fn close(self) -> Result<MemberReport, Memory>
         ensures { IfOk result (λ report. report ≡ member_of K.shape K.dumps (finished_ring self)) }
@@ -91,72 +176,5 @@ impl<K: Setting> Member<K> {
             dump: outputs.dump,
             blocks: outputs.blocks,
         })
-    }
-}
-
-impl<K: Setting> MemberRing for Member<K> {
-    ghost ring = { λ member. member };
-
-    fn put(&mut self, offer: Offer) -> Result<Put, Memory> {
-        if self.noted >= MOST_NOTES {
-            return Err(Memory);
-        }
-        match self.producer.put(offer) {
-            Ok(put) => {
-                self.noted += 1;
-                Ok(put)
-            }
-            Err(_) => Err(Memory),
-        }
-    }
-
-    fn try_put(&mut self, offer: Offer) -> Result<Tried, Memory> {
-        if self.noted >= MOST_NOTES {
-            return Err(Memory);
-        }
-        match self.producer.try_put(offer) {
-            Ok(tried) => {
-                self.noted += 1;
-                Ok(tried)
-            }
-            Err(_) => Err(Memory),
-        }
-    }
-
-    fn tick(&mut self, ms: u64) -> Result<(), Memory> {
-        if self.noted >= MOST_NOTES {
-            return Err(Memory);
-        }
-        match self.producer.tick(ms) {
-            Ok(()) => {
-                self.noted += 1;
-                Ok(())
-            }
-            Err(TickError::Memory) => Err(Memory),
-            Err(TickError::Backwards(_)) => unreachable!(),
-        }
-    }
-
-    fn take_stats(&mut self) -> Result<Stats, Memory> {
-        if self.noted >= MOST_NOTES {
-            return Err(Memory);
-        }
-        let stats = self.producer.take_stats()?;
-        self.noted += 1;
-        Ok(stats)
-    }
-
-    fn read(&mut self) -> Result<(), Memory> {
-        a_text_is_read_as_it_was_written();
-        if self.stuck {
-            return Err(Memory);
-        }
-        match self.reader.step(&mut self.producer) {
-            Ok(_) => Ok(()),
-            Err(Memory) => {
-                self.stuck = true;
-                Err(Memory)
-            }
-        }
     }
 }

@@ -1,7 +1,9 @@
 pub mod Requests
+pub mod RequestWords
 pub mod Rows
 pub mod Packets
 pub mod Blocks
+pub mod BlocksInside
 pub mod Faults
 pub mod Writing
 pub mod Reading

@@ -7,7 +7,7 @@ use Rattle.frame_view.specs.declared.frames.Packet.{Packet}
 use Rattle.ring_model.specs.declared.notes.Offer.{Offer}
 use Rattle.tp_layout.specs.declared.requests.RingRequest.{RingRequest}
 use Rattle.tp_layout.specs.declared.writing.Closing.{Closing}
-use Rattle.tp_layout.specs.Requests.{IsShape, first_of}
+use Rattle.tp_layout.specs.Requests.{first_of}
 use Rattle.tp_layout.specs.Packets.{packet_text, need_of_packet, IsLawfulPacket}
 use Rattle.tp_layout.specs.Blocks.{Descriptor, descriptor_text, needs_of, first_time, last_time}
 
@@ -16,10 +16,10 @@ pub record ShapedBytes : Type 0 where
   pub shape : RingRequest
   pub bytes : List ℕ
 
--- the bytes of a block of this shape
-pub record IsBlock (shape : RingRequest) (bytes : List ℕ) : Type 0 where
-  pub size : length bytes ≡ shape.block_size
-  pub sound : IsShape shape
+-- the bytes of a block of this size: zeros until bytes were written
+abbrev pub bytes_or_zeros : ℕ → List ℕ → List ℕ
+bytes_or_zeros size [] = replicate size 0
+bytes_or_zeros size (byte ∷ bytes) = byte ∷ bytes
 
 -- the bytes with others written over them from a place on
 abbrev pub put : ℕ → List ℕ → List ℕ → List ℕ

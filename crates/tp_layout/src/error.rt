@@ -1,5 +1,9 @@
 //! Why a ring can't be had, and why a block isn't read.
-ghost use Rattle.std.specs.Prelude.{◌≡◌};
+ghost use Rattle.std.specs.Prelude.{◌≡◌, Some};
+ghost use Rattle.tp_layout.specs.RequestWords.{word_of};
+
+use std::error::Error;
+use std::fmt;
 
 /// Why a ring can't be had. The tests are made in this order, and the first that fails is told.
 #[derive(Clone, Copy, Debug, PartialEq, Eq)]
@@ -23,6 +27,35 @@ pub enum RequestError {
     /// A ring of TPACKET_V2 has more than 65,536 slots.
     Slots,
 }
+
+impl RequestError {
+    /// The word for the fault, as a program prints it.
+    pub fn word(&self) -> &'static str
+        ensures { result.now ≡ word_of self.now }
+    {
+        match self {
+            RequestError::BlockSize => "block_size",
+            RequestError::BlockCount => "block_count",
+            RequestError::Private => "private",
+            RequestError::FrameSmall => "frame_small",
+            RequestError::FrameAlign => "frame_align",
+            RequestError::FrameCount => "frame_count",
+            RequestError::Feature => "feature",
+            RequestError::Transmit => "transmit",
+            RequestError::Slots => "slots",
+        }
+    }
+}
+
+impl fmt::Display for RequestError {
+    ghost output = { λ error. Some (word_of error) };
+
+    fn fmt<W: fmt::Write>(&self, f: &mut fmt::Formatter<W>) -> fmt::Result {
+        f.write_str(self.word())
+    }
+}
+
+impl Error for RequestError {}
 
 /// What is wrong at a place of a block.
 #[derive(Clone, Copy, Debug, PartialEq, Eq)]

@@ -4,9 +4,9 @@ ghost use Rattle.frame_view.specs.Vlan.{is_tpid};
 ghost use Rattle.ring_model.specs.Sizes.{need_of};
 ghost use Rattle.tp_layout.specs.Blocks.{BeginsLawfully};
 ghost use Rattle.tp_layout.specs.Requests.{first_of};
-ghost use Rattle.tp_layout.specs.Writing.{IsWritable};
+ghost use Rattle.tp_layout.specs.Writing.{IsWritable, zero_block};
 
-use crate::ring_blocks::zero_block;
+use crate::ring_blocks::{unwritten_block, zeros};
 use crate::{
     Block, Closing, LayoutError, LayoutKind, PacketRef, PacketWalk, RequestError, RingRequest,
     Shape, blocks, close_header, text_of, walk, walk_text, write_header, write_packet,
@@ -70,6 +70,14 @@ fn offer(
         hash: 0,
         pkttype: 1,
     })
+}
+
+/// A block of zeros.
+fn zero_block(alloc: Global, shape: &Shape) -> Result<Block, Memory>
+    ensures { IfOk result (λ block. block ≡ zero_block shape.now) }
+{
+    let zeros = zeros(alloc, shape)?;
+    unwritten_block(alloc, shape, &zeros)
 }
 
 /// Block 1 with the packet of an offer alone, retired with status 1.

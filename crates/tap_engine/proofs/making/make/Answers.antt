@@ -1,23 +1,32 @@
-use Rattle.std.proofs.Common.{ℕ, List, subst}
-use Rattle.tap_reading.specs.Captures.{IsCapture}
+use Rattle.std.proofs.Common.{◌≡◌, ℕ, Bool, List, length, refl, sym, ap, subst, ◌∙◌}
+use Rattle.std.specs.Prelude.{All, IsTrue, Option}
+use Rattle.std.specs.List.{AllByRecursion}
+use Rattle.setup_text.specs.declared.cpu_setups.CpuSetup.{CpuSetup}
+use Rattle.tap_saving.specs.Files.{names_from}
 use Rattle.tap_engine.proofs.Made.{if_ok, makes}
-use Rattle.tap_engine.proofs.Requested.{accepted_can_be_had}
-use Rattle.tap_engine.proofs.Schedules.{accepted_is_plain}
+use Rattle.tap_engine.proofs.Meant.{behind_meant, captures_meant, outputs_meant}
 use Rattle.tap_engine.proofs.making.make.Goals as goal
 
-pub report-requires-clause-request : goal.report-requires-clause-request
-report-requires-clause-request g c =
-    let job = c.requires.job.1 in accepted_can_be_had job.setup_text c.args.job.setup job.setup.is
+pub replay_captures-requires-clause-meant : goal.replay_captures-requires-clause-meant
+replay_captures-requires-clause-meant g c κs within =
+    let named = c.requires.run.0 in
+    let run = c.requires.run.1 in
+    captures_meant (g.S.Store.meant_to_read c.args.store.now) named c.args.job.setup run.command
+    (behind_meant (g.S.Store.held c.args.store.now) (g.S.Store.meant_to_read c.args.store.now) named c.args.job.setup (g.met.S.Store.untold_reads c.args.store.now) c.requires.run.2 run.job_is.setup)
 
-pub report-requires-clause-schedule : goal.report-requires-clause-schedule
-report-requires-clause-schedule g c =
-    let job = c.requires.job.1 in accepted_is_plain job.schedule_text c.args.job.schedule job.schedule.is
+pub conclude-requires-clause-names : goal.conclude-requires-clause-names
+conclude-requires-clause-names g c κs within =
+    let named = c.requires.run.0 in
+    let run = c.requires.run.1 in
+    let setup = c.args.job.setup in
+    let meant = outputs_meant (g.S.Store.held c.args.store.now) (g.S.Store.meant_to_save c.args.store.now) named setup (g.met.S.Store.untold_saves c.args.store.now) c.requires.run.3 run.command run.job_is.setup in
+    subst (λ count. AllByRecursion (λ name. IsTrue (g.S.Store.meant_to_save c.replay_captures.new.store name)) (names_from setup 0 count)) (sym c.in_ok-report.ensures.members)
+    (subst (λ (save : List ℕ → Bool). AllByRecursion (λ name. IsTrue (save name)) (names_from setup 0 setup.plan.members)) (sym c.replay_captures.ensures.store.to_save) meant)
 
 pub returns-clause-made : goal.returns-clause-made
 returns-clause-made g c =
     if_ok _ _ c.conclude.result
-    (λ outcome concludes. λ named job.
-    makes _ named c.args.job c.in_ok-capture.capture c.in_ok-one.one c.in_ok-capture.ensures.capture.0 outcome _ _ _ _ _ _ _ _ _ _
-    job (subst (λ (name : List ℕ). IsCapture (g.S.Store.held c.args.store.now) name 0 c.in_ok-capture.capture c.in_ok-capture.ensures.capture.0) c.bytes.ensures c.in_ok-capture.ensures.capture.1) c.in_ok-one.ensures.replay c.in_ok-one.ensures.lawful c.in_ok-capture.ensures.fault
-    c.conclude.ensures.reads c.in_ok-capture.ensures.store.save_faults concludes)
+    (λ outcome concludes. λ named run.
+    makes (g.S.Store.held c.args.store.now) _ named c.args.job.setup c.in_ok-report.report outcome _ _ _ _ _ _ _ _ _ _
+    (c.in_ok-report.ensures.reported named run) c.in_ok-report.ensures.faults c.conclude.ensures.touches.read_faults c.replay_captures.ensures.store.held c.replay_captures.ensures.store.save_faults concludes)
     c.conclude.ensures.concludes

@@ -23,3 +23,10 @@ returns-clause-lawful g c = λ group room frames arrival queue judged to.
     (subst (λ (path : Path). IsRoute (rolls_over path.shape) path.shape.members
     (home_by path.shape.mode path.shape.members c.args.offer.hash (unwrap_or c.args.entry.ticket 0) c.args.offer.frame.cpu c.args.queue path.present) tried)
     c.self.view_is c.in_ok-deliver.ensures.route)))
+
+pub returns-clause-route : goal.returns-clause-route
+returns-clause-route g c =
+    subst (λ (path : Path). IsRoute (rolls_over path.shape) path.shape.members
+    (home_by path.shape.mode path.shape.members c.args.offer.hash (unwrap_or c.args.entry.ticket 0) c.args.offer.frame.cpu c.args.queue path.present)
+    (g.D.Desk.tried c.deliver.new.desk))
+    c.self.view_is c.in_ok-deliver.ensures.route

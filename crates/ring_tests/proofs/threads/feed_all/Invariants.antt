@@ -1,0 +1,11 @@
+use Rattle.std.proofs.Common.{◌≡◌, ◌*◌, ◌≤◌, length}
+use Rattle.tp_layout.specs.Requests.{room_of}
+use Rattle.ring_tests.proofs.threads.feed_all.Given as goal
+
+-- each look noted a put at most, and a tick
+abbrev pub invariant-loop-look : goal.invariant-loop-look
+invariant-loop-look l = record {
+  room : 142 ≤ room_of l.ring.shape;
+  few : length l.ring.notes ≤ 2 * l.look;
+  ring : l.ring.end.id ≡ l.initial.ring.end.id;
+}

@@ -1,0 +1,117 @@
+//! What a reader reads of blocks that are handed to it, with its texts kept and without.
+ghost use Rattle.std.specs.Prelude.{◌≡◌, ◌+◌, ◌≤◌, IfOk};
+ghost use Rattle.reader_walk.specs.Takers.{IsReadable};
+ghost use Rattle.ring_model.specs.Sizes.{need_of};
+ghost use Rattle.tp_layout.specs.Requests.{first_of};
+ghost use Rattle.tp_layout.specs.Writing.{IsWritable, zero_block};
+
+use frame_view::{ByteList, Frame, Memory};
+use reader_walk::{Reader, Taker};
+use ring_model::{Offer, need};
+use std::alloc::Global;
+use std::test::Fail;
+use tp_layout::{
+    Block, Closing, RingRequest, Shape, blocks, close_header, write_header, write_packet,
+};
+
+/// Two blocks of a page.
+const PAGES: RingRequest = RingRequest {
+    block_size: 4096,
+    block_nr: 2,
+    frame_size: 2048,
+    frame_nr: 4,
+    tov: 0,
+    sizeof_priv: 0,
+    features: 0,
+};
+
+/// The offer of a frame of 60 zeros.
+fn zeros_offered(alloc: Global) -> Result<Offer, Memory>
+    ensures sound { IfOk result IsWritable }
+    ensures snap { IfOk result (λ offer. offer.snap ≡ 60) }
+{
+    Ok(Offer {
+        frame: Frame {
+            cpu: 0,
+            index: 0,
+            sec: 1,
+            nsec: 2_000,
+            wire: 60,
+            bytes: ByteList::from_vec(vec![in alloc; 0; 60]?),
+            tag: None,
+        },
+        snap: 60,
+        hash: 0,
+        pkttype: 0,
+    })
+}
+
+/// A block of a ring of this shape, of zeros.
+fn empty_block(alloc: Global, shape: &Shape) -> Result<Block, Memory>
+    ensures { IfOk result (λ block. block ≡ zero_block shape.now) }
+{
+    let mut all = blocks(alloc, shape)?;
+    match all.pop() {
+        Some(block) => Ok(block),
+        None => Err(Memory),
+    }
+}
+
+/// Block 1 of this shape with the packet of an offer alone, retired with status 1.
+fn block_with(alloc: Global, shape: &Shape, offer: &Offer) -> Result<Block, Memory>
+    requires sound { IsWritable offer.now }
+    requires fits { first_of shape.now + need_of offer.now.snap ≤ shape.now.block_size }
+    ensures { IfOk result (IsReadable shape.now) }
+{
+    let mut block = empty_block(alloc, shape)?;
+    let first = shape.first();
+    let frame = &offer.frame;
+    write_header(&mut block, shape, 1);
+    write_packet(&mut block, shape, first, offer);
+    close_header(
+        &mut block,
+        shape,
+        &Closing {
+            status: 1,
+            packets: 1,
+            length: first + need(offer.snap),
+            last_at: first,
+            first_sec: frame.sec,
+            first_nsec: frame.nsec,
+            last_sec: frame.sec,
+            last_nsec: frame.nsec,
+        },
+    );
+    Ok(block)
+}
+
+#[test]
+fn two_blocks_of_a_packet_each(rt: HostRuntime) -> Result<(), Fail> {
+    let alloc = rt.alloc();
+    let shape = PAGES.check().ok().ok_or("a shape")?;
+    if shape.room() < 144 {
+        return Err("a block has room for a frame".into());
+    }
+    let offer = zeros_offered(alloc)?;
+    let first = block_with(alloc, &shape, &offer)?;
+    let second = block_with(alloc, &shape, &offer)?;
+    // whether the texts are kept, and their size: a descriptor of 48 bytes and a packet of 144 in each
+    for (dump, size) in [(true, 384), (false, 0)] {
+        let mut reader = Reader::new(alloc, shape, dump);
+        reader.walk_block(&first)?;
+        Taker::block(&mut reader, &second)?;
+        let outputs = reader.outputs();
+        assert_eq!(rt;
+            (outputs.blocks, outputs.walked.len(), outputs.dump.len()),
+            (2, 2, size),
+            "{dump}"
+        );
+        let packet = outputs.walked.get(1).ok_or("there is a packet")?;
+        assert_eq!(rt;
+            (packet.sec, packet.nsec, packet.wire, packet.bytes.len()),
+            (1, 2_000, 60, 60),
+            "{dump}"
+        );
+    }
+    Ok(())
+}

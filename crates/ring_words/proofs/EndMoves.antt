@@ -1,0 +1,249 @@
+-- The rule holds of a new ring, and outlives that its ends are cut apart and come together, and what both do in one seat.
+use Rattle.std.proofs.Common.{◌≡◌, ℕ, zero, suc, ◌+◌, ◌%◌, ◌<◌, ◌≤◌, true, false, true≢false, List, [], ◌∷◌, ◌++◌, map, length, take, replicate, slice_index, slice_set, refl, sym, ap, ◌∙◌, subst, ⊎_elim, mod-lt, arith, length-set, Option, Some}
+use mathlib.Core.Option.{some, none, some-ne-none}
+use lib.ListN.{get_elem?}
+use Rattle.std.specs.List.{AllByRecursion}
+use Rattle.std.proofs.lemmas.List.{length-map}
+use Rattle.std.proofs.Math.ListN.{length-replicate}
+use Rattle.atomic_table.specs.Table.{State, keeps, takes, Allows, Joins, Splits, opening, step}
+use Rattle.atomic_table.proofs.Lists.{at_map, at_set, set_again, set_else}
+use Rattle.ring_words.specs.Knowing.{all_known, left_to_feed, left_to_walk, nothing_known, together}
+use Rattle.ring_words.specs.Rings.{Entry}
+use Rattle.ring_words.specs.Tables.{Course, IsRing, Knows, TakesFront}
+use Rattle.ring_words.specs.Plays.{Compares, Drains, Holder}
+use Rattle.ring_words.specs.declared.known.Known.{Known}
+use Rattle.ring_words.proofs.Entries.{at_new, entry_at, length-snoc, set-read}
+use Rattle.ring_words.proofs.WalkerMoves.{Goes, Ring, front_next, next_block, taken_one, takes_block}
+
+all_at : {X : Type 0} (P : X → Type 0) (l : List X) (i : ℕ) (x : X) → AllByRecursion P l → get_elem? l i ≡ some x → P x
+all_at P [] i x all at = absurd (some-ne-none x (sym at))
+all_at P (y ∷ l) zero x all at = subst P (mathlib.Core.Option.some-injective y x at) all.0
+all_at P (y ∷ l) (suc i) x all at = all_at P l i x all.1 at
+
+zeros : (count i : ℕ) → slice_index (replicate count 0) i ≡ 0
+zeros zero i = refl
+zeros (suc count) zero = refl
+zeros (suc count) (suc i) = zeros count i
+
+-- a list that is the front of a log is the front of a list that is the log
+fronts : {n : ℕ} (now : List Entry) (retired log : List Entry) {longer : List Entry} → now ≡ longer → length longer ≡ n → retired ≡ log → longer ≡ take n log → now ≡ take (length now) retired
+fronts now retired log is long same front = is ∙ front ∙ ap (λ k. take k log) (sym long ∙ sym (ap length is)) ∙ ap (take (length now)) (sym same)
+
+never : false ≡ true → ⊥
+never e = true≢false (sym e)
+
+module _ {B : Type 0} (bytes kind_of : B → List ℕ) (ready : B → ℕ → ℕ → Type 0) (kind : List ℕ) where
+  -- a new ring: each block is free at its place
+  pub opened : (blocks : List B) → 2 ≤ length blocks → AllByRecursion (λ block. kind_of block ≡ kind) blocks
+      → Ring bytes kind_of ready kind (opening (replicate (length blocks) 0) (map Some blocks) (all_known kind))
+  opened blocks enough kinds =
+      let homes = map some (map {A = B} Some blocks) in
+      let wide : length homes ≡ length blocks = length-map (map Some blocks) some ∙ length-map blocks Some in
+      let course : Course = record { log = []; given = 0; taken = 0; released = 0 } in
+      record {
+        course = course;
+        feeder = 0;
+        walker = 0;
+        owned = record {
+          some_places = rw wide enough;
+          as_many = length-replicate (length blocks) 0 ∙ sym wide;
+          released = omega arith;
+          taken = omega arith;
+          retired = omega arith;
+          two_in_hand = omega arith;
+          one_round = omega arith;
+          few = omega arith;
+          placed = λ j from below. record {
+            written = λ one is. absurd (some-ne-none one (sym is));
+            reading = λ h. absurd (omega arith);
+            waiting = λ one is. absurd (some-ne-none one (sym is));
+            marked = λ _. rw (zeros (length blocks) (j % length homes)) (record { even = refl; small = omega arith });
+            filling = λ _ h. absurd (omega arith);
+            free = λ _.
+                let near : j % length homes < length homes = mod-lt j (omega arith) in
+                let entry = entry_at blocks (j % length homes) (omega arith) in (
+                  entry.0,
+                  record {
+                    home = at_map some (map Some blocks) (j % length homes) (Some entry.0) (at_map Some blocks (j % length homes) entry.0 entry.1);
+                    same_kind = all_at (λ block. kind_of block ≡ kind) blocks (j % length homes) entry.0 kinds entry.1;
+                  },
+                );
+          };
+        };
+        knows = λ id known at.
+            ⊎_elim (λ t. subst (λ u. Knows kind 0 0 course id u) t.1 (record {
+              feed = λ _. record { seat = t.0; same_kind = refl; given = refl; retired = refl };
+              walk = λ _. record { seat = t.0; same_kind = refl; count = refl; front = refl; released = refl };
+              hand = λ _ _. omega arith;
+            }))
+            (λ t. absurd (some-ne-none known (sym t)))
+            (at_new [] (all_known kind) known id at);
+      }
+
+  -- the reader's seat is cut off the feeder's
+  pub splits : (id : ℕ) (v : Known) → v.feeds ≡ true → v.walks ≡ true → v.taken ≡ [] → Splits (Ring bytes kind_of ready kind) id v (left_to_feed v) (left_to_walk v)
+  splits id v feeds walks none_taken s r at =
+      let c = r.course in
+      let know = r.knows id v at in
+      let feed = know.feed feeds in
+      let walk = know.walk walks in
+      let views' : List Known = slice_set s.views id (left_to_feed v) in
+      let long : length views' ≡ length s.views = length-set s.views id (left_to_feed v) in
+      let first : c.taken ≤ c.released + 1 = (let count = walk.count in let zero_taken = ap length none_taken in omega arith) in
+      record {
+        course = c;
+        feeder = r.feeder;
+        walker = length s.views;
+        owned = record {
+          some_places = r.owned.some_places;
+          as_many = r.owned.as_many;
+          released = r.owned.released;
+          taken = r.owned.taken;
+          retired = r.owned.retired;
+          two_in_hand = r.owned.two_in_hand;
+          one_round = r.owned.one_round;
+          few = r.owned.few;
+          placed = r.owned.placed;
+        };
+        knows = λ j u is.
+            let Good : ℕ → Known → Type 0 = λ i k. Knows kind r.feeder (length s.views) c i k in
+            ⊎_elim (λ t. subst (λ k. Good j k) t.1 (record {
+              feed = λ f. absurd (never f);
+              walk = λ _. record { seat = t.0 ∙ long; same_kind = walk.same_kind; count = walk.count; front = walk.front; released = walk.released };
+              hand = λ _ _. first;
+            }))
+            (λ old_at. ⊎_elim (λ t. subst (λ k. Good j k) t.1 (record {
+              feed = λ _. record { seat = t.0 ∙ feed.seat; same_kind = feed.same_kind; given = feed.given; retired = feed.retired };
+              walk = λ w. absurd (never w);
+              hand = λ w. absurd (never w);
+            }))
+            (λ t.
+            let ne = t.0 in
+            let old = r.knows j u t.1 in
+            record {
+              feed = old.feed;
+              walk = λ w. absurd (ne ((old.walk w).seat ∙ sym walk.seat));
+              hand = λ w _. absurd (ne ((old.walk w).seat ∙ sym walk.seat));
+            })
+            (at_set s.views id j (left_to_feed v) u old_at))
+            (at_new views' (left_to_walk v) u j is);
+      }
+
+  -- the reader's seat comes into the feeder's
+  pub joins : (id : ℕ) (v : Known) (other : ℕ) (w : Known) → v.feeds ≡ true → w.walks ≡ true
+      → Joins (Ring bytes kind_of ready kind) id v other w (together v w) nothing_known
+  joins id v other w feeds walks s r at apart other_at =
+      let c = r.course in
+      let know = r.knows id v at in
+      let feed = know.feed feeds in
+      let both : Known = together v w in
+      let walk = (r.knows other w (sym (set_else s.views id other both apart) ∙ other_at)).walk walks in
+      record {
+        course = c;
+        feeder = r.feeder;
+        walker = r.feeder;
+        owned = record {
+          some_places = r.owned.some_places;
+          as_many = r.owned.as_many;
+          released = r.owned.released;
+          taken = r.owned.taken;
+          retired = r.owned.retired;
+          two_in_hand = r.owned.two_in_hand;
+          one_round = r.owned.one_round;
+          few = r.owned.few;
+          placed = r.owned.placed;
+        };
+        knows = λ j u is.
+            let Good : ℕ → Known → Type 0 = λ i k. Knows kind r.feeder r.feeder c i k in
+            ⊎_elim (λ t. subst (λ k. Good j k) t.1 (record {
+              feed = λ f. absurd (never f);
+              walk = λ f. absurd (never f);
+              hand = λ f. absurd (never f);
+            }))
+            (λ t.
+            let elsewhere = t.0 in
+            ⊎_elim (λ here. subst (λ k. Good j k) here.1 (record {
+              feed = λ _. record { seat = here.0 ∙ feed.seat; same_kind = feed.same_kind; given = feed.given; retired = feed.retired };
+              walk = λ _. record { seat = here.0 ∙ feed.seat; same_kind = feed.same_kind; count = walk.count; front = walk.front; released = walk.released };
+              hand = λ _ f. absurd (true≢false (sym feeds ∙ f));
+            }))
+            (λ there.
+            let old = r.knows j u there.1 in
+            record {
+              feed = old.feed;
+              walk = λ f. absurd (elsewhere ((old.walk f).seat ∙ sym walk.seat));
+              hand = λ f _. absurd (elsewhere ((old.walk f).seat ∙ sym walk.seat));
+            })
+            (at_set s.views id j both u t.1))
+            (at_set (slice_set s.views id both) other j nothing_known u is);
+      }
+
+  -- both ends in one seat compare what was taken with what was retired
+  pub compares : (n id : ℕ) (me : Holder B) (place : ℕ) → me.0.feeds ≡ true → me.0.walks ≡ true
+      → Allows (Ring bytes kind_of ready kind) n id me place (λ word. word) (λ _. Compares bytes kind_of ready me)
+  compares n id me place feeds walks s r wide at small =
+      let c = r.course in
+      let know = r.knows id me.0 at in
+      let feed = know.feed feeds in
+      let walk = know.walk walks in
+      let taken = r.owned.taken in
+      let count = walk.count in
+      let retired : length me.0.retired ≡ length c.log = ap length feed.retired in (
+        me.0,
+        keeps,
+        tt,
+        rw (set-read s.words place, set_again s.views id me.0 at) r,
+        record {
+          same = refl;
+          count = omega arith;
+          front = walk.front ∙ ap (λ k. take k c.log) (sym count) ∙ ap (take (length me.0.taken)) (sym feed.retired);
+        },
+      )
+
+  drains_at : (s : State (Option B) Known) (r : Ring bytes kind_of ready kind s) (id : ℕ) (me : Holder B) → get_elem? s.views id ≡ some me.0
+      → me.0.feeds ≡ true → me.0.walks ≡ true → length me.0.taken < length me.0.retired
+      → let place : ℕ = length me.0.taken % length s.homes in let word : ℕ = slice_index s.words place in
+      Goes bytes kind_of ready kind s place id me word (Drains bytes kind_of ready (step (length s.homes) place 0 0 none) me word)
+  drains_at s r id me at feeds walks left =
+      let v : Known = me.0 in
+      let c = r.course in
+      let know = r.knows id v at in
+      let feed = know.feed feeds in
+      let walk = know.walk walks in
+      let count = walk.count in
+      let retired : length v.retired ≡ length c.log = ap length feed.retired in
+      let place : ℕ = length v.taken % length s.homes in
+      let word : ℕ = slice_index s.words place in
+      let next = next_block bytes kind_of ready kind s r id me at walks (omega arith) in (
+        taken_one bytes kind_of ready kind v (bytes next.block, word % 256) word,
+        takes place (Some next.block),
+        next.home,
+        rw (set-read s.words place, next.is) (takes_block bytes kind_of ready kind s r id v word next.entry at walks (λ f. absurd (true≢false (sym feeds ∙ f))) next.at),
+        record {
+          next = next.found;
+          front = fronts (taken_one bytes kind_of ready kind v (bytes next.block, word % 256) word).taken v.retired c.log (ap (λ one. v.taken ++ one ∷ []) next.is)
+              (length-snoc v.taken next.entry) feed.retired (front_next bytes kind_of ready kind c v.taken next.entry count walk.front next.at);
+        },
+      )
+
+  -- both ends in one seat take the next block that was retired
+  pub drains : (n id : ℕ) (me : Holder B) → me.0.feeds ≡ true → me.0.walks ≡ true → length me.0.taken < length me.0.retired
+      → Allows (Ring bytes kind_of ready kind) n id me (length me.0.taken % n) (λ word. word) (Drains bytes kind_of ready (step n (length me.0.taken % n) 0 0 none) me)
+  drains n id me feeds walks left s r wide at small =
+      let k : ℕ = length me.0.taken in
+      subst (λ m. Goes bytes kind_of ready kind s (k % m) id me (slice_index s.words (k % m)) (Drains bytes kind_of ready (step m (k % m) 0 0 none) me (slice_index s.words (k % m)))) wide
+      (drains_at s r id me at feeds walks left)
+
+-- the reader's seat knows the front of the log, and the feeder's seat knows the log
+pub takes_front : {B : Type 0} (bytes kind_of : B → List ℕ) (ready : B → ℕ → ℕ → Type 0) (kind : List ℕ) (s : State (Option B) Known) → IsRing bytes kind_of ready kind s → TakesFront s.views
+takes_front bytes kind_of ready kind s r feeder walker fed walked feeder_at walker_at feeds walks =
+    let c = r.course in
+    let feed = (r.knows feeder fed feeder_at).feed feeds in
+    let walk = (r.knows walker walked walker_at).walk walks in
+    let taken = r.owned.taken in
+    let count = walk.count in
+    let retired : length fed.retired ≡ length c.log = ap length feed.retired in
+    record {
+      count = omega arith;
+      front = walk.front ∙ ap (λ k. take k c.log) (sym count) ∙ ap (take (length walked.taken)) (sym feed.retired);
+    }

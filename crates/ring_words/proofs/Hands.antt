@@ -1,0 +1,57 @@
+-- The slots that an end has out, and counts of looks.
+use Rattle.std.proofs.Common.{◌≡◌, ℕ, zero, suc, ◌+◌, ◌-◌, ◌%◌, ◌<◌, ◌≤◌, List, [], ◌∷◌, ◌++◌, None, sym, ap, ◌∙◌, add-zero, arith}
+use Rattle.atomic_table.specs.Seated.{TableId}
+use Rattle.atomic_table.specs.Table.{rest, turned}
+use Rattle.ring_words.specs.TableEnds.{IsSeated, even_count, odd_count, slots_of}
+
+-- a list that begins with one slot
+pub front_of : {S : Type 0} (l : List (ℕ × S)) (x : ℕ × S) (xs : List (ℕ × S)) → l ≡ x ∷ xs → l ≡ x ∷ rest l
+front_of l x xs e = e ∙ ap (λ t. x ∷ rest t) (sym e)
+
+-- an end stays seated at its table
+pub still_seated : (table seat now : TableId) (places : ℕ) → IsSeated table seat places → now ≡ seat → IsSeated table now places
+still_seated table seat now places is same = record {
+  same = same ∙ is.same;
+  words = is.words;
+  slots = is.slots;
+  some_places = is.some_places;
+  few_places = is.few_places;
+}
+
+module _ {B : Type 0} where
+  -- one block more is out
+  pub one_more : (places first last : ℕ) → first ≤ last → slots_of {B = B} places first (last + 1 - first) ≡ (last % places, None) ∷ slots_of places first (last - first)
+  one_more places first last le =
+      let count : last + 1 - first ≡ suc (last - first) = omega arith in
+      let place : first + (last - first) ≡ last = omega arith in
+      ap (slots_of places first) count ∙ ap (λ k. (k % places, None) ∷ slots_of places first (last - first)) place
+
+  one_out : (places first : ℕ) → turned (slots_of {B = B} places first 1) ≡ (first % places, None) ∷ []
+  one_out places first = ap (λ k. (k % places, None) ∷ []) (add-zero first)
+
+  two_out : (places first : ℕ) → turned (slots_of {B = B} places first 2) ≡ (first % places, None) ∷ slots_of places (first + 1) 1
+  two_out places first =
+      let later : first + 1 ≡ first + 1 + 0 = omega arith in
+      ap (λ k. (k % places, None) ∷ ((first + 1) % places, None) ∷ []) (add-zero first)
+      ∙ ap (λ k. (first % places, None) ∷ (k % places, None) ∷ []) later
+
+  oldest_of : (places first count : ℕ) → 0 < count → count ≤ 2 → turned (slots_of {B = B} places first count) ≡ (first % places, None) ∷ slots_of places (first + 1) (count - 1)
+  oldest_of places first zero some few = absurd (omega arith)
+  oldest_of places first (suc zero) some few = one_out places first
+  oldest_of places first (suc (suc zero)) some few = two_out places first
+  oldest_of places first (suc (suc (suc n))) some few = absurd (omega arith)
+
+  -- of one or two blocks that are out, the older comes forward
+  pub oldest : (places first last : ℕ) → first < last → last ≤ first + 2
+      → turned (slots_of {B = B} places first (last - first)) ≡ (first % places, None) ∷ slots_of places (first + 1) (last - (first + 1))
+  oldest places first last lt few =
+      let count : last - first - 1 ≡ last - (first + 1) = omega arith in
+      oldest_of places first (last - first) (omega arith) (omega arith) ∙ ap (λ k. (first % places, None) ∷ slots_of places (first + 1) k) count
+
+pub odd_count_push : (words : List ℕ) (word : ℕ) → odd_count (words ++ word ∷ []) ≡ odd_count words + word % 2
+odd_count_push [] word = omega arith
+odd_count_push (x ∷ words) word = let h = odd_count_push words word in omega arith
+
+pub even_count_push : (words : List ℕ) (word : ℕ) → even_count (words ++ word ∷ []) ≡ even_count words + (1 - word % 2)
+even_count_push [] word = omega arith
+even_count_push (x ∷ words) word = let h = even_count_push words word in omega arith

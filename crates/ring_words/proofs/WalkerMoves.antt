@@ -1,0 +1,352 @@
+-- The rule of a ring outlives each step of the reader's end.
+use Rattle.std.proofs.Common.{◌≡◌, ℕ, suc, ◌+◌, ◌/◌, ◌%◌, ◌<◌, ◌≤◌, true, false, List, [], ◌∷◌, ◌++◌, length, take, slice_index, slice_set, refl, sym, ap, ap₂, ◌∙◌, subst, mod-lt, lt_of_not-le, arith, length-set, get_or-set_same, get_or-set_other, add-one, Option, Some}
+use mathlib.Core.Logic.{dite}
+use mathlib.Core.Option.{some, none}
+use native.Mathlib.Decide.{dec_le, ℕ_discrete}
+use native.Mathlib.Nat.{add-mod_right}
+use lib.ListN.{get_elem?}
+use Rattle.atomic_table.specs.Table.{State, Act, keeps, takes, gives, Allows, Valid, step, stepped, carried_after, rest}
+use Rattle.atomic_table.proofs.Lists.{set_here, set_else}
+use Rattle.ring_words.specs.Rings.{Entry, IsMark}
+use Rattle.ring_words.specs.Tables.{Course, IsRing}
+use Rattle.ring_words.specs.Plays.{Fetches, FoundNext, Frees, Holder}
+use Rattle.ring_words.specs.declared.known.Known.{Known}
+use Rattle.ring_words.proofs.Words.{number_of_word, odd_word, status_of_word}
+use Rattle.ring_words.proofs.Rounds.{elsewhere}
+use Rattle.ring_words.proofs.Entries.{entry_at, length-snoc, set-read, take-next, within}
+use Rattle.ring_words.proofs.Placing.{others_walk, untouched}
+
+module _ {B : Type 0} (bytes kind_of : B → List ℕ) (ready : B → ℕ → ℕ → Type 0) (kind : List ℕ) where
+  abbrev pub Ring : State (Option B) Known → Type 0
+  Ring = IsRing bytes kind_of ready kind
+
+  -- what a step owes at a state
+  abbrev pub Goes : State (Option B) Known → ℕ → ℕ → Holder B → ℕ → (Holder B → Type 0) → Type 0
+  Goes s place id me word told = (now : Known) × (act : Act (Option B)) × Valid s.homes me.1 act × Ring (stepped s place word id me.1 now act) × told (now, carried_after me.1 act)
+
+  -- what the reader knows once it has taken a block
+  abbrev pub taken_one : Known → Entry → ℕ → Known
+  taken_one v entry word = record v { taken = v.taken ++ entry ∷ []; visits = v.visits ++ word ∷ [] }
+
+  -- what it knows after another look
+  abbrev visited : Known → ℕ → Known
+  visited v word = record v { visits = v.visits ++ word ∷ [] }
+
+  -- the front that was taken, with the next entry
+  pub front_next : (c : Course) (taken : List Entry) (entry : Entry) → length taken ≡ c.taken → taken ≡ take c.taken c.log → get_elem? c.log c.taken ≡ some entry
+      → taken ++ entry ∷ [] ≡ take (length taken + 1) c.log
+  front_next c taken entry count front at =
+      ap (λ l. l ++ entry ∷ []) front ∙ sym (take-next c.log c.taken entry at) ∙ ap (λ k. take k c.log) (ap suc (sym count) ∙ sym (add-one (length taken)))
+
+  -- the next block is out with the reader
+  pub takes_block : (s : State (Option B) Known) (r : Ring s) (id : ℕ) (v : Known) (word : ℕ) (entry : Entry) → get_elem? s.views id ≡ some v → v.walks ≡ true
+      → (v.feeds ≡ false → length v.taken ≤ length v.marks) → get_elem? r.course.log r.course.taken ≡ some entry
+      → Ring record { words = s.words; homes = slice_set s.homes (length v.taken % length s.homes) none; views = slice_set s.views id (taken_one v entry word) }
+  takes_block s r id v word entry at walks hand next =
+      let n = length s.homes in
+      let c = r.course in
+      let o = r.owned in
+      let know = r.knows id v at in
+      let walk = know.walk walks in
+      let c' : Course = record c { taken = length v.taken + 1; released = c.released } in
+      let some_places = o.some_places in
+      let count : length v.taken ≡ c.taken = walk.count in
+      let below_log = within c.log c.taken entry next in
+      let first = o.released in
+      let retired = o.retired in
+      let round = o.one_round in
+      let place : ℕ = length v.taken % n in
+      let homes' = slice_set s.homes place none in
+      let wide : length homes' ≡ n = length-set s.homes place none in
+      record {
+        course = c';
+        feeder = r.feeder;
+        walker = r.walker;
+        owned = record {
+          some_places = rw wide some_places;
+          as_many = o.as_many ∙ sym wide;
+          released = omega arith;
+          taken = omega arith;
+          retired = retired;
+          two_in_hand = o.two_in_hand;
+          one_round = rw wide round;
+          few = o.few;
+          placed = rw wide (λ j from below.
+              let old = o.placed j from below in
+              dite (ℕ_discrete j (length v.taken))
+              (λ e. record {
+                written = old.written;
+                reading = λ _. rw e (set_here s.homes place none (mod-lt (length v.taken) (omega arith)));
+                waiting = λ one is h. absurd (omega arith);
+                marked = old.marked;
+                filling = λ h. absurd (omega arith);
+                free = λ h. absurd (omega arith);
+              })
+              (λ ne. untouched bytes kind_of ready kind c c' s.words s.words s.homes homes' n j old refl
+              (set_else s.homes place (j % n) none (elsewhere j (length v.taken) n ne (omega arith) (omega arith)))
+              record {
+                log = λ one is. is;
+                retired = λ h. h;
+                before_taken = λ h. omega arith;
+                from_taken = λ h. omega arith;
+                before_given = λ h. h;
+                from_given = λ h. h;
+              }));
+        };
+        knows = others_walk kind r.feeder r.walker c (length v.taken + 1) c.released s.views id (taken_one v entry word) r.knows walk.seat
+            record {
+              feed = λ feeds.
+                  let f = know.feed feeds in
+                  record { seat = f.seat; same_kind = f.same_kind; given = f.given; retired = f.retired };
+              walk = λ _. record {
+                seat = walk.seat;
+                same_kind = walk.same_kind;
+                count = length-snoc v.taken entry;
+                front = front_next c v.taken entry count walk.front next;
+                released = walk.released;
+              };
+              hand = λ _ feeds. let h = hand feeds in let same = walk.released in omega arith;
+            };
+      }
+
+  -- only the looks of the reader's seat change
+  only_visits : (s : State (Option B) Known) (r : Ring s) (id : ℕ) (v : Known) (word : ℕ) → get_elem? s.views id ≡ some v → v.walks ≡ true
+      → Ring record { words = s.words; homes = s.homes; views = slice_set s.views id (visited v word) }
+  only_visits s r id v word at walks =
+      let c = r.course in
+      let know = r.knows id v at in
+      let walk = know.walk walks in
+      record {
+        course = c;
+        feeder = r.feeder;
+        walker = r.walker;
+        owned = record {
+          some_places = r.owned.some_places;
+          as_many = r.owned.as_many;
+          released = r.owned.released;
+          taken = r.owned.taken;
+          retired = r.owned.retired;
+          two_in_hand = r.owned.two_in_hand;
+          one_round = r.owned.one_round;
+          few = r.owned.few;
+          placed = r.owned.placed;
+        };
+        knows = others_walk kind r.feeder r.walker c c.taken c.released s.views id (visited v word) r.knows walk.seat
+            record {
+              feed = λ feeds.
+                  let f = know.feed feeds in
+                  record { seat = f.seat; same_kind = f.same_kind; given = f.given; retired = f.retired };
+              walk = λ _. record { seat = walk.seat; same_kind = walk.same_kind; count = walk.count; front = walk.front; released = walk.released };
+              hand = know.hand;
+            };
+      }
+
+  -- a block that was retired and not taken: what the look at its word tells, and what is left of it
+  pub record Next (s : State (Option B) Known) (r : Ring s) (id : ℕ) (me : Holder B) : Type 0 where
+    pub entry : Entry
+    pub at : get_elem? r.course.log r.course.taken ≡ some entry
+    pub block : B
+    pub home : get_elem? s.homes (length me.0.taken % length s.homes) ≡ some (some (Some block))
+    pub odd : slice_index s.words (length me.0.taken % length s.homes) % 2 ≡ 1
+    pub is : (bytes block, slice_index s.words (length me.0.taken % length s.homes) % 256) ≡ entry
+    pub found :
+        let place : ℕ = length me.0.taken % length s.homes in let word : ℕ = slice_index s.words place in
+        FoundNext bytes kind_of ready (step (length s.homes) place 0 0 none) me word (taken_one me.0 (bytes block, word % 256) word, (place, Some block) ∷ me.1)
+
+  pub next_block : (s : State (Option B) Known) (r : Ring s) (id : ℕ) (me : Holder B) → get_elem? s.views id ≡ some me.0 → me.0.walks ≡ true
+      → r.course.taken < length r.course.log → Next s r id me
+  next_block s r id me at walks before =
+      let n = length s.homes in
+      let v : Known = me.0 in
+      let c = r.course in
+      let o = r.owned in
+      let walk = (r.knows id v at).walk walks in
+      let k : ℕ = length v.taken in
+      let count : k ≡ c.taken = walk.count in
+      let place : ℕ = k % n in
+      let word : ℕ = slice_index s.words place in
+      let entry = entry_at c.log c.taken before in
+      let next : get_elem? c.log k ≡ some entry.0 = ap (λ i. get_elem? c.log i) count ∙ entry.1 in
+      let first = o.released in
+      let retired = o.retired in
+      let round = o.one_round in
+      let few = o.few in
+      let placed = o.placed k (omega arith) (omega arith) in
+      let written = placed.written entry.0 next in
+      let waits = placed.waiting entry.0 next (omega arith) in
+      let number : word / 256 ≡ k + 1 = ap (λ w. w / 256) written.0 ∙ number_of_word (k + 1) entry.0.1 written.1 in
+      let status : word % 256 ≡ entry.0.1 = ap (λ w. w % 256) written.0 ∙ status_of_word (k + 1) entry.0.1 written.1 in
+      record {
+        entry = entry.0;
+        at = entry.1;
+        block = waits.block;
+        home = waits.stands.home;
+        odd = ap (λ w. w % 2) written.0 ∙ odd_word (k + 1) entry.0.1 written.1;
+        is = ap₂ (λ content state. (content, state)) waits.content status;
+        found = record {
+          block = waits.block;
+          hand = refl;
+          same_kind = waits.stands.same_kind ∙ sym walk.same_kind;
+          status = rw status written.1;
+          number = number;
+          few = omega arith;
+          is_ready = rw status waits.is_ready;
+          known = refl;
+        };
+      }
+
+  fetches_by : (s : State (Option B) Known) (r : Ring s) (id : ℕ) (me : Holder B) → get_elem? s.views id ≡ some me.0 → me.0.walks ≡ true
+      → length me.0.taken ≤ length me.0.marks → Dec (length r.course.log ≤ r.course.taken)
+      → let place : ℕ = length me.0.taken % length s.homes in let word : ℕ = slice_index s.words place in
+      Goes s place id me word (Fetches bytes kind_of ready (step (length s.homes) place 0 0 none) me word)
+  fetches_by s r id me at walks hand (no here) =
+      let place : ℕ = length me.0.taken % length s.homes in
+      let word : ℕ = slice_index s.words place in
+      let next = next_block s r id me at walks (lt_of_not-le here) in
+      let odd = next.odd in (
+        taken_one me.0 (bytes next.block, word % 256) word,
+        takes place (Some next.block),
+        next.home,
+        rw (set-read s.words place, next.is) (takes_block s r id me.0 word next.entry at walks (λ _. hand) next.at),
+        record { some = λ _. next.found; none = λ even. absurd (omega arith) },
+      )
+  fetches_by s r id me at walks hand (yes all) =
+      let n = length s.homes in
+      let v : Known = me.0 in
+      let c = r.course in
+      let o = r.owned in
+      let walk = (r.knows id v at).walk walks in
+      let count : length v.taken ≡ c.taken = walk.count in
+      let released : length v.marks ≡ c.released = walk.released in
+      let first = o.released in
+      let some_places = o.some_places in
+      let place : ℕ = length v.taken % n in
+      let word : ℕ = slice_index s.words place in
+      let placed = o.placed (length v.taken) (omega arith) (omega arith) in
+      let mark : IsMark word = placed.marked (omega arith) in
+      let even = mark.even in (
+        visited v word,
+        keeps,
+        tt,
+        rw (set-read s.words place) (only_visits s r id v word at walks),
+        record {
+          some = λ odd. absurd (omega arith);
+          none = λ _. record { hand = refl; mark = mark; known = refl };
+        },
+      )
+
+  -- the reader looks at the next place
+  pub fetches : (n id : ℕ) (me : Holder B) → me.0.walks ≡ true → length me.0.taken ≤ length me.0.marks
+      → Allows Ring n id me (length me.0.taken % n) (λ word. word) (Fetches bytes kind_of ready (step n (length me.0.taken % n) 0 0 none) me)
+  fetches n id me walks hand s r wide at small =
+      let k : ℕ = length me.0.taken in
+      subst (λ m. Goes s (k % m) id me (slice_index s.words (k % m)) (Fetches bytes kind_of ready (step m (k % m) 0 0 none) me (slice_index s.words (k % m)))) wide
+      (fetches_by s r id me at walks hand (dec_le (length r.course.log) r.course.taken))
+
+  -- a block is released, and stands at its place
+  frees_block : (s : State (Option B) Known) (r : Ring s) (id : ℕ) (v : Known) (block : B) (mark : ℕ) → get_elem? s.views id ≡ some v → v.walks ≡ true
+      → length v.marks < length v.taken → IsMark mark → kind_of block ≡ v.kind
+      → let place : ℕ = length v.marks % length s.homes in
+      Ring record {
+        words = slice_set s.words place mark;
+        homes = slice_set s.homes place (some (Some block));
+        views = slice_set s.views id (record v { marks = v.marks ++ mark ∷ [] });
+      }
+  frees_block s r id v block mark at walks hand even is_kind =
+      let n = length s.homes in
+      let c = r.course in
+      let o = r.owned in
+      let know = r.knows id v at in
+      let walk = know.walk walks in
+      let t : ℕ = length v.marks in
+      let now : Known = record v { marks = v.marks ++ mark ∷ [] } in
+      let c' : Course = record c { taken = c.taken; released = t + 1 } in
+      let place : ℕ = t % n in
+      let count : length v.taken ≡ c.taken = walk.count in
+      let same : t ≡ c.released = walk.released in
+      let some_places = o.some_places in
+      let front = o.taken in
+      let retired = o.retired in
+      let round = o.one_round in
+      let words' : List ℕ = slice_set s.words place mark in
+      let homes' = slice_set s.homes place (some (Some block)) in
+      let wide : length homes' ≡ n = length-set s.homes place (some (Some block)) in
+      let wide_words : length words' ≡ length s.words = length-set s.words place mark in
+      let as_many = o.as_many in
+      let near : place < n = mod-lt t (omega arith) in
+      record {
+        course = c';
+        feeder = r.feeder;
+        walker = r.walker;
+        owned = record {
+          some_places = rw wide some_places;
+          as_many = omega arith;
+          released = omega arith;
+          taken = front;
+          retired = retired;
+          two_in_hand = o.two_in_hand;
+          one_round = rw wide (omega arith);
+          few = o.few;
+          placed = rw wide (λ j from below.
+              dite (ℕ_discrete j (t + n))
+              (λ e.
+              let turn : j % n ≡ place = ap (λ k. k % n) e ∙ add-mod_right t n in
+              record {
+                written = λ one is. let w = within c.log j one is in absurd (omega arith);
+                reading = λ h. absurd (omega arith);
+                waiting = λ one is h. let w = within c.log j one is in absurd (omega arith);
+                marked = λ _.
+                    let here : slice_index words' (j % n) ≡ mark = rw turn (get_or-set_same s.words place mark 0 (omega arith)) in
+                    rw here even;
+                filling = λ h below'. absurd (omega arith);
+                free = λ _. (block, record { home = rw turn (set_here s.homes place (some (Some block)) near); same_kind = is_kind ∙ walk.same_kind });
+              })
+              (λ ne.
+              let old = o.placed j (omega arith) (omega arith) in
+              let apart = elsewhere j t n (λ e. omega arith) (omega arith) (omega arith) in
+              untouched bytes kind_of ready kind c c' s.words words' s.homes homes' n j old
+              (get_or-set_other s.words place (j % n) mark 0 (λ e. apart e))
+              (set_else s.homes place (j % n) (some (Some block)) apart)
+              record {
+                log = λ one is. is;
+                retired = λ h. h;
+                before_taken = λ h. h;
+                from_taken = λ h. h;
+                before_given = λ h. h;
+                from_given = λ h. h;
+              }));
+        };
+        knows = others_walk kind r.feeder r.walker c c.taken (t + 1) s.views id now r.knows walk.seat
+            record {
+              feed = λ feeds.
+                  let f = know.feed feeds in
+                  record { seat = f.seat; same_kind = f.same_kind; given = f.given; retired = f.retired };
+              walk = λ _. record { seat = walk.seat; same_kind = walk.same_kind; count = walk.count; front = walk.front; released = length-snoc v.marks mark };
+              hand = λ walks' feeds. let h = know.hand walks' feeds in omega arith;
+            };
+      }
+
+  frees_by : (n id : ℕ) (v : Known) (others : List (ℕ × Option B)) (block : B) (mark : ℕ) (s : State (Option B) Known) (r : Ring s)
+      → get_elem? s.views id ≡ some v → v.walks ≡ true → length v.marks < length v.taken → IsMark mark → kind_of block ≡ v.kind → length s.homes ≡ n
+      → let place : ℕ = length v.marks % n in let me : Holder B = (v, (place, Some block) ∷ others) in
+      Goes s place id me mark (Frees bytes kind_of ready me mark)
+  frees_by n id v others block mark s r at walks hand even is_kind wide =
+      subst (λ m.
+      let place : ℕ = length v.marks % m in
+      let me : Holder B = (v, (place, Some block) ∷ others) in
+      Goes s place id me mark (Frees bytes kind_of ready me mark)) wide (
+        record v { marks = v.marks ++ mark ∷ [] },
+        gives,
+        tt,
+        frees_block s r id v block mark at walks hand even is_kind,
+        record { hand = refl; known = refl },
+      )
+
+  -- the reader stores the mark behind the block that it has put back
+  pub frees : (n id : ℕ) (me : Holder B) (block : B) (mark : ℕ) → me.0.walks ≡ true → length me.0.marks < length me.0.taken → IsMark mark
+      → kind_of block ≡ me.0.kind → me.1 ≡ (length me.0.marks % n, Some block) ∷ rest me.1
+      → Allows Ring n id me (length me.0.marks % n) (λ _. mark) (λ _. Frees bytes kind_of ready me mark)
+  frees n id me block mark walks hand even is_kind out s r wide at small =
+      let place : ℕ = length me.0.marks % n in
+      subst (λ slots. Goes s place id (me.0, slots) mark (Frees bytes kind_of ready (me.0, slots) mark)) (sym out)
+      (frees_by n id me.0 (rest me.1) block mark s r at walks hand even is_kind wide)

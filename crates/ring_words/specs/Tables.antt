@@ -1,0 +1,114 @@
+-- The rule of a ring between two threads. Its table has a status word and a slot for each place; a block that stands at
+-- its place is in the slot, and a block that is out has left `None` there, which is its end's to write.
+-- The index of a block is its number less one, and its place is the index modulo the number of places.
+use Rattle.std.specs.Prelude.{◌≡◌, ℕ, ◌+◌, ◌*◌, ◌%◌, ◌^◌, ◌<◌, ◌≤◌, true, false, List, length, take, slice_index, Option, Some}
+use mathlib.Core.Option.{some, none}
+use mathlib.Core.Option as maybe
+use lib.ListN.{get_elem?}
+use Rattle.atomic_table.specs.Table.{State}
+use Rattle.ring_words.specs.Rings.{Entry, IsMark, IsStatus}
+use Rattle.ring_words.specs.declared.known.Known.{Known}
+
+-- how far a ring has come
+pub record Course : Type 0 where
+  -- the blocks that were retired so far
+  pub log : List Entry
+  -- how many blocks were given to the feeder, taken by the reader and released by it
+  pub given : ℕ
+  pub taken : ℕ
+  pub released : ℕ
+
+-- what may be in a slot: it is at home with a block or none, or out
+abbrev pub Home : Type 0 → Type 0
+Home B = maybe.Option (Option B)
+
+module _ {B : Type 0} (bytes kind_of : B → List ℕ) (ready : B → ℕ → ℕ → Type 0) (kind : List ℕ) where
+  -- a block stands at this place
+  pub record Stands (homes : List (Home B)) (place : ℕ) (block : B) : Type 0 where
+    pub home : get_elem? homes place ≡ some (some (Some block))
+    pub same_kind : kind_of block ≡ kind
+
+  -- the block of an entry stands at this place, and may do so retired
+  pub record Waits (homes : List (Home B)) (place index : ℕ) (entry : Entry) : Type 0 where
+    pub block : B
+    pub stands : Stands homes place block
+    pub content : bytes block ≡ entry.0
+    pub is_ready : ready block (index + 1) entry.1
+
+  -- the block of an index at its place, for the indices of one round, which begins with the first that isn't released
+  pub record IsPlaced (course : Course) (words : List ℕ) (homes : List (Home B)) (places index : ℕ) : Type 0 where
+    -- a retired block has its number and its status in the word
+    pub written : (entry : Entry) → get_elem? course.log index ≡ some entry →
+        (slice_index words (index % places) ≡ (index + 1) * 256 + entry.1) × IsStatus entry.1
+    -- the reader has it in hand, or on the way from or to its place
+    pub reading : index < course.taken → get_elem? homes (index % places) ≡ some none
+    -- or it waits at its place
+    pub waiting : (entry : Entry) → get_elem? course.log index ≡ some entry → course.taken ≤ index →
+        Waits homes (index % places) index entry
+    -- any other has an even word
+    pub marked : length course.log ≤ index → IsMark (slice_index words (index % places))
+    -- the feeder has it in hand, or on the way from or to its place, or has given it up
+    pub filling : length course.log ≤ index → index < course.given → get_elem? homes (index % places) ≡ some none
+    -- or it is free, at its place
+    pub free : course.given ≤ index → (block : B) × Stands homes (index % places) block
+
+  -- who owns which block of a ring
+  pub record IsOwnedBy (course : Course) (state : State (Option B) Known) : Type 0 where
+    pub some_places : 2 ≤ length state.homes
+    pub as_many : length state.words ≡ length state.homes
+    pub released : course.released ≤ course.taken
+    pub taken : course.taken ≤ length course.log
+    pub retired : length course.log ≤ course.given
+    pub two_in_hand : course.given ≤ length course.log + 2
+    pub one_round : course.given ≤ course.released + length state.homes
+    pub few : course.given < 2 ^ 40
+    pub placed : (index : ℕ) → course.released ≤ index → index < course.released + length state.homes →
+        IsPlaced course state.words state.homes (length state.homes) index
+
+-- what the feeder's end knows
+pub record KnowsFeed (kind : List ℕ) (feeder : ℕ) (course : Course) (id : ℕ) (known : Known) : Type 0 where
+  pub seat : id ≡ feeder
+  pub same_kind : known.kind ≡ kind
+  pub given : known.given ≡ course.given
+  pub retired : known.retired ≡ course.log
+
+-- what the reader's end knows: it took the first blocks that were retired
+pub record KnowsWalk (kind : List ℕ) (walker : ℕ) (course : Course) (id : ℕ) (known : Known) : Type 0 where
+  pub seat : id ≡ walker
+  pub same_kind : known.kind ≡ kind
+  pub count : length known.taken ≡ course.taken
+  pub front : known.taken ≡ take course.taken course.log
+  pub released : length known.marks ≡ course.released
+
+-- what the end of a seat knows. Until the ring is finished the reader has one block in hand at most
+pub record Knows (kind : List ℕ) (feeder walker : ℕ) (course : Course) (id : ℕ) (known : Known) : Type 0 where
+  pub feed : known.feeds ≡ true → KnowsFeed kind feeder course id known
+  pub walk : known.walks ≡ true → KnowsWalk kind walker course id known
+  pub hand : known.walks ≡ true → known.feeds ≡ false → course.taken ≤ course.released + 1
+
+-- each end knows its side of a course, in a seat of its own or both in one
+pub record EachKnows (kind : List ℕ) (course : Course) (views : List Known) : Type 0 where
+  pub feeder : ℕ
+  pub walker : ℕ
+  pub knows : (id : ℕ) (known : Known) → get_elem? views id ≡ some known → Knows kind feeder walker course id known
+
+-- the rule: some course, and two seats for the two ends, or one for both
+pub record IsRing {B : Type 0} (bytes kind_of : B → List ℕ) (ready : B → ℕ → ℕ → Type 0) (kind : List ℕ)
+    (state : State (Option B) Known) : Type 0 where
+  pub course : Course
+  pub feeder : ℕ
+  pub walker : ℕ
+  pub owned : IsOwnedBy bytes kind_of ready kind course state
+  pub knows : (id : ℕ) (known : Known) → get_elem? state.views id ≡ some known →
+      Knows kind feeder walker course id known
+
+-- the blocks that were taken are the first of those that were retired
+pub record IsFront (taken retired : List Entry) : Type 0 where
+  pub count : length taken ≤ length retired
+  pub front : taken ≡ take (length taken) retired
+
+-- whatever the reader's end knows that it took is the front of what the feeder's end knows that it retired
+abbrev pub TakesFront : List Known → Type 0
+TakesFront views =
+    (feeder walker : ℕ) (fed walked : Known) → get_elem? views feeder ≡ some fed → get_elem? views walker ≡ some walked
+    → fed.feeds ≡ true → walked.walks ≡ true → IsFront walked.taken fed.retired

@@ -1,0 +1,73 @@
+//! Why a command isn't carried out.
+ghost use Rattle.std.specs.Prelude.{◌≡◌};
+ghost use Rattle.setup_text.specs.Answers.{is_setup_want, is_text_want};
+ghost use Rattle.tap_reading.specs.Readers.{stop_of_setup, stop_of_text, stop_of_unread};
+
+use crate::texts::Unread;
+use bpf_filter::FilterError;
+use setup_text::{SetupError, SetupKind, TextError, TextKind};
+
+/// Why a command isn't carried out.
+#[derive(Clone, Copy, Debug, PartialEq, Eq)]
+pub enum Stop {
+    /// A text can't be read.
+    Unread,
+    /// The setup was read and is refused.
+    Setup(SetupError),
+    /// A further text was read and is refused.
+    Text(TextError),
+    /// A request for memory was refused.
+    Memory,
+}
+
+impl From<Unread> for Stop {
+    ghost from_gives = { λ unread stop. stop ≡ stop_of_unread unread };
+
+    fn from(unread: Unread) -> Stop {
+        match unread {
+            Unread::Failed => Stop::Unread,
+            Unread::Memory => Stop::Memory,
+        }
+    }
+}
+
+impl From<SetupError> for Stop {
+    ghost from_gives = { λ error stop. stop ≡ stop_of_setup error };
+
+    fn from(error: SetupError) -> Stop {
+        if is_setup_want(&error) {
+            Stop::Memory
+        } else {
+            Stop::Setup(error)
+        }
+    }
+}
+
+impl From<TextError> for Stop {
+    ghost from_gives = { λ error stop. stop ≡ stop_of_text error };
+
+    fn from(error: TextError) -> Stop {
+        if is_text_want(&error) {
+            Stop::Memory
+        } else {
+            Stop::Text(error)
+        }
+    }
+}
+
+/// Whether a setup wasn't read for want of memory.
+fn is_setup_want(error: &SetupError) -> bool
+    ensures { result ≡ is_setup_want error.now }
+{
+    matches!(error.kind, SetupKind::Memory)
+}
+
+/// Whether a text wasn't read for want of memory.
+fn is_text_want(error: &TextError) -> bool
+    ensures { result ≡ is_text_want error.now }
+{
+    matches!(
+        error.kind,
+        TextKind::Memory | TextKind::Filter(FilterError::Memory)
+    )
+}

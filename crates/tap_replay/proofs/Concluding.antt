@@ -1,0 +1,313 @@
+-- A run from its sources to its report is the replay of all frames that they gave.
+use Rattle.std.proofs.Common.{◌≡◌, ℕ, zero, suc, ◌+◌, ◌<◌, ◌≤◌, Bool, List, [], ◌∷◌, ◌++◌, length, drop, get_or, append-nil, append_assoc, Option, inl, inr, refl, sym, ap, ◌∙◌, subst, arith}
+use Rattle.std.specs.Prelude.{All, IfOk, IsSome, Result, Ok, Err, map, replicate}
+use Rattle.std.specs.List.{AllByRecursion}
+use Rattle.std.proofs.lemmas.List.{length-replicate}
+use Rattle.std.proofs.lemmas.List.Elements.{All-get_or, All-map, All-replicate, All-set}
+use Rattle.capture_file.specs.Capture.{frames_of}
+use Rattle.fanout_group.specs.Arrivals.{arrivals_at}
+use Rattle.fanout_group.specs.Plans.{Shape, has_defrag}
+use Rattle.fanout_group.specs.declared.logs.Try.{Try}
+use Rattle.fanout_group.specs.declared.runs.CpuEnd.{CpuEnd}
+use Rattle.fanout_group.specs.declared.runs.CpuLog.{CpuLog}
+use Rattle.frame_view.specs.declared.frames.Frame.{Frame}
+use Rattle.replay_model.specs.Replay.{Cpu, Replay, closed, done_lines, feed_from, no_ring, replayed, started}
+use Rattle.replay_model.specs.Reported.{finished_ring}
+use Rattle.replay_model.specs.Reports.{IsSchedule}
+use Rattle.replay_model.specs.declared.schedule.Line.{Line}
+use Rattle.replay_model.specs.declared.schedule.Line.TheVariants.{Feed, Read, Tick, Stats}
+use Rattle.replay_model.proofs.Rings.{IsOpen, count_open, put_open, read_open, tick_open, try_open}
+use Rattle.replay_model.proofs.Soundness.{lines-more, set-holds}
+use Rattle.replay_model.proofs.Timed.{IsTimed, timed-started}
+use Rattle.ring_model.specs.Ring.{Size}
+use Rattle.ring_model.specs.Rings.{Ring, fresh, noted, note_of_tick, read_once}
+use Rattle.ring_model.specs.declared.notes.Note.{Note}
+use Rattle.ring_model.specs.declared.notes.Offer.{Offer}
+use Rattle.setup_text.specs.declared.jobs.Job.{Job}
+use Rattle.setup_text.specs.declared.reports.MemberReport.{MemberReport}
+use Rattle.setup_text.specs.declared.reports.RunReport.{RunReport}
+use Rattle.tp_layout.specs.Requests.{room_of, size_of}
+use Rattle.tp_layout.specs.declared.requests.RingRequest.{RingRequest}
+use Rattle.tap_replay.specs.Deliveries.{AreTried, ChangedByTries, IsNoteOf, IsTried}
+use Rattle.tap_replay.specs.Feeding.{Closes, Feeding, cpu_of, frames_in}
+use Rattle.tap_replay.specs.Reported.{member_of}
+use Rattle.tap_replay.specs.Running.{AreAllOf, AreCpus, IsRun, RunValue, cpus_of, firsts_of, whole}
+use Rattle.tap_replay.specs.Runs.{IsReplayed, captures_from, log_of, logs_from, replay_of, report_of, rules_of}
+use Rattle.tap_replay.specs.Sources.{AllGave, Seen}
+use Rattle.tap_replay.specs.Turning.{AllClose, FedRest, Finishes, LineDone, MembersAfter, Starts, starting_from}
+use Rattle.tap_replay.proofs.Whole.{as-many}
+
+abbrev first : Feeding → Option Seen
+first cpu = cpu.first
+
+abbrev bytes_in : Feeding → List ℕ
+bytes_in cpu = cpu.bytes
+
+abbrev end_in : CpuLog → CpuEnd
+end_in log = log.end
+
+-- ---- before the first line
+
+starting_cpus : (plan : Shape) (number : ℕ) (firsts : List (Option Seen)) → AreCpus plan number (starting_from plan number firsts)
+starting_cpus plan number [] = tt
+starting_cpus plan number (f ∷ firsts) = (refl, refl, starting_cpus plan (number + 1) firsts)
+
+starting_firsts : (plan : Shape) (number : ℕ) (firsts : List (Option Seen)) → map first (starting_from plan number firsts) ≡ firsts
+starting_firsts plan number [] = refl
+starting_firsts plan number (f ∷ firsts) = ap (λ (fs : List (Option Seen)). f ∷ fs) (starting_firsts plan (number + 1) firsts)
+
+abbrev waits : List (Option Frame) → Cpu
+waits waiting = record { waiting = waiting; present = 0; log = [] }
+
+starting_whole : (plan : Shape) (number : ℕ) (all : List (List Frame)) (firsts : List (Option Seen)) → AreAllOf all (starting_from plan number firsts)
+    → cpus_of all (starting_from plan number firsts) ≡ map waits (map (arrivals_at (has_defrag plan.flags)) all)
+starting_whole plan number [] [] h = refl
+starting_whole plan number [] (f ∷ firsts) h = absurd h
+starting_whole plan number (a ∷ all) [] h = absurd h
+starting_whole plan number (a ∷ all) (f ∷ firsts) h =
+    ap (λ (cs : List Cpu). waits (arrivals_at (has_defrag plan.flags) a) ∷ cs) (starting_whole plan (number + 1) all firsts h.1)
+
+pub starts_run : (job : Job) (firsts : List (Option Seen)) (run : RunValue) → Starts job firsts run → IsRun job run
+starts_run job firsts run s =
+    let size = size_of job.setup.shape in
+    let P : Ring → Type 0 = λ ring. ring.size ≡ size in
+    record {
+      count = ap (λ (rs : List Ring). length rs) s.members ∙ length-replicate job.setup.plan.members (fresh size);
+      sizes = subst (λ (rs : List Ring). All P rs) (sym s.members) (All-replicate P job.setup.plan.members (fresh size) refl);
+      cpus = subst (λ (cs : List Feeding). AreCpus job.setup.plan 0 cs) (sym s.cpus) (starting_cpus job.setup.plan 0 firsts);
+    }
+
+pub starts_timed : (job : Job) (firsts : List (Option Seen)) (run : RunValue) (lines : List Line) → Starts job firsts run → IsSchedule lines
+    → IsTimed (size_of job.setup.shape) run.members lines
+starts_timed job firsts run lines s schedule =
+    subst (λ (rs : List Ring). IsTimed (size_of job.setup.shape) rs lines) (sym s.members)
+    (timed-started (size_of job.setup.shape) job.setup.plan.members lines schedule)
+
+starts_whole : (job : Job) (firsts : List (Option Seen)) (run : RunValue) (all : List (List Frame)) → Starts job firsts run → AreAllOf all run.cpus
+    → whole all run ≡ started (rules_of job) (size_of job.setup.shape) (map (arrivals_at (has_defrag job.setup.plan.flags)) all)
+starts_whole job firsts run all s h =
+    let g = subst (λ (cs : List Feeding). AreAllOf all cs) s.cpus h in
+    ap (λ (cs : List Cpu). record (whole all run) { cpus = cs })
+    (ap (λ (cs : List Feeding). cpus_of all cs) s.cpus ∙ starting_whole job.setup.plan 0 all firsts g)
+    ∙ ap (λ (rs : List Ring). record { cpus = map waits (map (arrivals_at (has_defrag job.setup.plan.flags)) all); members = rs; ticket = run.ticket }) s.members
+    ∙ ap (λ (t : ℕ). record { cpus = map waits (map (arrivals_at (has_defrag job.setup.plan.flags)) all); members = replicate job.setup.plan.members (fresh (size_of job.setup.shape)); ticket = t }) s.ticket
+
+-- ---- the lines
+
+note_open : (size : Size) (clock : ℕ) (offer : Offer) (ring : Ring) (note : Note) → IsNoteOf offer ring note → IsOpen size clock ring → IsOpen size clock (noted ring note)
+note_open size clock offer ring note (inl e) h = subst (λ (n : Note). IsOpen size clock (noted ring n)) (sym e) (try_open size clock ring offer h)
+note_open size clock offer ring note (inr e) h = subst (λ (n : Note). IsOpen size clock (noted ring n)) (sym e) (put_open size clock ring offer h)
+
+tries_open : (size : Size) (clock : ℕ) (offer : Offer) (tries : List Try) (old new : List Ring) → AreTried offer tries old new → All (IsOpen size clock) old
+    → All (IsOpen size clock) new
+tries_open size clock offer [] old new h all = subst (λ (rs : List Ring). All (IsOpen size clock) rs) (sym h) all
+tries_open size clock offer (t ∷ tries) old new h all =
+    let one : IsTried offer t old h.0 = h.1 in
+    let here = All-get_or (IsOpen size clock) old t.member no_ring one.within all in
+    let next : All (IsOpen size clock) h.0 = subst (λ (rs : List Ring). All (IsOpen size clock) rs) (sym one.rings_are)
+    (All-set (IsOpen size clock) old t.member _ (note_open size clock offer (get_or old t.member no_ring) one.note one.note_is here) all) in
+    tries_open size clock offer tries h.0 new h.2 next
+
+changed_open : (size : Size) (clock : ℕ) (old new : List Ring) → ChangedByTries old new → All (IsOpen size clock) old → All (IsOpen size clock) new
+changed_open size clock old new (inl e) all = subst (λ (rs : List Ring). All (IsOpen size clock) rs) (sym e) all
+changed_open size clock old new (inr t) all = tries_open size clock t.0 t.1 old new t.2 all
+
+timed_after : (size : Size) (line : Line) (lines : List Line) (old new : List Ring) → MembersAfter line old new → IsTimed size old (line ∷ lines) → IsTimed size new lines
+timed_after size (Feed cpu) lines old new m h = record { clock = h.clock; opens = changed_open size h.clock old new m h.opens; rest = h.rest }
+timed_after size (Read member) lines old new m h =
+    let set = set-holds (IsOpen size h.clock) (length old) member old (read_once (get_or old member no_ring))
+    (record { count = refl; each = h.opens }) (λ one. read_open size h.clock (get_or old member no_ring) one) in
+    record { clock = h.clock; opens = subst (λ (rs : List Ring). All (IsOpen size h.clock) rs) (sym m) set.each; rest = h.rest }
+timed_after size (Tick ms) lines old new m h = record {
+  clock = ms;
+  opens = subst (λ (rs : List Ring). All (IsOpen size ms) rs) (sym m)
+      (All-map (IsOpen size ms) (λ (ring : Ring). noted ring (note_of_tick ring ms)) old (λ k d l. tick_open size h.clock ms _ h.rest.0 (h.opens k d l)));
+  rest = h.rest.2;
+}
+timed_after size (Stats member) lines old new m h =
+    let set = set-holds (IsOpen size h.clock) (length old) member old _
+    (record { count = refl; each = h.opens }) (λ one. count_open size h.clock (get_or old member no_ring) one) in
+    record { clock = h.clock; opens = subst (λ (rs : List Ring). All (IsOpen size h.clock) rs) (sym m) set.each; rest = h.rest }
+
+drop_suc : (at : ℕ) (lines : List Line) (none : Line) → at < length lines → drop at lines ≡ get_or lines at none ∷ drop (suc at) lines
+drop_suc at [] none h = absurd (omega (arith, h))
+drop_suc zero (line ∷ lines) none h = refl
+drop_suc (suc at) (line ∷ lines) none h = drop_suc at lines none (omega (arith, h))
+
+drop_line : (at : ℕ) (lines : List Line) (none : Line) → at < length lines → drop at lines ≡ get_or lines at none ∷ drop (at + 1) lines
+drop_line at lines none h =
+    let next : suc at ≡ at + 1 = omega arith in
+    drop_suc at lines none h ∙ ap (λ (n : ℕ). get_or lines at none ∷ drop n lines) next
+
+-- after some lines
+pub record Did (job : Job) (lines : List Line) (at : ℕ) (start now : RunValue) : Type 0 where
+  pub run : IsRun job now
+  pub timed : IsTimed (size_of job.setup.shape) now.members (drop at lines)
+  pub does : (all : List (List Frame)) → AreAllOf all now.cpus → AreAllOf all start.cpus
+      × (done_lines (rules_of job) (room_of job.setup.shape) (drop at lines) (whole all now) ≡ done_lines (rules_of job) (room_of job.setup.shape) lines (whole all start))
+  pub firsts : firsts_of now ≡ firsts_of start
+
+pub did_first : (job : Job) (lines : List Line) (firsts : List (Option Seen)) (run : RunValue) → Starts job firsts run → IsSchedule lines → Did job lines 0 run run
+did_first job lines firsts run s schedule = record {
+  run = starts_run job firsts run s;
+  timed = starts_timed job firsts run lines s schedule;
+  does = λ all g. (g, refl);
+  firsts = refl;
+}
+
+pub did_more : (job : Job) (lines : List Line) (at : ℕ) (start now new : RunValue) → at < length lines → Did job lines at start now
+    → LineDone job (get_or lines at (Feed 0)) now new → Did job lines (at + 1) start new
+did_more job lines at start now new within h f = record {
+  run = f.run;
+  timed = timed_after (size_of job.setup.shape) (get_or lines at (Feed 0)) (drop (at + 1) lines) now.members new.members f.members
+      (subst (λ (ls : List Line). IsTimed (size_of job.setup.shape) now.members ls) (drop_line at lines (Feed 0) within) h.timed);
+  does = λ all g.
+      let b = f.does all g in
+      let i = h.does all b.0 in
+      (i.0, lines-more (rules_of job) (room_of job.setup.shape) at lines (Feed 0) (whole all now) (whole all new) within b.1 ∙ i.1);
+  firsts = f.firsts ∙ h.firsts;
+}
+
+lines_past : (at : ℕ) (lines : List Line) → length lines ≤ at → drop at lines ≡ []
+lines_past zero [] h = refl
+lines_past (suc at) [] h = refl
+lines_past zero (line ∷ lines) h = absurd (omega (arith, h))
+lines_past (suc at) (line ∷ lines) h = lines_past at lines (omega (arith, h))
+
+-- ---- the end
+
+frames_all : (cpus : List Feeding) → AreAllOf (map frames_in cpus) cpus
+frames_all [] = tt
+frames_all (c ∷ cpus) = (([], sym (append-nil (frames_in c)), λ some. refl), frames_all cpus)
+
+captures_are : (plan : Shape) (number : ℕ) (cpus : List Feeding) → AreCpus plan number cpus → map frames_in cpus ≡ captures_from number (map bytes_in cpus)
+captures_are plan number [] h = refl
+captures_are plan number (c ∷ cpus) h =
+    ap (λ (n : ℕ). frames_of n c.bytes ∷ map frames_in cpus) h.0
+    ∙ ap (λ (cs : List (List Frame)). frames_of number c.bytes ∷ cs) (captures_are plan (number + 1) cpus h.2)
+
+logs_are : (plan : Shape) (number : ℕ) (cpus : List Feeding) (nows : List (Option Seen)) (logs : List CpuLog) → AreCpus plan number cpus → AllClose cpus nows logs
+    → logs ≡ logs_from number (map bytes_in cpus) (map end_in logs) (cpus_of (map frames_in cpus) cpus)
+logs_are plan number [] [] [] h k = refl
+logs_are plan number [] [] (log ∷ logs) h k = absurd k
+logs_are plan number [] (now ∷ nows) logs h k = absurd k
+logs_are plan number (c ∷ cpus) [] logs h k = absurd k
+logs_are plan number (c ∷ cpus) (now ∷ nows) [] h k = absurd k
+logs_are plan number (c ∷ cpus) (now ∷ nows) (log ∷ logs) h k =
+    let one : Closes c now log = k.0 in
+    let log_is : log ≡ log_of number c.bytes log.end (cpu_of (frames_in c) c) =
+    one.log_is ∙ ap (λ (n : ℕ). record { frames = length (frames_of n c.bytes); given = length c.bytes; end = log.end; arrivals = c.path.log }) h.0 in
+    ap (λ (l : CpuLog). l ∷ logs) log_is
+    ∙ ap (λ (ls : List CpuLog). log_of number c.bytes log.end (cpu_of (frames_in c) c) ∷ ls) (logs_are plan (number + 1) cpus nows logs h.2 k.1)
+
+all_gave : (cpus : List Feeding) (nows : List (Option Seen)) (logs : List CpuLog) → AllClose cpus nows logs
+    → AllGave (map first cpus) nows (map bytes_in cpus) (map end_in logs)
+all_gave [] [] [] k = tt
+all_gave [] [] (log ∷ logs) k = absurd k
+all_gave [] (now ∷ nows) logs k = absurd k
+all_gave (c ∷ cpus) [] logs k = absurd k
+all_gave (c ∷ cpus) (now ∷ nows) [] k = absurd k
+all_gave (c ∷ cpus) (now ∷ nows) (log ∷ logs) k = let one : Closes c now log = k.0 in (one.gave, all_gave cpus nows logs k.1)
+
+-- the replay of all frames
+replayed_whole : (job : Job) (lines : List Line) (arriving : List (List (Option Frame))) (last : Replay) (count : ℕ) (end : Replay)
+    → last ≡ done_lines (rules_of job) (room_of job.setup.shape) lines (started (rules_of job) (size_of job.setup.shape) arriving)
+    → count ≡ length last.cpus → end ≡ feed_from (rules_of job) (room_of job.setup.shape) 0 count last
+    → closed end ≡ replayed (rules_of job) (size_of job.setup.shape) arriving lines
+unfolding replayed
+replayed_whole job lines arriving last count end last_is count_is end_is =
+    ap (λ (r : Replay). closed r) (end_is ∙ ap (λ (n : ℕ). feed_from (rules_of job) (room_of job.setup.shape) 0 n last) count_is)
+    ∙ ap (λ (r : Replay). closed (feed_from (rules_of job) (room_of job.setup.shape) 0 (length r.cpus) r)) last_is
+
+module _ (job : Job) (lines : List Line) (firsts : List (Option Seen)) (start mid final : RunValue) (at : ℕ)
+    (s : Starts job firsts start) (d : Did job lines at start mid) (past : length lines ≤ at) (f : FedRest job mid final) where
+  abbrev totals : List (List Frame)
+  totals = map frames_in final.cpus
+
+  abbrev bytes : List (List ℕ)
+  bytes = map bytes_in final.cpus
+
+  is_replay : closed (whole totals final) ≡ replay_of job lines bytes
+  is_replay =
+      let here = f.does totals (frames_all final.cpus) in
+      let before = d.does totals here.0 in
+      let none = lines_past at lines past in
+      let last : whole totals mid ≡ done_lines (rules_of job) (room_of job.setup.shape) lines (whole totals start) =
+      ap (λ (ls : List Line). done_lines (rules_of job) (room_of job.setup.shape) ls (whole totals mid)) (sym none) ∙ before.1 in
+      let begun = starts_whole job firsts start totals s before.0 in
+      replayed_whole job lines (map (arrivals_at (has_defrag job.setup.plan.flags)) totals) (whole totals mid) (length mid.cpus) (whole totals final)
+      (last ∙ ap (λ (r : Replay). done_lines (rules_of job) (room_of job.setup.shape) lines r) begun) (sym (as-many totals mid.cpus here.0)) here.1
+      ∙ ap (λ (c : List (List Frame)). replayed (rules_of job) (size_of job.setup.shape) (map (arrivals_at (has_defrag job.setup.plan.flags)) c) lines)
+      (captures_are job.setup.plan 0 final.cpus f.run.cpus)
+
+  firsts_are : map first final.cpus ≡ firsts
+  firsts_are = f.firsts ∙ d.firsts ∙ ap (λ (cs : List Feeding). map first cs) s.cpus ∙ starting_firsts job.setup.plan 0 firsts
+
+  report_is : (shape : RingRequest) (asked : Bool) (nows : List (Option Seen)) (report : RunReport) → job.setup.shape ≡ shape → job.setup.dump ≡ asked
+      → Finishes shape asked final nows report → report ≡ report_of job lines bytes (map end_in report.cpus)
+  unfolding report_of
+  report_is shape asked nows report shape_is asked_is e =
+      let ends = map end_in report.cpus in
+      let logs = logs_are job.setup.plan 0 final.cpus nows report.cpus f.run.cpus e.cpus in
+      let members : report.members ≡ map (member_of job.setup.shape job.setup.dump) (closed (whole totals final)).members =
+      e.members ∙ ap (λ (x : RingRequest). map (member_of x asked) (map finished_ring final.members)) (sym shape_is)
+      ∙ ap (λ (b : Bool). map (member_of job.setup.shape b) (map finished_ring final.members)) (sym asked_is) in
+      ap (λ (ls : List CpuLog). record { cpus = ls; members = report.members }) logs
+      ∙ ap (λ (ms : List MemberReport). record { cpus = logs_from 0 bytes ends (cpus_of totals final.cpus); members = ms }) members
+      ∙ ap (λ (r : Replay). record { cpus = logs_from 0 bytes ends r.cpus; members = map (member_of job.setup.shape job.setup.dump) r.members }) is_replay
+
+  is_replayed : (shape : RingRequest) (asked : Bool) (nows : List (Option Seen)) (report : RunReport) → job.setup.shape ≡ shape → job.setup.dump ≡ asked
+      → Finishes shape asked final nows report → IsReplayed job lines firsts nows report
+  is_replayed shape asked nows report shape_is asked_is e = record {
+    bytes = bytes;
+    ends = map end_in report.cpus;
+    gave = subst (λ (fs : List (Option Seen)). AllGave fs nows bytes (map end_in report.cpus)) firsts_are (all_gave final.cpus nows report.cpus e.cpus);
+    report_is = report_is shape asked nows report shape_is asked_is e;
+  }
+
+  -- what the closing tells
+  pub told : {A E : Type 0} (result : Result A E) (nows : A → List (Option Seen)) (report : A → RunReport) (shape : RingRequest) (asked : Bool)
+      → job.setup.shape ≡ shape → job.setup.dump ≡ asked → IfOk result (λ ran. Finishes shape asked final (nows ran) (report ran))
+      → IfOk result (λ ran. IsReplayed job lines firsts (nows ran) (report ran))
+  told (Ok ran) nows report shape asked shape_is asked_is e = is_replayed shape asked (nows ran) (report ran) shape_is asked_is e
+  told (Err error) nows report shape asked shape_is asked_is e = tt
+
+-- ---- closing CPU by CPU
+
+pub close_none : {X : Type 0} (f : X → Option Seen) (xs : List X) (logs : List CpuLog) → xs ≡ [] → logs ≡ [] → AllClose [] (map f xs) logs
+close_none {X = X} f xs logs e k =
+    subst (λ (ys : List X). AllClose [] (map f ys) logs) (sym e) (subst (λ (ls : List CpuLog). AllClose [] [] ls) (sym k) tt)
+
+close_one : {X : Type 0} (f : X → Option Seen) (done : List Feeding) (cpu : Feeding) (xs : List X) (x : X) (logs : List CpuLog) (log : CpuLog)
+    → AllClose done (map f xs) logs → Closes cpu (f x) log → AllClose (done ++ cpu ∷ []) (map f (xs ++ x ∷ [])) (logs ++ log ∷ [])
+close_one f [] cpu [] x [] log h one = (one, tt)
+close_one f [] cpu [] x (l ∷ logs) log h one = absurd h
+close_one f [] cpu (y ∷ xs) x logs log h one = absurd h
+close_one f (c ∷ done) cpu [] x logs log h one = absurd h
+close_one f (c ∷ done) cpu (y ∷ xs) x [] log h one = absurd h
+close_one f (c ∷ done) cpu (y ∷ xs) x (l ∷ logs) log h one = (h.0, close_one f done cpu xs x logs log h.1 one)
+
+pub close_more : {X : Type 0} (f : X → Option Seen) (all done before after : List Feeding) (cpu : Feeding) (xs more : List X) (x : X) (logs grown : List CpuLog) (log : CpuLog)
+    → before ≡ cpu ∷ after → all ≡ done ++ before → AllClose done (map f xs) logs → Closes cpu (f x) log → more ≡ xs ++ x ∷ [] → grown ≡ logs ++ log ∷ []
+    → (front : List Feeding) × (all ≡ front ++ after) × AllClose front (map f more) grown
+close_more {X = X} f all done before after cpu xs more x logs grown log next parts h one more_is grown_is = (
+  done ++ cpu ∷ [],
+  parts ∙ ap (λ (cs : List Feeding). done ++ cs) next ∙ sym (append_assoc done (cpu ∷ []) after),
+  subst (λ (ys : List X). AllClose (done ++ cpu ∷ []) (map f ys) grown) (sym more_is)
+      (subst (λ (ls : List CpuLog). AllClose (done ++ cpu ∷ []) (map f (xs ++ x ∷ [])) ls) (sym grown_is) (close_one f done cpu xs x logs log h one)),
+)
+
+pub no_cpus : (cpus : List Feeding) → length cpus ≡ 0 → cpus ≡ []
+no_cpus [] e = refl
+no_cpus (c ∷ cpus) e = absurd (omega (arith, e))
+
+pub close_all : {X : Type 0} (f : X → Option Seen) (all done rest : List Feeding) (xs : List X) (logs : List CpuLog) → rest ≡ [] → all ≡ done ++ rest
+    → AllClose done (map f xs) logs → AllClose all (map f xs) logs
+close_all f all done rest xs logs none parts h =
+    subst (λ (cs : List Feeding). AllClose cs (map f xs) logs) (sym (parts ∙ ap (λ (cs : List Feeding). done ++ cs) none ∙ append-nil done)) h
+
+pub ended_rest : (cpus rest : List Feeding) (cpu : Feeding) → cpus ≡ cpu ∷ rest → AllByRecursion (λ (c : Feeding). IsSome c.ended) cpus
+    → AllByRecursion (λ (c : Feeding). IsSome c.ended) rest
+ended_rest cpus rest cpu e h =
+    let all : AllByRecursion (λ (c : Feeding). IsSome c.ended) (cpu ∷ rest) = subst (λ (cs : List Feeding). AllByRecursion (λ (c : Feeding). IsSome c.ended) cs) e h in
+    all.1

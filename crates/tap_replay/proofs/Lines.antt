@@ -1,0 +1,227 @@
+-- The lines of a schedule, and what follows the last one.
+use Rattle.std.proofs.Common.{◌≡◌, ℕ, zero, suc, ◌+◌, ◌-◌, ◌<◌, ◌≤◌, Bool, false, List, [], ◌∷◌, ◌++◌, length, take, drop, get_or, append-nil, Option, None, Some, inl, inr, refl, sym, ap, ◌∙◌, subst, arith, length-set}
+use Rattle.std.specs.Prelude.{IsSome, MatchBool, OnOk, Result, Ok, Err, map, slice_set}
+use Rattle.std.specs.List.{AllByRecursion}
+use Rattle.std.proofs.lemmas.Bool.{cases_eq}
+use Rattle.std.proofs.lemmas.List.{get_or-set_other, get_or-set_same, get_or_past, length-map, set-set}
+use Rattle.std.proofs.lemmas.List.Elements.{All-map}
+use Rattle.fanout_group.specs.Arrivals.{arrivals_from}
+use Rattle.fanout_group.specs.Plans.{has_defrag}
+use Rattle.fanout_group.specs.Rules.{Rules}
+use Rattle.frame_view.specs.declared.frames.Frame.{Frame}
+use Rattle.replay_model.specs.Replay.{Cpu, Replay, cpu_at, fed_by, feed, feed_from, feed_times, no_cpu}
+use Rattle.replay_model.specs.declared.schedule.Line.{Line}
+use Rattle.replay_model.specs.declared.schedule.Line.TheVariants.{Feed, Tick}
+use Rattle.replay_model.proofs.Arriving.{arrived_is}
+use Rattle.replay_model.proofs.FeedSteps.{fed_cpu}
+use Rattle.replay_model.proofs.Soundness.{has-cpu}
+use Rattle.ring_model.specs.Rings.{Ring, noted, note_of_tick}
+use Rattle.setup_text.specs.declared.jobs.Job.{Job}
+use Rattle.tp_layout.specs.Requests.{room_of, size_of}
+use Rattle.tap_replay.specs.Fed.{FedOne, IsAtItsEnd}
+use Rattle.tap_replay.specs.Feeding.{Feeding, IsAllOfCpu, cpu_of, frames_in}
+use Rattle.tap_replay.specs.Running.{AreAllOf, Feeds, IsRun, RunValue, cpu_in, cpus_of, firsts_of, no_feeding, whole}
+use Rattle.tap_replay.specs.Runs.{rules_of}
+use Rattle.tap_replay.specs.Turning.{FedRest, FedWhole, LineDone, fed_whole}
+use Rattle.tap_replay.proofs.Stepping.{run_with}
+use Rattle.tap_replay.proofs.Totals.{drop_past}
+use Rattle.tap_replay.proofs.Whole.{all-set, as-many, cpus-at, no_frames, set_same}
+
+-- ---- a tick
+
+take_all : (n : ℕ) (xs : List Ring) → length xs ≤ n → take n xs ≡ xs
+take_all zero [] h = refl
+take_all zero (x ∷ xs) h = absurd (omega (arith, h))
+take_all (suc n) [] h = refl
+take_all (suc n) (x ∷ xs) h = ap (λ (ys : List Ring). x ∷ ys) (take_all n xs (omega (arith, h)))
+
+rings_past : (n : ℕ) (xs : List Ring) → length xs ≤ n → drop n xs ≡ []
+rings_past zero [] h = refl
+rings_past (suc n) [] h = refl
+rings_past zero (x ∷ xs) h = absurd (omega (arith, h))
+rings_past (suc n) (x ∷ xs) h = rings_past n xs (omega (arith, h))
+
+pub all_changed : (f : Ring → Ring) (n : ℕ) (xs ys : List Ring) → length xs ≤ n → ys ≡ map f (take n xs) ++ drop n xs → ys ≡ map f xs
+all_changed f n xs ys h e =
+    e ∙ ap (λ (rs : List Ring). map f rs ++ drop n xs) (take_all n xs h) ∙ ap (λ (rs : List Ring). map f xs ++ rs) (rings_past n xs h)
+    ∙ append-nil (map f xs)
+
+pub ticked : (f : Ring → Ring) (cpus more : List Feeding) (rings after : List Ring) (ticket next : ℕ) (now : RunValue) → more ≡ cpus → next ≡ ticket
+    → after ≡ map f rings → run_with cpus rings ticket ≡ now → run_with more after next ≡ record now { members = map f now.members }
+ticked f cpus more rings after ticket next now e t m is =
+    ap (λ (cs : List Feeding). run_with cs after next) e ∙ ap (λ (n : ℕ). run_with cpus after n) t ∙ ap (λ (rs : List Ring). run_with cpus rs ticket) m
+    ∙ ap (λ (run : RunValue). record run { members = map f run.members }) is
+
+pub tick_done : {A E : Type 0} (result : Result A E) (job : Job) (line : Line) (ms : ℕ) (old new : RunValue) → IsRun job old → line ≡ Tick ms
+    → OnOk result (new ≡ record old { members = map (λ ring. noted ring (note_of_tick ring ms)) old.members }) → OnOk result (LineDone job line old new)
+tick_done (Err e) job line ms old new h is new_is = tt
+tick_done (Ok a) job line ms old new h is new_is =
+    let f : Ring → Ring = λ ring. noted ring (note_of_tick ring ms) in
+    let P : Ring → Type 0 = λ ring. ring.size ≡ size_of job.setup.shape in
+    let done : LineDone job (Tick ms) old (record old { members = map f old.members }) = record {
+      does = λ all g. (g, refl);
+      run = record {
+        count = length-map old.members f ∙ h.count;
+        sizes = All-map P f old.members h.sizes;
+        cpus = h.cpus;
+      };
+      firsts = refl;
+      members = refl;
+    } in
+    subst (λ (l : Line). LineDone job l old new) (sym is) (subst (λ (run : RunValue). LineDone job (Tick ms) old run) (sym new_is) done)
+
+-- ---- a CPU that isn't there
+
+pub no_such_cpu : (job : Job) (cpu : ℕ) (run : RunValue) → IsRun job run → length run.cpus ≤ cpu → LineDone job (Feed cpu) run run
+no_such_cpu job cpu run h past = record {
+  does = λ all g.
+      let many = as-many all run.cpus g in
+      let none : (cpu_at (whole all run) cpu).waiting ≡ [] =
+      ap (λ (c : Cpu). c.waiting) (get_or_past (cpus_of all run.cpus) cpu no_cpu (omega (arith, many, past))) in
+      (g, sym (ap (λ (ws : List (Option Frame)). fed_by (rules_of job) (room_of job.setup.shape) cpu ws (whole all run)) none));
+  run = h;
+  firsts = refl;
+  members = inl refl;
+}
+
+-- ---- a CPU to its end
+
+waiting_fed : (rules : Rules) (room cpu : ℕ) (next : Option Frame) (rest : List (Option Frame)) (replay : Replay) → cpu < length replay.cpus
+    → (cpu_at (fed_by rules room cpu (next ∷ rest) replay) cpu).waiting ≡ rest
+waiting_fed rules room cpu None rest replay h = ap (λ (c : Cpu). c.waiting) (get_or-set_same replay.cpus cpu _ no_cpu h)
+waiting_fed rules room cpu (Some frame) rest replay h =
+    ap (λ (r : Replay). (cpu_at r cpu).waiting) (arrived_is rules room cpu frame rest replay h)
+    ∙ ap (λ (c : Cpu). c.waiting) (get_or-set_same replay.cpus cpu _ no_cpu h)
+
+more_by : (rules : Rules) (room cpu : ℕ) (waiting : List (Option Frame)) (replay : Replay) → (cpu_at replay cpu).waiting ≡ waiting
+    → feed_times rules room cpu (length (cpu_at (fed_by rules room cpu waiting replay) cpu).waiting) (fed_by rules room cpu waiting replay)
+    ≡ feed_times rules room cpu (length waiting) replay
+more_by rules room cpu [] replay e = ap (λ (ws : List (Option Frame)). feed_times rules room cpu (length ws) replay) e
+more_by rules room cpu (next ∷ rest) replay e =
+    let within = has-cpu replay.cpus cpu next rest e in
+    ap (λ (ws : List (Option Frame)). feed_times rules room cpu (length ws) (fed_by rules room cpu (next ∷ rest) replay)) (waiting_fed rules room cpu next rest replay within)
+    ∙ ap (λ (ws : List (Option Frame)). feed_times rules room cpu (length rest) (fed_by rules room cpu ws replay)) (sym e)
+
+-- one frame fewer waits, and all else is still to come
+pub fed_more : (job : Job) (cpu : ℕ) (replay : Replay)
+    → fed_whole job cpu (feed (rules_of job) (room_of job.setup.shape) cpu replay) ≡ fed_whole job cpu replay
+fed_more job cpu replay = more_by (rules_of job) (room_of job.setup.shape) cpu (cpu_at replay cpu).waiting replay refl
+
+none_left : (all : List Frame) (cpu : Feeding) → IsAllOfCpu all cpu → IsAtItsEnd cpu → (cpu_of all cpu).waiting ≡ []
+none_left all cpu h end =
+    let whole : all ≡ frames_in cpu = h.1 ∙ ap (λ (fs : List Frame). frames_in cpu ++ fs) (h.2 end.ended) ∙ append-nil (frames_in cpu) in
+    ap (λ (fs : List Frame). arrivals_from (has_defrag cpu.path.shape.flags) cpu.path.held fs)
+    (ap (λ (fs : List Frame). drop cpu.fed fs) whole ∙ drop_past cpu.fed (frames_in cpu) end.all)
+
+-- a CPU at its end has nothing that waits
+pub fed_to_end : (job : Job) (cpu : ℕ) (all : List (List Frame)) (cpus : List Feeding) (one : Feeding) (new : RunValue) → cpu < length cpus
+    → new.cpus ≡ slice_set cpus cpu one → IsAtItsEnd one → AreAllOf all new.cpus → fed_whole job cpu (whole all new) ≡ whole all new
+fed_to_end job cpu all cpus one new within is end h =
+    let g : AreAllOf all (slice_set cpus cpu one) = subst (λ (cs : List Feeding). AreAllOf all cs) is h in
+    let here = all-set all cpus cpu one g within in
+    let many = ap (λ (cs : List Feeding). length cs) is ∙ length-set cpus cpu one in
+    let inside : cpu < length new.cpus = omega (arith, many, within) in
+    let same : cpu_in new cpu ≡ one = ap (λ (cs : List Feeding). get_or cs cpu no_feeding) is ∙ get_or-set_same cpus cpu one no_feeding within in
+    let none : (cpu_at (whole all new) cpu).waiting ≡ [] =
+    ap (λ (c : Cpu). c.waiting) (cpus-at all new.cpus cpu h inside)
+    ∙ ap (λ (c : Feeding). (cpu_of (get_or all cpu no_frames) c).waiting) same ∙ none_left (get_or all cpu no_frames) one here end in
+    ap (λ (ws : List (Option Frame)). feed_times (rules_of job) (room_of job.setup.shape) cpu (length ws) (whole all new)) none
+
+-- what holds between two frames
+pub record Goes (job : Job) (cpu : ℕ) (first now : RunValue) : Type 0 where
+  pub run : IsRun job now
+  pub does : (all : List (List Frame)) → AreAllOf all now.cpus → AreAllOf all first.cpus × (fed_whole job cpu (whole all now) ≡ fed_whole job cpu (whole all first))
+  pub firsts : firsts_of now ≡ firsts_of first
+  pub cpus : (one : Feeding) × (now.cpus ≡ slice_set first.cpus cpu one)
+
+pub goes_first : (job : Job) (cpu : ℕ) (run : RunValue) → IsRun job run → Goes job cpu run run
+goes_first job cpu run h =
+    record { run = h; does = λ all g. (g, refl); firsts = refl; cpus = (cpu_in run cpu, sym (set_same run.cpus cpu no_feeding)) }
+
+goes_cpus : (job : Job) (cpu : ℕ) (more : Bool) (first now new : RunValue) → Goes job cpu first now → (f : Feeds job cpu more now new)
+    → new.cpus ≡ slice_set first.cpus cpu f.goes.one
+goes_cpus job cpu more first now new h f =
+    f.goes.cpus_are ∙ ap (λ (cs : List Feeding). slice_set cs cpu f.goes.one) h.cpus.1 ∙ set-set first.cpus cpu h.cpus.0 f.goes.one
+
+pub goes_on : (job : Job) (cpu : ℕ) (more : Bool) (first now new : RunValue) → Goes job cpu first now → Feeds job cpu more now new → Goes job cpu first new
+goes_on job cpu more first now new h f = record {
+  run = f.run;
+  does = λ all g.
+      let b = f.does all g in
+      let i = h.does all b.0 in
+      (i.0, ap (λ (r : Replay). fed_whole job cpu r) b.1 ∙ fed_more job cpu (whole all now) ∙ i.1);
+  firsts = f.firsts ∙ h.firsts;
+  cpus = (f.goes.one, goes_cpus job cpu more first now new h f);
+}
+
+pub goes_to_end : (job : Job) (cpu : ℕ) (more : Bool) (first now new : RunValue) → cpu < length first.cpus → Goes job cpu first now → Feeds job cpu more now new
+    → more ≡ false → FedWhole job cpu first new
+goes_to_end job cpu more first now new within h f last =
+    let next = goes_on job cpu more first now new h f in
+    let end : IsAtItsEnd f.goes.one = subst (λ (b : Bool). MatchBool b (FedOne (cpu_in now cpu) f.goes.one) (IsAtItsEnd f.goes.one)) last f.goes.goes in
+    record {
+      does = λ all g.
+          let i = next.does all g in
+          (i.0, sym (fed_to_end job cpu all first.cpus f.goes.one new within (goes_cpus job cpu more first now new h f) end g) ∙ i.1);
+      run = next.run;
+      firsts = next.firsts;
+      one = f.goes.one;
+      cpus_are = goes_cpus job cpu more first now new h f;
+      ended = end;
+    }
+
+-- ---- all CPUs
+
+pub record Rest (job : Job) (many cpu : ℕ) (first now : RunValue) : Type 0 where
+  pub run : IsRun job now
+  pub count : length now.cpus ≡ many
+  pub does : (all : List (List Frame)) → AreAllOf all now.cpus → AreAllOf all first.cpus
+      × (feed_from (rules_of job) (room_of job.setup.shape) cpu (many - cpu) (whole all now)
+      ≡ feed_from (rules_of job) (room_of job.setup.shape) 0 many (whole all first))
+  pub firsts : firsts_of now ≡ firsts_of first
+  pub ended : (k : ℕ) → k < cpu → IsAtItsEnd (cpu_in now k)
+
+ended_more : (cpu k : ℕ) (cpus : List Feeding) (one : Feeding) → cpu < length cpus → IsAtItsEnd one → ((k : ℕ) → k < cpu → IsAtItsEnd (get_or cpus k no_feeding))
+    → k < cpu + 1 → IsAtItsEnd (get_or (slice_set cpus cpu one) k no_feeding)
+ended_more cpu k cpus one within end ended less = elim (cases_eq cpu k) [
+  | inl same ↦ subst (λ (n : ℕ). IsAtItsEnd (get_or (slice_set cpus cpu one) n no_feeding)) same
+      (subst (λ (c : Feeding). IsAtItsEnd c) (sym (get_or-set_same cpus cpu one no_feeding within)) end)
+  | inr other ↦ subst (λ (c : Feeding). IsAtItsEnd c) (sym (get_or-set_other cpus cpu k one no_feeding (λ e. other (sym e)))) (ended k (omega (arith, less, other)))
+]
+
+pub rest_on : (job : Job) (count cpu : ℕ) (first now new : RunValue) → cpu < count → Rest job count cpu first now → FedWhole job cpu now new
+    → Rest job count (cpu + 1) first new
+rest_on job count cpu first now new within h f =
+    let many = h.count in
+    let inside : cpu < length now.cpus = omega (arith, within, many) in
+    record {
+      run = f.run;
+      count = ap (λ (cs : List Feeding). length cs) f.cpus_are ∙ length-set now.cpus cpu f.one ∙ h.count;
+      does = λ all g.
+          let b = f.does all g in
+          let i = h.does all b.0 in
+          (i.0, fed_cpu (rules_of job) (room_of job.setup.shape) count cpu (whole all now) (whole all new) within b.1 ∙ i.1);
+      firsts = f.firsts ∙ h.firsts;
+      ended = λ k less. subst (λ (cs : List Feeding). IsAtItsEnd (get_or cs k no_feeding)) (sym f.cpus_are)
+          (ended_more cpu k now.cpus f.one inside f.ended h.ended less);
+    }
+
+all_ended : (cpus : List Feeding) → ((k : ℕ) → k < length cpus → IsAtItsEnd (get_or cpus k no_feeding)) → AllByRecursion (λ cpu. IsSome cpu.ended) cpus
+all_ended [] h = tt
+all_ended (c ∷ cpus) h = let here = h 0 (omega arith) in (here.ended, all_ended cpus (λ k less. h (suc k) (omega (arith, less))))
+
+pub rest_done : (job : Job) (count cpu : ℕ) (first now : RunValue) → count ≡ length first.cpus → count ≤ cpu → Rest job count cpu first now → FedRest job first now
+rest_done job count cpu first now is past h =
+    let none : count - cpu ≡ 0 = omega (arith, past) in
+    let many = h.count in
+    record {
+      does = λ all g.
+          let i = h.does all g in (
+            i.0,
+            sym (ap (λ (left : ℕ). feed_from (rules_of job) (room_of job.setup.shape) cpu left (whole all now)) none) ∙ i.1
+                ∙ ap (λ (n : ℕ). feed_from (rules_of job) (room_of job.setup.shape) 0 n (whole all first)) is,
+          );
+      run = h.run;
+      firsts = h.firsts;
+      ended = all_ended now.cpus (λ k less. h.ended k (omega (arith, less, many, past)));
+    }

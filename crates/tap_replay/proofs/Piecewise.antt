@@ -1,0 +1,297 @@
+-- What holds of a CPU's source, its decoder and the frames that wait, from one piece to the next.
+use Rattle.std.proofs.Common.{◌≡◌, ◌≢◌, ℕ, false, append-nil, append_assoc, subst, inl, inr, ◌+◌, ◌≤◌, List, [], ◌∷◌, ◌++◌, length, drop, zero, suc, Option, None, Some, refl, sym, ap, ◌∙◌, arith, length-append}
+use Rattle.std.specs.Prelude.{Err, IsSome, ◌<◌}
+use Rattle.std.proofs.lemmas.Bool.{cases_lt}
+use Rattle.std.proofs.lemmas.List.{length-drop}
+use Rattle.std.specs.Io.KnownBytes.{Consumes, IsAtEnd}
+use Rattle.frame_view.specs.declared.frames.Frame.{Frame}
+use Rattle.capture_file.specs.Capture.{damage_of, end_of, frames_of}
+use Rattle.capture_file.specs.Decoding.{DecoderValue, Stands, UnlessMemory}
+use Rattle.capture_file.specs.declared.error.CaptureError.{CaptureError}
+use Rattle.capture_file.specs.declared.error.CaptureError.TheVariants as errors
+use Rattle.fanout_group.specs.declared.runs.CpuEnd.{CpuEnd}
+use Rattle.fanout_group.specs.declared.runs.CpuEnd.TheVariants.{Whole, Fault, Damaged}
+use Rattle.tap_outside.specs.Counts.{Rose}
+use Rattle.tap_replay.specs.Feeding.{Feeding, Giving, HasRead, IsAllOf, IsFed, frames_in}
+use Rattle.tap_replay.specs.Pieces.{Decodes, ended_by, is_want}
+use Rattle.tap_replay.specs.Sources.{Seen, UnlessFault, WhereEnded, WhereFault, end_by}
+use Rattle.tap_replay.proofs.Consumed.{Consumes-more, Consumes-none}
+
+-- the answer isn't want of memory
+pub told : {P : Type 0} → (damage : CaptureError) → is_want damage ≡ false → UnlessMemory {X = Unit {0}} (Err damage) P → P
+told errors.Memory ne h = cc
+told errors.BadMagic ne h = h
+told errors.BadVersion ne h = h
+told (errors.BadLink field) ne h = h
+told (errors.BadLength place) ne h = h
+told (errors.Truncated place) ne h = h
+told errors.TooLarge ne h = h
+told (errors.BadInterface place) ne h = h
+
+without_fault : (P : Type 0) (end : CpuEnd) → P → UnlessFault end P
+without_fault P Fault h = tt
+without_fault P Whole h = h
+without_fault P (Damaged damage) h = h
+
+where_ended : (P : Type 0) (end : CpuEnd) → P → WhereEnded end P
+where_ended P Whole h = h
+where_ended P Fault h = tt
+where_ended P (Damaged errors.BadMagic) h = tt
+where_ended P (Damaged errors.BadVersion) h = tt
+where_ended P (Damaged (errors.BadLink field)) h = tt
+where_ended P (Damaged (errors.BadLength place)) h = tt
+where_ended P (Damaged (errors.Truncated place)) h = h
+where_ended P (Damaged errors.TooLarge) h = tt
+where_ended P (Damaged errors.Memory) h = tt
+where_ended P (Damaged (errors.BadInterface place)) h = tt
+
+no_cut : (P : Type 0) (damage : CaptureError) → ((place : ℕ) → damage ≢ errors.Truncated place) → WhereEnded (Damaged damage) P
+no_cut P errors.BadMagic h = tt
+no_cut P errors.BadVersion h = tt
+no_cut P (errors.BadLink field) h = tt
+no_cut P (errors.BadLength place) h = tt
+no_cut P (errors.Truncated place) h = absurd (h place refl)
+no_cut P errors.TooLarge h = tt
+no_cut P errors.Memory h = tt
+no_cut P (errors.BadInterface place) h = tt
+
+no_fault : (P : Type 0) (damage : Option CaptureError) → WhereFault (end_by damage) P
+no_fault P None = tt
+no_fault P (Some damage) = tt
+
+-- an end that the decoder tells
+told_end : (P : Type 0) (end : CpuEnd) (damage : Option CaptureError) → end ≡ end_by damage → WhereFault end P
+told_end P end damage e = subst (λ (x : CpuEnd). WhereFault x P) (sym e) (no_fault P damage)
+
+rose_later : (a b c : ℕ) → a ≤ b → Rose b c → Rose a c
+rose_later a b c h rose = omega (arith, h, rose)
+
+-- ---- the first state
+
+gave_nothing : (first : Option Seen) → Giving first first [] None
+gave_nothing None = refl
+gave_nothing (Some seen) = record { taken = Consumes-none seen.left; later = omega arith }
+
+drop_none : {X : Type 0} (n : ℕ) → drop {A = X} n [] ≡ []
+drop_none zero = refl
+drop_none (suc n) = refl
+
+drop_past : {X : Type 0} (n : ℕ) (xs : List X) → length xs ≤ n → drop n xs ≡ []
+drop_past n [] h = drop_none n
+drop_past zero (x ∷ xs) h = absurd (omega (arith, h))
+drop_past (suc n) (x ∷ xs) h = drop_past n xs (omega (arith, h))
+
+pub begins : (number : ℕ) (first : Option Seen) (decoder : DecoderValue) → Stands number decoder [] → frames_of number [] ≡ [] → damage_of [] ≡ None
+    → IsFed number first first [] None 0 0 decoder []
+begins number first decoder stands empty sound = record {
+  stands = stands;
+  waiting_is = sym empty;
+  within = omega arith;
+  given_is = refl;
+  giving = gave_nothing first;
+  sound = λ e. sound;
+}
+
+-- ---- the source ends
+
+some_none : (end : CpuEnd) (P : Type 0) → ◌≡◌ {A = Option CpuEnd} (Some end) None → P
+some_none end P e = cc
+
+ended_so : (number : ℕ) (first now then_ : Option Seen) (bytes : List ℕ) (fed given : ℕ) (decoder : DecoderValue) (waiting : List Frame) (end : CpuEnd)
+    → IsFed number first now bytes None fed given decoder waiting → Giving first then_ bytes (Some end)
+    → IsFed number first then_ bytes (Some end) fed given decoder waiting
+ended_so number first now then_ bytes fed given decoder waiting end h giving = record {
+  stands = h.stands;
+  waiting_is = h.waiting_is;
+  within = h.within;
+  given_is = h.given_is;
+  giving = giving;
+  sound = λ e. some_none end _ e;
+}
+
+none_gives : (first : Option Seen) (bytes : List ℕ) → Giving first None bytes None → Giving first None bytes (Some Fault)
+none_gives None bytes h = (h, refl)
+none_gives (Some seen) bytes h = absurd h
+
+-- without a source
+pub no_source : (number : ℕ) (first : Option Seen) (bytes : List ℕ) (fed given : ℕ) (decoder : DecoderValue) (waiting : List Frame)
+    → IsFed number first None bytes None fed given decoder waiting → IsFed number first None bytes (Some Fault) fed given decoder waiting
+no_source number first bytes fed given decoder waiting h =
+    ended_so number first None None bytes fed given decoder waiting Fault h (none_gives first bytes h.giving)
+
+on_and_on : (first before now : Option (List ℕ)) (bytes : List ℕ) → Consumes first before bytes → Consumes before now [] → Consumes first now bytes
+on_and_on first before now bytes h k = subst (λ b. Consumes first now b) (append-nil bytes) (Consumes-more first before now bytes [] h k)
+
+fault_gives : (first : Option Seen) (old new : Seen) (bytes : List ℕ) → Giving first (Some old) bytes None → Consumes old.left new.left []
+    → old.faults ≤ new.faults → Rose old.faults new.faults → Giving first (Some new) bytes (Some Fault)
+fault_gives None old new bytes h none later rose = absurd h
+fault_gives (Some seen) old new bytes h none later rose =
+    let early = h.later in
+    record {
+      taken = on_and_on seen.left old.left new.left bytes h.taken none;
+      later = omega (arith, early, later);
+      fault = rose_later seen.faults old.faults new.faults early rose;
+      damage = tt;
+      all = tt;
+    }
+
+-- a read failed
+pub failed : (number : ℕ) (first : Option Seen) (old new : Seen) (bytes : List ℕ) (fed given : ℕ) (decoder : DecoderValue) (waiting : List Frame)
+    → IsFed number first (Some old) bytes None fed given decoder waiting → Consumes old.left new.left [] → old.faults ≤ new.faults
+    → Rose old.faults new.faults → IsFed number first (Some new) bytes (Some Fault) fed given decoder waiting
+failed number first old new bytes fed given decoder waiting h none later rose =
+    ended_so number first (Some old) (Some new) bytes fed given decoder waiting Fault h (fault_gives first old new bytes h.giving none later rose)
+
+end_gives : (first : Option Seen) (old new : Seen) (bytes : List ℕ) (end : CpuEnd) → Giving first (Some old) bytes None → Consumes old.left new.left []
+    → old.faults ≤ new.faults → IsAtEnd new.left → end ≡ end_by (end_of bytes) → Giving first (Some new) bytes (Some end)
+end_gives None old new bytes end h none later at_end is = absurd h
+end_gives (Some seen) old new bytes end h none later at_end is =
+    let early = h.later in
+    record {
+      taken = on_and_on seen.left old.left new.left bytes h.taken none;
+      later = omega (arith, early, later);
+      fault = told_end _ end (end_of bytes) is;
+      damage = without_fault _ end is;
+      all = where_ended _ end at_end;
+    }
+
+-- a read gave no byte
+pub at_end : (number : ℕ) (first : Option Seen) (old new : Seen) (bytes : List ℕ) (fed given : ℕ) (decoder : DecoderValue) (waiting : List Frame) (end : CpuEnd)
+    → IsFed number first (Some old) bytes None fed given decoder waiting → Consumes old.left new.left [] → old.faults ≤ new.faults
+    → IsAtEnd new.left → ((cpu : ℕ) (fed : List ℕ) → Stands cpu decoder fed → end ≡ end_by (end_of fed))
+    → IsFed number first (Some new) bytes (Some end) fed given decoder waiting
+at_end number first old new bytes fed given decoder waiting end h none later all is =
+    ended_so number first (Some old) (Some new) bytes fed given decoder waiting end h
+    (end_gives first old new bytes end h.giving none later all (is number bytes h.stands))
+
+-- ---- a piece more
+
+abbrev IsTheEnd : Type 0
+IsTheEnd = (bytes : List ℕ) (d : CaptureError) → damage_of bytes ≡ Some d → end_of bytes ≡ Some d
+
+abbrev IsUncut : Type 0
+IsUncut = (bytes : List ℕ) (place : ℕ) → damage_of bytes ≢ Some (errors.Truncated place)
+
+piece_gives : (first : Option Seen) (old new : Seen) (bytes piece : List ℕ) (damage : Option CaptureError) → IsTheEnd → IsUncut
+    → Giving first (Some old) bytes None → Consumes old.left new.left piece → old.faults ≤ new.faults → damage ≡ damage_of (bytes ++ piece)
+    → Giving first (Some new) (bytes ++ piece) (ended_by damage)
+piece_gives None old new bytes piece damage the_end uncut h took later is = absurd h
+piece_gives (Some seen) old new bytes piece None the_end uncut h took later is =
+    let early = h.later in
+    record { taken = Consumes-more seen.left old.left new.left bytes piece h.taken took; later = omega (arith, early, later) }
+piece_gives (Some seen) old new bytes piece (Some damage) the_end uncut h took later is =
+    let early = h.later in
+    record {
+      taken = Consumes-more seen.left old.left new.left bytes piece h.taken took;
+      later = omega (arith, early, later);
+      fault = tt;
+      damage = sym (ap end_by (the_end (bytes ++ piece) damage (sym is)));
+      all = no_cut _ damage (λ place e. uncut (bytes ++ piece) place (sym is ∙ ap Some e));
+    }
+
+drop_front : {X : Type 0} (n : ℕ) (xs ys : List X) → length xs ≡ n → drop n (xs ++ ys) ≡ ys
+drop_front zero [] ys e = refl
+drop_front (suc n) [] ys e = absurd (omega (arith, e))
+drop_front zero (x ∷ xs) ys e = absurd (omega (arith, e))
+drop_front (suc n) (x ∷ xs) ys e = drop_front n xs ys (omega (arith, e))
+
+none_shown : (damage : Option CaptureError) → ended_by damage ≡ None → damage ≡ None
+none_shown None e = refl
+none_shown (Some damage) e = cc
+
+piece_more : (number : ℕ) (first : Option Seen) (old new : Seen) (bytes piece : List ℕ) (fed given : ℕ) (before decoder : DecoderValue) (waiting more : List Frame)
+    (damage : Option CaptureError) → IsTheEnd → IsUncut
+    → IsFed number first (Some old) bytes None fed given before waiting → length (frames_of number bytes) ≤ fed
+    → Consumes old.left new.left piece → old.faults ≤ new.faults
+    → ((cpu : ℕ) (fed : List ℕ) → Stands cpu before fed → Decodes cpu fed piece decoder more damage)
+    → IsFed number first (Some new) (bytes ++ piece) (ended_by damage) fed (given + length piece) decoder more
+piece_more number first old new bytes piece fed given before decoder waiting more damage the_end uncut h all took later decodes =
+    let one : Decodes number bytes piece decoder more damage = decodes number bytes h.stands in
+    let within = h.within in
+    let given_is = h.given_is in
+    let same : length (frames_of number bytes) ≡ fed = omega (arith, within, all) in
+    record {
+      stands = one.stands;
+      waiting_is = sym (ap (λ (fs : List Frame). drop fed fs) one.frames ∙ drop_front fed (frames_of number bytes) more same);
+      within = omega (arith, within, ap (λ (fs : List Frame). length fs) one.frames, length-append (frames_of number bytes) more);
+      given_is = omega (arith, given_is, length-append bytes piece);
+      giving = piece_gives first old new bytes piece damage the_end uncut h.giving took later one.damage_is;
+      sound = λ e. sym one.damage_is ∙ none_shown damage e;
+    }
+
+-- the same, as the code has it
+pub piece_taken : (number : ℕ) (first now : Option Seen) (old new : Seen) (bytes grown took piece : List ℕ) (ended after : Option CpuEnd) (fed given : ℕ) (before decoder : DecoderValue)
+    (waiting more kept : List Frame) (damage : Option CaptureError) → IsTheEnd → IsUncut
+    → IsFed number first now bytes ended fed given before waiting → now ≡ Some old → ended ≡ None → length (frames_of number bytes) ≤ fed
+    → Consumes old.left new.left took → old.faults ≤ new.faults → piece ≡ took → grown ≡ bytes ++ took
+    → ((cpu : ℕ) (fed : List ℕ) → Stands cpu before fed → Decodes cpu fed piece decoder more damage) → kept ≡ more → after ≡ ended_by damage
+    → IsFed number first (Some new) grown after fed (given + length piece) decoder kept
+piece_taken number first now old new bytes grown took piece ended after fed given before decoder waiting more kept damage the_end uncut h there unended all took_is later same grown_is decodes kept_is after_is =
+    let P : Option Seen → Option CpuEnd → Type 0 = λ n e. IsFed number first n bytes e fed given before waiting in
+    let g : IsFed number first (Some old) bytes None fed given before waiting = subst (λ (e : Option CpuEnd). P (Some old) e) unended (subst (λ (n : Option Seen). P n ended) there h) in
+    let taken : Consumes old.left new.left piece = subst (λ (p : List ℕ). Consumes old.left new.left p) (sym same) took_is in
+    let next = piece_more number first old new bytes piece fed given before decoder waiting more damage the_end uncut g all taken later decodes in
+    let Q : List ℕ → Option CpuEnd → List Frame → Type 0 = λ b e w. IsFed number first (Some new) b e fed (given + length piece) decoder w in
+    subst (λ (w : List Frame). Q grown after w) (sym kept_is)
+    (subst (λ (e : Option CpuEnd). Q grown e more) (sym after_is)
+    (subst (λ (b : List ℕ). Q b (ended_by damage) more) (sym (grown_is ∙ ap (λ (p : List ℕ). bytes ++ p) (sym same))) next))
+
+-- the frames that are new
+pub piece_frames : (number : ℕ) (first now : Option Seen) (bytes grown took piece : List ℕ) (ended : Option CpuEnd) (fed given : ℕ) (before decoder : DecoderValue)
+    (waiting more : List Frame) (damage : Option CaptureError) → IsFed number first now bytes ended fed given before waiting → piece ≡ took → grown ≡ bytes ++ took
+    → ((cpu : ℕ) (fed : List ℕ) → Stands cpu before fed → Decodes cpu fed piece decoder more damage)
+    → frames_of number grown ≡ frames_of number bytes ++ more
+piece_frames number first now bytes grown took piece ended fed given before decoder waiting more damage h same grown_is decodes =
+    let one : Decodes number bytes piece decoder more damage = decodes number bytes h.stands in
+    ap (λ (b : List ℕ). frames_of number b) (grown_is ∙ ap (λ (p : List ℕ). bytes ++ p) (sym same)) ∙ one.frames
+
+-- what is sound isn't larger than captures may be
+pub is_small : (bytes : List ℕ) → damage_of bytes ≡ None → (33554432 < length bytes → IsSome (damage_of bytes)) → length bytes ≤ 33554432
+is_small bytes sound h =
+    elim (cases_lt 33554432 (length bytes)) [ inl more ↦ absurd (none_is_some (damage_of bytes) sound (h more)) | inr few ↦ few ]
+  where
+    none_is_some : (d : Option CaptureError) → d ≡ None → IsSome d → ⊥
+    none_is_some None e some = cc
+    none_is_some (Some x) e some = cc
+
+-- ---- what all frames are
+
+no_some : (P : Type 0) → IsSome {T = CpuEnd} None → P
+no_some P some = cc
+
+pub ends_all : (all frames : List Frame) (end : CpuEnd) (ended : Option CpuEnd) → ended ≡ None → IsAllOf all frames (Some end) → IsAllOf all frames ended
+ends_all all frames end None e h = (h.0, h.1, λ some. no_some _ some)
+ends_all all frames end (Some x) e h = cc
+
+pub grows_all : (all frames grown more : List Frame) (now before : Option CpuEnd) → before ≡ None → grown ≡ frames ++ more → IsAllOf all grown now → IsAllOf all frames before
+grows_all all frames grown more now None e is h =
+    (more ++ h.0, h.1 ∙ ap (λ (fs : List Frame). fs ++ h.0) is ∙ append_assoc frames more h.0, λ some. no_some _ some)
+grows_all all frames grown more now (Some x) e is h = cc
+
+-- as many frames as were fed and wait
+pub few_wait : (number : ℕ) (first now : Option Seen) (bytes : List ℕ) (ended : Option CpuEnd) (fed given : ℕ) (decoder : DecoderValue) (waiting : List Frame)
+    → IsFed number first now bytes ended fed given decoder waiting → fed + length waiting ≡ length (frames_of number bytes)
+few_wait number first now bytes ended fed given decoder waiting h =
+    let within = h.within in
+    let count = ap (λ (fs : List Frame). length fs) h.waiting_is ∙ length-drop fed (frames_of number bytes) in
+    omega (arith, within, count)
+
+-- ---- reading on
+
+pub reads_none : (cpu : Feeding) → HasRead cpu cpu
+reads_none cpu = record { rest_is = refl; all = λ all h. h }
+
+pub reads_on : (first old new : Feeding) → HasRead first old → HasRead old new → HasRead first new
+reads_on first old new h k = record {
+  rest_is = k.rest_is ∙ ap (λ (cpu : Feeding). record cpu { bytes = new.bytes; ended = new.ended }) h.rest_is;
+  all = λ all is. h.all all (k.all all is);
+}
+
+-- a piece was read by a CPU that is this
+pub read_more : (cpu now : Feeding) (grown : List ℕ) (after : Option CpuEnd) (more : List Frame) → cpu ≡ now → cpu.ended ≡ None
+    → frames_of cpu.number grown ≡ frames_in cpu ++ more → HasRead now (record cpu { bytes = grown; ended = after })
+read_more cpu now grown after more is unended frames =
+    subst (λ (old : Feeding). HasRead old (record cpu { bytes = grown; ended = after })) is (record {
+      rest_is = refl;
+      all = λ all h. grows_all all (frames_in cpu) (frames_of cpu.number grown) more after cpu.ended unended frames h;
+    })

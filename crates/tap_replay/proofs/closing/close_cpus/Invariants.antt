@@ -1,0 +1,14 @@
+use Rattle.std.proofs.Common.{◌≡◌, ◌++◌, List}
+use Rattle.std.specs.Prelude.{map, option_map, IsSome}
+use Rattle.std.specs.List.{AllByRecursion}
+use Rattle.tap_replay.specs.Feeding.{Feeding}
+use Rattle.tap_replay.specs.Sources.{Seen}
+use Rattle.tap_replay.specs.Turning.{AllClose}
+use Rattle.tap_replay.proofs.closing.close_cpus.Given as goal
+
+abbrev pub invariant-loop-cpu : goal.invariant-loop-cpu
+invariant-loop-cpu g l = record {
+  ended : AllByRecursion (λ cpu. IsSome cpu.ended) l.cpu-iterator.rest.items;
+  closed : (done : List Feeding) × (l.fn.cpus.items ≡ done ++ l.cpu-iterator.rest.items)
+      × AllClose done (map (option_map {T = g.row.S.Denot} {U = Seen} (λ source. record { left = g.S.Source.left source; faults = g.S.Source.faults source })) l.sources.items) l.logs;
+}

@@ -1,0 +1,23 @@
+use Rattle.std.proofs.Common.{◌≡◌, ◌∙◌, ◌<◌, ◌≤◌, ap, length, rules, sym, subst}
+use Rattle.tap_replay.specs.Feeding.{Feeding}
+use Rattle.tap_replay.specs.Running.{RunValue, cpu_in, no_feeding}
+use Rattle.tap_replay.proofs.Stepping.{delivered_told, desk_takes, got_same}
+use Rattle.tap_replay.proofs.replay_run.ReplayRun.deliver.Goals as goal
+
+pub deliver-delivered-requires-clause-takes : goal.deliver-delivered-requires-clause-takes
+deliver-delivered-requires-clause-takes g c = λ member h.
+    let within : c.args.cpu < length c.self.inside.cpus.items = search rules in
+    let here : c.index_mut.result.now ≡ cpu_in c.args.self.now c.args.cpu =
+    c.index_mut.ensures.value ∙ got_same c.self.inside.cpus.items c.args.cpu c.index_mut.result.now no_feeding within
+    ∙ ap (λ (run : RunValue). cpu_in run c.args.cpu) c.self.view_is in
+    let many = subst (λ (cpu : Feeding). cpu.path.shape.members ≤ length c.args.self.now.members) (sym here) c.requires.members in
+    desk_takes c.args.offer c.new-desk.result.offer.value c.args.self.now.members c.new-desk.result.members.items _ member c.new-desk.ensures.offer
+    (c.new-desk.ensures.members ∙ ap (λ vec. vec.items) c.replace-members.ensures.value ∙ ap (λ (run : RunValue). run.members) c.self.view_is)
+    many c.requires.takes h
+
+pub returns : goal.returns
+returns g c =
+    delivered_told c.args.cpu c.self.inside.cpus.items c.self.inside.members.items c.self.inside.ticket c.index_mut.result.now c.deliver-delivered.new.self c.args.self.now
+    (search rules) c.index_mut.ensures.value c.self.view_is c.deliver-delivered.result c.args.queue c.args.entry c.args.offer _ _
+    c.new-desk.ensures.offer (c.new-desk.ensures.members ∙ ap (λ vec. vec.items) c.replace-members.ensures.value) c.new-desk.ensures.tries
+    c.deliver-delivered.ensures.ok c.deliver-delivered.ensures.route c.deliver-delivered.ensures.follows

@@ -1,0 +1,8 @@
+use Rattle.std.proofs.Common.{◌≤◌, length, rules}
+use Rattle.tap_replay.proofs.Lines.{no_such_cpu}
+use Rattle.tap_replay.proofs.replay_run.ReplayRun.feed_line.Goals as goal
+
+pub returns-else-cpu-len : goal.returns-else-cpu-len
+returns-else-cpu-len g c =
+    let past : length c.args.self.now.cpus ≤ c.args.cpu = search rules in
+    no_such_cpu c.args.job.now c.args.cpu c.args.self.now c.requires.run past

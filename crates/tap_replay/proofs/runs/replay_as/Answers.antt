@@ -1,0 +1,51 @@
+use Rattle.std.proofs.Common.{◌<◌, ◌≤◌, get_or, length, map, rules, subst, sym, List}
+use Rattle.std.specs.Prelude.{option_map}
+use Rattle.replay_model.specs.Taking.{MayCome}
+use Rattle.replay_model.specs.declared.schedule.Line.{Line}
+use Rattle.replay_model.specs.declared.schedule.Line.TheVariants.{Feed}
+use Rattle.replay_model.proofs.Timed.{may-next}
+use Rattle.tp_layout.specs.Requests.{size_of}
+use Rattle.tap_replay.specs.Sources.{Seen}
+use Rattle.tap_replay.specs.Turning.{LineDone}
+use Rattle.tap_replay.proofs.Concluding.{Did, did_first, did_more, told}
+use Rattle.tap_replay.proofs.runs.replay_as.Goals as goal
+
+pub loop-line-init : goal.loop-line-init
+loop-line-init g c =
+    let did = did_first c.args.job.now c.args.schedule.now _ c.in_ok-run.run' c.in_ok-run.ensures c.requires.schedule in
+    record { run = did.run; timed = did.timed; does = did.does; firsts = did.firsts }
+
+pub line-requires-clause-later : goal.line-requires-clause-later
+line-requires-clause-later g c =
+    let lines = c.args.schedule.now in
+    let P : List Line → Type 0 = λ lines. MayCome (get_or lines c.loop-line.line-index (Feed 0)) c.loop-line.run.members in
+    let within : c.loop-line.line-index < length lines = search rules in
+    subst P (sym c.as_slice-line-items.ensures)
+    (may-next (size_of c.args.job.now.setup.shape) c.loop-line.line-index lines (Feed 0) c.loop-line.run.members within c.loop-line.invariant.timed)
+
+pub loop-line-preserved : goal.loop-line-preserved
+loop-line-preserved g c =
+    let lines = c.args.schedule.now in
+    let i = c.loop-line.invariant in
+    let within : c.loop-line.line-index < length lines = search rules in
+    let before : Did c.args.job.now lines c.loop-line.line-index c.in_ok-run.run' c.loop-line.run =
+    record { run = i.run; timed = i.timed; does = i.does; firsts = i.firsts } in
+    let done : LineDone c.args.job.now (get_or lines c.loop-line.line-index (Feed 0)) c.loop-line.run c.line.new.self =
+    subst (λ (ls : List Line). LineDone c.args.job.now (get_or ls c.loop-line.line-index (Feed 0)) c.loop-line.run c.line.new.self)
+    c.as_slice-line-items.ensures c.in_ok-line.ensures in
+    let did = did_more c.args.job.now lines c.loop-line.line-index c.in_ok-run.run' c.loop-line.run c.line.new.self within before done in
+    record { run = did.run; timed = did.timed; does = did.does; firsts = did.firsts }
+
+pub returns : goal.returns
+returns g c =
+    let lines = c.args.schedule.now in
+    let i = c.loop-line.invariant in
+    let past : length lines ≤ c.loop-line.line-index = search rules in
+    let before : Did c.args.job.now lines c.loop-line.line-index c.in_ok-run.run' c.loop-line.run =
+    record { run = i.run; timed = i.timed; does = i.does; firsts = i.firsts } in
+    record {
+      ran = told c.args.job.now lines _ c.in_ok-run.run' c.loop-line.run c.feed_rest.new.self c.loop-line.line-index c.in_ok-run.ensures before past
+          c.in_ok-feed_rest.ensures c.finish.result
+          (λ ran. map (option_map {T = g.row.S.Denot} {U = Seen} (λ source. record { left = g.S.Source.left source; faults = g.S.Source.faults source })) ran.sources.items)
+          (λ ran. ran.report) g.K.Setting.shape g.K.Setting.dumps c.requires.shape c.requires.dump c.finish.ensures;
+    }

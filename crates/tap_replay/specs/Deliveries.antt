@@ -1,0 +1,48 @@
+-- What the tries of one offer leave of the rings of a group.
+use Rattle.std.specs.Prelude.{◌≡◌, ◌⊎◌, ℕ, ◌<◌, List, [], ◌∷◌, ◌++◌, length, slice_index_or}
+use Rattle.fanout_group.specs.declared.logs.Try.{Try}
+use Rattle.replay_model.specs.Replay.{fate_of, no_ring, noted_at}
+use Rattle.replay_model.specs.Taking.{Takes}
+use Rattle.ring_model.specs.Rings.{Ring, note_of_put, note_of_try}
+use Rattle.ring_model.specs.declared.notes.Note.{Note}
+use Rattle.ring_model.specs.declared.notes.Offer.{Offer}
+
+-- the note is that of a try of the offer at a ring, or of a put
+abbrev pub IsNoteOf : Offer → Ring → Note → Type 0
+IsNoteOf offer ring note = (note ≡ note_of_try ring offer) ⊎ (note ≡ note_of_put ring offer)
+
+-- one try has its note at its member, and all else stays
+pub record IsTried (offer : Offer) (t : Try) (old new : List Ring) : Type 0 where
+  pub within : t.member < length old
+  pub note : Note
+  pub note_is : IsNoteOf offer (slice_index_or old t.member no_ring) note
+  pub fate_is : t.fate ≡ fate_of note
+  pub rings_are : new ≡ noted_at t.member note old
+
+-- tries, one after the other
+abbrev pub AreTried : Offer → List Try → List Ring → List Ring → Type 0
+AreTried offer [] old new = new ≡ old
+AreTried offer (t ∷ tries) old new = (next : List Ring) × IsTried offer t old next × AreTried offer tries next new
+
+-- the rings changed by tries alone, of one offer or of none
+abbrev pub ChangedByTries : List Ring → List Ring → Type 0
+ChangedByTries old new = (new ≡ old) ⊎ ((offer : Offer) × (tries : List Try) × AreTried offer tries old new)
+
+-- a member takes an offer at a desk: it is that for which the desk was made, and the member's ring takes it
+pub record TakesAt (made : Offer) (members : List Ring) (member : ℕ) (offer : Offer) : Type 0 where
+  pub same : offer ≡ made
+  pub within : member < length members
+  pub takes : Takes offer (slice_index_or members member no_ring)
+
+-- a desk: the offer for which it was made, the rings, and the tries so far
+pub record DeskValue : Type 0 where
+  pub offer : Offer
+  pub members : List Ring
+  pub tries : List Try
+
+-- the same desk after some tries more
+pub record Follows (old new : DeskValue) : Type 0 where
+  pub offer_is : new.offer ≡ old.offer
+  pub more : List Try
+  pub tries_are : new.tries ≡ old.tries ++ more
+  pub made : AreTried old.offer more old.members new.members

@@ -1,0 +1,118 @@
+-- A replay on its way whose sources are read a piece at a time, and the replay of all their frames that it stands for.
+use Rattle.std.specs.Prelude.{◌≡◌, ℕ, ◌+◌, Bool, List, [], ◌∷◌, length, slice_index_or, slice_set, map, ⊤, Option, None, Some, All, MatchBool, unwrap_or}
+use Rattle.fanout_group.specs.Paths.{Path, first_path, logged}
+use Rattle.fanout_group.specs.Plans.{Shape, rolls_over}
+use Rattle.fanout_group.specs.Routes.{IsRoute}
+use Rattle.fanout_group.specs.Rules.{home_by}
+use Rattle.fanout_group.specs.declared.logs.ArrivalLog.{ArrivalLog}
+use Rattle.fanout_group.specs.declared.logs.Try.{Try}
+use Rattle.fanout_group.specs.declared.modes.Mode.TheVariants.{Hash}
+use Rattle.frame_view.specs.declared.frames.Frame.{Frame}
+use Rattle.replay_model.specs.Replay.{Cpu, Replay, arrived, feed}
+use Rattle.ring_model.specs.Rings.{Ring}
+use Rattle.ring_model.specs.declared.notes.Offer.{Offer}
+use Rattle.setup_text.specs.declared.jobs.Job.{Job}
+use Rattle.tp_layout.specs.Requests.{room_of, size_of}
+use Rattle.tap_replay.specs.Deliveries.{AreTried, ChangedByTries}
+use Rattle.tap_replay.specs.Fed.{FedOne, GoesOn, IsAtItsEnd, arrival_of}
+use Rattle.tap_replay.specs.Feeding.{Feeding, IsAllOfCpu, IsSameCpu, Takes, cpu_of}
+use Rattle.tap_replay.specs.Runs.{rules_of}
+use Rattle.tap_replay.specs.Sources.{Seen}
+use Rattle.tap_replay.specs.declared.fed.Fed.{Fed}
+
+pub record RunValue : Type 0 where
+  pub cpus : List Feeding
+  pub members : List Ring
+  pub ticket : ℕ
+
+-- a CPU that isn't there
+abbrev pub no_feeding : Feeding
+no_feeding = record {
+  number = 0;
+  first = None;
+  bytes = [];
+  ended = None;
+  fed = 0;
+  path = first_path (record { members = 0; mode = Hash; flags = 0 });
+}
+
+abbrev pub cpu_in : RunValue → ℕ → Feeding
+cpu_in run cpu = slice_index_or run.cpus cpu no_feeding
+
+-- the CPUs of a replay of all frames of each source
+abbrev pub cpus_of : List (List Frame) → List Feeding → List Cpu
+cpus_of (all ∷ rest) (cpu ∷ cpus) = cpu_of all cpu ∷ cpus_of rest cpus
+cpus_of rest cpus = []
+
+-- all frames of the source of each CPU
+abbrev pub AreAllOf : List (List Frame) → List Feeding → Type 0
+AreAllOf [] [] = ⊤
+AreAllOf (all ∷ rest) (cpu ∷ cpus) = IsAllOfCpu all cpu × AreAllOf rest cpus
+AreAllOf rest cpus = ⊥
+
+-- the replay of all these frames
+abbrev pub whole : List (List Frame) → RunValue → Replay
+whole all run = record { cpus = cpus_of all run.cpus; members = run.members; ticket = run.ticket }
+
+-- the run makes this step of a replay, whatever its sources still give
+abbrev pub Does : (Replay → Replay) → RunValue → RunValue → Type 0
+Does step old new = (all : List (List Frame)) → AreAllOf all new.cpus → AreAllOf all old.cpus × (whole all new ≡ step (whole all old))
+
+-- the CPUs are numbered from this number up, and their groups have this shape
+abbrev pub AreCpus : Shape → ℕ → List Feeding → Type 0
+AreCpus plan number [] = ⊤
+AreCpus plan number (cpu ∷ cpus) = (cpu.number ≡ number) × (cpu.path.shape ≡ plan) × AreCpus plan (number + 1) cpus
+
+-- the sources as they were handed in
+abbrev pub firsts_of : RunValue → List (Option Seen)
+firsts_of run = map (λ cpu. cpu.first) run.cpus
+
+-- the run is one of the job
+pub record IsRun (job : Job) (run : RunValue) : Type 0 where
+  pub count : length run.members ≡ job.setup.plan.members
+  pub sizes : All (λ ring. ring.size ≡ size_of job.setup.shape) run.members
+  pub cpus : AreCpus job.setup.plan 0 run.cpus
+
+-- a CPU is fed its next frame, if it has one
+pub record Nexts (cpu : ℕ) (fed : Fed) (old new : RunValue) : Type 0 where
+  pub new_is : new ≡ record old { cpus = slice_set old.cpus cpu (cpu_in new cpu) }
+  pub same : IsSameCpu (cpu_in old cpu) (cpu_in new cpu)
+  pub takes : (all : List Frame) → IsAllOfCpu all (cpu_in new cpu) → Takes all (cpu_in old cpu) (arrival_of fed) (cpu_in new cpu)
+  pub goes : GoesOn (cpu_in old cpu) fed (cpu_in new cpu)
+
+-- the tries of an arrival that offers this: none, or a route, each with its note
+abbrev pub IsTriedAs : Shape → ℕ → ℕ → Option ℕ → Option Offer → List Try → List Ring → List Ring → Type 0
+IsTriedAs plan present queue ticket None tries old new = (tries ≡ []) × (new ≡ old)
+IsTriedAs plan present queue ticket (Some offer) tries old new =
+    IsRoute (rolls_over plan) plan.members (home_by plan.mode plan.members offer.hash (unwrap_or ticket 0) offer.frame.cpu queue present) tries
+    × AreTried offer tries old new
+
+-- an arrival is logged with its tries
+pub record IsLogged (queue cpu : ℕ) (entry : ArrivalLog) (made : Option Offer) (old new : RunValue) : Type 0 where
+  pub tries : List Try
+  pub cpus_are : new.cpus ≡ slice_set old.cpus cpu
+      (record (cpu_in old cpu) { path = logged (record entry { tries = tries }) (cpu_in old cpu).path })
+  pub ticket_is : new.ticket ≡ old.ticket
+  pub tried : IsTriedAs (cpu_in old cpu).path.shape (cpu_in old cpu).path.present queue entry.ticket made tries old.members new.members
+
+-- one CPU was fed: it goes on, or has ended
+pub record FeedsOn (cpu : ℕ) (more : Bool) (old new : RunValue) : Type 0 where
+  pub one : Feeding
+  pub cpus_are : new.cpus ≡ slice_set old.cpus cpu one
+  pub goes : MatchBool more (FedOne (cpu_in old cpu) one) (IsAtItsEnd one)
+
+-- a frame arrives at a CPU
+pub record Arrives (job : Job) (cpu : ℕ) (frame : Frame) (old new : RunValue) : Type 0 where
+  pub does : Does (λ replay. arrived (rules_of job) (room_of job.setup.shape) cpu frame replay) old new
+  pub run : IsRun job new
+  pub path : Path
+  pub cpus_are : new.cpus ≡ slice_set old.cpus cpu (record (cpu_in old cpu) { path = path })
+  pub changed : ChangedByTries old.members new.members
+
+-- a CPU is fed its next frame, if it has one
+pub record Feeds (job : Job) (cpu : ℕ) (more : Bool) (old new : RunValue) : Type 0 where
+  pub does : Does (λ replay. feed (rules_of job) (room_of job.setup.shape) cpu replay) old new
+  pub run : IsRun job new
+  pub goes : FeedsOn cpu more old new
+  pub firsts : firsts_of new ≡ firsts_of old
+  pub changed : ChangedByTries old.members new.members

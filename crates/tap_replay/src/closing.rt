@@ -1,0 +1,81 @@
+//! A replay after its last frame: what it reports, and the sources that it gives back.
+ghost use Rattle.std.specs.Prelude.{◌≡◌, map, option_map, IfOk, IsSome};
+ghost use Rattle.std.specs.List.{AllByRecursion};
+ghost use Rattle.replay_model.specs.Reported.{finished_ring};
+ghost use Rattle.tap_replay.specs.Reported.{member_of};
+ghost use Rattle.tap_replay.specs.Turning.{AllClose, Finishes};
+
+use crate::cpu_feed::CpuFeed;
+use crate::member::Member;
+use crate::replay_run::ReplayRun;
+use crate::setting::Setting;
+use fanout_group::CpuLogList;
+use frame_view::Memory;
+use setup_text::{MemberList, Ran, RunReport};
+use std::alloc::Global;
+use tap_outside::Source;
+
+/// What is left of the CPUs of a replay.
+#[derive(Drop)]
+pub(crate) struct ClosedCpus<S: Source> {
+    /// The source of each CPU, from 0 up.
+    pub(crate) sources: Vec<Option<S>>,
+    /// What is logged of each CPU, from 0 up.
+    pub(crate) logs: CpuLogList,
+}
+
+/// Closes each CPU; all of their sources have ended.
+pub(crate) fn close_cpus<S: Source>(
+    alloc: Global,
+    cpus: Vec<CpuFeed<S>>,
+) -> Result<ClosedCpus<S>, Memory>
+    requires { AllByRecursion (λ cpu. IsSome cpu.ended) cpus.items }
+    ensures { IfOk result (λ closed. AllClose cpus.items
+        (map (option_map (λ source. record { left = S.left source; faults = S.faults source })) closed.sources.items)
+        closed.logs) }
+{
+    let mut sources = Vec::with_capacity(alloc, cpus.len())?;
+    let mut logs = CpuLogList::new(alloc);
+    for cpu in cpus {
+        let (source, log) = cpu.close()?;
+        sources.push(source)?;
+        logs.push(log)?;
+    }
+    Ok(ClosedCpus { sources, logs })
+}
+
+/// Closes each member's ring.
+pub(crate) fn close_members<K: Setting>(
+    alloc: Global,
+    members: Vec<Member<K>>,
+) -> Result<MemberList, Memory>
+    ensures { IfOk result (λ reports. reports
+        ≡ map (member_of K.shape K.dumps) (map finished_ring members.items)) }
+{
+    let mut reports = Vec::with_capacity(alloc, members.len())?;
+    for member in members {
+        reports.push(member.close()?)?;
+    }
+    Ok(MemberList::from_vec(reports))
+}
+
+/// Closes a replay; the sources of all its CPUs have ended.
+pub(crate) fn finish<S: Source, K: Setting>(
+    alloc: Global,
+    run: ReplayRun<S, K>,
+) -> Result<Ran<S>, Memory>
+    requires { AllByRecursion (λ cpu. IsSome cpu.ended) run.cpus }
+    ensures { IfOk result (λ ran. Finishes K.shape K.dumps run
+        (map (option_map (λ source. record { left = S.left source; faults = S.faults source })) ran.sources.items)
+        ran.report) }
+{
+    let closed = close_cpus(alloc, run.cpus)?;
+    let members = close_members(alloc, run.members)?;
+    Ok(Ran {
+        report: RunReport {
+            cpus: closed.logs,
+            members,
+        },
+        sources: closed.sources,
+    })
+}

@@ -1,0 +1,103 @@
+//! The members of a group, as the delivery of one packet meets them.
+ghost use Rattle.std.specs.Prelude.{◌≡◌, ◌<◌, ◌∷◌, ◌++◌, [], vec_capacity, vec_len};
+ghost use Rattle.fanout_group.specs.Desks.{fate_of_put, fate_of_try};
+ghost use Rattle.fanout_group.specs.Routes.{a_try};
+ghost use Rattle.tap_replay.specs.Deliveries.{Follows, TakesAt};
+ghost use Rattle.tap_replay.specs.DeskLaws.{follows_itself, follows_on};
+
+use crate::member::Member;
+use crate::setting::Setting;
+use fanout_group::{Desk, Fate, Try};
+use ring_model::{Offer, Put, Tried, Unput};
+use std::alloc::Global;
+use std::snapshot::Snapshot;
+
+/// A desk over the members of a group. It is made for one delivery.
+#[derive(Drop)]
+pub(crate) struct RingDesk<K: Setting> {
+    /// The members, from 0 up.
+    pub(crate) members: Vec<Member<K>>,
+    /// The tries so far.
+    pub(crate) tries: Vec<Try>,
+    /// The offer that is delivered. It takes no room: only contracts read it.
+    pub(crate) offer: Snapshot<Offer>,
+}
+
+impl<K: Setting> RingDesk<K> {
+    /// A desk for this offer. It takes no memory.
+    pub(crate) fn new(alloc: Global, members: Vec<Member<K>>, offer: &Offer) -> RingDesk<K>
+        ensures members { result.members.items ≡ members.items }
+        ensures tries { result.tries.items ≡ [] }
+        ensures offer { result.offer.value ≡ offer.now }
+    {
+        RingDesk {
+            members,
+            tries: Vec::new(alloc),
+            offer: Snapshot::of(offer),
+        }
+    }
+}
+
+/// Puts a try at the end of a list that has room for it.
+fn add(tries: &mut Vec<Try>, member: u32, fate: Fate)
+    requires room { vec_len tries.old < vec_capacity tries.old }
+    ensures { tries.new.items ≡ tries.old.items ++ a_try member fate ∷ [] }
+{
+    let _there_was_room = tries.push(Try { member, fate });
+}
+
+/// What came of a try.
+fn fate_of_try(tried: &Tried) -> Fate
+    ensures { result ≡ fate_of_try tried.now }
+{
+    match tried {
+        Tried::Kept => Fate::Kept,
+        Tried::Refused(_) => Fate::Refused,
+    }
+}
+
+/// What came of a put.
+fn fate_of_put(put: &Put) -> Fate
+    ensures { result ≡ fate_of_put put.now }
+{
+    match put {
+        Put::Kept => Fate::Kept,
+        Put::Dropped(_) => Fate::Dropped,
+    }
+}
+
+impl<K: Setting> Desk for RingDesk<K> {
+    ghost tried = { λ desk. desk.tries.items };
+
+    ghost takes = { λ desk member offer. TakesAt desk.offer.value desk.members.items member offer };
+
+    ghost follows = { λ old new. Follows
+        (record { offer = old.offer.value; members = old.members.items; tries = old.tries.items })
+        (record { offer = new.offer.value; members = new.members.items; tries = new.tries.items }) };
+
+    fn try_put(&mut self, member: u32, offer: Offer) -> Result<Tried, Unput> {
+        let Ok(()) = self.tries.reserve(1) else {
+            return Err(Unput { offer });
+        };
+        let tried = self.members[member as usize].try_put(offer)?;
+        add(&mut self.tries, member, fate_of_try(&tried));
+        Ok(tried)
+    }
+
+    fn put(&mut self, member: u32, offer: Offer) -> Result<Put, Unput> {
+        let Ok(()) = self.tries.reserve(1) else {
+            return Err(Unput { offer });
+        };
+        let put = self.members[member as usize].put(offer)?;
+        add(&mut self.tries, member, fate_of_put(&put));
+        Ok(put)
+    }
+
+    ghost stays = { λ desk. follows_itself (record { offer = desk.offer.value; members = desk.members.items; tries = desk.tries.items }) };
+
+    ghost goes_on = { λ first next last one two. follows_on
+        (record { offer = first.offer.value; members = first.members.items; tries = first.tries.items })
+        (record { offer = next.offer.value; members = next.members.items; tries = next.tries.items })
+        (record { offer = last.offer.value; members = last.members.items; tries = last.tries.items })
+        one two };
+}

@@ -1,0 +1,3 @@
+pub mod Naming
+pub mod Stores
+pub mod Missing

@@ -1,0 +1,35 @@
+-- The files of a run: for each member from 0 up its packets, and its blocks where they are asked for.
+use Rattle.std.specs.Prelude.{ℕ, zero, suc, ◌+◌, List, [], ◌∷◌, ◌++◌, codes, if◌then◌else◌}
+use Rattle.std.specs.Fmt.{decimal}
+use Rattle.capture_file.specs.Output.{output_of}
+use Rattle.setup_text.specs.declared.reports.MemberReport.{MemberReport}
+use Rattle.setup_text.specs.declared.setups.Setup.{Setup}
+
+pub record File : Type 0 where
+  pub name : List ℕ
+  pub bytes : List ℕ
+
+-- `out.0.pcap` of the prefix `out`, member 0 and the ending `.pcap`
+abbrev pub file_name : List ℕ → ℕ → List ℕ → List ℕ
+file_name prefix member ending = prefix ++ (codes "." ++ (decimal member ++ ending))
+
+-- the names of a member's files
+abbrev pub names_at : Setup → ℕ → List (List ℕ)
+names_at setup member =
+    file_name setup.prefix member (codes ".pcap")
+    ∷ (if setup.dump then file_name setup.prefix member (codes ".blk") ∷ [] else [])
+
+-- and those of so many members, from one on
+abbrev pub names_from : Setup → ℕ → ℕ → List (List ℕ)
+names_from setup member zero = []
+names_from setup member (suc count) = names_at setup member ++ names_from setup (member + 1) count
+
+-- a member's files: the output of the packets that were read, and the dump
+abbrev pub files_at : Setup → ℕ → MemberReport → List File
+files_at setup member report =
+    record { name = file_name setup.prefix member (codes ".pcap"); bytes = output_of report.walked }
+    ∷ (if setup.dump then record { name = file_name setup.prefix member (codes ".blk"); bytes = report.dump } ∷ [] else [])
+
+abbrev pub files_from : Setup → ℕ → List MemberReport → List File
+files_from setup member [] = []
+files_from setup member (report ∷ reports) = files_at setup member report ++ files_from setup (member + 1) reports

@@ -1,0 +1,6 @@
+pub mod Tickets
+pub mod Hands
+pub mod Dealt
+pub mod Steps
+pub mod Seats
+pub mod SeatsInside

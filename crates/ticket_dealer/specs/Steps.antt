@@ -1,0 +1,25 @@
+-- What each step tells the seat that made it.
+use Rattle.std.specs.Prelude.{◌≡◌, ℕ, ◌+◌, ◌<◌, ◌≤◌, ◌^◌}
+use Rattle.atomic_table.specs.Table.{Me, Step}
+use Rattle.ticket_dealer.specs.declared.knowing.Hand.{Hand}
+use Rattle.ticket_dealer.specs.Hands.{drew, ended, saw}
+use Rattle.ticket_dealer.specs.Tickets.{AllBelow}
+
+-- the ticket is the number that was found, above all that the seat drew before
+abbrev pub Drew : Step (Unit {0}) → Me (Unit {0}) Hand → ℕ → Me (Unit {0}) Hand → Type 0
+Drew step before found after =
+    (after ≡ (drew before.0 found, before.1)) × AllBelow found before.0.drawn × (found < 2 ^ 37)
+
+-- the seat has ended
+abbrev pub Ended : Step (Unit {0}) → Me (Unit {0}) Hand → ℕ → Me (Unit {0}) Hand → Type 0
+Ended step before found after = after ≡ (ended before.0, before.1)
+
+-- So many feeders are live as haven't called `done`: at least the seat itself where it hasn't, no more than it
+-- found before, and all less those that have
+pub record Saw (step : Step (Unit {0})) (before : Me (Unit {0}) Hand) (found : ℕ)
+    (after : Me (Unit {0}) Hand) : Type 0 where
+  pub seen : after ≡ (saw before.0 found, before.1)
+  pub owing : before.0.owes ≤ found
+  pub falls : 0 < before.0.shares → found ≤ before.0.live
+  pub calls : (calls : ℕ) ×
+      (0 < before.0.shares → found + calls ≡ before.0.feeders) × (before.0.ended ≤ calls)

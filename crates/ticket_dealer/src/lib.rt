@@ -1,0 +1,15 @@
+//! Tickets that seats draw in threads of their own, each number once, and a count of the feeders that go on.
+#![tactic(auto)]
+
+mod dealer;
+mod dealer_seat;
+mod drawing;
+mod gathering;
+mod knowing;
+mod opening;
+mod plays;
+#[cfg(test)]
+mod tests;
+
+pub use dealer::Dealer;
+pub use dealer_seat::DealerSeat;

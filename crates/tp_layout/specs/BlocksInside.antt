@@ -1,0 +1,18 @@
+-- A block by its fields: its bytes are kept once they are written, and until then it lends zeros that all blocks share.
+use Rattle.std.specs.Prelude.{◌≡◌, ◌≤◌, [], length, replicate}
+use Rattle.std.specs.Arc.{arc_value}
+use Rattle.std.specs.Vec.{vec_capacity}
+use Rattle.tp_layout.specs.Requests.{IsShape}
+use Rattle.tp_layout.specs.Writing.{ShapedBytes, bytes_or_zeros}
+use Rattle.tp_layout.specs.declared.ring_blocks.Block.TheInside.{Inside}
+
+-- the shape and the bytes
+abbrev pub shaped_bytes : Inside → ShapedBytes
+shaped_bytes block = record { shape = block.shape; bytes = bytes_or_zeros block.shape.block_size block.bytes.items }
+
+-- it has the bytes that its shape says, or room for them and as many zeros
+pub record IsBlock (block : Inside) : Type 0 where
+  pub sound : IsShape block.shape
+  pub size : length (bytes_or_zeros block.shape.block_size block.bytes.items) ≡ block.shape.block_size
+  pub room : block.bytes.items ≡ [] → block.shape.block_size ≤ vec_capacity block.bytes
+  pub zeros : (arc_value block.zeros).items ≡ replicate block.shape.block_size 0

@@ -1,0 +1,12 @@
+mod Totals
+mod Lists
+mod Histories
+mod Drawing
+mod Looking
+mod Leaving
+mod Seating
+mod Joining
+mod Ending
+mod Historical
+pub mod SeatLists
+mod Calls

@@ -1,0 +1,72 @@
+-- The turn history, in a lock's own words: tickets, turns that have ended, and what each seat left.
+use Rattle.std.specs.Prelude.{◌≡◌, ◌⊎◌, ℕ, suc, ◌<◌, ◌≤◌, ◌^◌, Bool, List, [], ◌∷◌, ◌++◌, length, take, slice_index, Option, Some}
+use mathlib.Core.Option.{some, none}
+use mathlib.Core.Option as maybe
+use lib.ListN.{get_elem?}
+use Rattle.atomic_table.specs.Table.{State}
+use Rattle.turn_lock.specs.declared.knowing.Knows.{Knows}
+use Rattle.turn_lock.specs.declared.knowing.Place.{Place}
+use Rattle.turn_lock.specs.declared.knowing.Stage.TheVariants.{Inside}
+use Rattle.turn_lock.specs.Histories.{times, all_added, IsTurn, GoesOn}
+use Rattle.turn_lock.specs.Knowing.{drawn_of, total}
+
+-- A seat that left this list the last time: it has what the turns added up to the seat's latest one that has
+-- ended, and the history goes on from it by what other seats added
+pub record IsLast {E : Type 0} (may_add : ℕ → E → Bool) (first : List E) (owners : List ℕ)
+    (added : List (List E)) (number : ℕ) (last : List E) : Type 0 where
+  pub turns : ℕ
+  pub ended : turns ≤ length added
+  pub is : last ≡ first ++ all_added (take turns added)
+  pub latest : (i : ℕ) → turns ≡ suc i → get_elem? owners i ≡ some number
+  pub none_after : (i : ℕ) → turns ≤ i → i < length added → ¬ (get_elem? owners i ≡ some number)
+  pub goes_on : GoesOn may_add number last (first ++ all_added added)
+
+module _ {E B : Type 0} where
+  -- the seat j of the table stands for this seat of the lock
+  abbrev pub StandsFor : List (Knows E B) → ℕ → Knows E B → Place E → Type 0
+  StandsFor views j v place = (get_elem? views j ≡ some v) × ((k : ℕ) × (get_elem? v.places k ≡ some place))
+
+  -- the seat j of the table is in its turn
+  abbrev pub IsInside : List (Knows E B) → ℕ → Knows E B → Type 0
+  IsInside views j v = (get_elem? views j ≡ some v) × (v.stage ≡ Inside)
+
+module _ {V E B : Type 0} (stored : V → List E) (base : V → B) where
+  -- the value is at home with the history stored and the first value's base, or the seat of the ticket that is
+  -- served has it, whose number is the owner
+  abbrev pub HasPlace : B → List E → maybe.Option ℕ → State (Option V) (Knows E B) → Type 0
+  HasPlace b history owner table =
+      ((x : V) × (table.homes ≡ some (Some x) ∷ []) × (stored x ≡ history) × (base x ≡ b))
+      ⊎ ((table.homes ≡ none ∷ []) × ((j : ℕ) × (v : Knows E B) × (place : Place E)
+      × IsInside table.views j v × (v.places ≡ place ∷ []) × (owner ≡ some place.number)))
+
+module _ {V E B : Type 0} (stored : V → List E) (base : V → B) (may_add : B → ℕ → E → Bool) where
+  -- b and f are the base and the list of the first value, n is the number of seats; `owners` has the number of
+  -- each ticket's seat, `added` what each turn that has ended added
+  pub record IsHistory (b : B) (f : List E) (n : ℕ) (table : State (Option V) (Knows E B))
+      : Type 0 where
+    pub owners : List ℕ
+    pub added : List (List E)
+    -- word 0 counts the tickets, word 1 those that are served to their end
+    pub drawn : slice_index table.words 0 ≡ length owners
+    pub served : slice_index table.words 1 ≡ length added
+    pub behind : length added ≤ length owners
+    pub few : length owners ≤ 2 ^ 37
+    -- each ticket belongs to one of the seats, which together have them all, and each has few
+    pub owned : (i number : ℕ) → get_elem? owners i ≡ some number → number < n
+    pub sum : total drawn_of table.views ≡ length owners
+    pub each_drew : (j : ℕ) (v : Knows E B) (place : Place E) → StandsFor table.views j v place →
+        (place.drawn ≡ times place.number owners) × (place.drawn ≤ 2 ^ 32)
+    -- a turn that has ended added one entry at most, which its seat may add
+    pub each_turn : (i number : ℕ) (entries : List E) → get_elem? owners i ≡ some number →
+        get_elem? added i ≡ some entries → IsTurn (may_add b) number entries
+    -- a seat has at most one ticket that hasn't ended
+    pub each_waits : (i j : ℕ) (v : Knows E B) (place : Place E) → StandsFor table.views j v place →
+        length added ≤ i → get_elem? owners i ≡ some place.number → v.ticket ≡ i
+    -- the value has its place
+    pub value_is : HasPlace stored base b (f ++ all_added added) (get_elem? owners (length added)) table
+    -- what each seat left the last time
+    pub each_last : (j : ℕ) (v : Knows E B) (place : Place E) → StandsFor table.views j v place →
+        IsLast (may_add b) f owners added place.number place.last
+    -- no two seats are in their turn at once
+    pub one_inside : (i j : ℕ) (v w : Knows E B) → IsInside table.views i v → IsInside table.views j w →
+        i ≡ j

@@ -1,0 +1,20 @@
+//! A lock whose users take turns: each draws a ticket, waits until it is served, and has the value until it leaves.
+//! What the turns added to the value stands in it in the order of the tickets, each turn's once.
+#![tactic(auto)]
+
+mod closing;
+mod kept;
+mod knowing;
+mod laws;
+mod making;
+mod plays;
+#[cfg(test)]
+mod tests;
+mod turn_lock;
+mod turn_seat;
+mod turns;
+
+pub use kept::Kept;
+pub use laws::{a_turn_adds_to_its_own, own_entries_stand_in_last, the_turn_history_holds};
+pub use turn_lock::TurnLock;
+pub use turn_seat::TurnSeat;

@@ -1,0 +1,57 @@
+//! The rule of a lock's table, and what each step tells. These types are for the proofs alone.
+ghost use Rattle.turn_lock.specs.Knowing.{opening, maker, newcomer, joined, spent};
+ghost use Rattle.turn_lock.specs.Steps.{Drew, Looked, Left};
+ghost use Rattle.turn_lock.specs.Turns.{Turns};
+
+use crate::Kept;
+use crate::knowing::{Knows, Opening};
+use atomic_table::{Join, Play, Split, TableRule};
+
+/// The turn history.
+pub struct ByTurns;
+
+impl<V: Kept> TableRule<Option<V>, Knows<V::Entry, V::Base>, Opening<V>> for ByTurns {
+    ghost holds = { λ key. Turns V.stored V.base V.may_add
+        (V.base key.value.value) (V.stored key.value.value) key.seats };
+
+    ghost first = { λ key. opening (V.base key.value.value) (V.stored key.value.value) key.seats };
+}
+
+/// A seat is made of the first one.
+pub struct Makes;
+
+impl<E, B> Split<Knows<E, B>> for Makes {
+    ghost left = { maker };
+
+    ghost right = { newcomer };
+}
+
+/// A ticket is drawn.
+pub struct Draws;
+
+impl<V: Kept> Play<Option<V>, Knows<V::Entry, V::Base>> for Draws {
+    ghost then = { Drew };
+}
+
+/// A look at the ticket that is served, which takes the value where it is the seat's own.
+pub struct Looks;
+
+impl<V: Kept> Play<Option<V>, Knows<V::Entry, V::Base>> for Looks {
+    ghost then = { Looked V.stored V.base V.may_add };
+}
+
+/// The next ticket is served, and the value is back.
+pub struct Leaves;
+
+impl<V: Kept> Play<Option<V>, Knows<V::Entry, V::Base>> for Leaves {
+    ghost then = { Left V.stored };
+}
+
+/// A seat takes in another.
+pub struct Gathers;
+
+impl<E, B> Join<Knows<E, B>> for Gathers {
+    ghost both = { joined };
+
+    ghost spent = { spent };
+}

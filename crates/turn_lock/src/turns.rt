@@ -1,0 +1,79 @@
+//! A turn: a seat enters, has the value, and leaves.
+ghost use Rattle.std.specs.Prelude.{◌≡◌, ◌+◌, ◌<◌, ◌≤◌, ◌^◌, [], ◌∷◌, length, Some, None};
+ghost use Rattle.turn_lock.specs.declared.knowing.Stage.TheVariants.{Waits};
+ghost use Rattle.turn_lock.specs.Histories.{GoesOn};
+ghost use Rattle.turn_lock.specs.Seats.{AddsIn, IsSeatOf, inside, outside};
+ghost use Rattle.turn_lock.specs.Steps.{HasValue};
+
+use crate::knowing::{Knows, Opening};
+use crate::plays::{ByTurns, Draws, Leaves, Looks};
+use crate::{Kept, TurnLock, TurnSeat};
+use atomic_table::{Seat, Shared};
+use std::sync::Wait;
+use std::thread;
+
+/// The word with the number of tickets drawn.
+const TICKETS: usize = 0;
+
+/// The word with the ticket that is served.
+const SERVED: usize = 1;
+
+/// Looks until the ticket is served, and then takes the value out.
+fn wait_turn<V: Kept, R: Wait>(
+    rt: &R,
+    shared: &Shared<Option<V>, Knows<V::Entry, V::Base>, Opening<V>, ByTurns>,
+    seat: &mut Seat<Option<V>, Knows<V::Entry, V::Base>>,
+    ticket: u64,
+)
+    requires table { (seat.old.table_id ≡ shared.now.table_id) × (1 < shared.now.table_id.words) }
+    requires stage { seat.old.me.0.stage ≡ Waits }
+    requires ticket { seat.old.me.0.ticket ≡ ticket }
+    ensures table { seat.new.table_id ≡ seat.old.table_id }
+    ensures value { HasValue V.stored V.base V.may_add seat.old.me seat.new.me }
+{
+    for _ in rt.forever() {
+        if shared.load::<Looks>(seat, SERVED) == ticket {
+            return;
+        }
+        thread::yield_now();
+    }
+    unreachable!()
+}
+
+impl<V: Kept> TurnLock<V> {
+    /// Waits for the seat's turn and gives the value. The seat isn't in its turn, and has entered fewer than 2^32 times.
+    pub fn enter<R: Wait>(&self, rt: &R, seat: &mut TurnSeat<V>) -> V
+        requires own { IsSeatOf self.now seat.old }
+        requires outside { seat.old.turn ≡ None }
+        requires few { seat.old.entered < 2 ^ 32 }
+
+        ensures base { V.base result ≡ self.now.base }
+        ensures goes_on { GoesOn (V.may_add self.now.base)
+            seat.old.number seat.old.last (V.stored result) }
+        ensures length { length (V.stored result) ≤ length self.now.first + 2 ^ 37 }
+        ensures seat { seat.new ≡ inside seat.old (V.stored result) }
+    {
+        let shared = &self.table.shared;
+        let ticket = shared.fetch_add::<Draws>(&mut seat.seat, TICKETS, 1);
+        seat.ticket = ticket;
+        wait_turn::<V, R>(rt, shared, &mut seat.seat, ticket);
+        shared.exchange(&mut seat.seat, 0, None).unwrap()
+    }
+
+    /// Ends the seat's turn. The value has the base that it was given with, and has stored what it had then, or that
+    /// and one entry more which this seat may add.
+    pub fn leave(&self, seat: &mut TurnSeat<V>, value: V)
+        requires own { IsSeatOf self.now seat.old }
+        requires base { V.base value ≡ self.now.base }
+        requires turn { AddsIn (V.may_add self.now.base) seat.old (V.stored value) }
+
+        ensures seat { seat.new ≡ outside seat.old (V.stored value) }
+    {
+        let shared = &self.table.shared;
+        match shared.exchange(&mut seat.seat, 0, Some(value)) {
+            None => {}
+            Some(_) => unreachable!(),
+        }
+        shared.store::<Leaves>(&mut seat.seat, SERVED, seat.ticket + 1);
+    }
+}

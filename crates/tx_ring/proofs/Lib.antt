@@ -1,0 +1,11 @@
+pub mod Texts
+pub mod Turns
+pub mod Moves
+pub mod Requests
+pub mod Takings
+pub mod Sends
+pub mod Splits
+pub mod Runs
+pub mod Lengths
+pub mod Feeding
+pub mod Stops

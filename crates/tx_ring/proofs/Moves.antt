@@ -1,0 +1,262 @@
+-- What a ring keeps as slots are placed, taken and refused.
+use Rattle.std.proofs.Common.{◌≡◌, ℕ, suc, ◌+◌, ◌-◌, ◌%◌, ◌<◌, ◌≤◌, Bool, false, true, ◌⊎◌, List, [], ◌∷◌, ◌++◌, length, set, replicate, Option, None, Some, IfSome, true≢false, refl, sym, ap, subst, ◌∙◌, inl, inr, arith}
+use Rattle.std.specs.Prelude.{◌||◌, ◌==◌}
+use Rattle.std.proofs.lemmas.Bool.{cases_eq, eq-eqb, false_from_ne_true, eqb-true}
+use Rattle.std.proofs.lemmas.List.{get_or-set_same, get_or-set_other, get_or-replicate, length-set, length-replicate}
+use Rattle.std.proofs.Math.Nat.{mod-lt}
+use Rattle.tp_layout.specs.declared.requests.RingRequest.{RingRequest}
+use Rattle.tx_ring.specs.Keeping.{HasStopped, BeginsBad, Keeps, requests_in, slot_at, state_in}
+use Rattle.tx_ring.specs.Rings.{TxState, is_among, new_ring, room_of, status_by, status_of, with_request}
+use Rattle.tx_ring.specs.Sending.{after_taking, is_good, front_of}
+use Rattle.tx_ring.specs.Slots.{Request, SlotState, empty_slot}
+use Rattle.tx_ring.proofs.Turns.{among_more, first_is_past, length-requests_in, next_is_free, other_requests, requests_more, same_requests}
+
+-- a fact of each slot that holds of the one that changed and of the others as they were
+pub each_slot : (P : ℕ → SlotState → Type 0) (slots : List SlotState) (at : ℕ) (slot : SlotState) → at < length slots → P at slot
+    → ((k : ℕ) → k < length slots → (k ≡ at → ⊥) → P k (slot_at slots k))
+    → (k : ℕ) → k < length (set slots at slot) → P k (slot_at (set slots at slot) k)
+each_slot P slots at slot within here others k less =
+    let size = length-set slots at slot in
+    elim (cases_eq k at) [
+      | inl same ↦ rw (same, get_or-set_same slots at slot (empty_slot 0) within) here
+      | inr other ↦ rw (get_or-set_other slots at k slot (empty_slot 0) other) (others k (omega arith) other)
+    ]
+
+-- one more is placed than was taken
+pub one_more : (placed taken : ℕ) → taken ≤ placed → placed + 1 - taken ≡ suc (placed - taken)
+one_more placed taken order = omega arith
+
+-- behind those that were taken stand those that weren't
+pub behind : (placed taken : ℕ) → taken ≤ placed → taken + (placed - taken) ≡ placed
+behind placed taken order = omega arith
+
+or_true : (a : Bool) → a || true ≡ true
+or_true true = refl
+or_true false = refl
+
+or_no : (a : Bool) → a || false ≡ a
+or_no true = refl
+or_no false = refl
+
+-- the mark of the slot that is placed
+placed_here : (places placed taken : ℕ) → taken ≤ placed
+    → 1 ≡ status_by None (is_among places (placed % places) taken (placed + 1 - taken)) (placed % places)
+placed_here places placed taken order =
+    let at = placed % places in
+    rw (one_more placed taken order, among_more places at taken (placed - taken), behind placed taken order, eq-eqb at at refl, or_true (is_among places at taken (placed - taken))) refl
+
+-- the marks of the others
+placed_there : (places placed taken at : ℕ) → taken ≤ placed → (at ≡ placed % places → ⊥)
+    → status_by None (is_among places at taken (placed - taken)) at ≡ status_by None (is_among places at taken (placed + 1 - taken)) at
+placed_there places placed taken at order other =
+    let no : placed % places == at ≡ false = false_from_ne_true (placed % places == at) (λ yes. other (sym (eqb-true (placed % places) at yes))) in
+    rw (one_more placed taken order, among_more places at taken (placed - taken), behind placed taken order, no, or_no (is_among places at taken (placed - taken))) refl
+
+-- a slot is placed
+pub placed_keeps : (shape : RingRequest) (skip : Bool) (slots : List SlotState) (placed taken : ℕ) (slot : SlotState)
+    → Keeps (state_in shape skip slots placed taken None) slots taken → placed - taken < shape.frame_nr
+    → slot.size ≡ shape.frame_size → slot.status ≡ 1
+    → Keeps (state_in shape skip (set slots (placed % shape.frame_nr) slot) (placed + 1) taken None) (set slots (placed % shape.frame_nr) slot) taken
+placed_keeps shape skip slots placed taken slot keeps free size status =
+    let at = placed % shape.frame_nr in
+    let count = length-set slots at slot in
+    let places = keeps.places in
+    let some = keeps.some in
+    let order = keeps.order in
+    let low = mod-lt placed some in
+    let within : at < length slots = omega arith in
+    record {
+      places = count ∙ places;
+      some = some;
+      least = keeps.least;
+      order = omega arith;
+      few = omega arith;
+      sizes = each_slot (λ k s. s.size ≡ shape.frame_size) slots at slot within size (λ k less other. keeps.sizes k less);
+      marks = each_slot (λ k s. s.status ≡ status_by None (is_among shape.frame_nr k taken (placed + 1 - taken)) k) slots at slot within
+          (status ∙ placed_here shape.frame_nr placed taken order)
+          (λ k less other. keeps.marks k less ∙ placed_there shape.frame_nr placed taken k order other);
+      stop = tt;
+    }
+
+-- the requests of a ring in which a slot was placed
+pub placed_state : (shape : RingRequest) (skip : Bool) (slots : List SlotState) (placed taken : ℕ) (slot : SlotState)
+    → Keeps (state_in shape skip slots placed taken None) slots taken → placed - taken < shape.frame_nr
+    → state_in shape skip (set slots (placed % shape.frame_nr) slot) (placed + 1) taken None
+    ≡ with_request (state_in shape skip slots placed taken None) slot.request
+placed_state shape skip slots placed taken slot keeps free =
+    let n = shape.frame_nr in
+    let at = placed % n in
+    let order = keeps.order in
+    let some = keeps.some in
+    let places = keeps.places in
+    let low = mod-lt placed some in
+    let within : at < length slots = omega arith in
+    let last = behind placed taken order in
+    let past : is_among n at taken (placed - taken) ≡ false = ap (λ (k : ℕ). is_among n (k % n) taken (placed - taken)) (sym last) ∙ next_is_free n taken (placed - taken) free in
+    let requests : requests_in n (set slots at slot) taken (placed + 1 - taken) ≡ requests_in n slots taken (placed - taken) ++ slot.request ∷ [] =
+    rw (one_more placed taken order, requests_more n (set slots at slot) taken (placed - taken), last, get_or-set_same slots at slot (empty_slot 0) within, other_requests n slots at slot taken (placed - taken) past) refl in
+    rw requests refl
+
+-- the slots of the requests behind the first one
+pub behind_first : (placed taken : ℕ) → taken < placed → placed - taken ≡ suc (placed - (taken + 1))
+behind_first placed taken some = omega arith
+
+-- the mark of the slot that is taken
+taken_here : (places placed taken : ℕ) → taken < placed → placed ≤ taken + places
+    → 0 ≡ status_by None (is_among places (taken % places) (taken + 1) (placed - (taken + 1))) (taken % places)
+taken_here places placed taken some few =
+    rw (first_is_past places taken (placed - (taken + 1)) (omega arith)) refl
+
+-- the marks of the others
+taken_there : (places placed taken at : ℕ) → taken < placed → (at ≡ taken % places → ⊥)
+    → status_by None (is_among places at taken (placed - taken)) at ≡ status_by None (is_among places at (taken + 1) (placed - (taken + 1))) at
+taken_there places placed taken at some other =
+    let no : taken % places == at ≡ false = false_from_ne_true (taken % places == at) (λ yes. other (sym (eqb-true (taken % places) at yes))) in
+    rw (behind_first placed taken some, no) refl
+
+-- the slot of the first request is taken
+pub taken_keeps : (shape : RingRequest) (skip : Bool) (slots : List SlotState) (placed taken : ℕ) (slot : SlotState)
+    → Keeps (state_in shape skip slots placed taken None) slots taken → taken < placed
+    → slot.size ≡ shape.frame_size → slot.status ≡ 0
+    → Keeps (state_in shape skip (set slots (taken % shape.frame_nr) slot) placed (taken + 1) None) (set slots (taken % shape.frame_nr) slot) (taken + 1)
+taken_keeps shape skip slots placed taken slot keeps left size status =
+    let at = taken % shape.frame_nr in
+    let count = length-set slots at slot in
+    let places = keeps.places in
+    let some = keeps.some in
+    let few = keeps.few in
+    let low = mod-lt taken some in
+    let within : at < length slots = omega arith in
+    record {
+      places = count ∙ places;
+      some = some;
+      least = keeps.least;
+      order = omega arith;
+      few = omega arith;
+      sizes = each_slot (λ k s. s.size ≡ shape.frame_size) slots at slot within size (λ k less other. keeps.sizes k less);
+      marks = each_slot (λ k s. s.status ≡ status_by None (is_among shape.frame_nr k (taken + 1) (placed - (taken + 1))) k) slots at slot within
+          (status ∙ taken_here shape.frame_nr placed taken left few)
+          (λ k less other. keeps.marks k less ∙ taken_there shape.frame_nr placed taken k left other);
+      stop = tt;
+    }
+
+-- the requests of a ring of which the first one was taken
+pub taken_state : (shape : RingRequest) (skip : Bool) (slots : List SlotState) (placed taken : ℕ) (slot : SlotState)
+    → Keeps (state_in shape skip slots placed taken None) slots taken → taken < placed
+    → state_in shape skip (set slots (taken % shape.frame_nr) slot) placed (taken + 1) None
+    ≡ after_taking 1 (state_in shape skip slots placed taken None)
+taken_state shape skip slots placed taken slot keeps left =
+    let n = shape.frame_nr in
+    let at = taken % n in
+    let few = keeps.few in
+    let some = keeps.some in
+    let past = first_is_past n taken (placed - (taken + 1)) (omega arith) in
+    let requests = other_requests n slots at slot (taken + 1) (placed - (taken + 1)) past in
+    rw (behind_first placed taken left, requests) refl
+
+-- the marks of the slots beside that where the ring stops
+stopped_there : (stopped : Option ℕ) (shape : RingRequest) (skip : Bool) (slots : List SlotState) (placed taken at : ℕ)
+    → IfSome stopped (HasStopped (state_in shape skip slots placed taken stopped) taken) → (requested : Bool)
+    → (at ≡ taken % shape.frame_nr → ⊥) → status_by stopped requested at ≡ status_by (Some (taken % shape.frame_nr)) requested at
+stopped_there None shape skip slots placed taken at stop requested other =
+    let no : taken % shape.frame_nr == at ≡ false = false_from_ne_true (taken % shape.frame_nr == at) (λ yes. other (sym (eqb-true (taken % shape.frame_nr) at yes))) in
+    rw no refl
+stopped_there (Some slot) shape skip slots placed taken at stop requested other = rw stop.front refl
+
+-- a slot that changed asks for the same, and so does each slot
+same_at : (slots : List SlotState) (at : ℕ) (slot : SlotState) → at < length slots → slot.request ≡ (slot_at slots at).request
+    → (k : ℕ) → (slot_at (set slots at slot) k).request ≡ (slot_at slots k).request
+same_at slots at slot within request k =
+    elim (cases_eq k at) [
+      | inl same ↦ rw (same, get_or-set_same slots at slot (empty_slot 0) within) request
+      | inr other ↦ rw (get_or-set_other slots at k slot (empty_slot 0) other) refl
+    ]
+
+-- the ring stops at the slot of the first request
+pub stopped_keeps : (shape : RingRequest) (skip : Bool) (slots : List SlotState) (placed taken : ℕ) (stopped : Option ℕ) (slot : SlotState)
+    → Keeps (state_in shape skip slots placed taken stopped) slots taken → taken < placed → skip ≡ false
+    → BeginsBad (room_of shape) (requests_in shape.frame_nr slots taken (placed - taken))
+    → slot.size ≡ shape.frame_size → slot.status ≡ 4 → slot.request ≡ (slot_at slots (taken % shape.frame_nr)).request
+    → Keeps (state_in shape skip (set slots (taken % shape.frame_nr) slot) placed taken (Some (taken % shape.frame_nr))) (set slots (taken % shape.frame_nr) slot) taken
+stopped_keeps shape skip slots placed taken stopped slot keeps left stays bad size status request =
+    let n = shape.frame_nr in
+    let at = taken % n in
+    let count = length-set slots at slot in
+    let places = keeps.places in
+    let some = keeps.some in
+    let low = mod-lt taken some in
+    let within : at < length slots = omega arith in
+    let requests = same_requests n slots (set slots at slot) taken (placed - taken) (same_at slots at slot within request) in
+    record {
+      places = count ∙ places;
+      some = some;
+      least = keeps.least;
+      order = keeps.order;
+      few = keeps.few;
+      sizes = each_slot (λ k s. s.size ≡ shape.frame_size) slots at slot within size (λ k less other. keeps.sizes k less);
+      marks = each_slot (λ k s. s.status ≡ status_by (Some at) (is_among n k taken (placed - taken)) k) slots at slot within
+          (status ∙ rw (eq-eqb at at refl) refl)
+          (λ k less other. keeps.marks k less ∙ stopped_there stopped shape skip slots placed taken k keeps.stop (is_among n k taken (placed - taken)) other);
+      stop = record { front = refl; bad = subst (BeginsBad (room_of shape)) (sym requests) bad; stays = stays };
+    }
+
+-- the requests of a ring that stopped
+pub stopped_state : (shape : RingRequest) (skip : Bool) (slots : List SlotState) (placed taken : ℕ) (stopped : Option ℕ) (slot : SlotState)
+    → Keeps (state_in shape skip slots placed taken stopped) slots taken
+    → slot.request ≡ (slot_at slots (taken % shape.frame_nr)).request
+    → state_in shape skip (set slots (taken % shape.frame_nr) slot) placed taken (Some (taken % shape.frame_nr))
+    ≡ record (state_in shape skip slots placed taken stopped) { stopped = Some (taken % shape.frame_nr) }
+stopped_state shape skip slots placed taken stopped slot keeps request =
+    let n = shape.frame_nr in
+    let places = keeps.places in
+    let some = keeps.some in
+    let low = mod-lt taken some in
+    let within : taken % n < length slots = omega arith in
+    let requests = same_requests n slots (set slots (taken % n) slot) taken (placed - taken) (same_at slots (taken % n) slot within request) in
+    rw requests refl
+
+-- a ring of empty slots
+pub opened : (shape : RingRequest) (skip : Bool) → 0 < shape.frame_nr → 68 ≤ shape.frame_size
+    → Keeps (new_ring shape skip) (replicate shape.frame_nr (empty_slot shape.frame_size)) 0
+opened shape skip some least =
+    let size = length-replicate shape.frame_nr (empty_slot shape.frame_size) in
+    let empty : (at : ℕ) → at < length (replicate shape.frame_nr (empty_slot shape.frame_size)) → slot_at (replicate shape.frame_nr (empty_slot shape.frame_size)) at ≡ empty_slot shape.frame_size =
+    λ at less. get_or-replicate shape.frame_nr at (empty_slot shape.frame_size) (empty_slot 0) (omega arith) in
+    record {
+      places = size;
+      some = some;
+      least = least;
+      order = omega arith;
+      few = omega arith;
+      sizes = λ at less. ap (λ (s : SlotState). s.size) (empty at less);
+      marks = λ at less. ap (λ (s : SlotState). s.status) (empty at less);
+      stop = tt;
+    }
+
+-- requests of which there are some and whose first one is bad begin with a bad one
+pub begins_bad : (room : ℕ) (requests : List Request) → 0 < length requests → is_good room (front_of requests) ≡ false → BeginsBad room requests
+begins_bad room [] some bad = absurd (omega arith)
+begins_bad room (request ∷ requests) some bad = bad
+
+-- a bad first request isn't good
+not_good : (room : ℕ) (requests : List Request) → BeginsBad room requests → is_good room (front_of requests) ≡ true → ⊥
+not_good room [] bad good = bad
+not_good room (request ∷ requests) bad good = true≢false (sym good ∙ bad)
+
+not_stopped_by : (ring : TxState) (taken : ℕ) (stopped : Option ℕ) → IfSome stopped (HasStopped ring taken)
+    → (is_good (room_of ring.shape) (front_of ring.requests) ≡ true) ⊎ (ring.skip_bad ≡ true) → stopped ≡ None
+not_stopped_by ring taken None stop going = refl
+not_stopped_by ring taken (Some slot) stop (inl good) = absurd (not_good (room_of ring.shape) ring.requests stop.bad good)
+not_stopped_by ring taken (Some slot) stop (inr skips) = absurd (true≢false (sym skips ∙ stop.stays))
+
+-- a ring whose first request is good, or that passes bad ones over, hasn't stopped
+pub not_stopped : (ring : TxState) (taken : ℕ) → IfSome ring.stopped (HasStopped ring taken)
+    → (is_good (room_of ring.shape) (front_of ring.requests) ≡ true) ⊎ (ring.skip_bad ≡ true) → ring.stopped ≡ None
+not_stopped ring taken stop going = not_stopped_by ring taken ring.stopped stop going
+
+-- the status of a slot by the number of slots that were taken
+pub status_is : (shape : RingRequest) (skip : Bool) (slots : List SlotState) (placed taken : ℕ) (stopped : Option ℕ) (at : ℕ) → taken ≤ placed
+    → status_of (state_in shape skip slots placed taken stopped) at ≡ status_by stopped (is_among shape.frame_nr at taken (placed - taken)) at
+status_is shape skip slots placed taken stopped at order =
+    let front : placed - (placed - taken) ≡ taken = omega arith in
+    rw (length-requests_in shape.frame_nr slots taken (placed - taken), front) refl

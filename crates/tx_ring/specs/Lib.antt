@@ -1,0 +1,6 @@
+pub mod Slots
+pub mod Rings
+pub mod Sending
+pub mod Keeping
+pub mod Transmitting
+pub mod Laws

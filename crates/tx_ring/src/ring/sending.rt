@@ -1,0 +1,142 @@
+//! How the requested slots of a ring are sent, from the front.
+ghost use Rattle.std.specs.Prelude.{◌≡◌, ◌+◌, ◌^◌, ◌<◌, ◌≤◌, ◌++◌, ℕ, false, true, None, Some, IfOk, Err, length};
+ghost use Rattle.tx_ring.specs.Rings.{front_slot, room_of};
+ghost use Rattle.tx_ring.specs.Sending.{FrontTaken, IsBrokenOff, OnMemory, UnlessMemory, after_send, after_taking, counted, front_of, is_good, packet_of, packets_sent, send_answer};
+ghost use Rattle.tx_ring.specs.declared.error.SendError.TheVariants as errors;
+
+use super::{Sent, TxRing};
+use crate::SendError;
+use crate::slot_fields::{AVAILABLE, WRONG_FORMAT};
+use crate::slots::Slot;
+use frame_view::{ByteList, Memory, Packet, Packets};
+
+/// The fewest bytes of a frame: an Ethernet header.
+const LEAST: usize = 14;
+
+impl TxRing {
+    /// Takes the requested slots in order, and appends the packet of each good one, which is available then. A bad slot
+    /// stops the ring for good, or with `skip_bad` is passed over. What was appended before an error stays; after
+    /// `Memory` the slot in question is still requested.
+    pub fn send(&mut self, out: &mut Packets) -> Result<Sent, SendError>
+        ensures answer { UnlessMemory result (result ≡ send_answer self.old) }
+        ensures ring { UnlessMemory result (self.new ≡ after_send self.old) }
+        ensures packets { UnlessMemory result (out.new ≡ out.old ++ packets_sent self.old) }
+        ensures memory { OnMemory result
+            ((count : ℕ) × IsBrokenOff count self.old self.new out.old out.new) }
+        ensures stays { (slot : ℕ) → self.old.stopped ≡ Some slot →
+            (result ≡ Err (errors.BadSlot slot)) × (self.new ≡ self.old) × (out.new ≡ out.old) }
+    {
+        if let Some(slot) = self.stopped {
+            return Err(SendError::BadSlot(slot));
+        }
+        let mut counts = Sent {
+            sent: 0,
+            skipped: 0,
+        };
+        for _ in 0..self.requested() {
+            let is_sent = self.take_front(out)?;
+            counts = count_one(counts, is_sent);
+        }
+        Ok(counts)
+    }
+
+    /// The number of slots that are requested.
+    fn requested(&self) -> u32
+        ensures { result ≡ length self.now.requests }
+    {
+        let _most = self.shape.frame_nr();
+        (self.placed - self.taken) as u32
+    }
+
+    /// Takes the first requested slot: sends it, passes it over, or stops the ring there. It tells whether it was sent.
+    fn take_front(&mut self, out: &mut Packets) -> Result<bool, SendError>
+        requires some { 0 < length self.old.requests }
+        ensures { FrontTaken self.old self.new out.old out.new result }
+    {
+        if self.front_is_good() {
+            let packet = self.front_packet()?;
+            out.push(packet)?;
+            self.free_front();
+            return Ok(true);
+        }
+        if self.skip_bad {
+            self.free_front();
+            return Ok(false);
+        }
+        Err(SendError::BadSlot(self.stop_front()))
+    }
+
+    /// The first requested slot.
+    fn front(&self) -> &Slot
+        requires some { 0 < length self.now.requests }
+        ensures request { result.now.request ≡ front_of self.now.requests }
+        ensures size { result.now.size ≡ self.now.shape.frame_size }
+    {
+        &self.slots[self.slot_of(self.taken)]
+    }
+
+    /// Whether the first requested slot is good.
+    fn front_is_good(&self) -> bool
+        requires some { 0 < length self.now.requests }
+        ensures { result ≡ is_good (room_of self.now.shape) (front_of self.now.requests) }
+    {
+        let front = self.front();
+        let asked = front.asked() as usize;
+        front.next_offset() == 0 && LEAST <= asked && asked <= self.room()
+    }
+
+    /// The packet of the first requested slot, which is good.
+    fn front_packet(&self) -> Result<Packet, Memory>
+        requires some { 0 < length self.now.requests }
+        requires good { is_good (room_of self.now.shape) (front_of self.now.requests) ≡ true }
+        ensures { IfOk result (λ packet. packet ≡ packet_of (front_of self.now.requests)) }
+    {
+        let front = self.front();
+        let frame = Vec::from_slice(self.alloc, front.data(front.asked() as usize))?;
+        Ok(Packet::plain(ByteList::from_vec(frame)))
+    }
+
+    /// Makes the first requested slot available, whose request was taken.
+    fn free_front(&mut self)
+        requires some { 0 < length self.old.requests }
+        requires going { self.old.stopped ≡ None }
+        ensures { self.new ≡ after_taking 1 self.old }
+    {
+        let at = self.slot_of(self.taken);
+        self.slots[at].set_status(AVAILABLE);
+        self.taken += 1;
+    }
+
+    /// Stops the ring at the first requested slot, which is bad, and tells its number.
+    fn stop_front(&mut self) -> u32
+        requires some { 0 < length self.old.requests }
+        requires bad { is_good (room_of self.old.shape) (front_of self.old.requests) ≡ false }
+        requires stays { self.old.skip_bad ≡ false }
+        ensures slot { result ≡ front_slot self.old }
+        ensures stopped { self.new ≡ record self.old { stopped = Some result } }
+    {
+        let at = self.slot_of(self.taken);
+        self.slots[at].set_status(WRONG_FORMAT);
+        let slot = at as u32;
+        self.stopped = Some(slot);
+        slot
+    }
+}
+
+/// The counts with one slot more that was sent or passed over.
+fn count_one(counts: Sent, is_sent: bool) -> Sent
+    requires { counts.sent + counts.skipped + 1 < 2 ^ 32 }
+    ensures { result ≡ counted counts is_sent }
+{
+    if is_sent {
+        Sent {
+            sent: counts.sent + 1,
+            ..counts
+        }
+    } else {
+        Sent {
+            skipped: counts.skipped + 1,
+            ..counts
+        }
+    }
+}
