@@ -1,18 +1,18 @@
 #!/usr/bin/env python3
 """Times `ringtap replay` on captures of 4 to 32 MiB, beside `tcpdump -r IN -w OUT` of the same file in the same run; then
-groups of several members and CPUs, with a filter, and with reassembly.
+groups of several members and CPUs, with a filter, and with reassembly; then `ringtap make` and `ringtap send`.
 
     bench/run.py [--sizes 4,8,16,32] [--runs 5] [PROGRAM]
 
 PROGRAM is crates/ringtap/out/ringtap where none is named; it is built where it isn't there. The captures have frames of 60
 bytes, of 1514 bytes, or of 60, 590 and 1514 bytes by turns. Each is replayed with a ring that keeps every frame and with one
-that drops. Files are written below bench/work.
+that drops. Those of 60 and of 1514 bytes are sent through a ring of 2048 slots. Files are written below bench/work.
 
 Time is that from start to end, CPU that of the processor for user and system, each the least of some runs. Memory is the
 largest resident size; the system counts no less than this script's own, about 14 MiB.
 
-It ends with status 1 where a run fails, where CPU time or memory grows by more than 2.2 times from 16 to 32 MiB, or where
-memory grows by more than 256 bytes for each frame that a filter refuses.
+It ends with status 1 where a run fails, where CPU time or memory grows by more than 2.2 times from 16 to 32 MiB or from 10,000
+to 20,000 made frames, or where memory grows by more than 256 bytes for each frame that a filter refuses.
 """
 import argparse
 import os
@@ -31,7 +31,10 @@ RINGS = {
     "keeps": {"block_size": MIB, "block_nr": 64, "frame_size": 2048, "frame_nr": 64 * MIB // 2048},
     "drops": {"block_size": 4096, "block_nr": 2, "frame_size": 2048, "frame_nr": 4},
 }
+SLOTS = {"block_size": 65536, "block_nr": 64, "frame_size": 2048, "frame_nr": 2048}
 GROWTH = 2.2
+# The pairs of sizes between which CPU time and memory are compared.
+DOUBLES = {"MiB": (16, 32), "made frames": (10_000, 20_000)}
 
 
 def make_capture(path, size, lengths):
@@ -160,16 +163,19 @@ def main():
                 write_setup("conf", numbers)
                 taken, cpu, memory, printed = measure([program, "replay", "conf", "sched"], asked.runs)
                 kept, drops = tested(kind, ring, count, printed)
-                found[kind, size, ring] = cpu, memory
+                found[f"{kind}, ring that {ring}", size] = cpu, memory
                 ratio = f"{taken / by_dump:.1f}" if by_dump else "-"
                 print(
                     f"| {kind} | {size} | {ring} | {kept:,} | {drops:,} | {taken:.3f} | {cpu:.3f} | {size / taken:.0f}"
                     f" | {memory / MIB:.0f} | {ratio} |",
                     flush=True,
                 )
-    groups, kinds = times_of_groups(program, asked), memory_of_refused(program, asked)
+    found.update(times_of_groups(program, asked))
+    found.update(times_of_made(program, asked))
+    found.update(times_of_sent(program, asked))
+    is_large = memory_of_refused(program, asked)
     shutil.rmtree(WORK)
-    sys.exit(1 if grows({**found, **groups}) or kinds else 0)
+    sys.exit(1 if grows(found) or is_large else 0)
 
 
 def times_of_groups(program, asked):
@@ -185,7 +191,7 @@ def times_of_groups(program, asked):
         write_setup("conf", RINGS["keeps"], cpus, GROUPS[kind])
         taken, cpu, memory, printed = measure([program, "replay", "conf", "sched"], asked.runs)
         if cpus == 1:
-            found[kind, size, "group"] = cpu, memory
+            found[f"{kind} of a group", size] = cpu, memory
         kept, drops = total_of(printed)
         if drops or not kept:
             sys.exit(f"{kind}: {kept} kept, {drops} dropped")
@@ -194,6 +200,45 @@ def times_of_groups(program, asked):
             f" | {memory / MIB:.0f} |",
             flush=True,
         )
+    return found
+
+
+def times_of_made(program, asked):
+    """Prints the table of made frames, and gives their CPU times and memory. The MiB are those of the files that are saved."""
+    print("\n| Made | MiB | CPUs | Frames | Time, s | CPU, s | MiB/s | Memory, MiB |")
+    print("|---|---|---|---|---|---|---|---|")
+    found = {}
+    for count in (5_000, 10_000, 20_000):
+        write_setup("conf", SLOTS, 2, f"priv 16\n{GROUPS['defrag']}make 1 {count}\n")
+        taken, cpu, memory, printed = measure([program, "make", "conf"], asked.runs)
+        found["make", count] = cpu, memory
+        if total_of(printed) != (count, 0):
+            sys.exit(f"make of {count} frames: {printed}")
+        size = sum(os.path.getsize(f"out.{member}.pcap") for member in range(4)) / MIB
+        print(
+            f"| make | {size:.1f} | 2 | {count:,} | {taken:.3f} | {cpu:.3f} | {size / taken:.0f} | {memory / MIB:.0f} |",
+            flush=True,
+        )
+    return found
+
+
+def times_of_sent(program, asked):
+    """Prints the table of captures that are sent, and gives their CPU times and memory."""
+    print("\n| Sent | MiB | Frames | Time, s | CPU, s | MiB/s | Memory, MiB |")
+    print("|---|---|---|---|---|---|---|")
+    write_setup("conf", SLOTS)
+    found = {}
+    for kind in ("60", "1514"):
+        for size in map(int, asked.sizes.split(",")):
+            count = make_capture("in.pcap", size * MIB, FRAMES[kind])
+            taken, cpu, memory, printed = measure([program, "send", "conf"], asked.runs)
+            found[f"{kind}, sent", size] = cpu, memory
+            if printed.splitlines()[-1] != f"send sent {count} skipped 0 stop none":
+                sys.exit(f"send of {count} frames: {printed}")
+            print(
+                f"| {kind} | {size} | {count:,} | {taken:.3f} | {cpu:.3f} | {size / taken:.0f} | {memory / MIB:.0f} |",
+                flush=True,
+            )
     return found
 
 
@@ -214,18 +259,19 @@ def memory_of_refused(program, asked):
 
 
 def grows(found):
-    """Prints how CPU time and memory grow from 16 to 32 MiB, and gives whether one of them grows too much."""
+    """Prints how CPU time and memory grow where the input doubles, and gives whether one of them grows too much."""
     too_much = False
-    for (kind, size, ring), (cpu, memory) in found.items():
-        if size == 32 and (kind, 16, ring) in found:
-            before, small = found[kind, 16, ring]
-            in_time, in_memory = cpu / before, memory / small
-            is_bad = max(in_time, in_memory) > GROWTH
-            too_much = too_much or is_bad
-            print(
-                f"from 16 to 32 MiB, {kind}, ring that {ring}: CPU time by {in_time:.2f}, memory by {in_memory:.2f}"
-                f"{', which is too much' if is_bad else ''}"
-            )
+    for unit, (half, whole) in DOUBLES.items():
+        for (what, size), (cpu, memory) in found.items():
+            if size == whole and (what, half) in found:
+                before, small = found[what, half]
+                in_time, in_memory = cpu / before, memory / small
+                is_bad = max(in_time, in_memory) > GROWTH
+                too_much = too_much or is_bad
+                print(
+                    f"from {half:,} to {whole:,} {unit}, {what}: CPU time by {in_time:.2f}, memory by {in_memory:.2f}"
+                    f"{', which is too much' if is_bad else ''}"
+                )
     return too_much
 
 

@@ -1,9 +1,11 @@
 #!/usr/bin/env python3
-"""What `ringtap replay` has to print and to save, worked out a second time and apart from its code.
+"""What ringtap's runs have to print and to save, worked out a second time and apart from its code.
 
-    by_hand.py SETUP SCHEDULE [FOLDER]      prints the lines, and writes the files that are saved below a folder
-    by_hand.py --frames CAPTURE             prints a line for each frame: its time, both lengths and its bytes
-    by_hand.py --demo                       writes demo/expected anew
+    by_hand.py replay SETUP SCHEDULE [FOLDER]   prints the lines, and writes the files that are saved below a folder
+    by_hand.py make SETUP [FOLDER]              the same of frames that are made from the setup's number
+    by_hand.py send SETUP [FOLDER]              the same of a capture that is sent through a transmit ring
+    by_hand.py --frames CAPTURE                 prints a line for each frame: its time, both lengths and its bytes
+    by_hand.py --demo                           writes demo/expected anew
 
 It follows docs/formats.md, docs/setup.md and docs/definitions.md with lists and slices, for texts that are accepted. Paths
 in a setup count from the folder in which this is run, as they do for ringtap.
@@ -19,6 +21,7 @@ LARGEST_CAPTURE = 33_554_432
 LARGEST_RECORD = 262_144
 DESCRIPTOR = 48  # the bytes of a block that are for its descriptor
 HEADER = 82  # the bytes of a packet in front of its data
+SLOT_HEADER = 48  # the bytes of a transmit slot in front of its data
 
 Frame = namedtuple("Frame", "cpu index sec nsec wire bytes tag")
 Offer = namedtuple("Offer", "frame snap hash pkttype")
@@ -285,16 +288,19 @@ class Setup:
     """What an accepted setup says."""
 
     def __init__(self, text):
-        fields, self.cpus, self.flags = {}, [], set()
+        fields, self.cpus, self.flags, self.made = {}, [], set(), None
         for line in text.splitlines():
             word, *values = line.split() or ["#"]
             if word == "cpu":
                 self.cpus.append((values[0], int(values[1]) if len(values) > 1 else len(self.cpus)))
             elif word == "flag":
                 self.flags.add(values[0])
+            elif word == "make":
+                self.made = int(values[0]), int(values[1])
             elif not word.startswith("#"):
                 fields[word] = values[0]
         self.block_size, self.block_nr = int(fields["block_size"]), int(fields["block_nr"])
+        self.slot_room, self.skip_bad = int(fields["frame_size"]) - SLOT_HEADER, "skip_bad" in fields
         self.priv, self.features = int(fields.get("priv", 0)), int(fields.get("features", 0))
         self.tov = int(fields.get("tov", 0)) or 8
         self.room = self.block_size - DESCRIPTOR - (self.priv + 7) // 8 * 8
@@ -401,6 +407,61 @@ def replay(setup, schedule, captures, program=None):
     return "".join(run.lines()), run.files()
 
 
+def draws(state):
+    """The numbers that follow from a seed."""
+    while True:
+        state = (state * 6364136223846793005 + 1442695040888963407) % 2**64
+        yield state // 2**32
+
+
+def made_frames(seed, count):
+    """So many UDP datagrams of IPv4 from a seed."""
+    numbers = draws(seed)
+    for i in range(count):
+        a, b, c, d = (next(numbers) for _ in range(4))
+        payload = bytes((i + j) % 256 for j in range(d % 1401))
+        ends = struct.pack(">II", 0x0A000000 + a % 65536, 0x0A010000 + b % 256)
+        start, rest = struct.pack(">BBHHHBB", 0x45, 0, 28 + len(payload), i % 65536, 0x4000, 64, 17), ends
+        total = sum(number(start + rest, place, 2) for place in range(0, 18, 2))
+        while total > 0xFFFF:
+            total = (total & 0xFFFF) + (total >> 16)
+        head = start + (total ^ 0xFFFF).to_bytes(2, "big") + rest
+        ports = struct.pack(">HHHH", 1024 + c % 4096, 53, 8 + len(payload), 0)
+        data = bytes.fromhex("020000000002" "020000000001" "0800") + head + ports + payload
+        yield Frame(0, i, i // 1000, i % 1000 * 1_000_000, len(data), data, None)
+
+
+def made_schedule(count, cpus, members):
+    """The lines by which made frames are replayed."""
+    reads = "".join(2 * f"read {member}\n" for member in range(members))
+    return "".join(f"feed {i % cpus}\n" + (reads if i % 64 == 63 else "") for i in range(count))
+
+
+def make(setup, program=None):
+    """The printed lines and the files of a run over made frames."""
+    (seed, count), cpus = setup.made, len(setup.cpus)
+    frames = list(made_frames(seed, count))
+    captures = [output_of(frames[cpu::cpus]) for cpu in range(cpus)]
+    return replay(setup, made_schedule(count, cpus, setup.members), captures, program)
+
+
+def send(setup, capture):
+    """The printed lines and the file of a capture that is sent."""
+    frames, end = frames_of(capture)
+    sent, skipped, stop = [], 0, "none"
+    for frame in frames:
+        size = len(frame.bytes)
+        if 14 <= size <= setup.slot_room:
+            sent.append(frame._replace(sec=0, nsec=0, wire=size))
+        elif size > setup.slot_room and setup.skip_bad:
+            skipped += 1
+        elif size > setup.slot_room:
+            stop = frame.index
+            break
+    lines = f"cpu 0 frames {len(frames)} end {end}\nsend sent {len(sent)} skipped {skipped} stop {stop}\n"
+    return lines, {f"{setup.prefix}.tx.pcap": output_of(sent)}
+
+
 def output_of(packets):
     """The file of packets: pcap 2.4, little-endian, in nanoseconds, with each tag put back."""
     parts = [struct.pack("<IHHiIII", 0xA1B23C4D, 2, 4, 0, 0, 262_144, 1)]
@@ -424,10 +485,14 @@ def bytes_of(path):
         return file.read()
 
 
-def run(setup_path, schedule_path):
-    """The printed lines and the files of two texts."""
+def run(command, setup_path, schedule_path=None):
+    """The printed lines and the files of a command."""
     setup = Setup(text_of(setup_path))
+    if command == "send":
+        return send(setup, bytes_of(setup.cpus[0][0]))
     program = filter_verdicts.program(text_of(setup.filter)) if setup.filter else None
+    if command == "make":
+        return make(setup, program)
     return replay(setup, text_of(schedule_path), [bytes_of(file) for file, _ in setup.cpus], program)
 
 
@@ -437,26 +502,36 @@ def save(folder, files):
             file.write(data)
 
 
+DEMO = {
+    "setup": ["replay", "demo/setup.txt", "demo/schedule.txt"],
+    "small": ["replay", "demo/small.txt", "demo/schedule.txt"],
+    "group": ["replay", "demo/group.txt", "demo/group.sched"],
+    "make": ["make", "demo/make.txt"],
+    "send": ["send", "demo/send.txt"],
+}
+
+
 def make_demo():
     os.chdir(os.path.join(os.path.dirname(os.path.abspath(__file__)), ".."))
-    for name in ("setup", "small", "group"):
-        lines, files = run(f"demo/{name}.txt", "demo/group.sched" if name == "group" else "demo/schedule.txt")
+    for name, words in DEMO.items():
+        lines, files = run(*words)
         folder = os.path.join("demo/expected", name)
         os.makedirs(folder, exist_ok=True)
         save(folder, {**files, "lines.txt": lines.encode()})
 
 
 def main(words):
+    texts = {"replay": 2, "make": 1, "send": 1}.get(words[0] if words else None, 0)
     if words == ["--demo"]:
         make_demo()
     elif len(words) == 2 and words[0] == "--frames":
         for frame in frames_of(bytes_of(words[1]))[0]:
             print(f"{frame.sec}.{frame.nsec:09} {len(frame.bytes)} {frame.wire} {frame.bytes.hex()}")
-    elif len(words) in (2, 3):
-        lines, files = run(words[0], words[1])
+    elif texts and len(words) in (1 + texts, 2 + texts):
+        lines, files = run(*words[: 1 + texts])
         sys.stdout.write(lines)
-        if len(words) == 3:
-            save(words[2], files)
+        if len(words) > 1 + texts:
+            save(words[-1], files)
     else:
         sys.exit(__doc__)
 

@@ -14,24 +14,32 @@ same() {
     diff -r "$1" "demo/expected/$2" >differs.txt || wrong "$2: $3: $(head -3 differs.txt)"
 }
 
-for name in setup small group; do
-    schedule=demo/schedule.txt
-    [ "$name" != group ] || schedule=demo/group.sched
+# The words of a demo: its command and its texts.
+words_of() {
+    case $1 in
+    make | send) words=("$1" "demo/$1.txt") ;;
+    group) words=(replay demo/group.txt demo/group.sched) ;;
+    *) words=(replay "demo/$1.txt" demo/schedule.txt) ;;
+    esac
+}
+
+for name in setup small group make send; do
+    words_of "$name"
     for program in "${programs[@]}"; do
         rm -rf made && mkdir made
         "$program" check "demo/$name.txt" >checked.txt || wrong "$name isn't accepted"
         [ "$(cat checked.txt)" = ok ] || wrong "$name: check printed '$(cat checked.txt)'"
-        "$program" replay "demo/$name.txt" "$schedule" >made/lines.txt
+        "$program" "${words[@]}" >made/lines.txt
         status=$?
         [ "$status" -eq 0 ] || wrong "$name ended with status $status"
-        for file in out.* group.*; do
+        for file in *.pcap *.blk; do
             [ ! -e "$file" ] || mv "$file" made
         done
         same made "$name" 'the program gives something else'
     done
     if command -v python3 >/dev/null; then
         rm -rf by_hand && mkdir by_hand
-        python3 -B "$top/checks/by_hand.py" "demo/$name.txt" "$schedule" by_hand >lines.txt
+        python3 -B "$top/checks/by_hand.py" "${words[@]}" by_hand >lines.txt
         mv lines.txt by_hand
         same by_hand "$name" 'by_hand.py gives something else'
     fi

@@ -58,10 +58,23 @@ saved() {
     cmp -s out.0.pcap "$room/whole.pcap" || wrong "$1: out.0.pcap isn't what it is without the fault"
 }
 
+# What was sent of the demo's capture: the frames before the first one that doesn't fit into a slot.
+sent() {
+    if command -v python3 >/dev/null; then
+        python3 -B "$top/checks/by_hand.py" send conf "$room" >/dev/null
+        cmp -s out.tx.pcap "$room/out.tx.pcap" || wrong "$1: out.tx.pcap isn't what was to be sent"
+    fi
+}
+
 usage='usage: ringtap check|replay|capture|send|make CONF [SCHED]'
 fault='cpu 0 frames 0 arrivals 0 end fault
 member 0 packets 0 drops 0 freezes 0 blocks 0
 total arrivals 0 filtered 0 kept 0 drops 0'
+
+whole_send='cpu 0 frames 52 end ok
+send sent 43 skipped 0 stop 43'
+failed_send='cpu 0 frames 0 end fault
+send sent 0 skipped 0 stop none'
 
 without_a_fault() {
     fresh
@@ -157,11 +170,82 @@ saving_and_printing() {
     done
 }
 
+sending() {
+    fresh
+    printf 'filter none\nticks none\ncpu none\n' >>conf
+    expect 'a send, of more files than it reads' 0 "$whole_send" send conf
+    sent 'a send'
+    [ ! -e out.0.pcap ] || wrong 'a send: a run was made'
+    for name in none . conf/; do
+        fresh
+        setup "$name" >conf
+        expect "'$name' as the capture of a send" 5 "$failed_send" send conf
+        [ "$(wc -c <out.tx.pcap)" -eq 24 ] || wrong "'$name' as the capture of a send: the output isn't a header alone"
+        fresh
+        expect "'$name' as the setup of a send" 5 'read fault' send "$name"
+        [ ! -e out.tx.pcap ] || wrong "'$name' as the setup of a send: a file was saved"
+    done
+    fresh
+    head -c 17000 in.pcap >cut.pcap && setup cut.pcap >conf
+    expect 'a cut capture, sent' 4 - send conf
+    grep -q '^cpu 0 frames 51 end truncated ' "$said" || wrong "a cut capture, sent: printed '$(cat "$said")'"
+    sent 'a cut capture, sent'
+    fresh
+    printf 'tov 1\n' >>conf
+    expect 'a time-out for a transmit ring' 2 'setup line 0: request transmit' send conf
+    fresh
+    mkdir out.tx.pcap
+    expect 'a folder as the output of a send' 6 "$whole_send" send conf
+    fresh
+    ln -s /dev/full out.tx.pcap
+    expect 'a full device as the output of a send' 6 "$whole_send" send conf
+    fresh
+    timeout 60 "${as_nobody[@]}" "$room/ringtap" send conf >/dev/full 2>"$room/complained"
+    check 'a send, standard output full' 6 $?
+    sent 'a send, standard output full'
+}
+
+making() {
+    fresh
+    setup none >conf
+    printf 'make 1 100\ncpu none\nticks none\nmembers 2\nout made\n' >>conf
+    expect 'a make, of captures that are not there' 0 - make conf
+    [ "$(grep -c '^cpu [01] frames 50 arrivals 50 end ok$' "$said")" -eq 2 ] || wrong "a make: printed '$(cat "$said")'"
+    if command -v python3 >/dev/null; then
+        mkdir "$room/made"
+        python3 -B "$top/checks/by_hand.py" make conf "$room/made" | cmp -s - "$said" || wrong 'a make: other lines'
+        for file in "$room"/made/*; do
+            cmp -s "$file" "${file##*/}" || wrong "a make: another ${file##*/}"
+        done
+        rm -r "$room/made"
+    fi
+    for name in none . conf/; do
+        expect "'$name' as the setup of a make" 5 'read fault' make "$name"
+    done
+    printf 'filter none\n' >>conf
+    expect 'a make with a filter that is not there' 5 'read fault' make conf
+    fresh
+    expect 'a make without a number' 2 'setup line 0: missing make' make conf
+    [ ! -e out.0.pcap ] || wrong 'a make without a number: a run was made'
+    printf 'make 1 0\n' >>conf
+    expect 'a make of no frame' 2 'setup line 6: bad_number' make conf
+    fresh
+    printf 'make 1 10\n' >>conf
+    mkdir out.0.pcap
+    expect 'a folder as the output of a make' 6 - make conf
+    grep -q '^total arrivals 10 ' "$said" || wrong "a folder as the output of a make: printed '$(cat "$said")'"
+}
+
 words() {
     fresh
     expect 'no word' 1 "$usage"
     expect 'no schedule' 1 "$usage" replay conf
     expect 'a word too many' 1 "$usage" replay conf sched sched
+    for command in check send make; do
+        expect "$command without a setup" 1 "$usage" "$command"
+        expect "$command with a schedule" 1 "$usage" "$command" conf sched
+        expect "$command with an empty setup" 1 "$usage" "$command" ''
+    done
     expect 'an empty setup' 1 "$usage" replay '' sched
     expect 'an empty schedule' 1 "$usage" replay conf ''
     expect 'a command that is not built' 1 "$usage" capture conf
@@ -206,6 +290,8 @@ for program in "${programs[@]}"; do
     captures
     [ "$has_rights" = no ] || rights
     saving_and_printing
+    sending
+    making
     words
 done
 cd "$top" || exit 1

@@ -1,6 +1,6 @@
 #!/usr/bin/env bash
-# Refuses each request for memory of one run, with a dump, in turn: every such run ends with status 7, or with the status, the
-# lines and the files of a run with ample memory.
+# Refuses each request for memory of a run in turn: of a replay with a dump, of a few frames that are made, and of a capture
+# that is sent. Every such run ends with status 7, or with the status, the lines and the files of a run with ample memory.
 set -u
 source "$(dirname "${BASH_SOURCE[0]}")/common.bash"
 wants cc
@@ -10,24 +10,31 @@ cc -shared -fPIC -o "$room/refuse.so" checks/refuse.c -ldl || exit 1
 cp crates/ringtap/data/* "$room"
 cd "$room" || exit 1
 echo 'dump yes' >>setup.txt
-for program in "${programs[@]}"; do
-    rm -f out.0.*
-    "$program" replay setup.txt schedule.txt >ample.txt || wrong "the run with ample memory fails"
-    cp out.0.pcap ample.pcap
-    cp out.0.blk ample.blk
-    number=1
+{ cat setup.txt && echo 'make 1 3'; } >make.txt
+
+# Refuses each request of a run with these words. Its files begin with `out.`.
+refuse_each() {
+    local number=1 status
+    rm -rf out.* ample && mkdir ample
+    "$program" "$@" >ample/lines.txt || wrong "$1: the run with ample memory fails"
+    mv out.* ample
     while :; do
-        rm -f told out.0.*
-        REFUSED=$number TOLD=$room/told LD_PRELOAD=$room/refuse.so "$program" replay setup.txt schedule.txt >lines.txt
+        rm -rf told now out.* && mkdir now
+        REFUSED=$number TOLD=$room/told LD_PRELOAD=$room/refuse.so "$program" "$@" >now/lines.txt
         status=$?
         [ -e told ] || break
         if [ "$status" -ne 7 ]; then
-            [ "$status" -eq 0 ] && cmp -s lines.txt ample.txt && cmp -s out.0.pcap ample.pcap &&
-                cmp -s out.0.blk ample.blk ||
-                wrong "request $number refused: status $status"
+            mv out.* now
+            [ "$status" -eq 0 ] && diff -r now ample >/dev/null || wrong "$1: request $number refused: status $status"
         fi
         number=$((number + 1))
     done
-    [ "$number" -gt 20 ] || wrong "only $((number - 1)) requests were refused"
+    [ "$number" -gt 20 ] || wrong "$1: only $((number - 1)) requests were refused"
+}
+
+for program in "${programs[@]}"; do
+    refuse_each replay setup.txt schedule.txt
+    refuse_each make make.txt
+    refuse_each send setup.txt
 done
 exit "$failed"

@@ -1,9 +1,10 @@
 #!/usr/bin/env python3
-"""Replays made captures with a program, and compares its status, lines and files with those of by_hand.py.
+"""Replays captures of many kinds with a program, sends them, and has it make frames, and compares its status, lines and files
+with those of by_hand.py.
 
     replays.py PROGRAM
 
-A table of runs that were worked out with pencil and paper stands in front of them, so that by_hand.py is compared too.
+Tables of runs that were worked out with pencil and paper stand in front of them, so that by_hand.py is compared too.
 """
 import os
 import random
@@ -11,9 +12,14 @@ import struct
 import subprocess
 import sys
 import tempfile
+from collections import namedtuple
 
 import by_hand
 import filter_verdicts
+import made_values
+
+# A run: its command, its setup and schedule, the captures of the CPUs from 0 up, and the text of its filter, if it has one.
+Case = namedtuple("Case", "command setup schedule captures listing", defaults=("", [], None))
 
 SIZES = [(4096, 2, 2048, 4), (4096, 3, 128, 96), (8192, 2, 2048, 8), (65536, 4, 2048, 128)]
 
@@ -178,19 +184,86 @@ def group_case(numbers):
     return text, random_schedule(numbers, cpus, members), captures, listing
 
 
+# The rings of sent captures: a slot has 2000, 80, 4048, 32 or 1,048,528 bytes of room.
+SLOTS = [(4096, 2, 2048, 4), (4096, 3, 128, 96), (4096, 2, 4096, 2), (8192, 2, 80, 204), (1_048_576, 3, 1_048_576, 3)]
+# Lines that say nothing to `send`, which reads none of these files.
+UNUSED = "members 3\nmode lb\nflag defrag\nfilter none.ddd\nticks none.txt\ndump yes\nout sent\ntov 0\npriv 0\n"
+
+# The lengths of the frames of a capture that is sent through slots of 2000 bytes of room, whether longer ones are passed over,
+# and what follows: how many are sent, how many are passed over, where the ring stops, and the lengths that are saved.
+SENT = [
+    ([60, 3000, 60], False, (1, 0, 1), [60]),
+    ([60, 3000, 60], True, (2, 1, "none"), [60, 60]),
+    ([], False, (0, 0, "none"), []),
+    ([13, 0, 14, 13, 2001, 60], False, (1, 0, 4), [14]),
+    ([13, 0, 14, 13, 2001, 60], True, (2, 1, "none"), [14, 60]),
+    ([2000, 1999, 60, 60, 61, 62, 63, 64, 65], False, (9, 0, "none"), [2000, 1999, 60, 60, 61, 62, 63, 64, 65]),
+    ([60] * 4 + [9000], False, (4, 0, 4), [60] * 4),
+    ([9000] * 5, True, (0, 5, "none"), []),
+]
+
+
+def sent_cases():
+    """The table: a case, its lines and the length of its file."""
+    for lengths, skips, (sent, skipped, stop), saved in SENT:
+        text = setup_text(SIZES[0]) + "skip_bad yes\n" * skips
+        lines = f"cpu 0 frames {len(lengths)} end ok\nsend sent {sent} skipped {skipped} stop {stop}\n"
+        capture = header() + b"".join(record(frame(size)) for size in lengths)
+        yield Case("send", text, captures=[capture]), lines, 24 + sum(16 + size for size in saved)
+
+
+def sends():
+    """Captures that are sent, with and without longer frames, runts, tags, cuts, and more frames than slots."""
+    for case, _, _ in sent_cases():
+        yield case
+    numbers = random.Random(2)
+    captures = [*small_captures(), *(random_capture(numbers) for _ in range(60))]
+    for capture in captures:
+        for skips in ("", "skip_bad yes\n"):
+            size = numbers.choice(SLOTS)
+            text = setup_text(size, numbers.randrange(1, 4)) + skips + numbers.choice(["", UNUSED])
+            yield Case("send", text, captures=[capture])
+    for capture in large_captures():
+        yield Case("send", setup_text(SLOTS[4]), captures=[capture])
+
+
+def makes():
+    """Frames that are made, for rings that keep them and rings that drop, and for counts round the 64 of its reads."""
+    numbers = random.Random(3)
+    for count in (1, 2, 7, 8, 63, 64, 65, 127, 128, 129, 500):
+        for cpus in (1, 3, 8):
+            text = setup_text(numbers.choice(SIZES), cpus)
+            yield Case("make", text + f"make {numbers.randrange(2**32)} {count}\n")
+    for _ in range(60):
+        text, _, _, listing = group_case(numbers)
+        text += numbers.choice(["", "ticks none.txt\n", "out made\n"])
+        seed = numbers.choice([0, 1, 2**32 - 1, numbers.randrange(2**32)])
+        yield Case("make", text + f"make {seed} {numbers.randrange(1, 900)}\n", listing=listing)
+    yield Case("make", LARGE)
+
+
+# The largest number of made frames.
+LARGE = (
+    "block_size 65536\nblock_nr 64\nframe_size 2048\nframe_nr 2048\npriv 16\ncpu a\ncpu b\nmembers 4\nmode hash\n"
+    f"key {KEY}\nflag defrag\nmake 1 20000\n"
+)
+
+
 def cases():
     for schedule, capture, _, _ in worked_cases():
-        yield setup_text(SIZES[0]), schedule, [capture], None
+        yield Case("replay", setup_text(SIZES[0]), schedule, [capture])
     for capture in small_captures():
         for size in SIZES:
-            yield setup_text(size), "feed 0\nread 0\nfeed 0\nfeed 0\n", [capture], None
+            yield Case("replay", setup_text(size), "feed 0\nread 0\nfeed 0\nfeed 0\n", [capture])
     for capture in large_captures():
-        yield setup_text((1_048_576, 64, 2048, 32768)), "", [capture], None
+        yield Case("replay", setup_text((1_048_576, 64, 2048, 32768)), "", [capture])
     numbers = random.Random(1)
     for _ in range(100):
-        yield setup_text(numbers.choice(SIZES)), random_schedule(numbers), [random_capture(numbers)], None
+        yield Case("replay", setup_text(numbers.choice(SIZES)), random_schedule(numbers), [random_capture(numbers)])
     for _ in range(200):
-        yield group_case(numbers)
+        yield Case("replay", *group_case(numbers))
+    yield from sends()
+    yield from makes()
 
 
 def setup_text(size, cpus=1):
@@ -207,23 +280,45 @@ def by_hand_differs():
         if printed != lines or len(files["out.0.pcap"]) != length:
             wrong += 1
             print(f"by_hand.py gives {printed!r} in place of {lines!r}")
+    for case, lines, length in sent_cases():
+        printed, files = worked_out(case)
+        if printed != lines or [len(data) for data in files.values()] != [length]:
+            wrong += 1
+            print(f"by_hand.py gives {printed!r} in place of {lines!r}")
+    if [frame.bytes for frame in by_hand.made_frames(7, 300)] != list(made_values.made(7, 300)):
+        wrong += 1
+        print("by_hand.py and made_values.py make other frames")
     return wrong
 
 
-def differs(program, text, schedule, captures, listing):
-    """What is wrong with a run in the present folder, if something is."""
+def worked_out(case):
+    """The lines and the files of a run."""
+    setup = by_hand.Setup(case.setup)
+    code = filter_verdicts.program(case.listing) if case.listing else None
+    if case.command == "send":
+        return by_hand.send(setup, case.captures[0])
+    if case.command == "make":
+        return by_hand.make(setup, code)
+    return by_hand.replay(setup, case.schedule, case.captures, code)
+
+
+def differs(program, case):
+    """What is wrong with a run in the present folder, if something is. No more files are there than the command reads."""
     for old in os.listdir("."):
         os.remove(old)
-    inputs = {"conf": text.encode(), "sched": schedule.encode()}
-    inputs.update((f"in{cpu}.pcap", capture) for cpu, capture in enumerate(captures))
-    if listing:
-        inputs["filter.ddd"] = listing.encode()
+    inputs = {"conf": case.setup.encode()}
+    inputs.update((f"in{cpu}.pcap", capture) for cpu, capture in enumerate(case.captures))
+    if case.listing:
+        inputs["filter.ddd"] = case.listing.encode()
+    words = [case.command, "conf"]
+    if case.command == "replay":
+        inputs["sched"] = case.schedule.encode()
+        words.append("sched")
     by_hand.save(".", inputs)
-    code = filter_verdicts.program(listing) if listing else None
-    lines, files = by_hand.replay(by_hand.Setup(text), schedule, captures, code)
+    lines, files = worked_out(case)
     ends = [line.split(" end ")[1] for line in lines.splitlines() if line.startswith("cpu")]
     status = 0 if set(ends) == {"ok"} else 4
-    ran = subprocess.run([program, "replay", "conf", "sched"], stdout=subprocess.PIPE, stderr=subprocess.PIPE, check=False)
+    ran = subprocess.run([program, *words], stdout=subprocess.PIPE, stderr=subprocess.PIPE, check=False)
     if ran.returncode != status:
         return f"status {ran.returncode} in place of {status}"
     if ran.stderr:
@@ -243,11 +338,12 @@ def main():
     wrong, count = by_hand_differs(), 0
     with tempfile.TemporaryDirectory() as room:
         os.chdir(room)
-        for count, (text, schedule, captures, listing) in enumerate(cases(), 1):
-            why = differs(program, text, schedule, captures, listing)
+        for count, case in enumerate(cases(), 1):
+            why = differs(program, case)
             if why:
                 wrong += 1
-                print(f"run {count}, setup {text!r}, captures of {[len(c) for c in captures]} bytes: {why}")
+                sizes = [len(capture) for capture in case.captures]
+                print(f"run {count}, {case.command}, setup {case.setup!r}, captures of {sizes} bytes: {why}")
         os.chdir("/")
     print(f"replays.py: {count} runs, {wrong} of them wrong")
     sys.exit(1 if wrong else 0)

@@ -9,6 +9,7 @@ program, document, room = sys.argv[1:]
 SHOWN = {"an empty line": "", "a line of blanks": " \t"}
 WORDS_HEAD = "| Line | Its value | Without it |"
 LINES_HEAD = "| Lines | Answer |"
+COMMANDS_HEAD = "| Command | Lines | Answer |"
 TEXTS_HEAD = "| Text | Answer |"
 NEEDED = ["block_size", "block_nr", "frame_size", "frame_nr", "cpu"]
 MOST = 1_048_576
@@ -106,6 +107,14 @@ def refused(needed, rows):
         check(cell, 2, line_of("setup", answer), needed + lines_of(cell))
 
 
+def refused_by_commands(needed, rows):
+    """The lines that a command refuses behind what is needed."""
+    for command, cell, answer in rows:
+        setup = ("\n".join(needed + lines_of(cell)) + "\n").encode()
+        words = [lines_of(command)[0], "conf"]
+        expect(f"{command} {cell}", 2, line_of("setup", answer), words, {"conf": setup})
+
+
 def number_in(cell, word):
     """How many CPUs or members a cell speaks of."""
     found = re.search(r"of (two|three) " + word, cell)
@@ -134,6 +143,7 @@ answer([], {"tcp.ddd": b"1\n6 0 0 262144\n", "t.txt": b"1\n8\n8\n"})
 accepted(words)
 measured(needed)
 refused(needed, rows_below(text, LINES_HEAD))
+refused_by_commands(needed, rows_below(text, COMMANDS_HEAD))
 moments_and_schedules(needed, rows_below(text, TEXTS_HEAD))
 print(f"{answers} answers, {failures} wrong")
 sys.exit(failures > 0)

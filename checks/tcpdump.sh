@@ -1,6 +1,7 @@
 #!/usr/bin/env bash
 # tcpdump, and capinfos where it is there, open the output and count the frames that ringtap says it kept; and each frame
-# of the output is a frame of the input, in order, with its time, its length and its bytes, or a front of them.
+# of the output is a frame of the input, in order, with its time, its length and its bytes, or a front of them. It opens what is
+# sent and what is made too, and takes each made frame for the datagram that it is.
 set -u
 . "$(dirname "${BASH_SOURCE[0]}")/common.bash"
 wants tcpdump python3
@@ -43,6 +44,28 @@ for name in setup small; do
         else
             python3 -B "$top/checks/among.py" in.txt out.txt || wrong "$name: frames that aren't the input's"
         fi
+    done
+done
+
+# The frames that tcpdump reads in a file, of those that pass a filter, are as many.
+reads() {
+    tcpdump -n -r "$1" --time-stamp-precision=nano -w copy.pcap "$3" 2>said.txt || wrong "tcpdump: $(cat said.txt)"
+    python3 -B "$top/checks/by_hand.py" --frames copy.pcap >copy.txt
+    [ "$(wc -l <copy.txt)" -eq "$2" ] || wrong "$1: tcpdump reads $(wc -l <copy.txt) frames, and not $2"
+}
+
+for program in "${programs[@]}"; do
+    rm -f lo.tx.pcap made.*.pcap
+    "$program" send demo/send.txt >lines.txt || wrong "send ended with status $?"
+    count=$(sed -n 's/^send sent \([0-9]*\) .*/\1/p' lines.txt)
+    reads lo.tx.pcap "${count:-0}" 'greater 0'
+    python3 -B "$top/checks/by_hand.py" --frames lo.tx.pcap >out.txt
+    cmp copy.txt out.txt || wrong 'send: tcpdump reads other frames'
+    "$program" make demo/make.txt >lines.txt || wrong "make ended with status $?"
+    for member in 0 1; do
+        count=$(sed -n "s/^member $member packets \([0-9]*\) drops 0 .*/\1/p" lines.txt)
+        reads "made.$member.pcap" "${count:-0}" 'udp dst port 53 and src net 10.0.0.0/16 and dst net 10.1.0.0/24'
+        ! tcpdump -n -v -r "made.$member.pcap" 2>/dev/null | grep -q 'bad cksum' || wrong "made.$member.pcap: a wrong checksum"
     done
 done
 command -v capinfos >/dev/null || echo "${0##*/}: no capinfos, so tcpdump alone has counted"

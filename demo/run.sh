@@ -1,19 +1,34 @@
 #!/bin/sh
-# sh demo/run.sh [NAME]: builds ringtap, replays the capture of this folder, and shows what came out.
-# NAME is setup, whose ring keeps every frame; small, whose ring is too small for them; or group, with two CPUs and three
-# members, a filter and a dump.
+# sh demo/run.sh [NAME]: builds ringtap, runs it on a setup of this folder, and shows what came out.
+# NAME is setup, a replay whose ring keeps every frame; small, one whose ring is too small for them; group, one with two CPUs
+# and three members, a filter and a dump; make, whose frames are made from a number; or send, a capture that is sent through a
+# transmit ring.
 set -eu
 cd "$(dirname "$0")/.."
 name=${1:-setup}
+command=replay
 schedule=demo/schedule.txt
 output=out.0.pcap
-if [ "$name" = group ]; then
+case $name in
+group)
     schedule=demo/group.sched
     output=group.1.pcap
-fi
+    ;;
+make)
+    command="make"
+    schedule=
+    output=made.0.pcap
+    ;;
+send)
+    command="send"
+    schedule=
+    output=lo.tx.pcap
+    ;;
+esac
 sh demo/build.sh
-echo "ringtap replay demo/$name.txt $schedule"
-crates/ringtap/out/ringtap replay "demo/$name.txt" "$schedule"
+set -- "$command" "demo/$name.txt" ${schedule:+"$schedule"}
+echo "ringtap $*"
+crates/ringtap/out/ringtap "$@"
 if command -v tcpdump >/dev/null; then
     echo "tcpdump -nqr $output"
     tcpdump -nqr "$output"

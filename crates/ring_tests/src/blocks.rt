@@ -5,7 +5,7 @@ ghost use Rattle.tp_layout.specs.Requests.{room_of};
 ghost use Rattle.tp_layout.specs.Writing.{IsWritable};
 
 use block_ring::Producer;
-use frame_view::{ByteList, Frame, Memory, MomentList};
+use frame_view::{ByteList, Frame, Memory, MomentList, Packet};
 use replay_model::Schedule;
 use ring_model::{Offer, Put};
 use ring_words::PlainRing;
@@ -74,41 +74,59 @@ fn replay_one(alloc: Global, job: &Job) -> Result<Ran<MemSource>, Fail>
     Ok(replay(alloc, job, sources, &schedule)?)
 }
 
+/// The replay of that capture over blocks with a private area of so many bytes.
+fn replay_with(alloc: Global, private: &str, dump: &str) -> Result<Ran<MemSource>, Fail> {
+    let setup = format!(in alloc;
+        "block_size 4096\nblock_nr 2\nframe_size 2048\nframe_nr 4\ncpu a\npriv {private}\n{dump}"
+    )?;
+    let job = job(alloc, &setup)?;
+    replay_one(alloc, &job)
+}
+
+/// How many blocks, packets and bytes of a dump there are of member 0.
+fn sizes(ran: &Ran<MemSource>) -> Option<(u64, usize, usize)> {
+    let member = ran.report.members.get(0)?;
+    Some((member.blocks, member.walked.len(), member.dump.len()))
+}
+
+/// Whether the dump of member 0 is that text, or the front of it.
+fn has_that_text(ran: &Ran<MemSource>) -> bool {
+    match ran.report.members.get(0) {
+        Some(member) => TEXT.as_slice().starts_with(member.dump.as_slice()),
+        None => false,
+    }
+}
+
+/// Whether the first packet of member 0 is that frame.
+fn has_that_packet(ran: &Ran<MemSource>) -> bool {
+    match ran.report.members.get(0) {
+        Some(member) => member.walked.get(0).is_some_and(is_that_packet),
+        None => false,
+    }
+}
+
+/// Whether a packet is that frame, with its time.
+fn is_that_packet(packet: &Packet) -> bool {
+    (packet.sec, packet.nsec, packet.wire, packet.rxhash) == (1, 2_000, 14, 0)
+        && (packet.protocol, packet.pkttype, packet.tag) == (0x0806, 1, None)
+        && packet.addr == [2, 0, 0, 0, 0, 1]
+        && packet.bytes.as_slice() == FRAME.as_slice()
+}
+
+/// The bytes of a private area, the line that asks for a dump, and the dump's size.
+static DUMPS: [(&str, &str, usize); 3] = [
+    ("0", "dump yes\n", 144),
+    ("0", "", 0),
+    ("13", "dump yes\n", 160),
+];
+
 #[test]
 fn the_dump_of_one_frame(rt: HostRuntime) -> Result<(), Fail> {
-    let alloc = rt.alloc();
-    // the bytes of a private area, the line that asks for a dump, and the dump's size
-    for (private, dump, size) in [
-        ("0", "dump yes\n", 144),
-        ("0", "", 0),
-        ("13", "dump yes\n", 160),
-    ] {
-        let setup = format!(in alloc;
-            "block_size 4096\nblock_nr 2\nframe_size 2048\nframe_nr 4\ncpu a\npriv {private}\n{dump}"
-        )?;
-        let job = job(alloc, &setup)?;
-        let ran = replay_one(alloc, &job)?;
-        let member = ran.report.members.get(0).ok_or("there is a member")?;
-        assert_eq!(rt;
-            (member.blocks, member.walked.len(), member.dump.len()),
-            (1, 1, size)
-        );
-        if private == "0" {
-            for (kept, byte) in member.dump.as_slice().iter().zip(TEXT.iter()) {
-                assert_eq!(rt; kept, byte);
-            }
-        }
-        let packet = member.walked.get(0).ok_or("there is a packet")?;
-        assert_eq!(rt;
-            (packet.sec, packet.nsec, packet.wire, packet.rxhash),
-            (1, 2_000, 14, 0)
-        );
-        assert_eq!(rt;
-            (packet.protocol, packet.pkttype, packet.tag),
-            (0x0806, 1, None)
-        );
-        assert_eq!(rt; packet.addr, [2, 0, 0, 0, 0, 1]);
-        assert_eq!(rt; packet.bytes.as_slice(), FRAME.as_slice());
+    for (private, dump, size) in &DUMPS {
+        let ran = replay_with(rt.alloc(), private, dump)?;
+        assert_eq!(rt; sizes(&ran), Some((1, 1, *size)));
+        assert!(rt; *private != "0" || has_that_text(&ran));
+        assert!(rt; has_that_packet(&ran));
     }
     Ok(())
 }

@@ -6,7 +6,7 @@ ghost use Rattle.tp_layout.specs.Requests.{first_of};
 ghost use Rattle.tp_layout.specs.Writing.{IsWritable, zero_block};
 
 use frame_view::{ByteList, Frame, Memory};
-use reader_walk::{Reader, Taker};
+use reader_walk::{Outputs, Reader, Taker};
 use ring_model::{Offer, need};
 use std::alloc::Global;
 use std::test::Fail;
@@ -85,6 +85,34 @@ fn block_with(alloc: Global, shape: &Shape, offer: &Offer) -> Result<Block, Memo
     Ok(block)
 }
 
+/// What a reader reads of two blocks, one handed to it as a reader and one as a taker.
+fn read_two(
+    alloc: Global,
+    shape: &Shape,
+    dump: bool,
+    first: &Block,
+    second: &Block,
+) -> Result<Outputs, Memory>
+    requires first { IsReadable shape.now first.now }
+    requires second { IsReadable shape.now second.now }
+{
+    let mut reader = Reader::new(alloc, *shape, dump);
+    reader.walk_block(first)?;
+    Taker::block(&mut reader, second)?;
+    Ok(reader.outputs())
+}
+
+/// How many blocks and packets were read, and how many bytes of them are kept.
+fn sizes(outputs: &Outputs) -> (u64, usize, usize) {
+    (outputs.blocks, outputs.walked.len(), outputs.dump.len())
+}
+
+/// The time of the second packet, its length on the wire and in the block.
+fn second_packet(outputs: &Outputs) -> Option<(u32, u32, u32, usize)> {
+    let packet = outputs.walked.get(1)?;
+    Some((packet.sec, packet.nsec, packet.wire, packet.bytes.len()))
+}
+
 #[test]
 fn two_blocks_of_a_packet_each(rt: HostRuntime) -> Result<(), Fail> {
     let alloc = rt.alloc();
@@ -97,21 +125,9 @@ fn two_blocks_of_a_packet_each(rt: HostRuntime) -> Result<(), Fail> {
     let second = block_with(alloc, &shape, &offer)?;
     // whether the texts are kept, and their size: a descriptor of 48 bytes and a packet of 144 in each
     for (dump, size) in [(true, 384), (false, 0)] {
-        let mut reader = Reader::new(alloc, shape, dump);
-        reader.walk_block(&first)?;
-        Taker::block(&mut reader, &second)?;
-        let outputs = reader.outputs();
-        assert_eq!(rt;
-            (outputs.blocks, outputs.walked.len(), outputs.dump.len()),
-            (2, 2, size),
-            "{dump}"
-        );
-        let packet = outputs.walked.get(1).ok_or("there is a packet")?;
-        assert_eq!(rt;
-            (packet.sec, packet.nsec, packet.wire, packet.bytes.len()),
-            (1, 2_000, 60, 60),
-            "{dump}"
-        );
+        let outputs = read_two(alloc, &shape, dump, &first, &second)?;
+        assert_eq!(rt; sizes(&outputs), (2, 2, size), "{dump}");
+        assert_eq!(rt; second_packet(&outputs), Some((1, 2_000, 60, 60)), "{dump}");
     }
     Ok(())
 }

@@ -14,8 +14,8 @@ use std::test::Fail;
 use tap_outside::MemSource;
 use tap_replay::replay;
 
-/// A ring of two pages.
-const RING: &str = "block_size 4096\nblock_nr 2\nframe_size 2048\nframe_nr 4\n";
+/// One CPU and one member over a ring of two pages.
+const ALONE: &str = "block_size 4096\nblock_nr 2\nframe_size 2048\nframe_nr 4\ncpu a.pcap\n";
 
 /// Two members and two CPUs over such a ring.
 const TWO: &str =
@@ -61,7 +61,7 @@ fn source(
 }
 
 /// A job with this setup, and this filter where it isn't empty.
-fn job(alloc: Global, setup: &str, filter: &str) -> Result<Job, Fail>
+pub(super) fn job(alloc: Global, setup: &str, filter: &str) -> Result<Job, Fail>
     ensures { IfOk result (λ job. IsSetup job.setup) }
 {
     let Ok(setup) = read_setup(alloc, setup.as_bytes(), Command::Replay) else {
@@ -78,7 +78,7 @@ fn job(alloc: Global, setup: &str, filter: &str) -> Result<Job, Fail>
 }
 
 /// The schedule of this text.
-fn schedule(alloc: Global, text: &str) -> Result<Schedule, Fail>
+pub(super) fn schedule(alloc: Global, text: &str) -> Result<Schedule, Fail>
     ensures { IfOk result IsSchedule }
 {
     match read_schedule(alloc, text.as_bytes(), 8, 8) {
@@ -88,7 +88,7 @@ fn schedule(alloc: Global, text: &str) -> Result<Schedule, Fail>
 }
 
 /// The replay of a job.
-fn run(
+pub(super) fn run(
     alloc: Global,
     job: &Job,
     sources: Vec<Option<MemSource>>,
@@ -117,9 +117,39 @@ fn fates(member: &MemberReport) -> (u64, u64) {
     (kept, dropped)
 }
 
-/// One CPU and one member: the frames, how many bytes a read gives at most, the schedule; and the numbers of packets
-/// kept, packets dropped and blocks.
-const ROWS: [(&str, &[u32], usize, &str, (u64, u64, u64)); 11] = [
+/// The replay of a job of one CPU.
+fn run_alone(
+    alloc: Global,
+    job: &Job,
+    source: MemSource,
+    lines: &str,
+) -> Result<Ran<MemSource>, Fail>
+    requires { IsSetup job.now.setup }
+{
+    let mut sources = Vec::new(alloc);
+    sources.push(Some(source))?;
+    run(alloc, job, sources, lines)
+}
+
+/// How many packets member 0 kept, how many it dropped, and how many blocks its reader walked.
+fn first_member(ran: &Ran<MemSource>) -> Option<(u64, u64, u64)> {
+    let member = ran.report.members.get(0)?;
+    let (kept, dropped) = fates(member);
+    Some((kept, dropped, member.blocks))
+}
+
+/// What is reported of CPU 0: the number of its frames, the bytes that its source gave, and its end.
+fn first_cpu(ran: &Ran<MemSource>) -> Option<(u32, u64, CpuEnd)> {
+    let cpu = ran.report.cpus.get(0)?;
+    Some((cpu.frames, cpu.given, cpu.end))
+}
+
+/// A replay of one CPU and one member.
+type Row<'a> = (&'a str, &'a [u32], usize, &'a str, (u64, u64, u64));
+
+/// The frames, how many bytes a read gives at most, the schedule; and the numbers of packets kept, packets dropped and
+/// blocks.
+static ROWS: [Row<'static>; 11] = [
     (
         "one block",
         &[60; 3],
@@ -163,32 +193,40 @@ const ROWS: [(&str, &[u32], usize, &str, (u64, u64, u64)); 11] = [
     ),
 ];
 
+/// The replay of a row of one member.
+fn run_row(alloc: Global, job: &Job, row: &Row<'_>) -> Result<Ran<MemSource>, Fail>
+    requires { IsSetup job.now.setup }
+{
+    let (_, lengths, piece, lines, _) = row;
+    let source = source(alloc, lengths, 100_000, (*piece).max(1), &[])?;
+    run_alone(alloc, job, source, lines)
+}
+
+/// Whether CPU 0 has so many frames, and is whole.
+fn is_whole(ran: &Ran<MemSource>, frames: usize) -> bool {
+    match first_cpu(ran) {
+        Some((found, _, end)) => found as usize == frames && end == CpuEnd::Whole,
+        None => false,
+    }
+}
+
 #[test]
 fn one_member(rt: HostRuntime) -> Result<(), Fail> {
-    let alloc = rt.alloc();
-    let setup = format!(in alloc; "{RING}cpu a.pcap\n")?;
-    let job = job(alloc, &setup, "")?;
-    for (row, lengths, piece, lines, numbers) in ROWS {
-        let mut sources = Vec::new(alloc);
-        let piece = piece.max(1);
-        sources.push(Some(source(alloc, lengths, 100_000, piece, &[])?))?;
-        let ran = run(alloc, &job, sources, lines)?;
-        let member = ran.report.members.get(0).ok_or("a member")?;
-        let (kept, dropped) = fates(member);
-        assert!(rt;
-            (kept, dropped, member.blocks) == numbers,
-            "packets of {row}"
-        );
-        let cpu = ran.report.cpus.get(0).ok_or("a CPU")?;
-        assert!(rt; cpu.frames as usize == lengths.len(), "frames of {row}");
-        assert!(rt; cpu.end == CpuEnd::Whole, "end of {row}");
+    let job = job(rt.alloc(), ALONE, "")?;
+    for row in &ROWS {
+        let ran = run_row(rt.alloc(), &job, row)?;
+        assert!(rt; first_member(&ran) == Some(row.4), "packets of {}", row.0);
+        assert!(rt; is_whole(&ran, row.1.len()), "frames and end of {}", row.0);
     }
     Ok(())
 }
 
-/// Sources that end early: how many bytes there are, how many a read gives at most, the reads that fail; and the
-/// frames, the bytes given and the end.
-const ENDS: [(&str, usize, usize, &[u64], (u32, u64, CpuEnd)); 5] = [
+/// A source that ends early.
+type Ending<'a> = (&'a str, usize, usize, &'a [u64], (u32, u64, CpuEnd));
+
+/// How many bytes there are, how many a read gives at most, the reads that fail; and the frames, the bytes given and the
+/// end.
+static ENDS: [Ending<'static>; 5] = [
     ("whole", 252, 65536, &[], (3, 252, CpuEnd::Whole)),
     (
         "cut",
@@ -214,29 +252,44 @@ const ENDS: [(&str, usize, usize, &[u64], (u32, u64, CpuEnd)); 5] = [
     ),
 ];
 
+/// The replay of three frames of a source that ends early.
+fn run_ending(alloc: Global, job: &Job, row: &Ending<'_>) -> Result<Ran<MemSource>, Fail>
+    requires { IsSetup job.now.setup }
+{
+    let (_, bytes, piece, failing, _) = row;
+    let source = source(alloc, &[60; 3], *bytes, (*piece).max(1), failing)?;
+    run_alone(alloc, job, source, "")
+}
+
+/// How many arrivals the log of CPU 0 has.
+fn arrivals(ran: &Ran<MemSource>) -> Option<usize> {
+    Some(ran.report.cpus.get(0)?.arrivals.len())
+}
+
 #[test]
 fn ends(rt: HostRuntime) -> Result<(), Fail> {
-    let alloc = rt.alloc();
-    let setup = format!(in alloc; "{RING}cpu a.pcap\n")?;
-    let job = job(alloc, &setup, "")?;
-    for (row, bytes, piece, failing, numbers) in ENDS {
-        let mut sources = Vec::new(alloc);
-        let piece = piece.max(1);
-        sources.push(Some(source(alloc, &[60; 3], bytes, piece, failing)?))?;
-        let ran = run(alloc, &job, sources, "")?;
-        let cpu = ran.report.cpus.get(0).ok_or("a CPU")?;
-        assert!(rt; (cpu.frames, cpu.given, cpu.end) == numbers, "{row}");
-        assert!(rt;
-            cpu.arrivals.len() == cpu.frames as usize,
-            "arrivals of {row}"
-        );
+    let job = job(rt.alloc(), ALONE, "")?;
+    for row in &ENDS {
+        let ran = run_ending(rt.alloc(), &job, row)?;
+        assert!(rt; first_cpu(&ran) == Some(row.4), "{}", row.0);
+        assert!(rt; arrivals(&ran) == Some(row.4.0 as usize), "arrivals of {}", row.0);
     }
     Ok(())
 }
 
-/// Two CPUs and two members: what is added to the setup, the filter, the frames of both CPUs; and how many packets each
-/// member kept, and the bytes of member 0's first packet.
-const GROUPS: [(&str, &str, &str, &[u32], &[u32], (u64, u64, usize)); 5] = [
+/// A replay of two CPUs and two members.
+type Group<'a> = (
+    &'a str,
+    &'a str,
+    &'a str,
+    &'a [u32],
+    &'a [u32],
+    (u64, u64, usize),
+);
+
+/// What is added to the setup, the filter, the frames of both CPUs; and how many packets each member kept, and the bytes
+/// of member 0's first packet.
+static GROUPS: [Group<'static>; 5] = [
     ("by CPU", "mode cpu\n", "", &[60; 2], &[60; 3], (2, 3, 60)),
     ("in turn", "mode lb\n", "", &[60; 3], &[60; 2], (3, 2, 60)),
     (
@@ -265,41 +318,69 @@ const GROUPS: [(&str, &str, &str, &[u32], &[u32], (u64, u64, usize)); 5] = [
     ),
 ];
 
+/// The replay of a job of two CPUs, of which the first reads 500 bytes at a time.
+fn run_both(alloc: Global, job: &Job, first: &[u32], second: &[u32]) -> Result<Ran<MemSource>, Fail>
+    requires { IsSetup job.now.setup }
+{
+    let mut sources = Vec::new(alloc);
+    sources.push(Some(source(alloc, first, 100_000, 500, &[])?))?;
+    sources.push(Some(source(alloc, second, 100_000, 65536, &[])?))?;
+    run(alloc, job, sources, "")
+}
+
+/// The replay of a row of two members.
+fn run_group(alloc: Global, row: &Group<'_>) -> Result<Ran<MemSource>, Fail> {
+    let (_, more, filter, first, second, _) = row;
+    let setup = format!(in alloc; "{TWO}{more}")?;
+    let job = job(alloc, &setup, filter)?;
+    run_both(alloc, &job, first, second)
+}
+
+/// How many packets each of two members kept, and the bytes of member 0's first packet.
+fn told_of_both(ran: &Ran<MemSource>) -> Option<(u64, u64, usize)> {
+    let one = ran.report.members.get(0)?;
+    let two = ran.report.members.get(1)?;
+    let packet = one.walked.get(0)?;
+    Some((fates(one).0, fates(two).0, packet.bytes.len()))
+}
+
 #[test]
 fn groups(rt: HostRuntime) -> Result<(), Fail> {
-    let alloc = rt.alloc();
-    for (row, more, filter, first, second, numbers) in GROUPS {
-        let setup = format!(in alloc; "{TWO}{more}")?;
-        let job = job(alloc, &setup, filter)?;
-        let mut sources = Vec::new(alloc);
-        sources.push(Some(source(alloc, first, 100_000, 500, &[])?))?;
-        sources.push(Some(source(alloc, second, 100_000, 65536, &[])?))?;
-        let ran = run(alloc, &job, sources, "")?;
-        let one = ran.report.members.get(0).ok_or("a member")?;
-        let two = ran.report.members.get(1).ok_or("a member")?;
-        let packet = one.walked.get(0).ok_or("a packet")?;
-        let told = (fates(one).0, fates(two).0, packet.bytes.len());
-        assert!(rt; told == numbers, "{row}");
+    for row in &GROUPS {
+        let ran = run_group(rt.alloc(), row)?;
+        assert!(rt; told_of_both(&ran) == Some(row.5), "{}", row.0);
     }
     Ok(())
 }
 
-#[test]
-fn without_a_source(rt: HostRuntime) -> Result<(), Fail> {
-    let alloc = rt.alloc();
+/// A run of two CPUs, of which the first has no source.
+fn run_second(alloc: Global) -> Result<Ran<MemSource>, Fail> {
     let job = job(alloc, TWO, "")?;
     let mut sources = Vec::new(alloc);
     sources.push(None)?;
     sources.push(Some(source(alloc, &[60; 2], 100_000, 65536, &[])?))?;
-    let ran = run(alloc, &job, sources, "feed 0\nfeed 1\n")?;
-    let first = ran.report.cpus.get(0).ok_or("a CPU")?;
-    let second = ran.report.cpus.get(1).ok_or("a CPU")?;
-    assert!(rt; (first.frames, first.given, first.end) == (0, 0, CpuEnd::Fault));
-    assert!(rt; (second.frames, second.given, second.end) == (2, 176, CpuEnd::Whole));
-    let back: [bool; 2] = [
-        ran.sources.first().is_some_and(|source| source.is_none()),
+    run(alloc, &job, sources, "feed 0\nfeed 1\n")
+}
+
+/// What is reported of CPU 1: the number of its frames, the bytes that its source gave, and its end.
+fn second_cpu(ran: &Ran<MemSource>) -> Option<(u32, u64, CpuEnd)> {
+    let cpu = ran.report.cpus.get(1)?;
+    Some((cpu.frames, cpu.given, cpu.end))
+}
+
+/// Whether the first CPU's source came back, and the last one's.
+fn came_back(ran: &Ran<MemSource>) -> [bool; 2] {
+    [
+        ran.sources.first().is_some_and(|source| source.is_some()),
         ran.sources.last().is_some_and(|source| source.is_some()),
-    ];
-    assert!(rt; back == [true, true]);
+    ]
+}
+
+#[test]
+fn without_a_source(rt: HostRuntime) -> Result<(), Fail> {
+    let ran = run_second(rt.alloc())?;
+    assert!(rt; first_cpu(&ran) == Some((0, 0, CpuEnd::Fault)));
+    assert!(rt; second_cpu(&ran) == Some((2, 176, CpuEnd::Whole)));
+    assert!(rt; came_back(&ran) == [false, true]);
     Ok(())
 }

@@ -2,10 +2,11 @@
 ghost use Rattle.std.specs.Prelude.{◌≤◌, ◌<◌, length, true, refl, None};
 
 use crate::building::{call, push_fields, setup};
+use capture_file::CaptureError;
 use frame_view::{Memory, MomentList};
 use std::alloc::Global;
 use std::test::Fail;
-use tap_engine::Status;
+use tap_engine::{Outcome, Status};
 use tap_outside::{Failed, MemSink, OutError, Source, Store};
 
 /// Bytes that are read to their end, and then again from a place on; without end, where that lies before the end.
@@ -56,6 +57,15 @@ fn header_and_record(alloc: Global) -> Result<Vec<u8>, Memory> {
     Ok(bytes)
 }
 
+/// The bytes of a file, and the place from which they are read again.
+fn file(alloc: Global, name: &[u8]) -> Result<(Vec<u8>, usize), Memory> {
+    match name {
+        b"conf" => Ok((setup(alloc, "")?, usize::MAX)),
+        b"a.pcap" => Ok((header_and_record(alloc)?, 24)),
+        _ => Ok((Vec::new(alloc), usize::MAX)),
+    }
+}
+
 impl Store for EndlessStore {
     type Input = EndlessSource;
 
@@ -70,11 +80,7 @@ impl Store for EndlessStore {
     ghost save_faults = { λ _. 0 };
 
     fn fetch(&mut self, name: &[u8]) -> Result<EndlessSource, OutError> {
-        let (bytes, again) = match name {
-            b"conf" => (setup(self.alloc, "")?, usize::MAX),
-            b"a.pcap" => (header_and_record(self.alloc)?, 24),
-            _ => (Vec::new(self.alloc), usize::MAX),
-        };
+        let (bytes, again) = file(self.alloc, name)?;
         Ok(EndlessSource {
             bytes,
             at: 0,
@@ -98,15 +104,21 @@ member 0 packets 127 drops 125 freezes 1 blocks 2
 total arrivals 127 filtered 0 kept 2 drops 125
 ";
 
-#[test]
-fn a_capture_without_end_is_too_large(rt: HostRuntime) -> Result<(), Fail> {
-    let alloc = rt.alloc();
+/// The run over that store, and what it prints.
+fn run_endless(alloc: Global) -> Result<(Outcome, Vec<u8>), Memory> {
     let mut files = EndlessStore { alloc };
     let mut out = MemSink::new(alloc, MomentList::new(alloc));
     let outcome = call(alloc, &["replay", "conf", "sched"], &mut files, &mut out)?;
-    let fault = capture_file::CaptureError::TooLarge;
+    let printed = out.written().to_vec(alloc)?;
+    Ok((outcome, printed))
+}
+
+#[test]
+fn a_capture_without_end_is_too_large(rt: HostRuntime) -> Result<(), Fail> {
+    let (outcome, printed) = run_endless(rt.alloc())?;
+    let fault = CaptureError::TooLarge;
     assert_eq!(rt; outcome.status, Status::Damaged { cpu: 0, fault });
     assert!(rt; outcome.report.is_some());
-    assert_eq!(rt; out.written(), LINES);
+    assert_eq!(rt; printed.as_slice(), LINES);
     Ok(())
 }

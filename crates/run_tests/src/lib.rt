@@ -7,11 +7,15 @@ mod building;
 #[cfg(test)]
 mod endless;
 #[cfg(test)]
+mod made;
+#[cfg(test)]
 mod outside;
 #[cfg(test)]
 mod refusals;
 #[cfg(test)]
 mod rows;
+#[cfg(test)]
+mod sent;
 #[cfg(test)]
 mod told;
 #[cfg(test)]

@@ -80,68 +80,108 @@ fn replay_three(alloc: Global, faults: Faults<'_>) -> Result<Ran, Memory> {
     replay(alloc, TEXTS, bytes.as_slice(), faults)
 }
 
+/// Whether a run has a report, and printed the lines of the first frames of three.
+fn has_lines(alloc: Global, ran: &Ran, frames: usize, end: &str) -> Result<bool, Memory> {
+    let lines = lines(alloc, frames, end)?;
+    Ok(ran.outcome.report.is_some() && ran.printed.as_slice() == lines.as_bytes())
+}
+
+/// Whether the files of a run are those of the first frames of three.
+fn has_files(alloc: Global, ran: &Ran, frames: usize) -> Result<bool, Memory> {
+    let output = output_of(alloc, frames)?;
+    Ok(
+        ran.files.file(b"out.0.pcap") == Some(output.as_slice())
+            && length_of(&ran.files, b"out.0.blk") == Some(dump_length(frames)),
+    )
+}
+
+/// Whether a run is one of the first frames of three: its report, its lines and its files.
+fn is_of(alloc: Global, ran: &Ran, frames: usize, end: &str) -> Result<bool, Memory> {
+    Ok(has_lines(alloc, ran, frames, end)? && has_files(alloc, ran, frames)?)
+}
+
+/// A run over three frames, of which a fetch fails.
+fn replay_unfetched(alloc: Global, fetch: u64) -> Result<Ran, Memory> {
+    let faults = Faults {
+        fetches: &[fetch],
+        ..NO_FAULT
+    };
+    replay_three(alloc, faults)
+}
+
+/// Whether a command ended without a run since a text could not be read.
+fn is_unread(ran: &Ran) -> bool {
+    ran.outcome.status == Status::ReadFault
+        && ran.outcome.report.is_none()
+        && ran.printed.as_slice() == b"read fault\n".as_slice()
+        && ran.files.file(b"out.0.pcap").is_none()
+}
+
 #[test]
 fn a_text_that_cannot_be_fetched_ends_the_command(rt: HostRuntime) -> Result<(), Fail> {
     for fetch in [1u64, 2, 3] {
-        let faults = Faults {
-            fetches: &[fetch],
-            ..NO_FAULT
-        };
-        let ran = replay_three(rt.alloc(), faults)?;
-        assert_eq!(rt; ran.outcome.status, Status::ReadFault, "{fetch}");
-        assert!(rt; ran.outcome.report.is_none());
-        assert_eq!(rt; ran.printed.as_slice(), b"read fault\n".as_slice());
-        assert_eq!(rt; ran.files.file(b"out.0.pcap"), None);
+        let ran = replay_unfetched(rt.alloc(), fetch)?;
+        assert!(rt; is_unread(&ran), "{fetch}");
     }
     Ok(())
+}
+
+/// The fetches and the reads that fail, and how many frames are read. A capture is read by pieces of 100, 100, 52 and 0
+/// bytes.
+static UNREAD: [(&[u64], &[u64], usize); 5] = [
+    (&[4], &[], 0),
+    (&[], &[1], 0),
+    (&[], &[2], 1),
+    (&[], &[3], 2),
+    (&[], &[4], 3),
+];
+
+/// A run over three frames, of which a fetch or a read fails.
+fn replay_unread(alloc: Global, fetches: &[u64], reads: &[u64]) -> Result<Ran, Memory> {
+    let faults = Faults {
+        fetches,
+        reads,
+        piece: 100,
+        ..NO_FAULT
+    };
+    replay_three(alloc, faults)
 }
 
 #[test]
 fn a_capture_that_cannot_be_read_is_a_fault(rt: HostRuntime) -> Result<(), Fail> {
-    let alloc = rt.alloc();
-    // pieces of 100, 100, 52 and 0 bytes
-    let rows: [(&[u64], &[u64], usize); 5] = [
-        (&[4], &[], 0),
-        (&[], &[1], 0),
-        (&[], &[2], 1),
-        (&[], &[3], 2),
-        (&[], &[4], 3),
-    ];
-    for (fetches, reads, frames) in rows {
-        let faults = Faults {
-            fetches,
-            reads,
-            piece: 100,
-            ..NO_FAULT
-        };
-        let ran = replay_three(alloc, faults)?;
+    for (fetches, reads, frames) in &UNREAD {
+        let ran = replay_unread(rt.alloc(), fetches, reads)?;
         assert_eq!(rt; ran.outcome.status, Status::ReadFault, "{frames}");
-        assert!(rt; ran.outcome.report.is_some());
-        let lines = lines(alloc, frames, "fault")?;
-        assert_eq!(rt; ran.printed.as_slice(), lines.as_bytes());
-        let output = output_of(alloc, frames)?;
-        assert_eq!(rt; ran.files.file(b"out.0.pcap"), Some(output.as_slice()));
-        assert_eq!(rt;
-            length_of(&ran.files, b"out.0.blk"),
-            Some(dump_length(frames))
-        );
+        assert!(rt; is_of(rt.alloc(), &ran, *frames, "fault")?, "{frames}");
     }
     Ok(())
 }
 
-#[test]
-fn of_two_captures_one_cannot_be_read(rt: HostRuntime) -> Result<(), Fail> {
-    let alloc = rt.alloc();
-    let shapes: [Shape<'static>; 2] = [(b"", 60); 2];
+/// Two frames of 60 bytes.
+const TWO: &[Shape<'static>] = &[(b"", 60), (b"", 60)];
+
+/// A run over two captures of them, of which one fails at its second read.
+fn replay_two(alloc: Global) -> Result<Ran, Memory> {
     let texts = Texts {
         lines: "cpu b.pcap\nmembers 2\n",
         filter: "",
         schedule: "",
     };
-    let bytes = capture(alloc, &shapes)?;
+    let bytes = capture(alloc, TWO)?;
     let mut files = store(alloc, texts, bytes.as_slice(), NO_FAULT)?;
     files.put(b"b.pcap", bytes.as_slice(), 124, numbers(alloc, &[2])?)?;
-    let ran = replay_on(alloc, files)?;
+    replay_on(alloc, files)
+}
+
+/// Whether an output file has these of the two frames.
+fn has_kept(alloc: Global, ran: &Ran, name: &[u8], kept: &[(u8, u16)]) -> Result<bool, Memory> {
+    let output = output(alloc, TWO, kept)?;
+    Ok(ran.files.file(name) == Some(output.as_slice()))
+}
+
+#[test]
+fn of_two_captures_one_cannot_be_read(rt: HostRuntime) -> Result<(), Fail> {
+    let ran = replay_two(rt.alloc())?;
     assert_eq!(rt; ran.outcome.status, Status::ReadFault);
     assert!(rt; ran.outcome.report.is_some());
     let lines: &[u8] = b"cpu 0 frames 2 arrivals 2 end ok\n\
@@ -150,54 +190,79 @@ fn of_two_captures_one_cannot_be_read(rt: HostRuntime) -> Result<(), Fail> {
         member 1 packets 1 drops 0 freezes 0 blocks 1\n\
         total arrivals 3 filtered 0 kept 3 drops 0\n";
     assert_eq!(rt; ran.printed.as_slice(), lines);
-    let first = output(alloc, &shapes, &[(0, 60), (1, 60)])?;
-    assert_eq!(rt; ran.files.file(b"out.0.pcap"), Some(first.as_slice()));
-    let second = output(alloc, &shapes, &[(0, 60)])?;
-    assert_eq!(rt; ran.files.file(b"out.1.pcap"), Some(second.as_slice()));
+    assert!(rt; has_kept(rt.alloc(), &ran, b"out.0.pcap", &[(0, 60), (1, 60)])?);
+    assert!(rt; has_kept(rt.alloc(), &ran, b"out.1.pcap", &[(0, 60)])?);
     Ok(())
+}
+
+/// The lengths of the output file and of the dump.
+fn lengths(ran: &Ran) -> (Option<usize>, Option<usize>) {
+    (
+        length_of(&ran.files, b"out.0.pcap"),
+        length_of(&ran.files, b"out.0.blk"),
+    )
+}
+
+/// A setup, the save that fails, and the lengths of the output file and of the dump.
+type Unsaved<'a> = (Texts<'a>, u64, (Option<usize>, Option<usize>));
+
+static UNSAVED: [Unsaved<'static>; 3] = [
+    (NO_TEXT, 1, (None, None)),
+    (TEXTS, 1, (None, Some(480))),
+    (TEXTS, 2, (Some(252), None)),
+];
+
+/// A run over three frames, of which a save fails.
+fn replay_unsaved(alloc: Global, texts: Texts<'_>, save: u64) -> Result<Ran, Memory> {
+    let bytes = capture(alloc, FRAMES)?;
+    let faults = Faults {
+        saves: &[save],
+        ..NO_FAULT
+    };
+    replay(alloc, texts, bytes.as_slice(), faults)
 }
 
 #[test]
 fn a_save_that_fails_leaves_the_others(rt: HostRuntime) -> Result<(), Fail> {
-    let alloc = rt.alloc();
-    let bytes = capture(alloc, FRAMES)?;
-    let rows = [
-        (NO_TEXT, 1u64, None, None),
-        (TEXTS, 1, None, Some(480)),
-        (TEXTS, 2, Some(252), None),
-    ];
-    for (texts, save, output, dump) in rows {
-        let faults = Faults {
-            saves: &[save],
-            ..NO_FAULT
-        };
-        let ran = replay(alloc, texts, bytes.as_slice(), faults)?;
+    for (texts, save, left) in &UNSAVED {
+        let ran = replay_unsaved(rt.alloc(), *texts, *save)?;
         assert_eq!(rt; ran.outcome.status, Status::WriteFault, "{save}");
-        assert!(rt; ran.outcome.report.is_some());
-        let lines = lines(alloc, 3, "ok")?;
-        assert_eq!(rt; ran.printed.as_slice(), lines.as_bytes());
-        assert_eq!(rt; length_of(&ran.files, b"out.0.pcap"), output);
-        assert_eq!(rt; length_of(&ran.files, b"out.0.blk"), dump);
+        assert!(rt; has_lines(rt.alloc(), &ran, 3, "ok")?, "{save}");
+        assert_eq!(rt; lengths(&ran), *left, "{save}");
     }
     Ok(())
 }
 
+/// A run over three frames, of which a write fails; 0 for none.
+fn replay_unwritten(alloc: Global, write: u64) -> Result<Ran, Memory> {
+    let bytes = capture(alloc, FRAMES)?;
+    let mut files = store(alloc, TEXTS, bytes.as_slice(), NO_FAULT)?;
+    let mut out = PieceSink::new(alloc, write, OutError::Failed);
+    let outcome = call(alloc, &["replay", "conf", "sched"], &mut files, &mut out)?;
+    Ok(Ran {
+        outcome,
+        printed: out.bytes,
+        files,
+    })
+}
+
+/// Whether a run has a report, both its files, and so many bytes of its lines.
+fn is_written(alloc: Global, ran: &Ran, written: usize) -> Result<bool, Memory> {
+    let lines = lines(alloc, 3, "ok")?;
+    Ok(
+        ran.outcome.report.is_some()
+            && lines.as_bytes().get(..written) == Some(ran.printed.as_slice())
+            && lengths(ran) == (Some(252), Some(480)),
+    )
+}
+
 #[test]
 fn a_write_that_fails_is_a_write_fault(rt: HostRuntime) -> Result<(), Fail> {
-    let alloc = rt.alloc();
-    let bytes = capture(alloc, FRAMES)?;
-    let lines = lines(alloc, 3, "ok")?;
     // 122 bytes by 50 at most
-    for (write, written) in [(0u64, 122), (1, 0), (2, 50), (3, 100)] {
-        let mut files = store(alloc, TEXTS, bytes.as_slice(), NO_FAULT)?;
-        let mut out = PieceSink::new(alloc, write, OutError::Failed);
-        let outcome = call(alloc, &["replay", "conf", "sched"], &mut files, &mut out)?;
-        let number = if write == 0 { 0 } else { 6 };
-        assert_eq!(rt; outcome.status.number(), number, "{write}");
-        assert!(rt; outcome.report.is_some());
-        assert_eq!(rt; Some(out.bytes.as_slice()), lines.as_bytes().get(..written));
-        assert_eq!(rt; length_of(&files, b"out.0.pcap"), Some(252));
-        assert_eq!(rt; length_of(&files, b"out.0.blk"), Some(480));
+    for (write, number, written) in [(0u64, 0u8, 122usize), (1, 6, 0), (2, 6, 50), (3, 6, 100)] {
+        let ran = replay_unwritten(rt.alloc(), write)?;
+        assert_eq!(rt; ran.outcome.status.number(), number, "{write}");
+        assert!(rt; is_written(rt.alloc(), &ran, written)?, "{write}");
     }
     Ok(())
 }
@@ -216,24 +281,20 @@ fn end_of_cut(alloc: Global, length: usize) -> Result<(Status, String, usize), M
     Ok((Status::Damaged { cpu: 0, fault }, end, frames))
 }
 
+/// Whether a run over the front of three frames' capture keeps its whole records.
+fn keeps_whole_records(alloc: Global, front: &[u8]) -> Result<bool, Memory> {
+    let ran = replay(alloc, TEXTS, front, NO_FAULT)?;
+    let (status, end, frames) = end_of_cut(alloc, front.len())?;
+    Ok(ran.outcome.status == status && is_of(alloc, &ran, frames, end.as_str())?)
+}
+
 #[test]
 fn a_capture_cut_anywhere_keeps_its_whole_records(rt: HostRuntime) -> Result<(), Fail> {
-    let alloc = rt.alloc();
-    let bytes = capture(alloc, FRAMES)?;
+    let bytes = capture(rt.alloc(), FRAMES)?;
     assert_eq!(rt; bytes.len(), 252);
     for length in 0..=bytes.len() {
         let (front, _) = bytes.as_slice().split_at(length);
-        let ran = replay(alloc, TEXTS, front, NO_FAULT)?;
-        let (status, end, frames) = end_of_cut(alloc, length)?;
-        assert_eq!(rt; ran.outcome.status, status, "{length}");
-        let lines = lines(alloc, frames, end.as_str())?;
-        assert_eq!(rt; ran.printed.as_slice(), lines.as_bytes());
-        let output = output_of(alloc, frames)?;
-        assert_eq!(rt;
-            ran.files.file(b"out.0.pcap"),
-            Some(output.as_slice()),
-            "{length}"
-        );
+        assert!(rt; keeps_whole_records(rt.alloc(), front)?, "{length}");
     }
     Ok(())
 }
@@ -254,16 +315,10 @@ fn a_record_that_is_too_long_is_damage(rt: HostRuntime) -> Result<(), Fail> {
 
 #[test]
 fn one_byte_by_a_read_is_the_same_as_all(rt: HostRuntime) -> Result<(), Fail> {
-    let alloc = rt.alloc();
     for piece in [1, 7, 65_536] {
-        let faults = Faults { piece, ..NO_FAULT };
-        let ran = replay_three(alloc, faults)?;
+        let ran = replay_three(rt.alloc(), Faults { piece, ..NO_FAULT })?;
         assert_eq!(rt; ran.outcome.status, Status::Fine, "{piece}");
-        let lines = lines(alloc, 3, "ok")?;
-        assert_eq!(rt; ran.printed.as_slice(), lines.as_bytes());
-        let output = output_of(alloc, 3)?;
-        assert_eq!(rt; ran.files.file(b"out.0.pcap"), Some(output.as_slice()));
-        assert_eq!(rt; length_of(&ran.files, b"out.0.blk"), Some(480));
+        assert!(rt; is_of(rt.alloc(), &ran, 3, "ok")?, "{piece}");
     }
     Ok(())
 }
@@ -286,30 +341,31 @@ fn wanting(alloc: Global, calls: u64, write: u64) -> Result<(u8, bool, Vec<u8>),
     Ok((outcome.status.number(), outcome.report.is_some(), out.bytes))
 }
 
+/// Whether a run that wants memory ends without a report, and tells it.
+fn is_want(alloc: Global, calls: u64, write: u64) -> Result<bool, Memory> {
+    let (number, is_reported, printed) = wanting(alloc, calls, write)?;
+    Ok(number == 7 && !is_reported && printed.as_slice().ends_with(b"out of memory\n"))
+}
+
+/// The calls of the store that want memory, three fetches and two saves, and the writes, which are three.
+static WANTS: [(u64, u64); 8] = [
+    (1, 0),
+    (2, 0),
+    (3, 0),
+    (4, 0),
+    (5, 0),
+    (0, 1),
+    (0, 2),
+    (0, 3),
+];
+
 #[test]
 fn a_call_that_wants_memory_ends_the_command(rt: HostRuntime) -> Result<(), Fail> {
-    let alloc = rt.alloc();
-    let lines = lines(alloc, 3, "ok")?;
-    // three fetches and two saves, and three writes
-    for (calls, write) in [
-        (1u64, 0u64),
-        (2, 0),
-        (3, 0),
-        (4, 0),
-        (5, 0),
-        (0, 1),
-        (0, 2),
-        (0, 3),
-    ] {
-        let (number, is_reported, printed) = wanting(alloc, calls, write)?;
-        assert_eq!(rt; number, 7, "{calls} {write}");
-        assert!(rt; !is_reported, "{calls} {write}");
-        assert!(rt;
-            printed.as_slice().ends_with(b"out of memory\n"),
-            "{calls} {write}"
-        );
+    for (calls, write) in &WANTS {
+        assert!(rt; is_want(rt.alloc(), *calls, *write)?, "{calls} {write}");
     }
-    let (number, is_reported, printed) = wanting(alloc, 6, 4)?;
+    let lines = lines(rt.alloc(), 3, "ok")?;
+    let (number, is_reported, printed) = wanting(rt.alloc(), 6, 4)?;
     assert_eq!(rt; (number, is_reported), (0, true));
     assert_eq!(rt; printed.as_slice(), lines.as_bytes());
     Ok(())

@@ -139,26 +139,42 @@ fn unprinted(
     Ok((outcome, out.bytes))
 }
 
+/// Whether a command has its status, and prints its line.
+fn is_refused(alloc: Global, refusal: &Refusal<'_>) -> Result<bool, Memory> {
+    let (words, texts, number, line) = refusal;
+    let (found, printed) = answer(alloc, words, *texts, NO_FAULT)?;
+    Ok(found == *number && printed.as_slice() == line.as_bytes())
+}
+
 #[test]
 fn a_command_that_makes_no_run_says_why(rt: HostRuntime) -> Result<(), Fail> {
-    for (words, texts, number, line) in &REFUSALS {
-        let (answer, printed) = answer(rt.alloc(), words, *texts, NO_FAULT)?;
-        assert_eq!(rt; answer, *number, "{line}");
-        assert_eq!(rt; printed.as_slice(), line.as_bytes());
+    for refusal in &REFUSALS {
+        assert!(rt; is_refused(rt.alloc(), refusal)?, "{}", refusal.3);
     }
     Ok(())
 }
 
+/// Whether a command's line that can't be written is a fault of writing.
+fn is_write_fault(alloc: Global, refusal: &Refusal<'_>) -> Result<bool, Memory> {
+    let (outcome, printed) = unprinted(alloc, refusal.0, refusal.1, OutError::Failed)?;
+    Ok(outcome.status == Status::WriteFault && outcome.report.is_none() && printed.is_empty())
+}
+
+/// Whether want of memory for a command's line is told.
+fn is_want(alloc: Global, refusal: &Refusal<'_>) -> Result<bool, Memory> {
+    let (outcome, printed) = unprinted(alloc, refusal.0, refusal.1, OutError::Memory)?;
+    Ok(
+        outcome.status == Status::Memory
+            && outcome.report.is_none()
+            && printed.as_slice() == b"out of memory\n".as_slice(),
+    )
+}
+
 #[test]
 fn a_line_that_cannot_be_printed(rt: HostRuntime) -> Result<(), Fail> {
-    for (words, texts, _, line) in &REFUSALS {
-        let (outcome, printed) = unprinted(rt.alloc(), words, *texts, OutError::Failed)?;
-        assert_eq!(rt; outcome.status, Status::WriteFault, "{line}");
-        assert!(rt; outcome.report.is_none() && printed.is_empty());
-        let (outcome, printed) = unprinted(rt.alloc(), words, *texts, OutError::Memory)?;
-        assert_eq!(rt; outcome.status, Status::Memory, "{line}");
-        assert!(rt; outcome.report.is_none());
-        assert_eq!(rt; printed.as_slice(), b"out of memory\n".as_slice());
+    for refusal in &REFUSALS {
+        assert!(rt; is_write_fault(rt.alloc(), refusal)?, "{}", refusal.3);
+        assert!(rt; is_want(rt.alloc(), refusal)?, "{}", refusal.3);
     }
     Ok(())
 }
@@ -175,13 +191,18 @@ static SETUPS: [(&str, &str); 2] = [
     ),
 ];
 
+/// What `replay` answers to a setup.
+fn answer_to_setup(alloc: Global, text: &str) -> Result<(u8, Vec<u8>), Memory> {
+    let mut files = store(alloc, NO_TEXT, b"", NO_FAULT)?;
+    let none = MomentList::new(alloc);
+    files.put(b"conf", text.as_bytes(), 65_536, none)?;
+    answer_on(alloc, REPLAY, &mut files)
+}
+
 #[test]
 fn a_setup_that_is_refused(rt: HostRuntime) -> Result<(), Fail> {
     for (text, line) in &SETUPS {
-        let mut files = store(rt.alloc(), NO_TEXT, b"", NO_FAULT)?;
-        let none = MomentList::new(rt.alloc());
-        files.put(b"conf", text.as_bytes(), 65_536, none)?;
-        let (number, printed) = answer_on(rt.alloc(), REPLAY, &mut files)?;
+        let (number, printed) = answer_to_setup(rt.alloc(), text)?;
         assert_eq!(rt; number, 2, "{line}");
         assert_eq!(rt; printed.as_slice(), line.as_bytes());
     }
@@ -202,25 +223,45 @@ static FILTERS: [(&str, &str); 7] = [
     ),
 ];
 
+/// The commands that read a filter: the words, and the fetches that fail.
+static FILTERED: [(&[&str], &[u64]); 3] = [(CHECK, &[]), (REPLAY, &[]), (REPLAY, &[3])];
+
+/// What a command over a filter answers, where a line of the schedule is wrong.
+fn answer_to_filter(
+    alloc: Global,
+    filter: &str,
+    words: &[&str],
+    fetches: &[u64],
+) -> Result<(u8, Vec<u8>), Memory> {
+    let texts = Texts {
+        lines: "filter f.ddd\n",
+        filter,
+        schedule: "feed 1\n",
+    };
+    let faults = Faults {
+        fetches,
+        ..NO_FAULT
+    };
+    answer(alloc, words, texts, faults)
+}
+
+/// Whether each of these commands refuses a filter with a line.
+fn refuse_filter(alloc: Global, filter: &str, line: &str) -> Result<bool, Memory> {
+    for (words, fetches) in &FILTERED {
+        let (number, printed) = answer_to_filter(alloc, filter, words, fetches)?;
+        if number != 3 || printed.as_slice() != line.as_bytes() {
+            return Ok(false);
+        }
+    }
+    Ok(true)
+}
+
 #[test]
 fn a_filter_that_is_refused_ends_the_command_before_the_schedule(
     rt: HostRuntime,
 ) -> Result<(), Fail> {
-    let unscheduled = Faults {
-        fetches: &[3],
-        ..NO_FAULT
-    };
     for (filter, line) in &FILTERS {
-        let texts = Texts {
-            lines: "filter f.ddd\n",
-            filter,
-            schedule: "feed 1\n",
-        };
-        for (words, faults) in [(CHECK, NO_FAULT), (REPLAY, NO_FAULT), (REPLAY, unscheduled)] {
-            let (number, printed) = answer(rt.alloc(), words, texts, faults)?;
-            assert_eq!(rt; number, 3, "{line}");
-            assert_eq!(rt; printed.as_slice(), line.as_bytes());
-        }
+        assert!(rt; refuse_filter(rt.alloc(), filter, line)?, "{line}");
     }
     Ok(())
 }
@@ -236,30 +277,53 @@ const UNTICKED: &str = "cpu 0 frames 0 arrivals 0 end ok\n\
     member 0 packets 0 drops 0 freezes 0 blocks 0\n\
     total arrivals 0 filtered 0 kept 0 drops 0\n";
 
-#[test]
-fn moments_are_checked_and_not_replayed(rt: HostRuntime) -> Result<(), Fail> {
-    let alloc = rt.alloc();
+/// Whether a command over a store has this status, and prints this.
+fn is_answered(
+    alloc: Global,
+    words: &[&str],
+    files: &mut MemStore,
+    number: u8,
+    line: &str,
+) -> Result<bool, Memory> {
+    let (found, printed) = answer_on(alloc, words, files)?;
+    Ok(found == number && printed.as_slice() == line.as_bytes())
+}
+
+/// A store with a setup that names moments, which aren't there, and with a capture without a frame.
+fn unticked_store(alloc: Global) -> Result<MemStore, Memory> {
     let texts = Texts {
         lines: "filter f.ddd\nticks t.txt\n",
         filter: "1\n6 0 0 96\n",
         schedule: "",
     };
     let bytes = capture(alloc, &[])?;
+    store(alloc, texts, bytes.as_slice(), NO_FAULT)
+}
+
+/// Whether `check` answers so, and `replay` doesn't read the moments.
+fn is_checked_alone(
+    alloc: Global,
+    files: &mut MemStore,
+    number: u8,
+    line: &str,
+) -> Result<bool, Memory> {
+    Ok(
+        is_answered(alloc, CHECK, files, number, line)?
+            && is_answered(alloc, REPLAY, files, 0, UNTICKED)?,
+    )
+}
+
+#[test]
+fn moments_are_checked_and_not_replayed(rt: HostRuntime) -> Result<(), Fail> {
+    let alloc = rt.alloc();
     for (ticks, number, line) in &TICKS {
-        let mut files = store(alloc, texts, bytes.as_slice(), NO_FAULT)?;
-        let (none, printed) = answer_on(alloc, CHECK, &mut files)?;
-        assert_eq!(rt; none, 5);
-        assert_eq!(rt; printed.as_slice(), b"read fault\n".as_slice());
-        let (unread, printed) = answer_on(alloc, REPLAY, &mut files)?;
-        assert_eq!(rt; unread, 0);
-        assert_eq!(rt; printed.as_slice(), UNTICKED.as_bytes());
+        let mut files = unticked_store(alloc)?;
+        assert!(rt; is_checked_alone(alloc, &mut files, 5, "read fault\n")?);
         files.put(b"t.txt", ticks.as_bytes(), 65_536, MomentList::new(alloc))?;
-        let (checked, printed) = answer_on(alloc, CHECK, &mut files)?;
-        assert_eq!(rt; checked, *number, "{line}");
-        assert_eq!(rt; printed.as_slice(), line.as_bytes());
-        let (unread, printed) = answer_on(alloc, REPLAY, &mut files)?;
-        assert_eq!(rt; unread, 0);
-        assert_eq!(rt; printed.as_slice(), UNTICKED.as_bytes());
+        assert!(rt;
+            is_checked_alone(alloc, &mut files, *number, line)?,
+            "{line}"
+        );
     }
     Ok(())
 }

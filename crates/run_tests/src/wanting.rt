@@ -1,6 +1,6 @@
 //! A store that wants memory at one of its calls, and a sink that takes its bytes in pieces and gives up at one of its
 //! writes.
-ghost use Rattle.std.specs.Prelude.{◌≡◌, true, refl, None};
+ghost use Rattle.std.specs.Prelude.{◌≡◌, [], true, refl, None};
 
 use std::alloc::Global;
 use tap_outside::{MemSource, MemStore, OutError, Sink, Store};
@@ -79,7 +79,13 @@ pub(crate) struct PieceSink {
 
 impl PieceSink {
     /// A sink without a byte.
-    pub fn new(alloc: Global, at: u64, error: OutError) -> PieceSink {
+    pub fn new(alloc: Global, at: u64, error: OutError) -> PieceSink
+        ensures empty { result.bytes.items ≡ [] }
+        ensures place { result.at ≡ at }
+        ensures answer { result.error ≡ error }
+        ensures unwritten { result.writes ≡ 0 }
+        ensures faultless { result.faults ≡ 0 }
+    {
         PieceSink {
             bytes: Vec::new(alloc),
             at,

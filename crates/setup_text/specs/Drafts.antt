@@ -2,7 +2,7 @@
 use Rattle.std.specs.Prelude.{ℕ, Bool, List, [], ◌∷◌, ◌++◌, length, codes, bytes_eq, nat_lt, true, false, if◌then◌else◌, Option, None, Some, Result, Ok, Err}
 use Rattle.text_lines.specs.Words.{is_plain, words_of}
 use Rattle.setup_text.specs.SetupWords.{word_named}
-use Rattle.setup_text.specs.Values.{any_number, bytes_in, mode_in, name_in, number_to}
+use Rattle.setup_text.specs.Values.{any_number, bytes_in, made_in, mode_in, name_in, number_to}
 use Rattle.setup_text.specs.declared.drafts.Draft.{Draft}
 use Rattle.setup_text.specs.declared.setup_words.SetupWord.{SetupWord}
 use Rattle.setup_text.specs.declared.setup_words.SetupWord.TheVariants as word
@@ -30,6 +30,8 @@ nothing_said = record {
   ticks = None;
   out = None;
   dump = false;
+  skip_bad = false;
+  made = None;
 }
 
 abbrev pub said : {A : Type 0} → Result A SetupKind → (A → Draft) → Result Draft SetupKind
@@ -49,6 +51,11 @@ once before value draft = said (put_once before value) draft
 abbrev pub set_once : Bool → Result Bool SetupKind
 set_once true = Err Twice
 set_once false = Ok true
+
+-- what stands once with the word `yes`, and with no other
+abbrev pub yes_once : Bool → List ℕ → Result Bool SetupKind
+yes_once true word = Err Twice
+yes_once false word = if bytes_eq word (codes "yes") then Ok true else Err UnknownWord
 
 -- the queue of the CPU of that number
 abbrev pub queue_in : ℕ → Option (List ℕ) → Result ℕ SetupKind
@@ -75,13 +82,6 @@ flag_after draft word =
     else if bytes_eq word (codes "defrag") then said (set_once draft.defrag) (λ set. record draft { defrag = set })
     else Err UnknownWord
 
--- that the blocks are written, for which the only word is `yes`
-unfoldable pub dump_after : Draft → List ℕ → Result Draft SetupKind
-dump_after draft word =
-    if draft.dump then Err Twice
-    else if bytes_eq word (codes "yes") then Ok (record draft { dump = true })
-    else Err UnknownWord
-
 -- a setup word with one value: what the value is, and where it is kept
 unfoldable pub value_after : Draft → SetupWord → List ℕ → Result Draft SetupKind
 value_after draft word.BlockSize value = once draft.block_size (any_number value) (λ n. record draft { block_size = n })
@@ -100,11 +100,14 @@ value_after draft word.Mac value = once draft.mac (bytes_in 6 value) (λ bytes. 
 value_after draft word.Filter value = once draft.filter (name_in value) (λ name. record draft { filter = name })
 value_after draft word.Ticks value = once draft.ticks (name_in value) (λ name. record draft { ticks = name })
 value_after draft word.Out value = once draft.out (name_in value) (λ name. record draft { out = name })
-value_after draft word.Dump value = dump_after draft value
+value_after draft word.Dump value = said (yes_once draft.dump value) (λ set. record draft { dump = set })
+value_after draft word.SkipBad value = said (yes_once draft.skip_bad value) (λ set. record draft { skip_bad = set })
+value_after draft word.Make value = Err BadLine
 
--- a setup word with two values, which only a CPU has
+-- a setup word with two values, which only a CPU and made frames have
 abbrev pub pair_after : Draft → SetupWord → List ℕ → List ℕ → Result Draft SetupKind
 pair_after draft word.Cpu file queue = cpu_after draft file (Some queue)
+pair_after draft word.Make seed count = once draft.made (made_in seed count) (λ made. record draft { made = made })
 pair_after draft word value second = Err BadLine
 
 -- a setup word and its values

@@ -31,6 +31,7 @@ needed_word needed.BlockNr = name_of word.BlockNr
 needed_word needed.FrameSize = name_of word.FrameSize
 needed_word needed.FrameNr = name_of word.FrameNr
 needed_word needed.Cpu = name_of word.Cpu
+needed_word needed.Make = name_of word.Make
 
 -- a text
 abbrev pub which_word : Which → List ℕ

@@ -1,5 +1,5 @@
 -- What a setup says, over the bytes of its text.
-use Rattle.std.specs.Prelude.{ℕ, ◌+◌, Bool, List, [], ◌∷◌, codes, length, nat_lt, true, false, is_some, if◌then◌else◌, Option, None, Some, option_map, Result, Ok, Err}
+use Rattle.std.specs.Prelude.{ℕ, ◌+◌, Bool, List, [], ◌∷◌, codes, length, nat_lt, ◌&&◌, true, false, is_some, if◌then◌else◌, Option, None, Some, option_map, Result, Ok, Err}
 use Rattle.std.specs.Option.{is_none, option_or, unwrap_or}
 use Rattle.fanout_group.specs.Plans.{Shape, fault_of}
 use Rattle.fanout_group.specs.declared.plan_error.PlanError.{PlanError}
@@ -7,7 +7,7 @@ use Rattle.fanout_group.specs.declared.modes.Mode.{Mode}
 use Rattle.fanout_group.specs.declared.modes.Mode.TheVariants as mode
 use Rattle.text_lines.specs.Lines.{lines_of}
 use Rattle.text_lines.specs.Readings.{read_lines}
-use Rattle.tp_layout.specs.Requests.{receive_fault}
+use Rattle.tp_layout.specs.Requests.{receive_fault, transmit_fault}
 use Rattle.tp_layout.specs.declared.error.RequestError.{RequestError}
 use Rattle.tp_layout.specs.declared.requests.RingRequest.{RingRequest}
 use Rattle.setup_text.specs.Drafts.{line_after, nothing_said}
@@ -15,8 +15,9 @@ use Rattle.setup_text.specs.declared.commands.Command.{Command}
 use Rattle.setup_text.specs.declared.commands.Command.TheVariants as command
 use Rattle.setup_text.specs.declared.cpu_setups.CpuSetup.{CpuSetup}
 use Rattle.setup_text.specs.declared.drafts.Draft.{Draft}
+use Rattle.setup_text.specs.declared.made_frames.MadeFrames.{MadeFrames}
 use Rattle.setup_text.specs.declared.setup_error.Needed.{Needed}
-use Rattle.setup_text.specs.declared.setup_error.Needed.TheVariants.{BlockSize, BlockNr, FrameSize, FrameNr, Cpu}
+use Rattle.setup_text.specs.declared.setup_error.Needed.TheVariants as needed
 use Rattle.setup_text.specs.declared.setup_error.SetupError.{SetupError}
 use Rattle.setup_text.specs.declared.setup_error.SetupKind.{SetupKind}
 use Rattle.setup_text.specs.declared.setup_error.SetupKind.TheVariants.{Missing, Request, Group, TooLarge}
@@ -28,14 +29,20 @@ abbrev pub has_no_cpu : List CpuSetup → Bool
 has_no_cpu [] = true
 has_no_cpu (cpu ∷ cpus) = false
 
--- the first line that is missing
-unfoldable pub missing : Draft → Option Needed
-missing draft =
-    if is_none draft.block_size then Some BlockSize
-    else if is_none draft.block_nr then Some BlockNr
-    else if is_none draft.frame_size then Some FrameSize
-    else if is_none draft.frame_nr then Some FrameNr
-    else if has_no_cpu draft.cpus then Some Cpu
+-- whether the command makes the frames that it replays
+abbrev pub makes_frames : Command → Bool
+makes_frames command.Make = true
+makes_frames given = false
+
+-- the first line that is missing for the command
+unfoldable pub missing : Command → Draft → Option Needed
+missing given draft =
+    if is_none draft.block_size then Some needed.BlockSize
+    else if is_none draft.block_nr then Some needed.BlockNr
+    else if is_none draft.frame_size then Some needed.FrameSize
+    else if is_none draft.frame_nr then Some needed.FrameNr
+    else if has_no_cpu draft.cpus then Some needed.Cpu
+    else if makes_frames given && is_none draft.made then Some needed.Make
     else None
 
 -- the ring that is asked for
@@ -50,10 +57,10 @@ request_of draft = record {
   features = unwrap_or draft.features 0;
 }
 
--- why the ring can't be had, for the command
+-- why the ring can't be had, for the command: one of the commands sends
 abbrev pub request_fault : Command → RingRequest → Option RequestError
-request_fault command.Check request = receive_fault request
-request_fault command.Replay request = receive_fault request
+request_fault command.Send request = transmit_fault request
+request_fault given request = receive_fault request
 
 -- the flags as linux/if_packet.h numbers them
 abbrev pub flags_of : Draft → ℕ
@@ -72,10 +79,25 @@ group_fault draft = fault_of (members_of draft) (mode_of draft) (flags_of draft)
 abbrev pub group_of : Draft → Shape
 group_of draft = record { members = members_of draft; mode = mode_of draft; flags = flags_of draft }
 
+-- the number that frames are made from, and how many there are
+abbrev pub seed_in : Option MadeFrames → ℕ
+seed_in None = 0
+seed_in (Some made) = made.seed
+
+abbrev pub count_in : Option MadeFrames → ℕ
+count_in None = 0
+count_in (Some made) = made.count
+
+abbrev pub seed_of : Draft → ℕ
+seed_of draft = seed_in draft.made
+
+abbrev pub count_of : Draft → ℕ
+count_of draft = count_in draft.made
+
 -- the first fault of lines that have none each: what is missing, then the ring, then the group
 abbrev pub fault_after : Command → Draft → Option SetupKind
 fault_after command draft =
-    option_or (option_map Missing (missing draft))
+    option_or (option_map Missing (missing command draft))
     (option_or (option_map Request (request_fault command (request_of draft))) (option_map Group (group_fault draft)))
 
 -- the setup of lines that have no fault
@@ -91,6 +113,9 @@ setup_from draft = record {
   ticks = draft.ticks;
   prefix = unwrap_or draft.out (codes "out");
   dump = draft.dump;
+  skip_bad = draft.skip_bad;
+  seed = seed_of draft;
+  count = count_of draft;
 }
 
 abbrev pub answer : {A : Type 0} → Option SetupKind → A → Result A SetupKind

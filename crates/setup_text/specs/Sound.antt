@@ -13,7 +13,7 @@ pub record IsCpu (cpu : CpuSetup) : Type 0 where
   pub name : length cpu.file ≤ 255
   pub queue : cpu.queue ≤ 65535
 
--- a setup has 1 to 8 CPUs, a ring that can be had, and a group that there is
+-- a setup has 1 to 8 CPUs, a ring that can be had, a group that there is, and at most 20,000 made frames
 pub record IsSetup (setup : Setup) : Type 0 where
   pub some : 0 < length setup.cpus
   pub few : length setup.cpus ≤ 8
@@ -21,6 +21,7 @@ pub record IsSetup (setup : Setup) : Type 0 where
   pub shape : setup.shape ≡ setup.request
   pub ring : receive_fault setup.request ≡ None
   pub group : fault_of setup.plan.members setup.plan.mode setup.plan.flags (is_some setup.key) ≡ None
+  pub count : setup.count ≤ 20000
 
 -- the moments rise or stand, in milliseconds, and each is a number of 32 bits
 abbrev pub AreRising : ℕ → List ℕ → Type 0

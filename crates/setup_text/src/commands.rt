@@ -7,4 +7,8 @@ pub enum Command {
     Check,
     /// The captures are replayed as a schedule says.
     Replay,
+    /// The first CPU's capture is sent through a transmit ring.
+    Send,
+    /// Frames made from a number are replayed.
+    Make,
 }

@@ -1,9 +1,10 @@
 //! What the lines of a setup say so far.
 ghost use Rattle.std.specs.Prelude.{◌≡◌, option_copied};
 ghost use Rattle.setup_text.specs.Answers.{IsRight, is_want, leaves};
-ghost use Rattle.setup_text.specs.Drafts.{cpu_after, dump_after, flag_after, line_after, nothing_said, put_once, queue_in, set_once, value_after, values_after};
+ghost use Rattle.setup_text.specs.Drafts.{cpu_after, flag_after, line_after, nothing_said, pair_after, put_once, queue_in, set_once, value_after, values_after, yes_once};
 ghost use Rattle.text_lines.specs.Words.{words_of};
 
+use crate::made_frames::MadeFrames;
 use crate::setup_words::SetupWord;
 use crate::values::{address, any_number, key, mode, name, number_to};
 use crate::{CpuSetup, CpuSetupList, SetupKind};
@@ -61,6 +62,10 @@ pub(crate) struct Draft {
     pub(crate) out: Option<Word>,
     /// Whether the retired blocks are written too.
     pub(crate) dump: bool,
+    /// Whether a frame that is longer than a slot holds is passed over.
+    pub(crate) skip_bad: bool,
+    /// The frames that are made.
+    pub(crate) made: Option<MadeFrames>,
 }
 
 impl Draft {
@@ -87,6 +92,8 @@ impl Draft {
             ticks: None,
             out: None,
             dump: false,
+            skip_bad: false,
+            made: None,
         }
     }
 
@@ -119,10 +126,10 @@ impl Draft {
         let Some((second, rest)) = next_word(rest) else {
             return self.say_one(alloc, word, value);
         };
-        match word {
-            SetupWord::Cpu if next_word(rest).is_none() => self.add_cpu(alloc, value, Some(second)),
-            _ => Err(SetupKind::BadLine),
+        if next_word(rest).is_some() {
+            return Err(SetupKind::BadLine);
         }
+        self.say_two(alloc, word, value, second)
     }
 
     /// Reads the only value of a setup word.
@@ -147,7 +154,27 @@ impl Draft {
             SetupWord::Filter => once(&mut self.filter, name(alloc, value)),
             SetupWord::Ticks => once(&mut self.ticks, name(alloc, value)),
             SetupWord::Out => once(&mut self.out, name(alloc, value)),
-            SetupWord::Dump => self.set_dump(value),
+            SetupWord::Dump => yes(&mut self.dump, value),
+            SetupWord::SkipBad => yes(&mut self.skip_bad, value),
+            SetupWord::Make => Err(SetupKind::BadLine),
+        }
+    }
+
+    /// Reads the two values of a setup word.
+    fn say_two(
+        &mut self,
+        alloc: Global,
+        word: SetupWord,
+        value: &[u8],
+        second: &[u8],
+    ) -> Result<(), SetupKind>
+        ensures { IsRight is_want (leaves self.new result)
+            (pair_after self.old word value.now second.now) }
+    {
+        match word {
+            SetupWord::Cpu => self.add_cpu(alloc, value, Some(second)),
+            SetupWord::Make => once(&mut self.made, MadeFrames::read(value, second)),
+            _ => Err(SetupKind::BadLine),
         }
     }
 
@@ -180,21 +207,6 @@ impl Draft {
             Err(SetupKind::UnknownWord)
         }
     }
-
-    /// Has the blocks written.
-    #[tactic(auto, unfolding(crate::specs::Drafts::dump_after))]
-    fn set_dump(&mut self, word: &[u8]) -> Result<(), SetupKind>
-        ensures { leaves self.new result ≡ dump_after self.old word.now }
-    {
-        if self.dump {
-            return Err(SetupKind::Twice);
-        }
-        if word != b"yes".as_slice() {
-            return Err(SetupKind::UnknownWord);
-        }
-        self.dump = true;
-        Ok(())
-    }
 }
 
 /// Keeps the value of a word that stands once.
@@ -214,6 +226,20 @@ fn set(field: &mut bool) -> Result<(), SetupKind>
 {
     if *field {
         return Err(SetupKind::Twice);
+    }
+    *field = true;
+    Ok(())
+}
+
+/// Sets what the word `yes` sets, once.
+fn yes(field: &mut bool, word: &[u8]) -> Result<(), SetupKind>
+    ensures { leaves field.new result ≡ yes_once field.old word.now }
+{
+    if *field {
+        return Err(SetupKind::Twice);
+    }
+    if word != b"yes".as_slice() {
+        return Err(SetupKind::UnknownWord);
     }
     *field = true;
     Ok(())

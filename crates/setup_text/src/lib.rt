@@ -6,6 +6,7 @@ mod cpu_setups;
 mod drafts;
 mod filters;
 mod jobs;
+mod made_frames;
 mod moments;
 mod reports;
 mod schedules;

@@ -41,7 +41,7 @@ pub enum SetupKind {
     Memory,
 }
 
-/// A line that each setup has, in the order in which they are missed.
+/// A line that a setup has, in the order in which they are missed.
 #[derive(Clone, Copy, Debug, PartialEq, Eq)]
 pub enum Needed {
     /// The size of a block.
@@ -54,6 +54,8 @@ pub enum Needed {
     FrameNr,
     /// A CPU with its capture.
     Cpu,
+    /// How frames are made, which the command `make` alone needs.
+    Make,
 }
 
 impl SetupKind {
@@ -86,6 +88,7 @@ impl Needed {
             Needed::FrameSize => SetupWord::FrameSize,
             Needed::FrameNr => SetupWord::FrameNr,
             Needed::Cpu => SetupWord::Cpu,
+            Needed::Make => SetupWord::Make,
         };
         word.name()
     }

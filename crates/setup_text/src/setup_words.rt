@@ -39,10 +39,14 @@ pub(crate) enum SetupWord {
     Out,
     /// That the retired blocks are written too.
     Dump,
+    /// That a frame which a slot of a transmit ring can't hold is passed over.
+    SkipBad,
+    /// The number that frames are made from, and how many are made, 1 to 20,000.
+    Make,
 }
 
 /// All setup words.
-const ALL: [SetupWord; 17] = [
+const ALL: [SetupWord; 19] = [
     SetupWord::BlockSize,
     SetupWord::BlockNr,
     SetupWord::FrameSize,
@@ -60,6 +64,8 @@ const ALL: [SetupWord; 17] = [
     SetupWord::Ticks,
     SetupWord::Out,
     SetupWord::Dump,
+    SetupWord::SkipBad,
+    SetupWord::Make,
 ];
 
 impl SetupWord {
@@ -85,6 +91,8 @@ impl SetupWord {
             SetupWord::Ticks => "ticks",
             SetupWord::Out => "out",
             SetupWord::Dump => "dump",
+            SetupWord::SkipBad => "skip_bad",
+            SetupWord::Make => "make",
         }
     }
 

@@ -5,7 +5,8 @@ ghost use Rattle.fanout_group.specs.Plans.{AreFlags};
 ghost use Rattle.tp_layout.specs.Requests.{answer_of};
 ghost use Rattle.setup_text.specs.Answers.{IsRight, is_setup_want, is_want};
 ghost use Rattle.setup_text.specs.Sound.{IsSetup};
-ghost use Rattle.setup_text.specs.Setups.{draft_of, flags_of, group_fault, group_of, missing, request_fault, request_of, setup_after, setup_of};
+ghost use Rattle.setup_text.specs.Setups.{count_of, draft_of, flags_of, group_fault, group_of, missing, request_fault, request_of, seed_of, setup_after, setup_of};
+ghost use Rattle.setup_text.specs.declared.commands.Command.TheVariants.{Make};
 
 use crate::drafts::Draft;
 use crate::{Command, CpuSetupList, Needed, SetupError, SetupKind};
@@ -40,16 +41,26 @@ pub struct Setup {
     pub prefix: Word,
     /// Whether the retired blocks are written too.
     pub dump: bool,
+    /// Whether a frame that is longer than a slot of a transmit ring holds is passed over, in place of stopping the ring.
+    pub skip_bad: bool,
+    /// The number that `make`'s frames are made from; 0 where no line says it.
+    pub seed: u64,
+    /// How many frames `make` makes, at most 20,000; 0 where no line says it.
+    pub count: u32,
 }
 
 /// Reads a setup for a command. docs/setup.md says what its lines are.
 ///
 /// `TooLarge` comes for more than 1,048,576 bytes, with line 0. Then the first line with a fault answers, with its number
-/// from 1. Where no line has one, `Missing` comes for the first line that isn't there, then `Request` for a ring that
-/// can't be had, then `Group` for a group that there isn't, each with line 0. `Memory` is want of memory.
+/// from 1. Where no line has one, `Missing` comes for the first line that isn't there, of which `Make` alone needs the
+/// line `make`. Then `Request` comes for a ring that can't be had, which is a transmit ring for `Send` and a ring of
+/// captured frames for every other command, and then `Group` for a group that there isn't. Each has line 0. `Memory` is
+/// want of memory.
 pub fn read_setup(alloc: Global, text: &[u8], command: Command) -> Result<Setup, SetupError>
     ensures right { IsRight is_setup_want result (setup_of text.now command) }
     ensures sound { IfOk result IsSetup }
+    ensures ring { IfOk result (λ setup. request_fault command setup.request ≡ None) }
+    ensures made { command ≡ Make → IfOk result (λ setup. 1 ≤ setup.count) }
 {
     if text.len() > LARGEST_TEXT {
         return Err(SetupError {
@@ -89,12 +100,13 @@ fn draft_of(alloc: Global, text: &[u8]) -> Result<Draft, SetupError>
 fn complete(alloc: Global, draft: Draft, command: Command) -> Result<Setup, SetupKind>
     ensures { IsRight is_want result (setup_after command draft) }
 {
-    if let Some(needed) = draft.missing() {
+    if let Some(needed) = draft.missing(command) {
         return Err(SetupKind::Missing(needed));
     }
     let request = draft.request();
     let shape = shape_of(&request, command)?;
     let plan = draft.plan()?;
+    let (seed, count) = (draft.seed(), draft.count());
     let prefix = prefix_of(alloc, draft.out)?;
     Ok(Setup {
         request,
@@ -107,6 +119,9 @@ fn complete(alloc: Global, draft: Draft, command: Command) -> Result<Setup, Setu
         ticks: draft.ticks,
         prefix,
         dump: draft.dump,
+        skip_bad: draft.skip_bad,
+        seed,
+        count,
     })
 }
 
@@ -125,15 +140,16 @@ fn shape_of(request: &RingRequest, command: Command) -> Result<Shape, RequestErr
     ensures { result ≡ answer_of request.now (request_fault command request.now) }
 {
     match command {
-        Command::Check | Command::Replay => request.check(),
+        Command::Send => request.check_tx(),
+        Command::Check | Command::Replay | Command::Make => request.check(),
     }
 }
 
 impl Draft {
     /// The first line that is missing.
     #[tactic(auto, unfolding(crate::specs::Setups::missing))]
-    fn missing(&self) -> Option<Needed>
-        ensures { result ≡ missing self.now }
+    fn missing(&self, command: Command) -> Option<Needed>
+        ensures { result ≡ missing command self.now }
     {
         if self.block_size.is_none() {
             Some(Needed::BlockSize)
@@ -145,6 +161,8 @@ impl Draft {
             Some(Needed::FrameNr)
         } else if self.cpus.is_empty() {
             Some(Needed::Cpu)
+        } else if command == Command::Make && self.made.is_none() {
+            Some(Needed::Make)
         } else {
             None
         }
@@ -162,6 +180,26 @@ impl Draft {
             tov: self.tov.unwrap_or(0),
             sizeof_priv: self.sizeof_priv.unwrap_or(0),
             features: self.features.unwrap_or(0),
+        }
+    }
+
+    /// The number that frames are made from.
+    fn seed(&self) -> u64
+        ensures { result ≡ seed_of self.now }
+    {
+        match self.made {
+            Some(made) => u64::from(made.seed),
+            None => 0,
+        }
+    }
+
+    /// How many frames are made.
+    fn count(&self) -> u32
+        ensures { result ≡ count_of self.now }
+    {
+        match self.made {
+            Some(made) => made.count,
+            None => 0,
         }
     }
 

@@ -13,12 +13,28 @@ use tp_layout::RequestError;
 /// A setup with the lines that each one needs, five of them.
 const NEEDED: &str = "block_size 4096\nblock_nr 2\nframe_size 2048\nframe_nr 4\ncpu a.pcap\n";
 
-/// What is refused of a setup, if anything is.
-fn refusal(alloc: Global, text: &[u8]) -> Option<(u32, SetupKind)> {
-    match read_setup(alloc, text, Command::Replay) {
+/// The first four of these lines.
+const WITHOUT_CPU: &str = "block_size 4096\nblock_nr 2\nframe_size 2048\nframe_nr 4\n";
+
+/// What a setup is read for.
+static COMMANDS: [Command; 4] = [
+    Command::Check,
+    Command::Replay,
+    Command::Send,
+    Command::Make,
+];
+
+/// What a command refuses of a setup, if anything.
+fn refusal_by(alloc: Global, text: &[u8], command: Command) -> Option<(u32, SetupKind)> {
+    match read_setup(alloc, text, command) {
         Ok(_) => None,
         Err(SetupError { line, kind }) => Some((line, kind)),
     }
+}
+
+/// What is refused of a setup, if anything is.
+fn refusal(alloc: Global, text: &[u8]) -> Option<(u32, SetupKind)> {
+    refusal_by(alloc, text, Command::Replay)
 }
 
 /// Two texts, one behind the other.
@@ -29,7 +45,7 @@ fn joined(alloc: Global, front: &str, back: &str) -> Result<Vec<u8>, AllocError>
 }
 
 /// Lines behind the five that are needed, and the first fault.
-static ADDED: [(&str, u32, SetupKind); 67] = [
+static ADDED: [(&str, u32, SetupKind); 81] = [
     // the byte test comes before the word, and a comment isn't tested
     ("blok\u{e9} 3\n", 6, SetupKind::BadLine),
     ("tov \u{7f}\n", 6, SetupKind::BadLine),
@@ -40,8 +56,6 @@ static ADDED: [(&str, u32, SetupKind); 67] = [
     // unknown words, and those of commands that there aren't
     ("blok 3\n", 6, SetupKind::UnknownWord),
     ("Tov 8\n", 6, SetupKind::UnknownWord),
-    ("make 1 20000\n", 6, SetupKind::UnknownWord),
-    ("skip_bad yes\n", 6, SetupKind::UnknownWord),
     ("workers 2\n", 6, SetupKind::UnknownWord),
     // the number of values comes before a word that stood before
     ("block_size\n", 6, SetupKind::BadLine),
@@ -115,6 +129,27 @@ static ADDED: [(&str, u32, SetupKind); 67] = [
     ("dump\n", 6, SetupKind::BadLine),
     ("dump no\n", 6, SetupKind::UnknownWord),
     ("dump yes\ndump yes\n", 7, SetupKind::Twice),
+    ("skip_bad\n", 6, SetupKind::BadLine),
+    ("skip_bad yes yes\n", 6, SetupKind::BadLine),
+    ("skip_bad no\n", 6, SetupKind::UnknownWord),
+    ("skip_bad yes\nskip_bad no\n", 7, SetupKind::Twice),
+    // made frames: two values, which come behind the test of the word
+    ("make\n", 6, SetupKind::BadLine),
+    ("make 1\n", 6, SetupKind::BadLine),
+    ("make 1 2 3\n", 6, SetupKind::BadLine),
+    ("make 1 0\n", 6, SetupKind::BadNumber),
+    ("make 1 20001\n", 6, SetupKind::BadNumber),
+    ("make 1 x\n", 6, SetupKind::BadNumber),
+    ("make x 5\n", 6, SetupKind::BadNumber),
+    ("make 4294967296 5\n", 6, SetupKind::BadNumber),
+    ("make 1 5\nmake 1 5\n", 7, SetupKind::Twice),
+    ("make 1 5\nmake x 5\n", 7, SetupKind::Twice),
+    ("make 1 5\nmake 1\n", 7, SetupKind::BadLine),
+    (
+        "make 1 5\nskip_bad yes\nskip_bad yes\n",
+        8,
+        SetupKind::Twice,
+    ),
     // of two faulty lines the first answers, and before what the lines say together
     ("blok 3\ntov x\n", 6, SetupKind::UnknownWord),
     ("members 0\ntov x\n", 7, SetupKind::BadNumber),
@@ -125,6 +160,122 @@ fn refuses_added_lines(rt: HostRuntime) -> Result<(), AllocError> {
     for (lines, line, kind) in &ADDED {
         let text = joined(rt.alloc(), NEEDED, lines)?;
         assert_eq!(rt; refusal(rt.alloc(), &text), Some((*line, *kind)), "{lines}");
+    }
+    Ok(())
+}
+
+/// A command, lines behind the five that are needed, and what it finds of the lines together.
+static TOGETHER: [(Command, &str, Option<SetupKind>); 20] = [
+    (Command::Check, "", None),
+    (Command::Replay, "", None),
+    (Command::Send, "", None),
+    // only `Make` needs its line, before a fault of the ring or of the group
+    (Command::Make, "", Some(SetupKind::Missing(Needed::Make))),
+    (
+        Command::Make,
+        "tov 8\npriv 16\n",
+        Some(SetupKind::Missing(Needed::Make)),
+    ),
+    (
+        Command::Make,
+        "features 2\n",
+        Some(SetupKind::Missing(Needed::Make)),
+    ),
+    (
+        Command::Make,
+        "members 0\n",
+        Some(SetupKind::Missing(Needed::Make)),
+    ),
+    (
+        Command::Make,
+        "make 1 5\nfeatures 2\n",
+        Some(SetupKind::Request(RequestError::Feature)),
+    ),
+    (
+        Command::Make,
+        "make 1 5\nmembers 0\n",
+        Some(SetupKind::Group(PlanError::NoMember)),
+    ),
+    (Command::Make, "make 1 5\n", None),
+    // only `Send` asks for a ring without a time-out, a private area and a feature
+    (
+        Command::Send,
+        "tov 8\n",
+        Some(SetupKind::Request(RequestError::Transmit)),
+    ),
+    (
+        Command::Send,
+        "priv 16\n",
+        Some(SetupKind::Request(RequestError::Transmit)),
+    ),
+    (
+        Command::Send,
+        "features 1\n",
+        Some(SetupKind::Request(RequestError::Transmit)),
+    ),
+    (
+        Command::Send,
+        "features 2\n",
+        Some(SetupKind::Request(RequestError::Feature)),
+    ),
+    (
+        Command::Send,
+        "priv 1025\n",
+        Some(SetupKind::Request(RequestError::Private)),
+    ),
+    (
+        Command::Send,
+        "tov 8\nmembers 0\n",
+        Some(SetupKind::Request(RequestError::Transmit)),
+    ),
+    (
+        Command::Send,
+        "members 0\n",
+        Some(SetupKind::Group(PlanError::NoMember)),
+    ),
+    (Command::Check, "tov 8\npriv 16\nfeatures 1\n", None),
+    (Command::Replay, "tov 8\npriv 16\nfeatures 1\n", None),
+    (
+        Command::Make,
+        "tov 8\npriv 16\nfeatures 1\nmake 1 5\n",
+        None,
+    ),
+];
+
+#[test]
+fn tests_lines_together_for_a_command(rt: HostRuntime) -> Result<(), AllocError> {
+    for (command, lines, kind) in &TOGETHER {
+        let text = joined(rt.alloc(), NEEDED, lines)?;
+        let fault = kind.map(|kind| (0, kind));
+        assert_eq!(rt;
+            refusal_by(rt.alloc(), &text, *command),
+            fault,
+            "{command:?} {lines}"
+        );
+    }
+    for command in COMMANDS {
+        let missed = refusal_by(rt.alloc(), WITHOUT_CPU.as_bytes(), command);
+        assert_eq!(rt;
+            missed,
+            Some((0, SetupKind::Missing(Needed::Cpu))),
+            "{command:?}"
+        );
+    }
+    Ok(())
+}
+
+#[test]
+fn reads_made_frames_and_skip_bad(rt: HostRuntime) -> Result<(), SetupError> {
+    let alloc = rt.alloc();
+    let text = "make 1 20000\nskip_bad yes\n";
+    let Ok(text) = joined(alloc, NEEDED, text) else {
+        assert!(rt; false, "no memory");
+        return Ok(());
+    };
+    for command in COMMANDS {
+        let setup = read_setup(alloc, &text, command)?;
+        assert_eq!(rt; (setup.seed, setup.count), (1, 20_000), "{command:?}");
+        assert!(rt; setup.skip_bad && !setup.dump, "{command:?}");
     }
     Ok(())
 }
@@ -217,7 +368,8 @@ fn reads_what_is_needed(rt: HostRuntime) -> Result<(), SetupError> {
     assert!(rt; setup.key.is_none() && setup.mac.is_none());
     assert!(rt; setup.filter.is_none() && setup.ticks.is_none());
     assert_eq!(rt; setup.prefix.bytes(), b"out".as_slice());
-    assert!(rt; !setup.dump);
+    assert!(rt; !setup.dump && !setup.skip_bad);
+    assert_eq!(rt; (setup.seed, setup.count), (0, 0));
     assert_eq!(rt; setup.cpus.len(), 1);
     Ok(())
 }
@@ -244,6 +396,8 @@ mac 0200000000Ab
 filter tcp.ddd
 ticks t.txt
 out run/1
+make\t4294967295 0000000001
+skip_bad yes
 dump yes";
 
 #[test]
@@ -261,7 +415,8 @@ fn reads_every_word(rt: HostRuntime) -> Result<(), SetupError> {
     assert_eq!(rt; setup.plan.flags(), 0x9000);
     assert!(rt; setup.key.is_some());
     assert_eq!(rt; setup.mac, Some([2, 0, 0, 0, 0, 0xab]));
-    assert!(rt; setup.dump);
+    assert!(rt; setup.dump && setup.skip_bad);
+    assert_eq!(rt; (setup.seed, setup.count), (4_294_967_295, 1));
     Ok(())
 }
 
@@ -430,6 +585,7 @@ fn names_faults(rt: HostRuntime) {
         assert_eq!(rt; kind.word(), *word);
     }
     assert_eq!(rt; Needed::FrameNr.word(), "frame_nr");
+    assert_eq!(rt; Needed::Make.word(), "make");
     assert_eq!(rt; Which::Schedule.word(), "schedule");
     assert_eq!(rt; TextKind::NoSuchCpu.word(), "no_such_cpu");
     assert_eq!(rt; TextKind::Filter(FilterError::NoReturn).word(), "no_return");

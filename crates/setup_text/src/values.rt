@@ -1,7 +1,7 @@
 //! The values that stand behind a setup word.
 ghost use Rattle.std.specs.Prelude.{◌≡◌};
 ghost use Rattle.setup_text.specs.Answers.{IsRight, is_want};
-ghost use Rattle.setup_text.specs.Values.{any_number, bytes_in, mode_in, name_in, number_to};
+ghost use Rattle.setup_text.specs.Values.{any_number, bytes_in, count_to, mode_in, name_in, number_to};
 
 use crate::SetupKind;
 use fanout_group::Mode;
@@ -29,6 +29,17 @@ pub(crate) fn any_number(word: &[u8]) -> Result<u32, SetupKind>
     ensures { result ≡ any_number word.now }
 {
     number_to(u32::MAX, word)
+}
+
+/// A number of at least 1 and at most so much.
+#[tactic(auto, unfolding(crate::specs::Values::count_to))]
+pub(crate) fn count_to(most: u32, word: &[u8]) -> Result<u32, SetupKind>
+    ensures { result ≡ count_to most word.now }
+{
+    match number_to(most, word)? {
+        0 => Err(SetupKind::BadNumber),
+        number => Ok(number),
+    }
 }
 
 /// The name of a file, or what the names of files begin with.

@@ -1,6 +1,6 @@
 -- A report is worth the headline, and where nothing fails it is fine.
 use Rattle.std.proofs.Common.{◌≡◌, ◌≢◌, ℕ, ◌+◌, ◌<◌, ◌≤◌, Bool, true, false, List, [], ◌∷◌, ◌++◌, length, inl, inr, Option, None, Some, refl, sym, ap, subst, ◌∙◌, arith}
-use Rattle.std.specs.Prelude.{◌⊎◌, if◌then◌else◌, nat_lt, unwrap_or, Result, Ok, Err}
+use Rattle.std.specs.Prelude.{◌⊎◌, if◌then◌else◌, map, nat_lt, Ok, Err}
 use Rattle.std.specs.List.{AllByRecursion}
 use Rattle.std.specs.Option.{option_or}
 use Rattle.std.proofs.lemmas.Bool.{cases_lt}
@@ -14,28 +14,30 @@ use Rattle.replay_model.specs.declared.schedule.Line.{Line}
 use Rattle.setup_text.specs.Filters.{filter_of}
 use Rattle.setup_text.specs.Moments.{moments_of}
 use Rattle.setup_text.specs.declared.commands.Command.{Command}
-use Rattle.setup_text.specs.declared.commands.Command.TheVariants.{Check, Replay}
+use Rattle.setup_text.specs.declared.commands.Command.TheVariants.{Check, Make, Replay, Send}
 use Rattle.setup_text.specs.declared.cpu_setups.CpuSetup.{CpuSetup}
 use Rattle.setup_text.specs.declared.jobs.Job.{Job}
 use Rattle.setup_text.specs.declared.reports.RunReport.{RunReport}
-use Rattle.setup_text.specs.declared.setup_error.SetupError.{SetupError}
 use Rattle.setup_text.specs.declared.setups.Setup.{Setup}
 use Rattle.setup_text.specs.declared.text_error.TextError.{TextError}
 use Rattle.tap_outside.specs.Contents.{Contents}
 use Rattle.tap_outside.specs.Counts.{RoseBy}
 use Rattle.tap_reading.specs.Readers.{schedule_for, setup_for}
 use Rattle.tap_replay.specs.Runs.{logs_from, replay_of, report_of}
-use Rattle.tap_replay.specs.Sources.{UnlessFault, WhereEnded, end_by}
+use Rattle.capture_reading.specs.Sources.{UnlessFault, WhereEnded, end_by}
 use Rattle.tap_engine.specs.Commands.{Named}
 use Rattle.tap_engine.specs.Complete.{AreSoundTicks, IsComplete, IsSound, IsSoundBehind, IsSoundFilter, IsSoundRun, IsWorth, text_in}
 use Rattle.tap_engine.specs.Conclusions.{Concludes}
 use Rattle.fanout_group.specs.declared.runs.CpuLog.{CpuLog}
-use Rattle.tap_engine.specs.Expected.{Expected, IsExpected, bad_setup, bad_text, checked, fault_at, faults_in, no_command, report_in, reported, status_by_end, status_of, status_of_logs, unread}
-use Rattle.tap_engine.specs.Headline.{AreCaptures, IsCapture, IsHeadline}
+use Rattle.tap_engine.specs.Expected.{Expected, IsExpected, bad_setup, bad_text, checked, fault_at, faults_in, no_command, report_in, reported, sent_off, status_by_end, status_of, status_of_logs, unread}
+use Rattle.tap_engine.specs.Headline.{AreCaptures, CapturesFor, IsHeadline}
 use Rattle.tap_engine.specs.Jobs.{HasBadFilter, HasBadSchedule, HasBadText, HasBadTicks, HasSetup}
+use Rattle.tap_engine.specs.Names.{filter_for, first_file}
+use Rattle.tap_engine.specs.Sendings.{IsSent}
 use Rattle.tap_engine.specs.declared.outcomes.Outcome.{Outcome}
 use Rattle.tap_engine.specs.declared.outcomes.Status.{Status}
 use Rattle.tap_engine.specs.declared.outcomes.Status.TheVariants as statuses
+use Rattle.tap_engine.specs.declared.sending.Sending.{Sending}
 use Rattle.tap_engine.proofs.Fetched.{rose_less}
 use Rattle.tap_engine.proofs.Texts.{filters, moments, not_both, same_value, says_held, schedules, setups}
 
@@ -68,12 +70,14 @@ worth_in held failed None (bad_setup error) h = absurd h
 worth_in held failed None (bad_text error) h = absurd h
 worth_in held failed None checked h = absurd h
 worth_in held failed None (reported setup report) h = absurd h
+worth_in held failed None (sent_off setup sending) h = absurd h
 worth_in held failed (Some named) no_command h = absurd h
 worth_in held failed (Some named) unread h = tt
 worth_in held failed (Some named) (bad_setup error) h = tt
 worth_in held failed (Some named) (bad_text error) h = tt
 worth_in held failed (Some named) checked h = tt
 worth_in held failed (Some named) (reported setup report) h = (named, refl, h.0.headline)
+worth_in held failed (Some named) (sent_off setup sending) h = tt
 
 pub worth_of : (held after : Option Contents) (command : Option Named) (failed unsaved : ℕ → Type 0) (unprinted : Type 0) (outcome : Outcome) (before now : Option (List ℕ))
     → (outcome.status ≡ statuses.Memory → outcome.report ≡ None)
@@ -115,8 +119,8 @@ sound_ticks files (Some x) name error e sound h = differ (sound.1) (ap (λ n. mo
 
 no_filter : (files : Contents) (named : Named) (error : TextError) → IsSound files named → HasBadFilter (Some files) named error → ⊥
 no_filter files named error sound h =
-    sound_filter files h.setup.filter h.name error h.names
-    (subst (λ (s : Setup). IsSoundFilter files s.filter) (the_setup files named sound h.setup h.has) sound.filter)
+    sound_filter files (filter_for named.command h.setup) h.name error h.names
+    (subst (λ (s : Setup). IsSoundFilter files (filter_for named.command s)) (the_setup files named sound h.setup h.has) sound.filter)
     (says_held filter_of files h.name (Err error) filters h.refused)
 
 no_ticks : (files : Contents) (named : Named) (error : TextError) → IsSound files named → HasBadTicks (Some files) named error → ⊥
@@ -174,7 +178,7 @@ damage_is : (damage other : CaptureError) → Damaged damage ≡ Damaged other �
 damage_is damage other e = cc
 
 -- a front of a whole capture that ends otherwise than whole is not all that was read
-whole_end : Stays → Ends → (content bytes rest : List ℕ) (end : CpuEnd) → content ≡ bytes ++ rest → end_of content ≡ None
+pub whole_end : Stays → Ends → (content bytes rest : List ℕ) (end : CpuEnd) → content ≡ bytes ++ rest → end_of content ≡ None
     → UnlessFault end (end ≡ end_by (end_of bytes)) → WhereEnded end (bytes ≡ content) → end ≢ Fault → end ≡ Whole
 whole_end stays ends content bytes rest Whole parts none is all sane = refl
 whole_end stays ends content bytes rest Fault parts none is all sane = absurd (sane refl)
@@ -222,14 +226,29 @@ cpus_are : (job : Job) (lines : List Line) (bytes : List (List ℕ)) (ends : Lis
 unfolding report_of
 cpus_are job lines bytes ends = refl
 
+-- the captures of made frames ended whole
+made_logs : (cpu : ℕ) (bytes : List (List ℕ)) (cpus : List Cpu) → status_of_logs cpu (logs_from cpu bytes (map (λ text. Whole) bytes) cpus) ≡ statuses.Fine
+made_logs cpu [] cpus = refl
+made_logs cpu (b ∷ bytes) [] = refl
+made_logs cpu (b ∷ bytes) (of ∷ cpus) = made_logs (cpu + 1) bytes cpus
+
+fine_captures : Stays → Ends → (files : Contents) (named : Named) (setup : Setup) (bytes : List (List ℕ)) (ends : List CpuEnd) (cpus : List Cpu) (command : Command)
+    → IsSound files named → named.command ≡ command → HasSetup (Some files) named setup → CapturesFor command (Some files) setup bytes ends
+    → faults_in (logs_from 0 bytes ends cpus) ≡ 0 → status_of_logs 0 (logs_from 0 bytes ends cpus) ≡ statuses.Fine
+fine_captures stays ends_law files named setup bytes ends cpus Check sound is has captures none = absurd captures
+fine_captures stays ends_law files named setup bytes ends cpus Send sound is has captures none = absurd captures
+fine_captures stays ends_law files named setup bytes ends cpus Replay sound is has captures none =
+    fine_logs stays ends_law files setup.cpus 0 bytes ends cpus captures (run_of files named sound setup is has).whole none
+fine_captures stays ends_law files named setup bytes ends cpus Make sound is has captures none =
+    subst (λ (es : List CpuEnd). status_of_logs 0 (logs_from 0 bytes es cpus) ≡ statuses.Fine) (sym captures.whole) (made_logs 0 bytes cpus)
+
 fine_report : Stays → Ends → (files : Contents) (named : Named) (report : RunReport) → IsSound files named → IsHeadline (Some files) named report
     → faults_in report.cpus ≡ 0 → status_of_logs 0 report.cpus ≡ statuses.Fine
 fine_report stays ends_law files named report sound h none =
-    let run = run_of files named sound h.job.setup h.command h.job_is.setup in
     let cpus = (replay_of h.job h.lines h.bytes).cpus in
     let logs : report.cpus ≡ logs_from 0 h.bytes h.ends cpus = ap (λ (r : RunReport). r.cpus) h.replay ∙ cpus_are h.job h.lines h.bytes h.ends in
     ap (λ (ls : List CpuLog). status_of_logs 0 ls) logs
-    ∙ fine_logs stays ends_law files h.job.setup.cpus 0 h.bytes h.ends cpus h.captures run.whole (ap faults_in (sym logs) ∙ none)
+    ∙ fine_captures stays ends_law files named h.job.setup h.bytes h.ends cpus named.command sound refl h.job_is.setup h.captures (ap faults_in (sym logs) ∙ none)
 
 -- no fault rose, so none was counted
 none_rose : (n before now : ℕ) → (RoseBy 1 before now → ⊥) → RoseBy n before now → n ≡ 0
@@ -237,6 +256,22 @@ none_rose n before now sane h = by (cases_lt 0 n) where
   by : (0 < n) ⊎ (n ≤ 0) → n ≡ 0
   by (inl some) = absurd (sane (rose_less 1 n before now (omega (arith, some)) h))
   by (inr none) = omega (arith, none)
+
+-- the first capture is whole, where it is sent
+first_whole : (files : Contents) (named : Named) (setup : Setup) (job : Job) → IsSound files named → named.command ≡ Send → HasSetup (Some files) named job.setup → job.setup ≡ setup
+    → end_of (text_in files (first_file setup.cpus)) ≡ None
+first_whole files named setup job sound is has same =
+    let behind : IsSoundBehind Send files named.schedule sound.setup = subst (λ (c : Command). IsSoundBehind c files named.schedule sound.setup) is sound.behind in
+    subst (λ (s : Setup). end_of (text_in files (first_file s.cpus)) ≡ None) (the_setup files named sound job.setup has ∙ same) behind
+
+fine_sending : Stays → Ends → (files : Contents) (named : Named) (setup : Setup) (sending : Sending) → IsSound files named → IsSent (Some files) named setup sending
+    → fault_at sending.end ≡ 0 → status_by_end 0 sending.end statuses.Fine ≡ statuses.Fine
+fine_sending stays ends_law files named setup sending sound h none =
+    let one = h.sending_is.capture in
+    let whole = first_whole files named setup h.job sound h.command h.job_is.setup h.setup_is in
+    behind_whole 0 sending.end statuses.Fine
+    (whole_end stays ends_law (text_in files (first_file setup.cpus)) h.sending_is.bytes one.front.rest sending.end one.front.parts whole one.damage one.all (none_faults sending.end none))
+    refl
 
 fine_expected : Stays → Ends → (files : Contents) (named : Named) (r0 r1 : ℕ) (e : Expected) → IsSound files named → (RoseBy 1 r0 r1 → ⊥)
     → IsExpected (Some files) (λ n. RoseBy n r0 r1) (Some named) e → status_of e ≡ statuses.Fine
@@ -248,6 +283,8 @@ fine_expected stays ends_law files named r0 r1 (bad_text error) sound sane h = a
 fine_expected stays ends_law files named r0 r1 checked sound sane h = refl
 fine_expected stays ends_law files named r0 r1 (reported setup report) sound sane h =
     fine_report stays ends_law files named report sound h.0.headline (none_rose (faults_in report.cpus) r0 r1 sane h.1)
+fine_expected stays ends_law files named r0 r1 (sent_off setup sending) sound sane h =
+    fine_sending stays ends_law files named setup sending sound h.0 (none_rose (fault_at sending.end) r0 r1 sane h.1)
 
 pub complete_of : Stays → Ends → (held after : Option Contents) (command : Option Named) (r0 r1 : ℕ) (unsaved : ℕ → Type 0) (unprinted : Type 0) (outcome : Outcome) (before now : Option (List ℕ))
     → (outcome.status ≢ statuses.Memory → (e : Expected) × IsExpected held (λ n. RoseBy n r0 r1) command e × Concludes e outcome held after before now unsaved unprinted)

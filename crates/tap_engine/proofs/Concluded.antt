@@ -1,12 +1,10 @@
 -- What follows from savings and a print, each of which may fail.
-use Rattle.std.proofs.Common.{◌≡◌, ◌≢◌, ℕ, ◌+◌, ◌≤◌, Bool, true, false, List, [], ◌∷◌, inl, inr, refl, sym, subst, arith}
-use Rattle.std.specs.Prelude.{Option, Some, Result, Ok, Err, MatchBool, OnOk, OnErr, ◌&&◌}
+use Rattle.std.proofs.Common.{◌≡◌, ◌≢◌, ℕ, ◌+◌, Bool, true, false, List, [], ◌∷◌, inl, inr, refl, sym, subst, arith}
+use Rattle.std.specs.Prelude.{Option, Result, Ok, Err, MatchBool, OnOk, OnErr, ◌&&◌}
 use Rattle.std.specs.Io.KnownBytes.{Appends}
 use Rattle.fanout_group.specs.declared.runs.CpuEnd.{CpuEnd}
 use Rattle.fanout_group.specs.declared.runs.CpuEnd.TheVariants.{Whole, Fault, Damaged}
 use Rattle.fanout_group.specs.declared.runs.CpuLog.{CpuLog}
-use Rattle.setup_text.specs.declared.reports.RunReport.{RunReport}
-use Rattle.setup_text.specs.declared.setups.Setup.{Setup}
 use Rattle.tap_outside.specs.Contents.{Contents}
 use Rattle.tap_outside.specs.Counts.{RoseBy}
 use Rattle.tap_outside.specs.Outcomes.{OnFailed}
@@ -18,7 +16,7 @@ use Rattle.tap_saving.specs.Files.{File}
 use Rattle.tap_saving.specs.Saving.{HoldAll, HoldUnless, Saved, marked}
 use Rattle.tap_engine.specs.Concluding.{status_with, tried}
 use Rattle.tap_engine.specs.Conclusions.{Concludes}
-use Rattle.tap_engine.specs.Expected.{files_of, lines_of, reported, status_by_end, status_of_logs}
+use Rattle.tap_engine.specs.Expected.{Expected, files_of, lines_of, report_in, status_by_end, status_of, status_of_logs}
 use Rattle.tap_engine.specs.declared.outcomes.Status.{Status}
 use Rattle.tap_engine.specs.declared.outcomes.Status.TheVariants as statuses
 use Rattle.tap_engine.proofs.Fetched.{rose_less}
@@ -82,50 +80,61 @@ hold_all (true ∷ missed) before after files none hold = absurd (omega (arith, 
 hold_all (false ∷ missed) before after [] none hold = absurd hold
 hold_all (false ∷ missed) before after (file ∷ files) none hold = (hold.0, hold_all missed before after files none hold.1)
 
-pub concluded : (setup : Setup) (report : RunReport) (old new : Seen) (before now : Option (List ℕ)) (unprinted : Type 0) (saved printed : Bool)
-    → Saved old new (files_of (reported setup report)) saved
-    → MatchBool printed (Appends before now (lines_of (reported setup report))) (unprinted × AppendsFront before now (lines_of (reported setup report)))
-    → Concludes (reported setup report) (record { status = status_with (saved && printed) report.cpus; report = Some report })
+-- a status that is neither a fault of writing nor want of memory
+pub record IsOfSources (status : Status) : Type 0 where
+  pub no_write : status ≢ statuses.WriteFault
+  pub no_want : status ≢ statuses.Memory
+
+pub of_logs : (logs : List CpuLog) → IsOfSources (status_of_logs 0 logs)
+of_logs logs = record { no_write = no_write 0 logs; no_want = no_want 0 logs }
+
+pub of_end : (end : CpuEnd) → IsOfSources (status_by_end 0 end statuses.Fine)
+of_end end = record { no_write = by_end_no_write 0 end statuses.Fine fine_no_write; no_want = by_end_no_want 0 end statuses.Fine fine_no_want }
+
+pub concluded : (e : Expected) (old new : Seen) (before now : Option (List ℕ)) (unprinted : Type 0) (saved printed : Bool)
+    → IsOfSources (status_of e) → Saved old new (files_of e) saved
+    → MatchBool printed (Appends before now (lines_of e)) (unprinted × AppendsFront before now (lines_of e))
+    → Concludes e (record { status = status_with (saved && printed) (status_of e); report = report_in e })
     old.held new.held before now (λ n. RoseBy n old.save_faults new.save_faults) unprinted
-concluded setup report old new before now unprinted true true s p = record {
+concluded e old new before now unprinted true true sources s p = record {
   status = λ plain. refl;
-  fault = λ e. absurd (no_write 0 report.cpus e);
+  fault = λ is. absurd (sources.no_write is);
   report = λ ne. refl;
-  no_report = λ e. absurd (no_want 0 report.cpus e);
+  no_report = λ is. absurd (sources.no_want is);
   lines = λ plain. p;
-  front = λ e. absurd (no_write 0 report.cpus e);
-  files = λ plain. hold_all s.missed old.held new.held (files_of (reported setup report)) s.none_or_some s.hold;
-  most = λ e. absurd (no_write 0 report.cpus e);
+  front = λ is. absurd (sources.no_write is);
+  files = λ plain. hold_all s.missed old.held new.held (files_of e) s.none_or_some s.hold;
+  most = λ is. absurd (sources.no_write is);
 }
-concluded setup report old new before now unprinted true false s p = record {
+concluded e old new before now unprinted true false sources s p = record {
   status = λ plain. absurd (plain.no_fault refl);
-  fault = λ e. inr p.0;
+  fault = λ is. inr p.0;
   report = λ ne. refl;
-  no_report = λ e. absurd (fault_no_want e);
+  no_report = λ is. absurd (fault_no_want is);
   lines = λ plain. absurd (plain.no_fault refl);
-  front = λ e. inr p;
+  front = λ is. inr p;
   files = λ plain. absurd (plain.no_fault refl);
-  most = λ e. record { missed = s.missed; hold = s.hold; rose = s.rose };
+  most = λ is. record { missed = s.missed; hold = s.hold; rose = s.rose };
 }
-concluded setup report old new before now unprinted false true s p = record {
+concluded e old new before now unprinted false true sources s p = record {
   status = λ plain. absurd (plain.no_fault refl);
-  fault = λ e. inl (rose_less 1 (marked s.missed) old.save_faults new.save_faults s.none_or_some s.rose);
+  fault = λ is. inl (rose_less 1 (marked s.missed) old.save_faults new.save_faults s.none_or_some s.rose);
   report = λ ne. refl;
-  no_report = λ e. absurd (fault_no_want e);
+  no_report = λ is. absurd (fault_no_want is);
   lines = λ plain. absurd (plain.no_fault refl);
-  front = λ e. inl p;
+  front = λ is. inl p;
   files = λ plain. absurd (plain.no_fault refl);
-  most = λ e. record { missed = s.missed; hold = s.hold; rose = s.rose };
+  most = λ is. record { missed = s.missed; hold = s.hold; rose = s.rose };
 }
-concluded setup report old new before now unprinted false false s p = record {
+concluded e old new before now unprinted false false sources s p = record {
   status = λ plain. absurd (plain.no_fault refl);
-  fault = λ e. inr p.0;
+  fault = λ is. inr p.0;
   report = λ ne. refl;
-  no_report = λ e. absurd (fault_no_want e);
+  no_report = λ is. absurd (fault_no_want is);
   lines = λ plain. absurd (plain.no_fault refl);
-  front = λ e. inr p;
+  front = λ is. inr p;
   files = λ plain. absurd (plain.no_fault refl);
-  most = λ e. record { missed = s.missed; hold = s.hold; rose = s.rose };
+  most = λ is. record { missed = s.missed; hold = s.hold; rose = s.rose };
 }
 
 -- where printing failed, a front of the lines was written
@@ -135,17 +144,16 @@ failed_front (Err errors.Failed) P Q p q = (q, p)
 failed_front (Err errors.Memory) P Q p q = tt
 
 -- as above, by what the sink answered to the lines it was given
-pub concluded_by : (setup : Setup) (report : RunReport) (old new : Seen) (before now : Option (List ℕ)) (unprinted : Type 0) (saved printed : Bool)
+pub concluded_by : (e : Expected) (old new : Seen) (before now : Option (List ℕ)) (unprinted : Type 0) (saved printed : Bool)
     (write : Result (Unit {0}) OutError) (lines : List ℕ) (status : Status)
-    → lines ≡ lines_of (reported setup report) → status ≡ status_with (saved && printed) report.cpus → Ok printed ≡ tried write
-    → Saved old new (files_of (reported setup report)) saved
+    → IsOfSources (status_of e) → lines ≡ lines_of e → status ≡ status_with (saved && printed) (status_of e) → Ok printed ≡ tried write
+    → Saved old new (files_of e) saved
     → OnOk write (Appends before now lines) → OnErr write (AppendsFront before now lines) → OnFailed write unprinted
-    → Concludes (reported setup report) (record { status = status; report = Some report })
+    → Concludes e (record { status = status; report = report_in e })
     old.held new.held before now (λ n. RoseBy n old.save_faults new.save_faults) unprinted
-concluded_by setup report old new before now unprinted saved printed write lines status lines_are status_is is s appends front unwritten =
-    let all : List ℕ = lines_of (reported setup report) in
-    subst (λ (n : Status). Concludes (reported setup report) (record { status = n; report = Some report })
+concluded_by e old new before now unprinted saved printed write lines status sources lines_are status_is is s appends front unwritten =
+    subst (λ (n : Status). Concludes e (record { status = n; report = report_in e })
     old.held new.held before now (λ n. RoseBy n old.save_faults new.save_faults) unprinted) (sym status_is)
-    (concluded setup report old new before now unprinted saved printed s
+    (concluded e old new before now unprinted saved printed sources s
     (told write printed _ _ is (subst (λ (l : List ℕ). OnOk write (Appends before now l)) lines_are appends)
     (failed_front write _ _ (subst (λ (l : List ℕ). OnErr write (AppendsFront before now l)) lines_are front) unwritten)))

@@ -1,6 +1,6 @@
 -- The captures of a run are those of its sources, and its faults those of the store.
-use Rattle.std.proofs.Common.{◌≡◌, ◌≢◌, ℕ, zero, suc, ◌+◌, ◌<◌, ◌≤◌, Bool, true, false, List, [], ◌∷◌, ◌++◌, length, take, get_or, inl, inr, Option, None, Some, refl, sym, ap, ◌∙◌, subst, arith, add-one, append-nil}
-use Rattle.std.specs.Prelude.{◌⊎◌, ◌==◌, if◌then◌else◌, map, option_map, min, unwrap_or}
+use Rattle.std.proofs.Common.{◌≡◌, ℕ, suc, ◌+◌, ◌<◌, ◌≤◌, Bool, true, false, List, [], ◌∷◌, ◌++◌, length, take, get_or, Option, None, Some, refl, sym, ap, ◌∙◌, subst, arith, add-one, append-nil}
+use Rattle.std.specs.Prelude.{◌==◌, if◌then◌else◌, map, unwrap_or}
 use Rattle.std.specs.Io.KnownBytes.{Consumes, IsAtEnd}
 use Rattle.std.proofs.lemmas.Bool.{eqb-true}
 use Rattle.std.proofs.Math.Seq.{take-suc}
@@ -16,7 +16,7 @@ use Rattle.tap_reading.specs.Fronts.{IsAllOf, IsFrontOf}
 use Rattle.tap_reading.specs.Stores.{IsReadOnly}
 use Rattle.tap_reading.specs.Stores as stores
 use Rattle.tap_replay.specs.Runs.{logs_from}
-use Rattle.tap_replay.specs.Sources.{AllGave, Gave, GaveIfThere, Seen, UnlessFault, WhereEnded, WhereFault, end_by}
+use Rattle.capture_reading.specs.Sources.{AllGave, Gave, Seen, UnlessFault, WhereEnded, WhereFault, end_by}
 use Rattle.tap_engine.specs.Expected.{fault_at, faults_in}
 use Rattle.tap_engine.specs.Headline.{AreCaptures, IsCapture}
 use Rattle.tap_engine.specs.Sources.{AreFetched, IsFresh, faulty_in, missing_in}
@@ -32,12 +32,11 @@ rose_less x y a b h k = omega (arith, h, k)
 pub rose_none : (a b : ℕ) → a ≤ b → RoseBy 0 a b
 rose_none a b h = omega (arith, h)
 
+pub rose_no : (n a : ℕ) → n ≡ 0 → RoseBy n a a
+rose_no n a none = omega (arith, none)
+
 pub rose_later : (x a b c : ℕ) → RoseBy x a b → b ≤ c → RoseBy x a c
 rose_later x a b c h k = omega (arith, h, k)
-
-positive : (n : ℕ) → (n == 0) ≡ false → 0 < n
-positive zero e = cc
-positive (suc n) e = omega arith
 
 -- ---- fetching
 
@@ -217,22 +216,16 @@ goes_on seen held now cpus at cpu sources more source a b c same is less added a
     )
 
 -- one source more is closed
-pub closes : (all left rest : List (Option Seen)) (source : Seen) (n a b c : ℕ) → faulty_in all ≡ n + faulty_in left → left ≡ Some source ∷ rest
-    → RoseBy n a b → (0 < source.faults → Rose b c) → b ≤ c → (m : ℕ) × (faulty_in all ≡ m + faulty_in rest) × RoseBy m a c
-closes all left rest source n a b c counted is h rose later = by (source.faults == 0) refl where
-  by : (b0 : Bool) → (source.faults == 0) ≡ b0 → (m : ℕ) × (faulty_in all ≡ m + faulty_in rest) × RoseBy m a c
-  by true e =
-      let here : faulty_in left ≡ faulty_in rest = ap faulty_in is ∙ rw e (omega arith) in
-      (n, omega (arith, counted, here), omega (arith, h, later))
-  by false e =
-      let here : faulty_in left ≡ 1 + faulty_in rest = ap faulty_in is ∙ rw e refl in
-      let some : 0 < source.faults = positive source.faults e in
-      let more = rose some in
-      (n + 1, omega (arith, counted, here), omega (arith, h, more))
+faulty_front : (source : Option Seen) (rest : List (Option Seen)) → faulty_in (source ∷ rest) ≡ faulty_in (source ∷ []) + faulty_in rest
+faulty_front None rest = omega arith
+faulty_front (Some source) rest = omega arith
 
-pub passes_by : (all left rest : List (Option Seen)) (n a b : ℕ) → faulty_in all ≡ n + faulty_in left → left ≡ None ∷ rest → RoseBy n a b
-    → (m : ℕ) × (faulty_in all ≡ m + faulty_in rest) × RoseBy m a b
-passes_by all left rest n a b counted is h = (n, counted ∙ ap (λ l. n + faulty_in l) is, h)
+pub closes_one : {Input : Type 0} (seen : Option Input → Option Seen) (all left rest : List (Option Input)) (source : Option Input) (n a b c : ℕ)
+    → faulty_in (map seen all) ≡ n + faulty_in (map seen left) → left ≡ source ∷ rest → RoseBy n a b → RoseBy (faulty_in (seen source ∷ [])) b c
+    → (m : ℕ) × (faulty_in (map seen all) ≡ m + faulty_in (map seen rest)) × RoseBy m a c
+closes_one seen all left rest source n a b c counted is h k =
+    let here = ap (λ xs. faulty_in (map seen xs)) is ∙ faulty_front (seen source) (map seen rest) in
+    (n + faulty_in (seen source ∷ []), omega (arith, counted, here), rose_then n (faulty_in (seen source ∷ [])) a b c h k)
 
 pub read_then : (a b c : stores.Seen) → IsReadOnly a b → IsReadOnly b c → IsReadOnly a c
 read_then a b c h k = record {
@@ -242,10 +235,3 @@ read_then a b c h k = record {
   later = let x = h.later in let y = k.later in omega (arith, x, y);
   save_faults = k.save_faults ∙ h.save_faults;
 }
-
-pub closes_one : {Input : Type 0} (seen : Option Input → Option Seen) (all left rest : List (Option Input)) (source : Input) (value : Seen) (n a b c : ℕ)
-    → faulty_in (map seen all) ≡ n + faulty_in (map seen left) → left ≡ Some source ∷ rest → seen (Some source) ≡ Some value
-    → RoseBy n a b → (0 < value.faults → Rose b c) → b ≤ c → (m : ℕ) × (faulty_in (map seen all) ≡ m + faulty_in (map seen rest)) × RoseBy m a c
-closes_one seen all left rest source value n a b c counted is same =
-    closes (map seen all) (map seen left) (map seen rest) value n a b c counted
-    (ap (λ xs. map seen xs) is ∙ ap (λ x. x ∷ map seen rest) same)

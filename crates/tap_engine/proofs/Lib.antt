@@ -6,3 +6,5 @@ pub mod Complete
 pub mod Loaded
 pub mod Made
 pub mod Carried
+pub mod MadeRuns
+pub mod Sent

@@ -1,6 +1,5 @@
 -- Why the texts of a command stop it.
-use Rattle.std.proofs.Common.{◌≡◌, ℕ, ◌≤◌, List, length, inl, inr, Option, Some, refl, subst, arith}
-use Rattle.std.specs.Prelude.{Result, Ok, Err}
+use Rattle.std.proofs.Common.{◌≡◌, ℕ, ◌≤◌, List, length, inl, inr, Option, Some, subst, arith}
 use Rattle.setup_text.specs.Filters.{filter_of}
 use Rattle.setup_text.specs.Moments.{moments_of}
 use Rattle.setup_text.specs.declared.commands.Command.TheVariants.{Check, Replay}
@@ -13,6 +12,7 @@ use Rattle.tap_reading.specs.declared.stops.Stop.{Stop}
 use Rattle.tap_reading.specs.declared.stops.Stop.TheVariants as stops
 use Rattle.tap_engine.specs.Commands.{Named}
 use Rattle.tap_engine.specs.Jobs.{HasJob, HasSetup, Stops}
+use Rattle.tap_engine.specs.Names.{filter_for}
 
 pub at_setup : (held : Option Contents) (named : Named) (failed : Type 0) (stop : Stop) → StopsAtSetup named.command held named.setup failed stop → Stops held named failed stop
 at_setup held named failed stops.Unread h = h
@@ -21,7 +21,7 @@ at_setup held named failed (stops.Text error) h = absurd h
 at_setup held named failed stops.Memory h = tt
 
 pub at_filter : (held : Option Contents) (name : List ℕ) (failed : Type 0) (stop : Stop) → StopsAtText filter_of held name failed stop
-    → (named : Named) (setup : Setup) → HasSetup held named setup → setup.filter ≡ Some name → Stops held named failed stop
+    → (named : Named) (setup : Setup) → HasSetup held named setup → filter_for named.command setup ≡ Some name → Stops held named failed stop
 at_filter held name failed stops.Unread h named setup has is = h
 at_filter held name failed (stops.Setup error) h named setup has is = absurd h
 at_filter held name failed (stops.Text error) h named setup has is =

@@ -1,19 +1,18 @@
 -- The names that a command reads and saves are meant, where its setup is accepted.
-use Rattle.std.proofs.Common.{◌≡◌, ℕ, Bool, true, List, [], ◌∷◌, ◌++◌, length, Option, None, Some, refl, sym, ap, subst, ◌∙◌}
-use Rattle.std.specs.Prelude.{IsTrue, IfSome, Result, Ok, Err, map, option_to_list, All}
+use Rattle.std.proofs.Common.{◌≡◌, ℕ, Bool, List, [], ◌∷◌, ◌++◌, Option, None, Some, refl, sym, ap, subst, ◌∙◌}
+use Rattle.std.specs.Prelude.{IsTrue, IfSome, Result, Ok, Err, map, option_map, option_to_list, All}
 use Rattle.std.specs.List.{AllByRecursion}
 use Rattle.std.proofs.lemmas.List.Elements.{All-from_recursion}
 use Rattle.setup_text.specs.declared.commands.Command.{Command}
-use Rattle.setup_text.specs.declared.commands.Command.TheVariants.{Check, Replay}
+use Rattle.setup_text.specs.declared.commands.Command.TheVariants.{Check, Replay, Send}
 use Rattle.setup_text.specs.declared.cpu_setups.CpuSetup.{CpuSetup}
 use Rattle.setup_text.specs.declared.setup_error.SetupError.{SetupError}
 use Rattle.setup_text.specs.declared.setups.Setup.{Setup}
 use Rattle.tap_outside.specs.Contents.{Contents}
-use Rattle.tap_reading.specs.Readers.{Says, setup_for}
-use Rattle.tap_saving.specs.Files.{names_from}
+use Rattle.tap_reading.specs.Readers.{setup_for}
 use Rattle.tap_engine.specs.Commands.{Named}
 use Rattle.tap_engine.specs.Jobs.{HasSetup}
-use Rattle.tap_engine.specs.Names.{AreMeant, names_to_read, names_to_save, read_behind, read_by, saved_by, setup_held}
+use Rattle.tap_engine.specs.Names.{AreMeant, names_to_read, names_to_save, filter_for, first_file, read_behind, read_by, saved_by, saved_for, setup_held}
 use Rattle.tap_engine.proofs.Texts.{says_held, setups}
 
 -- every name of a store that doesn't tell what it holds
@@ -36,7 +35,7 @@ held_setup files named setup has = says_held (setup_for named.command) files nam
 
 -- so are the names behind it
 abbrev pub Behind : (List ℕ → Bool) → Named → Setup → Type 0
-Behind meant named setup = AllByRecursion (λ name. IsTrue (meant name)) (option_to_list setup.filter ++ read_behind named.command named.schedule setup)
+Behind meant named setup = AllByRecursion (λ name. IsTrue (meant name)) (option_to_list (filter_for named.command setup) ++ read_behind named.command named.schedule setup)
 
 any_name : (meant : List ℕ → Bool) (names : List (List ℕ)) → ((name : List ℕ) → IsTrue (meant name)) → AllByRecursion (λ name. IsTrue (meant name)) names
 any_name meant [] any = tt
@@ -53,14 +52,20 @@ front_meant : (meant : List ℕ → Bool) (filter : Option (List ℕ)) (names : 
 front_meant meant None names all = (tt, all)
 front_meant meant (Some filter) names all = (all.0, all.1)
 
-pub filter_meant : (meant : List ℕ → Bool) (named : Named) (setup : Setup) → Behind meant named setup → IfSome setup.filter (λ name. IsTrue (meant name))
-filter_meant meant named setup all = (front_meant meant setup.filter (read_behind named.command named.schedule setup) all).0
+pub filter_meant : (meant : List ℕ → Bool) (named : Named) (setup : Setup) → Behind meant named setup → IfSome (filter_for named.command setup) (λ name. IsTrue (meant name))
+filter_meant meant named setup all = (front_meant meant (filter_for named.command setup) (read_behind named.command named.schedule setup) all).0
+
+-- also where the name is lent
+pub named_meant : {A : Type 0} (meant : List ℕ → Bool) (now : A → List ℕ) (lent : Option A) (name : Option (List ℕ)) → option_map now lent ≡ name
+    → IfSome name (λ name. IsTrue (meant name)) → IfSome lent (λ word. IsTrue (meant (now word)))
+named_meant meant now None name is all = tt
+named_meant meant now (Some word) name is all = subst (λ (o : Option (List ℕ)). IfSome o (λ name. IsTrue (meant name))) (sym is) all
 
 rest_meant : (meant : List ℕ → Bool) (named : Named) (setup : Setup) (command : Command) → named.command ≡ command → Behind meant named setup
     → AllByRecursion (λ name. IsTrue (meant name)) (read_behind command named.schedule setup)
 rest_meant meant named setup command is all =
     subst (λ (c : Command). AllByRecursion (λ name. IsTrue (meant name)) (read_behind c named.schedule setup)) is
-    (front_meant meant setup.filter (read_behind named.command named.schedule setup) all).1
+    (front_meant meant (filter_for named.command setup) (read_behind named.command named.schedule setup) all).1
 
 ticks_of : (meant : List ℕ → Bool) (ticks : Option (List ℕ)) → AllByRecursion (λ name. IsTrue (meant name)) (option_to_list ticks) → IfSome ticks (λ name. IsTrue (meant name))
 ticks_of meant None all = tt
@@ -83,26 +88,21 @@ pub captures_meant : (meant : List ℕ → Bool) (named : Named) (setup : Setup)
 captures_meant meant named setup is all =
     All-from_recursion (λ (cpu : CpuSetup). IsTrue (meant cpu.file)) setup.cpus (files_of meant setup.cpus (rest_meant meant named setup Replay is all).1)
 
--- and the members' files are meant for saving
-saved_meant : (meant : List ℕ → Bool) (setup : Setup) (command : Command) → command ≡ Replay → AllByRecursion (λ name. IsTrue (meant name)) (saved_by command (Ok setup))
-    → AllByRecursion (λ name. IsTrue (meant name)) (names_from setup 0 setup.plan.members)
-saved_meant meant setup Check is all = cc
-saved_meant meant setup Replay is all = all
+-- so is the first of the captures, where it is sent
+pub first_capture_meant : (meant : List ℕ → Bool) (named : Named) (setup : Setup) → named.command ≡ Send → Behind meant named setup → IsTrue (meant (first_file setup.cpus))
+first_capture_meant meant named setup is all = (rest_meant meant named setup Send is all).0
 
-pub outputs_meant : (held : Option Contents) (meant : List ℕ → Bool) (named : Named) (setup : Setup)
-    → Untold held meant → AreMeant names_to_save (Some named) held meant → named.command ≡ Replay → HasSetup held named setup
-    → AllByRecursion (λ name. IsTrue (meant name)) (names_from setup 0 setup.plan.members)
-outputs_meant None meant named setup untold all is has = any_name meant _ (λ name. untold name refl)
-outputs_meant (Some files) meant named setup untold all is has =
-    saved_meant meant setup named.command is
+-- and what is saved is meant for saving
+pub outputs_meant : (held : Option Contents) (meant : List ℕ → Bool) (named : Named) (setup : Setup) (command : Command)
+    → Untold held meant → AreMeant names_to_save (Some named) held meant → named.command ≡ command → HasSetup held named setup
+    → AllByRecursion (λ name. IsTrue (meant name)) (saved_for command setup)
+outputs_meant None meant named setup command untold all is has = any_name meant _ (λ name. untold name refl)
+outputs_meant (Some files) meant named setup command untold all is has =
+    subst (λ (c : Command). AllByRecursion (λ name. IsTrue (meant name)) (saved_for c setup)) is
     (subst (λ (s : Result Setup SetupError). AllByRecursion (λ name. IsTrue (meant name)) (saved_by named.command s)) (held_setup files named setup has) all)
 
 -- the names that are saved, by what the store holds
-names_are : (setup : Setup) (command : Command) → command ≡ Replay → names_from setup 0 setup.plan.members ≡ saved_by command (Ok setup)
-names_are setup Check is = cc
-names_are setup Replay is = refl
-
-pub saved_names : (files : Contents) (named : Named) (setup : Setup) → named.command ≡ Replay → HasSetup (Some files) named setup
-    → names_from setup 0 setup.plan.members ≡ names_to_save (Some named) files
-saved_names files named setup is has =
-    names_are setup named.command is ∙ ap (λ (s : Result Setup SetupError). saved_by named.command s) (sym (held_setup files named setup has))
+pub saved_names : (files : Contents) (named : Named) (setup : Setup) (command : Command) → named.command ≡ command → HasSetup (Some files) named setup
+    → saved_for command setup ≡ names_to_save (Some named) files
+saved_names files named setup command is has =
+    ap (λ (c : Command). saved_for c setup) (sym is) ∙ ap (λ (s : Result Setup SetupError). saved_by named.command s) (sym (held_setup files named setup has))

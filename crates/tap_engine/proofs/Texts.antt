@@ -1,19 +1,14 @@
 -- A text that was read says what the store's own text says.
-use Rattle.std.proofs.Common.{◌≡◌, ℕ, ◌+◌, ◌<◌, ◌≤◌, Bool, true, false, List, [], ◌++◌, length, inl, inr, Option, Some, None, refl, sym, ap, ◌∙◌, subst, arith}
+use Rattle.std.proofs.Common.{◌≡◌, ℕ, ◌+◌, ◌<◌, ◌≤◌, Bool, true, false, List, [], length, inl, inr, Some, refl, sym, ap, ◌∙◌, arith}
 use Rattle.std.specs.Prelude.{◌⊎◌, if◌then◌else◌, nat_lt, unwrap_or, Result, Ok, Err}
 use Rattle.std.proofs.lemmas.Bool.{cases_lt, lt-ltb}
 use Rattle.std.proofs.lemmas.List.{length-append}
 use Rattle.bpf_filter.specs.Listings.{instructions_of}
-use Rattle.bpf_filter.specs.declared.insn.Insn.{Insn}
-use Rattle.replay_model.specs.declared.schedule.Line.{Line}
 use Rattle.setup_text.specs.Filters.{filter_after, filter_of}
 use Rattle.setup_text.specs.Moments.{moments_of}
 use Rattle.setup_text.specs.Schedules.{schedule_of}
 use Rattle.setup_text.specs.Setups.{setup_of}
 use Rattle.setup_text.specs.declared.commands.Command.{Command}
-use Rattle.setup_text.specs.declared.setup_error.SetupError.{SetupError}
-use Rattle.setup_text.specs.declared.setups.Setup.{Setup}
-use Rattle.setup_text.specs.declared.text_error.TextError.{TextError}
 use Rattle.tap_outside.specs.Contents.{Contents}
 use Rattle.tap_reading.specs.Fronts.{IsTextOf}
 use Rattle.tap_reading.specs.Readers.{Says, schedule_for, setup_for}

@@ -8,13 +8,13 @@ use Rattle.setup_text.specs.Filters.{filter_of}
 use Rattle.setup_text.specs.Moments.{moments_of}
 use Rattle.setup_text.specs.Schedules.{schedule_of}
 use Rattle.setup_text.specs.declared.commands.Command.{Command}
-use Rattle.setup_text.specs.declared.commands.Command.TheVariants.{Check, Replay}
+use Rattle.setup_text.specs.declared.commands.Command.TheVariants.{Check, Make, Replay, Send}
 use Rattle.setup_text.specs.declared.reports.RunReport.{RunReport}
 use Rattle.setup_text.specs.declared.setups.Setup.{Setup}
 use Rattle.tap_outside.specs.Contents.{Contents}
 use Rattle.tap_engine.specs.Commands.{Named}
 use Rattle.tap_engine.specs.Headline.{IsHeadline}
-use Rattle.tap_engine.specs.Names.{setup_held}
+use Rattle.tap_engine.specs.Names.{filter_for, first_file, setup_held}
 use Rattle.tap_engine.specs.declared.outcomes.Status.{Status}
 use Rattle.tap_engine.specs.declared.outcomes.Status.TheVariants.{Fine, Memory}
 
@@ -41,12 +41,14 @@ pub record IsSoundRun (files : Contents) (schedule : List ℕ) (setup : Setup) :
 abbrev pub IsSoundBehind : Command → Contents → List ℕ → Setup → Type 0
 IsSoundBehind Check files schedule setup = AreSoundTicks files setup.ticks
 IsSoundBehind Replay files schedule setup = IsSoundRun files schedule setup
+IsSoundBehind Make files schedule setup = ⊤
+IsSoundBehind Send files schedule setup = end_of (text_in files (first_file setup.cpus)) ≡ None
 
 -- the store holds under the names what is accepted, and whole captures
 pub record IsSound (files : Contents) (named : Named) : Type 0 where
   pub setup : Setup
   pub setup_is : setup_held files named ≡ Ok setup
-  pub filter : IsSoundFilter files setup.filter
+  pub filter : IsSoundFilter files (filter_for named.command setup)
   pub behind : IsSoundBehind named.command files named.schedule setup
 
 -- a report, if there is one, is worth what the headline says, and the words were a command

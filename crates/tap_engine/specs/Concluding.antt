@@ -1,11 +1,10 @@
 -- Whether printing succeeded, the status that follows, and the line that is printed where no run is made.
-use Rattle.std.specs.Prelude.{◌≡◌, List, ℕ, codes, Bool, true, false, Result, Ok, Err}
-use Rattle.fanout_group.specs.declared.runs.CpuLog.{CpuLog}
+use Rattle.std.specs.Prelude.{◌≡◌, List, ℕ, Bool, true, false, Result, Ok, Err}
 use Rattle.frame_view.specs.declared.want.Memory.{Memory}
 use Rattle.tap_outside.specs.declared.causes.OutError.{OutError}
 use Rattle.tap_outside.specs.declared.causes.OutError.TheVariants as errors
 use Rattle.tap_printing.specs.Refusals.{setup_refusal, text_refusal}
-use Rattle.tap_engine.specs.Expected.{Expected, bad_setup, bad_text, checked, lines_of, no_command, reported, status_of_logs, unread}
+use Rattle.tap_engine.specs.Expected.{Expected, bad_setup, bad_text, checked, lines_of, no_command, reported, sent_off, unread}
 use Rattle.tap_engine.specs.declared.outcomes.Status.{Status}
 use Rattle.tap_engine.specs.declared.outcomes.Status.TheVariants as statuses
 
@@ -15,10 +14,10 @@ tried (Ok x) = Ok true
 tried (Err errors.Failed) = Ok false
 tried (Err errors.Memory) = Err (record {})
 
--- the status of a run, by whether its files and its lines were all taken
-abbrev pub status_with : Bool → List CpuLog → Status
-status_with false logs = statuses.WriteFault
-status_with true logs = status_of_logs 0 logs
+-- the status of a run, by whether its files and its lines were all taken, and what its sources say
+abbrev pub status_with : Bool → Status → Status
+status_with false status = statuses.WriteFault
+status_with true status = status
 
 -- the line of a call that makes no run and has this status
 abbrev pub said_of : Status → List ℕ
@@ -36,3 +35,4 @@ IsSaid status (bad_setup error) = status ≡ statuses.Setup error
 IsSaid status (bad_text error) = status ≡ statuses.Text error
 IsSaid status checked = status ≡ statuses.Fine
 IsSaid status (reported setup report) = ⊥
+IsSaid status (sent_off setup sending) = ⊥

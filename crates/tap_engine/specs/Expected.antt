@@ -8,15 +8,17 @@ use Rattle.setup_text.specs.declared.setup_error.SetupError.{SetupError}
 use Rattle.setup_text.specs.declared.setups.Setup.{Setup}
 use Rattle.setup_text.specs.declared.text_error.TextError.{TextError}
 use Rattle.tap_outside.specs.Contents.{Contents}
-use Rattle.tap_printing.specs.Lines.{summary_of}
+use Rattle.tap_printing.specs.Lines.{send_lines, summary_of}
 use Rattle.tap_printing.specs.Refusals.{setup_refusal, text_refusal}
-use Rattle.tap_saving.specs.Files.{File, files_from}
+use Rattle.tap_saving.specs.Files.{File, files_from, sent_file}
 use Rattle.tp_layout.specs.Requests.{size_of}
 use Rattle.tap_engine.specs.Commands.{Named}
 use Rattle.tap_engine.specs.Headline.{IsHeadline}
 use Rattle.tap_engine.specs.Jobs.{HasBadSetup, HasBadText, IsChecked}
+use Rattle.tap_engine.specs.Sendings.{IsSent}
 use Rattle.tap_engine.specs.declared.outcomes.Status.{Status}
 use Rattle.tap_engine.specs.declared.outcomes.Status.TheVariants as statuses
+use Rattle.tap_engine.specs.declared.sending.Sending.{Sending}
 
 -- what a call comes to, where nothing fails at printing and saving and memory is there
 pub data Expected : Type 0 where
@@ -32,6 +34,8 @@ pub data Expected : Type 0 where
   checked : Expected
   -- the run of a setup was made
   reported : Setup → RunReport → Expected
+  -- the capture of a setup was sent
+  sent_off : Setup → Sending → Expected
 
 -- a report is worth the headline, and its setup is this
 pub record IsReported (held : Option Contents) (named : Named) (setup : Setup) (report : RunReport) : Type 0 where
@@ -59,6 +63,7 @@ IsExpected held failed (Some named) (bad_setup error) = HasBadSetup held named e
 IsExpected held failed (Some named) (bad_text error) = HasBadText held named error
 IsExpected held failed (Some named) checked = IsChecked held named
 IsExpected held failed (Some named) (reported setup report) = IsReported held named setup report × failed (faults_in report.cpus)
+IsExpected held failed (Some named) (sent_off setup sending) = IsSent held named setup sending × failed (fault_at sending.end)
 
 -- the status of the first CPU that didn't end whole: a fault of any comes before damage
 abbrev pub status_by_end : ℕ → CpuEnd → Status → Status
@@ -79,6 +84,7 @@ status_of (bad_setup error) = statuses.Setup error
 status_of (bad_text error) = statuses.Text error
 status_of checked = statuses.Fine
 status_of (reported setup report) = status_of_logs 0 report.cpus
+status_of (sent_off setup sending) = status_by_end 0 sending.end statuses.Fine
 
 -- the report
 abbrev pub report_in : Expected → Option RunReport
@@ -93,8 +99,10 @@ lines_of (bad_setup error) = setup_refusal error
 lines_of (bad_text error) = text_refusal error
 lines_of checked = codes "ok\n"
 lines_of (reported setup report) = summary_of (size_of setup.shape) report
+lines_of (sent_off setup sending) = send_lines sending.frames sending.end sending.sent
 
 -- the files
 abbrev pub files_of : Expected → List File
 files_of (reported setup report) = files_from setup 0 report.members
+files_of (sent_off setup sending) = sent_file setup sending.sent.packets ∷ []
 files_of e = []

@@ -2,6 +2,7 @@ pub mod Commands
 pub mod Jobs
 pub mod Names
 pub mod Headline
+pub mod Sendings
 pub mod Expected
 pub mod Conclusions
 pub mod Sources

@@ -2,7 +2,7 @@
 use Rattle.std.specs.Prelude.{◌≡◌, ℕ, ◌+◌, List, [], ◌∷◌, ⊤, ◌==◌, if◌then◌else◌, Option, None, Some}
 use Rattle.setup_text.specs.declared.cpu_setups.CpuSetup.{CpuSetup}
 use Rattle.tap_outside.specs.Contents.{Contents, GivesFile}
-use Rattle.tap_replay.specs.Sources.{Seen}
+use Rattle.capture_reading.specs.Sources.{Seen}
 
 -- a source that is fresh, of what the name holds
 pub record IsFresh (held : Option Contents) (name : List ℕ) (source : Seen) : Type 0 where

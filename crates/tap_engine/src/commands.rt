@@ -1,6 +1,6 @@
 //! The words of a command.
 ghost use Rattle.std.specs.Prelude.{◌≡◌, [], ◌∷◌, option_map};
-ghost use Rattle.tap_engine.specs.Commands.{command_of};
+ghost use Rattle.tap_engine.specs.Commands.{command_of, lone_command};
 
 use setup_text::Command;
 use tap_outside::Word;
@@ -22,26 +22,43 @@ pub(crate) fn command_of(words: &[Word]) -> Option<Asked<'_>>
         ≡ command_of words.now }
 {
     match words {
-        [word, setup] => check_of(word, setup),
+        [word, setup] => lone_of(word, setup),
         [word, setup, schedule] => replay_of(word, setup, schedule),
         _ => None,
     }
 }
 
-/// The command `check CONF`.
-fn check_of<'a>(word: &Word, setup: &'a Word) -> Option<Asked<'a>>
+/// The commands `check CONF`, `send CONF` and `make CONF`.
+fn lone_of<'a>(word: &Word, setup: &'a Word) -> Option<Asked<'a>>
     ensures { option_map (λ asked. record { command = asked.command; setup = asked.setup.now; schedule = asked.schedule.now }) result
         ≡ command_of (word.now ∷ setup.now ∷ []) }
 {
     let setup = setup.bytes();
-    if word.bytes() != b"check".as_slice() || setup.is_empty() {
+    if setup.is_empty() {
         return None;
     }
+    let command = lone_command(word.bytes())?;
     Some(Asked {
-        command: Command::Check,
+        command,
         setup,
         schedule: &[],
     })
+}
+
+/// The command that asks for a setup alone and has this name.
+#[tactic(auto, unfolding(crate::specs::Commands::lone_command))]
+fn lone_command(word: &[u8]) -> Option<Command>
+    ensures { result ≡ lone_command word.now }
+{
+    if word == b"check".as_slice() {
+        Some(Command::Check)
+    } else if word == b"send".as_slice() {
+        Some(Command::Send)
+    } else if word == b"make".as_slice() {
+        Some(Command::Make)
+    } else {
+        None
+    }
 }
 
 /// The command `replay CONF SCHED`.

@@ -1,22 +1,23 @@
-//! The end of a run: its files are saved, its lines are printed, and it has a status.
-ghost use Rattle.std.specs.Prelude.{◌≡◌, ◌≤◌, ℕ, Bool, length, IfOk, IsTrue, ◌&&◌};
+//! The end of a command: its files are saved, its lines are printed, and it has a status.
+ghost use Rattle.std.specs.Prelude.{◌≡◌, ◌≤◌, ℕ, [], ◌∷◌, ◌&&◌, length, All, IfOk, IsTrue};
 ghost use Rattle.std.specs.List.{AllByRecursion};
 ghost use Rattle.tap_outside.specs.Counts.{Rose, RoseBy};
 ghost use Rattle.tap_replay.specs.Runs.{AreShort};
-ghost use Rattle.tap_saving.specs.Files.{names_from};
+ghost use Rattle.tap_saving.specs.Files.{names_from, sent_name};
 ghost use Rattle.tap_saving.specs.Saving.{Touches};
 ghost use Rattle.tap_engine.specs.Conclusions.{Concludes};
 ghost use Rattle.tap_engine.specs.Concluding.{status_with, tried};
-ghost use Rattle.tap_engine.specs.Expected.{reported, status_by_end, status_of_logs};
+ghost use Rattle.tap_engine.specs.Expected.{reported, sent_off, status_by_end, status_of_logs};
 
+use crate::sending::Sending;
 use crate::{Outcome, Status};
 use fanout_group::{CpuEnd, CpuLog};
 use frame_view::Memory;
 use setup_text::{RunReport, Setup};
 use std::alloc::Global;
 use tap_outside::{OutError, Sink, Store, write_whole};
-use tap_printing::summary;
-use tap_saving::save_members;
+use tap_printing::{send_lines, summary};
+use tap_saving::{save_members, save_sent};
 
 /// Saves the files of a run and prints its lines. Each is tried whether the other fails or not.
 pub(crate) fn conclude<S: Store, O: Sink>(
@@ -42,10 +43,37 @@ pub(crate) fn conclude<S: Store, O: Sink>(
     let lines = summary(alloc, setup.shape.tov(), &report)?;
     let saved = save_members(alloc, setup, report.members.as_slice(), store)?;
     let printed = done(write_whole(out, lines.as_slice()))?;
-    let status = status_of(saved, printed, report.cpus.as_slice());
+    let status = status_with(saved, printed, status_of_ends(report.cpus.as_slice()));
     Ok(Outcome {
         status,
         report: Some(report),
+    })
+}
+
+/// Saves the file of what was sent and prints the lines of that. Each is tried whether the other fails or not.
+pub(crate) fn conclude_sending<S: Store, O: Sink>(
+    alloc: Global,
+    setup: &Setup,
+    sending: &Sending,
+    store: &mut S,
+    out: &mut O,
+) -> Result<Outcome, Memory>
+    requires name { IsTrue (S.meant_to_save store.old (sent_name setup.now)) }
+    requires packets { All (λ packet. length packet.bytes ≤ 4294967291) sending.now.sent.packets }
+    ensures concludes { IfOk result (λ outcome. Concludes (sent_off setup.now sending.now) outcome (S.held store.old) (S.held store.new)
+        (O.written out.old) (O.written out.new)
+        (λ n. RoseBy n (S.save_faults store.old) (S.save_faults store.new)) (Rose (O.faults out.old) (O.faults out.new))) }
+    ensures touches { Touches
+        (record { held = S.held store.old; to_read = S.meant_to_read store.old; to_save = S.meant_to_save store.old; read_faults = S.read_faults store.old; save_faults = S.save_faults store.old })
+        (record { held = S.held store.new; to_read = S.meant_to_read store.new; to_save = S.meant_to_save store.new; read_faults = S.read_faults store.new; save_faults = S.save_faults store.new })
+        (sent_name setup.now ∷ []) }
+{
+    let lines = send_lines(alloc, sending.frames, sending.end, &sending.sent)?;
+    let saved = save_sent(alloc, setup, &sending.sent.packets, store)?;
+    let printed = done(write_whole(out, lines.as_bytes()))?;
+    Ok(Outcome {
+        status: status_with(saved, printed, with_end(0, sending.end, Status::Fine)),
+        report: None,
     })
 }
 
@@ -60,15 +88,15 @@ fn done(answer: Result<(), OutError>) -> Result<bool, Memory>
     }
 }
 
-/// The status of a run: a fault of saving or printing, else what the ends of the CPUs say.
-fn status_of(saved: bool, printed: bool, logs: &[CpuLog]) -> Status
-    requires { length logs.now ≤ 8 }
-    ensures { result ≡ status_with (saved && printed) logs.now }
+/// The status of a command: a fault of saving or printing, else what its sources say.
+fn status_with(saved: bool, printed: bool, status: Status) -> Status
+    ensures { result ≡ status_with (saved && printed) status }
 {
-    if !saved || !printed {
-        return Status::WriteFault;
+    if saved && printed {
+        status
+    } else {
+        Status::WriteFault
     }
-    status_of_ends(logs)
 }
 
 /// What the ends of CPUs say: a fault of any, else damage, that of the lowest CPU.

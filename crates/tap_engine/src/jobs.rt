@@ -1,6 +1,7 @@
 //! What a command asks for: its texts, read and accepted.
-ghost use Rattle.std.specs.Prelude.{◌≡◌, ℕ, ◌≤◌, List, Some, IfErr, IfOk, IfSome, IsTrue, OnOk, Ok, length};
+ghost use Rattle.std.specs.Prelude.{◌≡◌, ℕ, ◌≤◌, List, None, Some, IfErr, IfOk, IfSome, IsTrue, OnOk, Ok, length, option_map};
 ghost use Rattle.replay_model.specs.Reports.{IsSchedule};
+ghost use Rattle.setup_text.specs.Setups.{request_fault};
 ghost use Rattle.setup_text.specs.Sound.{IsSetup};
 ghost use Rattle.setup_text.specs.declared.commands.Command.TheVariants.{Check};
 ghost use Rattle.setup_text.specs.declared.jobs.Job.{Job};
@@ -10,7 +11,7 @@ ghost use Rattle.tap_outside.specs.Counts.{Rose};
 ghost use Rattle.tap_reading.specs.Readers.{Says, StopsAtText, schedule_for};
 ghost use Rattle.tap_reading.specs.Stores.{IsReadOnly};
 ghost use Rattle.tap_engine.specs.Jobs.{HasJob, HasProgram, HasSetup, HasTicks, IsLoaded, Stops};
-ghost use Rattle.tap_engine.specs.Names.{AreMeant, names_to_read};
+ghost use Rattle.tap_engine.specs.Names.{AreMeant, filter_for, names_to_read};
 
 use crate::commands::Asked;
 use bpf_filter::Program;
@@ -26,7 +27,11 @@ pub(crate) enum Loaded {
     /// Nothing more: the texts are accepted.
     Checked,
     /// A replay of a job by a schedule.
-    Run(Job, Schedule),
+    Replay(Job, Schedule),
+    /// A replay of the frames that a job has made.
+    Make(Job),
+    /// A job whose first capture is sent.
+    Send(Job),
 }
 
 /// Reads the texts of a command, one after the other.
@@ -50,18 +55,21 @@ pub(crate) fn load<S: Store>(alloc: Global, asked: Asked<'_>, store: &mut S) -> 
         }
         Command::Replay => {
             let schedule = load_lines(alloc, store, asked.schedule, &job.setup)?;
-            Ok(Loaded::Run(job, schedule))
+            Ok(Loaded::Replay(job, schedule))
         }
+        Command::Make => Ok(Loaded::Make(job)),
+        Command::Send => Ok(Loaded::Send(job)),
     }
 }
 
-/// Reads the setup of a command, and its filter.
+/// Reads the setup of a command, and the filter that it names, if the command reads one.
 fn load_job<S: Store>(alloc: Global, asked: Asked<'_>, store: &mut S) -> Result<Job, Stop>
     requires { AreMeant names_to_read (Some (record { command = asked.command; setup = asked.setup.now; schedule = asked.schedule.now }))
         (S.held store.old) (S.meant_to_read store.old) }
     ensures job { IfOk result (HasJob (S.held store.old)
         (record { command = asked.entry.command; setup = asked.entry.setup.now; schedule = asked.entry.schedule.now })) }
     ensures sound { IfOk result (λ job. IsSetup job.setup) }
+    ensures ring { IfOk result (λ job. request_fault asked.entry.command job.setup.request ≡ None) }
     ensures stop { IfErr result (Stops (S.held store.old)
         (record { command = asked.entry.command; setup = asked.entry.setup.now; schedule = asked.entry.schedule.now })
         (Rose (S.read_faults store.old) (S.read_faults store.new))) }
@@ -70,20 +78,30 @@ fn load_job<S: Store>(alloc: Global, asked: Asked<'_>, store: &mut S) -> Result<
         (record { held = S.held store.new; to_read = S.meant_to_read store.new; to_save = S.meant_to_save store.new; read_faults = S.read_faults store.new; save_faults = S.save_faults store.new }) }
 {
     let setup = load_setup(alloc, store, asked.setup, asked.command)?;
-    let program = load_program(alloc, store, &setup.filter)?;
+    let program = load_program(alloc, store, filter_for(asked.command, &setup))?;
     Ok(Job { setup, program })
 }
 
-/// Reads the filter that a setup names, if it names one.
+/// The name of the filter that a command reads, if it reads one. `send` reads none.
+fn filter_for(command: Command, setup: &Setup) -> Option<&Word>
+    ensures { option_map (λ word. word.now) result ≡ filter_for command setup.now }
+{
+    match command {
+        Command::Send => None,
+        Command::Check | Command::Replay | Command::Make => setup.filter.as_ref(),
+    }
+}
+
+/// Reads a filter, if one is named.
 fn load_program<S: Store>(
     alloc: Global,
     store: &mut S,
-    filter: &Option<Word>,
+    filter: Option<&Word>,
 ) -> Result<Option<Program>, Stop>
-    requires { IfSome filter.now (λ name. IsTrue (S.meant_to_read store.old name)) }
-    ensures program { IfOk result (HasProgram (S.held store.old) filter.now) }
+    requires { IfSome filter (λ name. IsTrue (S.meant_to_read store.old name.now)) }
+    ensures program { IfOk result (HasProgram (S.held store.old) (option_map (λ word. word.now) filter.entry)) }
     ensures stop { IfErr result (λ stop. (named : Named) (setup : Setup) → HasSetup (S.held store.old) named setup
-        → setup.filter ≡ filter.now
+        → filter_for named.command setup ≡ option_map (λ word. word.now) filter.entry
         → Stops (S.held store.old) named (Rose (S.read_faults store.old) (S.read_faults store.new)) stop) }
     ensures store { IsReadOnly
         (record { held = S.held store.old; to_read = S.meant_to_read store.old; to_save = S.meant_to_save store.old; read_faults = S.read_faults store.old; save_faults = S.save_faults store.old })

@@ -8,6 +8,7 @@ mod laws;
 mod making;
 mod outcomes;
 mod running;
+mod sending;
 mod sources;
 
 pub use laws::each_frame_of_a_run_stands_exactly_once;

@@ -1,19 +1,22 @@
 //! The top call.
-ghost use Rattle.std.specs.Prelude.{◌≡◌, ◌≢◌, ◌≤◌, ◌⊎◌, ℕ, Option, None, IfOk, string_bytes};
+ghost use Rattle.std.specs.Prelude.{◌≡◌, ◌≢◌, ◌≤◌, ◌⊎◌, ℕ, Option, None, Some, IfOk, string_bytes};
 ghost use Rattle.tap_outside.specs.Contents.{Contents};
 ghost use Rattle.tap_outside.specs.Counts.{Rose, RoseBy};
 ghost use Rattle.tap_saving.specs.Saving.{KeepsAllBut};
-ghost use Rattle.tap_engine.specs.Asked.{ChangesIfAsked};
-ghost use Rattle.tap_engine.specs.Commands.{command_of};
+ghost use Rattle.tap_engine.specs.Asked.{ChangesIfAsked, IsOfSend};
+ghost use Rattle.tap_engine.specs.Commands.{Named, command_of};
 ghost use Rattle.tap_engine.specs.Complete.{IsComplete, IsWorth};
 ghost use Rattle.tap_engine.specs.Concluding.{IsSaid, said_of};
 ghost use Rattle.tap_engine.specs.Conclusions.{Concludes};
 ghost use Rattle.tap_engine.specs.Expected.{Expected, IsExpected};
+ghost use Rattle.tap_engine.specs.Jobs.{IsLoaded};
+ghost use Rattle.tap_engine.specs.Making.{Makes};
 ghost use Rattle.tap_engine.specs.Names.{AreMeant, names_in, names_to_read, names_to_save};
 
 use crate::commands::command_of;
 use crate::jobs::{Loaded, load};
-use crate::making::make;
+use crate::making::{run_captures, run_made};
+use crate::sending::run_sending;
 use crate::{Outcome, Status};
 use capture_file::{damage_is_the_end, damage_stays};
 use frame_view::Memory;
@@ -22,7 +25,14 @@ use tap_outside::{OutError, Sink, Store, Word, write_whole};
 use tap_printing::{setup_refusal, text_refusal};
 use tap_reading::Stop;
 
-/// Carries out a command over a store and a sink: `check CONF` or `replay CONF SCHED`.
+/// Carries out a command over a store and a sink.
+///
+/// - `check CONF` reads the setup, and the filter and the moments that it names, and prints `ok`.
+/// - `replay CONF SCHED` replays the captures of the setup as the schedule says.
+/// - `make CONF` replays frames that are made from the setup's number, by a schedule of its own, and reads no capture.
+/// - `send CONF` sends the capture of CPU 0 through a transmit ring, and gives no report.
+///
+/// The commands, the texts and the printed lines are this project's own choice; docs/using.md says them all.
 pub fn run_plain<S: Store, O: Sink>(
     alloc: Global,
     words: &[Word],
@@ -50,15 +60,16 @@ pub fn run_plain<S: Store, O: Sink>(
         ⊎ (Rose (S.save_faults store.old) (S.save_faults store.new) ⊎ Rose (O.faults out.old) (O.faults out.new)))
         result.status }
 
-    // Without a report a fault of writing is one of the sink.
+    // Without a report a fault of writing is one of the sink, or the command is `send`.
     ensures unprinted { result.report ≡ None → result.status ≡ Status.WriteFault
-        → Rose (O.faults out.old) (O.faults out.new) }
+        → Rose (O.faults out.old) (O.faults out.new) ⊎ IsOfSend (command_of words.now) }
 
-    // No file changes but those of the members, and none where no run was made or a text isn't accepted, whatever the
-    // status.
+    // No file changes but those that the command saves, and none where no run was made, save by `send`, or where a text
+    // isn't accepted, whatever the status.
     ensures others { KeepsAllBut (S.held store.old) (S.held store.new)
         (names_in names_to_save (command_of words.now) (S.held store.old)) }
-    ensures untouched { result.report ≡ None → result.status ≢ Status.Memory → S.held store.new ≡ S.held store.old }
+    ensures untouched { result.report ≡ None → result.status ≢ Status.Memory
+        → (S.held store.new ≡ S.held store.old) ⊎ IsOfSend (command_of words.now) }
     ensures asked { ChangesIfAsked (S.held store.old) (S.held store.new) (command_of words.now) }
 {
     damage_stays();
@@ -81,18 +92,18 @@ fn carry_out<S: Store, O: Sink>(
         (λ n. RoseBy n (S.save_faults store.old) (S.save_faults store.new)) (Rose (O.faults out.old) (O.faults out.new)) }
     ensures want { result.status ≡ Status.Memory → result.report ≡ None }
     ensures unprinted { result.report ≡ None → result.status ≡ Status.WriteFault
-        → Rose (O.faults out.old) (O.faults out.new) }
+        → Rose (O.faults out.old) (O.faults out.new) ⊎ IsOfSend (command_of words.now) }
     ensures others { KeepsAllBut (S.held store.old) (S.held store.new)
         (names_in names_to_save (command_of words.now) (S.held store.old)) }
-    ensures untouched { result.report ≡ None → result.status ≢ Status.Memory → S.held store.new ≡ S.held store.old }
+    ensures untouched { result.report ≡ None → result.status ≢ Status.Memory
+        → (S.held store.new ≡ S.held store.old) ⊎ IsOfSend (command_of words.now) }
     ensures asked { ChangesIfAsked (S.held store.old) (S.held store.new) (command_of words.now) }
 {
     let Some(asked) = command_of(words) else {
         return say(alloc, Status::Usage, out);
     };
     match load(alloc, asked, store) {
-        Ok(Loaded::Checked) => say(alloc, Status::Fine, out),
-        Ok(Loaded::Run(job, schedule)) => match make(alloc, job, schedule, store, out) {
+        Ok(loaded) => match work(alloc, loaded, store, out) {
             Ok(outcome) => outcome,
             Err(_) => give_up(out),
         },
@@ -100,6 +111,33 @@ fn carry_out<S: Store, O: Sink>(
         Err(Stop::Setup(error)) => say(alloc, Status::Setup(error), out),
         Err(Stop::Text(error)) => say(alloc, Status::Text(error), out),
         Err(Stop::Memory) => give_up(out),
+    }
+}
+
+/// Does the work of a command whose texts were accepted.
+fn work<S: Store, O: Sink>(
+    alloc: Global,
+    loaded: Loaded,
+    store: &mut S,
+    out: &mut O,
+) -> Result<Outcome, Memory>
+    requires loaded { (named : Named) × IsLoaded (S.held store.old) named loaded
+        × AreMeant names_to_read (Some named) (S.held store.old) (S.meant_to_read store.old)
+        × AreMeant names_to_save (Some named) (S.held store.old) (S.meant_to_save store.old) }
+    ensures made { IfOk result (λ outcome. (named : Named) → IsLoaded (S.held store.old) named loaded
+        → Makes (S.held store.old) named outcome (S.held store.new) (O.written out.old) (O.written out.new)
+        (λ n. RoseBy n (S.read_faults store.old) (S.read_faults store.new))
+        (λ n. RoseBy n (S.save_faults store.old) (S.save_faults store.new)) (Rose (O.faults out.old) (O.faults out.new))) }
+    ensures others { (named : Named) → IsLoaded (S.held store.old) named loaded
+        → KeepsAllBut (S.held store.old) (S.held store.new) (names_in names_to_save (Some named) (S.held store.old)) }
+    ensures asked { (named : Named) → IsLoaded (S.held store.old) named loaded
+        → ChangesIfAsked (S.held store.old) (S.held store.new) (Some named) }
+{
+    match loaded {
+        Loaded::Checked => Ok(say(alloc, Status::Fine, out)),
+        Loaded::Replay(job, schedule) => run_captures(alloc, &job, &schedule, store, out),
+        Loaded::Make(job) => run_made(alloc, &job, store, out),
+        Loaded::Send(job) => run_sending(alloc, &job, store, out),
     }
 }
 

@@ -34,7 +34,10 @@ pub(crate) fn fetch_captures<S: Store>(
 }
 
 /// Fetches the capture of a CPU; none where it can't be had.
-fn fetch_capture<S: Store>(store: &mut S, cpu: &CpuSetup) -> Result<Option<S::Input>, Memory>
+pub(crate) fn fetch_capture<S: Store>(
+    store: &mut S,
+    cpu: &CpuSetup,
+) -> Result<Option<S::Input>, Memory>
     requires { IsTrue (S.meant_to_read store.old cpu.now.file) }
     ensures fetched { IfOk result (λ source. AreFetched (S.held store.old) (cpu.now ∷ [])
         (option_map (λ source. record { left = S.Input.left source; faults = S.Input.faults source }) source ∷ [])) }
@@ -62,8 +65,20 @@ pub(crate) fn close_captures<S: Store>(store: &mut S, sources: Vec<Option<S::Inp
         (record { held = S.held store.new; to_read = S.meant_to_read store.new; to_save = S.meant_to_save store.new; read_faults = S.read_faults store.new; save_faults = S.save_faults store.new }) }
 {
     for source in sources {
-        if let Some(source) = source {
-            store.close(source);
-        }
+        close_capture(store, source);
+    }
+}
+
+/// Gives a source back to the store, if there is one.
+pub(crate) fn close_capture<S: Store>(store: &mut S, source: Option<S::Input>)
+    ensures faults { RoseBy
+        (faulty_in (option_map (λ source. record { left = S.Input.left source; faults = S.Input.faults source }) source ∷ []))
+        (S.read_faults store.old) (S.read_faults store.new) }
+    ensures store { IsReadOnly
+        (record { held = S.held store.old; to_read = S.meant_to_read store.old; to_save = S.meant_to_save store.old; read_faults = S.read_faults store.old; save_faults = S.save_faults store.old })
+        (record { held = S.held store.new; to_read = S.meant_to_read store.new; to_save = S.meant_to_save store.new; read_faults = S.read_faults store.new; save_faults = S.save_faults store.new }) }
+{
+    if let Some(source) = source {
+        store.close(source);
     }
 }

@@ -32,8 +32,10 @@ impl Model for SureSource {
 
 impl SureSource {
     /// A source of these bytes. It takes no memory.
-    fn new(bytes: ByteList) -> SureSource
-        ensures { result ≡ bytes }
+    pub fn new(bytes: ByteList) -> SureSource
+        ensures value { result ≡ bytes }
+        ensures left { ⟦<SureSource as Source>⟧.left result ≡ Some bytes }
+        ensures faults { ⟦<SureSource as Source>⟧.faults result ≡ 0 }
     {
         SureSource { bytes, at: 0 }
     }

@@ -1,7 +1,8 @@
--- The printed lines of a run, as bytes. Numbers are decimal, and a line feed ends each line.
-use Rattle.std.specs.Prelude.{ℕ, ◌+◌, ◌-◌, List, [], ◌∷◌, ◌++◌, length, sum_by, count_by, flat_map, codes, decimal, ◌==◌}
+-- The printed lines of a run and of what was sent, as bytes. Numbers are decimal, and a line feed ends each line.
+use Rattle.std.specs.Prelude.{ℕ, ◌+◌, ◌-◌, List, [], ◌∷◌, ◌++◌, length, sum_by, count_by, flat_map, codes, decimal, ◌==◌, Option, None, Some}
 use Rattle.capture_file.specs.declared.error.CaptureError.{CaptureError}
 use Rattle.capture_file.specs.declared.error.CaptureError.TheVariants.{BadMagic, BadVersion, BadLink, BadLength, Truncated, TooLarge, Memory, BadInterface}
+use Rattle.tx_ring.specs.declared.transmitting.Transmitted.{Transmitted}
 use Rattle.ring_model.specs.Fates.{counts_of, totals_of}
 use Rattle.ring_model.specs.Ring.{Size}
 use Rattle.ring_model.specs.declared.notes.Stats.{Stats}
@@ -91,3 +92,22 @@ unfoldable pub summary_of : Size → RunReport → List ℕ
 summary_of size report =
     cpu_lines 0 report.cpus ++ (member_lines size 0 report.members
     ++ total_line (arrivals_in report.cpus) (filtered_in report.cpus) (kept_in size report.members) (drops_in size report.members))
+
+-- the frame at which a transmit ring stopped
+unfoldable pub stop_text : Option ℕ → List ℕ
+stop_text None = codes "none"
+stop_text (Some index) = decimal index
+
+-- the line of a capture that was sent
+unfoldable pub sent_cpu_line : ℕ → CpuEnd → List ℕ
+sent_cpu_line frames end = codes "cpu 0 frames " ++ (decimal frames ++ (codes " end " ++ (end_text end ++ codes "\n")))
+
+-- the line of what became of its frames
+unfoldable pub sent_line : Transmitted → List ℕ
+sent_line told =
+    codes "send sent " ++ (decimal told.sent ++ (codes " skipped " ++ (decimal told.skipped
+    ++ (codes " stop " ++ (stop_text told.stop ++ codes "\n")))))
+
+-- the lines of a capture of so many frames that ended so and was sent
+unfoldable pub send_lines : ℕ → CpuEnd → Transmitted → List ℕ
+send_lines frames end told = sent_cpu_line frames end ++ sent_line told

@@ -31,7 +31,7 @@ fn cpu_line(alloc: Global, cpu: usize, log: &CpuLog) -> Result<String, Memory>
 
 /// How the frames of a CPU ended.
 #[tactic(auto, unfolding(crate::specs::Lines::end_text))]
-fn end_text(alloc: Global, end: CpuEnd) -> Result<String, Memory>
+pub(crate) fn end_text(alloc: Global, end: CpuEnd) -> Result<String, Memory>
     ensures { IfOk result (λ text. string_bytes text ≡ end_text end) }
 {
     match end {

@@ -1,4 +1,4 @@
-use super::summary;
+use super::{send_lines, summary};
 use capture_file::CaptureError;
 use fanout_group::{ArrivalList, ArrivalLog, CpuEnd, CpuLog, CpuLogList, TryList};
 use frame_view::{ByteList, Frame, Memory, Packets};
@@ -6,6 +6,7 @@ use ring_model::{Found, Note, Notes, Offer};
 use setup_text::{MemberList, MemberReport, RunReport};
 use std::alloc::Global;
 use std::test::*;
+use tx_ring::Transmitted;
 
 /// One event of a ring.
 #[derive(Clone, Copy)]
@@ -365,6 +366,51 @@ fn prints_how_captures_end(rt: HostRuntime) -> Result<(), Memory> {
             "cpu 0 frames 2 arrivals 2 end {word}\ntotal arrivals 2 filtered 0 kept 0 drops 0\n"
         )?;
         assert_eq!(rt; text.as_slice(), lines.as_bytes(), "{word}");
+    }
+    Ok(())
+}
+
+/// A capture that was sent: its frames, its end, the numbers of frames sent and skipped, where the ring stopped, and the lines.
+type SentRow<'a> = (usize, CpuEnd, u64, u64, Option<u32>, &'a str);
+
+static SENT_ROWS: [SentRow<'static>; 3] = [
+    (
+        3,
+        CpuEnd::Whole,
+        2,
+        1,
+        None,
+        "cpu 0 frames 3 end ok\nsend sent 2 skipped 1 stop none\n",
+    ),
+    (
+        2,
+        CpuEnd::Damaged(CaptureError::Truncated(3040)),
+        0,
+        0,
+        Some(1),
+        "cpu 0 frames 2 end truncated 3040\nsend sent 0 skipped 0 stop 1\n",
+    ),
+    (
+        0,
+        CpuEnd::Fault,
+        0,
+        0,
+        None,
+        "cpu 0 frames 0 end fault\nsend sent 0 skipped 0 stop none\n",
+    ),
+];
+
+#[test]
+fn what_was_sent_has_two_lines(rt: HostRuntime) -> Result<(), Fail> {
+    for (frames, end, sent, skipped, stop, lines) in &SENT_ROWS {
+        let told = Transmitted {
+            packets: Packets::new(rt.alloc()),
+            sent: *sent,
+            skipped: *skipped,
+            stop: *stop,
+        };
+        let text = send_lines(rt.alloc(), *frames, *end, &told)?;
+        assert_eq!(rt; text.as_str(), *lines);
     }
     Ok(())
 }

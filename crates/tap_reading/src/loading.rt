@@ -1,7 +1,8 @@
 //! Texts of a store, read and understood.
-ghost use Rattle.std.specs.Prelude.{◌≡◌, Ok, IfErr, IfOk, IsTrue};
+ghost use Rattle.std.specs.Prelude.{◌≡◌, None, Ok, IfErr, IfOk, IsTrue};
 ghost use Rattle.setup_text.specs.Filters.{filter_of};
 ghost use Rattle.setup_text.specs.Moments.{moments_of};
+ghost use Rattle.setup_text.specs.Setups.{request_fault};
 ghost use Rattle.setup_text.specs.Sound.{IsScheduleFor, IsSetup};
 ghost use Rattle.tap_outside.specs.Counts.{Rose};
 ghost use Rattle.tap_reading.specs.Readers.{Says, StopsAtSetup, StopsAtText, schedule_for, setup_for};
@@ -26,6 +27,7 @@ pub fn load_setup<S: Store>(
     requires { IsTrue (S.meant_to_read store.old name.now) }
     ensures setup { IfOk result (λ setup. Says (setup_for command) (S.held store.old) name.now (Ok setup)) }
     ensures sound { IfOk result IsSetup }
+    ensures ring { IfOk result (λ setup. request_fault command setup.request ≡ None) }
     ensures stop { IfErr result (StopsAtSetup command (S.held store.old) name.now
         (Rose (S.read_faults store.old) (S.read_faults store.new))) }
     ensures store { IsReadOnly

@@ -33,7 +33,7 @@ use Rattle.tap_replay.specs.Feeding.{Closes, Feeding, cpu_of, frames_in}
 use Rattle.tap_replay.specs.Reported.{member_of}
 use Rattle.tap_replay.specs.Running.{AreAllOf, AreCpus, IsRun, RunValue, cpus_of, firsts_of, whole}
 use Rattle.tap_replay.specs.Runs.{IsReplayed, captures_from, log_of, logs_from, replay_of, report_of, rules_of}
-use Rattle.tap_replay.specs.Sources.{AllGave, Seen}
+use Rattle.capture_reading.specs.Sources.{AllGave, Seen}
 use Rattle.tap_replay.specs.Turning.{AllClose, FedRest, Finishes, LineDone, MembersAfter, Starts, starting_from}
 use Rattle.tap_replay.proofs.Whole.{as-many}
 

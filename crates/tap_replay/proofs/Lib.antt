@@ -3,7 +3,6 @@ mod Keeping
 mod Reading
 mod Holding
 mod LastReads
-mod Consumed
 mod Piecewise
 mod Totals
 mod Routing

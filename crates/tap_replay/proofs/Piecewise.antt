@@ -1,76 +1,21 @@
 -- What holds of a CPU's source, its decoder and the frames that wait, from one piece to the next.
-use Rattle.std.proofs.Common.{◌≡◌, ◌≢◌, ℕ, false, append-nil, append_assoc, subst, inl, inr, ◌+◌, ◌≤◌, List, [], ◌∷◌, ◌++◌, length, drop, zero, suc, Option, None, Some, refl, sym, ap, ◌∙◌, arith, length-append}
-use Rattle.std.specs.Prelude.{Err, IsSome, ◌<◌}
-use Rattle.std.proofs.lemmas.Bool.{cases_lt}
+use Rattle.std.proofs.Common.{◌≡◌, ℕ, append_assoc, subst, ◌+◌, ◌≤◌, List, [], ◌∷◌, ◌++◌, length, drop, zero, suc, Option, None, Some, refl, sym, ap, ◌∙◌, arith, length-append}
+use Rattle.std.specs.Prelude.{IsSome}
 use Rattle.std.proofs.lemmas.List.{length-drop}
 use Rattle.std.specs.Io.KnownBytes.{Consumes, IsAtEnd}
 use Rattle.frame_view.specs.declared.frames.Frame.{Frame}
 use Rattle.capture_file.specs.Capture.{damage_of, end_of, frames_of}
-use Rattle.capture_file.specs.Decoding.{DecoderValue, Stands, UnlessMemory}
+use Rattle.capture_file.specs.Decoding.{DecoderValue, Stands}
 use Rattle.capture_file.specs.declared.error.CaptureError.{CaptureError}
-use Rattle.capture_file.specs.declared.error.CaptureError.TheVariants as errors
 use Rattle.fanout_group.specs.declared.runs.CpuEnd.{CpuEnd}
-use Rattle.fanout_group.specs.declared.runs.CpuEnd.TheVariants.{Whole, Fault, Damaged}
+use Rattle.fanout_group.specs.declared.runs.CpuEnd.TheVariants.{Fault}
 use Rattle.tap_outside.specs.Counts.{Rose}
-use Rattle.tap_replay.specs.Feeding.{Feeding, Giving, HasRead, IsAllOf, IsFed, frames_in}
-use Rattle.tap_replay.specs.Pieces.{Decodes, ended_by, is_want}
-use Rattle.tap_replay.specs.Sources.{Seen, UnlessFault, WhereEnded, WhereFault, end_by}
-use Rattle.tap_replay.proofs.Consumed.{Consumes-more, Consumes-none}
-
--- the answer isn't want of memory
-pub told : {P : Type 0} → (damage : CaptureError) → is_want damage ≡ false → UnlessMemory {X = Unit {0}} (Err damage) P → P
-told errors.Memory ne h = cc
-told errors.BadMagic ne h = h
-told errors.BadVersion ne h = h
-told (errors.BadLink field) ne h = h
-told (errors.BadLength place) ne h = h
-told (errors.Truncated place) ne h = h
-told errors.TooLarge ne h = h
-told (errors.BadInterface place) ne h = h
-
-without_fault : (P : Type 0) (end : CpuEnd) → P → UnlessFault end P
-without_fault P Fault h = tt
-without_fault P Whole h = h
-without_fault P (Damaged damage) h = h
-
-where_ended : (P : Type 0) (end : CpuEnd) → P → WhereEnded end P
-where_ended P Whole h = h
-where_ended P Fault h = tt
-where_ended P (Damaged errors.BadMagic) h = tt
-where_ended P (Damaged errors.BadVersion) h = tt
-where_ended P (Damaged (errors.BadLink field)) h = tt
-where_ended P (Damaged (errors.BadLength place)) h = tt
-where_ended P (Damaged (errors.Truncated place)) h = h
-where_ended P (Damaged errors.TooLarge) h = tt
-where_ended P (Damaged errors.Memory) h = tt
-where_ended P (Damaged (errors.BadInterface place)) h = tt
-
-no_cut : (P : Type 0) (damage : CaptureError) → ((place : ℕ) → damage ≢ errors.Truncated place) → WhereEnded (Damaged damage) P
-no_cut P errors.BadMagic h = tt
-no_cut P errors.BadVersion h = tt
-no_cut P (errors.BadLink field) h = tt
-no_cut P (errors.BadLength place) h = tt
-no_cut P (errors.Truncated place) h = absurd (h place refl)
-no_cut P errors.TooLarge h = tt
-no_cut P errors.Memory h = tt
-no_cut P (errors.BadInterface place) h = tt
-
-no_fault : (P : Type 0) (damage : Option CaptureError) → WhereFault (end_by damage) P
-no_fault P None = tt
-no_fault P (Some damage) = tt
-
--- an end that the decoder tells
-told_end : (P : Type 0) (end : CpuEnd) (damage : Option CaptureError) → end ≡ end_by damage → WhereFault end P
-told_end P end damage e = subst (λ (x : CpuEnd). WhereFault x P) (sym e) (no_fault P damage)
-
-rose_later : (a b c : ℕ) → a ≤ b → Rose b c → Rose a c
-rose_later a b c h rose = omega (arith, h, rose)
+use Rattle.capture_reading.specs.Pieces.{Decodes, ended_by}
+use Rattle.capture_reading.specs.Sources.{Giving, Seen, end_by}
+use Rattle.capture_reading.proofs.Giving.{IsTheEnd, IsUncut, end_gives, fault_gives, gave_nothing, none_gives, none_shown, piece_gives}
+use Rattle.tap_replay.specs.Feeding.{Feeding, HasRead, IsAllOf, IsFed, frames_in}
 
 -- ---- the first state
-
-gave_nothing : (first : Option Seen) → Giving first first [] None
-gave_nothing None = refl
-gave_nothing (Some seen) = record { taken = Consumes-none seen.left; later = omega arith }
 
 drop_none : {X : Type 0} (n : ℕ) → drop {A = X} n [] ≡ []
 drop_none zero = refl
@@ -109,31 +54,11 @@ ended_so number first now then_ bytes fed given decoder waiting end h giving = r
   sound = λ e. some_none end _ e;
 }
 
-none_gives : (first : Option Seen) (bytes : List ℕ) → Giving first None bytes None → Giving first None bytes (Some Fault)
-none_gives None bytes h = (h, refl)
-none_gives (Some seen) bytes h = absurd h
-
 -- without a source
 pub no_source : (number : ℕ) (first : Option Seen) (bytes : List ℕ) (fed given : ℕ) (decoder : DecoderValue) (waiting : List Frame)
     → IsFed number first None bytes None fed given decoder waiting → IsFed number first None bytes (Some Fault) fed given decoder waiting
 no_source number first bytes fed given decoder waiting h =
     ended_so number first None None bytes fed given decoder waiting Fault h (none_gives first bytes h.giving)
-
-on_and_on : (first before now : Option (List ℕ)) (bytes : List ℕ) → Consumes first before bytes → Consumes before now [] → Consumes first now bytes
-on_and_on first before now bytes h k = subst (λ b. Consumes first now b) (append-nil bytes) (Consumes-more first before now bytes [] h k)
-
-fault_gives : (first : Option Seen) (old new : Seen) (bytes : List ℕ) → Giving first (Some old) bytes None → Consumes old.left new.left []
-    → old.faults ≤ new.faults → Rose old.faults new.faults → Giving first (Some new) bytes (Some Fault)
-fault_gives None old new bytes h none later rose = absurd h
-fault_gives (Some seen) old new bytes h none later rose =
-    let early = h.later in
-    record {
-      taken = on_and_on seen.left old.left new.left bytes h.taken none;
-      later = omega (arith, early, later);
-      fault = rose_later seen.faults old.faults new.faults early rose;
-      damage = tt;
-      all = tt;
-    }
 
 -- a read failed
 pub failed : (number : ℕ) (first : Option Seen) (old new : Seen) (bytes : List ℕ) (fed given : ℕ) (decoder : DecoderValue) (waiting : List Frame)
@@ -141,19 +66,6 @@ pub failed : (number : ℕ) (first : Option Seen) (old new : Seen) (bytes : List
     → Rose old.faults new.faults → IsFed number first (Some new) bytes (Some Fault) fed given decoder waiting
 failed number first old new bytes fed given decoder waiting h none later rose =
     ended_so number first (Some old) (Some new) bytes fed given decoder waiting Fault h (fault_gives first old new bytes h.giving none later rose)
-
-end_gives : (first : Option Seen) (old new : Seen) (bytes : List ℕ) (end : CpuEnd) → Giving first (Some old) bytes None → Consumes old.left new.left []
-    → old.faults ≤ new.faults → IsAtEnd new.left → end ≡ end_by (end_of bytes) → Giving first (Some new) bytes (Some end)
-end_gives None old new bytes end h none later at_end is = absurd h
-end_gives (Some seen) old new bytes end h none later at_end is =
-    let early = h.later in
-    record {
-      taken = on_and_on seen.left old.left new.left bytes h.taken none;
-      later = omega (arith, early, later);
-      fault = told_end _ end (end_of bytes) is;
-      damage = without_fault _ end is;
-      all = where_ended _ end at_end;
-    }
 
 -- a read gave no byte
 pub at_end : (number : ℕ) (first : Option Seen) (old new : Seen) (bytes : List ℕ) (fed given : ℕ) (decoder : DecoderValue) (waiting : List Frame) (end : CpuEnd)
@@ -166,38 +78,11 @@ at_end number first old new bytes fed given decoder waiting end h none later all
 
 -- ---- a piece more
 
-abbrev IsTheEnd : Type 0
-IsTheEnd = (bytes : List ℕ) (d : CaptureError) → damage_of bytes ≡ Some d → end_of bytes ≡ Some d
-
-abbrev IsUncut : Type 0
-IsUncut = (bytes : List ℕ) (place : ℕ) → damage_of bytes ≢ Some (errors.Truncated place)
-
-piece_gives : (first : Option Seen) (old new : Seen) (bytes piece : List ℕ) (damage : Option CaptureError) → IsTheEnd → IsUncut
-    → Giving first (Some old) bytes None → Consumes old.left new.left piece → old.faults ≤ new.faults → damage ≡ damage_of (bytes ++ piece)
-    → Giving first (Some new) (bytes ++ piece) (ended_by damage)
-piece_gives None old new bytes piece damage the_end uncut h took later is = absurd h
-piece_gives (Some seen) old new bytes piece None the_end uncut h took later is =
-    let early = h.later in
-    record { taken = Consumes-more seen.left old.left new.left bytes piece h.taken took; later = omega (arith, early, later) }
-piece_gives (Some seen) old new bytes piece (Some damage) the_end uncut h took later is =
-    let early = h.later in
-    record {
-      taken = Consumes-more seen.left old.left new.left bytes piece h.taken took;
-      later = omega (arith, early, later);
-      fault = tt;
-      damage = sym (ap end_by (the_end (bytes ++ piece) damage (sym is)));
-      all = no_cut _ damage (λ place e. uncut (bytes ++ piece) place (sym is ∙ ap Some e));
-    }
-
 drop_front : {X : Type 0} (n : ℕ) (xs ys : List X) → length xs ≡ n → drop n (xs ++ ys) ≡ ys
 drop_front zero [] ys e = refl
 drop_front (suc n) [] ys e = absurd (omega (arith, e))
 drop_front zero (x ∷ xs) ys e = absurd (omega (arith, e))
 drop_front (suc n) (x ∷ xs) ys e = drop_front n xs ys (omega (arith, e))
-
-none_shown : (damage : Option CaptureError) → ended_by damage ≡ None → damage ≡ None
-none_shown None e = refl
-none_shown (Some damage) e = cc
 
 piece_more : (number : ℕ) (first : Option Seen) (old new : Seen) (bytes piece : List ℕ) (fed given : ℕ) (before decoder : DecoderValue) (waiting more : List Frame)
     (damage : Option CaptureError) → IsTheEnd → IsUncut
@@ -244,15 +129,6 @@ pub piece_frames : (number : ℕ) (first now : Option Seen) (bytes grown took pi
 piece_frames number first now bytes grown took piece ended fed given before decoder waiting more damage h same grown_is decodes =
     let one : Decodes number bytes piece decoder more damage = decodes number bytes h.stands in
     ap (λ (b : List ℕ). frames_of number b) (grown_is ∙ ap (λ (p : List ℕ). bytes ++ p) (sym same)) ∙ one.frames
-
--- what is sound isn't larger than captures may be
-pub is_small : (bytes : List ℕ) → damage_of bytes ≡ None → (33554432 < length bytes → IsSome (damage_of bytes)) → length bytes ≤ 33554432
-is_small bytes sound h =
-    elim (cases_lt 33554432 (length bytes)) [ inl more ↦ absurd (none_is_some (damage_of bytes) sound (h more)) | inr few ↦ few ]
-  where
-    none_is_some : (d : Option CaptureError) → d ≡ None → IsSome d → ⊥
-    none_is_some None e some = cc
-    none_is_some (Some x) e some = cc
 
 -- ---- what all frames are
 

@@ -20,7 +20,7 @@ use Rattle.tap_replay.specs.Fed.{GoesOn, arrival_of}
 use Rattle.tap_replay.specs.Feeding.{Feeding}
 use Rattle.tap_replay.specs.Runs.{lens_of, rules_of}
 use Rattle.tap_replay.specs.Running.{AreCpus, Arrives, Does, Feeds, IsLogged, IsRun, Nexts, RunValue, cpu_in, firsts_of, no_feeding, whole}
-use Rattle.tap_replay.specs.Sources.{Seen}
+use Rattle.capture_reading.specs.Sources.{Seen}
 use Rattle.tap_replay.specs.declared.fed.Fed.{Fed}
 use Rattle.tap_replay.specs.declared.fed.Fed.TheVariants.{Arrival, Nothing, End}
 use Rattle.tap_replay.proofs.Arriving.{Looked, all_take, arrives, as_changed, as_count, as_keep, cpus_are, made_tries}

@@ -1,18 +1,16 @@
 -- A CPU of a replay whose source is read a piece at a time, and the CPU of a replay of all its frames that it stands for.
 use Rattle.std.specs.Prelude.{◌≡◌, ℕ, ◌+◌, ◌-◌, ◌<◌, ◌≤◌, List, [], ◌++◌, length, drop, slice_get, is_some, if◌then◌else◌, Option, None, Some, IsSome}
-use Rattle.std.specs.Io.KnownBytes.{Consumes}
 use Rattle.capture_file.specs.Capture.{damage_of, frames_of}
 use Rattle.capture_file.specs.Decoding.{DecoderValue, Stands}
 use Rattle.fanout_group.specs.Arrivals.{arrivals_from}
 use Rattle.fanout_group.specs.Paths.{Path}
 use Rattle.fanout_group.specs.Plans.{has_defrag}
 use Rattle.fanout_group.specs.declared.runs.CpuEnd.{CpuEnd}
-use Rattle.fanout_group.specs.declared.runs.CpuEnd.TheVariants.{Fault}
 use Rattle.fanout_group.specs.declared.runs.CpuLog.{CpuLog}
 use Rattle.frame_view.specs.declared.frames.Frame.{Frame}
 use Rattle.replay_model.specs.Feeds.{next_of}
 use Rattle.replay_model.specs.Replay.{Cpu}
-use Rattle.tap_replay.specs.Sources.{Gave, GaveIfThere, Seen}
+use Rattle.capture_reading.specs.Sources.{GaveIfThere, Giving, Seen}
 
 pub record Feeding : Type 0 where
   -- its number, from 0
@@ -47,26 +45,6 @@ cpu_of all cpu = record {
 }
 
 -- ---- what is known of its source
-
--- what a source has given so far, where it hasn't ended
-pub record GaveSoFar (old new : Seen) (bytes : List ℕ) : Type 0 where
-  pub taken : Consumes old.left new.left bytes
-  pub later : old.faults ≤ new.faults
-
-abbrev pub GaveBy : Seen → Seen → List ℕ → Option CpuEnd → Type 0
-GaveBy old new bytes None = GaveSoFar old new bytes
-GaveBy old new bytes (Some end) = Gave old new bytes end
-
--- without a source nothing is given, and the end is a fault
-abbrev pub IsNothing : List ℕ → Option CpuEnd → Type 0
-IsNothing bytes None = bytes ≡ []
-IsNothing bytes (Some end) = (bytes ≡ []) × (end ≡ Fault)
-
--- what a source that may not be there has given
-abbrev pub Giving : Option Seen → Option Seen → List ℕ → Option CpuEnd → Type 0
-Giving None None bytes ended = IsNothing bytes ended
-Giving (Some old) (Some new) bytes ended = GaveBy old new bytes ended
-Giving old new bytes ended = ⊥
 
 -- the decoder has decoded the bytes so far, and the frames wait that weren't fed
 pub record IsFed (number : ℕ) (first now : Option Seen) (bytes : List ℕ) (ended : Option CpuEnd) (fed given : ℕ) (decoder : DecoderValue) (waiting : List Frame) : Type 0 where

@@ -1,10 +1,8 @@
 pub mod Reported
 pub mod Blocks
 pub mod Members
-pub mod Sources
 pub mod Runs
 pub mod Feeding
-pub mod Pieces
 pub mod Fed
 pub mod Deliveries
 pub mod DeskLaws

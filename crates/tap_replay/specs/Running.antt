@@ -17,7 +17,7 @@ use Rattle.tap_replay.specs.Deliveries.{AreTried, ChangedByTries}
 use Rattle.tap_replay.specs.Fed.{FedOne, GoesOn, IsAtItsEnd, arrival_of}
 use Rattle.tap_replay.specs.Feeding.{Feeding, IsAllOfCpu, IsSameCpu, Takes, cpu_of}
 use Rattle.tap_replay.specs.Runs.{rules_of}
-use Rattle.tap_replay.specs.Sources.{Seen}
+use Rattle.capture_reading.specs.Sources.{Seen}
 use Rattle.tap_replay.specs.declared.fed.Fed.{Fed}
 
 pub record RunValue : Type 0 where

@@ -22,7 +22,7 @@ use Rattle.setup_text.specs.declared.reports.RunReport.{RunReport}
 use Rattle.tp_layout.specs.Requests.{fills_hash, room_of, size_of}
 use Rattle.tp_layout.specs.declared.requests.RingRequest.{RingRequest}
 use Rattle.tap_replay.specs.Reported.{dump_where, member_of}
-use Rattle.tap_replay.specs.Sources.{AllGave, Seen}
+use Rattle.capture_reading.specs.Sources.{AllGave, Seen}
 
 -- ---- the rules of a job
 

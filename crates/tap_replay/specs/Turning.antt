@@ -20,7 +20,7 @@ use Rattle.tap_replay.specs.Fed.{IsAtItsEnd}
 use Rattle.tap_replay.specs.Feeding.{Closes, Feeding}
 use Rattle.tap_replay.specs.Running.{Does, IsRun, RunValue, firsts_of}
 use Rattle.tap_replay.specs.Runs.{rules_of}
-use Rattle.tap_replay.specs.Sources.{Seen}
+use Rattle.capture_reading.specs.Sources.{Seen}
 
 -- a CPU of which nothing was read
 abbrev pub first_feeding : Shape → ℕ → Option Seen → Feeding

@@ -15,14 +15,13 @@ ghost use Rattle.frame_view.specs.declared.frames.Frame.{Frame};
 ghost use Rattle.tap_replay.specs.Feeding.{Closes, HasRead, IsAllOfCpu, IsReady, IsSameCpu, Pops, Takes, frames_in, unread};
 ghost use Rattle.tap_replay.specs.Fed.{GoesOn, arrival_of};
 
-use crate::buffer::Buffer;
-use crate::decoding::{decode, end_at, ended_by};
 use crate::fed::Fed;
 use crate::trace::Trace;
 use capture_file::{
     Decoder, an_empty_capture_has_no_frames, damage_is_the_end, frames_are_captured,
     frames_are_few, frames_are_numbered, too_many_bytes_are_damage,
 };
+use capture_reading::{Buffer, decode, end_at, ended_by};
 use fanout_group::{ArrivalLog, CpuEnd, CpuLog, Desk, Plan, ReceivePath};
 use frame_view::{Frame, Memory};
 use ring_model::Offer;

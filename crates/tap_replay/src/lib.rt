@@ -1,10 +1,8 @@
 //! The replay over rings of blocks: each frame travels as bytes in a block, and its reader reads it out of there.
 #![tactic(auto)]
 
-mod buffer;
 mod closing;
 mod cpu_feed;
-mod decoding;
 mod drawing;
 mod fed;
 mod looking;

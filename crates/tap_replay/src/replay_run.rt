@@ -14,7 +14,6 @@ ghost use Rattle.tap_replay.specs.Fed.{arrival_of};
 ghost use Rattle.tap_replay.specs.Running.{Arrives, Feeds, IsLogged, IsRun, Nexts, cpu_in};
 ghost use Rattle.tap_replay.specs.Turning.{FedRest, FedWhole, LineDone};
 
-use crate::buffer::Buffer;
 use crate::cpu_feed::CpuFeed;
 use crate::drawing::{next_ticket, ticket_of};
 use crate::fed::Fed;
@@ -22,6 +21,7 @@ use crate::looking::rules_at;
 use crate::member::Member;
 use crate::ring_desk::RingDesk;
 use crate::setting::Setting;
+use capture_reading::Buffer;
 use fanout_group::ArrivalLog;
 use frame_view::{Frame, Memory};
 use replay_model::Line;

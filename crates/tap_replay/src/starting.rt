@@ -5,11 +5,11 @@ ghost use Rattle.setup_text.specs.Sound.{IsSetup};
 ghost use Rattle.tap_replay.specs.Turning.{Starts, starting_from};
 ghost use Rattle.tp_layout.specs.Requests.{size_of};
 
-use crate::buffer::Buffer;
 use crate::cpu_feed::CpuFeed;
 use crate::member::Member;
 use crate::replay_run::ReplayRun;
 use crate::setting::Setting;
+use capture_reading::Buffer;
 use fanout_group::Plan;
 use frame_view::Memory;
 use setup_text::Job;

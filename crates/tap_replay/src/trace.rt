@@ -2,7 +2,7 @@
 ghost use Rattle.std.specs.Prelude.{◌≡◌, ℕ, List, [], ◌++◌, take};
 ghost use Rattle.std.specs.Borrow.{ftrue};
 
-use crate::buffer::Buffer;
+use capture_reading::Buffer;
 use std::marker::Model;
 
 /// The bytes that a source gave, in their order. It takes no memory, and its calls do nothing when they run.

@@ -1,7 +1,9 @@
--- The files of a run: for each member from 0 up its packets, and its blocks where they are asked for.
+-- The files of a run: for each member from 0 up its packets, and its blocks where they are asked for. The file of what was
+-- sent.
 use Rattle.std.specs.Prelude.{ℕ, zero, suc, ◌+◌, List, [], ◌∷◌, ◌++◌, codes, if◌then◌else◌}
 use Rattle.std.specs.Fmt.{decimal}
 use Rattle.capture_file.specs.Output.{output_of}
+use Rattle.frame_view.specs.declared.frames.Packet.{Packet}
 use Rattle.setup_text.specs.declared.reports.MemberReport.{MemberReport}
 use Rattle.setup_text.specs.declared.setups.Setup.{Setup}
 
@@ -23,6 +25,14 @@ names_at setup member =
 abbrev pub names_from : Setup → ℕ → ℕ → List (List ℕ)
 names_from setup member zero = []
 names_from setup member (suc count) = names_at setup member ++ names_from setup (member + 1) count
+
+-- the name of the file of what was sent: `out.tx.pcap` of the prefix `out`
+abbrev pub sent_name : Setup → List ℕ
+sent_name setup = setup.prefix ++ codes ".tx.pcap"
+
+-- that file: the output of the packets that were sent
+abbrev pub sent_file : Setup → List Packet → File
+sent_file setup packets = record { name = sent_name setup; bytes = output_of packets }
 
 -- a member's files: the output of the packets that were read, and the dump
 abbrev pub files_at : Setup → ℕ → MemberReport → List File

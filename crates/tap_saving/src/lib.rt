@@ -4,5 +4,7 @@
 mod members;
 mod names;
 mod saves;
+mod sent;
 
 pub use members::save_members;
+pub use sent::save_sent;

@@ -1,7 +1,7 @@
 use Rattle.std.proofs.Common.{ap, ◌∙◌, arith}
 use Rattle.std.proofs.lemmas.Result.{err_from_is_err_and}
 use Rattle.setup_text.specs.Setups.{at_end, completed, setup_of}
-use Rattle.setup_text.proofs.Accepted.{setup_sound}
+use Rattle.setup_text.proofs.Accepted.{setup_accepted}
 use Rattle.setup_text.proofs.Texts.{when_large, when_small}
 use Rattle.setup_text.proofs.setups.read_setup.Goals as goal
 
@@ -30,7 +30,13 @@ returns-in_err-draft-clause-right c =
     rw (p.1, p.2) (λ h. when_small c.args.text.now _ _ (omega arith) ∙ ap (completed c.args.command) (c.in_err-draft.ensures h))
 
 pub returns-in-Ok-clause-sound : goal.returns-in-Ok-clause-sound
-unfolding setup_of
 returns-in-Ok-clause-sound c =
-    setup_sound c.args.text.now c.args.command c.in-Ok.setup
-    (when_small c.args.text.now _ _ (omega arith) ∙ ap (completed c.args.command) c.in_ok-draft.ensures ∙ ap at_end c.in-Ok.ensures)
+    (setup_accepted c.args.text.now c.args.command c.in_ok-draft.draft c.in-Ok.setup c.in_ok-draft.ensures c.in-Ok.ensures).sound
+
+pub returns-in-Ok-clause-ring : goal.returns-in-Ok-clause-ring
+returns-in-Ok-clause-ring c =
+    (setup_accepted c.args.text.now c.args.command c.in_ok-draft.draft c.in-Ok.setup c.in_ok-draft.ensures c.in-Ok.ensures).ring
+
+pub returns-in-Ok-clause-made : goal.returns-in-Ok-clause-made
+returns-in-Ok-clause-made c =
+    (setup_accepted c.args.text.now c.args.command c.in_ok-draft.draft c.in-Ok.setup c.in_ok-draft.ensures c.in-Ok.ensures).made

@@ -1,9 +1,9 @@
-use Rattle.std.proofs.Common.{◌≡◌, ℕ, Bool, List, refl, sym, ap, subst, ◌∙◌}
-use Rattle.std.specs.Prelude.{IfSome, IsTrue, IfErr, Option, Result}
+use Rattle.std.proofs.Common.{ℕ, Bool, List, refl, sym, subst}
+use Rattle.std.specs.Prelude.{IfSome, IsTrue, Option}
 use Rattle.setup_text.specs.declared.jobs.Job.{Job}
 use Rattle.tap_outside.specs.Contents.{Contents}
 use Rattle.tap_engine.specs.Commands.{Named}
-use Rattle.tap_engine.specs.Jobs.{HasJob, Stops}
+use Rattle.tap_engine.specs.Jobs.{HasJob}
 use Rattle.std.proofs.lemmas.Result.{err_from_is_err_and}
 use Rattle.tap_engine.proofs.Loaded.{stops_later}
 use Rattle.tap_engine.proofs.Meant.{behind_meant, schedule_meant, ticks_meant}

@@ -1,11 +1,11 @@
-use Rattle.std.proofs.Common.{◌≡◌, ◌≤◌, ℕ, List, refl, sym, ap, subst, ◌∙◌, arith}
+use Rattle.std.proofs.Common.{refl, sym, subst, arith}
 use Rattle.std.specs.Prelude.{Option}
 use Rattle.tap_outside.specs.Counts.{Rose, RoseBy}
 use Rattle.tap_engine.specs.Commands.{Named}
-use Rattle.tap_engine.specs.Expected.{Expected, IsExpected, bad_setup, bad_text, checked, no_command, unread}
-use Rattle.tap_engine.specs.declared.outcomes.Status.TheVariants as statuses
+use Rattle.tap_engine.specs.Expected.{IsExpected, bad_setup, bad_text, no_command, unread}
 use Rattle.tap_reading.specs.declared.stops.Stop.TheVariants as stops
-use Rattle.tap_engine.proofs.Carried.{checked_in, made_printed, made_report, made_told, others_of, run_in, stop_is}
+use Rattle.tap_engine.specs.Names.{names_to_read, names_to_save}
+use Rattle.tap_engine.proofs.Carried.{asked_in, loaded_in, made_in, made_printed, made_told, made_untouched, meant_in, others_in, stop_is}
 use Rattle.tap_engine.proofs.running.carry_out.Goals as goal
 
 pub returns-in_default-clause-told : goal.returns-in_default-clause-told
@@ -15,58 +15,75 @@ returns-in_default-clause-told g c = λ other. (
   c.say.ensures.concludes no_command _ _ (g.S.Store.save_faults c.args.store.now) (g.S.Store.save_faults c.args.store.now) refl (omega arith),
 )
 
-pub returns-in-Ok-Checked-clause-told : goal.returns-in-Ok-Checked-clause-told
-returns-in-Ok-Checked-clause-told g c = λ other.
+pub work-requires-clause-loaded : goal.work-requires-clause-loaded
+work-requires-clause-loaded g c κs within =
     let held = g.S.Store.held c.args.store.now in
     let named : Named = record { command = c.in-Some.asked.command; setup = c.in-Some.asked.setup.now; schedule = c.in-Some.asked.schedule.now } in (
-      checked,
-      subst (λ (command : Option Named). IsExpected held (λ n. RoseBy n (g.S.Store.read_faults c.args.store.now) (g.S.Store.read_faults c.load.new.store)) command checked) c.in-Some.ensures
-          (checked_in held named _ c.in-Ok-Checked.field-0-is c.in-Ok-Checked.ensures.loaded),
-      c.say-in-Ok-Checked.ensures.concludes checked _ _ (g.S.Store.save_faults c.args.store.now) (g.S.Store.save_faults c.load.new.store) refl (omega (arith, c.load.ensures.store.save_faults)),
+      named,
+      loaded_in held (g.S.Store.held c.load.new.store) named c.in-Ok.loaded c.load.ensures.store.held c.in-Ok.ensures.loaded,
+      meant_in names_to_read held (g.S.Store.held c.load.new.store) _ named _ _ (sym c.in-Some.ensures) c.load.ensures.store.held c.load.ensures.store.to_read c.requires.reads,
+      meant_in names_to_save held (g.S.Store.held c.load.new.store) _ named _ _ (sym c.in-Some.ensures) c.load.ensures.store.held c.load.ensures.store.to_save c.requires.saves,
     )
 
-pub returns-in-Ok-clause-told : goal.returns-in-Ok-clause-told
-returns-in-Ok-clause-told g c = λ other.
+pub returns-in-Ok-work-clause-told : goal.returns-in-Ok-work-clause-told
+returns-in-Ok-work-clause-told g c = λ other.
     let held = g.S.Store.held c.args.store.now in
     let named : Named = record { command = c.in-Some.asked.command; setup = c.in-Some.asked.setup.now; schedule = c.in-Some.asked.schedule.now } in
-    let run = run_in held (g.S.Store.held c.load.new.store) named _ c.in-Ok-Run.job c.in-Ok-Run.schedule c.load.ensures.store.held c.in-Ok-Run.field-0-is c.in-Ok-Run.ensures.loaded in
-    made_told held (g.S.Store.held c.load.new.store) _ _ named c.in-Ok.outcome _ _ _ _ _ _ _ _ _ (sym c.in-Some.ensures) c.load.ensures.store.held c.load.ensures.store.later c.load.ensures.store.save_faults
-    (c.in-Ok.ensures.made named run)
+    let made = made_in held (g.S.Store.held c.load.new.store) _ named c.in-Ok-work.outcome _ _ _ _ _ _ _ _ _ c.load.ensures.store.held c.load.ensures.store.later c.load.ensures.store.save_faults
+    (c.in-Ok-work.ensures.made named (loaded_in held (g.S.Store.held c.load.new.store) named c.in-Ok.loaded c.load.ensures.store.held c.in-Ok.ensures.loaded)) in
+    made_told held _ _ named c.in-Ok-work.outcome _ _ _ _ _ (sym c.in-Some.ensures) made
 
-pub returns-in-Ok-clause-want : goal.returns-in-Ok-clause-want
-returns-in-Ok-clause-want g c = λ want.
+pub returns-in-Ok-work-clause-want : goal.returns-in-Ok-work-clause-want
+returns-in-Ok-work-clause-want g c = λ want.
     let held = g.S.Store.held c.args.store.now in
     let named : Named = record { command = c.in-Some.asked.command; setup = c.in-Some.asked.setup.now; schedule = c.in-Some.asked.schedule.now } in
-    let run = run_in held (g.S.Store.held c.load.new.store) named _ c.in-Ok-Run.job c.in-Ok-Run.schedule c.load.ensures.store.held c.in-Ok-Run.field-0-is c.in-Ok-Run.ensures.loaded in
-    (c.in-Ok.ensures.made named run).concludes.no_report want
+    let made = made_in held (g.S.Store.held c.load.new.store) _ named c.in-Ok-work.outcome _ _ _ _ _ _ _ _ _ c.load.ensures.store.held c.load.ensures.store.later c.load.ensures.store.save_faults
+    (c.in-Ok-work.ensures.made named (loaded_in held (g.S.Store.held c.load.new.store) named c.in-Ok.loaded c.load.ensures.store.held c.in-Ok.ensures.loaded)) in
+    made.concludes.no_report want
 
-pub returns-in-Ok-clause-unprinted : goal.returns-in-Ok-clause-unprinted
-returns-in-Ok-clause-unprinted g c = λ none fault.
+pub returns-in-Ok-work-clause-unprinted : goal.returns-in-Ok-work-clause-unprinted
+returns-in-Ok-work-clause-unprinted g c = λ none fault.
     let held = g.S.Store.held c.args.store.now in
     let named : Named = record { command = c.in-Some.asked.command; setup = c.in-Some.asked.setup.now; schedule = c.in-Some.asked.schedule.now } in
-    let run = run_in held (g.S.Store.held c.load.new.store) named _ c.in-Ok-Run.job c.in-Ok-Run.schedule c.load.ensures.store.held c.in-Ok-Run.field-0-is c.in-Ok-Run.ensures.loaded in
-    made_printed _ _ named c.in-Ok.outcome _ _ _ _ _ (c.in-Ok.ensures.made named run) none fault
+    let made = made_in held (g.S.Store.held c.load.new.store) _ named c.in-Ok-work.outcome _ _ _ _ _ _ _ _ _ c.load.ensures.store.held c.load.ensures.store.later c.load.ensures.store.save_faults
+    (c.in-Ok-work.ensures.made named (loaded_in held (g.S.Store.held c.load.new.store) named c.in-Ok.loaded c.load.ensures.store.held c.in-Ok.ensures.loaded)) in
+    made_printed held _ _ named c.in-Ok-work.outcome _ _ _ _ _ (sym c.in-Some.ensures) made none fault
 
-pub returns-in-Ok-clause-untouched : goal.returns-in-Ok-clause-untouched
-returns-in-Ok-clause-untouched g c = λ none other.
+pub returns-in-Ok-work-clause-untouched : goal.returns-in-Ok-work-clause-untouched
+returns-in-Ok-work-clause-untouched g c = λ none other.
     let held = g.S.Store.held c.args.store.now in
     let named : Named = record { command = c.in-Some.asked.command; setup = c.in-Some.asked.setup.now; schedule = c.in-Some.asked.schedule.now } in
-    let run = run_in held (g.S.Store.held c.load.new.store) named _ c.in-Ok-Run.job c.in-Ok-Run.schedule c.load.ensures.store.held c.in-Ok-Run.field-0-is c.in-Ok-Run.ensures.loaded in
-    made_report _ _ named c.in-Ok.outcome _ _ _ _ _ (c.in-Ok.ensures.made named run) none other
+    let made = made_in held (g.S.Store.held c.load.new.store) _ named c.in-Ok-work.outcome _ _ _ _ _ _ _ _ _ c.load.ensures.store.held c.load.ensures.store.later c.load.ensures.store.save_faults
+    (c.in-Ok-work.ensures.made named (loaded_in held (g.S.Store.held c.load.new.store) named c.in-Ok.loaded c.load.ensures.store.held c.in-Ok.ensures.loaded)) in
+    made_untouched held _ _ named c.in-Ok-work.outcome _ _ _ _ _ (sym c.in-Some.ensures) made none other
 
-pub returns-in-Ok-clause-others : goal.returns-in-Ok-clause-others
-returns-in-Ok-clause-others g c =
+pub returns-in-Ok-work-clause-others : goal.returns-in-Ok-work-clause-others
+returns-in-Ok-work-clause-others g c =
     let held = g.S.Store.held c.args.store.now in
     let named : Named = record { command = c.in-Some.asked.command; setup = c.in-Some.asked.setup.now; schedule = c.in-Some.asked.schedule.now } in
-    let run = run_in held (g.S.Store.held c.load.new.store) named _ c.in-Ok-Run.job c.in-Ok-Run.schedule c.load.ensures.store.held c.in-Ok-Run.field-0-is c.in-Ok-Run.ensures.loaded in
-    others_of held (g.S.Store.held c.load.new.store) _ _ named c.in-Ok-Run.job c.in-Ok-Run.schedule (sym c.in-Some.ensures) c.load.ensures.store.held run c.in-Ok.ensures.others
+    others_in held (g.S.Store.held c.load.new.store) _ _ named (sym c.in-Some.ensures) c.load.ensures.store.held
+    (c.work.ensures.others named (loaded_in held (g.S.Store.held c.load.new.store) named c.in-Ok.loaded c.load.ensures.store.held c.in-Ok.ensures.loaded))
+
+pub returns-in-Ok-work-clause-asked : goal.returns-in-Ok-work-clause-asked
+returns-in-Ok-work-clause-asked g c =
+    let held = g.S.Store.held c.args.store.now in
+    let named : Named = record { command = c.in-Some.asked.command; setup = c.in-Some.asked.setup.now; schedule = c.in-Some.asked.schedule.now } in
+    asked_in held (g.S.Store.held c.load.new.store) _ _ named (sym c.in-Some.ensures) c.load.ensures.store.held
+    (c.work.ensures.asked named (loaded_in held (g.S.Store.held c.load.new.store) named c.in-Ok.loaded c.load.ensures.store.held c.in-Ok.ensures.loaded))
 
 pub returns-in-Err-clause-others : goal.returns-in-Err-clause-others
 returns-in-Err-clause-others g c =
     let held = g.S.Store.held c.args.store.now in
     let named : Named = record { command = c.in-Some.asked.command; setup = c.in-Some.asked.setup.now; schedule = c.in-Some.asked.schedule.now } in
-    let run = run_in held (g.S.Store.held c.load.new.store) named _ c.in-Ok-Run.job c.in-Ok-Run.schedule c.load.ensures.store.held c.in-Ok-Run.field-0-is c.in-Ok-Run.ensures.loaded in
-    others_of held (g.S.Store.held c.load.new.store) _ _ named c.in-Ok-Run.job c.in-Ok-Run.schedule (sym c.in-Some.ensures) c.load.ensures.store.held run c.make.ensures.others
+    others_in held (g.S.Store.held c.load.new.store) _ _ named (sym c.in-Some.ensures) c.load.ensures.store.held
+    (c.work.ensures.others named (loaded_in held (g.S.Store.held c.load.new.store) named c.in-Ok.loaded c.load.ensures.store.held c.in-Ok.ensures.loaded))
+
+pub returns-in-Err-clause-asked : goal.returns-in-Err-clause-asked
+returns-in-Err-clause-asked g c =
+    let held = g.S.Store.held c.args.store.now in
+    let named : Named = record { command = c.in-Some.asked.command; setup = c.in-Some.asked.setup.now; schedule = c.in-Some.asked.schedule.now } in
+    asked_in held (g.S.Store.held c.load.new.store) _ _ named (sym c.in-Some.ensures) c.load.ensures.store.held
+    (c.work.ensures.asked named (loaded_in held (g.S.Store.held c.load.new.store) named c.in-Ok.loaded c.load.ensures.store.held c.in-Ok.ensures.loaded))
 
 pub returns-in-Err-Unread-clause-told : goal.returns-in-Err-Unread-clause-told
 returns-in-Err-Unread-clause-told g c = λ other.

@@ -3,7 +3,7 @@ use Rattle.std.specs.Prelude.{List, Option, option_map}
 use Rattle.tap_outside.specs.Counts.{RoseBy}
 use Rattle.tap_reading.specs.Stores.{IsReadOnly}
 use Rattle.tap_reading.specs.Stores as stores
-use Rattle.tap_replay.specs.Sources.{Seen}
+use Rattle.capture_reading.specs.Sources.{Seen}
 use Rattle.tap_engine.specs.Sources.{faulty_in}
 use Rattle.tap_engine.proofs.sources.close_captures.Given as goal
 

@@ -1,6 +1,5 @@
-use Rattle.std.proofs.Common.{◌≡◌, ◌<◌, length, subst, List, [], ◌∷◌, get_or, ap, sym, ◌∙◌, map}
-use Rattle.std.specs.Prelude.{Option, option_map}
-use Rattle.tap_replay.specs.Sources.{Seen}
+use Rattle.std.proofs.Common.{◌<◌, length, subst, get_or, ap, ◌∙◌}
+use Rattle.std.specs.Prelude.{option_map}
 use Rattle.tap_engine.proofs.Fetched.{goes_on, read_then}
 use Rattle.tap_engine.proofs.sources.fetch_captures.Goals as goal
 

@@ -2,7 +2,7 @@ use Rattle.std.proofs.Common.{◌≡◌, [], length, rules, subst, List}
 use Rattle.std.specs.Prelude.{IsSome, option_map}
 use Rattle.std.specs.List.{AllByRecursion}
 use Rattle.tap_replay.specs.Feeding.{Feeding}
-use Rattle.tap_replay.specs.Sources.{Seen}
+use Rattle.capture_reading.specs.Sources.{Seen}
 use Rattle.tap_replay.proofs.Concluding.{close_all, close_more, close_none, ended_rest, no_cpus}
 use Rattle.tap_replay.proofs.closing.close_cpus.Goals as goal
 

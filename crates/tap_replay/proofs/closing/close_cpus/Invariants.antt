@@ -2,7 +2,7 @@ use Rattle.std.proofs.Common.{◌≡◌, ◌++◌, List}
 use Rattle.std.specs.Prelude.{map, option_map, IsSome}
 use Rattle.std.specs.List.{AllByRecursion}
 use Rattle.tap_replay.specs.Feeding.{Feeding}
-use Rattle.tap_replay.specs.Sources.{Seen}
+use Rattle.capture_reading.specs.Sources.{Seen}
 use Rattle.tap_replay.specs.Turning.{AllClose}
 use Rattle.tap_replay.proofs.closing.close_cpus.Given as goal
 

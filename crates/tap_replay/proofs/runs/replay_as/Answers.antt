@@ -5,7 +5,7 @@ use Rattle.replay_model.specs.declared.schedule.Line.{Line}
 use Rattle.replay_model.specs.declared.schedule.Line.TheVariants.{Feed}
 use Rattle.replay_model.proofs.Timed.{may-next}
 use Rattle.tp_layout.specs.Requests.{size_of}
-use Rattle.tap_replay.specs.Sources.{Seen}
+use Rattle.capture_reading.specs.Sources.{Seen}
 use Rattle.tap_replay.specs.Turning.{LineDone}
 use Rattle.tap_replay.proofs.Concluding.{Did, did_first, did_more, told}
 use Rattle.tap_replay.proofs.runs.replay_as.Goals as goal

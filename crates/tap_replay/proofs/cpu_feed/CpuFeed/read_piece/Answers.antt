@@ -1,7 +1,7 @@
 use Rattle.std.proofs.Common.{◌≡◌, ◌≤◌, ◌∙◌, None, ap, length, subst, sym}
 use Rattle.std.specs.Prelude.{option_map}
 use Rattle.tap_replay.specs.Feeding.{Feeding, frames_in}
-use Rattle.tap_replay.specs.Sources.{Seen}
+use Rattle.capture_reading.specs.Sources.{Seen}
 use Rattle.tap_replay.proofs.Piecewise.{piece_frames, piece_taken, read_more}
 use Rattle.tap_replay.proofs.cpu_feed.CpuFeed.read_piece.Goals as goal
 

@@ -27,7 +27,7 @@ use denote.Triple.Table.{entered}
 use denote.Triple.Walked.{says, Stays, stay_dropped, walk_of, ends_at, walk_Meets, Goes-dropped}
 use Rattle.ip_defrag.proofs.Walks.{none, none_made}
 use Rattle.tap_replay.specs.contracts.trace.Trace as Trace
-use Rattle.tap_replay.specs.contracts.buffer.Buffer as Buffer
+use Rattle.capture_reading.specs.contracts.buffer.Buffer as Buffer
 use Rattle.tap_replay.specs.contracts.trace.Trace.after as F
 use Rattle.tap_replay.specs.contracts.trace.Trace.after.Key.{name as #self}
 use Rattle.tap_replay.proofs.trace.Trace.after.Statement as stated

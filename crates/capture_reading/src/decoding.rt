@@ -1,0 +1,79 @@
+//! A piece of a capture, decoded.
+ghost use Rattle.std.specs.Prelude.{◌≡◌, ℕ, List, IfOk};
+ghost use Rattle.capture_file.specs.Capture.{end_of};
+ghost use Rattle.capture_file.specs.Decoding.{Stands};
+ghost use Rattle.capture_reading.specs.Pieces.{Appends, Decodes, ended_by, is_want};
+ghost use Rattle.capture_reading.specs.Sources.{end_by};
+
+use capture_file::{CaptureError, Decoder};
+use fanout_group::CpuEnd;
+use frame_view::{Frames, Memory};
+use std::alloc::Global;
+
+/// What is decoded of a piece.
+#[derive(Debug, Drop)]
+pub struct Decoded {
+    /// The frames that are whole now and weren't before, in order.
+    pub frames: Frames,
+    /// The damage that the capture shows by now; it is never `Memory`.
+    pub damage: Option<CaptureError>,
+}
+
+/// How the source of a capture ended that shows this damage: not yet, where it shows none.
+pub fn ended_by(damage: Option<CaptureError>) -> Option<CpuEnd>
+    ensures { result ≡ ended_by damage }
+{
+    match damage {
+        Some(damage) => Some(CpuEnd::Damaged(damage)),
+        None => None,
+    }
+}
+
+/// Feeds a piece to a decoder, appends the frames that are whole now, and gives the damage that the capture shows by now.
+/// The error is want of memory.
+pub(crate) fn feed(
+    decoder: &mut Decoder,
+    piece: &[u8],
+    into: &mut Frames,
+) -> Result<Option<CaptureError>, Memory>
+    ensures { IfOk result (λ damage. (cpu : ℕ) (fed : List ℕ) → Stands cpu decoder.old fed
+        → Appends cpu fed piece.now decoder.new into.old into.new damage) }
+{
+    match decoder.feed(piece, into) {
+        Ok(()) => Ok(None),
+        Err(error) => {
+            if is_want(&error) {
+                return Err(Memory);
+            }
+            Ok(Some(error))
+        }
+    }
+}
+
+/// Feeds a piece to a decoder: the frames that are whole now, and the damage that the capture shows by now. The error is
+/// want of memory; the piece is lost then, and the decoder is of no further use.
+pub fn decode(alloc: Global, decoder: &mut Decoder, piece: &[u8]) -> Result<Decoded, Memory>
+    ensures { IfOk result (λ decoded. (cpu : ℕ) (fed : List ℕ) → Stands cpu decoder.old fed
+        → Decodes cpu fed piece.now decoder.new decoded.frames decoded.damage) }
+{
+    let mut frames = Frames::new(alloc);
+    let damage = feed(decoder, piece, &mut frames)?;
+    Ok(Decoded { frames, damage })
+}
+
+/// Whether an answer says nothing of the capture.
+fn is_want(error: &CaptureError) -> bool
+    ensures { result ≡ is_want error.now }
+{
+    matches!(error, CaptureError::Memory)
+}
+
+/// How a capture ends whose source was read to its end: whole, or damaged, a cut among that. It takes no memory.
+pub fn end_at(decoder: &Decoder) -> CpuEnd
+    ensures { (cpu : ℕ) (fed : List ℕ) → Stands cpu decoder.now fed → result ≡ end_by (end_of fed) }
+{
+    match decoder.end() {
+        Ok(()) => CpuEnd::Whole,
+        Err(damage) => CpuEnd::Damaged(damage),
+    }
+}

@@ -1,0 +1,14 @@
+//! Captures that are read out of sources, piece by piece: the buffer, the decoding of a piece, and whole captures.
+#![tactic(auto)]
+
+mod buffer;
+mod decoding;
+mod so_far;
+mod whole;
+
+pub use buffer::Buffer;
+pub use decoding::{Decoded, decode, end_at, ended_by};
+pub use whole::{Reading, read_capture};
+
+#[cfg(test)]
+mod tests;

@@ -1,0 +1,72 @@
+//! A capture, read whole.
+ghost use Rattle.std.specs.Prelude.{◌≤◌, Some, option_map, IfOk, OnErr};
+ghost use Rattle.capture_reading.specs.Wholes.{IsReading, IsStillThere};
+
+use crate::buffer::Buffer;
+use crate::so_far::SoFar;
+use capture_file::{an_empty_capture_has_no_frames, too_many_bytes_are_damage};
+use fanout_group::CpuEnd;
+use frame_view::{Frames, Memory};
+use std::alloc::Global;
+use tap_outside::Source;
+
+/// What was read of a capture.
+#[derive(Debug, Drop)]
+pub struct Reading {
+    /// The frames of the bytes that the source gave, in order.
+    pub frames: Frames,
+    /// The number of these bytes.
+    pub given: u64,
+    /// How the capture ended: whole, damaged, or by a read that failed.
+    pub end: CpuEnd,
+}
+
+/// Reads the capture of a CPU to its end, a piece of at most 65,536 bytes at a time: until the source ends or fails, or
+/// the bytes show damage, as more than 33,554,432 bytes do. Without a source, one that couldn't be had, nothing is read and
+/// the end is a fault. The error is want of memory: then some bytes are lost, but a source that was handed in is still
+/// there, with each fault that it had.
+pub fn read_capture<S: Source>(
+    alloc: Global,
+    cpu: u32,
+    source: &mut Option<S>,
+) -> Result<Reading, Memory>
+    ensures read { IfOk result (IsReading cpu
+        (option_map (λ source. record { left = S.left source; faults = S.faults source }) source.old)
+        (option_map (λ source. record { left = S.left source; faults = S.faults source }) source.new)) }
+    ensures kept { OnErr result (IsStillThere
+        (option_map (λ source. record { left = S.left source; faults = S.faults source }) source.old)
+        (option_map (λ source. record { left = S.left source; faults = S.faults source }) source.new)) }
+{
+    an_empty_capture_has_no_frames();
+    let Some(source) = source else {
+        return Ok(Reading {
+            frames: Frames::new(alloc),
+            given: 0,
+            end: CpuEnd::Fault,
+        });
+    };
+    read_source(alloc, cpu, source)
+}
+
+/// Reads the capture of a CPU out of a source that is there.
+fn read_source<S: Source>(alloc: Global, cpu: u32, source: &mut S) -> Result<Reading, Memory>
+    ensures read { IfOk result (IsReading cpu
+        (Some (record { left = S.left source.old; faults = S.faults source.old }))
+        (Some (record { left = S.left source.new; faults = S.faults source.new }))) }
+    ensures later { S.faults source.old ≤ S.faults source.new }
+{
+    too_many_bytes_are_damage();
+    let mut buffer = Buffer::new(alloc)?;
+    let mut so_far = SoFar::new(alloc, cpu);
+    'reading: while so_far.ended.is_none() {
+        so_far.read_piece(source, &mut buffer)?;
+    }
+    let Some(end) = so_far.ended else {
+        unreachable!();
+    };
+    Ok(Reading {
+        frames: so_far.frames,
+        given: so_far.given,
+        end,
+    })
+}

@@ -1,0 +1,4 @@
+pub mod Dealt
+pub mod Scheduled
+pub mod Texts
+pub mod Whole
