@@ -38,9 +38,9 @@ fn counts(outcome: &Outcome, printed: &[u8]) -> (usize, usize) {
         return (0, 0);
     };
     each_frame_of_a_run_stands_exactly_once(report);
-    let mut walked = 0;
+    let mut walked: usize = 0;
     for member in report.members.as_slice() {
-        walked += member.walked.len();
+        walked = walked.saturating_add(member.walked.len());
     }
     let lossless = b" drops 0 freezes 0 blocks ".as_slice();
     let whole = printed

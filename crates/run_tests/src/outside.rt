@@ -137,7 +137,7 @@ static UNREAD: [(&[u64], &[u64], usize); 5] = [
 ];
 
 /// A run over three frames, of which a fetch or a read fails.
-fn replay_unread(alloc: Global, fetches: &[u64], reads: &[u64]) -> Result<Ran, Memory> {
+fn replay_unread<'a>(alloc: Global, fetches: &'a [u64], reads: &'a [u64]) -> Result<Ran, Memory> {
     let faults = Faults {
         fetches,
         reads,
