@@ -2,11 +2,12 @@
 """Times `ringtap replay` on captures of 4 to 32 MiB, beside `tcpdump -r IN -w OUT` of the same file in the same run; then
 groups of several members and CPUs, with a filter, and with reassembly; then `ringtap make` and `ringtap send`.
 
-    bench/run.py [--sizes 4,8,16,32] [--runs 5] [PROGRAM]
+    bench/run.py [--sizes 4,8,16,32] [--runs 5] [--beside OTHER] [PROGRAM]
 
 PROGRAM is crates/ringtap/out/ringtap where none is named; it is built where it isn't there. The captures have frames of 60
 bytes, of 1514 bytes, or of 60, 590 and 1514 bytes by turns. Each is replayed with a ring that keeps every frame and with one
-that drops. Those of 60 and of 1514 bytes are sent through a ring of 2048 slots. Files are written below bench/work.
+that drops. Those of 60 and of 1514 bytes are sent through a ring of 2048 slots. Files are written below bench/work. With
+--beside the replays alone are run, by turns with those of another program, as an earlier one; both must print the same.
 
 Time is that from start to end, CPU that of the processor for user and system, each the least of some runs. Memory is the
 largest resident size; the system counts no less than this script's own, about 14 MiB.
@@ -139,18 +140,24 @@ def main():
     words = argparse.ArgumentParser(description=__doc__, formatter_class=argparse.RawDescriptionHelpFormatter)
     words.add_argument("--sizes", default="4,8,16,32")
     words.add_argument("--runs", type=int, default=5)
+    words.add_argument("--beside")
     words.add_argument("program", nargs="?", default=PROGRAM)
     asked = words.parse_args()
     program = os.path.abspath(asked.program)
     if not os.path.exists(program):
         subprocess.run(["sh", os.path.join(TOP, "demo", "build.sh")], check=True)
-    dump = shutil.which("tcpdump")
-    if not dump:
-        print("no tcpdump, so there is no ratio to it")
+    other = asked.beside and os.path.abspath(asked.beside)
     os.makedirs(WORK, exist_ok=True)
     os.chmod(WORK, 0o777)  # tcpdump may write as another user
     os.chdir(WORK)
     open("sched", "wb").close()
+    if other:
+        times_beside(program, other, asked)
+        shutil.rmtree(WORK)
+        return
+    dump = shutil.which("tcpdump")
+    if not dump:
+        print("no tcpdump, so there is no ratio to it")
 
     print("| Frames | MiB | Ring | Kept | Dropped | Time, s | CPU, s | MiB/s | Memory, MiB | To tcpdump |")
     print("|---|---|---|---|---|---|---|---|---|---|")
@@ -176,6 +183,31 @@ def main():
     is_large = memory_of_refused(program, asked)
     shutil.rmtree(WORK)
     sys.exit(1 if grows(found) or is_large else 0)
+
+
+def times_beside(program, other, asked):
+    """Prints how long the replays of another program take and how long ours, by turns, so that both meet the same machine."""
+    print("| Frames | MiB | Ring | Other, s | Time, s | Times | Other, CPU s | CPU, s | Times |")
+    print("|---|---|---|---|---|---|---|---|---|")
+    for kind, lengths in FRAMES.items():
+        for size in map(int, asked.sizes.split(",")):
+            make_capture("in.pcap", size * MIB, lengths)
+            for ring, numbers in RINGS.items():
+                write_setup("conf", numbers)
+                least = {}
+                for _ in range(asked.runs):
+                    for one in (other, program):
+                        taken, cpu, _, printed = measure([one, "replay", "conf", "sched"], 1)
+                        before = least.get(one, (taken, cpu, printed))
+                        least[one] = min(taken, before[0]), min(cpu, before[1]), printed
+                (old, old_cpu, said), (new, new_cpu, says) = least[other], least[program]
+                if said != says:
+                    sys.exit(f"{kind}, ring that {ring}: the programs print otherwise")
+                print(
+                    f"| {kind} | {size} | {ring} | {old:.3f} | {new:.3f} | {new / old:.2f} | {old_cpu:.3f} | {new_cpu:.3f}"
+                    f" | {new_cpu / old_cpu:.2f} |",
+                    flush=True,
+                )
 
 
 def times_of_groups(program, asked):
