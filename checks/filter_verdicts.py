@@ -1,13 +1,13 @@
 #!/usr/bin/env python3
 """Works out, apart from the code, each verdict that the tests of the filter compare with.
 
-The programs and packets are read from the test of bpf_filter and from the table of filter_table; what an instruction
+The programs and packets are read from the test of documented codes and from the table of filter_table; what an instruction
 does is written down here once more, from the documented meaning of its code. A difference is printed, and fails.
 """
 import re
 import sys
 
-TEST = "crates/bpf_filter/src/tests.rt"
+TEST = "crates/filter_tests/src/documented_codes.rt"
 TABLE = "crates/filter_table/stdin"
 ANSWERS = "crates/filter_table/stdout"
 WORD = 2**32
@@ -106,12 +106,16 @@ def test_rows():
 def table_rows():
     """The same of the table, in which each program is run on each frame."""
     packets, answers = [], iter(open(ANSWERS).read().splitlines())
+    places = (0, 4, 24, 32, 36)
     text, name = "", ""
     for line in open(TABLE).read().splitlines():
         word, _, rest = line.partition(" ")
         if word == "frame":
             wire, _, data = rest.partition(" ")
             packets.append(Packet(bytes.fromhex(data), int(wire)))
+        elif word == "facts":
+            facts = {8: 1, 28: 1, **dict(zip(places, map(int, rest.split())))}
+            packets = [Packet(packet.data, packet.wire, facts) for packet in packets]
         elif word == "filter":
             text, name = "", rest
         elif line == "end":

@@ -1,5 +1,5 @@
 #!/usr/bin/env python3
-"""Headers that the tests of ip_defrag compare with, computed apart from them.
+"""Headers that the tests of reassembly compare with, computed apart from them.
 
 Each line is the path of a test and a text that must stand in it: `test_values.sh` looks for each. The header of a
 reassembled datagram is that of its first fragment with the total length set, the more bit and the offset cleared and
@@ -21,7 +21,7 @@ def header(ident, flags, data, source, dest, ttl=64, protocol=17, options=b""):
 
 
 if __name__ == "__main__":
-    TESTS = "crates/ip_defrag/src/tests.rt"
+    TESTS = "crates/defrag_tests/src/wholes.rt"
     HERE, THERE = address("10.0.0.1"), address("10.0.0.2")
 
     # Three fragments of 8, 8 and 4 bytes.

@@ -1,5 +1,5 @@
 #!/usr/bin/env python3
-"""Values that the tests of frame_view and frame_maker compare with, computed apart from them.
+"""Values that the tests of frames compare with, computed apart from them.
 
 Each line is the path of a test and a text that must stand in it: `test_values.sh` looks for each.
 """
@@ -40,7 +40,7 @@ def say(path, text):
 if __name__ == "__main__":
     TO = bytes.fromhex("020000000002")
     FROM = bytes.fromhex("020000000001")
-    VIEW = "crates/frame_view/src/tests.rt"
+    VIEW = "crates/frame_tests/src/built_frames.rt"
 
     small = built(TO, FROM, 0x1234, address("10.0.0.1"), address("10.1.0.2"), 1024, 53, b"hello")
     say(VIEW, array(small[:14]))

@@ -1,11 +1,11 @@
 #!/usr/bin/env python3
-"""Values that the tests of frame_maker compare with, computed apart from them.
+"""Values that the tests of made frames compare with, computed apart from them.
 
 Each line is the path of a test and a text that must stand in it: `test_values.sh` looks for each.
 """
 from frame_values import address, built
 
-TESTS = "crates/frame_maker/src/tests.rt"
+TESTS = "crates/frame_tests/src/made_frames.rt"
 TO = bytes.fromhex("020000000002")
 FROM = bytes.fromhex("020000000001")
 
@@ -44,7 +44,6 @@ if __name__ == "__main__":
         whole = 0x811C9DC5
         for frame in frames:
             whole = fnv(frame, whole)
-        for frame in (frames[0], frames[-1]):
-            print(f"{TESTS}\t{frame[:42].hex()}")
-            print(f"{TESTS}\t{number(fnv(frame))}")
         print(f"{TESTS}\t{number(whole)}")
+        if seed == 1:
+            print(f"{TESTS}\t{frames[-1][:42].hex()}")

@@ -3,7 +3,8 @@
 
 It needs tcpdump and libpcap, which the repository's own checks don't: they read the table as it stands here.
 The programs are those that `tcpdump -ddd` writes for the expressions below, and some of random instructions, so that
-each code stands in a program. The verdicts are those of `bpf_filter` of libpcap. The program of this folder reads
+each code stands in a program. The verdicts are those of `bpf_filter` of libpcap. The ancillary loads, which libpcap's
+function doesn't have, come last, with verdicts that follow from the rule beside them. The program of this folder reads
 `stdin` and prints its own verdicts, which have to be `stdout`.
 """
 import ctypes
@@ -225,6 +226,30 @@ def verdicts(text, packets):
     return [PCAP.bpf_filter(code, data, wire, len(data)) for data, wire in packets]
 
 
+# What the frames have beside their bytes: protocol, packet type, queue, hash, CPU.
+FACTS = (0x0806, 2, 70001, 0x51CCC178, 5)
+
+# The ancillary loads of linux/filter.h: the place SKF_AD_OFF (-0x1000) plus a number, and what A then is. ld, ldh and ldb
+# load the whole number alike, and no byte of the frame is read, so the empty frame has the same verdict. There is one
+# interface, of Ethernet: its index and its hardware type (ARPHRD_ETHER) are 1.
+ANCILLARY = [
+    ("protocol", 0, FACTS[0]),
+    ("packet type", 4, FACTS[1]),
+    ("interface index", 8, 1),
+    ("queue", 24, FACTS[2]),
+    ("hardware type", 28, 1),
+    ("receive hash", 32, FACTS[3]),
+    ("cpu", 36, FACTS[4]),
+]
+LOADS = [("ld", 0x20), ("ldh", 0x28), ("ldb", 0x30)]
+
+
+def ancillary():
+    """A name, the text `A = the number; answer A`, and the verdict."""
+    for (name, place, value), (load, code) in zip(ANCILLARY, LOADS * 3):
+        yield "%s %s" % (load, name), "2\n%d 0 0 %d\n22 0 0 0\n" % (code, 0xFFFFF000 + place), value
+
+
 def main():
     packets = frames()
     with open(os.path.join(HERE, "stdin"), "w") as table, open(os.path.join(HERE, "stdout"), "w") as answers:
@@ -233,6 +258,10 @@ def main():
         for name, text in programs(packets):
             table.write("filter %s\n%send\n" % (name, text))
             answers.write("%s: %s\n" % (name, " ".join(map(str, verdicts(text, packets)))))
+        table.write("facts %d %d %d %d %d\n" % FACTS)
+        for name, text, verdict in ancillary():
+            table.write("filter %s\n%send\n" % (name, text))
+            answers.write("%s: %s\n" % (name, " ".join([str(verdict)] * len(packets))))
 
 
 main()

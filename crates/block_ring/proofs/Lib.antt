@@ -2,4 +2,3 @@ mod Packets
 mod Retirals
 mod Notings
 mod Steps
-mod PlainEnds

@@ -76,17 +76,17 @@ module _ {E : Type 0} (feed : E → Feed) (given inside before after_it : Produc
   pub puts_given : (offer : Offer) (found : Found) (put : Put) → Puts feed inside after_it offer found put → Puts feed given after_it offer found put
   puts_given offer found put puts =
       let there = subst (λ p. Puts feed p after_it offer found put) same puts in
-      record { adds = adds_given (put_by offer found) puts.adds; told = puts.told; looked = there.looked; exact = there.exact }
+      record { adds = adds_given (put_by offer found) puts.adds; told = puts.told; looked = there.looked; count = there.count; exact = there.exact }
 
   pub tries_given : (offer : Offer) (found : Found) (tried : Tried) → Tries feed inside after_it offer found tried → Tries feed given after_it offer found tried
   tries_given offer found tried tries =
       let there = subst (λ p. Tries feed p after_it offer found tried) same tries in
-      record { adds = adds_given (try_by offer found) tries.adds; told = tries.told; looked = there.looked; exact = there.exact }
+      record { adds = adds_given (try_by offer found) tries.adds; told = tries.told; looked = there.looked; count = there.count; exact = there.exact }
 
   pub ticks_given : (ms : ℕ) (found : Found) → Ticks feed inside after_it ms found → Ticks feed given after_it ms found
   ticks_given ms found ticks =
       let there = subst (λ p. Ticks feed p after_it ms found) same ticks in
-      record { adds = adds_given (Ticked ms found) ticks.adds; looked = there.looked; exact = there.exact }
+      record { adds = adds_given (Ticked ms found) ticks.adds; looked = there.looked; count = there.count; exact = there.exact }
 
 module _ {E : Type 0} (feed : E → Feed) (before after_it : Machine E) (notes : List Note) (note : Note) (room room_after : ℕ)
     (keeps : Keeps feed before notes room) (step : Stepped feed (state_of (size_of before.shape) notes) note before after_it)

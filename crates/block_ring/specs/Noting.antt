@@ -1,5 +1,5 @@
 -- What the calls of a ring note.
-use Rattle.std.specs.Prelude.{ℕ, ◌+◌, List, sum_by}
+use Rattle.std.specs.Prelude.{◌≡◌, ℕ, ◌+◌, ◌≤◌, List, sum_by}
 use Rattle.ring_model.specs.Ring.{IsHeld, Size, State}
 use Rattle.ring_model.specs.declared.notes.Found.{Found}
 use Rattle.ring_model.specs.declared.notes.Found.TheVariants.{NotAsked, Free, Held}
@@ -11,6 +11,12 @@ abbrev pub WasHeld : Found → Type 0 → Type 0
 WasHeld NotAsked P = Unit {0}
 WasHeld Free P = Unit {0}
 WasHeld (Held number) P = P
+
+-- how often a call found that a block was still the reader's: once at most, and only where this is what it found
+abbrev pub CountsHeld : Found → ℕ → ℕ → Type 0
+CountsHeld NotAsked before after = after ≡ before
+CountsHeld Free before after = after ≡ before
+CountsHeld (Held number) before after = after ≤ before + 1
 
 -- what a look at the next block found may stand
 abbrev pub IsAsked : Size → State → Found → Type 0

@@ -15,7 +15,7 @@ use Rattle.ring_words.specs.Rings.{Feed}
 use Rattle.tp_layout.specs.Requests.{size_of}
 use Rattle.tp_layout.specs.declared.requests.RingRequest.{RingRequest}
 use Rattle.block_ring.specs.Machines.{IsAt, IsFew, KeepsEnd}
-use Rattle.block_ring.specs.Noting.{WasHeld, held_count}
+use Rattle.block_ring.specs.Noting.{CountsHeld, WasHeld, held_count}
 use Rattle.block_ring.specs.Texts.{StandsForTexts}
 use Rattle.block_ring.specs.declared.machine.Machine.{Machine}
 
@@ -54,12 +54,13 @@ pub record Adds {E : Type 0} (feed : E → Feed) (before after : Producing E) (n
   pub spare : before.spare ≤ after.spare + 1
   pub end : KeepsEnd (feed before.end) (feed after.end)
 
--- a put found this. Where the block was held a look of this call told its number; where the end tells how many blocks
--- were released, what is found is exact
+-- a put found this. Where the block was held one look of this call told its number, else no look found one held; where
+-- the end tells how many blocks were released, what is found is exact
 pub record Puts {E : Type 0} (feed : E → Feed) (before after : Producing E) (offer : Offer) (found : Found) (put : Put) : Type 0 where
   pub adds : Adds feed before after (put_by offer found)
   pub told : put ≡ put_told (put_by offer found)
   pub looked : WasHeld found (Rose (feed before.end).holds (feed after.end).holds)
+  pub count : CountsHeld found (feed before.end).holds (feed after.end).holds
   pub exact : (released : ℕ) → (feed before.end).freed ≡ Some released
       → found ≡ found_for (size before) released (state before) (need_of offer.snap)
 
@@ -68,6 +69,7 @@ pub record Tries {E : Type 0} (feed : E → Feed) (before after : Producing E) (
   pub adds : Adds feed before after (try_by offer found)
   pub told : tried ≡ try_told offer (try_by offer found)
   pub looked : WasHeld found (Rose (feed before.end).holds (feed after.end).holds)
+  pub count : CountsHeld found (feed before.end).holds (feed after.end).holds
   pub exact : (released : ℕ) → (feed before.end).freed ≡ Some released
       → found ≡ found_for (size before) released (state before) (need_of offer.snap)
 
@@ -75,6 +77,7 @@ pub record Tries {E : Type 0} (feed : E → Feed) (before after : Producing E) (
 pub record Ticks {E : Type 0} (feed : E → Feed) (before after : Producing E) (ms : ℕ) (found : Found) : Type 0 where
   pub adds : Adds feed before after (Ticked ms found)
   pub looked : WasHeld found (Rose (feed before.end).holds (feed after.end).holds)
+  pub count : CountsHeld found (feed before.end).holds (feed after.end).holds
   pub exact : (released : ℕ) → (feed before.end).freed ≡ Some released
       → Ticked ms found ≡ tick_note (size before) released (state before) ms
 

@@ -1,5 +1,6 @@
 //! Why a tick isn't done.
-ghost use Rattle.std.specs.Prelude.{◌≡◌};
+ghost use Rattle.std.specs.Prelude.{◌≡◌, Some};
+ghost use Rattle.block_ring.specs.Ticking.{tick_words};
 
 use frame_view::Memory;
 use std::error::Error;
@@ -15,10 +16,12 @@ pub enum TickError {
 }
 
 impl fmt::Display for TickError {
+    ghost output = { λ error. Some (tick_words error) };
+
     fn fmt<W: fmt::Write>(&self, f: &mut fmt::Formatter<W>) -> fmt::Result {
         match self {
             TickError::Backwards(clock) => write!(f, "the clock stands at {clock} already"),
-            TickError::Memory => write!(f, "{Memory}"),
+            TickError::Memory => write!(f, "out of memory"),
         }
     }
 }

@@ -5,8 +5,6 @@ mod error;
 mod machine;
 mod open_block;
 mod producer;
-#[cfg(test)]
-mod tests;
 mod walking;
 
 pub use error::TickError;

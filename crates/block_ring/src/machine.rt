@@ -22,7 +22,7 @@ ghost use Rattle.ring_model.specs.Sizes.{need_of};
 ghost use Rattle.ring_model.specs.declared.notes.Found.TheVariants as found;
 ghost use Rattle.ring_model.specs.declared.notes.Note.TheVariants as notes;
 ghost use Rattle.ring_words.specs.Counts.{Rose};
-ghost use Rattle.block_ring.specs.Noting.{IsAsked, WasHeld, deadline_after};
+ghost use Rattle.block_ring.specs.Noting.{CountsHeld, IsAsked, WasHeld, deadline_after};
 ghost use Rattle.tp_layout.specs.Blocks.{is_status};
 ghost use Rattle.tp_layout.specs.Requests.{numbers_of, room_of, size_of};
 ghost use Rattle.tp_layout.specs.Writing.{IsWritable};
@@ -103,6 +103,8 @@ impl<E: FeederEnd<Block> + Drop> Machine<E> {
         ensures stands { MayStand (size_of self.old.shape) state (put_by offer.now result) }
         ensures looked { WasHeld result
             (Rose (E.feed self.old.end).holds (E.feed self.new.end).holds) }
+        ensures count { CountsHeld result
+            (E.feed self.old.end).holds (E.feed self.new.end).holds }
         ensures exact { (released : ℕ) → (E.feed self.old.end).freed ≡ Some released →
             result ≡ found_for (size_of self.old.shape) released state (need_of offer.now.snap) }
         ensures end { KeepsEnd (E.feed self.old.end) (E.feed self.new.end) }
@@ -114,7 +116,8 @@ impl<E: FeederEnd<Block> + Drop> Machine<E> {
         }
         let open = self.open_blocks();
         self.retire_open(false);
-        match self.end.next() {
+        let next = self.end.next();
+        match next {
             Next::Free { block, .. } => self.keep_next(block, offer),
             Next::Held(number) => {
                 self.dropped += 1;
@@ -137,6 +140,8 @@ impl<E: FeederEnd<Block> + Drop> Machine<E> {
         ensures stands { MayStand (size_of self.old.shape) state (try_by offer.now result) }
         ensures looked { WasHeld result
             (Rose (E.feed self.old.end).holds (E.feed self.new.end).holds) }
+        ensures count { CountsHeld result
+            (E.feed self.old.end).holds (E.feed self.new.end).holds }
         ensures exact { (released : ℕ) → (E.feed self.old.end).freed ≡ Some released →
             result ≡ found_for (size_of self.old.shape) released state (need_of offer.now.snap) }
         ensures end { KeepsEnd (E.feed self.old.end) (E.feed self.new.end) }
@@ -167,6 +172,8 @@ impl<E: FeederEnd<Block> + Drop> Machine<E> {
         ensures stands { MayStand (size_of self.old.shape) state (notes.Ticked ms result) }
         ensures looked { WasHeld result
             (Rose (E.feed self.old.end).holds (E.feed self.new.end).holds) }
+        ensures count { CountsHeld result
+            (E.feed self.old.end).holds (E.feed self.new.end).holds }
         ensures exact { (released : ℕ) → (E.feed self.old.end).freed ≡ Some released →
             notes.Ticked ms result ≡ tick_note (size_of self.old.shape) released state ms }
         ensures end { KeepsEnd (E.feed self.old.end) (E.feed self.new.end) }
@@ -195,6 +202,8 @@ impl<E: FeederEnd<Block> + Drop> Machine<E> {
         }) self.new }
         ensures looked { WasHeld result
             (Rose (E.feed self.old.end).holds (E.feed self.new.end).holds) }
+        ensures count { CountsHeld result
+            (E.feed self.old.end).holds (E.feed self.new.end).holds }
         ensures asked { IsAsked (size_of self.old.shape) state result }
         ensures exact { (released : ℕ) → (E.feed self.old.end).freed ≡ Some released →
             result ≡ look (size_of self.old.shape) released state }
@@ -264,6 +273,7 @@ impl<E: FeederEnd<Block> + Drop> Machine<E> {
         ensures texts { StandsForTexts self.shape
             (after (size_of self.shape) state notes.Finished).done (E.feed result.0) }
         ensures end { KeepsEnd (E.feed self.end) (E.feed result.0) }
+        ensures holds { (E.feed result.0).holds ≡ (E.feed self.end).holds }
         ensures notes { result.1 ≡ self.notes }
     {
         if self.is_idle() {

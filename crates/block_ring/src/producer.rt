@@ -86,6 +86,7 @@ impl<E: FeederEnd<Block> + Drop> Producer<E> {
         ensures tried { IfOk result (λ tried. (found : Found)
             × Tries E.feed self.old self.new offer found tried) }
         ensures unput { IfErr result (λ unput. (unput.offer ≡ offer) × Stays self.old self.new) }
+        ensures spare { OnErr result (self.old.spare ≤ self.new.spare) }
         ensures reserved { 0 < self.old.spare → IsOk result }
     {
         let Ok(()) = self.reserve(1) else {
@@ -109,6 +110,7 @@ impl<E: FeederEnd<Block> + Drop> Producer<E> {
         ensures put { IfOk result (λ put. (found : Found)
             × Puts E.feed self.old self.new offer found put) }
         ensures unput { IfErr result (λ unput. (unput.offer ≡ offer) × Stays self.old self.new) }
+        ensures spare { OnErr result (self.old.spare ≤ self.new.spare) }
         ensures reserved { 0 < self.old.spare → IsOk result }
     {
         let Ok(()) = self.reserve(1) else {
@@ -129,6 +131,7 @@ impl<E: FeederEnd<Block> + Drop> Producer<E> {
         requires few { length self.old.notes < 2 ^ 39 }
         ensures ticked { OnOk result ((found : Found) × Ticks E.feed self.old self.new ms found) }
         ensures err { OnErr result (Stays self.old self.new) }
+        ensures spare { OnErr result (self.old.spare ≤ self.new.spare) }
         ensures backwards { (result ≡ Err (Backwards (state self.old).clock))
             ↔ (ms < (state self.old).clock) }
         ensures clock { IfErr result (IsBackwardsFrom (state self.old).clock) }
@@ -150,6 +153,7 @@ impl<E: FeederEnd<Block> + Drop> Producer<E> {
             × (stats ≡ stats_of (state self.old))) }
         ensures end { E.feed self.new.end ≡ E.feed self.old.end }
         ensures err { OnErr result (Stays self.old self.new) }
+        ensures spare { OnErr result (self.old.spare ≤ self.new.spare) }
         ensures reserved { 0 < self.old.spare → IsOk result }
     {
         self.reserve(1)?;
@@ -167,6 +171,7 @@ impl<E: FeederEnd<Block> + Drop> Producer<E> {
             (state_of (size_of self.shape) result.1).done (E.feed result.0) }
         ensures looks { held_count result.1 ≤ (E.feed result.0).holds }
         ensures end { KeepsEnd (E.feed self.end) (E.feed result.0) }
+        ensures holds { (E.feed result.0).holds ≡ (E.feed self.end).holds }
     {
         let (end, mut notes) = self.machine.finish();
         notes.push_reserved(Note::Finished);

@@ -12,7 +12,7 @@ impl<E: BothEnds<Block> + Drop> WalkerEnd<Block> for Producer<E> {
 
     ghost took = { λ before after content. TookBy E.took before after content };
 
-    ghost gave_back = { λ before after. GaveBackBy E.gave_back before after };
+    ghost gave_back = { λ before after mark. GaveBackBy E.gave_back before after mark };
 
     ghost stays = { λ before after. StaysBy E.stays before after };
 

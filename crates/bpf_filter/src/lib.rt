@@ -15,6 +15,3 @@ pub use insn::Insn;
 pub use listing::read_ddd;
 pub use packets::Seen;
 pub use program::{LARGEST_PROGRAM, Program, verdict_with};
-
-#[cfg(test)]
-mod tests;

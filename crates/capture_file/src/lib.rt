@@ -1,6 +1,7 @@
 //! Captures in the pcap format: a decoder that is fed piece by piece, and the output file of packets.
 #![tactic(auto)]
 
+mod cpu_end;
 mod decoder;
 mod endings;
 mod error;
@@ -10,6 +11,7 @@ mod output;
 mod reading;
 mod stage;
 
+pub use cpu_end::CpuEnd;
 pub use decoder::Decoder;
 pub use endings::damage_is_the_end;
 pub use error::CaptureError;
@@ -19,6 +21,3 @@ pub use laws::{
     too_many_bytes_are_damage,
 };
 pub use output::pcap_text;
-
-#[cfg(test)]
-mod tests;

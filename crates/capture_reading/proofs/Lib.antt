@@ -1,3 +1,2 @@
-pub mod Consumed
 pub mod Giving
 mod Advancing

@@ -4,18 +4,21 @@ use Rattle.capture_file.specs.Capture.{frames_of, damage_of}
 use Rattle.capture_file.specs.Decoding.{DecoderValue, Stands}
 use Rattle.capture_file.specs.declared.error.CaptureError.{CaptureError}
 use Rattle.capture_file.specs.declared.error.CaptureError.TheVariants as errors
-use Rattle.fanout_group.specs.declared.runs.CpuEnd.{CpuEnd}
-use Rattle.fanout_group.specs.declared.runs.CpuEnd.TheVariants.{Damaged}
+use Rattle.capture_file.specs.declared.cpu_end.CpuEnd.{CpuEnd}
+use Rattle.capture_file.specs.declared.cpu_end.CpuEnd.TheVariants.{Damaged}
 use Rattle.frame_view.specs.declared.frames.Frame.{Frame}
 
--- a piece more was fed: the decoder stands for it too, its new frames are these, and this is the damage
-pub record Decodes (cpu : ℕ) (fed piece : List ℕ) (decoder : DecoderValue) (more : List Frame) (damage : Option CaptureError) : Type 0 where
+-- a piece more was fed: the decoder stands for it too, its new frames are these, and this is the
+-- damage
+pub record Decodes (cpu : ℕ) (fed piece : List ℕ) (decoder : DecoderValue) (more : List Frame)
+    (damage : Option CaptureError) : Type 0 where
   pub stands : Stands cpu decoder (fed ++ piece)
   pub frames : frames_of cpu (fed ++ piece) ≡ frames_of cpu fed ++ more
   pub damage_is : damage ≡ damage_of (fed ++ piece)
 
 -- the same, where the new frames were appended to others
-pub record Appends (cpu : ℕ) (fed piece : List ℕ) (decoder : DecoderValue) (old new : List Frame) (damage : Option CaptureError) : Type 0 where
+pub record Appends (cpu : ℕ) (fed piece : List ℕ) (decoder : DecoderValue) (old new : List Frame)
+    (damage : Option CaptureError) : Type 0 where
   pub more : List Frame
   pub new_is : new ≡ old ++ more
   pub decodes : Decodes cpu fed piece decoder more damage

@@ -1,35 +1,36 @@
 -- What was read of a capture.
-use Rattle.std.specs.Prelude.{◌≡◌, ℕ, ◌-◌, ◌≤◌, List, length, is_some, if◌then◌else◌, ⊤, Option, None, Some}
-use Rattle.capture_file.specs.Capture.{damage_of, frames_of}
+use Rattle.std.specs.Prelude.{◌≡◌, ℕ, ◌-◌, List, length, is_some, if◌then◌else◌, ⊤, Option, None, Some}
+use Rattle.capture_file.specs.Capture.{frames_of}
 use Rattle.capture_file.specs.Decoding.{Stands}
-use Rattle.capture_reading.specs.Sources.{GaveBy, GaveIfThere, Seen}
+use Rattle.tap_outside.specs.Seen.{SourceSeen}
+use Rattle.capture_reading.specs.Sources.{GaveBy, GaveIfThere}
 use Rattle.capture_reading.specs.declared.so_far.SoFar.{SoFar}
 use Rattle.capture_reading.specs.declared.whole.Reading.{Reading}
 
 -- a capture was read: what its source gave, and the frames of that
-pub record IsReading (cpu : ℕ) (old new : Option Seen) (reading : Reading) : Type 0 where
+pub record IsReading (cpu : ℕ) (old new : Option SourceSeen) (reading : Reading) : Type 0 where
   -- the bytes that the source gave
   pub bytes : List ℕ
   pub gave : GaveIfThere old new bytes reading.end
   pub frames : reading.frames ≡ frames_of cpu bytes
   pub given : reading.given ≡ length bytes
 
--- a source is still there where one was, and its count of faults did not fall
-abbrev pub IsStillThere : Option Seen → Option Seen → Type 0
+-- a source is still there where one was, and no read of it failed
+abbrev pub IsStillThere : Option SourceSeen → Option SourceSeen → Type 0
 IsStillThere None None = ⊤
-IsStillThere (Some old) (Some new) = old.faults ≤ new.faults
+IsStillThere (Some old) (Some new) = new.faults ≡ old.faults
 IsStillThere old new = ⊥
 
 -- ---- on the way
 
--- of a source some bytes were read: the decoder stands for them, and these are their frames and their number
-pub record IsSoFar (cpu : ℕ) (old new : Seen) (so_far : SoFar) : Type 0 where
+-- of a source some bytes were read: the decoder stands for them, and these are their frames and
+-- their number
+pub record IsSoFar (cpu : ℕ) (old new : SourceSeen) (so_far : SoFar) : Type 0 where
   pub bytes : List ℕ
   pub stands : Stands cpu so_far.decoder bytes
   pub frames_are : so_far.frames ≡ frames_of cpu bytes
   pub given_is : so_far.given ≡ length bytes
   pub gave : GaveBy old new bytes so_far.ended
-  pub sound : so_far.ended ≡ None → damage_of bytes ≡ None
 
 -- how many bytes may still be read, counted so that it falls with each read
 abbrev pub unread : SoFar → ℕ

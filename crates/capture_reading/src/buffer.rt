@@ -1,29 +1,40 @@
 //! The buffer that sources are read into, a piece at a time.
-ghost use Rattle.std.specs.Prelude.{◌≡◌, ◌<◌, ◌≤◌, [], length, take, IfOk, OnErr, OnOk};
-ghost use Rattle.std.specs.Io.KnownBytes.{Consumes, IsAtEnd};
-ghost use Rattle.tap_outside.specs.Counts.{Rose};
+ghost use Rattle.std.specs.Prelude.{◌≡◌, ◌≤◌, [], length, IfOk, OnErr, OnOk};
+ghost use Rattle.capture_reading.specs.Sources.{FailedToGive, GavePiece};
 
 use frame_view::Memory;
 use std::alloc::Global;
+use std::marker::Model;
 use tap_outside::{Failed, Source};
 
 /// The most bytes of a piece: this project's own choice.
 const PIECE: usize = 65_536;
 
-/// A buffer of 65,536 bytes, at whose front a piece of a source stands. One serves any number of sources, one after the
-/// other.
+/// A buffer that holds a piece of a source. One serves any number of sources, one after the other.
+/// Contracts see it as the bytes of the piece, of which there are at most 65,536.
 #[derive(Debug, Drop)]
 pub struct Buffer {
-    /// All its bytes: first the piece, then what earlier reads left there.
-    pub bytes: Vec<u8>,
+    /// 65,536 bytes: first the piece, then what earlier reads left there.
+    bytes: Vec<u8>,
     /// The number of bytes of the piece, 0 before the first read.
-    pub count: usize,
+    count: usize,
+}
+
+impl Model for Buffer {
+    ghost use Rattle.std.specs.Prelude.{◌≡◌, ◌≤◌, ℕ, List, length, take};
+
+    ghost Value = { List ℕ };
+
+    ghost view = { λ buffer. take buffer.count buffer.bytes.items };
+
+    ghost invariant = { λ buffer.
+        (length buffer.bytes.items ≡ 65536) × (buffer.count ≤ 65536) };
 }
 
 impl Buffer {
-    /// A buffer without a piece. The error is want of memory for its bytes.
+    /// A buffer without a piece. The error comes where its bytes can't be allocated.
     pub fn new(alloc: Global) -> Result<Buffer, Memory>
-        ensures { IfOk result (λ buffer. 0 < length buffer.bytes.items) }
+        ensures { IfOk result (λ buffer. buffer ≡ []) }
     {
         Ok(Buffer {
             bytes: vec![in alloc; 0; PIECE]?,
@@ -31,18 +42,13 @@ impl Buffer {
         })
     }
 
-    /// Reads the next piece of a source; a piece without a byte is its end. After `Failed` nothing was read, and the
-    /// source's count of faults has risen. It takes no memory.
+    /// Reads the next piece of a source; a piece without a byte is its end. After `Failed` nothing
+    /// was read, and the source's count of faults has risen. It allocates nothing.
     pub fn read<S: Source>(&mut self, source: &mut S) -> Result<(), Failed>
-        requires some { 0 < length self.old.bytes.items }
-        ensures some { 0 < length self.new.bytes.items }
-        ensures within { OnOk result (self.new.count ≤ length self.new.bytes.items) }
-        ensures taken { OnOk result (Consumes (S.left source.old) (S.left source.new)
-            (take self.new.count self.new.bytes.items)) }
-        ensures end { OnOk result (self.new.count ≡ 0 → IsAtEnd (S.left source.new)) }
-        ensures later { S.faults source.old ≤ S.faults source.new }
-        ensures none { OnErr result (Consumes (S.left source.old) (S.left source.new) []) }
-        ensures cause { OnErr result (Rose (S.faults source.old) (S.faults source.new)) }
+        ensures small { length self.new ≤ 65536 }
+        ensures ok { OnOk result (GavePiece (S.seen source.old) (S.seen source.new) self.new) }
+        ensures err { OnErr result (FailedToGive (S.seen source.old) (S.seen source.new)) }
+        ensures same { OnErr result (self.new ≡ self.old) }
     {
         self.count = source.read(&mut self.bytes[..])?;
         Ok(())
@@ -50,8 +56,8 @@ impl Buffer {
 
     /// The piece that was read last.
     pub fn piece(&self) -> &[u8]
-        requires { self.now.count ≤ length self.now.bytes.items }
-        ensures { result.now ≡ take self.now.count self.now.bytes.items }
+        ensures piece { result.now ≡ self.now }
+        ensures small { length result.now ≤ 65536 }
     {
         let (piece, _) = self.bytes.as_slice().split_at(self.count);
         piece

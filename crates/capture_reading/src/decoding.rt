@@ -1,12 +1,11 @@
 //! A piece of a capture, decoded.
-ghost use Rattle.std.specs.Prelude.{◌≡◌, ℕ, List, IfOk};
+ghost use Rattle.std.specs.Prelude.{◌≡◌, ℕ, List, IfOk, OnErr};
 ghost use Rattle.capture_file.specs.Capture.{end_of};
 ghost use Rattle.capture_file.specs.Decoding.{Stands};
 ghost use Rattle.capture_reading.specs.Pieces.{Appends, Decodes, ended_by, is_want};
 ghost use Rattle.capture_reading.specs.Sources.{end_by};
 
-use capture_file::{CaptureError, Decoder};
-use fanout_group::CpuEnd;
+use capture_file::{CaptureError, CpuEnd, Decoder};
 use frame_view::{Frames, Memory};
 use std::alloc::Global;
 
@@ -29,15 +28,18 @@ pub fn ended_by(damage: Option<CaptureError>) -> Option<CpuEnd>
     }
 }
 
-/// Feeds a piece to a decoder, appends the frames that are whole now, and gives the damage that the capture shows by now.
-/// The error is want of memory.
+/// Feeds a piece to a decoder, appends the frames that are whole now, and returns the damage that
+/// the capture shows by now. The error is out of memory: the decoder and the frames are as before
+/// then.
 pub(crate) fn feed(
     decoder: &mut Decoder,
     piece: &[u8],
     into: &mut Frames,
 ) -> Result<Option<CaptureError>, Memory>
-    ensures { IfOk result (λ damage. (cpu : ℕ) (fed : List ℕ) → Stands cpu decoder.old fed
+    ensures appends { IfOk result (λ damage. (cpu : ℕ) (fed : List ℕ) → Stands cpu decoder.old fed
         → Appends cpu fed piece.now decoder.new into.old into.new damage) }
+    ensures decoder { OnErr result (decoder.new ≡ decoder.old) }
+    ensures into { OnErr result (into.new ≡ into.old) }
 {
     match decoder.feed(piece, into) {
         Ok(()) => Ok(None),
@@ -50,11 +52,13 @@ pub(crate) fn feed(
     }
 }
 
-/// Feeds a piece to a decoder: the frames that are whole now, and the damage that the capture shows by now. The error is
-/// want of memory; the piece is lost then, and the decoder is of no further use.
+/// Feeds a piece to a decoder: the frames that are whole now, and the damage that the capture shows
+/// by now. The error is out of memory: the decoder is as before then, so that the piece may be fed
+/// again.
 pub fn decode(alloc: Global, decoder: &mut Decoder, piece: &[u8]) -> Result<Decoded, Memory>
-    ensures { IfOk result (λ decoded. (cpu : ℕ) (fed : List ℕ) → Stands cpu decoder.old fed
+    ensures decodes { IfOk result (λ decoded. (cpu : ℕ) (fed : List ℕ) → Stands cpu decoder.old fed
         → Decodes cpu fed piece.now decoder.new decoded.frames decoded.damage) }
+    ensures same { OnErr result (decoder.new ≡ decoder.old) }
 {
     let mut frames = Frames::new(alloc);
     let damage = feed(decoder, piece, &mut frames)?;
@@ -68,7 +72,8 @@ fn is_want(error: &CaptureError) -> bool
     matches!(error, CaptureError::Memory)
 }
 
-/// How a capture ends whose source was read to its end: whole, or damaged, a cut among that. It takes no memory.
+/// How a capture ends whose source was read to its end: whole, or damaged, a cut among that. It
+/// takes no memory.
 pub fn end_at(decoder: &Decoder) -> CpuEnd
     ensures { (cpu : ℕ) (fed : List ℕ) → Stands cpu decoder.now fed → result ≡ end_by (end_of fed) }
 {

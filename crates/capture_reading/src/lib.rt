@@ -1,4 +1,5 @@
-//! Captures that are read out of sources, piece by piece: the buffer, the decoding of a piece, and whole captures.
+//! Captures that are read out of sources, piece by piece: the buffer, the decoding of a piece, and
+//! whole captures.
 #![tactic(auto)]
 
 mod buffer;
@@ -9,6 +10,3 @@ mod whole;
 pub use buffer::Buffer;
 pub use decoding::{Decoded, decode, end_at, ended_by};
 pub use whole::{Reading, read_capture};
-
-#[cfg(test)]
-mod tests;

@@ -1,12 +1,11 @@
 //! What was read of a capture so far.
-ghost use Rattle.std.specs.Prelude.{◌≡◌, ◌<◌, ◌≤◌, ℕ, None, length, OnOk};
-ghost use Rattle.capture_reading.specs.Sources.{Seen};
+ghost use Rattle.std.specs.Prelude.{◌≡◌, ◌<◌, ◌≤◌, ℕ, None, OnErr, OnOk};
+ghost use Rattle.tap_outside.specs.Seen.{SourceSeen};
 ghost use Rattle.capture_reading.specs.Wholes.{IsSoFar, unread};
 
 use crate::buffer::Buffer;
 use crate::decoding::{end_at, ended_by, feed};
-use capture_file::{Decoder, an_empty_capture_has_no_frames, damage_is_the_end};
-use fanout_group::CpuEnd;
+use capture_file::{CpuEnd, Decoder, an_empty_capture_has_no_frames, damage_is_the_end};
 use frame_view::{Frames, Memory};
 use std::alloc::Global;
 use tap_outside::Source;
@@ -27,7 +26,7 @@ pub(crate) struct SoFar {
 impl SoFar {
     /// A capture of which nothing was read.
     pub(crate) fn new(alloc: Global, cpu: u32) -> SoFar
-        ensures none { (source : Seen) → IsSoFar cpu source source result }
+        ensures none { (source : SourceSeen) → IsSoFar cpu source source result }
         ensures unended { result.ended ≡ None }
     {
         an_empty_capture_has_no_frames();
@@ -39,32 +38,31 @@ impl SoFar {
         }
     }
 
-    /// Reads the next piece of the source, which ends where it gives no byte or fails, or the bytes show damage.
+    /// Reads the next piece of the source, which ends where it gives no byte or fails, or the bytes
+    /// show damage.
     pub(crate) fn read_piece<S: Source>(
         &mut self,
         source: &mut S,
         buffer: &mut Buffer,
     ) -> Result<(), Memory>
-        requires buffer { 0 < length buffer.old.bytes.items }
         requires unended { self.old.ended ≡ None }
         requires few { self.old.given ≤ 33554432 }
-        ensures buffer { 0 < length buffer.new.bytes.items }
-        ensures read { OnOk result ((cpu : ℕ) (first : Seen)
-            → IsSoFar cpu first (record { left = S.left source.old; faults = S.faults source.old }) self.old
-            → IsSoFar cpu first (record { left = S.left source.new; faults = S.faults source.new }) self.new) }
+        ensures read { OnOk result ((cpu : ℕ) (first : SourceSeen)
+            → IsSoFar cpu first (S.seen source.old) self.old
+            → IsSoFar cpu first (S.seen source.new) self.new) }
         ensures less { OnOk result (unread self.new < unread self.old) }
-        ensures later { S.faults source.old ≤ S.faults source.new }
+        ensures kept { OnErr result ((S.seen source.new).faults ≡ (S.seen source.old).faults) }
     {
         damage_is_the_end();
         let Ok(()) = buffer.read(source) else {
             self.ended = Some(CpuEnd::Fault);
             return Ok(());
         };
-        if buffer.count == 0 {
+        let piece = buffer.piece();
+        if piece.is_empty() {
             self.ended = Some(end_at(&self.decoder));
             return Ok(());
         }
-        let piece = buffer.piece();
         let damage = feed(&mut self.decoder, piece, &mut self.frames)?;
         self.given += piece.len() as u64;
         self.ended = ended_by(damage);

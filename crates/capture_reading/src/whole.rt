@@ -1,11 +1,10 @@
 //! A capture, read whole.
-ghost use Rattle.std.specs.Prelude.{◌≤◌, Some, option_map, IfOk, OnErr};
+ghost use Rattle.std.specs.Prelude.{◌≡◌, Some, option_map, IfOk, OnErr};
 ghost use Rattle.capture_reading.specs.Wholes.{IsReading, IsStillThere};
 
 use crate::buffer::Buffer;
 use crate::so_far::SoFar;
-use capture_file::{an_empty_capture_has_no_frames, too_many_bytes_are_damage};
-use fanout_group::CpuEnd;
+use capture_file::{CpuEnd, an_empty_capture_has_no_frames, too_many_bytes_are_damage};
 use frame_view::{Frames, Memory};
 use std::alloc::Global;
 use tap_outside::Source;
@@ -21,21 +20,20 @@ pub struct Reading {
     pub end: CpuEnd,
 }
 
-/// Reads the capture of a CPU to its end, a piece of at most 65,536 bytes at a time: until the source ends or fails, or
-/// the bytes show damage, as more than 33,554,432 bytes do. Without a source, one that couldn't be had, nothing is read and
-/// the end is a fault. The error is want of memory: then some bytes are lost, but a source that was handed in is still
-/// there, with each fault that it had.
+/// Reads the capture of a CPU to its end, a piece of at most 65,536 bytes at a time: until the
+/// source ends or fails, or the bytes show damage, as more than 33,554,432 bytes do. Nothing is
+/// read after damage. Without a source, as where a file can't be opened, nothing is read and the
+/// end is a fault. The error is out of memory: then some bytes are lost, but a source that was
+/// handed in is still there, and no read of it failed.
 pub fn read_capture<S: Source>(
     alloc: Global,
     cpu: u32,
     source: &mut Option<S>,
 ) -> Result<Reading, Memory>
-    ensures read { IfOk result (IsReading cpu
-        (option_map (λ source. record { left = S.left source; faults = S.faults source }) source.old)
-        (option_map (λ source. record { left = S.left source; faults = S.faults source }) source.new)) }
-    ensures kept { OnErr result (IsStillThere
-        (option_map (λ source. record { left = S.left source; faults = S.faults source }) source.old)
-        (option_map (λ source. record { left = S.left source; faults = S.faults source }) source.new)) }
+    ensures read { IfOk result
+        (IsReading cpu (option_map S.seen source.old) (option_map S.seen source.new)) }
+    ensures kept { OnErr result
+        (IsStillThere (option_map S.seen source.old) (option_map S.seen source.new)) }
 {
     an_empty_capture_has_no_frames();
     let Some(source) = source else {
@@ -50,10 +48,9 @@ pub fn read_capture<S: Source>(
 
 /// Reads the capture of a CPU out of a source that is there.
 fn read_source<S: Source>(alloc: Global, cpu: u32, source: &mut S) -> Result<Reading, Memory>
-    ensures read { IfOk result (IsReading cpu
-        (Some (record { left = S.left source.old; faults = S.faults source.old }))
-        (Some (record { left = S.left source.new; faults = S.faults source.new }))) }
-    ensures later { S.faults source.old ≤ S.faults source.new }
+    ensures read { IfOk result
+        (IsReading cpu (Some (S.seen source.old)) (Some (S.seen source.new))) }
+    ensures kept { OnErr result ((S.seen source.new).faults ≡ (S.seen source.old).faults) }
 {
     too_many_bytes_are_damage();
     let mut buffer = Buffer::new(alloc)?;

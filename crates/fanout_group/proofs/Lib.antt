@@ -9,3 +9,4 @@ pub mod Arriving
 pub mod Pathing
 pub mod Agreeing
 pub mod Sounding
+pub mod RoundLaws

@@ -1,6 +1,6 @@
--- What frames arrive. Every frame is untagged first. With the flag of defragmentation the frames of a CPU then pass one
--- by one over the list of the fragments that are held, empty at first, and a datagram stands in place of its fragments.
--- What comes out with fewer than 14 bytes is no arrival.
+-- What frames arrive. Every frame is untagged first. With the flag of defragmentation the frames of
+-- a CPU then pass one by one over the list of the fragments that are held, empty at first, and a
+-- datagram stands in place of its fragments. What comes out with fewer than 14 bytes is no arrival.
 use Rattle.std.specs.Prelude.{◌≡◌, ◌≤◌, Bool, true, false, List, [], ◌∷◌, ◌++◌, length, nat_lt, if◌then◌else◌, Option, None, Some, IfSome, IsTrue, option_to_list}
 use Rattle.frame_view.specs.Vlan.{is_tpid, untagged}
 use Rattle.frame_view.specs.declared.frames.Frame.{Frame}
@@ -15,7 +15,8 @@ abbrev pub no_runt : Option Frame → Option Frame
 no_runt None = None
 no_runt (Some frame) = unless_runt frame
 
--- what reassembly, where it is asked for, leaves held behind an untagged frame, and what comes out of it
+-- what reassembly, where it is asked for, leaves held behind an untagged frame, and what comes out
+-- of it
 abbrev pub held_after : Bool → List Frame → Frame → List Frame
 held_after false held frame = held
 held_after true held frame = (pass held frame).held
@@ -55,7 +56,8 @@ somes (x ∷ xs) = option_to_list x ++ somes xs
 abbrev pub arrivals_of : Bool → List Frame → List Frame
 arrivals_of defrag frames = somes (arrivals_at defrag frames)
 
--- a frame as it is once it is untagged: no more bytes than were on the wire, a time within its second, and a tag that is one
+-- a frame as it is once it is untagged: no more bytes than were on the wire, a time within its
+-- second, and a tag that is one
 pub record IsUntagged (frame : Frame) : Type 0 where
   pub wire : length frame.bytes ≤ frame.wire
   pub nsec : frame.nsec ≤ 999999999

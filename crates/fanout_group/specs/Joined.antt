@@ -1,4 +1,5 @@
--- When logs and notes speak of the same: each try has its note at its member, and each note its try.
+-- When logs and notes speak of the same: each try has its note at its member, and each note its
+-- try.
 use Rattle.std.specs.Prelude.{◌≡◌, ℕ, ◌+◌, ◌<◌, ◌≤◌, List, [], ◌∷◌, ◌++◌, length, count_by, filter_map, sum_by, nat_lt, ◌==◌, if◌then◌else◌, slice_index_or, Option}
 use Rattle.frame_view.specs.declared.frames.Frame.{Frame}
 use Rattle.ring_model.specs.Sizes.{need_of, snap_of}
@@ -70,7 +71,8 @@ pub record AreJoined (rules : Rules) (room : ℕ) (cpus : List Logged) (members 
   pub each : (cpu member : ℕ) → member < length members →
       let logged = slice_index_or cpus cpu nothing_logged in
       AreNotesOf room rules.own (attempts_at member logged.arrivals logged.log) (frame_notes cpu (slice_index_or members member []))
-  -- in mode Lb the tickets are the numbers below that of all arrivals, each once, and they rise in each log
+  -- in mode Lb the tickets are the numbers below that of all arrivals, each once, and they rise in
+  -- each log
   pub rising : (cpu : ℕ) → rules.mode ≡ Lb → Rises 0 (tickets_of (slice_index_or cpus cpu nothing_logged).log)
   pub once : (ticket : ℕ) → rules.mode ≡ Lb →
       sum_by (λ logged. count_by (λ drawn. drawn == ticket) (tickets_of logged.log)) cpus

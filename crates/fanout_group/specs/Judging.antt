@@ -1,4 +1,5 @@
--- What a group makes of an arrival before any member is chosen: its flow hash and its verdict, and the offer that follows.
+-- What a group makes of an arrival before any member is chosen: its flow hash and its verdict, and
+-- the offer that follows.
 use Rattle.std.specs.Prelude.{◌≡◌, ℕ, List, [], ◌==◌, if◌then◌else◌, Option, None, Some}
 use Rattle.bpf_filter.specs.Sight.{Sight}
 use Rattle.bpf_filter.specs.Verdict.{verdict_with}
@@ -13,8 +14,8 @@ use Rattle.fanout_group.specs.Plans.{Shape, has_backup}
 use Rattle.fanout_group.specs.Rules.{Rules}
 use Rattle.fanout_group.specs.declared.logs.ArrivalLog.{ArrivalLog}
 
--- what a group looks at its arrivals with: the key of the flow hash, the filter, the station's own address, and the receive
--- queue of each CPU
+-- what a group looks at its arrivals with: the key of the flow hash, the filter, the station's own
+-- address, and the receive queue of each CPU
 pub record Lens : Type 0 where
   pub key : Option (List ℕ)
   pub filter : Option (List Insn)
@@ -64,7 +65,8 @@ first_entry lens frame ticket = record {
   tries = [];
 }
 
--- what an arrival offers to rings whose blocks have this room, by its hash and its verdict: nothing where that is 0
+-- what an arrival offers to rings whose blocks have this room, by its hash and its verdict: nothing
+-- where that is 0
 abbrev pub offer_if : ℕ → Option (List ℕ) → ℕ → ℕ → Frame → Option Offer
 offer_if room own hash verdict frame = if verdict == 0 then None else Some (offer_of room own hash verdict frame)
 
@@ -78,7 +80,8 @@ pub record AgreesAt (cpu : ℕ) (group lens : Lens) : Type 0 where
   pub own : group.own ≡ lens.own
   pub queue : group.queue cpu ≡ lens.queue cpu
 
--- an arrival is judged by the rules of its group: its entry, with no try yet, and the offer that it makes
+-- an arrival is judged by the rules of its group: its entry, with no try yet, and the offer that it
+-- makes
 pub record IsJudged (group : Lens) (room : ℕ) (arrival : Frame) (entry : ArrivalLog) (made : Option Offer) : Type 0 where
   pub entry_is : entry ≡ first_entry group arrival entry.ticket
   pub offer_is : made ≡ offer_by group room arrival

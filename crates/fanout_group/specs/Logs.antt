@@ -1,4 +1,5 @@
--- When the log of a CPU is lawful: it has the CPU's arrivals, each with what the group's rules say of it.
+-- When the log of a CPU is lawful: it has the CPU's arrivals, each with what the group's rules say
+-- of it.
 use Rattle.std.specs.Prelude.{◌≡◌, ℕ, List, [], ◌∷◌, ◌==◌, MatchBool}
 use Rattle.frame_view.specs.declared.frames.Frame.{Frame}
 use Rattle.fanout_group.specs.Rules.{Rules, HasTicket, home_of, rolls_over}

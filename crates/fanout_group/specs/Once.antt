@@ -40,7 +40,8 @@ pub record IsGroupReport (rules : Rules) (room : ℕ) (cpus : List Logged) (memb
       let logged = slice_index_or cpus cpu nothing_logged in IsLawful rules logged.arrivals logged.log
   pub joined : AreJoined rules room cpus members
 
--- Among the Kept and Dropped notes of all members each arrival that passes stands once, and nothing else stands there.
+-- Among the Kept and Dropped notes of all members each arrival that passes stands once, and nothing
+-- else stands there.
 abbrev pub EachStandsOnce : List Logged → List (List Note) → Type 0
 EachStandsOnce cpus members = (cpu index : ℕ) →
     times_settled cpu index members ≡ (if passes index (slice_index_or cpus cpu nothing_logged).log then 1 else 0)

@@ -1,4 +1,5 @@
--- The receive path of a CPU: what its frames so far have left, and when its log is lawful over them.
+-- The receive path of a CPU: what its frames so far have left, and when its log is lawful over
+-- them.
 use Rattle.std.specs.Prelude.{◌≡◌, ℕ, List, [], ◌∷◌, ◌++◌, Option, None, Some}
 use Rattle.frame_view.specs.declared.frames.Frame.{Frame}
 use Rattle.fanout_group.specs.Arrivals.{arrivals_of, held_from}

@@ -6,13 +6,15 @@ use Rattle.fanout_group.specs.declared.modes.Mode.TheVariants.{Hash}
 use Rattle.fanout_group.specs.declared.plan_error.PlanError.{PlanError}
 use Rattle.fanout_group.specs.declared.plan_error.PlanError.TheVariants.{NoMember, TooMany, BackupOfRollover, NoKey}
 
--- the shape of a group: the number of its members, its mode, and its flags as linux/if_packet.h numbers them
+-- the shape of a group: the number of its members, its mode, and its flags as linux/if_packet.h
+-- numbers them
 pub record Shape : Type 0 where
   pub members : ℕ
   pub mode : Mode
   pub flags : ℕ
 
--- flags are PACKET_FANOUT_FLAG_ROLLOVER (0x1000) and PACKET_FANOUT_FLAG_DEFRAG (0x8000), and no other bit
+-- flags are PACKET_FANOUT_FLAG_ROLLOVER (0x1000) and PACKET_FANOUT_FLAG_DEFRAG (0x8000), and no
+-- other bit
 abbrev pub AreFlags : ℕ → Type 0
 AreFlags flags = bit_and flags 0x9000 ≡ flags
 
@@ -29,8 +31,8 @@ abbrev pub is_hash : Mode → Bool
 is_hash Hash = true
 is_hash mode = false
 
--- why there is no group of so many members, in this mode, with these flags and with or without a key of the flow hash:
--- the first that applies
+-- why there is no group of so many members, in this mode, with these flags and with or without a
+-- key of the flow hash: the first that applies
 abbrev pub fault_of : ℕ → Mode → ℕ → Bool → Option PlanError
 fault_of members mode flags has_key =
     if members == 0 then Some NoMember
@@ -44,6 +46,8 @@ pub record IsPlan (shape : Shape) : Type 0 where
   pub some : 0 < shape.members
   pub few : shape.members ≤ 8
   pub flags : AreFlags shape.flags
+  -- in mode Rollover other members are tried anyway, and the flag isn't set
+  pub backup : (is_rollover shape.mode && has_backup shape.flags) ≡ false
 
 -- other members are tried: always in mode Rollover, and with the flag
 abbrev pub rolls_over : Shape → Bool

@@ -2,7 +2,7 @@
 ghost use Rattle.std.specs.Prelude.{◌≡◌, ◌<◌, ◌≤◌, ℕ, [], ◌++◌, unwrap_or, IfNone, IfOk, IfSome, OnErr, OnOk};
 ghost use Rattle.fanout_group.specs.Desks.{TakesTheSame};
 ghost use Rattle.fanout_group.specs.Plans.{rolls_over};
-ghost use Rattle.fanout_group.specs.Routes.{AreRefusals, IsKeptOnTheWay, IsRoute, present_after, refused_from};
+ghost use Rattle.fanout_group.specs.Routes.{AreRefusals, IsBegun, IsKeptOnTheWay, IsRoute, present_after, refused_from};
 ghost use Rattle.fanout_group.specs.Rules.{HasTicket, home_by};
 
 use crate::tries::{put_at, try_at};
@@ -12,16 +12,18 @@ use ring_model::Offer;
 use std::alloc::Global;
 use std::mem;
 
-/// Delivers a packet to a group by its mode: makes the tries of an arrival at a desk, in order, and tells them at
-/// the end of a list.
+/// Delivers a packet to a group by its mode: makes the tries of an arrival at a desk, in order, and
+/// tells them at the end of a list.
 ///
-/// The home is by the mode the offer's hash, the ticket, the frame's CPU or the receive queue modulo the number of
-/// members, or the CPU's present member (PACKET_FANOUT of packet(7); that it is a modulo, and the present member of
-/// each CPU, are this project's own choice). Without rollover the packet is put at home. With it each member is tried
-/// once, from the home on round the group, until one keeps the packet; where all refuse it is put at home. In mode
-/// `Rollover` the member of the last try is `present` from then on.
+/// The home is by the mode the offer's hash, the ticket, the frame's CPU or the receive queue
+/// modulo the number of members, or the CPU's present member (PACKET_FANOUT of packet(7); that it
+/// is a modulo, and the present member of each CPU, are this project's own choice). Without
+/// rollover the packet is put at home. With it each member is tried once, from the home on round
+/// the group, until one keeps the packet; where all refuse it is put at home. In mode `Rollover`
+/// the member of the last try is `present` from then on.
 ///
-/// After `Memory` the tries that were made stand in the list, all of them refusals, and `present` is unchanged.
+/// After `Memory` the tries that were made are in the list, and `present` is unchanged: without
+/// rollover none was made, with it all of them are refusals, and no member has the packet.
 pub fn deliver<D: Desk>(
     alloc: Global,
     plan: &Plan,
@@ -45,7 +47,7 @@ pub fn deliver<D: Desk>(
     ensures member { present.new < plan.now.members }
     ensures refusals { OnErr result (let home = home_by plan.now.mode plan.now.members
         offer.hash (unwrap_or ticket 0) offer.frame.cpu queue present.old in
-        AreRefusals plan.now.members home (D.tried desk.new)) }
+        IsBegun (rolls_over plan.now) plan.now.members home (D.tried desk.new)) }
     ensures err { OnErr result (present.new ≡ present.old) }
     ensures same { TakesTheSame (D.takes desk.old) (D.takes desk.new) }
     ensures follows { D.follows desk.old desk.new }
@@ -92,7 +94,8 @@ fn make_tries<D: Desk>(
     ensures told { tries.new.items ≡ tries.old.items ++ D.tried desk.new }
     ensures route { OnOk result
         (IsRoute (rolls_over plan.now) plan.now.members home (D.tried desk.new)) }
-    ensures refusals { OnErr result (AreRefusals plan.now.members home (D.tried desk.new)) }
+    ensures refusals { OnErr result
+        (IsBegun (rolls_over plan.now) plan.now.members home (D.tried desk.new)) }
     ensures same { TakesTheSame (D.takes desk.old) (D.takes desk.new) }
     ensures follows { D.follows desk.old desk.new }
 {

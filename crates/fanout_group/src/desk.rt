@@ -7,8 +7,8 @@ ghost use Rattle.ring_model.specs.declared.notes.Offer.{Offer};
 
 use ring_model::{Offer, Put, Tried, Unput};
 
-/// The members of a group, as one arrival meets them. A desk is made for one delivery. Contracts see the tries
-/// that were made at it, and which offers a member takes.
+/// The members of a group, as one arrival meets them. A desk is made for one delivery. Contracts
+/// see the tries that were made at it, and which offers a member takes.
 pub trait Desk {
     // The tries that were made at this desk, in order.
     ghost tried: { Self → List Try };
@@ -19,8 +19,9 @@ pub trait Desk {
     // What else holds between a desk and the same desk after some calls.
     ghost follows: { Self → Self → Type 0 };
 
-    /// Offers a packet to a member, which keeps it, or refuses it and is as it was; then the offer comes back. After
-    /// `Unput`, which is want of memory and hands the offer back too, no try was made.
+    /// Offers a packet to a member, which keeps it, or refuses it and is as it was; then the offer
+    /// comes back. After `Unput`, which is want of memory and hands the offer back too, no try was
+    /// made.
     fn try_put(&mut self, member: u32, offer: Offer) -> Result<Tried, Unput>
         requires takes { takes self.old member offer }
         requires few { length (tried self.old) < 9 }
@@ -32,8 +33,8 @@ pub trait Desk {
         ensures same { TakesTheSame (takes self.old) (takes self.new) }
         ensures follows { follows self.old self.new };
 
-    /// Gives a packet to a member, which keeps it or drops it. After `Unput`, which is want of memory and hands the
-    /// offer back, no try was made.
+    /// Gives a packet to a member, which keeps it or drops it. After `Unput`, which is want of
+    /// memory and hands the offer back, no try was made.
     fn put(&mut self, member: u32, offer: Offer) -> Result<Put, Unput>
         requires takes { takes self.old member offer }
         requires few { length (tried self.old) < 9 }

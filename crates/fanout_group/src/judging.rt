@@ -1,4 +1,5 @@
-//! What an arrival is before any member is chosen: its flow hash, its verdict, and the offer that it makes.
+//! What an arrival is before any member is chosen: its flow hash, its verdict, and the offer that
+//! it makes.
 ghost use Rattle.std.specs.Prelude.{◌≡◌, ◌<◌, ◌≤◌, IfSome, length, option_copied};
 ghost use Rattle.fanout_group.specs.Arrivals.{IsArrival};
 ghost use Rattle.fanout_group.specs.Judging.{AgreesAt, IsJudged, Lens, first_entry, hash_by, offer_by, offer_if, verdict_by};
@@ -41,8 +42,8 @@ pub struct Judged {
 const HEADERS: u32 = 82;
 
 impl ArrivalRules<'_> {
-    /// Looks at an arrival of the CPU, with its ticket where it drew one: its flow hash, then the filter's verdict on
-    /// it, then the offer that it makes. It takes no memory.
+    /// Looks at an arrival of the CPU, with its ticket where it drew one: its flow hash, then the
+    /// filter's verdict on it, then the offer that it makes. It takes no memory.
     pub fn judge(&self, alloc: Global, arrival: Frame, ticket: Option<u64>) -> Judged
         requires arrival { IsArrival arrival }
         requires room { 82 < self.now.room }
@@ -96,8 +97,8 @@ impl ArrivalRules<'_> {
         verdict_with(self.filter, &seen)
     }
 
-    /// What an arrival offers to a member: the least of its captured bytes, its verdict, and what a block has room
-    /// for. Nothing where its verdict is 0.
+    /// What an arrival offers to a member: the least of its captured bytes, its verdict, and what a
+    /// block has room for. Nothing where its verdict is 0.
     fn offer(&self, arrival: Frame, pkttype: u8, hash: u32, verdict: u32) -> Option<Offer>
         requires arrival { IsArrival arrival }
         requires room { 82 < self.now.room }

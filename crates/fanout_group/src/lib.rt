@@ -1,5 +1,5 @@
-//! Who gets a frame: the modes of a fanout group, the log of what was tried, and the law that each frame
-//! stands exactly once.
+//! Who gets a frame: the modes of a fanout group, the log of what was tried, and the law that each
+//! frame stands exactly once.
 #![tactic(auto)]
 
 mod delivery;
@@ -12,18 +12,17 @@ mod plan;
 mod plan_error;
 mod receive_path;
 mod runs;
-#[cfg(test)]
-mod tests;
 mod tries;
 
+pub use capture_file::CpuEnd;
 pub use delivery::deliver;
 pub use desk::Desk;
 pub use judging::{ArrivalRules, Judged};
-pub use laws::{arrivals_are_sound, arrivals_rise, each_frame_stands_exactly_once};
+pub use laws::{arrivals_are_sound, arrivals_rise, each_frame_stands_exactly_once, tries_go_round};
 pub use logs::{ArrivalList, ArrivalLog, Fate, Try, TryList};
 pub use modes::Mode;
 pub use plan::Plan;
 pub use plan_error::PlanError;
 pub use receive_path::ReceivePath;
-pub use runs::{CpuEnd, CpuLog, CpuLogList};
+pub use runs::{CpuLog, CpuLogList};
 pub use ticket_dealer::{Dealer, DealerSeat};

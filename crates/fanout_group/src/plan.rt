@@ -41,11 +41,13 @@ impl Model for Plan {
 }
 
 impl Plan {
-    /// Checks the shape of a group: the number of its members, its mode, its flags (0x1000 rollover, 0x8000
-    /// defragmentation, by `linux/if_packet.h`), and whether there is a key for the flow hash.
+    /// Checks the shape of a group: the number of its members, its mode, its flags (0x1000
+    /// rollover, 0x8000 defragmentation, by `linux/if_packet.h`), and whether there is a key for
+    /// the flow hash.
     ///
-    /// The first that applies is the error: `NoMember` for no member, `TooMany` for more than eight,
-    /// `BackupOfRollover` for the flag of rollover in mode `Rollover`, `NoKey` for mode `Hash` without a key.
+    /// The first that applies is the error: `NoMember` for no member, `TooMany` for more than
+    /// eight, `BackupOfRollover` for the flag of rollover in mode `Rollover`, `NoKey` for mode
+    /// `Hash` without a key.
     pub fn check(members: u32, mode: Mode, flags: u32, has_key: bool) -> Result<Plan, PlanError>
         requires flags { AreFlags flags }
         ensures plan { IfOk result (λ plan.
@@ -95,7 +97,8 @@ impl Plan {
         self.flags
     }
 
-    /// Whether other members are tried where the home has no room: always in mode `Rollover`, and with the flag.
+    /// Whether other members are tried where the home has no room: always in mode `Rollover`, and
+    /// with the flag.
     pub(crate) fn rolls_over(&self) -> bool
         ensures { result ≡ rolls_over self.now }
     {

@@ -1,4 +1,5 @@
-//! The receive path of a CPU: from the frames of its capture to arrivals, and from the tries of an arrival to its log.
+//! The receive path of a CPU: from the frames of its capture to arrivals, and from the tries of an
+//! arrival to its log.
 ghost use Rattle.std.specs.Prelude.{◌≡◌, ◌<◌, ◌≤◌, ℕ, List, [], ◌∷◌, ◌++◌, None, Some, unwrap_or, All, IfOk, IfSome, OnErr, OnOk};
 ghost use Rattle.capture_file.specs.Laws.{IsCaptured};
 ghost use Rattle.fanout_group.specs.Arrivals.{HasPlaceOf, IsArrival, IsUntagged, arrival_at, held_after, held_behind, no_runt, whole_at};
@@ -6,7 +7,7 @@ ghost use Rattle.fanout_group.specs.Desks.{TakesTheSame};
 ghost use Rattle.fanout_group.specs.Judging.{IsJudged, Lens, rules_by};
 ghost use Rattle.fanout_group.specs.Paths.{IsPath, IsPathBehind, IsPathTo, first_path, logged};
 ghost use Rattle.fanout_group.specs.Plans.{has_defrag, rolls_over};
-ghost use Rattle.fanout_group.specs.Routes.{IsRoute};
+ghost use Rattle.fanout_group.specs.Routes.{IsBegun, IsRoute, present_after};
 ghost use Rattle.fanout_group.specs.Rules.{HasTicket, Rules, home_by};
 ghost use Rattle.frame_view.specs.declared.frames.Frame.{Frame};
 ghost use Rattle.ip_defrag.specs.Fold.{pass};
@@ -17,11 +18,13 @@ use ip_defrag::Defrag;
 use ring_model::Offer;
 use std::alloc::Global;
 use std::marker::Model;
+use std::mem;
 
 /// The bytes of a link header; a frame with fewer is no arrival.
 const LINK_HEADER: usize = 14;
 
-/// The receive path of a CPU. Contracts see the fragments that it holds, the present member and the log so far.
+/// The receive path of a CPU. Contracts see the fragments that it holds, the present member and the
+/// log so far.
 #[derive(Drop)]
 pub struct ReceivePath {
     /// The shape of the group.
@@ -65,9 +68,10 @@ impl ReceivePath {
         }
     }
 
-    /// Takes a frame of the CPU's capture, and gives what arrives at it: the frame itself, untagged, or with the flag
-    /// of defragmentation the datagram that it completed; nothing where that has fewer than 14 bytes, or where the
-    /// frame is held or given up. After `Memory` the path is unchanged, and the frame is dropped.
+    /// Takes a frame of the CPU's capture, and gives what arrives at it: the frame itself,
+    /// untagged, or with the flag of defragmentation the datagram that it completed; nothing where
+    /// that has fewer than 14 bytes, or where the frame is held or given up. After `Memory` the
+    /// path is unchanged, and the frame is dropped.
     pub fn arrive(&mut self, frame: Frame) -> Result<Option<Frame>, Memory>
         requires bare { frame.tag ≡ None }
         requires captured { IsCaptured frame }
@@ -107,7 +111,8 @@ impl ReceivePath {
         }
     }
 
-    /// Logs an arrival whose verdict is 0: no member is tried. After `Memory` the path is unchanged.
+    /// Logs an arrival whose verdict is 0: no member is tried. After `Memory` the path is
+    /// unchanged.
     pub fn pass_over(&mut self, entry: ArrivalLog) -> Result<(), Memory>
         requires none { entry.tries ≡ [] }
         ensures ok { OnOk result (self.new ≡ logged entry self.old) }
@@ -122,8 +127,9 @@ impl ReceivePath {
         self.log.push(entry)
     }
 
-    /// Delivers the offer of an arrival, and logs the arrival with the tries that were made. After `Memory` the path is
-    /// unchanged.
+    /// Delivers the offer of an arrival, and logs the arrival with the tries that were made: room
+    /// for the entry is asked for first, so that no packet is kept that isn't logged. After
+    /// `Memory` the path is unchanged, and the desk's tries are what `deliver` says of them.
     pub fn deliver<D: Desk>(
         &mut self,
         alloc: Global,
@@ -142,6 +148,10 @@ impl ReceivePath {
         ensures route { OnOk result (let home = home_by self.old.shape.mode self.old.shape.members
             offer.hash (unwrap_or entry.ticket 0) offer.frame.cpu queue self.old.present in
             IsRoute (rolls_over self.old.shape) self.old.shape.members home (D.tried desk.new)) }
+        ensures refusals { OnErr result (let home = home_by self.old.shape.mode
+            self.old.shape.members offer.hash (unwrap_or entry.ticket 0) offer.frame.cpu queue
+            self.old.present in
+            IsBegun (rolls_over self.old.shape) self.old.shape.members home (D.tried desk.new)) }
         ensures err { OnErr result (self.new ≡ self.old) }
         ensures lawful { OnOk result
             ((group : Lens) (room : ℕ) (frames : List Frame) (arrival : Frame)
@@ -152,22 +162,21 @@ impl ReceivePath {
         ensures same { TakesTheSame (D.takes desk.old) (D.takes desk.new) }
         ensures follows { D.follows desk.old desk.new }
     {
-        let mut entry = entry;
         let mut present = self.present;
-        let ticket = entry.ticket;
-        let tries = &mut entry.tries;
-        deliver(
+        let mut log = mem::replace(&mut self.log, ArrivalList::new(alloc)).into_vec();
+        let done = deliver_and_log(
             alloc,
             &self.plan,
             desk,
             &mut present,
             queue,
+            entry,
             offer,
-            ticket,
-            tries,
-        )?;
-        self.log.push(entry)?;
+            &mut log,
+        );
+        self.log = ArrivalList::from_vec(log);
         self.present = present;
+        done?;
         Ok(())
     }
 
@@ -177,6 +186,48 @@ impl ReceivePath {
     {
         self.log
     }
+}
+
+/// Delivers the offer of an arrival to a group, and puts its entry with the tries that were made at
+/// the end of a log.
+fn deliver_and_log<D: Desk>(
+    alloc: Global,
+    plan: &Plan,
+    desk: &mut D,
+    present: &mut u32,
+    queue: u32,
+    entry: ArrivalLog,
+    offer: Offer,
+    log: &mut Vec<ArrivalLog>,
+) -> Result<(), Memory>
+    requires present { present.old < plan.now.members }
+    requires ticket { HasTicket plan.now.mode entry.ticket }
+    requires none { entry.tries ≡ [] }
+    requires fresh { D.tried desk.old ≡ [] }
+    requires takes { (member : ℕ) → member < plan.now.members → D.takes desk.old member offer }
+    ensures logged { OnOk result (log.new.items
+        ≡ log.old.items ++ record entry { tries = D.tried desk.new } ∷ []) }
+    ensures route { OnOk result (let home = home_by plan.now.mode plan.now.members
+        offer.hash (unwrap_or entry.ticket 0) offer.frame.cpu queue present.old in
+        IsRoute (rolls_over plan.now) plan.now.members home (D.tried desk.new)) }
+    ensures present { OnOk result (present.new
+        ≡ present_after plan.now.mode present.old (D.tried desk.new)) }
+    ensures member { present.new < plan.now.members }
+    ensures refusals { OnErr result (let home = home_by plan.now.mode plan.now.members
+        offer.hash (unwrap_or entry.ticket 0) offer.frame.cpu queue present.old in
+        IsBegun (rolls_over plan.now) plan.now.members home (D.tried desk.new)) }
+    ensures err { OnErr result (log.new.items ≡ log.old.items) }
+    ensures stays { OnErr result (present.new ≡ present.old) }
+    ensures same { TakesTheSame (D.takes desk.old) (D.takes desk.new) }
+    ensures follows { D.follows desk.old desk.new }
+{
+    log.reserve(1)?;
+    let mut entry = entry;
+    let ticket = entry.ticket;
+    let tries = &mut entry.tries;
+    deliver(alloc, plan, desk, present, queue, offer, ticket, tries)?;
+    let _there_was_room = log.push(entry);
+    Ok(())
 }
 
 /// Passes an untagged frame through reassembly.

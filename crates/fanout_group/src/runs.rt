@@ -1,18 +1,7 @@
 //! What a run logs of a CPU.
 use crate::ArrivalList;
-use capture_file::CaptureError;
+use capture_file::CpuEnd;
 use frame_view::ItemList;
-
-/// How the frames of a CPU ended.
-#[derive(Clone, Copy, Debug, PartialEq, Eq)]
-pub enum CpuEnd {
-    /// The capture was read to its end, and is whole.
-    Whole,
-    /// The capture couldn't be had, or reading it failed.
-    Fault,
-    /// What was read is damaged, or is cut.
-    Damaged(CaptureError),
-}
 
 /// What a run logs of a CPU.
 #[derive(Debug, Drop)]

@@ -1,7 +1,7 @@
 //! The key of the Toeplitz hash, and its reading from hexadecimal digits.
-ghost use Rattle.std.specs.Prelude.{◌≡◌, ◌≢◌, length, IfOk};
+ghost use Rattle.std.specs.Prelude.{◌≡◌, ◌≢◌, Some, length, IfOk};
 ghost use Rattle.hex.specs.Hex.{decode_of};
-ghost use Rattle.flow_hash.specs.HexKey.{IsHex, key_error};
+ghost use Rattle.flow_hash.specs.HexKey.{IsHex, key_error, words_of};
 
 use hex::FromHexError;
 use std::alloc::Global;
@@ -30,16 +30,18 @@ pub enum KeyError {
     NotHex,
     /// It is an even number of digits, but not 80.
     WrongLength,
-    /// Want of memory.
+    /// An allocation was refused.
     Memory,
 }
 
 impl fmt::Display for KeyError {
+    ghost output = { λ error. Some (words_of error) };
+
     fn fmt<W: fmt::Write>(&self, f: &mut fmt::Formatter<W>) -> fmt::Result {
         match self {
-            KeyError::NotHex => write!(f, "not hexadecimal digits"),
-            KeyError::WrongLength => write!(f, "not 40 bytes"),
-            KeyError::Memory => write!(f, "out of memory"),
+            KeyError::NotHex => f.write_str("not hexadecimal digits"),
+            KeyError::WrongLength => f.write_str("not 40 bytes"),
+            KeyError::Memory => f.write_str("out of memory"),
         }
     }
 }

@@ -3,8 +3,6 @@
 
 mod flows;
 mod hash_keys;
-#[cfg(test)]
-mod tests;
 mod toeplitz_hash;
 
 pub use flows::flow_hash;

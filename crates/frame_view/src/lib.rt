@@ -8,8 +8,6 @@ mod header_reading;
 mod ip_reading;
 mod list_types;
 mod numbers;
-#[cfg(test)]
-mod tests;
 mod vlan;
 mod want;
 

@@ -1,4 +1,6 @@
-//! Want of memory, merged with no other error.
+//! A refused allocation, merged with no other error.
+ghost use Rattle.std.specs.Prelude.{Some, codes};
+
 use std::alloc::{AllocError, AllocFailed};
 use std::error::Error;
 use std::fmt;
@@ -8,8 +10,10 @@ use std::fmt;
 pub struct Memory;
 
 impl fmt::Display for Memory {
+    ghost output = { λ _. Some (codes "out of memory") };
+
     fn fmt<W: fmt::Write>(&self, f: &mut fmt::Formatter<W>) -> fmt::Result {
-        write!(f, "out of memory")
+        f.write_str("out of memory")
     }
 }
 

@@ -10,8 +10,6 @@ mod passes;
 mod reassembling;
 mod rules;
 mod steps;
-#[cfg(test)]
-mod tests;
 mod trace;
 mod wholes;
 

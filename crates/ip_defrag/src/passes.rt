@@ -92,7 +92,8 @@ fn join(
 ) -> Result<Answer, NoPush>
     requires taken { takes_part fragment ≡ true }
     requires below { at < length datagrams.old.items }
-    ensures is { IfOk result (λ it. IsJoined fragment at datagrams.old.items datagrams.new.items it) }
+    ensures is { IfOk result (λ it.
+        IsJoined fragment at datagrams.old.items datagrams.new.items it) }
     ensures unchanged { OnErr result (datagrams.new.items ≡ datagrams.old.items) }
     ensures handed_back { IfErr result (λ no. no.frame ≡ fragment) }
 {
@@ -146,7 +147,8 @@ pub(crate) fn pass(
     ensures held { OnOk result (datagrams.new.items ≡ groups (pass trace.now.held fragment).held) }
     ensures few { length datagrams.new.items ≤ 64 }
     ensures whole { IfOk result (λ it. it.whole ≡ (pass trace.now.held fragment).whole) }
-    ensures discarded { IfOk result (λ it. it.discarded ≡ (pass trace.now.held fragment).discarded) }
+    ensures discarded { IfOk result (λ it.
+        it.discarded ≡ (pass trace.now.held fragment).discarded) }
     ensures unchanged { OnErr result (datagrams.new.items ≡ datagrams.old.items) }
     ensures handed_back { IfErr result (λ no. no.frame ≡ fragment) }
 {

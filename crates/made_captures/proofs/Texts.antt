@@ -33,12 +33,6 @@ all_sources seed count cpus frames lists sources e f g =
     ∙ map-map source_of (packets_for cpus (made seed count)) numbers
     ∙ sym (map-map (λ (text : List ℕ). Some text) (λ cpu. output_of (packets_for cpus (made seed count) cpu)) numbers)
 
--- what is seen of each source is what is seen of its text
-pub seen_of_each : {U : Type 0} (seen : List ℕ → U) (sources : List (Option (List ℕ))) (captures : List (List ℕ))
-    → sources ≡ map Some captures → map (option_map seen) sources ≡ map (λ text. Some (seen text)) captures
-seen_of_each seen sources captures e =
-    ap (λ (ss : List (Option (List ℕ))). map (option_map seen) ss) e ∙ map-map (option_map seen) (λ (text : List ℕ). Some text) captures
-
 pub length-made_captures : (seed count cpus : ℕ) → length (made_captures seed count cpus) ≡ cpus
 unfolding made_captures
 length-made_captures seed count cpus = length-map-range_with_len (capture_for seed count cpus) 0 cpus

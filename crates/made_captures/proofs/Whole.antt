@@ -1,5 +1,5 @@
 -- A made capture is whole: it is short, and its packets can be written.
-use Rattle.std.proofs.Common.{◌≡◌, ℕ, zero, suc, ◌+◌, ◌*◌, ◌^◌, ◌%◌, ◌<◌, ◌≤◌, List, [], ◌∷◌, length, refl, inl, inr, arith}
+use Rattle.std.proofs.Common.{◌≡◌, ℕ, zero, suc, ◌+◌, ◌*◌, ◌^◌, ◌%◌, ◌<◌, ◌≤◌, List, [], ◌∷◌, length, refl, ap, ◌∙◌, inl, inr, arith}
 use Rattle.std.specs.Prelude.{All, None, map}
 use Rattle.std.specs.List.{AllByRecursion, flat_map, range_with_len}
 use Rattle.std.proofs.lemmas.Bool.{cases_eq, eq-eqb, ne_eqb}
@@ -7,12 +7,12 @@ use Rattle.std.proofs.lemmas.List.{length-append}
 use Rattle.std.proofs.lemmas.List.Elements.{All-cons, All-nil, recursion_from_All}
 use Rattle.capture_file.specs.Capture.{frames_of, end_of}
 use Rattle.capture_file.specs.Laws.{IsWritable, frames_back}
-use Rattle.capture_file.specs.Output.{four_bytes, output_header, output_of, record_text}
+use Rattle.capture_file.specs.Output.{four_bytes, original, output_header, output_of, record_text}
 use Rattle.capture_file.proofs.ReadBack.{output_end, output_frames}
 use Rattle.frame_maker.specs.Made.{IsMade, after_frame, made, made_frame, made_from}
 use Rattle.frame_maker.proofs.Each.{All-made, length-made}
 use Rattle.frame_view.specs.declared.frames.Frame.{Frame}
-use Rattle.made_captures.specs.Made.{capture_for, given_from, made_captures, packet_of, packets_for}
+use Rattle.made_captures.specs.Made.{as_captured, capture_for, given_from, given_to, made_captures, packet_of, packets_for}
 use Rattle.made_captures.proofs.Dealt.{all-given}
 
 -- ---- the time of a made frame fits its field
@@ -69,6 +69,16 @@ length-given cpus cpu i (frame ∷ frames) = elim (cases_eq (i % cpus) cpu) [
   | inr past ↦ rw (ne_eqb _ cpu past) (omega (arith, length-given cpus cpu (i + 1) frames))
 ]
 
+-- ---- the frames come back
+
+back : (number index : ℕ) (frames : List Frame) → AllByRecursion IsMade frames → frames_back number index (map packet_of frames) ≡ as_captured number index frames
+back number index [] all = refl
+back number index (frame ∷ frames) all =
+    let is = all.0 in
+    let wire : original (packet_of frame) ≡ frame.wire = omega (arith, is.whole, is.short) in
+    ap (λ n. record frame { cpu = number; index = index; wire = n; tag = None } ∷ frames_back number (index + 1) (map packet_of frames)) wire
+    ∙ ap (λ (fs : List Frame). record frame { cpu = number; index = index; tag = None } ∷ fs) (back number (index + 1) frames all.1)
+
 module _ (seed count cpus cpu : ℕ) (few : count ≤ 20000) where
   given : List Frame
   given = given_from cpus cpu 0 (made seed count)
@@ -101,9 +111,10 @@ module _ (seed count cpus cpu : ℕ) (few : count ≤ 20000) where
   unfolding capture_for
   capture-ends = output_end (packets_for cpus (made seed count) cpu) packets-writable capture-short
 
-  pub capture-frames : (number : ℕ) → frames_of number (capture_for seed count cpus cpu) ≡ frames_back number 0 (packets_for cpus (made seed count) cpu)
-  unfolding capture_for
-  capture-frames number = output_frames (packets_for cpus (made seed count) cpu) packets-writable capture-short number
+  pub capture-frames : (number : ℕ) → frames_of number (capture_for seed count cpus cpu) ≡ as_captured number 0 (given_to cpus cpu (made seed count))
+  unfolding capture_for given
+  capture-frames number =
+      output_frames (packets_for cpus (made seed count) cpu) packets-writable capture-short number ∙ back number 0 given given-made
 
 -- so it is of all CPUs
 all_end : (seed count cpus from n : ℕ) → count ≤ 20000 → All (λ text. end_of text ≡ None) (map (capture_for seed count cpus) (range_with_len from n))

@@ -1,19 +1,21 @@
 -- A large valid input that a seed makes: captures, and a schedule that replays them.
-use Rattle.std.specs.Prelude.{ℕ, ◌+◌, ◌%◌, ◌==◌, ◌≤◌, if◌then◌else◌, List, [], ◌∷◌, length, map, All}
+use Rattle.std.specs.Prelude.{ℕ, ◌+◌, ◌%◌, ◌==◌, ◌≤◌, if◌then◌else◌, List, [], ◌∷◌, length, map, All, None}
 use Rattle.std.specs.List.{flat_map, range_with_len}
 use Rattle.capture_file.specs.Output.{output_of}
 use Rattle.frame_maker.specs.Made.{made}
 use Rattle.frame_view.specs.PlainPacket.{plain_of}
 use Rattle.frame_view.specs.declared.frames.Frame.{Frame}
 use Rattle.frame_view.specs.declared.frames.Packet.{Packet}
-use Rattle.replay_model.specs.declared.schedule.Line.{Line}
-use Rattle.replay_model.specs.declared.schedule.Line.TheVariants.{Feed, Read}
+use Rattle.schedule_lines.specs.declared.lines.Line.{Line}
+use Rattle.schedule_lines.specs.declared.lines.Line.TheVariants.{Feed, Read}
 
--- of frames, the first of which has number i, those that a CPU gets: their numbers modulo the CPUs are its own
+-- of frames, the first of which has number i, those that a CPU gets: their numbers modulo the CPUs
+-- are its own
 unfoldable pub given_from : ℕ → ℕ → ℕ → List Frame → List Frame
 given_from cpus cpu i [] = []
 given_from cpus cpu i (frame ∷ frames) =
-    if i % cpus == cpu then frame ∷ given_from cpus cpu (i + 1) frames else given_from cpus cpu (i + 1) frames
+    if i % cpus == cpu then frame ∷ given_from cpus cpu (i + 1) frames
+    else given_from cpus cpu (i + 1) frames
 
 -- of all frames, numbered from 0, those that a CPU gets
 abbrev pub given_to : ℕ → ℕ → List Frame → List Frame
@@ -21,7 +23,15 @@ given_to cpus cpu frames = given_from cpus cpu 0 frames
 
 -- a frame as a packet: its time, its length on the wire and its bytes
 abbrev pub packet_of : Frame → Packet
-packet_of frame = record (plain_of frame.bytes) { sec = frame.sec; nsec = frame.nsec; wire = frame.wire }
+packet_of frame =
+    record (plain_of frame.bytes) { sec = frame.sec; nsec = frame.nsec; wire = frame.wire }
+
+-- frames as the capture of a CPU gives them back: with its number, and with their places from this
+-- one up
+abbrev pub as_captured : ℕ → ℕ → List Frame → List Frame
+as_captured cpu index [] = []
+as_captured cpu index (frame ∷ frames) =
+    record frame { cpu = cpu; index = index; tag = None } ∷ as_captured cpu (index + 1) frames
 
 -- the packets of a CPU
 abbrev pub packets_for : ℕ → List Frame → ℕ → List Packet
@@ -39,11 +49,11 @@ made_captures seed count cpus = map (capture_for seed count cpus) (range_with_le
 unfoldable pub read_lines : ℕ → List Line
 read_lines members = flat_map (λ member. Read member ∷ Read member ∷ []) (range_with_len 0 members)
 
--- feed number i, from 0, and behind every 64th the reads
+-- feed number i, from 0, and after every 64th the reads
 unfoldable pub feed_lines : ℕ → ℕ → ℕ → List Line
 feed_lines cpus members i = Feed (i % cpus) ∷ (if (i + 1) % 64 == 0 then read_lines members else [])
 
--- the schedule of so many frames
+-- the schedule of `count` frames
 unfoldable pub made_lines : ℕ → ℕ → ℕ → List Line
 made_lines count cpus members = flat_map (feed_lines cpus members) (range_with_len 0 count)
 

@@ -1,5 +1,5 @@
 //! The captures of a seed, as sources in memory.
-ghost use Rattle.std.specs.Prelude.{◌≡◌, ◌<◌, ◌≤◌, Some, option_map, length, map, All, IfOk};
+ghost use Rattle.std.specs.Prelude.{◌≡◌, ◌<◌, ◌≤◌, Some, length, map, All, IfOk};
 ghost use Rattle.capture_file.specs.Output.{output_of};
 ghost use Rattle.made_captures.specs.Made.{made_captures, AreShort};
 
@@ -8,11 +8,12 @@ use capture_file::pcap_text;
 use frame_maker::make;
 use frame_view::{Memory, Packets};
 use std::alloc::Global;
-use tap_outside::{Source, SureSource};
+use tap_outside::SureSource;
 
-/// The captures of so many CPUs, from CPU 0 up, over so many frames of a seed: frame i of `frame_maker::make` is
-/// given to CPU i modulo the CPUs, and a capture is the output file of its frames. Each comes as a source that never
-/// fails. The only error is want of memory; each frame is moved, and dropped once its capture is written.
+/// The captures of `cpus` CPUs, from CPU 0 up, over `count` frames of a seed: frame i of
+/// `frame_maker::make` is given to CPU i modulo the CPUs, and a capture is the output file of its
+/// frames. Each comes as a source that never fails. The only error is that an allocation fails;
+/// each frame is moved, and dropped once its capture is written.
 ///
 /// How the frames are spread is this project's own choice.
 pub fn made_sources(
@@ -26,12 +27,6 @@ pub fn made_sources(
     ensures len { IfOk result (λ sources. length sources.items ≡ cpus) }
     ensures sources { IfOk result (λ sources.
         sources.items ≡ map Some (made_captures seed count cpus)) }
-    ensures left { IfOk result (λ sources.
-        map (option_map (λ source. ⟦<SureSource as Source>⟧.left source)) sources.items
-        ≡ map (λ text. Some (Some text)) (made_captures seed count cpus)) }
-    ensures faults { IfOk result (λ sources.
-        map (option_map (λ source. ⟦<SureSource as Source>⟧.faults source)) sources.items
-        ≡ map (λ text. Some 0) (made_captures seed count cpus)) }
 {
     let frames = make(alloc, seed, count)?;
     let lists = deal(alloc, frames, cpus)?;

@@ -7,7 +7,8 @@ ghost use Rattle.made_captures.specs.Made.{AreShort, packet_of, packets_for};
 use frame_view::{Frame, Frames, Memory, Packet, Packets};
 use std::alloc::Global;
 
-/// Gives frame i to CPU i modulo the CPUs, for each CPU from 0 up a list of packets in the order of the frames.
+/// Gives frame i to CPU i modulo the CPUs, for each CPU from 0 up a list of packets in the order of
+/// the frames.
 pub(crate) fn deal(alloc: Global, frames: Frames, cpus: u32) -> Result<Vec<Packets>, Memory>
     requires count { length frames ≤ 20000 }
     requires cpus { 0 < cpus }

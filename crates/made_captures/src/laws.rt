@@ -1,12 +1,12 @@
 //! Laws of a made input, for callers: each function does nothing, and its contract is the law.
 ghost use Rattle.std.specs.Prelude.{◌≡◌, ℕ, ◌≤◌, All, None};
 ghost use Rattle.capture_file.specs.Capture.{frames_of, end_of};
-ghost use Rattle.capture_file.specs.Laws.{frames_back};
 ghost use Rattle.frame_maker.specs.Made.{made};
-ghost use Rattle.made_captures.specs.Made.{capture_for, made_captures, made_lines, packets_for};
-ghost use Rattle.replay_model.specs.Reports.{IsSchedule};
+ghost use Rattle.made_captures.specs.Made.{as_captured, capture_for, given_to, made_captures, made_lines};
+ghost use Rattle.schedule_lines.specs.Ascending.{IsSchedule};
 
-/// Each made capture is whole, and gives back the frames that its CPU was given, in order.
+/// Each made capture is whole, and gives back the frames of the seed that its CPU was given, in
+/// order, with the CPU's number and with their places.
 pub fn a_made_capture_is_whole()
     ensures all { (seed count cpus : ℕ) → count ≤ 20000
         → All (λ text. end_of text ≡ None) (made_captures seed count cpus) }
@@ -14,7 +14,7 @@ pub fn a_made_capture_is_whole()
         → end_of (capture_for seed count cpus cpu) ≡ None }
     ensures frames { (seed count cpus cpu number : ℕ) → count ≤ 20000
         → frames_of number (capture_for seed count cpus cpu)
-        ≡ frames_back number 0 (packets_for cpus (made seed count) cpu) }
+        ≡ as_captured number 0 (given_to cpus cpu (made seed count)) }
 {}
 
 /// A made schedule has no ticks, so it can be replayed.

@@ -3,11 +3,12 @@ ghost use Rattle.std.specs.Prelude.{◌≡◌, ◌<◌, ◌++◌, IfOk, OnOk};
 ghost use Rattle.made_captures.specs.Made.{made_lines, feed_lines, read_lines};
 
 use frame_view::Memory;
-use replay_model::{Line, Schedule};
+use schedule_lines::{Line, Schedule};
 use std::alloc::Global;
 
-/// The schedule of so many made frames: CPU i modulo the CPUs is fed for each i, and after every 64th feed each member
-/// from 0 up is read twice. The only error is want of memory. The schedule is this project's own choice.
+/// The schedule of `count` made frames: CPU i modulo the CPUs is fed for each i, and after every
+/// 64th feed each member from 0 up is read twice. The only error is that an allocation fails. The
+/// schedule is this project's own choice.
 #[tactic(auto, using(crate::proofs::Scheduled::steps), unfolding(crate::specs::Made::made_lines))]
 pub fn made_schedule(alloc: Global, count: u32, cpus: u32, members: u32) -> Result<Schedule, Memory>
     requires { 0 < cpus }

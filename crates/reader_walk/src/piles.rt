@@ -34,7 +34,8 @@ impl Pile {
         text: &[u8],
     ) -> Result<(), Memory>
         ensures marks { OnOk result (self.new.marks.items ≡ self.old.marks.items ++ mark ∷ []) }
-        ensures walked { OnOk result (self.new.walked.items ≡ self.old.walked.items ++ packets.items) }
+        ensures walked { OnOk result
+            (self.new.walked.items ≡ self.old.walked.items ++ packets.items) }
         ensures dump { OnOk result (self.new.dump.items ≡ self.old.dump.items ++ text.now) }
         ensures same_marks { OnErr result (self.new.marks.items ≡ self.old.marks.items) }
         ensures same_walked { OnErr result (self.new.walked.items ≡ self.old.walked.items) }
@@ -50,7 +51,8 @@ impl Pile {
 
     /// Adds the packets of a block and what is kept of its text. After `Memory` all is as before.
     fn fill(&mut self, packets: Vec<Packet>, text: &[u8]) -> Result<(), Memory>
-        ensures walked { OnOk result (self.new.walked.items ≡ self.old.walked.items ++ packets.items) }
+        ensures walked { OnOk result
+            (self.new.walked.items ≡ self.old.walked.items ++ packets.items) }
         ensures dump { OnOk result (self.new.dump.items ≡ self.old.dump.items ++ text.now) }
         ensures same_walked { OnErr result (self.new.walked.items ≡ self.old.walked.items) }
         ensures same_dump { OnErr result (self.new.dump.items ≡ self.old.dump.items) }

@@ -52,7 +52,7 @@ impl Model for Reader {
 }
 
 impl Reader {
-    ghost use Rattle.reader_walk.specs.Readers.{ComesFrom, Keeps, Reads, has_read, new_reader, outputs_of};
+    ghost use Rattle.reader_walk.specs.Readers.{ComesFrom, GivesBack, Keeps, Reads, has_read, new_reader, outputs_of};
 
     /// A reader that has read nothing, and that keeps the texts of its blocks where it is asked to. It takes no memory.
     #[tactic(auto, unfolding(crate::specs::ReadersInside::taken_by, crate::specs::Readers::texts_of))]
@@ -83,6 +83,10 @@ impl Reader {
         ensures read { IfOk result (λ stepped. IsTrue stepped
             → Reads (W.took end.old end.new) self.old self.new) }
 
+        // That block was given back.
+        ensures gave_back { IfOk result (λ stepped. IsTrue stepped
+            → GivesBack W.took W.gave_back self.old.held end.old end.new) }
+
         // No block was there: a look found none, and nothing changes but the count of such looks.
         ensures none { IfOk result (λ stepped. stepped ≡ false → self.old.held ≡ None) }
         ensures same { IfOk result (λ stepped. stepped ≡ false → self.new ≡ self.old) }
@@ -94,6 +98,10 @@ impl Reader {
 
         // After want of memory the block is in the reader.
         ensures kept { OnErr result (Keeps (W.took end.old end.new) self.old self.new) }
+
+        // Where it held that block before, the end is as before.
+        ensures unmoved { OnErr result ((content : List ℕ) → self.old.held ≡ Some content
+            → end.new ≡ end.old) }
 
         // A block that was taken in an earlier call is still the one that was taken then.
         ensures goes_on { (earlier : W) (content : List ℕ) → self.old.held ≡ Some content
@@ -122,7 +130,8 @@ impl Reader {
     pub fn walk_block(&mut self, block: &Block) -> Result<(), Memory>
         requires readable { IsReadable self.old.shape block.now }
         requires few { length self.old.taken < 2 ^ 55 }
-        ensures read { OnOk result (self.new ≡ record (has_read block.now.bytes self.old) { held = self.old.held }) }
+        ensures read { OnOk result (self.new
+            ≡ record (has_read block.now.bytes self.old) { held = self.old.held }) }
         ensures err { OnErr result (self.new ≡ self.old) }
     {
         self.read(block)
@@ -146,15 +155,18 @@ impl Reader {
     fn next_block<W: WalkerEnd<Block>>(&mut self, end: &mut W) -> Option<Block>
         requires kind { (W.walk end.old).ring.kind ≡ numbers_of self.old.shape }
         requires hand { (W.walk end.old).in_hand ≡ is_some self.old.held }
-        ensures comes { IfSome result (λ block. ComesFrom self.old.held (W.took end.old end.new) block.bytes) }
+        ensures comes { IfSome result (λ block.
+            ComesFrom self.old.held (W.took end.old end.new) block.bytes) }
         ensures readable { IfSome result (IsReadable self.old.shape) }
-        ensures kind { IfSome result (λ block. numbers_of block.shape ≡ (W.walk end.new).ring.kind) }
+        ensures kind { IfSome result (λ block.
+            numbers_of block.shape ≡ (W.walk end.new).ring.kind) }
         ensures hand { (W.walk end.new).in_hand ≡ is_some result }
         ensures emptied { self.new ≡ record self.old { held = None } }
         ensures none { IfNone result (self.old.held ≡ None) }
         ensures stays { IfNone result (W.stays end.old end.new) }
         ensures looked { IfNone result (Rose (W.walk end.old).empties (W.walk end.new).empties) }
-        ensures waiting { IfNone result ((blocks : ℕ) → (W.walk end.old).waiting ≡ Some blocks → blocks ≡ 0) }
+        ensures waiting { IfNone result
+            ((blocks : ℕ) → (W.walk end.old).waiting ≡ Some blocks → blocks ≡ 0) }
         ensures goes_on { (content : List ℕ) → self.old.held ≡ Some content → end.new ≡ end.old }
         ensures ring { (W.walk end.new).ring ≡ (W.walk end.old).ring }
     {
@@ -167,7 +179,8 @@ impl Reader {
     /// Reads a block that can be read.
     fn read(&mut self, block: &Block) -> Result<(), Memory>
         requires readable { IsReadable self.old.shape block.now }
-        ensures read { OnOk result (self.new ≡ record (has_read block.now.bytes self.old) { held = self.old.held }) }
+        ensures read { OnOk result (self.new
+            ≡ record (has_read block.now.bytes self.old) { held = self.old.held }) }
         ensures err { OnErr result (self.new ≡ self.old) }
     {
         let packets = copies(self.alloc, packets_in(block, &self.shape))?;

@@ -17,8 +17,9 @@ use Rattle.fanout_group.specs.Rules.{Rules}
 use Rattle.fanout_group.specs.declared.logs.ArrivalLog.{ArrivalLog}
 use Rattle.fanout_group.proofs.Members.{one_if}
 use Rattle.replay_model.specs.Replay.{Cpu, Replay, closed, cpu_at, feed_from, done_lines, no_cpu, no_ring, replayed, started}
-use Rattle.replay_model.specs.Reports.{AreArrivals, IsReplayReport, IsRingReport, IsSchedule, logged_of, notes_of}
-use Rattle.replay_model.specs.declared.schedule.Line.{Line}
+use Rattle.replay_model.specs.Reports.{AreArrivals, IsReplayReport, IsRingReport, logged_of, notes_of}
+use Rattle.schedule_lines.specs.Ascending.{IsSchedule}
+use Rattle.schedule_lines.specs.declared.lines.Line.{Line}
 use Rattle.replay_model.proofs.Feeding.{all_fed, lines_go}
 use Rattle.replay_model.proofs.Going.{Waiting, Goes, Joins}
 use Rattle.replay_model.proofs.Rings.{IsOpen, closed_run, fresh_open}

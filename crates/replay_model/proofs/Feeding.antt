@@ -11,9 +11,9 @@ use Rattle.fanout_group.specs.Joined.{Rises, tickets_of}
 use Rattle.fanout_group.specs.Rules.{Rules}
 use Rattle.fanout_group.specs.declared.logs.ArrivalLog.{ArrivalLog}
 use Rattle.replay_model.specs.Replay.{Cpu, Replay, cpu_at, done_lines, fed_by, feed, feed_from, feed_times, no_cpu, no_ring}
-use Rattle.replay_model.specs.Reports.{AreAscending}
-use Rattle.replay_model.specs.declared.schedule.Line.{Line}
-use Rattle.replay_model.specs.declared.schedule.Line.TheVariants.{Feed, Read, Tick, Stats}
+use Rattle.schedule_lines.specs.Ascending.{AreAscending}
+use Rattle.schedule_lines.specs.declared.lines.Line.{Line}
+use Rattle.schedule_lines.specs.declared.lines.Line.TheVariants.{Feed, Read, Tick, Stats}
 use Rattle.replay_model.proofs.Arriving.{arrived_goes, arrived_is}
 use Rattle.replay_model.proofs.Going.{Waiting, Goes, Joins, Logs, count_goes, read_goes, tick_goes}
 use Rattle.replay_model.proofs.Places.{set_everywhere}

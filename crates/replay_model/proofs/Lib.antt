@@ -1,5 +1,4 @@
 pub mod Noted
-pub mod Closings
 pub mod Places
 pub mod Rings
 pub mod Adding
@@ -9,10 +8,3 @@ pub mod Drawing
 pub mod Arriving
 pub mod Feeding
 pub mod Ending
-pub mod Captures
-pub mod Turns
-pub mod Soundness
-pub mod Clocks
-pub mod FeedSteps
-pub mod Timed
-pub mod Held

@@ -10,7 +10,9 @@ use Rattle.ring_model.specs.declared.notes.Found.{Found}
 use Rattle.ring_model.specs.declared.notes.Found.TheVariants.{NotAsked, Free, Held}
 use Rattle.ring_model.specs.declared.notes.Note.{Note}
 use Rattle.ring_model.specs.declared.notes.Note.TheVariants.{Ticked, Counted, Finished}
-use Rattle.replay_model.specs.Reports.{IsRingReport}
+use Rattle.ring_model.specs.Unreleased.{IsUnreleased}
+use Rattle.ring_model.proofs.Unreleased.{put_unreleased, tick_unreleased, try_unreleased}
+use Rattle.replay_model.specs.Reports.{AreReleases, IsRingReport}
 use Rattle.replay_model.proofs.Noted.{state-noted}
 
 -- a ring of this size that isn't closed: what may follow its state may follow its notes, and its clock isn't past this moment
@@ -18,16 +20,36 @@ pub record IsOpen (size : Size) (clock : ℕ) (ring : Ring) : Type 0 where
   pub size_is : ring.size ≡ size
   pub run : (more : List Note) → IsRun ring.size (state ring) more → IsRun ring.size (first_state ring.size) (ring.notes ++ more)
   pub clock_is : (state ring).clock ≤ clock
+  pub releases : List ℕ
+  pub unreleased : AreReleases 0 ring.released releases ring.notes
+
+-- one note more, and blocks released more
+releases_more : (low last : ℕ) (counts : List ℕ) (notes : List Note) (note : Note) → AreReleases low last counts notes → IsUnreleased last note
+    → AreReleases low last (counts ++ last ∷ []) (notes ++ note ∷ [])
+releases_more low last [] [] note h new = (h, new, omega arith)
+releases_more low last [] (first ∷ notes) note h new = absurd h
+releases_more low last (count ∷ counts) [] note h new = absurd h
+releases_more low last (count ∷ counts) (first ∷ notes) note h new = (h.0, h.1, releases_more count last counts notes note h.2 new)
+
+releases_later : (low last later : ℕ) (counts : List ℕ) (notes : List Note) → last ≤ later → AreReleases low last counts notes
+    → AreReleases low later counts notes
+releases_later low last later [] [] more h = omega (arith, more, h)
+releases_later low last later [] (note ∷ notes) more h = absurd h
+releases_later low last later (count ∷ counts) [] more h = absurd h
+releases_later low last later (count ∷ counts) (note ∷ notes) more h = (h.0, h.1, releases_later count last later counts notes more h.2)
 
 -- a note more, which isn't the last
 pub noted_open : (size : Size) (clock now : ℕ) (ring : Ring) (note : Note) → IsOpen size clock ring → MayStand ring.size (state ring) note
-    → ((more : List Note) → EndsThere note more) → (after ring.size (state ring) note).clock ≤ now → IsOpen size now (noted ring note)
-noted_open size clock now ring note h may ends early = record {
+    → ((more : List Note) → EndsThere note more) → IsUnreleased ring.released note → (after ring.size (state ring) note).clock ≤ now
+    → IsOpen size now (noted ring note)
+noted_open size clock now ring note h may ends found early = record {
   size_is = h.size_is;
   run = λ more run.
       let next = subst (λ (s : State). IsRun ring.size s more) (state-noted ring note) run in
       rw append_assoc (h.run (note ∷ more) (may, ends more, next));
   clock_is = rw (state-noted ring note) early;
+  releases = h.releases ++ ring.released ∷ [];
+  unreleased = releases_more 0 ring.released h.releases ring.notes note h.unreleased found;
 }
 
 put_stands : (size : Size) (released : ℕ) (s : State) (offer : Offer) → MayStand size s (put_note size released s offer)
@@ -75,24 +97,33 @@ try_ends offer (Held number) more = tt
 pub put_open : (size : Size) (clock : ℕ) (ring : Ring) (offer : Offer) → IsOpen size clock ring → IsOpen size clock (noted ring (note_of_put ring offer))
 put_open size clock ring offer h =
     noted_open size clock clock ring (note_of_put ring offer) h (put_stands ring.size ring.released (state ring) offer) (put_ends offer _)
+    (put_unreleased ring.size ring.released (state ring) offer)
     (rw (put_clock ring.size (state ring) offer) h.clock_is)
 
 pub try_open : (size : Size) (clock : ℕ) (ring : Ring) (offer : Offer) → IsOpen size clock ring → IsOpen size clock (noted ring (note_of_try ring offer))
 try_open size clock ring offer h =
     noted_open size clock clock ring (note_of_try ring offer) h (try_stands ring.size ring.released (state ring) offer) (try_ends offer _)
+    (try_unreleased ring.size ring.released (state ring) offer)
     (rw (try_clock ring.size (state ring) offer) h.clock_is)
 
 pub tick_open : (size : Size) (clock ms : ℕ) (ring : Ring) → clock ≤ ms → IsOpen size clock ring → IsOpen size ms (noted ring (note_of_tick ring ms))
 tick_open size clock ms ring later h =
     noted_open size clock ms ring (note_of_tick ring ms) h (tick_stands ring.size ring.released (state ring) ms (omega arith)) (λ more. tt)
+    (tick_unreleased ring.size ring.released (state ring) ms)
     (tick_clock ring.size (state ring) ms _)
 
 pub count_open : (size : Size) (clock : ℕ) (ring : Ring) → IsOpen size clock ring → IsOpen size clock (noted ring Counted)
-count_open size clock ring h = noted_open size clock clock ring Counted h tt (λ more. tt) h.clock_is
+count_open size clock ring h = noted_open size clock clock ring Counted h tt (λ more. tt) tt h.clock_is
 
 released_open : (size : Size) (clock : ℕ) (ring : Ring) (later : Bool) → IsOpen size clock ring
     → IsOpen size clock (cond later (record ring { released = ring.released + 1 }) ring)
-released_open size clock ring true h = record { size_is = h.size_is; run = h.run; clock_is = h.clock_is }
+released_open size clock ring true h = record {
+  size_is = h.size_is;
+  run = h.run;
+  clock_is = h.clock_is;
+  releases = h.releases;
+  unreleased = releases_later 0 ring.released (ring.released + 1) h.releases ring.notes (omega arith) h.unreleased;
+}
 released_open size clock ring false h = h
 
 pub read_open : (size : Size) (clock : ℕ) (ring : Ring) → IsOpen size clock ring → IsOpen size clock (read_once ring)
@@ -113,7 +144,9 @@ closed_run size clock ring h = record {
     run = subst (λ (s : Size). IsRun s (first_state s) (ring.notes ++ Finished ∷ [])) h.size_is (h.run (Finished ∷ []) (tt, refl, tt));
     closed = (ring.notes, refl);
   };
+  releases = h.releases ++ ring.released ∷ [];
+  unreleased = releases_more 0 ring.released h.releases ring.notes Finished h.unreleased tt;
 }
 
 pub fresh_open : (size : Size) → IsOpen size 0 (fresh size)
-fresh_open size = record { size_is = refl; run = λ more run. run; clock_is = omega arith }
+fresh_open size = record { size_is = refl; run = λ more run. run; clock_is = omega arith; releases = []; unreleased = omega arith }

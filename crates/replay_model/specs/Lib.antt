@@ -1,9 +1,3 @@
-pub mod Consistent
 pub mod Replay
 pub mod Reports
-pub mod Plain
-pub mod Feeds
-pub mod Rounds
-pub mod Sound
-pub mod Reported
 pub mod Taking

@@ -1,5 +1,6 @@
--- The replay report: what a schedule makes of the frames of several CPUs and the rings of a group, where every
--- look at a status word has the answer that the released blocks give. CPUs and members count from 0.
+-- The replay report: what a schedule makes of the frames of several CPUs and the rings of a group,
+-- where every look at a status word has the answer that the released blocks give. CPUs and members
+-- count from 0.
 use Rattle.std.specs.Prelude.{ℕ, zero, suc, ◌+◌, ◌%◌, Bool, true, false, List, [], ◌∷◌, ◌++◌, length, map, replicate, slice_index_or, slice_set, ◌==◌, if◌then◌else◌, Option, None, Some}
 use Rattle.frame_view.specs.declared.frames.Frame.{Frame}
 use Rattle.ring_model.specs.Offers.{offer_of}
@@ -16,8 +17,8 @@ use Rattle.fanout_group.specs.declared.logs.Fate.TheVariants.{Kept, Refused, Dro
 use Rattle.fanout_group.specs.declared.logs.Try.{Try}
 use Rattle.fanout_group.specs.declared.modes.Mode.{Mode}
 use Rattle.fanout_group.specs.declared.modes.Mode.TheVariants.{Lb}
-use Rattle.replay_model.specs.declared.schedule.Line.{Line}
-use Rattle.replay_model.specs.declared.schedule.Line.TheVariants.{Feed, Read, Tick, Stats}
+use Rattle.schedule_lines.specs.declared.lines.Line.{Line}
+use Rattle.schedule_lines.specs.declared.lines.Line.TheVariants.{Feed, Read, Tick, Stats}
 
 -- a CPU: what arrives at each frame that isn't fed yet, its present member and its log
 pub record Cpu : Type 0 where
@@ -42,7 +43,8 @@ cpu_at replay cpu = slice_index_or replay.cpus cpu no_cpu
 
 -- a note more at a member
 abbrev pub noted_at : ℕ → Note → List Ring → List Ring
-noted_at member note members = slice_set members member (noted (slice_index_or members member no_ring) note)
+noted_at member note members =
+    slice_set members member (noted (slice_index_or members member no_ring) note)
 
 -- what a note says of a try
 abbrev pub fate_of : Note → Fate
@@ -58,10 +60,12 @@ pub record Tried : Type 0 where
 
 -- one try, of a packet that comes back where it isn't kept, and then the tries that follow
 abbrev pub and_then : ℕ → Note → List Ring → Tried → Tried
-and_then member (notes.Refused cpu index need number) members rest = record rest { tries = a_try member Refused ∷ rest.tries }
-and_then member note members rest = record { tries = a_try member Kept ∷ []; kept = true; members = members }
+and_then member (notes.Refused cpu index need number) members rest =
+    record rest { tries = a_try member Refused ∷ rest.tries }
+and_then member note members rest =
+    record { tries = a_try member Kept ∷ []; kept = true; members = members }
 
--- tries at so many members, from one on round the group, until one keeps the packet
+-- at most `left` tries, from one member on round the group, until one keeps the packet
 abbrev pub try_round : ℕ → ℕ → ℕ → Offer → List Ring → Tried
 try_round count zero at offer members = record { tries = []; kept = false; members = members }
 try_round count (suc left) at offer members =
@@ -73,7 +77,11 @@ try_round count (suc left) at offer members =
 abbrev pub put_at : ℕ → Offer → List Ring → Tried
 put_at member offer members =
     let note = note_of_put (slice_index_or members member no_ring) offer in
-    record { tries = a_try member (fate_of note) ∷ []; kept = true; members = noted_at member note members }
+    record {
+      tries = a_try member (fate_of note) ∷ [];
+      kept = true;
+      members = noted_at member note members;
+    }
 
 -- after tries that kept nothing the packet is put at home
 abbrev pub or_put_at : ℕ → Offer → Tried → Tried
@@ -84,13 +92,15 @@ or_put_at home offer tried =
 -- the tries of an arrival whose home this is
 abbrev pub routed : Rules → ℕ → Offer → List Ring → Tried
 routed rules home offer members =
-    if rolls_over rules then or_put_at home offer (try_round rules.members rules.members home offer members)
+    if rolls_over rules
+    then or_put_at home offer (try_round rules.members rules.members home offer members)
     else put_at home offer members
 
 -- what a verdict leaves of the tries: 0 ends the arrival
 abbrev pub tries_of : Rules → ℕ → Offer → ℕ → List Ring → Tried
 tries_of rules home offer verdict members =
-    if verdict == 0 then record { tries = []; kept = false; members = members } else routed rules home offer members
+    if verdict == 0 then record { tries = []; kept = false; members = members }
+    else routed rules home offer members
 
 -- an arrival draws a ticket exactly in mode Lb
 abbrev pub ticket_of : Mode → ℕ → Option ℕ
@@ -107,10 +117,21 @@ arrived rules room cpu frame replay =
     let of = cpu_at replay cpu in
     let ticket = ticket_of rules.mode replay.ticket in
     let offer = offer_of room rules.own (rules.hash frame) (rules.verdict frame) frame in
-    let tried = tries_of rules (home_of rules of.present ticket frame) offer (rules.verdict frame) replay.members in
-    let entry : ArrivalLog = record { index = frame.index; ticket = ticket; hash = rules.hash frame; verdict = rules.verdict frame; tries = tried.tries } in
+    let tried =
+    tries_of rules (home_of rules of.present ticket frame) offer
+    (rules.verdict frame) replay.members in
+    let entry : ArrivalLog = record {
+      index = frame.index;
+      ticket = ticket;
+      hash = rules.hash frame;
+      verdict = rules.verdict frame;
+      tries = tried.tries;
+    } in
     record {
-      cpus = slice_set replay.cpus cpu (record of { present = present_after rules.mode of.present tried.tries; log = of.log ++ entry ∷ [] });
+      cpus = slice_set replay.cpus cpu (record of {
+        present = present_after rules.mode of.present tried.tries;
+        log = of.log ++ entry ∷ [];
+      });
       members = tried.members;
       ticket = next_ticket rules.mode replay.ticket;
     }
@@ -119,9 +140,15 @@ arrived rules room cpu frame replay =
 abbrev pub fed_by : Rules → ℕ → ℕ → List (Option Frame) → Replay → Replay
 fed_by rules room cpu [] replay = replay
 fed_by rules room cpu (None ∷ waiting) replay =
-    record replay { cpus = slice_set replay.cpus cpu (record (cpu_at replay cpu) { waiting = waiting }) }
+    record replay {
+      cpus = slice_set replay.cpus cpu
+          (record (cpu_at replay cpu) { waiting = waiting });
+    }
 fed_by rules room cpu (Some frame ∷ waiting) replay =
-    arrived rules room cpu frame (record replay { cpus = slice_set replay.cpus cpu (record (cpu_at replay cpu) { waiting = waiting }) })
+    arrived rules room cpu frame
+    (record replay {
+      cpus = slice_set replay.cpus cpu (record (cpu_at replay cpu) { waiting = waiting });
+    })
 
 -- the next frame of a CPU
 abbrev pub feed : Rules → ℕ → ℕ → Replay → Replay
@@ -131,29 +158,41 @@ feed rules room cpu replay = fed_by rules room cpu (cpu_at replay cpu).waiting r
 abbrev pub done_line : Rules → ℕ → Line → Replay → Replay
 done_line rules room (Feed cpu) replay = feed rules room cpu replay
 done_line rules room (Read member) replay =
-    record replay { members = slice_set replay.members member (read_once (slice_index_or replay.members member no_ring)) }
-done_line rules room (Tick ms) replay = record replay { members = map (λ ring. noted ring (note_of_tick ring ms)) replay.members }
-done_line rules room (Stats member) replay = record replay { members = noted_at member notes.Counted replay.members }
+    record replay {
+      members = slice_set replay.members member
+          (read_once (slice_index_or replay.members member no_ring));
+    }
+done_line rules room (Tick ms) replay =
+    record replay { members = map (λ ring. noted ring (note_of_tick ring ms)) replay.members }
+done_line rules room (Stats member) replay =
+    record replay { members = noted_at member notes.Counted replay.members }
 
 -- the lines in order
 abbrev pub done_lines : Rules → ℕ → List Line → Replay → Replay
 done_lines rules room [] replay = replay
-done_lines rules room (line ∷ lines) replay = done_lines rules room lines (done_line rules room line replay)
+done_lines rules room (line ∷ lines) replay =
+    done_lines rules room lines (done_line rules room line replay)
 
--- so many frames of a CPU
+-- the next frames of a CPU, `times` of them
 abbrev pub feed_times : Rules → ℕ → ℕ → ℕ → Replay → Replay
 feed_times rules room cpu zero replay = replay
-feed_times rules room cpu (suc times) replay = feed_times rules room cpu times (feed rules room cpu replay)
+feed_times rules room cpu (suc times) replay =
+    feed_times rules room cpu times (feed rules room cpu replay)
 
--- all frames of so many CPUs, from one on
+-- all frames of the next CPUs from one on, `left` of them
 abbrev pub feed_from : Rules → ℕ → ℕ → ℕ → Replay → Replay
 feed_from rules room cpu zero replay = replay
 feed_from rules room cpu (suc left) replay =
-    feed_from rules room (cpu + 1) left (feed_times rules room cpu (length (cpu_at replay cpu).waiting) replay)
+    feed_from rules room (cpu + 1) left
+    (feed_times rules room cpu (length (cpu_at replay cpu).waiting) replay)
+
+-- a ring once it is closed
+abbrev pub finished_ring : Ring → Ring
+finished_ring ring = noted ring notes.Finished
 
 -- each ring is closed
 abbrev pub closed : Replay → Replay
-closed replay = record replay { members = map (λ ring. noted ring notes.Finished) replay.members }
+closed replay = record replay { members = map finished_ring replay.members }
 
 -- before the first line
 abbrev pub started : Rules → Size → List (List (Option Frame)) → Replay

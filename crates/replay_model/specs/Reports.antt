@@ -3,23 +3,13 @@ use Rattle.std.specs.Prelude.{◌≡◌, ℕ, ◌≤◌, List, [], ◌∷◌, le
 use Rattle.frame_view.specs.declared.frames.Frame.{Frame}
 use Rattle.ring_model.specs.Ring.{Size, IsWholeRun}
 use Rattle.ring_model.specs.Rings.{Ring}
+use Rattle.ring_model.specs.Unreleased.{IsUnreleased}
 use Rattle.ring_model.specs.declared.notes.Note.{Note}
 use Rattle.fanout_group.specs.Arrivals.{somes}
 use Rattle.fanout_group.specs.Joined.{Logged}
 use Rattle.fanout_group.specs.Once.{AreOf, IsGroupReport}
 use Rattle.fanout_group.specs.Rules.{Rules}
 use Rattle.replay_model.specs.Replay.{Cpu, Replay}
-use Rattle.replay_model.specs.declared.schedule.Line.{Line}
-use Rattle.replay_model.specs.declared.schedule.Line.TheVariants.{Tick}
-
--- ticks that never go back from a moment on, and none past the last moment that a schedule can name
-abbrev pub AreAscending : ℕ → List Line → Type 0
-AreAscending clock [] = Unit {0}
-AreAscending clock (Tick ms ∷ lines) = (clock ≤ ms) × (ms ≤ 4294967295) × AreAscending ms lines
-AreAscending clock (line ∷ lines) = AreAscending clock lines
-
-abbrev pub IsSchedule : List Line → Type 0
-IsSchedule lines = AreAscending 0 lines
 
 -- what arrives at each CPU has its number, and indexes that rise
 abbrev pub AreArrivals : List (List (Option Frame)) → Type 0
@@ -27,20 +17,35 @@ AreArrivals arriving = (cpu : ℕ) → AreOf cpu 0 (somes (slice_index_or arrivi
 
 -- the arrivals and the log of each CPU
 abbrev pub logged_of : List (List (Option Frame)) → List Cpu → List Logged
-logged_of (waiting ∷ arriving) (cpu ∷ cpus) = record { arrivals = somes waiting; log = cpu.log } ∷ logged_of arriving cpus
+logged_of (waiting ∷ arriving) (cpu ∷ cpus) =
+    record { arrivals = somes waiting; log = cpu.log } ∷ logged_of arriving cpus
 logged_of arriving cpus = []
 
 -- the notes of each member
 abbrev pub notes_of : List Ring → List (List Note)
 notes_of members = map (λ ring. ring.notes) members
 
+-- How many blocks were released when each note was made: the counts never fall, from `low` on up to
+-- `last`, and where a note says that a block was still the reader's, that block's number is above
+-- the count.
+abbrev pub AreReleases : ℕ → ℕ → List ℕ → List Note → Type 0
+AreReleases low last [] [] = low ≤ last
+AreReleases low last (count ∷ counts) (note ∷ notes) =
+    (low ≤ count) × IsUnreleased count note × AreReleases count last counts notes
+AreReleases low last counts notes = ⊥
+
 -- a ring of this size whose notes go from its opening to its close
 pub record IsRingReport (size : Size) (ring : Ring) : Type 0 where
   pub size_is : ring.size ≡ size
   pub run : IsWholeRun size ring.notes
+  -- so a drop found its block unreleased
+  pub releases : List ℕ
+  pub unreleased : AreReleases 0 ring.released releases ring.notes
 
-pub record IsReplayReport (rules : Rules) (size : Size) (arriving : List (List (Option Frame))) (replay : Replay) : Type 0 where
+pub record IsReplayReport (rules : Rules) (size : Size) (arriving : List (List (Option Frame)))
+    (replay : Replay) : Type 0 where
   -- no CPU is left out
   pub cpus : length replay.cpus ≡ length arriving
-  pub group : IsGroupReport rules size.room (logged_of arriving replay.cpus) (notes_of replay.members)
+  pub group : IsGroupReport rules size.room (logged_of arriving replay.cpus)
+      (notes_of replay.members)
   pub rings : All (IsRingReport size) replay.members

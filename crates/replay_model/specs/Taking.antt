@@ -4,8 +4,8 @@ use Rattle.ring_model.specs.Offers.{IsSound}
 use Rattle.ring_model.specs.Rings.{Ring, state}
 use Rattle.ring_model.specs.Sizes.{need_of}
 use Rattle.ring_model.specs.declared.notes.Offer.{Offer}
-use Rattle.replay_model.specs.declared.schedule.Line.{Line}
-use Rattle.replay_model.specs.declared.schedule.Line.TheVariants.{Feed, Read, Tick, Stats}
+use Rattle.schedule_lines.specs.declared.lines.Line.{Line}
+use Rattle.schedule_lines.specs.declared.lines.Line.TheVariants.{Feed, Read, Tick, Stats}
 
 -- the offer is sound for the ring's blocks, and goes into an empty one
 pub record Takes (offer : Offer) (ring : Ring) : Type 0 where

@@ -1,28 +1,30 @@
 //! Laws of the replay report, each the contract of a function that does nothing.
-ghost use Rattle.std.specs.Prelude.{false, ℕ, ◌<◌, [], List, map, slice_index_or, Option};
+ghost use Rattle.std.specs.Prelude.{◌<◌, List, Option};
 ghost use Rattle.frame_view.specs.declared.frames.Frame.{Frame};
 ghost use Rattle.ring_model.specs.Ring.{Size};
-ghost use Rattle.fanout_group.specs.Arrivals.{arrivals_at};
-ghost use Rattle.fanout_group.specs.Once.{AreOf, EachStandsOnce};
+ghost use Rattle.fanout_group.specs.Once.{EachStandsOnce};
 ghost use Rattle.fanout_group.specs.Rules.{Rules};
 ghost use Rattle.replay_model.specs.Replay.{replayed};
-ghost use Rattle.replay_model.specs.Reports.{AreArrivals, IsReplayReport, IsSchedule, logged_of, notes_of};
-ghost use Rattle.replay_model.specs.declared.schedule.Line.{Line};
+ghost use Rattle.replay_model.specs.Reports.{AreArrivals, IsReplayReport, logged_of, notes_of};
+ghost use Rattle.schedule_lines.specs.Ascending.{IsSchedule};
+ghost use Rattle.schedule_lines.specs.declared.lines.Line.{Line};
 
 use fanout_group::each_frame_stands_exactly_once;
 
-/// Whatever the schedule, the logs of a replay are lawful, logs and notes are joined, and each member's notes are
-/// a run of its ring from its opening to its close.
+/// Whatever the schedule, the logs of a replay are lawful, logs and notes are joined, and each
+/// member's notes are a run of its ring from its opening to its close.
 pub fn a_replay_reports_a_group()
-    ensures { (rules : Rules) (size : Size) (arriving : List (List (Option Frame))) (lines : List Line)
+    ensures { (rules : Rules) (size : Size) (arriving : List (List (Option Frame)))
+        (lines : List Line)
         → 0 < rules.members → AreArrivals arriving → IsSchedule lines
         → IsReplayReport rules size arriving (replayed rules size arriving lines) }
 {}
 
-/// Among the Kept and Dropped notes of a replay's members each arrival that the filter passes stands once, and
-/// nothing else stands there.
+/// Among the Kept and Dropped notes of a replay's members each arrival that the filter passes
+/// stands once, and nothing else stands there.
 pub fn each_frame_of_a_replay_stands_exactly_once()
-    ensures { (rules : Rules) (size : Size) (arriving : List (List (Option Frame))) (lines : List Line)
+    ensures { (rules : Rules) (size : Size) (arriving : List (List (Option Frame)))
+        (lines : List Line)
         → 0 < rules.members → AreArrivals arriving → IsSchedule lines
         → EachStandsOnce (logged_of arriving (replayed rules size arriving lines).cpus)
         (notes_of (replayed rules size arriving lines).members) }
@@ -30,9 +32,3 @@ pub fn each_frame_of_a_replay_stands_exactly_once()
     each_frame_stands_exactly_once();
     a_replay_reports_a_group();
 }
-
-/// What arrives of captured frames has its CPU's number, and indexes that rise.
-pub fn captures_give_arrivals()
-    ensures { (captures : List (List Frame)) → ((cpu : ℕ) → AreOf cpu 0 (slice_index_or captures cpu []))
-        → AreArrivals (map (arrivals_at false) captures) }
-{}

@@ -1,4 +1,5 @@
--- What a ring notes where its reader has released a known number of blocks, so that each look has one answer.
+-- What a ring notes where its reader has released a known number of blocks, so that each look has
+-- one answer.
 use Rattle.std.specs.Prelude.{ℕ, ◌-◌, Bool, true, false, ◌||◌, List, [], ◌∷◌, nat_lt, if◌then◌else◌, Option, None, Some}
 use Rattle.ring_model.specs.Sizes.{need_of, fits}
 use Rattle.ring_model.specs.Ring.{Size, State, next_number}
@@ -8,11 +9,12 @@ use Rattle.ring_model.specs.declared.notes.Found.TheVariants.{NotAsked, Free, He
 use Rattle.ring_model.specs.declared.notes.Note.{Note}
 use Rattle.ring_model.specs.declared.notes.Note.TheVariants.{Kept, Refused, Dropped, Ticked}
 
--- what the next block's word says: with n blocks, block number s stands where s - n stood, which is the
--- reader's until it has released that many
+-- what the next block's word says: with n blocks, block number s stands where s - n stood, which is
+-- the reader's until it has released that many
 abbrev pub look : Size → ℕ → State → Found
 look size released state =
-    if nat_lt released (next_number state - size.blocks) then Held (next_number state - size.blocks) else Free
+    if nat_lt released (next_number state - size.blocks)
+    then Held (next_number state - size.blocks) else Free
 
 -- whether a packet of this need goes into the open block
 abbrev pub has_room : Size → ℕ → Option (List Offer) → Bool
@@ -21,7 +23,8 @@ has_room size need (Some offers) = fits size.room offers need
 
 -- what is asked for a packet, and what is found
 abbrev pub found_for : Size → ℕ → State → ℕ → Found
-found_for size released state need = if has_room size need state.now then NotAsked else look size released state
+found_for size released state need =
+    if has_room size need state.now then NotAsked else look size released state
 
 -- the note of a packet that is dropped where it finds no block
 abbrev pub put_by : Offer → Found → Note
@@ -34,10 +37,12 @@ try_by offer (Held number) = Refused offer.frame.cpu offer.frame.index (need_of 
 try_by offer found = Kept offer found
 
 abbrev pub put_note : Size → ℕ → State → Offer → Note
-put_note size released state offer = put_by offer (found_for size released state (need_of offer.snap))
+put_note size released state offer =
+    put_by offer (found_for size released state (need_of offer.snap))
 
 abbrev pub try_note : Size → ℕ → State → Offer → Note
-try_note size released state offer = try_by offer (found_for size released state (need_of offer.snap))
+try_note size released state offer =
+    try_by offer (found_for size released state (need_of offer.snap))
 
 -- the open block has no packet
 abbrev pub is_empty_block : Option (List Offer) → Bool
@@ -48,4 +53,5 @@ is_empty_block (Some (offer ∷ offers)) = false
 -- what a tick finds: before the deadline and with an empty block nothing is asked
 abbrev pub tick_note : Size → ℕ → State → ℕ → Note
 tick_note size released state ms =
-    Ticked ms (if nat_lt ms state.deadline || is_empty_block state.now then NotAsked else look size released state)
+    Ticked ms (if nat_lt ms state.deadline || is_empty_block state.now then NotAsked
+    else look size released state)

@@ -21,8 +21,10 @@ drops_of (note ∷ notes) = drops_of notes
 -- the note alone where it is about a frame of this CPU
 abbrev pub frame_note : ℕ → Note → List Note
 frame_note cpu (Kept offer found) = if offer.frame.cpu == cpu then Kept offer found ∷ [] else []
-frame_note cpu (Refused of index need number) = if of == cpu then Refused of index need number ∷ [] else []
-frame_note cpu (Dropped of index need number) = if of == cpu then Dropped of index need number ∷ [] else []
+frame_note cpu (Refused of index need number) =
+    if of == cpu then Refused of index need number ∷ [] else []
+frame_note cpu (Dropped of index need number) =
+    if of == cpu then Dropped of index need number ∷ [] else []
 frame_note cpu (Ticked ms found) = []
 frame_note cpu Counted = []
 frame_note cpu Finished = []
@@ -34,18 +36,21 @@ frame_notes cpu (note ∷ notes) = frame_note cpu note ++ frame_notes cpu notes
 
 -- the statistics of a state: packets are those kept and those dropped
 abbrev pub stats_of : State → Stats
-stats_of state = record { packets = state.kept + state.dropped; drops = state.dropped; freezes = state.freezes }
+stats_of state =
+    record { packets = state.kept + state.dropped; drops = state.dropped; freezes = state.freezes }
 
 -- the statistics that each Counted note took
 abbrev pub counts_from : Size → State → List Note → List Stats
 counts_from size state [] = []
-counts_from size state (Counted ∷ notes) = stats_of state ∷ counts_from size (after size state Counted) notes
+counts_from size state (Counted ∷ notes) =
+    stats_of state ∷ counts_from size (after size state Counted) notes
 counts_from size state (note ∷ notes) = counts_from size (after size state note) notes
 
 -- those, and what stands in the statistics at the end
 abbrev pub stretches_from : Size → State → List Note → List Stats
 stretches_from size state [] = stats_of state ∷ []
-stretches_from size state (Counted ∷ notes) = stats_of state ∷ stretches_from size (after size state Counted) notes
+stretches_from size state (Counted ∷ notes) =
+    stats_of state ∷ stretches_from size (after size state Counted) notes
 stretches_from size state (note ∷ notes) = stretches_from size (after size state note) notes
 
 -- the sums of statistics

@@ -6,3 +6,4 @@ pub mod Asking
 pub mod Rings
 pub mod Told
 pub mod Ledgers
+pub mod Unreleased

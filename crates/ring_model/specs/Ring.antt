@@ -7,7 +7,8 @@ use Rattle.ring_model.specs.declared.notes.Found.TheVariants.{NotAsked, Free, He
 use Rattle.ring_model.specs.declared.notes.Note.{Note}
 use Rattle.ring_model.specs.declared.notes.Note.TheVariants.{Kept, Refused, Dropped, Ticked, Counted, Finished}
 
--- what a ring is made of: the bytes of a block that are for packets, the number of blocks, the time-out
+-- what a ring is made of: the bytes of a block that are for packets, the number of blocks, the
+-- time-out
 pub record Size : Type 0 where
   pub room : ℕ
   pub blocks : ℕ
@@ -34,12 +35,22 @@ pub record State : Type 0 where
 
 -- the state before the first note
 abbrev pub first_state : Size → State
-first_state size = record { done = []; now = Some []; clock = 0; deadline = size.tov; kept = 0; dropped = 0; freezes = 0 }
+first_state size =
+    record {
+      done = [];
+      now = Some [];
+      clock = 0;
+      deadline = size.tov;
+      kept = 0;
+      dropped = 0;
+      freezes = 0;
+    }
 
--- the status of a retired block: TP_STATUS_USER (1), TP_STATUS_BLK_TMO (32) where its time was over,
--- TP_STATUS_LOSING (4) where packets were dropped since the statistics were last taken
+-- the status of a retired block: TP_STATUS_USER (1), TP_STATUS_BLK_TMO (32) where its time was
+-- over, TP_STATUS_LOSING (4) where packets were dropped since the statistics were last taken
 abbrev pub status_of : Bool → State → ℕ
-status_of timed_out state = 1 + (if timed_out then 32 else 0) + (if state.dropped == 0 then 0 else 4)
+status_of timed_out state =
+    1 + (if timed_out then 32 else 0) + (if state.dropped == 0 then 0 else 4)
 
 -- the retired blocks, and the open block of these packets behind them with this status
 abbrev pub retired : List (List Offer × ℕ) → ℕ → Option (List Offer) → List (List Offer × ℕ)
@@ -79,7 +90,8 @@ after_drop state (Some offers) = record state {
 -- what a due tick leaves, by what the next block's word said
 abbrev pub after_due : State → Option (List Offer) → Found → State
 after_due state (Some []) found = state
-after_due state now Free = record state { done = retired state.done (status_of true state) now; now = Some [] }
+after_due state now Free =
+    record state { done = retired state.done (status_of true state) now; now = Some [] }
 after_due state None found = state
 after_due state (Some (offer ∷ offers)) found = record state {
   done = state.done ++ (offer ∷ offers, status_of true state) ∷ [];
@@ -89,7 +101,8 @@ after_due state (Some (offer ∷ offers)) found = record state {
 
 -- the state after a note
 abbrev pub after : Size → State → Note → State
-after size state (Kept offer NotAsked) = record state { now = with_offer offer state.now; kept = state.kept + 1 }
+after size state (Kept offer NotAsked) =
+    record state { now = with_offer offer state.now; kept = state.kept + 1 }
 after size state (Kept offer found) = record state {
   done = retired state.done (status_of false state) state.now;
   now = Some (offer ∷ []);
@@ -102,7 +115,8 @@ after size state (Ticked ms found) =
     if nat_lt ms state.deadline then record state { clock = ms }
     else record (after_due state state.now found) { clock = ms; deadline = ms + size.tov }
 after size state Counted = record state { kept = 0; dropped = 0; freezes = 0 }
-after size state Finished = record state { done = finished state.done (status_of false state) state.now; now = None }
+after size state Finished =
+    record state { done = finished state.done (status_of false state) state.now; now = None }
 
 -- the state after notes
 abbrev pub after_all : Size → State → List Note → State
@@ -137,12 +151,15 @@ abbrev pub MayStand : Size → State → Note → Type 0
 MayStand size state (Kept offer NotAsked) = HasRoom size (need_of offer.snap) state.now
 MayStand size state (Kept offer Free) = HasNoRoom size (need_of offer.snap) state.now
 MayStand size state (Kept offer (Held number)) = ⊥
-MayStand size state (Refused cpu index need number) = HasNoRoom size need state.now × IsHeld size state number
-MayStand size state (Dropped cpu index need number) = HasNoRoom size need state.now × IsHeld size state number
+MayStand size state (Refused cpu index need number) =
+    HasNoRoom size need state.now × IsHeld size state number
+MayStand size state (Dropped cpu index need number) =
+    HasNoRoom size need state.now × IsHeld size state number
 MayStand size state (Ticked ms NotAsked) =
     (state.clock ≤ ms) × ((ms < state.deadline) ⊎ (IsDue state ms × (state.now ≡ Some [])))
 MayStand size state (Ticked ms Free) = IsDue state ms × (state.now ≢ Some [])
-MayStand size state (Ticked ms (Held number)) = IsDue state ms × (state.now ≢ Some []) × IsHeld size state number
+MayStand size state (Ticked ms (Held number)) =
+    IsDue state ms × (state.now ≢ Some []) × IsHeld size state number
 MayStand size state Counted = Unit {0}
 MayStand size state Finished = Unit {0}
 
@@ -154,7 +171,8 @@ EndsThere note notes = Unit {0}
 -- each note may stand after those before it
 abbrev pub IsRun : Size → State → List Note → Type 0
 IsRun size state [] = Unit {0}
-IsRun size state (note ∷ notes) = MayStand size state note × EndsThere note notes × IsRun size (after size state note) notes
+IsRun size state (note ∷ notes) =
+    MayStand size state note × EndsThere note notes × IsRun size (after size state note) notes
 
 -- notes of a ring from its opening to its close
 pub record IsWholeRun (size : Size) (notes : List Note) : Type 0 where

@@ -1,4 +1,5 @@
--- A ring with its reader, as far as reports speak of it: its notes, and how many blocks were released.
+-- A ring with its reader, as far as reports speak of it: its notes, and how many blocks were
+-- released.
 use Rattle.std.specs.Prelude.{ℕ, ◌+◌, List, [], ◌∷◌, ◌++◌, length, nat_lt, if◌then◌else◌}
 use Rattle.ring_model.specs.Ring.{Size, State, state_of}
 use Rattle.ring_model.specs.Asking.{put_note, try_note, tick_note}
@@ -35,4 +36,6 @@ note_of_tick ring ms = tick_note ring.size ring.released (state ring) ms
 
 -- the ring after the reader has read a block, if one is retired and not yet released
 abbrev pub read_once : Ring → Ring
-read_once ring = if nat_lt ring.released (length (state ring).done) then record ring { released = ring.released + 1 } else ring
+read_once ring =
+    if nat_lt ring.released (length (state ring).done)
+    then record ring { released = ring.released + 1 } else ring

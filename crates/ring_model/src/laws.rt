@@ -3,17 +3,20 @@ ghost use Rattle.std.specs.Prelude.{◌≡◌, ◌+◌, ◌<◌, ◌≤◌, ℕ,
 ghost use Rattle.ring_model.specs.Fates.{drops_of, kept_of, totals_of};
 ghost use Rattle.ring_model.specs.Ring.{Size, IsRun, MayStand, first_state, state_of};
 ghost use Rattle.ring_model.specs.Rings.{Ring, note_of_put, note_of_tick, note_of_try, state};
+ghost use Rattle.ring_model.specs.Unreleased.{IsUnreleased, last_moment};
 ghost use Rattle.ring_model.specs.declared.notes.Note.{Note};
 ghost use Rattle.ring_model.specs.declared.notes.Offer.{Offer};
 
 /// What a put notes may stand, whatever the reader has released.
 pub fn puts_stand()
-    ensures { (ring : Ring) (offer : Offer) → MayStand ring.size (state ring) (note_of_put ring offer) }
+    ensures { (ring : Ring) (offer : Offer)
+        → MayStand ring.size (state ring) (note_of_put ring offer) }
 {}
 
 /// What a try notes may stand.
 pub fn tries_stand()
-    ensures { (ring : Ring) (offer : Offer) → MayStand ring.size (state ring) (note_of_try ring offer) }
+    ensures { (ring : Ring) (offer : Offer)
+        → MayStand ring.size (state ring) (note_of_try ring offer) }
 {}
 
 /// What a tick notes may stand, where the clock doesn't go back.
@@ -26,6 +29,24 @@ pub fn ticks_stand()
 pub fn a_ring_with_blocks_left_drops_nothing()
     ensures { (size : Size) (notes : List Note) → IsRun size (first_state size) notes
         → length (state_of size notes).done < size.blocks → drops_of notes ≡ [] }
+{}
+
+/// Where a put, a try or a tick notes that the next block was still the reader's, the reader hadn't
+/// released that block.
+pub fn a_block_noted_as_held_is_unreleased()
+    ensures puts { (ring : Ring) (offer : Offer)
+        → IsUnreleased ring.released (note_of_put ring offer) }
+    ensures tries { (ring : Ring) (offer : Offer)
+        → IsUnreleased ring.released (note_of_try ring offer) }
+    ensures ticks { (ring : Ring) (ms : ℕ)
+        → IsUnreleased ring.released (note_of_tick ring ms) }
+{}
+
+/// The clock that notes leave is the moment of their last tick, in milliseconds, and 0 where they
+/// have none.
+pub fn the_clock_is_that_of_the_last_tick()
+    ensures { (size : Size) (notes : List Note)
+        → (state_of size notes).clock ≡ last_moment 0 notes }
 {}
 
 /// Over a whole run the statistics count each packet that a note keeps or drops, and no other.

@@ -1,4 +1,5 @@
-//! One note for each event of a ring: what was asked of it, what its next status word said, what came of it.
+//! One note for each event of a ring: what was asked of it, what its next status word said, what
+//! came of it.
 use frame_view::{Frame, ItemList};
 
 /// A frame that a ring is asked to keep.
@@ -33,8 +34,8 @@ pub enum Note {
         offer: Offer,
         found: Found,
     },
-    /// A packet found no room and was handed back; nothing changed. `need` is in bytes, `number` is that of the
-    /// block which the reader still has.
+    /// A packet found no room and was handed back; nothing changed. `need` is in bytes, `number` is
+    /// that of the block which the reader still has.
     Refused {
         cpu: u32,
         index: u32,

@@ -2,8 +2,8 @@
 ghost use Rattle.std.specs.Prelude.{◌≡◌, ◌≤◌, ◌↔◌, IsTrue};
 ghost use Rattle.ring_model.specs.Sizes.{need_of};
 
-/// Where the data of a packet stands behind the packet's place: TPACKET3_HDRLEN (68 bytes of `linux/if_packet.h`)
-/// and a gap of 14. The place is this project's own choice.
+/// Where the data of a packet stands behind the packet's place: TPACKET3_HDRLEN (68 bytes of
+/// `linux/if_packet.h`) and a gap of 14. The place is this project's own choice.
 const HEADER: u32 = 82;
 
 /// The bytes that a packet takes in a block: its header and its data, rounded up to 8 together.

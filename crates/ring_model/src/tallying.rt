@@ -1,4 +1,5 @@
-//! What the notes of a ring come to in statistics: each time they were taken, and over the whole run.
+//! What the notes of a ring come to in statistics: each time they were taken, and over the whole
+//! run.
 ghost use Rattle.std.specs.Prelude.{◌≡◌, ◌+◌, ◌<◌, ◌≤◌, ◌^◌, ◌++◌, List, Option, IfOk, OnOk};
 ghost use Rattle.ring_model.specs.Fates.{counts_of, totals_of};
 ghost use Rattle.ring_model.specs.Ledgers.{Counts, open_of, plus, taken_at, with_taken};
@@ -22,9 +23,9 @@ pub struct Tally {
     pub totals: Stats,
 }
 
-/// The statistics of a ring with this time-out in milliseconds, from its notes, in one pass. They are those that the
-/// kernel's `packet_getsockopt` gives at each PACKET_STATISTICS, and their sums. They don't hang on the size of a
-/// block, nor on the number of blocks.
+/// The statistics of a ring with this time-out in milliseconds, from its notes, in one pass. They
+/// are those that the kernel's `packet_getsockopt` gives at each PACKET_STATISTICS, and their sums.
+/// They don't hang on the size of a block, nor on the number of blocks.
 pub fn tally_notes(alloc: Global, tov: u64, notes: &Notes) -> Result<Tally, Memory>
     ensures counts { IfOk result
         (λ tally. AtEachSize tov (λ size. tally.counts ≡ counts_of size notes.now)) }
@@ -55,7 +56,8 @@ impl Tally {
         requires packets { self.old.totals.packets + stats.packets < 2 ^ 64 }
         requires drops { self.old.totals.drops + stats.drops < 2 ^ 64 }
         requires freezes { self.old.totals.freezes + stats.freezes < 2 ^ 64 }
-        ensures counts { OnOk result (self.new.counts ≡ self.old.counts ++ taken_at note.now stats) }
+        ensures counts { OnOk result (self.new.counts
+            ≡ self.old.counts ++ taken_at note.now stats) }
         ensures totals { OnOk result (self.new.totals ≡ with_taken note.now stats self.old.totals) }
     {
         if matches!(note, Note::Counted) {
@@ -108,7 +110,8 @@ struct Ledger {
     open: Open,
     /// The moment that the last tick told, in milliseconds.
     clock: u64,
-    /// The moment from which a tick finds the open block's time over. It may be later than any tick.
+    /// The moment from which a tick finds the open block's time over. It may be later than any
+    /// tick.
     deadline: u128,
     /// Packets kept since the statistics were last taken.
     kept: u64,
@@ -175,7 +178,8 @@ impl Ledger {
         }
     }
 
-    /// What a packet leaves that was kept: it went into the open block where none was asked for, else into the next.
+    /// What a packet leaves that was kept: it went into the open block where none was asked for,
+    /// else into the next.
     fn kept(self, found: Found, tov: u64) -> Ledger
         requires { self.kept < 2 ^ 63 }
         ensures { AtEachSize tov (λ size. (state : State) (offer : Offer) → Counts self state
@@ -232,11 +236,12 @@ impl Ledger {
         }
     }
 
-    /// What a block's time-out leaves: an open block with packets is retired, and the ring freezes where the next block
-    /// isn't free.
+    /// What a block's time-out leaves: an open block with packets is retired, and the ring freezes
+    /// where the next block isn't free.
     fn timed_out(self, found: Found) -> Ledger
         requires { self.freezes < 2 ^ 63 }
-        ensures { (state : State) → Counts self state → Counts result (after_due state state.now found) }
+        ensures { (state : State) → Counts self state
+            → Counts result (after_due state state.now found) }
     {
         match (self.open, found) {
             (Open::Empty, _) => self,

@@ -5,7 +5,7 @@ ghost use Rattle.ring_model.specs.Sizes.{need_of};
 ghost use Rattle.tp_layout.specs.Requests.{first_of};
 ghost use Rattle.tp_layout.specs.Writing.{IsWritable, zero_block};
 
-use frame_view::{ByteList, Frame, Memory};
+use frame_view::{ByteList, Frame, Memory, Packet};
 use reader_walk::{Outputs, Reader, Taker};
 use ring_model::{Offer, need};
 use std::alloc::Global;
@@ -25,10 +25,13 @@ const PAGES: RingRequest = RingRequest {
     features: 0,
 };
 
-/// The offer of a frame of 60 zeros.
-fn zeros_offered(alloc: Global) -> Result<Offer, Memory>
+/// A broadcast frame of 14 bytes.
+const FRAME: [u8; 14] = [0xff, 0xff, 0xff, 0xff, 0xff, 0xff, 2, 0, 0, 0, 0, 1, 8, 6];
+
+/// The offer of that frame, at 1 second and 2,000 nanoseconds.
+fn frame_offered(alloc: Global) -> Result<Offer, Memory>
     ensures sound { IfOk result IsWritable }
-    ensures snap { IfOk result (λ offer. offer.snap ≡ 60) }
+    ensures snap { IfOk result (λ offer. offer.snap ≡ 14) }
 {
     Ok(Offer {
         frame: Frame {
@@ -36,13 +39,13 @@ fn zeros_offered(alloc: Global) -> Result<Offer, Memory>
             index: 0,
             sec: 1,
             nsec: 2_000,
-            wire: 60,
-            bytes: ByteList::from_vec(vec![in alloc; 0; 60]?),
+            wire: 14,
+            bytes: ByteList::from_vec(FRAME.to_vec(alloc)?),
             tag: None,
         },
-        snap: 60,
+        snap: 14,
         hash: 0,
-        pkttype: 0,
+        pkttype: 1,
     })
 }
 
@@ -107,10 +110,12 @@ fn sizes(outputs: &Outputs) -> (u64, usize, usize) {
     (outputs.blocks, outputs.walked.len(), outputs.dump.len())
 }
 
-/// The time of the second packet, its length on the wire and in the block.
-fn second_packet(outputs: &Outputs) -> Option<(u32, u32, u32, usize)> {
-    let packet = outputs.walked.get(1)?;
-    Some((packet.sec, packet.nsec, packet.wire, packet.bytes.len()))
+/// Whether a packet is that frame, with its time, its length on the wire, its hash, and its sender's address.
+fn is_that_packet(packet: &Packet) -> bool {
+    (packet.sec, packet.nsec, packet.wire, packet.rxhash) == (1, 2_000, 14, 0)
+        && (packet.protocol, packet.pkttype, packet.tag) == (0x0806, 1, None)
+        && packet.addr == [2, 0, 0, 0, 0, 1]
+        && packet.bytes.as_slice() == FRAME.as_slice()
 }
 
 #[test]
@@ -120,14 +125,21 @@ fn two_blocks_of_a_packet_each(rt: HostRuntime) -> Result<(), Fail> {
     if shape.room() < 144 {
         return Err("a block has room for a frame".into());
     }
-    let offer = zeros_offered(alloc)?;
+    let offer = frame_offered(alloc)?;
     let first = block_with(alloc, &shape, &offer)?;
     let second = block_with(alloc, &shape, &offer)?;
-    // whether the texts are kept, and their size: a descriptor of 48 bytes and a packet of 144 in each
-    for (dump, size) in [(true, 384), (false, 0)] {
+    // whether the texts are kept, and their size: a descriptor of 48 bytes and a packet of 96 in each
+    for (dump, size) in [(true, 288), (false, 0)] {
         let outputs = read_two(alloc, &shape, dump, &first, &second)?;
         assert_eq!(rt; sizes(&outputs), (2, 2, size), "{dump}");
-        assert_eq!(rt; second_packet(&outputs), Some((1, 2_000, 60, 60)), "{dump}");
+        assert!(rt;
+            outputs.walked.get(0).is_some_and(is_that_packet),
+            "packet 0, {dump}"
+        );
+        assert!(rt;
+            outputs.walked.get(1).is_some_and(is_that_packet),
+            "packet 1, {dump}"
+        );
     }
     Ok(())
 }

@@ -11,4 +11,3 @@ mod Hands
 mod FeederSteps
 mod WalkerSteps
 mod PendingSteps
-mod Relays

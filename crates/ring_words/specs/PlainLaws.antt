@@ -37,8 +37,9 @@ took_leaves before after content t = record {
   };
 }
 
-pub gave_back_leaves : (before after : PlainState) → GaveBack before after → LeavesFeeder (feed_of before) (feed_of after)
-gave_back_leaves before after t = record {
+pub gave_back_leaves : (before after : PlainState) (mark : ℕ) → GaveBack before after mark
+    → LeavesFeeder (feed_of before) (feed_of after)
+gave_back_leaves before after mark t = record {
   ring = ap ring_of t.rest;
   given = ap (λ (s : PlainState). s.given) t.rest;
   retired = ap (λ (s : PlainState). s.retired) t.rest;

@@ -1,5 +1,5 @@
 -- A ring on one thread, in plain data.
-use Rattle.std.specs.Prelude.{◌≡◌, ℕ, ◌+◌, ◌^◌, ◌<◌, ◌≤◌, Bool, List, [], ◌∷◌, map, length, nat_lt, if◌then◌else◌, Some}
+use Rattle.std.specs.Prelude.{◌≡◌, ℕ, ◌+◌, ◌^◌, ◌<◌, ◌≤◌, Bool, List, [], ◌∷◌, ◌++◌, map, length, nat_lt, if◌then◌else◌, Some}
 use Rattle.std.specs.List.{AllByRecursion}
 use Rattle.atomic_table.specs.Seated.{TableId}
 use Rattle.ring_words.specs.Rings.{Entry, Feed, IsMark, IsStatus, Ring, Walk}
@@ -103,9 +103,15 @@ pub record Took (before after : PlainState) (content : List ℕ) : Type 0 where
     marks = after.marks;
   }
 
--- the block in hand was released
-pub record GaveBack (before after : PlainState) : Type 0 where
+-- the feeder was given the first free block, and this is the word that stood at its place
+pub record FoundMark (before after : PlainState) (mark : ℕ) : Type 0 where
+  pub first : before.marks ≡ mark ∷ after.marks
+  pub rest : after ≡ record before { given = before.given + 1; marks = after.marks }
+
+-- the block in hand was released, and this word stands at its place
+pub record GaveBack (before after : PlainState) (mark : ℕ) : Type 0 where
   pub released : after.released ≡ before.released + 1
+  pub stored : after.marks ≡ before.marks ++ mark ∷ []
   pub rest : after ≡ record before { released = after.released; marks = after.marks }
 
 -- all is the same but the count of looks that found no block to take

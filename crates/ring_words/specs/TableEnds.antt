@@ -97,10 +97,10 @@ pub record Took (before after : Walking) (content : List ℕ) : Type 0 where
   pub status : ℕ
   pub one_more : after.taken ≡ before.taken ++ (content, status) ∷ []
 
--- the block in hand was given back
-pub record GaveBack (before after : Walking) : Type 0 where
+-- the block in hand was given back, and this word was stored at its place
+pub record GaveBack (before after : Walking) (mark : ℕ) : Type 0 where
   pub held : before.in_hand ≡ true
-  pub rest : after ≡ record before { in_hand = false; marks = after.marks }
+  pub rest : after ≡ record before { in_hand = false; marks = before.marks ++ mark ∷ [] }
 
 -- all is the same but the looks
 abbrev pub Stays : Walking → Walking → Type 0

@@ -28,6 +28,9 @@ pub trait FeederEnd<B: Content> {
     // What the end tells of its ring, of the blocks that it was given and retired, and of what it stands for.
     ghost feed: { Self → Feed };
 
+    // A look between the two states, the earlier one first, found this mark as the word of the next place.
+    ghost found_mark: { Self → Self → ℕ → Type 0 };
+
     /// Looks once at the status word of the next place, and takes the block there if it is free. The next place is
     /// that of the number one above the last block's. Where it isn't free nothing changes, but the look is counted.
     fn next(&mut self) -> Next<B>
@@ -36,6 +39,7 @@ pub trait FeederEnd<B: Content> {
 
         ensures block { IfFree result (λ block mark. B.kind block ≡ (feed self.old).ring.kind) }
         ensures mark { IfFree result (λ block mark. IsMark mark) }
+        ensures found { IfFree result (λ block mark. found_mark self.old self.new mark) }
         ensures free { OnFree result
             (feed self.new ≡ record (feed self.old) { given = (feed self.old).given + 1 }) }
 
@@ -44,6 +48,7 @@ pub trait FeederEnd<B: Content> {
         ensures held { OnHeld result
             (feed self.new ≡ record (feed self.old) { holds = (feed self.new).holds }) }
         ensures looked { OnHeld result (Rose (feed self.old).holds (feed self.new).holds) }
+        ensures once { OnHeld result ((feed self.new).holds ≤ (feed self.old).holds + 1) }
         ensures later { (feed self.old).holds ≤ (feed self.new).holds }
 
         // Where the end tells how many blocks were released, each answer is exact.
@@ -77,8 +82,8 @@ pub trait WalkerEnd<B: Content> {
     // A block of this content was taken between the two states, the earlier one first.
     ghost took: { Self → Self → List ℕ → Type 0 };
 
-    // The block in hand was given back between the two states, the earlier one first.
-    ghost gave_back: { Self → Self → Type 0 };
+    // The block in hand was given back between the two states, the earlier one first, with this word.
+    ghost gave_back: { Self → Self → ℕ → Type 0 };
 
     // All is the same in the two states, but for the count of looks that found nothing.
     ghost stays: { Self → Self → Type 0 };
@@ -103,6 +108,7 @@ pub trait WalkerEnd<B: Content> {
         ensures none { IfNone result
             (walk self.new ≡ record (walk self.old) { empties = (walk self.new).empties }) }
         ensures looked { IfNone result (Rose (walk self.old).empties (walk self.new).empties) }
+        ensures once { IfNone result ((walk self.new).empties ≤ (walk self.old).empties + 1) }
         ensures later { (walk self.old).empties ≤ (walk self.new).empties }
 
         // Where the end tells how many blocks wait, each answer is exact.
@@ -118,7 +124,7 @@ pub trait WalkerEnd<B: Content> {
         requires kind { B.kind block ≡ (walk self.old).ring.kind }
 
         ensures released { walk self.new ≡ record (walk self.old) { in_hand = false } }
-        ensures gave_back { gave_back self.old self.new }
+        ensures gave_back { gave_back self.old self.new mark }
         ensures took { (before : Self) (content : List ℕ) →
             took before self.old content → took before self.new content };
 }
@@ -128,8 +134,8 @@ pub trait BothEnds<B: Content>: FeederEnd<B> + WalkerEnd<B> {
     ghost took_leaves: { (before after : Self) (content : List ℕ) →
         Self.took before after content → LeavesFeeder (Self.feed before) (Self.feed after) };
 
-    ghost gave_back_leaves: { (before after : Self) →
-        Self.gave_back before after → LeavesFeeder (Self.feed before) (Self.feed after) };
+    ghost gave_back_leaves: { (before after : Self) (mark : ℕ) →
+        Self.gave_back before after mark → LeavesFeeder (Self.feed before) (Self.feed after) };
 
     ghost stays_leaves: { (before after : Self) →
         Self.stays before after → LeavesFeeder (Self.feed before) (Self.feed after) };

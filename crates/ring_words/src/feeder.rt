@@ -50,6 +50,8 @@ impl<B: Content + Drop> FeederEnd<B> for TableFeeder<B> {
 
     ghost feed = { feed_of };
 
+    ghost found_mark = { FoundMark };
+
     #[tactic(auto, using(crate::proofs::Hands::odd_count_push))]
     fn next(&mut self) -> Next<B>
         requires hand { self.old.given ≤ length self.old.retired + 1 }

@@ -10,6 +10,7 @@ use crate::{Content, TableFeeder, TableWalker};
 use atomic_table::Shared;
 use frame_view::Memory;
 use std::alloc::Global;
+use std::fmt;
 use std::marker::Model;
 use std::snapshot::Snapshot;
 
@@ -55,6 +56,15 @@ impl<B: Content + Drop> Pending<B> {
             Some((block, status)) => Some((block, *status)),
             None => None,
         }
+    }
+}
+
+impl<B: Content + Drop> fmt::Debug for Pending<B> {
+    /// Writes how many blocks are pending. Their bytes aren't shown.
+    fn fmt<W: fmt::Write>(&self, f: &mut fmt::Formatter<W>) -> fmt::Result {
+        f.debug_struct("Pending")
+            .field("blocks", &self.len())
+            .finish_non_exhaustive()
     }
 }
 

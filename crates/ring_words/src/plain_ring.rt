@@ -95,9 +95,11 @@ impl<B: Content + Drop> Model for PlainRing<B> {
 }
 
 impl<B: Content + Drop> FeederEnd<B> for PlainRing<B> {
-    ghost use Rattle.ring_words.specs.PlainRings.{feed_of};
+    ghost use Rattle.ring_words.specs.PlainRings.{FoundMark, feed_of};
 
     ghost feed = { feed_of };
+
+    ghost found_mark = { FoundMark };
 
     fn next(&mut self) -> Next<B> {
         match self.vacant.pop_front() {
@@ -167,10 +169,12 @@ impl<B: Content + Drop> PlainRing<B> {
     pub fn new(alloc: Global, blocks: Vec<B>) -> Result<PlainRing<B>, Memory>
         requires some { 2 ≤ length blocks.items }
         requires few { length blocks.items ≤ 1048576 }
-        requires kind { (kind : List ℕ) × AllByRecursion (λ block. B.kind block ≡ kind) blocks.items }
+        requires kind { (kind : List ℕ) ×
+            AllByRecursion (λ block. B.kind block ≡ kind) blocks.items }
         ensures fresh { IfOk result (λ ring. ring
             ≡ fresh (length blocks.items) ring.kind (replicate (length blocks.items) 0)) }
-        ensures kind { (kind : List ℕ) → AllByRecursion (λ block. B.kind block ≡ kind) blocks.items →
+        ensures kind { (kind : List ℕ) →
+            AllByRecursion (λ block. B.kind block ≡ kind) blocks.items →
             IfOk result (λ ring. ring.kind ≡ kind) }
     {
         let places = blocks.len();

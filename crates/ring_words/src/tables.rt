@@ -93,7 +93,8 @@ fn new_table<B: Content + Drop>(
     ensures words { IfOk result (λ made. made.0.shared.table_id.words ≡ length blocks.items) }
     ensures slots { IfOk result (λ made. made.0.shared.table_id.slots ≡ length blocks.items) }
     ensures seat { IfOk result (λ made. made.1.table_id ≡ made.0.shared.table_id) }
-    ensures known { IfOk result (λ made. made.1.me ≡ (all_known (B.kind made.0.shared.key.value), [])) }
+    ensures known { IfOk result (λ made.
+        made.1.me ≡ (all_known (B.kind made.0.shared.key.value), [])) }
     ensures kind { (kind : List ℕ) → AllByRecursion (λ block. B.kind block ≡ kind) blocks.items →
         IfOk result (λ made. B.kind made.0.shared.key.value ≡ kind) }
 {

@@ -1,7 +1,7 @@
 -- Why a setup that is accepted is sound.
 use Rattle.std.proofs.Common.{◌≡◌, ℕ, ◌<◌, ◌≤◌, Bool, true, false, List, [], ◌∷◌, length, refl, ap, subst, arith, Some, None, Option, Ok, Err}
-use Rattle.std.specs.Prelude.{Result, ◌&&◌, option_map, if◌then◌else◌}
-use Rattle.std.specs.Option.{is_none, option_or}
+use Rattle.std.specs.Prelude.{Result, ◌&&◌, codes, option_map, if◌then◌else◌}
+use Rattle.std.specs.Option.{is_none, option_or, unwrap_or}
 use Rattle.std.proofs.lemmas.List.Elements.{All-nil}
 use Rattle.text_lines.specs.Lines.{lines_of}
 use Rattle.text_lines.specs.Readings.{read_lines}
@@ -10,7 +10,7 @@ use Rattle.tp_layout.specs.Requests.{receive_fault, transmit_fault}
 use Rattle.tp_layout.specs.declared.requests.RingRequest.{RingRequest}
 use Rattle.setup_text.specs.Drafts.{line_after, nothing_said}
 use Rattle.setup_text.specs.Setups.{answer, at_line, count_in, count_of, draft_of, fault_after, group_fault, has_no_cpu, makes_frames, missing, request_fault, request_of, setup_after, setup_from}
-use Rattle.setup_text.specs.Sound.{IsCpu, IsSetup}
+use Rattle.setup_text.specs.Sound.{IsCpu, IsName, IsSetup}
 use Rattle.setup_text.specs.declared.commands.Command.{Command}
 use Rattle.setup_text.specs.declared.commands.Command.TheVariants as command
 use Rattle.setup_text.specs.declared.cpu_setups.CpuSetup.{CpuSetup}
@@ -20,7 +20,7 @@ use Rattle.setup_text.specs.declared.setup_error.Needed.TheVariants as needed
 use Rattle.setup_text.specs.declared.setup_error.SetupKind.{SetupKind}
 use Rattle.setup_text.specs.declared.setups.Setup.{Setup}
 use Rattle.setup_text.proofs.Passing.{ok_same}
-use Rattle.setup_text.proofs.DraftLines.{AreFrames, IsDraft, line_keeps}
+use Rattle.setup_text.proofs.DraftLines.{AreFrames, IsDraft, IsTimeOut, line_keeps}
 
 or_none : {A : Type 0} (a b : Option A) → option_or a b ≡ None → (a ≡ None) × (b ≡ None)
 or_none None b h = (refl, h)
@@ -60,6 +60,14 @@ some_made (Some made) p h = p.0
 few_made : (made : Option MadeFrames) → AreFrames made → count_in made ≤ 20000
 few_made None p = omega arith
 few_made (Some made) p = p.1
+
+time_out_small : (tov : Option ℕ) → IsTimeOut tov → unwrap_or tov 0 ≤ 60000
+time_out_small None p = omega arith
+time_out_small (Some tov) p = p
+
+prefix_small : (out : Option (List ℕ)) → IsName out → length (unwrap_or out (codes "out")) ≤ 255
+prefix_small None p = omega arith
+prefix_small (Some out) p = p
 
 not_missing : (given : Command) (draft : Draft) → missing given draft ≡ None
     → (0 < length draft.cpus) × ((makes_frames given && is_none draft.made) ≡ false)
@@ -101,7 +109,11 @@ after_sound given draft setup p h =
         cpus = p.cpus;
         shape = refl;
         ring = receive_none given (request_of draft) ring;
+        tov = time_out_small draft.tov p.tov;
         group = map_none _ (group_fault draft) behind.1;
+        filter = p.filter;
+        ticks = p.ticks;
+        prefix = prefix_small draft.out p.out;
         count = few_made draft.made p.made;
       };
       ring = ring;
@@ -117,5 +129,5 @@ pub setup_accepted : (text : List ℕ) (given : Command) (draft : Draft) (setup 
 unfolding draft_of
 setup_accepted text given draft setup d h =
     after_sound given draft setup
-    (reads_keep line_after IsDraft line_keeps 1 nothing_said draft (lines_of text) (record { few = omega arith; cpus = All-nil IsCpu; made = tt })
+    (reads_keep line_after IsDraft line_keeps 1 nothing_said draft (lines_of text) (record { few = omega arith; cpus = All-nil IsCpu; made = tt; tov = tt; filter = tt; ticks = tt; out = tt })
     (line_ok (read_lines line_after 1 nothing_said (lines_of text)) draft d)) h

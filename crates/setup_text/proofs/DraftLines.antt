@@ -7,7 +7,7 @@ use Rattle.text_lines.specs.Numbers.{number_of}
 use Rattle.text_lines.specs.Words.{is_plain, words_of}
 use Rattle.setup_text.specs.Drafts.{cpu_after, flag_after, line_after, named_after, pair_after, put_once, queue_in, said, set_once, value_after, values_after, with_file, words_after}
 use Rattle.setup_text.specs.SetupWords.{word_named}
-use Rattle.setup_text.specs.Sound.{IsCpu}
+use Rattle.setup_text.specs.Sound.{IsCpu, IsName}
 use Rattle.setup_text.specs.Values.{any_number, count_to, made_from, made_in, name_in, not_zero, number_to, number_within}
 use Rattle.setup_text.specs.declared.cpu_setups.CpuSetup.{CpuSetup}
 use Rattle.setup_text.specs.declared.drafts.Draft.{Draft}
@@ -23,10 +23,19 @@ abbrev pub AreFrames : Option MadeFrames → Type 0
 AreFrames None = Unit {0}
 AreFrames (Some made) = (1 ≤ made.count) × (made.count ≤ 20000)
 
+-- a time-out, where there is one, is at most a minute
+abbrev pub IsTimeOut : Option ℕ → Type 0
+IsTimeOut None = Unit {0}
+IsTimeOut (Some tov) = tov ≤ 60000
+
 pub record IsDraft (draft : Draft) : Type 0 where
   pub few : length draft.cpus ≤ 8
   pub cpus : All IsCpu draft.cpus
   pub made : AreFrames draft.made
+  pub tov : IsTimeOut draft.tov
+  pub filter : IsName draft.filter
+  pub ticks : IsName draft.ticks
+  pub out : IsName draft.out
 
 said_keeps : {A : Type 0} (given : Result A SetupKind) (draft : A → Draft) (next : Draft) → ((value : A) → IsDraft (draft value))
     → said given draft ≡ Ok next → IsDraft next
@@ -40,6 +49,18 @@ name_small word name h = passed (λ name. length name ≤ 255) (nat_le (length w
 number_small : (most : ℕ) (given : Option ℕ) (number : ℕ) → number_within most given ≡ Ok number → number ≤ most
 number_small most None number h = cc
 number_small most (Some value) number h = passed (λ number. number ≤ most) (nat_le value most) value number BadNumber (λ t. leb-true value most t) h
+
+time_out_small : (word : List ℕ) (tov : ℕ) → number_to 60000 word ≡ Ok tov → tov ≤ 60000
+unfolding number_to
+time_out_small word tov h = number_small 60000 (number_of word) tov h
+
+-- what stands once keeps what holds of its value
+once_keeps : {A : Type 0} (P : A → Type 0) (before : Option A) (given : Result A SetupKind) (draft : Option A → Draft) (next : Draft)
+    → ((value : A) → given ≡ Ok value → P value) → ((value : A) → P value → IsDraft (draft (Some value)))
+    → said (put_once before given) draft ≡ Ok next → IsDraft next
+once_keeps P (Some before) given draft next k m h = cc
+once_keeps P None (Err fault) draft next k m h = cc
+once_keeps P None (Ok value) draft next k m h = subst IsDraft (ok_same (draft (Some value)) next h) (m value (k value refl))
 
 queue_small : (cpu : ℕ) (word : Option (List ℕ)) (queue : ℕ) → cpu < 8 → queue_in cpu word ≡ Ok queue → queue ≤ 65535
 unfolding number_to
@@ -57,6 +78,10 @@ file_keeps draft (Ok file) (Ok queue) next few p n q h =
       few = omega (arith, length-append draft.cpus (cpu ∷ []));
       cpus = All-push IsCpu draft.cpus cpu p.cpus (record { name = n file refl; queue = q queue refl });
       made = p.made;
+      tov = p.tov;
+      filter = p.filter;
+      ticks = p.ticks;
+      out = p.out;
     })
 
 cpu_keeps : (draft : Draft) (file : List ℕ) (queue : Option (List ℕ)) (next : Draft) → IsDraft draft → cpu_after draft file queue ≡ Ok next → IsDraft next
@@ -77,29 +102,37 @@ flag_keeps : (draft : Draft) (value : List ℕ) (next : Draft) → IsDraft draft
 unfolding flag_after
 flag_keeps draft value next p h =
     flag_chosen (bytes_eq value (codes "rollover")) (bytes_eq value (codes "defrag")) _ _ _ next
-    (λ e. said_keeps (set_once draft.rollover) (λ set. record draft { rollover = set }) next (λ set. record { few = p.few; cpus = p.cpus; made = p.made }) e)
-    (λ e. said_keeps (set_once draft.defrag) (λ set. record draft { defrag = set }) next (λ set. record { few = p.few; cpus = p.cpus; made = p.made }) e) h
+    (λ e. said_keeps (set_once draft.rollover) (λ set. record draft { rollover = set }) next (λ set. record { few = p.few; cpus = p.cpus; made = p.made; tov = p.tov; filter = p.filter; ticks = p.ticks; out = p.out }) e)
+    (λ e. said_keeps (set_once draft.defrag) (λ set. record draft { defrag = set }) next (λ set. record { few = p.few; cpus = p.cpus; made = p.made; tov = p.tov; filter = p.filter; ticks = p.ticks; out = p.out }) e) h
 
 value_keeps : (draft : Draft) (word : SetupWord) (value : List ℕ) (next : Draft) → IsDraft draft → value_after draft word value ≡ Ok next → IsDraft next
 unfolding value_after
-value_keeps draft word.BlockSize value next p h = said_keeps _ (λ n. record draft { block_size = n }) next (λ n. record { few = p.few; cpus = p.cpus; made = p.made }) h
-value_keeps draft word.BlockNr value next p h = said_keeps _ (λ n. record draft { block_nr = n }) next (λ n. record { few = p.few; cpus = p.cpus; made = p.made }) h
-value_keeps draft word.FrameSize value next p h = said_keeps _ (λ n. record draft { frame_size = n }) next (λ n. record { few = p.few; cpus = p.cpus; made = p.made }) h
-value_keeps draft word.FrameNr value next p h = said_keeps _ (λ n. record draft { frame_nr = n }) next (λ n. record { few = p.few; cpus = p.cpus; made = p.made }) h
-value_keeps draft word.Tov value next p h = said_keeps _ (λ n. record draft { tov = n }) next (λ n. record { few = p.few; cpus = p.cpus; made = p.made }) h
-value_keeps draft word.Priv value next p h = said_keeps _ (λ n. record draft { sizeof_priv = n }) next (λ n. record { few = p.few; cpus = p.cpus; made = p.made }) h
-value_keeps draft word.Features value next p h = said_keeps _ (λ n. record draft { features = n }) next (λ n. record { few = p.few; cpus = p.cpus; made = p.made }) h
+value_keeps draft word.BlockSize value next p h = said_keeps _ (λ n. record draft { block_size = n }) next (λ n. record { few = p.few; cpus = p.cpus; made = p.made; tov = p.tov; filter = p.filter; ticks = p.ticks; out = p.out }) h
+value_keeps draft word.BlockNr value next p h = said_keeps _ (λ n. record draft { block_nr = n }) next (λ n. record { few = p.few; cpus = p.cpus; made = p.made; tov = p.tov; filter = p.filter; ticks = p.ticks; out = p.out }) h
+value_keeps draft word.FrameSize value next p h = said_keeps _ (λ n. record draft { frame_size = n }) next (λ n. record { few = p.few; cpus = p.cpus; made = p.made; tov = p.tov; filter = p.filter; ticks = p.ticks; out = p.out }) h
+value_keeps draft word.FrameNr value next p h = said_keeps _ (λ n. record draft { frame_nr = n }) next (λ n. record { few = p.few; cpus = p.cpus; made = p.made; tov = p.tov; filter = p.filter; ticks = p.ticks; out = p.out }) h
+value_keeps draft word.Tov value next p h =
+    once_keeps (λ n. n ≤ 60000) draft.tov (number_to 60000 value) (λ n. record draft { tov = n }) next (time_out_small value)
+    (λ n small. record { few = p.few; cpus = p.cpus; made = p.made; tov = small; filter = p.filter; ticks = p.ticks; out = p.out }) h
+value_keeps draft word.Priv value next p h = said_keeps _ (λ n. record draft { sizeof_priv = n }) next (λ n. record { few = p.few; cpus = p.cpus; made = p.made; tov = p.tov; filter = p.filter; ticks = p.ticks; out = p.out }) h
+value_keeps draft word.Features value next p h = said_keeps _ (λ n. record draft { features = n }) next (λ n. record { few = p.few; cpus = p.cpus; made = p.made; tov = p.tov; filter = p.filter; ticks = p.ticks; out = p.out }) h
 value_keeps draft word.Cpu value next p h = cpu_keeps draft value None next p h
-value_keeps draft word.Members value next p h = said_keeps _ (λ n. record draft { members = n }) next (λ n. record { few = p.few; cpus = p.cpus; made = p.made }) h
-value_keeps draft word.Mode value next p h = said_keeps _ (λ n. record draft { mode = n }) next (λ n. record { few = p.few; cpus = p.cpus; made = p.made }) h
+value_keeps draft word.Members value next p h = said_keeps _ (λ n. record draft { members = n }) next (λ n. record { few = p.few; cpus = p.cpus; made = p.made; tov = p.tov; filter = p.filter; ticks = p.ticks; out = p.out }) h
+value_keeps draft word.Mode value next p h = said_keeps _ (λ n. record draft { mode = n }) next (λ n. record { few = p.few; cpus = p.cpus; made = p.made; tov = p.tov; filter = p.filter; ticks = p.ticks; out = p.out }) h
 value_keeps draft word.Flag value next p h = flag_keeps draft value next p h
-value_keeps draft word.Key value next p h = said_keeps _ (λ n. record draft { key = n }) next (λ n. record { few = p.few; cpus = p.cpus; made = p.made }) h
-value_keeps draft word.Mac value next p h = said_keeps _ (λ n. record draft { mac = n }) next (λ n. record { few = p.few; cpus = p.cpus; made = p.made }) h
-value_keeps draft word.Filter value next p h = said_keeps _ (λ n. record draft { filter = n }) next (λ n. record { few = p.few; cpus = p.cpus; made = p.made }) h
-value_keeps draft word.Ticks value next p h = said_keeps _ (λ n. record draft { ticks = n }) next (λ n. record { few = p.few; cpus = p.cpus; made = p.made }) h
-value_keeps draft word.Out value next p h = said_keeps _ (λ n. record draft { out = n }) next (λ n. record { few = p.few; cpus = p.cpus; made = p.made }) h
-value_keeps draft word.Dump value next p h = said_keeps _ (λ set. record draft { dump = set }) next (λ set. record { few = p.few; cpus = p.cpus; made = p.made }) h
-value_keeps draft word.SkipBad value next p h = said_keeps _ (λ set. record draft { skip_bad = set }) next (λ set. record { few = p.few; cpus = p.cpus; made = p.made }) h
+value_keeps draft word.Key value next p h = said_keeps _ (λ n. record draft { key = n }) next (λ n. record { few = p.few; cpus = p.cpus; made = p.made; tov = p.tov; filter = p.filter; ticks = p.ticks; out = p.out }) h
+value_keeps draft word.Mac value next p h = said_keeps _ (λ n. record draft { mac = n }) next (λ n. record { few = p.few; cpus = p.cpus; made = p.made; tov = p.tov; filter = p.filter; ticks = p.ticks; out = p.out }) h
+value_keeps draft word.Filter value next p h =
+    once_keeps (λ n. length n ≤ 255) draft.filter (name_in value) (λ n. record draft { filter = n }) next (name_small value)
+    (λ n small. record { few = p.few; cpus = p.cpus; made = p.made; tov = p.tov; filter = small; ticks = p.ticks; out = p.out }) h
+value_keeps draft word.Ticks value next p h =
+    once_keeps (λ n. length n ≤ 255) draft.ticks (name_in value) (λ n. record draft { ticks = n }) next (name_small value)
+    (λ n small. record { few = p.few; cpus = p.cpus; made = p.made; tov = p.tov; filter = p.filter; ticks = small; out = p.out }) h
+value_keeps draft word.Out value next p h =
+    once_keeps (λ n. length n ≤ 255) draft.out (name_in value) (λ n. record draft { out = n }) next (name_small value)
+    (λ n small. record { few = p.few; cpus = p.cpus; made = p.made; tov = p.tov; filter = p.filter; ticks = p.ticks; out = small }) h
+value_keeps draft word.Dump value next p h = said_keeps _ (λ set. record draft { dump = set }) next (λ set. record { few = p.few; cpus = p.cpus; made = p.made; tov = p.tov; filter = p.filter; ticks = p.ticks; out = p.out }) h
+value_keeps draft word.SkipBad value next p h = said_keeps _ (λ set. record draft { skip_bad = set }) next (λ set. record { few = p.few; cpus = p.cpus; made = p.made; tov = p.tov; filter = p.filter; ticks = p.ticks; out = p.out }) h
 value_keeps draft word.Make value next p h = cc
 
 is_positive : (number : ℕ) → (number == 0) ≡ false → 1 ≤ number
@@ -131,7 +164,7 @@ put_keeps : (draft : Draft) (before : Option MadeFrames) (given : Result MadeFra
 put_keeps draft (Some frames) given next p k h = cc
 put_keeps draft None (Err fault) next p k h = cc
 put_keeps draft None (Ok made) next p k h =
-    subst IsDraft (ok_same (record draft { made = Some made }) next h) (record { few = p.few; cpus = p.cpus; made = k made refl })
+    subst IsDraft (ok_same (record draft { made = Some made }) next h) (record { few = p.few; cpus = p.cpus; made = k made refl; tov = p.tov; filter = p.filter; ticks = p.ticks; out = p.out })
 
 pair_keeps : (draft : Draft) (word : SetupWord) (file queue : List ℕ) (next : Draft) → IsDraft draft → pair_after draft word file queue ≡ Ok next → IsDraft next
 pair_keeps draft word.Cpu file queue next p h = cpu_keeps draft file (Some queue) next p h

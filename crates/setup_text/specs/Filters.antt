@@ -17,7 +17,8 @@ abbrev pub told : {A : Type 0} → ℕ → Result A FilterError → Result A Tex
 told instructions (Ok value) = Ok value
 told instructions (Err fault) = Err (filter_fault instructions fault)
 
--- the program of the instructions that a text has; all faults of the text come before those of the program
+-- the program of the instructions that a text has; all faults of the text come before those of the
+-- program
 abbrev pub filter_after : Result (List Insn) FilterError → Result (List Insn) TextError
 filter_after (Ok code) = told (length code) (program_of code)
 filter_after (Err fault) = Err (filter_fault 0 fault)

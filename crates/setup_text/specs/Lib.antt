@@ -10,3 +10,4 @@ pub mod SetupWords
 pub mod Setups
 pub mod Sound
 pub mod Values
+pub mod FirstFaults

@@ -1,9 +1,9 @@
 -- What holds of every text that is accepted.
-use Rattle.std.specs.Prelude.{◌≡◌, ℕ, ◌<◌, ◌≤◌, List, [], ◌∷◌, length, is_some, All, None}
+use Rattle.std.specs.Prelude.{◌≡◌, ℕ, ◌<◌, ◌≤◌, List, [], ◌∷◌, length, is_some, All, Option, None, Some}
 use Rattle.fanout_group.specs.Plans.{fault_of}
-use Rattle.replay_model.specs.Reports.{AreAscending}
-use Rattle.replay_model.specs.declared.schedule.Line.{Line}
-use Rattle.replay_model.specs.declared.schedule.Line.TheVariants as line
+use Rattle.schedule_lines.specs.Ascending.{AreAscending}
+use Rattle.schedule_lines.specs.declared.lines.Line.{Line}
+use Rattle.schedule_lines.specs.declared.lines.Line.TheVariants as line
 use Rattle.tp_layout.specs.Requests.{receive_fault}
 use Rattle.setup_text.specs.declared.cpu_setups.CpuSetup.{CpuSetup}
 use Rattle.setup_text.specs.declared.setups.Setup.{Setup}
@@ -13,14 +13,24 @@ pub record IsCpu (cpu : CpuSetup) : Type 0 where
   pub name : length cpu.file ≤ 255
   pub queue : cpu.queue ≤ 65535
 
--- a setup has 1 to 8 CPUs, a ring that can be had, a group that there is, and at most 20,000 made frames
+-- a name, where there is one, has at most 255 bytes
+abbrev pub IsName : Option (List ℕ) → Type 0
+IsName None = Unit {0}
+IsName (Some name) = length name ≤ 255
+
+-- a setup has 1 to 8 CPUs, a valid ring with a time-out of at most a minute, a valid group, names
+-- of at most 255 bytes, and at most 20,000 made frames
 pub record IsSetup (setup : Setup) : Type 0 where
   pub some : 0 < length setup.cpus
   pub few : length setup.cpus ≤ 8
   pub cpus : All IsCpu setup.cpus
   pub shape : setup.shape ≡ setup.request
   pub ring : receive_fault setup.request ≡ None
+  pub tov : setup.request.tov ≤ 60000
   pub group : fault_of setup.plan.members setup.plan.mode setup.plan.flags (is_some setup.key) ≡ None
+  pub filter : IsName setup.filter
+  pub ticks : IsName setup.ticks
+  pub prefix : length setup.prefix ≤ 255
   pub count : setup.count ≤ 20000
 
 -- the moments rise or stand, in milliseconds, and each is a number of 32 bits

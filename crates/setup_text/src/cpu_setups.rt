@@ -1,6 +1,6 @@
 //! The CPUs of a setup.
 use frame_view::ItemList;
-use tap_outside::Word;
+use text_lines::Word;
 
 /// What a setup says of a CPU.
 #[derive(Debug, Drop)]

@@ -1,6 +1,6 @@
 //! The filter of a run.
 ghost use Rattle.std.specs.Prelude.{◌≡◌, ◌+◌, ◌<◌, ◌^◌};
-ghost use Rattle.setup_text.specs.Answers.{IsRight, is_text_want};
+ghost use Rattle.setup_text.specs.Answers.{IsOnlyWant, IsRight, filter_memory, is_text_want};
 ghost use Rattle.setup_text.specs.FilterFaults.{line_of, place_of};
 ghost use Rattle.setup_text.specs.Filters.{filter_fault, filter_of};
 
@@ -10,11 +10,13 @@ use std::alloc::Global;
 
 /// Reads the program of a filter from a text as `tcpdump -ddd` writes it.
 ///
-/// A fault has the line of the instruction that it is in, the first line for a wrong number of instructions, the last
-/// instruction's for a missing return, and 0 for a text of more than 1,048,576 bytes. All faults of the text come before
-/// those of the program. `Memory` of `FilterError` is want of memory.
+/// A fault has the line of the instruction that it is in, the first line for a wrong number of
+/// instructions, the last instruction's for a missing return, and 0 for a text of more than
+/// 1,048,576 bytes. All faults of the text come before those of the program. `Memory` of
+/// `FilterError`, an allocation that failed, has line 0.
 pub fn read_filter(alloc: Global, text: &[u8]) -> Result<Program, TextError>
-    ensures { IsRight is_text_want result (filter_of text.now) }
+    ensures right { IsRight is_text_want result (filter_of text.now) }
+    ensures memory { IsOnlyWant is_text_want filter_memory result }
 {
     let code = match read_ddd(alloc, text) {
         Ok(code) => code,

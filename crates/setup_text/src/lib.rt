@@ -6,6 +6,7 @@ mod cpu_setups;
 mod drafts;
 mod filters;
 mod jobs;
+mod laws;
 mod made_frames;
 mod moments;
 mod reports;
@@ -20,12 +21,10 @@ pub use commands::Command;
 pub use cpu_setups::{CpuSetup, CpuSetupList};
 pub use filters::read_filter;
 pub use jobs::Job;
+pub use laws::the_first_fault_answers;
 pub use moments::read_ticks;
 pub use reports::{MemberList, MemberReport, Ran, RunReport};
 pub use schedules::read_schedule;
 pub use setup_error::{Needed, SetupError, SetupKind};
 pub use setups::{Setup, read_setup};
 pub use text_error::{TextError, TextKind, Which};
-
-#[cfg(test)]
-mod tests;

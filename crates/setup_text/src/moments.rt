@@ -1,7 +1,7 @@
 //! The moments at which the members are ticked.
-ghost use Rattle.std.specs.Prelude.{◌≡◌, option_copied, IfOk};
+ghost use Rattle.std.specs.Prelude.{◌≡◌, false, option_copied, IfOk};
 ghost use Rattle.text_lines.specs.Words.{words_of};
-ghost use Rattle.setup_text.specs.Answers.{IsRight, is_kind_want, is_text_want, leaves};
+ghost use Rattle.setup_text.specs.Answers.{IsOnlyWant, IsRight, is_kind_want, is_text_want, leaves, ticks_memory};
 ghost use Rattle.setup_text.specs.Sound.{AreMoments};
 ghost use Rattle.setup_text.specs.Moments.{latest, moment_in, moments_of, only_of, with_one};
 
@@ -10,13 +10,16 @@ use frame_view::MomentList;
 use std::alloc::Global;
 use text_lines::{LARGEST_TEXT, is_passed_over, is_plain, next_line, next_word, number};
 
-/// Reads moments in milliseconds, one a line, each at most 4,294,967,295 and none less than the one before.
+/// Reads moments in milliseconds, one a line, each at most 4,294,967,295 and none less than the one
+/// before.
 ///
-/// `TooLarge` comes for more than 1,048,576 bytes, with line 0. Then the first line with a fault answers, with its number
-/// from 1: `BadLine` for a byte that is neither printable ASCII nor space nor tab and for more words than one,
-/// `BadNumber` for a word that is no number, and `NotAscending`. `Memory` is want of memory.
+/// `TooLarge` comes for more than 1,048,576 bytes, with line 0. Then the first line with a fault
+/// answers, with its number from 1: `BadLine` for a byte that is neither printable ASCII nor space
+/// nor tab and for more words than one, `BadNumber` for a word that is no number, and
+/// `NotAscending`. `Memory`, an allocation that failed, has line 0.
 pub fn read_ticks(alloc: Global, text: &[u8]) -> Result<MomentList, TextError>
     ensures right { IsRight is_text_want result (moments_of text.now) }
+    ensures memory { IsOnlyWant is_text_want ticks_memory result }
     ensures sound { IfOk result AreMoments }
 {
     if text.len() > LARGEST_TEXT {
@@ -37,21 +40,29 @@ pub fn read_ticks(alloc: Global, text: &[u8]) -> Result<MomentList, TextError>
     Ok(moments)
 }
 
-/// A fault of the moments.
+/// A fault of the moments. An allocation that failed is no line's fault.
 fn fault(line: u32, kind: TextKind) -> TextError
-    ensures { result ≡ record { which = Which.Ticks; line = line; kind = kind } }
+    ensures fault { is_kind_want kind ≡ false
+        → result ≡ record { which = Which.Ticks; line = line; kind = kind } }
+    ensures memory { kind ≡ TextKind.Memory → result ≡ ticks_memory }
+    ensures kind { result.kind ≡ kind }
 {
-    TextError {
-        which: Which::Ticks,
-        line,
-        kind,
+    let which = Which::Ticks;
+    match kind {
+        TextKind::Memory => TextError {
+            which,
+            line: 0,
+            kind,
+        },
+        _ => TextError { which, line, kind },
     }
 }
 
 /// Adds the moment of a line.
 fn add_moment(moments: &mut MomentList, line: &[u8]) -> Result<(), TextKind>
-    ensures { IsRight is_kind_want (leaves moments.new result)
+    ensures moment { IsRight is_kind_want (leaves moments.new result)
         (with_one moments.old (moment_in (latest moments.old) line.now)) }
+    ensures memory { IsOnlyWant is_kind_want TextKind.Memory result }
 {
     let before = moments.as_slice().last().copied().unwrap_or(0);
     let moment = moment(before, line)?;
@@ -62,7 +73,8 @@ fn add_moment(moments: &mut MomentList, line: &[u8]) -> Result<(), TextKind>
 /// The moment of a line, where the one before is known.
 #[tactic(auto, unfolding(crate::specs::Moments::moment_in))]
 fn moment(before: u64, line: &[u8]) -> Result<u64, TextKind>
-    ensures { result ≡ moment_in before line.now }
+    ensures moment { result ≡ moment_in before line.now }
+    ensures memory { IsOnlyWant is_kind_want TextKind.Memory result }
 {
     if !is_plain(line) {
         return Err(TextKind::BadLine);

@@ -2,6 +2,8 @@
 use fanout_group::CpuLogList;
 use frame_view::{ByteList, ItemList, Packets};
 use ring_model::Notes;
+use ring_words::Pending;
+use tp_layout::Block;
 
 /// What a run reports of its CPUs and its members.
 #[derive(Debug, Drop)]
@@ -23,6 +25,9 @@ pub struct MemberReport {
     pub dump: ByteList,
     /// The number of blocks that its reader walked.
     pub blocks: u64,
+    /// What its ring held when it was finished, where feeders and readers had threads of their own;
+    /// `None` where one thread ran the whole.
+    pub ring: Option<Pending<Block>>,
 }
 
 /// The members, from 0 up.
@@ -33,6 +38,7 @@ pub type MemberList = ItemList<MemberReport>;
 pub struct Ran<S: Drop> {
     /// What it reports.
     pub report: RunReport,
-    /// The source of each CPU, from 0 up, less the bytes that it gave; nothing where none was handed in.
+    /// The source of each CPU, from 0 up, less the bytes that it gave; nothing where none was
+    /// handed in.
     pub sources: Vec<Option<S>>,
 }

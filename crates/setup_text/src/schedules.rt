@@ -1,24 +1,26 @@
 //! What is done in a replay, line by line.
-ghost use Rattle.std.specs.Prelude.{◌≡◌, IfOk};
+ghost use Rattle.std.specs.Prelude.{◌≡◌, false, IfOk};
 ghost use Rattle.text_lines.specs.Words.{words_of};
-ghost use Rattle.setup_text.specs.Answers.{IsRight, is_kind_want, is_text_want, leaves};
+ghost use Rattle.setup_text.specs.Answers.{IsOnlyWant, IsRight, is_kind_want, is_text_want, leaves, schedule_memory};
 ghost use Rattle.setup_text.specs.Moments.{only_of, with_one};
 ghost use Rattle.setup_text.specs.Sound.{IsScheduleFor};
 ghost use Rattle.setup_text.specs.Schedules.{clock_after, clock_of, line_in, line_with, schedule_of, valued, verb_named};
 
 use crate::moments::only_word;
 use crate::{TextError, TextKind, Which};
-use replay_model::{Line, Schedule};
+use schedule_lines::{Line, Schedule};
 use std::alloc::Global;
 use text_lines::{LARGEST_TEXT, is_passed_over, is_plain, next_line, next_word, number};
 
-/// Reads a schedule for so many CPUs and members. Its lines are `feed C`, `read M`, `tick MS` and `stats M`.
+/// Reads a schedule for so many CPUs and members. Its lines are `feed C`, `read M`, `tick MS` and
+/// `stats M`.
 ///
-/// `TooLarge` comes for more than 1,048,576 bytes, with line 0. Then the first line with a fault answers, with its number
-/// from 1. Within a line the first of these comes: `BadLine` for a byte that is neither printable ASCII nor space nor
-/// tab, `UnknownWord` for its first word, `BadLine` for none or more values than one, `BadNumber` for a value that is no
-/// number, `NoSuchCpu` and `NoSuchMember` for a number that isn't below the counts, and `NotAscending` for a moment less
-/// than the one before. `Memory` is want of memory.
+/// `TooLarge` comes for more than 1,048,576 bytes, with line 0. Then the first line with a fault
+/// answers, with its number from 1. Within a line the first of these comes: `BadLine` for a byte
+/// that is neither printable ASCII nor space nor tab, `UnknownWord` for its first word, `BadLine`
+/// for none or more values than one, `BadNumber` for a value that is no number, `NoSuchCpu` and
+/// `NoSuchMember` for a number that isn't below the counts, and `NotAscending` for a moment less
+/// than the one before. `Memory`, an allocation that failed, has line 0.
 pub fn read_schedule(
     alloc: Global,
     text: &[u8],
@@ -26,6 +28,7 @@ pub fn read_schedule(
     members: u32,
 ) -> Result<Schedule, TextError>
     ensures right { IsRight is_text_want result (schedule_of cpus members text.now) }
+    ensures memory { IsOnlyWant is_text_want schedule_memory result }
     ensures sound { IfOk result (IsScheduleFor cpus members) }
 {
     if text.len() > LARGEST_TEXT {
@@ -48,14 +51,21 @@ pub fn read_schedule(
     Ok(lines)
 }
 
-/// A fault of the schedule.
+/// A fault of the schedule. An allocation that failed is no line's fault.
 fn fault(line: u32, kind: TextKind) -> TextError
-    ensures { result ≡ record { which = Which.Schedule; line = line; kind = kind } }
+    ensures fault { is_kind_want kind ≡ false
+        → result ≡ record { which = Which.Schedule; line = line; kind = kind } }
+    ensures memory { kind ≡ TextKind.Memory → result ≡ schedule_memory }
+    ensures kind { result.kind ≡ kind }
 {
-    TextError {
-        which: Which::Schedule,
-        line,
-        kind,
+    let which = Which::Schedule;
+    match kind {
+        TextKind::Memory => TextError {
+            which,
+            line: 0,
+            kind,
+        },
+        _ => TextError { which, line, kind },
     }
 }
 
@@ -71,6 +81,7 @@ fn add_line(
     ensures line { IsRight is_kind_want (leaves lines.new result)
         (with_one lines.old (line_in cpus members (clock_of lines.old) text.now)) }
     ensures clock { IfOk result (λ clock. clock ≡ clock_of lines.new) }
+    ensures memory { IsOnlyWant is_kind_want TextKind.Memory result }
 {
     let line = line_of(clock, text, cpus, members)?;
     lines.push(line)?;
@@ -83,7 +94,8 @@ fn add_line(
 /// What a line says, where the clock before it is known.
 #[tactic(auto, unfolding(crate::specs::Schedules::line_in))]
 fn line_of(clock: u64, text: &[u8], cpus: u32, members: u32) -> Result<Line, TextKind>
-    ensures { result ≡ line_in cpus members clock text.now }
+    ensures line { result ≡ line_in cpus members clock text.now }
+    ensures memory { IsOnlyWant is_kind_want TextKind.Memory result }
 {
     if !is_plain(text) {
         return Err(TextKind::BadLine);
@@ -135,10 +147,12 @@ impl Verb {
         }
     }
 
-    /// What is done with a number, which is below the count of what it names, or not before the clock.
+    /// What is done with a number, which is below the count of what it names, or not before the
+    /// clock.
     #[tactic(auto, unfolding(crate::specs::Schedules::line_with))]
     fn with(self, number: u32, cpus: u32, members: u32, clock: u64) -> Result<Line, TextKind>
-        ensures { result ≡ line_with cpus members clock self number }
+        ensures line { result ≡ line_with cpus members clock self number }
+        ensures memory { IsOnlyWant is_kind_want TextKind.Memory result }
     {
         match self {
             Verb::Feed if number < cpus => Ok(Line::Feed(number)),

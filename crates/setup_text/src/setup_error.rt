@@ -18,12 +18,15 @@ pub struct SetupError {
     pub kind: SetupKind,
 }
 
-/// What is wrong with a setup. All of a line's faults come before those that the lines have together.
+/// What is wrong with a setup. All of a line's faults come before those that the lines have
+/// together.
 #[derive(Clone, Copy, Debug, PartialEq, Eq)]
 pub enum SetupKind {
-    /// A byte that is neither printable ASCII nor space nor tab, a wrong number of values, or a ninth CPU.
+    /// A byte that is neither printable ASCII nor space nor tab, a wrong number of values, or a
+    /// ninth CPU.
     BadLine,
-    /// A line that begins with no setup word, or a value that is none of the words that may stand there.
+    /// A line that begins with no setup word, or a value that is none of the words that may stand
+    /// there.
     UnknownWord,
     /// A setup word that stood before, or a flag that stood before.
     Twice,
@@ -59,7 +62,8 @@ pub enum Needed {
 }
 
 impl SetupKind {
-    /// The word for the fault, as a program prints it. Behind `missing`, `request` and `group` the inner word follows.
+    /// The word for the fault, as a program prints it. Behind `missing`, `request` and `group` the
+    /// inner word follows.
     pub fn word(&self) -> &'static str
         ensures { result.now ≡ kind_word self.now }
     {

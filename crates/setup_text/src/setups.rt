@@ -1,9 +1,9 @@
 //! The setup of a run.
-ghost use Rattle.std.specs.Prelude.{◌≡◌, ◌≤◌, codes, length, None, Some, IfOk, IfErr, OnOk};
+ghost use Rattle.std.specs.Prelude.{◌≡◌, ◌≤◌, codes, false, true, length, None, Some, IfOk, IfErr, OnOk};
 ghost use Rattle.std.specs.Option.{unwrap_or};
 ghost use Rattle.fanout_group.specs.Plans.{AreFlags};
 ghost use Rattle.tp_layout.specs.Requests.{answer_of};
-ghost use Rattle.setup_text.specs.Answers.{IsRight, is_setup_want, is_want};
+ghost use Rattle.setup_text.specs.Answers.{IsOnlyWant, IsRight, is_setup_want, is_want, setup_memory};
 ghost use Rattle.setup_text.specs.Sound.{IsSetup};
 ghost use Rattle.setup_text.specs.Setups.{count_of, draft_of, flags_of, group_fault, group_of, missing, request_fault, request_of, seed_of, setup_after, setup_of};
 ghost use Rattle.setup_text.specs.declared.commands.Command.TheVariants.{Make};
@@ -14,8 +14,7 @@ use fanout_group::{Mode, Plan, PlanError};
 use flow_hash::Key;
 use frame_view::Memory;
 use std::alloc::Global;
-use tap_outside::Word;
-use text_lines::{LARGEST_TEXT, is_passed_over, next_line};
+use text_lines::{LARGEST_TEXT, Word, is_passed_over, next_line};
 use tp_layout::{RequestError, RingRequest, Shape};
 
 /// A setup: the ring and the group of a run, its captures, and what is written of it.
@@ -41,7 +40,8 @@ pub struct Setup {
     pub prefix: Word,
     /// Whether the retired blocks are written too.
     pub dump: bool,
-    /// Whether a frame that is longer than a slot of a transmit ring holds is passed over, in place of stopping the ring.
+    /// Whether a frame that is longer than a slot of a transmit ring holds is passed over, in place
+    /// of stopping the ring.
     pub skip_bad: bool,
     /// The number that `make`'s frames are made from; 0 where no line says it.
     pub seed: u64,
@@ -51,13 +51,15 @@ pub struct Setup {
 
 /// Reads a setup for a command. docs/setup.md says what its lines are.
 ///
-/// `TooLarge` comes for more than 1,048,576 bytes, with line 0. Then the first line with a fault answers, with its number
-/// from 1. Where no line has one, `Missing` comes for the first line that isn't there, of which `Make` alone needs the
-/// line `make`. Then `Request` comes for a ring that can't be had, which is a transmit ring for `Send` and a ring of
-/// captured frames for every other command, and then `Group` for a group that there isn't. Each has line 0. `Memory` is
-/// want of memory.
+/// `TooLarge` comes for more than 1,048,576 bytes, with line 0. Then the first line with a fault
+/// answers, with its number from 1. Where no line has one, `Missing` comes for the first line that
+/// isn't there, of which `Make` alone needs the line `make`. Then `Request` comes for a ring that
+/// can't be had, which is a transmit ring for `Send` and a ring of captured frames for every other
+/// command, and then `Group` for a group that there isn't. Each has line 0. `Memory`, an allocation
+/// that failed, has line 0 too.
 pub fn read_setup(alloc: Global, text: &[u8], command: Command) -> Result<Setup, SetupError>
     ensures right { IsRight is_setup_want result (setup_of text.now command) }
+    ensures memory { IsOnlyWant is_setup_want setup_memory result }
     ensures sound { IfOk result IsSetup }
     ensures ring { IfOk result (λ setup. request_fault command setup.request ≡ None) }
     ensures made { command ≡ Make → IfOk result (λ setup. 1 ≤ setup.count) }
@@ -78,7 +80,8 @@ pub fn read_setup(alloc: Global, text: &[u8], command: Command) -> Result<Setup,
 /// What the lines of a text say.
 fn draft_of(alloc: Global, text: &[u8]) -> Result<Draft, SetupError>
     requires { length text.now ≤ 1048576 }
-    ensures { IsRight is_setup_want result (draft_of text.now) }
+    ensures right { IsRight is_setup_want result (draft_of text.now) }
+    ensures memory { IsOnlyWant is_setup_want setup_memory result }
 {
     let mut draft = Draft::new(alloc);
     let mut rest = text;
@@ -86,13 +89,26 @@ fn draft_of(alloc: Global, text: &[u8]) -> Result<Draft, SetupError>
     while let Some((line, behind)) = next_line(rest) {
         if !is_passed_over(line) {
             if let Err(kind) = draft.read(alloc, line) {
-                return Err(SetupError { line: number, kind });
+                return Err(at_line(number, kind));
             }
         }
         rest = behind;
         number += 1;
     }
     Ok(draft)
+}
+
+/// A fault of a line. An allocation that failed is no line's fault.
+#[tactic(auto, using(crate::proofs::Wants::wants))]
+fn at_line(number: u32, kind: SetupKind) -> SetupError
+    ensures fault { is_want kind ≡ false → result ≡ record { line = number; kind = kind } }
+    ensures memory { is_want kind ≡ true → result ≡ setup_memory }
+    ensures kind { result.kind ≡ kind }
+{
+    match kind {
+        SetupKind::Memory => SetupError { line: 0, kind },
+        _ => SetupError { line: number, kind },
+    }
 }
 
 /// The setup that lines without a fault say.

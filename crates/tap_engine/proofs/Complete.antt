@@ -1,5 +1,7 @@
 -- A report is worth the headline, and where nothing fails it is fine.
-use Rattle.std.proofs.Common.{◌≡◌, ◌≢◌, ℕ, ◌+◌, ◌<◌, ◌≤◌, Bool, true, false, List, [], ◌∷◌, ◌++◌, length, inl, inr, Option, None, Some, refl, sym, ap, subst, ◌∙◌, arith}
+use Rattle.std.proofs.Common.{◌≡◌, ◌≢◌, ℕ, ◌+◌, ◌<◌, ◌≤◌, Bool, true, false, List, [], ◌∷◌, ◌++◌}
+use Rattle.std.proofs.Common.{length, inl, inr, Option, None, Some, refl, sym, ap, subst, ◌∙◌}
+use Rattle.std.proofs.Common.{arith}
 use Rattle.std.specs.Prelude.{◌⊎◌, if◌then◌else◌, map, nat_lt, Ok, Err}
 use Rattle.std.specs.List.{AllByRecursion}
 use Rattle.std.specs.Option.{option_or}
@@ -7,10 +9,10 @@ use Rattle.std.proofs.lemmas.Bool.{cases_lt}
 use Rattle.capture_file.specs.Capture.{cut_of, damage_of, end_of, stop_of}
 use Rattle.capture_file.specs.declared.error.CaptureError.{CaptureError}
 use Rattle.capture_file.specs.declared.error.CaptureError.TheVariants.{Truncated}
-use Rattle.fanout_group.specs.declared.runs.CpuEnd.{CpuEnd}
-use Rattle.fanout_group.specs.declared.runs.CpuEnd.TheVariants.{Whole, Fault, Damaged}
-use Rattle.replay_model.specs.Replay.{Cpu}
-use Rattle.replay_model.specs.declared.schedule.Line.{Line}
+use Rattle.capture_file.proofs.Feeding.{stays}
+use Rattle.capture_file.specs.declared.cpu_end.CpuEnd.{CpuEnd}
+use Rattle.capture_file.specs.declared.cpu_end.CpuEnd.TheVariants.{Whole, Fault, Damaged}
+use Rattle.fanout_group.specs.declared.runs.CpuLog.{CpuLog}
 use Rattle.setup_text.specs.Filters.{filter_of}
 use Rattle.setup_text.specs.Moments.{moments_of}
 use Rattle.setup_text.specs.declared.commands.Command.{Command}
@@ -22,73 +24,56 @@ use Rattle.setup_text.specs.declared.setups.Setup.{Setup}
 use Rattle.setup_text.specs.declared.text_error.TextError.{TextError}
 use Rattle.tap_outside.specs.Contents.{Contents}
 use Rattle.tap_outside.specs.Counts.{RoseBy}
-use Rattle.tap_reading.specs.Readers.{schedule_for, setup_for}
-use Rattle.tap_replay.specs.Runs.{logs_from, replay_of, report_of}
+use Rattle.tap_outside.specs.Seen.{SinkSeen, StoreSeen}
+use Rattle.tap_reading.specs.Readers.{Says, setup_for}
 use Rattle.capture_reading.specs.Sources.{UnlessFault, WhereEnded, end_by}
+use Rattle.tap_saving.specs.Saving.{marked}
 use Rattle.tap_engine.specs.Commands.{Named}
-use Rattle.tap_engine.specs.Complete.{AreSoundTicks, IsComplete, IsSound, IsSoundBehind, IsSoundFilter, IsSoundRun, IsWorth, text_in}
-use Rattle.tap_engine.specs.Conclusions.{Concludes}
-use Rattle.fanout_group.specs.declared.runs.CpuLog.{CpuLog}
-use Rattle.tap_engine.specs.Expected.{Expected, IsExpected, bad_setup, bad_text, checked, fault_at, faults_in, no_command, report_in, reported, sent_off, status_by_end, status_of, status_of_logs, unread}
-use Rattle.tap_engine.specs.Headline.{AreCaptures, CapturesFor, IsHeadline}
+use Rattle.tap_engine.specs.Complete.{AreSoundLast, AreSoundTicks, AreWhole, IsComplete, IsSound}
+use Rattle.tap_engine.specs.Complete.{IsSoundFilter, NothingFails, text_in}
+use Rattle.tap_engine.specs.Conclusions.{Concludes, IsDone, IsFailed, IsPrinted, Tells}
+use Rattle.tap_engine.specs.Findings.{IsFound, fault_at, faults_in, lines_of, report_in}
+use Rattle.tap_engine.specs.Findings.{status_by_end, status_of, status_of_logs}
+use Rattle.tap_engine.specs.Headline.{AreCaptures, CapturesFor, IsHeadline, IsWorth}
 use Rattle.tap_engine.specs.Jobs.{HasBadFilter, HasBadSchedule, HasBadText, HasBadTicks, HasSetup}
-use Rattle.tap_engine.specs.Names.{filter_for, first_file}
+use Rattle.tap_engine.specs.Jobs.{lines_for}
+use Rattle.tap_engine.specs.Names.{filter_for, first_file, ticks_for}
 use Rattle.tap_engine.specs.Sendings.{IsSent}
+use Rattle.tap_engine.specs.declared.findings.Finding.{Finding}
+use Rattle.tap_engine.specs.declared.findings.Finding.TheVariants as finding
 use Rattle.tap_engine.specs.declared.outcomes.Outcome.{Outcome}
 use Rattle.tap_engine.specs.declared.outcomes.Status.{Status}
 use Rattle.tap_engine.specs.declared.outcomes.Status.TheVariants as statuses
 use Rattle.tap_engine.specs.declared.sending.Sending.{Sending}
-use Rattle.tap_engine.proofs.Fetched.{rose_less}
-use Rattle.tap_engine.proofs.Texts.{filters, moments, not_both, same_value, says_held, schedules, setups}
+use Rattle.tap_engine.proofs.Ends.{AreEnds, report_ends}
+use Rattle.tap_engine.proofs.Fetched.{rose_less, saves_same}
+use Rattle.tap_engine.proofs.Texts.{filters, moments, not_both, same_value, says_held, schedules}
+use Rattle.tap_engine.proofs.Texts.{setups}
 
--- a status is that of want of memory or another
-is_memory : (status : Status) → (status ≡ statuses.Memory) ⊎ (status ≢ statuses.Memory)
-is_memory statuses.Memory = inl refl
-is_memory statuses.Fine = inr (λ e. cc)
-is_memory statuses.Usage = inr (λ e. cc)
-is_memory (statuses.Setup error) = inr (λ e. cc)
-is_memory (statuses.Text error) = inr (λ e. cc)
-is_memory (statuses.Damaged cpu fault) = inr (λ e. cc)
-is_memory statuses.ReadFault = inr (λ e. cc)
-is_memory statuses.WriteFault = inr (λ e. cc)
+worth_in : (old new : StoreSeen) (command : Option Named) (found : Finding)
+    → IsFound command old new found
+    → IsWorth command old.held (report_in found)
+worth_in old new None finding.NoCommand h = tt
+worth_in old new None finding.Unread h = absurd h
+worth_in old new None (finding.BadSetup error) h = absurd h
+worth_in old new None (finding.BadText error) h = absurd h
+worth_in old new None finding.Checked h = absurd h
+worth_in old new None (finding.Ran setup report) h = absurd h
+worth_in old new None (finding.Sent setup sending) h = absurd h
+worth_in old new (Some named) finding.NoCommand h = absurd h
+worth_in old new (Some named) finding.Unread h = tt
+worth_in old new (Some named) (finding.BadSetup error) h = tt
+worth_in old new (Some named) (finding.BadText error) h = tt
+worth_in old new (Some named) finding.Checked h = tt
+worth_in old new (Some named) (finding.Ran setup report) h = (named, refl, h.0.headline)
+worth_in old new (Some named) (finding.Sent setup sending) h = tt
 
--- it is that of a fault of saving or printing or another
-is_fault : (status : Status) → (status ≡ statuses.WriteFault) ⊎ (status ≢ statuses.WriteFault)
-is_fault statuses.WriteFault = inl refl
-is_fault statuses.Fine = inr (λ e. cc)
-is_fault statuses.Usage = inr (λ e. cc)
-is_fault (statuses.Setup error) = inr (λ e. cc)
-is_fault (statuses.Text error) = inr (λ e. cc)
-is_fault (statuses.Damaged cpu fault) = inr (λ e. cc)
-is_fault statuses.ReadFault = inr (λ e. cc)
-is_fault statuses.Memory = inr (λ e. cc)
-
-worth_in : (held : Option Contents) (failed : ℕ → Type 0) (command : Option Named) (e : Expected) → IsExpected held failed command e → IsWorth held command (report_in e)
-worth_in held failed None no_command h = tt
-worth_in held failed None unread h = absurd h
-worth_in held failed None (bad_setup error) h = absurd h
-worth_in held failed None (bad_text error) h = absurd h
-worth_in held failed None checked h = absurd h
-worth_in held failed None (reported setup report) h = absurd h
-worth_in held failed None (sent_off setup sending) h = absurd h
-worth_in held failed (Some named) no_command h = absurd h
-worth_in held failed (Some named) unread h = tt
-worth_in held failed (Some named) (bad_setup error) h = tt
-worth_in held failed (Some named) (bad_text error) h = tt
-worth_in held failed (Some named) checked h = tt
-worth_in held failed (Some named) (reported setup report) h = (named, refl, h.0.headline)
-worth_in held failed (Some named) (sent_off setup sending) h = tt
-
-pub worth_of : (held after : Option Contents) (command : Option Named) (failed unsaved : ℕ → Type 0) (unprinted : Type 0) (outcome : Outcome) (before now : Option (List ℕ))
-    → (outcome.status ≡ statuses.Memory → outcome.report ≡ None)
-    → (outcome.status ≢ statuses.Memory → (e : Expected) × IsExpected held failed command e × Concludes e outcome held after before now unsaved unprinted)
-    → IsWorth held command outcome.report
-worth_of held after command failed unsaved unprinted outcome before now want told = by (is_memory outcome.status) where
-  by : (outcome.status ≡ statuses.Memory) ⊎ (outcome.status ≢ statuses.Memory) → IsWorth held command outcome.report
-  by (inl memory) = subst (λ (r : Option RunReport). IsWorth held command r) (sym (want memory)) tt
-  by (inr other) =
-      let t = told other in
-      subst (λ (r : Option RunReport). IsWorth held command r) (sym (t.2.report other)) (worth_in held failed command t.0 t.1)
+pub worth_of : (command : Option Named) (outcome : Outcome) (old new : StoreSeen)
+    (before after : SinkSeen)
+    → Tells command outcome old new before after → IsWorth command old.held outcome.report
+worth_of command outcome old new before after t =
+    subst (λ (r : Option RunReport). IsWorth command old.held r) (sym t.concludes.report)
+    (worth_in old t.read command t.finding t.found)
 
 none_some : {A : Type 0} (o : Option A) (value : A) → o ≡ None → o ≡ Some value → ⊥
 none_some None value e f = cc
@@ -96,105 +81,149 @@ none_some (Some x) value e f = cc
 
 -- ---- texts that are accepted aren't refused
 
-the_setup : (files : Contents) (named : Named) (sound : IsSound files named) (setup : Setup) → HasSetup (Some files) named setup → sound.setup ≡ setup
-the_setup files named sound setup has = same_value (setup_for named.command) files named.setup sound.setup setup (setups named.command) sound.setup_is has
+the_setup : (files : Contents) (named : Named) (sound : IsSound files named) (setup : Setup)
+    → HasSetup (Some files) named setup → sound.setup ≡ setup
+the_setup files named sound setup has = same_value (setup_for named.command) files named.setup
+    sound.setup setup (setups named.command) sound.setup_is has
 
-sound_filter : (files : Contents) (filter : Option (List ℕ)) (name : List ℕ) (error : TextError) → filter ≡ Some name → IsSoundFilter files filter → (filter_of (text_in files name) ≡ Err error) → ⊥
+sound_filter : (files : Contents) (filter : Option (List ℕ)) (name : List ℕ) (error : TextError)
+    → filter ≡ Some name → IsSoundFilter files filter → (filter_of (text_in files name) ≡ Err error)
+    → ⊥
 sound_filter files None name error e sound h = cc
-sound_filter files (Some x) name error e sound h = differ (sound.1) (ap (λ n. filter_of (text_in files n)) (same e) ∙ h) where
-  same : ◌≡◌ {A = Option (List ℕ)} (Some x) (Some name) → x ≡ name
-  same e = cc
+sound_filter files (Some x) name error e sound h = differ (sound.1)
+    (ap (λ n. filter_of (text_in files n)) (same e) ∙ h) where
+      same : ◌≡◌ {A = Option (List ℕ)} (Some x) (Some name) → x ≡ name
+      same e = cc
 
-  differ : filter_of (text_in files x) ≡ Ok sound.0 → filter_of (text_in files x) ≡ Err error → ⊥
-  differ a b = cc
+      differ : filter_of (text_in files x) ≡ Ok sound.0
+          → filter_of (text_in files x) ≡ Err error → ⊥
+      differ a b = cc
 
-sound_ticks : (files : Contents) (ticks : Option (List ℕ)) (name : List ℕ) (error : TextError) → ticks ≡ Some name → AreSoundTicks files ticks → (moments_of (text_in files name) ≡ Err error) → ⊥
+sound_ticks : (files : Contents) (ticks : Option (List ℕ)) (name : List ℕ) (error : TextError)
+    → ticks ≡ Some name → AreSoundTicks files ticks → (moments_of (text_in files name) ≡ Err error)
+    → ⊥
 sound_ticks files None name error e sound h = cc
-sound_ticks files (Some x) name error e sound h = differ (sound.1) (ap (λ n. moments_of (text_in files n)) (same e) ∙ h) where
-  same : ◌≡◌ {A = Option (List ℕ)} (Some x) (Some name) → x ≡ name
-  same e = cc
+sound_ticks files (Some x) name error e sound h = differ (sound.1)
+    (ap (λ n. moments_of (text_in files n)) (same e) ∙ h) where
+      same : ◌≡◌ {A = Option (List ℕ)} (Some x) (Some name) → x ≡ name
+      same e = cc
 
-  differ : moments_of (text_in files x) ≡ Ok sound.0 → moments_of (text_in files x) ≡ Err error → ⊥
-  differ a b = cc
+      differ : moments_of (text_in files x) ≡ Ok sound.0
+          → moments_of (text_in files x) ≡ Err error → ⊥
+      differ a b = cc
 
-no_filter : (files : Contents) (named : Named) (error : TextError) → IsSound files named → HasBadFilter (Some files) named error → ⊥
-no_filter files named error sound h =
+no_filter : (files : Contents) (old new : StoreSeen) (named : Named) (error : TextError)
+    → old.held ≡ Some files → IsSound files named
+    → HasBadFilter old new named error → ⊥
+no_filter files old new named error held sound h =
     sound_filter files (filter_for named.command h.setup) h.name error h.names
-    (subst (λ (s : Setup). IsSoundFilter files (filter_for named.command s)) (the_setup files named sound h.setup h.has) sound.filter)
-    (says_held filter_of files h.name (Err error) filters h.refused)
+    (subst (λ (s : Setup). IsSoundFilter files (filter_for named.command s))
+    (the_setup files named sound h.setup (subst (λ (o : Option Contents). HasSetup o named h.setup)
+    held h.has)) sound.filter)
+    (says_held filter_of files h.name (Err error) filters
+    (subst (λ (o : Option Contents). Says filter_of o h.name (Err error)) held h.refused.says))
 
-no_ticks : (files : Contents) (named : Named) (error : TextError) → IsSound files named → HasBadTicks (Some files) named error → ⊥
-no_ticks files named error sound h =
-    let behind : IsSoundBehind Check files named.schedule sound.setup = subst (λ (c : Command). IsSoundBehind c files named.schedule sound.setup) h.command sound.behind in
-    sound_ticks files h.job.setup.ticks h.name error h.names
-    (subst (λ (s : Setup). AreSoundTicks files s.ticks) (the_setup files named sound h.job.setup h.has.setup) behind)
-    (says_held moments_of files h.name (Err error) moments h.refused)
+no_ticks : (files : Contents) (old new : StoreSeen) (named : Named) (error : TextError)
+    → old.held ≡ Some files → IsSound files named
+    → HasBadTicks old new named error → ⊥
+no_ticks files old new named error held sound h =
+    sound_ticks files (ticks_for named.command h.job.setup) h.name error h.names
+    (subst (λ (s : Setup). AreSoundTicks files (ticks_for named.command s))
+    (the_setup files named sound h.job.setup (subst (λ (o : Option Contents). HasSetup o named
+    h.job.setup) held h.has.setup)) sound.ticks)
+    (says_held moments_of files h.name (Err error) moments
+    (subst (λ (o : Option Contents). Says moments_of o h.name (Err error)) held h.refused.says))
 
-run_of : (files : Contents) (named : Named) → IsSound files named → (setup : Setup) → named.command ≡ Replay → HasSetup (Some files) named setup → IsSoundRun files named.schedule setup
-run_of files named sound setup is has =
-    let behind : IsSoundBehind Replay files named.schedule sound.setup = subst (λ (c : Command). IsSoundBehind c files named.schedule sound.setup) is sound.behind in
-    subst (λ (s : Setup). IsSoundRun files named.schedule s) (the_setup files named sound setup has) behind
+last_of : (files : Contents) (named : Named) → IsSound files named
+    → (command : Command) (setup : Setup) → named.command ≡ command
+    → HasSetup (Some files) named setup → AreSoundLast command files named.schedule setup
+last_of files named sound command setup is has =
+    subst (λ (s : Setup). AreSoundLast command files named.schedule s)
+    (the_setup files named sound setup has)
+    (subst (λ (c : Command). AreSoundLast c files named.schedule sound.setup) is sound.last)
 
-no_schedule : (files : Contents) (named : Named) (error : TextError) → IsSound files named → HasBadSchedule (Some files) named error → ⊥
-no_schedule files named error sound h =
-    let run = run_of files named sound h.job.setup h.command h.has.setup in
-    not_both (schedule_for (length h.job.setup.cpus) h.job.setup.plan.members) files named.schedule run.lines error
-    (schedules (length h.job.setup.cpus) h.job.setup.plan.members) run.lines_are h.refused
+no_schedule : (files : Contents) (old new : StoreSeen) (named : Named) (error : TextError)
+    → old.held ≡ Some files → IsSound files named
+    → HasBadSchedule old new named error → ⊥
+no_schedule files old new named error held sound h =
+    let schedule = (last_of files named sound Replay h.job.setup h.command
+    (subst (λ (o : Option Contents). HasSetup o named h.job.setup) held h.has.setup)).0 in
+    not_both (lines_for h.job) files named.schedule schedule.0 error
+    (schedules (length h.job.setup.cpus) h.job.setup.plan.members) schedule.1
+    (subst (λ (o : Option Contents). Says (lines_for h.job) o named.schedule (Err error)) held
+    h.refused.says)
 
-no_text : (files : Contents) (named : Named) (error : TextError) → IsSound files named → HasBadText (Some files) named error → ⊥
-no_text files named error sound (inl filter) = no_filter files named error sound filter
-no_text files named error sound (inr (inl ticks)) = no_ticks files named error sound ticks
-no_text files named error sound (inr (inr schedule)) = no_schedule files named error sound schedule
+no_text : (files : Contents) (old new : StoreSeen) (named : Named) (error : TextError)
+    → old.held ≡ Some files → IsSound files named
+    → HasBadText old new named error → ⊥
+no_text files old new named error held sound (inl filter) = no_filter files old new named error held
+    sound filter
+no_text files old new named error held sound (inr (inl ticks)) = no_ticks files old new named error
+    held sound ticks
+no_text files old new named error held sound (inr (inr schedule)) = no_schedule files old new named
+    error held sound schedule
 
 -- ---- captures that are whole end whole
 
--- the laws of damage, as they are cited
-abbrev pub Stays : Type 0
-Stays = (fed more : List ℕ) (damage : CaptureError) → damage_of fed ≡ Some damage → damage_of (fed ++ more) ≡ Some damage
-
-abbrev pub Ends : Type 0
-Ends = (bytes : List ℕ) (damage : CaptureError) → damage_of bytes ≡ Some damage → end_of bytes ≡ Some damage
-
 -- a capture that is cut shows where
-cut_place : (a b : Bool) (stop : ℕ) (damage : CaptureError) → (if a then Some (Truncated 0) else if b then Some (Truncated stop) else None) ≡ Some damage
+cut_place : (a b : Bool) (stop : ℕ) (damage : CaptureError)
+    → (if a then Some (Truncated 0) else if b then Some (Truncated stop) else None) ≡ Some damage
     → (place : ℕ) × (damage ≡ Truncated place)
 cut_place true b stop damage e = (0, same e) where
   same : ◌≡◌ {A = Option CaptureError} (Some (Truncated 0)) (Some damage) → damage ≡ Truncated 0
   same e = cc
 cut_place false true stop damage e = (stop, same e) where
-  same : ◌≡◌ {A = Option CaptureError} (Some (Truncated stop)) (Some damage) → damage ≡ Truncated stop
+  same : ◌≡◌ {A = Option CaptureError} (Some (Truncated stop)) (Some damage)
+      → damage ≡ Truncated stop
   same e = cc
 cut_place false false stop damage e = cc
 
 -- what ends a capture is damage, or a cut
-damage_or_cut : (bytes : List ℕ) (damage : CaptureError) → end_of bytes ≡ Some damage → (damage_of bytes ≡ Some damage) ⊎ ((place : ℕ) × (damage ≡ Truncated place))
+damage_or_cut : (bytes : List ℕ) (damage : CaptureError) → end_of bytes ≡ Some damage
+    → (damage_of bytes ≡ Some damage) ⊎ ((place : ℕ) × (damage ≡ Truncated place))
 unfolding end_of
 damage_or_cut bytes damage e = by (damage_of bytes) refl e where
-  by : (found : Option CaptureError) → damage_of bytes ≡ found → option_or found (cut_of bytes) ≡ Some damage → (damage_of bytes ≡ Some damage) ⊎ ((place : ℕ) × (damage ≡ Truncated place))
-  by None is e = inr (cut_place (nat_lt (length bytes) 24) (nat_lt (stop_of bytes) (length bytes)) (stop_of bytes) damage e)
+  by : (found : Option CaptureError) → damage_of bytes ≡ found
+      → option_or found (cut_of bytes) ≡ Some damage → (damage_of bytes ≡ Some damage)
+      ⊎ ((place : ℕ) × (damage ≡ Truncated place))
+  by None is e = inr (cut_place (nat_lt (length bytes) 24) (nat_lt (stop_of bytes) (length bytes))
+      (stop_of bytes) damage e)
   by (Some x) is e = inl (is ∙ e)
 
 damage_is : (damage other : CaptureError) → Damaged damage ≡ Damaged other → damage ≡ other
 damage_is damage other e = cc
 
--- a front of a whole capture that ends otherwise than whole is not all that was read
-pub whole_end : Stays → Ends → (content bytes rest : List ℕ) (end : CpuEnd) → content ≡ bytes ++ rest → end_of content ≡ None
-    → UnlessFault end (end ≡ end_by (end_of bytes)) → WhereEnded end (bytes ≡ content) → end ≢ Fault → end ≡ Whole
-whole_end stays ends content bytes rest Whole parts none is all sane = refl
-whole_end stays ends content bytes rest Fault parts none is all sane = absurd (sane refl)
-whole_end stays ends content bytes rest (Damaged damage) parts none is all sane = by (end_of bytes) refl is where
-  wrong : (found : CaptureError) → end_of bytes ≡ Some found → damage ≡ found → ⊥
-  wrong found e same = at (damage_or_cut bytes damage (e ∙ ap Some (sym same))) where
-    at : (damage_of bytes ≡ Some damage) ⊎ ((place : ℕ) × (damage ≡ Truncated place)) → ⊥
-    at (inl stands) =
-        none_some (end_of content) damage none (ends content damage (ap damage_of parts ∙ stays bytes rest damage stands))
-    at (inr cut) =
-        let same_bytes : bytes ≡ content = subst (λ (d : CaptureError). WhereEnded (Damaged d) (bytes ≡ content)) cut.1 all in
-        none_some (end_of content) damage none (ap end_of (sym same_bytes) ∙ e ∙ ap Some (sym same))
+-- damage ends a capture
+damage_end : (bytes : List ℕ) (damage : CaptureError) → damage_of bytes ≡ Some damage
+    → end_of bytes ≡ Some damage
+unfolding end_of
+damage_end bytes damage e = ap (λ d. option_or d (cut_of bytes)) e
 
-  by : (found : Option CaptureError) → end_of bytes ≡ found → Damaged damage ≡ end_by found → Damaged damage ≡ Whole
-  by None e is = is
-  by (Some found) e is = absurd (wrong found e (damage_is damage found is))
+-- a front of a whole capture that ends otherwise than whole is not all that was read
+pub whole_end : (content bytes rest : List ℕ) (end : CpuEnd) → content ≡ bytes ++ rest
+    → end_of content ≡ None
+    → UnlessFault end (end ≡ end_by (end_of bytes)) → WhereEnded end (bytes ≡ content) → end ≢ Fault
+    → end ≡ Whole
+whole_end content bytes rest Whole parts none is all sane = refl
+whole_end content bytes rest Fault parts none is all sane = absurd (sane refl)
+whole_end content bytes rest (Damaged damage) parts none is all sane = by (end_of bytes) refl is
+  where
+    wrong : (found : CaptureError) → end_of bytes ≡ Some found → damage ≡ found → ⊥
+    wrong found e same = at (damage_or_cut bytes damage (e ∙ ap Some (sym same))) where
+      at : (damage_of bytes ≡ Some damage) ⊎ ((place : ℕ) × (damage ≡ Truncated place)) → ⊥
+      at (inl stands) =
+          none_some (end_of content) damage none (damage_end content damage
+          (ap damage_of parts ∙ (stays 0 bytes rest damage stands).same))
+      at (inr cut) =
+          let same_bytes : bytes ≡ content = subst (λ (d : CaptureError). WhereEnded (Damaged d)
+          (bytes ≡ content)) cut.1 all in
+          none_some (end_of content) damage none
+          (ap end_of (sym same_bytes) ∙ e ∙ ap Some (sym same))
+
+    by : (found : Option CaptureError) → end_of bytes ≡ found → Damaged damage ≡ end_by found
+        → Damaged damage ≡ Whole
+    by None e is = is
+    by (Some found) e is = absurd (wrong found e (damage_is damage found is))
 
 -- the ends of whole captures, where none ended with a fault
 none_faults : (end : CpuEnd) → fault_at end ≡ 0 → end ≢ Fault
@@ -202,53 +231,87 @@ none_faults Whole none e = cc
 none_faults Fault none e = omega (arith, none)
 none_faults (Damaged damage) none e = cc
 
-behind_whole : (cpu : ℕ) (end : CpuEnd) (rest : Status) → end ≡ Whole → rest ≡ statuses.Fine → status_by_end cpu end rest ≡ statuses.Fine
+behind_whole : (cpu : ℕ) (end : CpuEnd) (rest : Status) → end ≡ Whole → rest ≡ statuses.Fine
+    → status_by_end cpu end rest ≡ statuses.Fine
 behind_whole cpu Whole rest e fine = fine
 behind_whole cpu Fault rest e fine = cc
 behind_whole cpu (Damaged damage) rest e fine = cc
 
-fine_logs : Stays → Ends → (files : Contents) (setups : List CpuSetup) (cpu : ℕ) (bytes : List (List ℕ)) (ends : List CpuEnd) (cpus : List Cpu)
-    → AreCaptures (Some files) setups bytes ends → AllByRecursion (λ s. end_of (text_in files s.file) ≡ None) setups
-    → faults_in (logs_from cpu bytes ends cpus) ≡ 0 → status_of_logs cpu (logs_from cpu bytes ends cpus) ≡ statuses.Fine
-fine_logs stays ends_law files [] cpu [] [] cpus captures whole none = refl
-fine_logs stays ends_law files [] cpu [] (end ∷ ends) cpus captures whole none = absurd captures
-fine_logs stays ends_law files [] cpu (b ∷ bytes) ends cpus captures whole none = absurd captures
-fine_logs stays ends_law files (s ∷ setups) cpu [] ends cpus captures whole none = absurd captures
-fine_logs stays ends_law files (s ∷ setups) cpu (b ∷ bytes) [] cpus captures whole none = absurd captures
-fine_logs stays ends_law files (s ∷ setups) cpu (b ∷ bytes) (end ∷ ends) [] captures whole none = refl
-fine_logs stays ends_law files (s ∷ setups) cpu (b ∷ bytes) (end ∷ ends) (of ∷ cpus) captures whole none =
+fine_logs : (files : Contents) (setups : List CpuSetup) (cpu : ℕ) (bytes : List (List ℕ))
+    (ends : List CpuEnd) (logs : List CpuLog)
+    → AreCaptures (Some files) setups bytes ends → AreEnds logs ends → AreWhole files setups
+    → faults_in logs ≡ 0
+    → status_of_logs cpu logs ≡ statuses.Fine
+fine_logs files setups cpu bytes ends [] captures are whole none = refl
+fine_logs files setups cpu bytes [] (log ∷ logs) captures are whole none = absurd are
+fine_logs files [] cpu [] (end ∷ ends) (log ∷ logs) captures are whole none = absurd captures
+fine_logs files [] cpu (b ∷ bytes) (end ∷ ends) (log ∷ logs) captures are whole none = absurd
+    captures
+fine_logs files (s ∷ setups) cpu [] (end ∷ ends) (log ∷ logs) captures are whole none = absurd
+    captures
+fine_logs files (s ∷ setups) cpu (b ∷ bytes) (end ∷ ends) (log ∷ logs) captures are whole none =
     let one = captures.0 in
-    let ended = whole_end stays ends_law (text_in files s.file) b one.front.rest end one.front.parts whole.0 one.damage one.all (none_faults end (omega (arith, none))) in
-    behind_whole cpu end (status_of_logs (cpu + 1) (logs_from (cpu + 1) bytes ends cpus)) ended
-    (fine_logs stays ends_law files setups (cpu + 1) bytes ends cpus captures.1 whole.1 (omega (arith, none)))
-
-cpus_are : (job : Job) (lines : List Line) (bytes : List (List ℕ)) (ends : List CpuEnd) → (report_of job lines bytes ends).cpus ≡ logs_from 0 bytes ends (replay_of job lines bytes).cpus
-unfolding report_of
-cpus_are job lines bytes ends = refl
+    let counts : fault_at end ≡ fault_at log.end = ap fault_at (sym are.0) in
+    let ended = whole_end (text_in files s.file) b one.front.rest end one.front.parts whole.0
+    one.damage one.all
+    (none_faults end (omega (arith, none, counts))) in
+    behind_whole cpu log.end (status_of_logs (cpu + 1) logs) (are.0 ∙ ended)
+    (fine_logs files setups (cpu + 1) bytes ends logs captures.1 are.1 whole.1
+    (omega (arith, none)))
 
 -- the captures of made frames ended whole
-made_logs : (cpu : ℕ) (bytes : List (List ℕ)) (cpus : List Cpu) → status_of_logs cpu (logs_from cpu bytes (map (λ text. Whole) bytes) cpus) ≡ statuses.Fine
-made_logs cpu [] cpus = refl
-made_logs cpu (b ∷ bytes) [] = refl
-made_logs cpu (b ∷ bytes) (of ∷ cpus) = made_logs (cpu + 1) bytes cpus
+made_logs : (cpu : ℕ) (bytes : List (List ℕ)) (logs : List CpuLog)
+    → AreEnds logs (map (λ text. Whole) bytes)
+    → status_of_logs cpu logs ≡ statuses.Fine
+made_logs cpu bytes [] are = refl
+made_logs cpu [] (log ∷ logs) are = absurd are
+made_logs cpu (b ∷ bytes) (log ∷ logs) are =
+    behind_whole cpu log.end (status_of_logs (cpu + 1) logs) are.0
+    (made_logs (cpu + 1) bytes logs are.1)
 
-fine_captures : Stays → Ends → (files : Contents) (named : Named) (setup : Setup) (bytes : List (List ℕ)) (ends : List CpuEnd) (cpus : List Cpu) (command : Command)
-    → IsSound files named → named.command ≡ command → HasSetup (Some files) named setup → CapturesFor command (Some files) setup bytes ends
-    → faults_in (logs_from 0 bytes ends cpus) ≡ 0 → status_of_logs 0 (logs_from 0 bytes ends cpus) ≡ statuses.Fine
-fine_captures stays ends_law files named setup bytes ends cpus Check sound is has captures none = absurd captures
-fine_captures stays ends_law files named setup bytes ends cpus Send sound is has captures none = absurd captures
-fine_captures stays ends_law files named setup bytes ends cpus Replay sound is has captures none =
-    fine_logs stays ends_law files setup.cpus 0 bytes ends cpus captures (run_of files named sound setup is has).whole none
-fine_captures stays ends_law files named setup bytes ends cpus Make sound is has captures none =
-    subst (λ (es : List CpuEnd). status_of_logs 0 (logs_from 0 bytes es cpus) ≡ statuses.Fine) (sym captures.whole) (made_logs 0 bytes cpus)
+fine_captures : (files : Contents) (named : Named) (setup : Setup) (bytes : List (List ℕ))
+    (ends : List CpuEnd) (logs : List CpuLog) (command : Command)
+    → IsSound files named → named.command ≡ command → HasSetup (Some files) named setup
+    → CapturesFor command (Some files) setup bytes ends
+    → AreEnds logs ends → faults_in logs ≡ 0 → status_of_logs 0 logs ≡ statuses.Fine
+fine_captures files named setup bytes ends logs Check sound is has captures are none = absurd
+    captures
+fine_captures files named setup bytes ends logs Make sound is has captures are none =
+    made_logs 0 bytes logs (subst (λ (es : List CpuEnd). AreEnds logs es) captures.whole are)
+fine_captures files named setup bytes ends logs Replay sound is has captures are none =
+    fine_logs files setup.cpus 0 bytes ends logs captures are
+    (last_of files named sound Replay setup is has).1 none
+fine_captures files named setup bytes ends logs Send sound is has captures are none = absurd
+    captures
 
-fine_report : Stays → Ends → (files : Contents) (named : Named) (report : RunReport) → IsSound files named → IsHeadline (Some files) named report
+fine_report : (files : Contents) (named : Named) (report : RunReport) → IsSound files named
+    → IsHeadline (Some files) named report
     → faults_in report.cpus ≡ 0 → status_of_logs 0 report.cpus ≡ statuses.Fine
-fine_report stays ends_law files named report sound h none =
-    let cpus = (replay_of h.job h.lines h.bytes).cpus in
-    let logs : report.cpus ≡ logs_from 0 h.bytes h.ends cpus = ap (λ (r : RunReport). r.cpus) h.replay ∙ cpus_are h.job h.lines h.bytes h.ends in
-    ap (λ (ls : List CpuLog). status_of_logs 0 ls) logs
-    ∙ fine_captures stays ends_law files named h.job.setup h.bytes h.ends cpus named.command sound refl h.job_is.setup h.captures (ap faults_in (sym logs) ∙ none)
+fine_report files named report sound h none =
+    fine_captures files named h.job.setup h.bytes h.ends report.cpus named.command sound refl
+    h.job_is.setup h.captures
+    (report_ends h.job h.bytes h.ends report h.report_is) none
+
+-- the first capture is whole, where it is sent
+first_whole : (files : Contents) (named : Named) (setup : Setup) (job : Job) → IsSound files named
+    → named.command ≡ Send
+    → HasSetup (Some files) named job.setup → job.setup ≡ setup
+    → end_of (text_in files (first_file setup.cpus)) ≡ None
+first_whole files named setup job sound is has same =
+    subst (λ (s : Setup). end_of (text_in files (first_file s.cpus)) ≡ None) same
+    (last_of files named sound Send job.setup is has)
+
+fine_sending : (files : Contents) (named : Named) (setup : Setup) (sending : Sending)
+    → IsSound files named → IsSent (Some files) named setup sending
+    → fault_at sending.end ≡ 0 → status_by_end 0 sending.end statuses.Fine ≡ statuses.Fine
+fine_sending files named setup sending sound h none =
+    let capture = h.sending_is.capture in
+    behind_whole 0 sending.end statuses.Fine
+    (whole_end (text_in files (first_file setup.cpus)) h.sending_is.bytes capture.front.rest
+    sending.end capture.front.parts
+    (first_whole files named setup h.job sound h.command h.job_is.setup h.setup_is) capture.damage
+    capture.all (none_faults sending.end none))
+    refl
 
 -- no fault rose, so none was counted
 none_rose : (n before now : ℕ) → (RoseBy 1 before now → ⊥) → RoseBy n before now → n ≡ 0
@@ -257,54 +320,63 @@ none_rose n before now sane h = by (cases_lt 0 n) where
   by (inl some) = absurd (sane (rose_less 1 n before now (omega (arith, some)) h))
   by (inr none) = omega (arith, none)
 
--- the first capture is whole, where it is sent
-first_whole : (files : Contents) (named : Named) (setup : Setup) (job : Job) → IsSound files named → named.command ≡ Send → HasSetup (Some files) named job.setup → job.setup ≡ setup
-    → end_of (text_in files (first_file setup.cpus)) ≡ None
-first_whole files named setup job sound is has same =
-    let behind : IsSoundBehind Send files named.schedule sound.setup = subst (λ (c : Command). IsSoundBehind c files named.schedule sound.setup) is sound.behind in
-    subst (λ (s : Setup). end_of (text_in files (first_file s.cpus)) ≡ None) (the_setup files named sound job.setup has ∙ same) behind
+fine_found : (files : Contents) (named : Named) (old new : StoreSeen) (found : Finding)
+    → old.held ≡ Some files → IsSound files named
+    → (RoseBy 1 old.read_faults new.read_faults → ⊥) → IsFound (Some named) old new found
+    → status_of found ≡ statuses.Fine
+fine_found files named old new finding.NoCommand is sound sane h = absurd h
+fine_found files named old new finding.Unread is sound sane h = absurd (sane h)
+fine_found files named old new (finding.BadSetup error) is sound sane h =
+    absurd (not_both (setup_for named.command) files named.setup sound.setup error
+    (setups named.command) sound.setup_is
+    (subst (λ (o : Option Contents). Says (setup_for named.command) o named.setup (Err error)) is
+    h.says))
+fine_found files named old new (finding.BadText error) is sound sane h =
+    absurd (no_text files old new named error is sound h)
+fine_found files named old new finding.Checked is sound sane h = refl
+fine_found files named old new (finding.Ran setup report) is sound sane h =
+    fine_report files named report sound (subst (λ (o : Option Contents). IsHeadline o named report)
+    is h.0.headline)
+    (none_rose (faults_in report.cpus) old.read_faults new.read_faults sane h.1)
+fine_found files named old new (finding.Sent setup sending) is sound sane h =
+    fine_sending files named setup sending sound (subst (λ (o : Option Contents). IsSent o named
+    setup sending) is h.0)
+    (none_rose (fault_at sending.end) old.read_faults new.read_faults sane h.1)
 
-fine_sending : Stays → Ends → (files : Contents) (named : Named) (setup : Setup) (sending : Sending) → IsSound files named → IsSent (Some files) named setup sending
-    → fault_at sending.end ≡ 0 → status_by_end 0 sending.end statuses.Fine ≡ statuses.Fine
-fine_sending stays ends_law files named setup sending sound h none =
-    let one = h.sending_is.capture in
-    let whole = first_whole files named setup h.job sound h.command h.job_is.setup h.setup_is in
-    behind_whole 0 sending.end statuses.Fine
-    (whole_end stays ends_law (text_in files (first_file setup.cpus)) h.sending_is.bytes one.front.rest sending.end one.front.parts whole one.damage one.all (none_faults sending.end none))
-    refl
+unprinted : (before after : SinkSeen) (lines : List ℕ) (printed : Bool) → printed ≡ false
+    → IsPrinted before after lines printed
+    → RoseBy 1 before.faults after.faults
+unprinted before after lines true e h = cc
+unprinted before after lines false e h = h.0
 
-fine_expected : Stays → Ends → (files : Contents) (named : Named) (r0 r1 : ℕ) (e : Expected) → IsSound files named → (RoseBy 1 r0 r1 → ⊥)
-    → IsExpected (Some files) (λ n. RoseBy n r0 r1) (Some named) e → status_of e ≡ statuses.Fine
-fine_expected stays ends_law files named r0 r1 no_command sound sane h = absurd h
-fine_expected stays ends_law files named r0 r1 unread sound sane h = absurd (sane h)
-fine_expected stays ends_law files named r0 r1 (bad_setup error) sound sane h =
-    absurd (not_both (setup_for named.command) files named.setup sound.setup error (setups named.command) sound.setup_is h)
-fine_expected stays ends_law files named r0 r1 (bad_text error) sound sane h = absurd (no_text files named error sound h)
-fine_expected stays ends_law files named r0 r1 checked sound sane h = refl
-fine_expected stays ends_law files named r0 r1 (reported setup report) sound sane h =
-    fine_report stays ends_law files named report sound h.0.headline (none_rose (faults_in report.cpus) r0 r1 sane h.1)
-fine_expected stays ends_law files named r0 r1 (sent_off setup sending) sound sane h =
-    fine_sending stays ends_law files named setup sending sound h.0 (none_rose (fault_at sending.end) r0 r1 sane h.1)
+-- a fault of saving or printing was counted
+failed_count : (found : Finding) (status : Status) (old new : StoreSeen) (before after : SinkSeen)
+    → IsFailed found status old new before after
+    → (RoseBy 1 old.save_faults new.save_faults → ⊥) → (RoseBy 1 before.faults after.faults → ⊥) → ⊥
+failed_count found status old new before after f saves prints = by f.cause where
+  by : (0 < marked f.missed) ⊎ (f.printed ≡ false) → ⊥
+  by (inl some) = saves (rose_less 1 (marked f.missed) old.save_faults new.save_faults
+      (omega (arith, some)) f.counted)
+  by (inr unsaid) = prints (unprinted before after (lines_of found) f.printed unsaid f.lines)
 
-pub complete_of : Stays → Ends → (held after : Option Contents) (command : Option Named) (r0 r1 : ℕ) (unsaved : ℕ → Type 0) (unprinted : Type 0) (outcome : Outcome) (before now : Option (List ℕ))
-    → (outcome.status ≢ statuses.Memory → (e : Expected) × IsExpected held (λ n. RoseBy n r0 r1) command e × Concludes e outcome held after before now unsaved unprinted)
-    → IsComplete held command (RoseBy 1 r0 r1 ⊎ (unsaved 1 ⊎ unprinted)) outcome.status
-complete_of stays ends_law held after command r0 r1 unsaved unprinted outcome before now told = λ files named is_held is_command sound sane.
-    by files named is_held is_command sound sane (is_memory outcome.status) where
-      plain : (files : Contents) (named : Named) → held ≡ Some files → command ≡ Some named → IsSound files named → (RoseBy 1 r0 r1 ⊎ (unsaved 1 ⊎ unprinted) → ⊥)
-          → (outcome.status ≢ statuses.Memory) → (outcome.status ≢ statuses.WriteFault) → outcome.status ≡ statuses.Fine
-      plain files named is_held is_command sound sane other unfailed =
-          let t = told other in
-          let expected : IsExpected (Some files) (λ n. RoseBy n r0 r1) (Some named) t.0 =
-          subst (λ (c : Option Named). IsExpected (Some files) (λ n. RoseBy n r0 r1) c t.0) is_command (subst (λ (h : Option Contents). IsExpected h (λ n. RoseBy n r0 r1) command t.0) is_held t.1) in
-          t.2.status (record { no_fault = unfailed; no_want = other }) ∙ fine_expected stays ends_law files named r0 r1 t.0 sound (λ f. sane (inl f)) expected
-
-      unfaulted : (files : Contents) (named : Named) → held ≡ Some files → command ≡ Some named → IsSound files named → (RoseBy 1 r0 r1 ⊎ (unsaved 1 ⊎ unprinted) → ⊥)
-          → (outcome.status ≢ statuses.Memory) → (outcome.status ≡ statuses.WriteFault) ⊎ (outcome.status ≢ statuses.WriteFault) → outcome.status ≡ statuses.Fine
-      unfaulted files named is_held is_command sound sane other (inl fault) = absurd (sane (inr ((told other).2.fault fault)))
-      unfaulted files named is_held is_command sound sane other (inr unfailed) = plain files named is_held is_command sound sane other unfailed
-
-      by : (files : Contents) (named : Named) → held ≡ Some files → command ≡ Some named → IsSound files named → (RoseBy 1 r0 r1 ⊎ (unsaved 1 ⊎ unprinted) → ⊥)
-          → (outcome.status ≡ statuses.Memory) ⊎ (outcome.status ≢ statuses.Memory) → (outcome.status ≡ statuses.Fine) ⊎ (outcome.status ≡ statuses.Memory)
-      by files named is_held is_command sound sane (inl memory) = inr memory
-      by files named is_held is_command sound sane (inr other) = inl (unfaulted files named is_held is_command sound sane other (is_fault outcome.status))
+pub complete_of : (command : Option Named) (outcome : Outcome) (old new : StoreSeen)
+    (before after : SinkSeen)
+    → Tells command outcome old new before after
+    → IsComplete command old new before after outcome.status
+complete_of command outcome old new before after t = λ files named held is sound sane. inl
+    (by files named held is sound sane t.concludes.ended) where
+      by : (files : Contents) (named : Named) → old.held ≡ Some files → command ≡ Some named
+          → IsSound files named → NothingFails old new before after
+          → IsDone t.finding outcome.status t.read new before after
+          ⊎ IsFailed t.finding outcome.status t.read new before after
+          → outcome.status ≡ statuses.Fine
+      by files named held is sound sane (inl d) =
+          d.status_is ∙ fine_found files named old t.read t.finding held sound
+          (λ rose. sane.reads (subst (λ n. RoseBy 1 old.read_faults n)
+          (ap (λ (s : StoreSeen). s.read_faults) (sym t.concludes.touches.same)) rose))
+          (subst (λ (c : Option Named). IsFound c old t.read t.finding) is t.found)
+      by files named held is sound sane (inr f) =
+          absurd (failed_count t.finding outcome.status t.read new before after f
+          (λ rose. sane.saves
+          (subst (λ n. RoseBy 1 n new.save_faults) (saves_same old t.read t.reads) rose))
+          sane.prints)

@@ -1,25 +1,27 @@
 -- The captures of a run are those of its sources, and its faults those of the store.
-use Rattle.std.proofs.Common.{◌≡◌, ℕ, suc, ◌+◌, ◌<◌, ◌≤◌, Bool, true, false, List, [], ◌∷◌, ◌++◌, length, take, get_or, Option, None, Some, refl, sym, ap, ◌∙◌, subst, arith, add-one, append-nil}
+use Rattle.std.proofs.Common.{◌≡◌, ℕ, suc, ◌+◌, ◌<◌, ◌≤◌, Bool, true, false, List, [], ◌∷◌, ◌++◌}
+use Rattle.std.proofs.Common.{length, take, get_or, Option, None, Some, refl, sym, ap, ◌∙◌, subst}
+use Rattle.std.proofs.Common.{arith, add-one, append-nil}
 use Rattle.std.specs.Prelude.{◌==◌, if◌then◌else◌, map, unwrap_or}
 use Rattle.std.specs.Io.KnownBytes.{Consumes, IsAtEnd}
 use Rattle.std.proofs.lemmas.Bool.{eqb-true}
 use Rattle.std.proofs.Math.Seq.{take-suc}
-use Rattle.capture_file.specs.Capture.{end_of}
+use Rattle.capture_file.specs.Capture.{damage_of, end_of}
 use Rattle.capture_file.specs.declared.error.CaptureError.TheVariants as errors
-use Rattle.fanout_group.specs.declared.runs.CpuEnd.{CpuEnd}
-use Rattle.fanout_group.specs.declared.runs.CpuEnd.TheVariants.{Whole, Fault, Damaged}
-use Rattle.replay_model.specs.Replay.{Cpu}
+use Rattle.capture_file.specs.declared.cpu_end.CpuEnd.{CpuEnd}
+use Rattle.capture_file.specs.declared.cpu_end.CpuEnd.TheVariants.{Whole, Fault, Damaged}
+use Rattle.fanout_group.specs.declared.runs.CpuLog.{CpuLog}
 use Rattle.setup_text.specs.declared.cpu_setups.CpuSetup.{CpuSetup}
 use Rattle.tap_outside.specs.Contents.{Contents, GivesFile}
 use Rattle.tap_outside.specs.Counts.{Rose, RoseBy}
 use Rattle.tap_reading.specs.Fronts.{IsAllOf, IsFrontOf}
-use Rattle.tap_reading.specs.Stores.{IsReadOnly}
-use Rattle.tap_reading.specs.Stores as stores
-use Rattle.tap_replay.specs.Runs.{logs_from}
-use Rattle.capture_reading.specs.Sources.{AllGave, Gave, Seen, UnlessFault, WhereEnded, WhereFault, end_by}
-use Rattle.tap_engine.specs.Expected.{fault_at, faults_in}
+use Rattle.capture_reading.specs.Sources.{AllGave, EndsAtDamage, Gave, UnlessFault, WhereEnded}
+use Rattle.capture_reading.specs.Sources.{WhereFault, end_by}
+use Rattle.tap_outside.specs.Seen.{OnlyReads, SourceSeen, StoreSeen}
+use Rattle.tap_engine.specs.Findings.{fault_at, faults_in}
 use Rattle.tap_engine.specs.Headline.{AreCaptures, IsCapture}
 use Rattle.tap_engine.specs.Sources.{AreFetched, IsFresh, faulty_in, missing_in}
+use Rattle.tap_engine.proofs.Ends.{AreEnds}
 
 -- ---- counts
 
@@ -40,25 +42,32 @@ rose_later x a b c h k = omega (arith, h, k)
 
 -- ---- fetching
 
-pub fetched_more : (held : Option Contents) (cpus : List CpuSetup) (sources : List (Option Seen)) (cpu : CpuSetup) (source : Option Seen)
-    → AreFetched held cpus sources → AreFetched held (cpu ∷ []) (source ∷ []) → AreFetched held (cpus ++ cpu ∷ []) (sources ++ source ∷ [])
+pub fetched_more : (held : Option Contents) (cpus : List CpuSetup)
+    (sources : List (Option SourceSeen)) (cpu : CpuSetup) (source : Option SourceSeen)
+    → AreFetched held cpus sources → AreFetched held (cpu ∷ []) (source ∷ [])
+    → AreFetched held (cpus ++ cpu ∷ []) (sources ++ source ∷ [])
 fetched_more held [] [] cpu source all one = one
 fetched_more held [] (first ∷ sources) cpu source all one = absurd all
 fetched_more held (first ∷ cpus) [] cpu source all one = absurd all
-fetched_more held (first ∷ cpus) (None ∷ sources) cpu source all one = fetched_more held cpus sources cpu source all one
-fetched_more held (first ∷ cpus) (Some x ∷ sources) cpu source all one = (all.0, fetched_more held cpus sources cpu source all.1 one)
+fetched_more held (first ∷ cpus) (None ∷ sources) cpu source all one = fetched_more held cpus
+    sources cpu source all one
+fetched_more held (first ∷ cpus) (Some x ∷ sources) cpu source all one =
+    (all.0, fetched_more held cpus sources cpu source all.1 one)
 
-pub missing_more : (sources : List (Option Seen)) (source : Option Seen) → missing_in (sources ++ source ∷ []) ≡ missing_in sources + missing_in (source ∷ [])
+pub missing_more : (sources : List (Option SourceSeen)) (source : Option SourceSeen)
+    → missing_in (sources ++ source ∷ []) ≡ missing_in sources + missing_in (source ∷ [])
 missing_more [] source = omega arith
 missing_more (None ∷ sources) source = let rest = missing_more sources source in omega (arith, rest)
 missing_more (Some x ∷ sources) source = missing_more sources source
 
-pub faulty_more : (sources : List (Option Seen)) (source : Option Seen) → faulty_in (sources ++ source ∷ []) ≡ faulty_in sources + faulty_in (source ∷ [])
+pub faulty_more : (sources : List (Option SourceSeen)) (source : Option SourceSeen)
+    → faulty_in (sources ++ source ∷ []) ≡ faulty_in sources + faulty_in (source ∷ [])
 faulty_more [] source = omega arith
 faulty_more (None ∷ sources) source = faulty_more sources source
 faulty_more (Some x ∷ sources) source = let rest = faulty_more sources source in omega (arith, rest)
 
-pub as_many : (held : Option Contents) (cpus : List CpuSetup) (sources : List (Option Seen)) → AreFetched held cpus sources → length sources ≡ length cpus
+pub as_many : (held : Option Contents) (cpus : List CpuSetup) (sources : List (Option SourceSeen))
+    → AreFetched held cpus sources → length sources ≡ length cpus
 as_many held [] [] all = refl
 as_many held [] (x ∷ sources) all = absurd all
 as_many held (cpu ∷ cpus) [] all = absurd all
@@ -81,25 +90,48 @@ where_ended Fault P e = tt
 where_ended Whole P e = cc
 where_ended (Damaged damage) P e = cc
 
--- a capture that couldn't be had gave nothing
-missing_capture : (held : Option Contents) (name bytes : List ℕ) (end : CpuEnd) → bytes ≡ [] → end ≡ Fault → IsCapture held name bytes end
+where_fault : (end : CpuEnd) (P : Type 0) → P → WhereFault end P
+where_fault Whole P p = tt
+where_fault Fault P p = p
+where_fault (Damaged damage) P p = tt
+
+no_damage : damage_of [] ≡ None
+unfolding damage_of
+no_damage = refl
+
+-- a capture that can't be had gave nothing
+missing_capture : (held : Option Contents) (name bytes : List ℕ) (end : CpuEnd) → bytes ≡ []
+    → end ≡ Fault → IsCapture held name bytes end
 missing_capture held name bytes end none fault = record {
   front = subst (λ b. IsFrontOf held name b) (sym none) (nothing_of held name);
+  last = subst (λ b. EndsAtDamage b) (sym none) (record {
+    before = [];
+    piece = [];
+    parts = refl;
+    sound = no_damage;
+    small = omega arith;
+  });
+  few = subst (λ (b : List ℕ). length b ≤ 33619968) (sym none) (omega arith);
+  sound = where_fault end (damage_of bytes ≡ None) (ap damage_of none ∙ no_damage);
   damage = unless end (end ≡ end_by (end_of bytes)) fault;
   all = where_ended end (IsAllOf held name bytes) fault;
 }
 
-front_by : (held : Option Contents) (name bytes : List ℕ) (left new : Option (List ℕ)) → GivesFile held name left → Consumes left new bytes → IsFrontOf held name bytes
+front_by : (held : Option Contents) (name bytes : List ℕ) (left new : Option (List ℕ))
+    → GivesFile held name left → Consumes left new bytes → IsFrontOf held name bytes
 front_by None name bytes left new gives took = tt
 front_by (Some files) name bytes None new gives took = absurd gives
 front_by (Some files) name bytes (Some content) None gives took = absurd took
-front_by (Some files) name bytes (Some content) (Some rest) gives took = record { rest = rest; parts = sym gives ∙ took }
+front_by (Some files) name bytes (Some content) (Some rest) gives took = record
+    { rest = rest; parts = sym gives ∙ took }
 
-all_by : (held : Option Contents) (name bytes : List ℕ) (left new : Option (List ℕ)) → GivesFile held name left → Consumes left new bytes → IsAtEnd new → IsAllOf held name bytes
+all_by : (held : Option Contents) (name bytes : List ℕ) (left new : Option (List ℕ))
+    → GivesFile held name left → Consumes left new bytes → IsAtEnd new → IsAllOf held name bytes
 all_by None name bytes left new gives took end = tt
 all_by (Some files) name bytes None new gives took end = absurd gives
 all_by (Some files) name bytes (Some content) None gives took end = absurd took
-all_by (Some files) name bytes (Some content) (Some rest) gives took end = sym (sym gives ∙ took ∙ ap (λ r. bytes ++ r) end ∙ append-nil bytes)
+all_by (Some files) name bytes (Some content) (Some rest) gives took end = sym
+    (sym gives ∙ took ∙ ap (λ r. bytes ++ r) end ∙ append-nil bytes)
 
 map_ended : (end : CpuEnd) (P Q : Type 0) → (P → Q) → WhereEnded end P → WhereEnded end Q
 map_ended Whole P Q f p = f p
@@ -113,14 +145,20 @@ map_ended (Damaged errors.TooLarge) P Q f p = tt
 map_ended (Damaged errors.Memory) P Q f p = tt
 map_ended (Damaged (errors.BadInterface place)) P Q f p = tt
 
-capture_by : (held : Option Contents) (name bytes : List ℕ) (old new : Seen) (end : CpuEnd) → IsFresh held name old → Gave old new bytes end → IsCapture held name bytes end
+capture_by : (held : Option Contents) (name bytes : List ℕ) (old new : SourceSeen) (end : CpuEnd)
+    → IsFresh held name old → Gave old new bytes end → IsCapture held name bytes end
 capture_by held name bytes old new end fresh gave = record {
   front = front_by held name bytes old.left new.left fresh.left gave.taken;
+  last = gave.last;
+  few = gave.few;
+  sound = gave.sound;
   damage = gave.damage;
-  all = map_ended end (IsAtEnd new.left) (IsAllOf held name bytes) (all_by held name bytes old.left new.left fresh.left gave.taken) gave.all;
+  all = map_ended end (IsAtEnd new.left) (IsAllOf held name bytes)
+      (all_by held name bytes old.left new.left fresh.left gave.taken) gave.all;
 }
 
-pub captures_are : (held : Option Contents) (cpus : List CpuSetup) (old new : List (Option Seen)) (bytes : List (List ℕ)) (ends : List CpuEnd)
+pub captures_are : (held : Option Contents) (cpus : List CpuSetup)
+    (old new : List (Option SourceSeen)) (bytes : List (List ℕ)) (ends : List CpuEnd)
     → AreFetched held cpus old → AllGave old new bytes ends → AreCaptures held cpus bytes ends
 captures_are held [] [] [] [] [] fetched gave = tt
 captures_are held [] [] [] [] (end ∷ ends) fetched gave = absurd gave
@@ -131,15 +169,23 @@ captures_are held (cpu ∷ cpus) [] new bytes ends fetched gave = absurd fetched
 captures_are held (cpu ∷ cpus) (o ∷ old) [] bytes ends fetched gave = absurd gave
 captures_are held (cpu ∷ cpus) (o ∷ old) (n ∷ new) [] ends fetched gave = absurd gave
 captures_are held (cpu ∷ cpus) (o ∷ old) (n ∷ new) (b ∷ bytes) [] fetched gave = absurd gave
-captures_are held (cpu ∷ cpus) (None ∷ old) (None ∷ new) (b ∷ bytes) (end ∷ ends) fetched gave =
-    (missing_capture held cpu.file b end gave.0.0 gave.0.1, captures_are held cpus old new bytes ends fetched gave.1)
-captures_are held (cpu ∷ cpus) (None ∷ old) (Some n ∷ new) (b ∷ bytes) (end ∷ ends) fetched gave = absurd gave.0
-captures_are held (cpu ∷ cpus) (Some o ∷ old) (None ∷ new) (b ∷ bytes) (end ∷ ends) fetched gave = absurd gave.0
-captures_are held (cpu ∷ cpus) (Some o ∷ old) (Some n ∷ new) (b ∷ bytes) (end ∷ ends) fetched gave =
-    (capture_by held cpu.file b o n end fetched.0 gave.0, captures_are held cpus old new bytes ends fetched.1 gave.1)
+captures_are held (cpu ∷ cpus) (None ∷ old) (None ∷ new) (b ∷ bytes) (end ∷ ends) fetched gave = (
+  missing_capture held cpu.file b end gave.0.0 gave.0.1,
+  captures_are held cpus old new bytes
+      ends fetched gave.1,
+)
+captures_are held (cpu ∷ cpus) (None ∷ old) (Some n ∷ new) (b ∷ bytes) (end ∷ ends) fetched gave =
+    absurd gave.0
+captures_are held (cpu ∷ cpus) (Some o ∷ old) (None ∷ new) (b ∷ bytes) (end ∷ ends) fetched gave =
+    absurd gave.0
+captures_are held (cpu ∷ cpus) (Some o ∷ old) (Some n ∷ new) (b ∷ bytes) (end ∷ ends) all gave = (
+  capture_by held cpu.file b o n end all.0 gave.0,
+  captures_are held cpus old new bytes ends all.1 gave.1,
+)
 
 -- as many bytes and ends as CPUs
-pub bytes_as_many : (old new : List (Option Seen)) (bytes : List (List ℕ)) (ends : List CpuEnd) → AllGave old new bytes ends
+pub bytes_as_many : (old new : List (Option SourceSeen)) (bytes : List (List ℕ))
+    (ends : List CpuEnd) → AllGave old new bytes ends
     → (length bytes ≡ length old) × (length ends ≡ length old)
 bytes_as_many [] [] [] [] gave = (refl, refl)
 bytes_as_many [] [] [] (end ∷ ends) gave = absurd gave
@@ -168,70 +214,109 @@ faulty_one faults h = by (faults == 0) refl where
   by true e = absurd (let zero_is = eqb-true faults 0 e in omega (arith, zero_is, h))
   by false e = rw e (omega arith)
 
-fault_counts : (end : CpuEnd) (old new : Seen) → old.faults ≡ 0 → WhereFault end (Rose old.faults new.faults) → fault_at end ≤ (if new.faults == 0 then 0 else 1)
+fault_counts : (end : CpuEnd) (old new : SourceSeen) → old.faults ≡ 0
+    → WhereFault end (Rose old.faults new.faults)
+    → fault_at end ≤ (if new.faults == 0 then 0 else 1)
 fault_counts Whole old new fresh h = omega arith
 fault_counts (Damaged damage) old new fresh h = omega arith
 fault_counts Fault old new fresh h = faulty_one new.faults (omega (arith, fresh, h))
 
-pub faults_are : (held : Option Contents) (setups : List CpuSetup) (cpu : ℕ) (old new : List (Option Seen)) (bytes : List (List ℕ)) (ends : List CpuEnd) (cpus : List Cpu)
-    → AreFetched held setups old → AllGave old new bytes ends → faults_in (logs_from cpu bytes ends cpus) ≤ missing_in old + faulty_in new
-faults_are held [] cpu [] [] [] [] cpus fetched gave = omega arith
-faults_are held [] cpu [] [] [] (end ∷ ends) cpus fetched gave = absurd gave
-faults_are held [] cpu [] [] (b ∷ bytes) ends cpus fetched gave = absurd gave
-faults_are held [] cpu [] (n ∷ new) bytes ends cpus fetched gave = absurd gave
-faults_are held [] cpu (o ∷ old) new bytes ends cpus fetched gave = absurd fetched
-faults_are held (s ∷ setups) cpu [] new bytes ends cpus fetched gave = absurd fetched
-faults_are held (s ∷ setups) cpu (o ∷ old) [] bytes ends cpus fetched gave = absurd gave
-faults_are held (s ∷ setups) cpu (o ∷ old) (n ∷ new) [] ends cpus fetched gave = absurd gave
-faults_are held (s ∷ setups) cpu (o ∷ old) (n ∷ new) (b ∷ bytes) [] cpus fetched gave = absurd gave
-faults_are held (s ∷ setups) cpu (o ∷ old) (n ∷ new) (b ∷ bytes) (end ∷ ends) [] fetched gave = omega arith
-faults_are held (s ∷ setups) cpu (None ∷ old) (None ∷ new) (b ∷ bytes) (end ∷ ends) (of ∷ cpus) fetched gave =
-    let rest = faults_are held setups (cpu + 1) old new bytes ends cpus fetched gave.1 in
-    let one = one_at_most end in omega (arith, rest, one)
-faults_are held (s ∷ setups) cpu (None ∷ old) (Some n ∷ new) (b ∷ bytes) (end ∷ ends) (of ∷ cpus) fetched gave = absurd gave.0
-faults_are held (s ∷ setups) cpu (Some o ∷ old) (None ∷ new) (b ∷ bytes) (end ∷ ends) (of ∷ cpus) fetched gave = absurd gave.0
-faults_are held (s ∷ setups) cpu (Some o ∷ old) (Some n ∷ new) (b ∷ bytes) (end ∷ ends) (of ∷ cpus) fetched gave =
-    let rest = faults_are held setups (cpu + 1) old new bytes ends cpus fetched.1 gave.1 in
-    let one = fault_counts end o n fetched.0.faultless gave.0.fault in omega (arith, rest, one)
+pub faults_are : (held : Option Contents) (setups : List CpuSetup)
+    (old new : List (Option SourceSeen)) (bytes : List (List ℕ)) (ends : List CpuEnd)
+    (logs : List CpuLog)
+    → AreFetched held setups old → AllGave old new bytes ends → AreEnds logs ends
+    → faults_in logs ≤ missing_in old + faulty_in new
+faults_are held setups old new bytes ends [] fetched gave are = omega arith
+faults_are held setups old new bytes [] (log ∷ logs) fetched gave are = absurd are
+faults_are held setups [] [] [] (end ∷ ends) (log ∷ logs) fetched gave are = absurd gave
+faults_are held setups [] [] (b ∷ bytes) (end ∷ ends) (log ∷ logs) fetched gave are = absurd gave
+faults_are held setups [] (n ∷ new) bytes (end ∷ ends) (log ∷ logs) fetched gave are = absurd gave
+faults_are held setups (o ∷ old) [] bytes (end ∷ ends) (log ∷ logs) fetched gave are = absurd gave
+faults_are held setups (o ∷ old) (n ∷ new) [] (end ∷ ends) (log ∷ logs) fetched gave are = absurd
+    gave
+faults_are held [] (o ∷ old) (n ∷ new) (b ∷ bytes) (end ∷ ends) (log ∷ logs) fetched gave are =
+    absurd fetched
+faults_are held (s ∷ setups) (None ∷ old) (None ∷ new) (b ∷ bytes) (end ∷ ends) (log ∷ logs) fetched
+    gave are =
+    let rest = faults_are held setups old new bytes ends logs fetched gave.1 are.1 in
+    let one = one_at_most log.end in omega (arith, rest, one)
+faults_are held (s ∷ setups) (None ∷ old) (Some n ∷ new) (b ∷ bytes) (end ∷ ends) (log ∷ logs)
+    fetched gave are = absurd gave.0
+faults_are held (s ∷ setups) (Some o ∷ old) (None ∷ new) (b ∷ bytes) (end ∷ ends) (log ∷ logs)
+    fetched gave are = absurd gave.0
+faults_are held (s ∷ setups) (Some o ∷ old) (Some n ∷ new) (b ∷ bytes) (end ∷ ends) (log ∷ logs)
+    fetched gave are =
+    let rest = faults_are held setups old new bytes ends logs fetched.1 gave.1 are.1 in
+    let same : fault_at log.end ≡ fault_at end = ap fault_at are.0 in
+    let one = fault_counts end o n fetched.0.faultless gave.0.fault in omega
+    (arith, rest, one, same)
 
 -- one CPU more in front of those that are done
-pub one_more : {A : Type 0} (xs : List A) (at : ℕ) (x : A) → x ≡ get_or xs at x → at < length xs → take (at + 1) xs ≡ take at xs ++ x ∷ []
-one_more xs at x is less = rw add-one (take-suc xs at x less) ∙ ap (λ y. take at xs ++ y ∷ []) (sym is)
+pub one_more : {A : Type 0} (xs : List A) (at : ℕ) (x : A) → x ≡ get_or xs at x → at < length xs
+    → take (at + 1) xs ≡ take at xs ++ x ∷ []
+one_more xs at x is less = rw add-one (take-suc xs at x less)
+    ∙ ap (λ y. take at xs ++ y ∷ []) (sym is)
 
-pub map_more : {A B : Type 0} (f : A → B) (xs : List A) (x : A) → map f (xs ++ x ∷ []) ≡ map f xs ++ f x ∷ []
+pub map_more : {A B : Type 0} (f : A → B) (xs : List A) (x : A)
+    → map f (xs ++ x ∷ []) ≡ map f xs ++ f x ∷ []
 map_more f [] x = refl
 map_more f (y ∷ xs) x = ap (λ rest. f y ∷ rest) (map_more f xs x)
 
 -- the captures of the CPUs so far, and of one more
-pub goes_on : {Input : Type 0} (seen : Option Input → Option Seen) (held now : Option Contents) (cpus : List CpuSetup) (at : ℕ) (cpu : CpuSetup) (sources more : List (Option Input)) (source : Option Input) (a b c : ℕ)
+pub goes_on : {Input : Type 0} (seen : Option Input → Option SourceSeen)
+    (held now : Option Contents) (cpus : List CpuSetup) (at : ℕ) (cpu : CpuSetup)
+    (sources more : List (Option Input)) (source : Option Input) (a b c : ℕ)
     → now ≡ held → cpu ≡ get_or cpus at cpu → at < length cpus → more ≡ sources ++ source ∷ []
-    → AreFetched held (take at cpus) (map seen sources) → AreFetched now (cpu ∷ []) (seen source ∷ [])
+    → AreFetched held (take at cpus) (map seen sources)
+    → AreFetched now (cpu ∷ []) (seen source ∷ [])
     → RoseBy (missing_in (map seen sources)) a b → RoseBy (missing_in (seen source ∷ [])) b c
     → AreFetched held (take (at + 1) cpus) (map seen more) × RoseBy (missing_in (map seen more)) a c
 goes_on seen held now cpus at cpu sources more source a b c same is less added all one h k =
     let mapped = ap (λ xs. map seen xs) added ∙ map_more seen sources source in
-    let one_held : AreFetched held (cpu ∷ []) (seen source ∷ []) = subst (λ (o : Option Contents). AreFetched o (cpu ∷ []) (seen source ∷ [])) same one in (
-      rw (one_more cpus at cpu is less, mapped) (fetched_more held (take at cpus) (map seen sources) cpu (seen source) all one_held),
-      rw (mapped, missing_more (map seen sources) (seen source)) (rose_then (missing_in (map seen sources)) (missing_in (seen source ∷ [])) a b c h k),
+    let one_held : AreFetched held (cpu ∷ []) (seen source ∷ []) = subst
+    (λ (o : Option Contents). AreFetched o (cpu ∷ []) (seen source ∷ [])) same one in (
+      rw (one_more cpus at cpu is less, mapped) (fetched_more held (take at cpus) (map seen sources)
+          cpu (seen source) all one_held),
+      rw (mapped, missing_more (map seen sources) (seen source))
+          (rose_then (missing_in (map seen sources)) (missing_in (seen source ∷ [])) a b c h k),
     )
 
 -- one source more is closed
-faulty_front : (source : Option Seen) (rest : List (Option Seen)) → faulty_in (source ∷ rest) ≡ faulty_in (source ∷ []) + faulty_in rest
+faulty_front : (source : Option SourceSeen) (rest : List (Option SourceSeen))
+    → faulty_in (source ∷ rest) ≡ faulty_in (source ∷ []) + faulty_in rest
 faulty_front None rest = omega arith
 faulty_front (Some source) rest = omega arith
 
-pub closes_one : {Input : Type 0} (seen : Option Input → Option Seen) (all left rest : List (Option Input)) (source : Option Input) (n a b c : ℕ)
-    → faulty_in (map seen all) ≡ n + faulty_in (map seen left) → left ≡ source ∷ rest → RoseBy n a b → RoseBy (faulty_in (seen source ∷ [])) b c
+pub closes_one : {Input : Type 0} (seen : Option Input → Option SourceSeen)
+    (all left rest : List (Option Input)) (source : Option Input) (n a b c : ℕ)
+    → faulty_in (map seen all) ≡ n + faulty_in (map seen left) → left ≡ source ∷ rest → RoseBy n a b
+    → RoseBy (faulty_in (seen source ∷ [])) b c
     → (m : ℕ) × (faulty_in (map seen all) ≡ m + faulty_in (map seen rest)) × RoseBy m a c
 closes_one seen all left rest source n a b c counted is h k =
-    let here = ap (λ xs. faulty_in (map seen xs)) is ∙ faulty_front (seen source) (map seen rest) in
-    (n + faulty_in (seen source ∷ []), omega (arith, counted, here), rose_then n (faulty_in (seen source ∷ [])) a b c h k)
+    let front = faulty_front (seen source) (map seen rest) in
+    let here = ap (λ xs. faulty_in (map seen xs)) is ∙ front in (
+      n + faulty_in (seen source ∷ []),
+      omega (arith, counted, here),
+      rose_then n
+          (faulty_in (seen source ∷ [])) a b c h k,
+    )
 
-pub read_then : (a b c : stores.Seen) → IsReadOnly a b → IsReadOnly b c → IsReadOnly a c
-read_then a b c h k = record {
-  held = k.held ∙ h.held;
-  to_read = k.to_read ∙ h.to_read;
-  to_save = k.to_save ∙ h.to_save;
+-- ---- a store that is only read
+
+pub reads_then : (a b c : StoreSeen) → OnlyReads a b → OnlyReads b c → OnlyReads a c
+reads_then a b c h k = record {
+  same = k.same ∙ ap (λ (s : StoreSeen). record s { read_faults = c.read_faults }) h.same;
   later = let x = h.later in let y = k.later in omega (arith, x, y);
-  save_faults = k.save_faults ∙ h.save_faults;
 }
+
+pub held_same : (a b : StoreSeen) → OnlyReads a b → b.held ≡ a.held
+held_same a b h = ap (λ (s : StoreSeen). s.held) h.same
+
+pub to_read_same : (a b : StoreSeen) → OnlyReads a b → b.to_read ≡ a.to_read
+to_read_same a b h = ap (λ (s : StoreSeen). s.to_read) h.same
+
+pub to_save_same : (a b : StoreSeen) → OnlyReads a b → b.to_save ≡ a.to_save
+to_save_same a b h = ap (λ (s : StoreSeen). s.to_save) h.same
+
+pub saves_same : (a b : StoreSeen) → OnlyReads a b → b.save_faults ≡ a.save_faults
+saves_same a b h = ap (λ (s : StoreSeen). s.save_faults) h.same

@@ -1,22 +1,25 @@
 -- A capture that was read and sent.
-use Rattle.std.proofs.Common.{◌≡◌, ℕ, ◌+◌, ◌<◌, ◌≤◌, Bool, true, false, List, [], ◌∷◌, length, get_or, Option, sym, ap, subst, arith}
+use Rattle.std.proofs.Common.{◌≡◌, ℕ, ◌+◌, ◌<◌, ◌≤◌, Bool, true, false, List, [], ◌∷◌, length}
+use Rattle.std.proofs.Common.{get_or, Option, refl, sym, ap, subst, arith}
 use Rattle.std.specs.Prelude.{All, if◌then◌else◌}
 use Rattle.std.specs.List.{AllByRecursion}
 use Rattle.std.proofs.lemmas.List.Elements.{All-from_recursion, recursion_from_All}
 use Rattle.capture_file.specs.Laws.{IsCaptured}
-use Rattle.capture_reading.specs.Sources.{Seen}
 use Rattle.capture_reading.specs.Wholes.{IsReading}
 use Rattle.capture_reading.specs.declared.whole.Reading.{Reading}
+use Rattle.capture_file.specs.declared.cpu_end.CpuEnd.{CpuEnd}
+use Rattle.fanout_group.specs.declared.runs.CpuLog.{CpuLog}
 use Rattle.frame_view.specs.PlainPacket.{plain_of}
 use Rattle.frame_view.specs.declared.frames.Frame.{Frame}
 use Rattle.frame_view.specs.declared.frames.Packet.{Packet}
-use Rattle.replay_model.specs.Replay.{Cpu}
 use Rattle.setup_text.specs.declared.cpu_setups.CpuSetup.{CpuSetup}
 use Rattle.setup_text.specs.declared.setups.Setup.{Setup}
 use Rattle.tap_outside.specs.Contents.{Contents}
 use Rattle.tap_outside.specs.Counts.{RoseBy}
-use Rattle.tx_ring.specs.Transmitting.{before_long, is_fitting, is_long, plain_packets, reached, transmitted_of}
-use Rattle.tap_engine.specs.Expected.{fault_at}
+use Rattle.tap_outside.specs.Seen.{SourceSeen}
+use Rattle.tx_ring.specs.Transmitting.{before_long, is_fitting, is_long, plain_packets, reached}
+use Rattle.tx_ring.specs.Transmitting.{transmitted_of}
+use Rattle.tap_engine.specs.Findings.{fault_at}
 use Rattle.tap_engine.specs.Headline.{IsCapture}
 use Rattle.tap_engine.specs.Names.{first_file}
 use Rattle.tap_engine.specs.Sendings.{IsFirst}
@@ -24,29 +27,37 @@ use Rattle.tap_engine.specs.Sources.{AreFetched, faulty_in, missing_in}
 use Rattle.tap_engine.proofs.Fetched.{captures_are, faults_are, rose_less, rose_then}
 
 -- the capture of CPU 0 is that of the first CPU
-pub first_is : (cpus : List CpuSetup) (cpu : CpuSetup) → 0 < length cpus → cpu ≡ get_or cpus 0 cpu → first_file cpus ≡ cpu.file
+pub first_is : (cpus : List CpuSetup) (cpu : CpuSetup) → 0 < length cpus → cpu ≡ get_or cpus 0 cpu
+    → first_file cpus ≡ cpu.file
 first_is [] cpu some is = absurd (omega (arith, some))
 first_is (first ∷ cpus) cpu some is = ap (λ (c : CpuSetup). c.file) (sym is)
 
-pub first_read : (held : Option Contents) (setup : Setup) (cpu : CpuSetup) (old new : Option Seen) (reading : Reading)
-    → first_file setup.cpus ≡ cpu.file → AreFetched held (cpu ∷ []) (old ∷ []) → IsReading 0 old new reading → IsFirst held setup reading
+pub first_read : (held : Option Contents) (setup : Setup) (cpu : CpuSetup)
+    (old new : Option SourceSeen) (reading : Reading)
+    → first_file setup.cpus ≡ cpu.file → AreFetched held (cpu ∷ []) (old ∷ [])
+    → IsReading 0 old new reading → IsFirst held setup reading
 first_read held setup cpu old new reading file fetched is = record {
   bytes = is.bytes;
   capture = subst (λ name. IsCapture held name is.bytes reading.end) (sym file)
-      (captures_are held (cpu ∷ []) (old ∷ []) (new ∷ []) (is.bytes ∷ []) (reading.end ∷ []) fetched (is.gave, tt)).0;
+      (captures_are held (cpu ∷ []) (old ∷ []) (new ∷ []) (is.bytes ∷ []) (reading.end ∷ []) fetched
+      (is.gave, tt)).0;
   frames = is.frames;
 }
 
--- a CPU that logged nothing
-no_cpu : Cpu
-no_cpu = record { waiting = []; present = 0; log = [] }
+-- the log of a capture that ended so
+abbrev log_of : CpuEnd → CpuLog
+log_of end = record { frames = 0; given = 0; end = end; arrivals = [] }
 
-pub first_faults : (held : Option Contents) (cpu : CpuSetup) (old new : Option Seen) (reading : Reading) (a b c : ℕ)
-    → AreFetched held (cpu ∷ []) (old ∷ []) → IsReading 0 old new reading → RoseBy (missing_in (old ∷ [])) a b → RoseBy (faulty_in (new ∷ [])) b c
+pub first_faults : (held : Option Contents) (cpu : CpuSetup) (old new : Option SourceSeen)
+    (reading : Reading) (a b c : ℕ)
+    → AreFetched held (cpu ∷ []) (old ∷ []) → IsReading 0 old new reading
+    → RoseBy (missing_in (old ∷ [])) a b → RoseBy (faulty_in (new ∷ [])) b c
     → RoseBy (fault_at reading.end) a c
 first_faults held cpu old new reading a b c fetched is missing faulty =
-    let most = faults_are held (cpu ∷ []) 0 (old ∷ []) (new ∷ []) (is.bytes ∷ []) (reading.end ∷ []) (no_cpu ∷ []) fetched (is.gave, tt) in
-    rose_less (fault_at reading.end) (missing_in (old ∷ []) + faulty_in (new ∷ [])) a c (omega (arith, most))
+    let most = faults_are held (cpu ∷ []) (old ∷ []) (new ∷ []) (is.bytes ∷ []) (reading.end ∷ [])
+    (log_of reading.end ∷ []) fetched (is.gave, tt) (refl, tt) in
+    rose_less (fault_at reading.end) (missing_in (old ∷ []) + faulty_in (new ∷ [])) a c
+    (omega (arith, most))
     (rose_then (missing_in (old ∷ [])) (faulty_in (new ∷ [])) a b c missing faulty)
 
 -- ---- what is sent is short enough for an output file
@@ -54,29 +65,37 @@ first_faults held cpu old new reading a b c fetched is missing faulty =
 abbrev pub IsShort : Packet → Type 0
 IsShort packet = length packet.bytes ≤ 4294967291
 
-short_if : (b : Bool) (packet : Packet) (rest : List Packet) → IsShort packet → AllByRecursion IsShort rest → AllByRecursion IsShort (if b then packet ∷ rest else rest)
+short_if : (b : Bool) (packet : Packet) (rest : List Packet) → IsShort packet
+    → AllByRecursion IsShort rest → AllByRecursion IsShort (if b then packet ∷ rest else rest)
 short_if true packet rest one all = (one, all)
 short_if false packet rest one all = all
 
-short_packets : (room : ℕ) (frames : List Frame) → AllByRecursion IsCaptured frames → AllByRecursion IsShort (plain_packets room frames)
+short_packets : (room : ℕ) (frames : List Frame) → AllByRecursion IsCaptured frames
+    → AllByRecursion IsShort (plain_packets room frames)
 short_packets room [] all = tt
 short_packets room (frame ∷ frames) all =
     short_if (is_fitting room frame) (plain_of frame.bytes) (plain_packets room frames)
     (let few = all.0.few in omega (arith, few)) (short_packets room frames all.1)
 
-captured_if : (b : Bool) (frame : Frame) (rest : List Frame) → IsCaptured frame → AllByRecursion IsCaptured rest → AllByRecursion IsCaptured (if b then [] else frame ∷ rest)
+captured_if : (b : Bool) (frame : Frame) (rest : List Frame) → IsCaptured frame
+    → AllByRecursion IsCaptured rest → AllByRecursion IsCaptured (if b then [] else frame ∷ rest)
 captured_if true frame rest one all = tt
 captured_if false frame rest one all = (one, all)
 
-captured_before : (room : ℕ) (frames : List Frame) → AllByRecursion IsCaptured frames → AllByRecursion IsCaptured (before_long room frames)
+captured_before : (room : ℕ) (frames : List Frame) → AllByRecursion IsCaptured frames
+    → AllByRecursion IsCaptured (before_long room frames)
 captured_before room [] all = tt
-captured_before room (frame ∷ frames) all = captured_if (is_long room frame) frame (before_long room frames) all.0 (captured_before room frames all.1)
+captured_before room (frame ∷ frames) all = captured_if (is_long room frame) frame
+    (before_long room frames) all.0 (captured_before room frames all.1)
 
-captured_reached : (room : ℕ) (skip : Bool) (frames : List Frame) → AllByRecursion IsCaptured frames → AllByRecursion IsCaptured (reached room skip frames)
+captured_reached : (room : ℕ) (skip : Bool) (frames : List Frame) → AllByRecursion IsCaptured frames
+    → AllByRecursion IsCaptured (reached room skip frames)
 captured_reached room true frames all = all
 captured_reached room false frames all = captured_before room frames all
 
-pub sent_short : (room : ℕ) (skip : Bool) (frames : List Frame) → All IsCaptured frames → All IsShort (transmitted_of room skip frames).packets
+pub sent_short : (room : ℕ) (skip : Bool) (frames : List Frame) → All IsCaptured frames
+    → All IsShort (transmitted_of room skip frames).packets
 sent_short room skip frames all =
     All-from_recursion IsShort (plain_packets room (reached room skip frames))
-    (short_packets room (reached room skip frames) (captured_reached room skip frames (recursion_from_All IsCaptured frames all)))
+    (short_packets room (reached room skip frames) (captured_reached room skip frames
+    (recursion_from_All IsCaptured frames all)))

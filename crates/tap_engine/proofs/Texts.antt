@@ -1,5 +1,6 @@
 -- A text that was read says what the store's own text says.
-use Rattle.std.proofs.Common.{◌≡◌, ℕ, ◌+◌, ◌<◌, ◌≤◌, Bool, true, false, List, [], length, inl, inr, Some, refl, sym, ap, ◌∙◌, arith}
+use Rattle.std.proofs.Common.{◌≡◌, ℕ, ◌+◌, ◌<◌, ◌≤◌, Bool, true, false, List, [], length, inl, inr}
+use Rattle.std.proofs.Common.{Some, refl, sym, ap, ◌∙◌, arith}
 use Rattle.std.specs.Prelude.{◌⊎◌, if◌then◌else◌, nat_lt, unwrap_or, Result, Ok, Err}
 use Rattle.std.proofs.lemmas.Bool.{cases_lt, lt-ltb}
 use Rattle.std.proofs.lemmas.List.{length-append}
@@ -17,54 +18,81 @@ use Rattle.tap_reading.specs.Readers.{Says, schedule_for, setup_for}
 abbrev pub Limits : {A : Type 0} → (List ℕ → A) → Type 0
 Limits {A} reader = (wrong : A) × ((text : List ℕ) → 1048576 < length text → reader text ≡ wrong)
 
-too_large : {A : Type 0} (b : Bool) (wrong right : A) → b ≡ true → (if b then wrong else right) ≡ wrong
+too_large : {A : Type 0} (b : Bool) (wrong right : A) → b ≡ true
+    → (if b then wrong else right) ≡ wrong
 too_large true wrong right e = refl
 too_large false wrong right e = cc
 
 pub setups : (command : Command) → Limits (setup_for command)
 unfolding setup_of
-setups command = (_, λ text large. too_large (nat_lt 1048576 (length text)) _ _ (lt-ltb 1048576 (length text) large))
+setups command = (
+  _,
+  λ text large. too_large (nat_lt 1048576 (length text)) _ _
+      (lt-ltb 1048576 (length text) large),
+)
 
 pub schedules : (cpus members : ℕ) → Limits (schedule_for cpus members)
 unfolding schedule_of
-schedules cpus members = (_, λ text large. too_large (nat_lt 1048576 (length text)) _ _ (lt-ltb 1048576 (length text) large))
+schedules cpus members = (
+  _,
+  λ text large. too_large (nat_lt 1048576 (length text)) _ _
+      (lt-ltb 1048576 (length text) large),
+)
 
 pub moments : Limits moments_of
 unfolding moments_of
-moments = (_, λ text large. too_large (nat_lt 1048576 (length text)) _ _ (lt-ltb 1048576 (length text) large))
+moments = (
+  _,
+  λ text large. too_large (nat_lt 1048576 (length text)) _ _
+      (lt-ltb 1048576 (length text) large),
+)
 
 pub filters : Limits filter_of
 unfolding filter_of instructions_of
-filters = (_, λ text large. ap filter_after (too_large (nat_lt 1048576 (length text)) _ _ (lt-ltb 1048576 (length text) large)))
+filters = (
+  _,
+  λ text large. ap filter_after (too_large (nat_lt 1048576 (length text)) _ _
+      (lt-ltb 1048576 (length text) large)),
+)
 
 -- so what it says of a text that was read it says of all that the name holds
-pub same_answer : {A : Type 0} (reader : List ℕ → A) (files : Contents) (name text : List ℕ) → Limits reader → IsTextOf (Some files) name text
+pub same_answer : {A : Type 0} (reader : List ℕ → A) (files : Contents) (name text : List ℕ)
+    → Limits reader → IsTextOf (Some files) name text
     → reader (unwrap_or (files name) []) ≡ reader text
 same_answer reader files name text limits read = by (cases_lt 1048576 (length text)) where
   longer : 1048576 < length text → 1048576 < length (unwrap_or (files name) [])
   longer large =
-      let parts : length (unwrap_or (files name) []) ≡ length text + length read.front.rest = ap length read.front.parts ∙ length-append text read.front.rest in
+      let parts : length (unwrap_or (files name) []) ≡ length text + length read.front.rest = ap
+      length read.front.parts ∙ length-append text read.front.rest in
       omega (arith, large, parts)
 
-  by : (1048576 < length text) ⊎ (length text ≤ 1048576) → reader (unwrap_or (files name) []) ≡ reader text
+  by : (1048576 < length text) ⊎ (length text ≤ 1048576)
+      → reader (unwrap_or (files name) []) ≡ reader text
   by (inl large) = limits.1 (unwrap_or (files name) []) (longer large) ∙ sym (limits.1 text large)
   by (inr small) = ap reader (sym (read.whole small))
 
-pub says_held : {A : Type 0} (reader : List ℕ → A) (files : Contents) (name : List ℕ) (answer : A) → Limits reader → Says reader (Some files) name answer
+pub says_held : {A : Type 0} (reader : List ℕ → A) (files : Contents) (name : List ℕ) (answer : A)
+    → Limits reader → Says reader (Some files) name answer
     → reader (unwrap_or (files name) []) ≡ answer
-says_held reader files name answer limits says = same_answer reader files name says.text limits says.read ∙ says.is
+says_held reader files name answer limits says = same_answer reader files name says.text limits
+    says.read ∙ says.is
 
 -- one name holds one text
 ok_err : {A E : Type 0} (a : A) (e : E) → Ok a ≡ Err e → ⊥
 ok_err a e same = cc
 
-pub not_both : {A E : Type 0} (reader : List ℕ → Result A E) (files : Contents) (name : List ℕ) (value : A) (error : E) → Limits reader
+pub not_both : {A E : Type 0} (reader : List ℕ → Result A E) (files : Contents) (name : List ℕ)
+    (value : A) (error : E) → Limits reader
     → reader (unwrap_or (files name) []) ≡ Ok value → Says reader (Some files) name (Err error) → ⊥
-not_both reader files name value error limits is says = ok_err value error (sym is ∙ says_held reader files name (Err error) limits says)
+not_both reader files name value error limits is says = ok_err value error
+    (sym is ∙ says_held reader files name (Err error) limits says)
 
 ok_same : {A E : Type 0} (a b : A) → ◌≡◌ {A = Result A E} (Ok a) (Ok b) → a ≡ b
 ok_same a b same = cc
 
-pub same_value : {A E : Type 0} (reader : List ℕ → Result A E) (files : Contents) (name : List ℕ) (value read : A) → Limits reader
-    → reader (unwrap_or (files name) []) ≡ Ok value → Says reader (Some files) name (Ok read) → value ≡ read
-same_value reader files name value read limits is says = ok_same value read (sym is ∙ says_held reader files name (Ok read) limits says)
+pub same_value : {A E : Type 0} (reader : List ℕ → Result A E) (files : Contents) (name : List ℕ)
+    (value read : A) → Limits reader
+    → reader (unwrap_or (files name) []) ≡ Ok value → Says reader (Some files) name (Ok read)
+    → value ≡ read
+same_value reader files name value read limits is says = ok_same value read
+    (sym is ∙ says_held reader files name (Ok read) limits says)

@@ -1,34 +1,78 @@
--- What a call answers, prints and saves, by what it comes to.
-use Rattle.std.specs.Prelude.{◌≡◌, ◌≢◌, ◌⊎◌, ℕ, Bool, List, Option, None}
+-- What a call answers, prints and saves, by what it found.
+use Rattle.std.specs.Prelude.{◌≡◌, ◌⊎◌, ◌<◌, ℕ, Bool, true, false, List, Option, None, Some}
 use Rattle.std.specs.Io.KnownBytes.{Appends}
-use Rattle.tap_outside.specs.Contents.{Contents}
+use Rattle.tap_outside.specs.Counts.{Rose, RoseBy}
+use Rattle.tap_outside.specs.Seen.{OnlyReads, SinkSeen, StoreSeen}
 use Rattle.tap_outside.specs.Sinks.{AppendsFront}
-use Rattle.tap_saving.specs.Saving.{HoldAll, HoldUnless, marked}
-use Rattle.tap_engine.specs.Expected.{Expected, files_of, lines_of, report_in, status_of}
+use Rattle.tap_saving.specs.Saving.{HoldAll, HoldUnless, SavedSome, Touches, marked}
+use Rattle.tap_engine.specs.Commands.{Named}
+use Rattle.tap_engine.specs.Findings.{IsFound, files_of, lines_of, names_of, report_in, status_of}
+use Rattle.tap_engine.specs.Jobs.{IsAsked}
+use Rattle.tap_engine.specs.declared.findings.Finding.{Finding}
 use Rattle.tap_engine.specs.declared.outcomes.Outcome.{Outcome}
 use Rattle.tap_engine.specs.declared.outcomes.Status.{Status}
 use Rattle.tap_engine.specs.declared.outcomes.Status.TheVariants.{Memory, WriteFault}
 
--- a status other than those of a fault of saving or printing and of want of memory
-pub record IsPlain (status : Status) : Type 0 where
-  pub no_fault : status ≢ WriteFault
-  pub no_want : status ≢ Memory
+-- the lines were printed, or a prefix of them where printing failed
+abbrev pub IsPrinted : SinkSeen → SinkSeen → List ℕ → Bool → Type 0
+IsPrinted before after lines true = Appends before.written after.written lines
+IsPrinted before after lines false =
+    Rose before.faults after.faults × AppendsFront before.written after.written lines
 
--- each file holds its bytes, but for as many as saving failed, or fewer
-pub record HoldMost (e : Expected) (held after : Option Contents) (unsaved : ℕ → Type 0) : Type 0 where
+-- all lines were printed and all files saved
+pub record IsDone (finding : Finding) (status : Status) (old new : StoreSeen)
+    (before after : SinkSeen) : Type 0 where
+  pub status_is : status ≡ status_of finding
+  pub lines : Appends before.written after.written (lines_of finding)
+  pub files : HoldAll old.held new.held (files_of finding)
+
+-- printing or saving failed: as many files may not hold their bytes as saving failed, or fewer
+pub record IsFailed (finding : Finding) (status : Status) (old new : StoreSeen)
+    (before after : SinkSeen) : Type 0 where
+  pub status_is : status ≡ WriteFault
+  pub printed : Bool
+  pub lines : IsPrinted before after (lines_of finding) printed
   pub missed : List Bool
-  pub hold : HoldUnless missed held after (files_of e)
-  pub rose : unsaved (marked missed)
+  pub files : HoldUnless missed old.held new.held (files_of finding)
+  pub counted : RoseBy (marked missed) old.save_faults new.save_faults
+  pub cause : (0 < marked missed) ⊎ (printed ≡ false)
 
--- Saving and printing may fail, each only where its count of faults rose; then the status is 6. Want of memory is 7.
-pub record Concludes (e : Expected) (outcome : Outcome) (held after : Option Contents) (before now : Option (List ℕ)) (unsaved : ℕ → Type 0) (unprinted : Type 0) : Type 0 where
-  pub status : IsPlain outcome.status → outcome.status ≡ status_of e
-  pub fault : outcome.status ≡ WriteFault → unsaved 1 ⊎ unprinted
-  pub report : outcome.status ≢ Memory → outcome.report ≡ report_in e
-  pub no_report : outcome.status ≡ Memory → outcome.report ≡ None
-  -- the lines are written whole, or a front of them where printing failed
-  pub lines : IsPlain outcome.status → Appends before now (lines_of e)
-  pub front : outcome.status ≡ WriteFault → Appends before now (lines_of e) ⊎ (unprinted × AppendsFront before now (lines_of e))
-  -- each file holds its bytes; where saving failed as many may not, or fewer
-  pub files : IsPlain outcome.status → HoldAll held after (files_of e)
-  pub most : outcome.status ≡ WriteFault → HoldMost e held after unsaved
+-- the report is that of the finding, and nothing of the store changes but its files and the count
+-- of saving
+pub record Concludes (finding : Finding) (outcome : Outcome) (old new : StoreSeen)
+    (before after : SinkSeen) : Type 0 where
+  pub report : outcome.report ≡ report_in finding
+  pub touches : Touches old new (names_of finding)
+  pub ended :
+      IsDone finding outcome.status old new before after
+      ⊎ IsFailed finding outcome.status old new before after
+
+-- what a call found, the store being read alone, and what it made of that
+pub record Tells (command : Option Named) (outcome : Outcome) (old new : StoreSeen)
+    (before after : SinkSeen) : Type 0 where
+  pub read : StoreSeen
+  pub reads : OnlyReads old read
+  pub finding : Finding
+  pub found : IsFound command old read finding
+  pub concludes : Concludes finding outcome read new before after
+
+-- memory ran out before anything was found; no read failed before all texts were accepted
+pub record IsCut (command : Option Named) (old new : StoreSeen) : Type 0 where
+  pub reads : OnlyReads old new
+  pub cause :
+      (new ≡ old) ⊎ ((named : Named) × (command ≡ Some named) × IsAsked old.held named)
+
+-- memory ran out after this was found: each name of its files holds what it held, or the file's
+-- bytes, but for as many as saving failed
+pub record IsCutShort (command : Option Named) (old new : StoreSeen) : Type 0 where
+  pub read : StoreSeen
+  pub reads : OnlyReads old read
+  pub finding : Finding
+  pub found : IsFound command old read finding
+  pub touches : Touches read new (names_of finding)
+  pub saved : SavedSome read new (files_of finding)
+
+-- there is no report, and no more of the store has changed than that
+pub record GivesUp (command : Option Named) (outcome : Outcome) (old new : StoreSeen) : Type 0 where
+  pub report : outcome.report ≡ None
+  pub store : IsCut command old new ⊎ IsCutShort command old new

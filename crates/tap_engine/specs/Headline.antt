@@ -1,10 +1,11 @@
 -- The headline: what a report is worth.
-use Rattle.std.specs.Prelude.{◌≡◌, ℕ, List, [], ◌∷◌, length, map, ⊤, Option}
-use Rattle.capture_file.specs.Capture.{end_of}
-use Rattle.fanout_group.specs.declared.runs.CpuEnd.{CpuEnd}
-use Rattle.fanout_group.specs.declared.runs.CpuEnd.TheVariants.{Whole}
+use Rattle.std.specs.Prelude.{◌≡◌, ◌≤◌, ℕ, List, [], ◌∷◌, length, map, ⊤, Option, None, Some}
+use Rattle.std.specs.Prelude.{IfSome}
+use Rattle.capture_file.specs.Capture.{damage_of, end_of}
+use Rattle.capture_file.specs.declared.cpu_end.CpuEnd.{CpuEnd}
+use Rattle.capture_file.specs.declared.cpu_end.CpuEnd.TheVariants.{Whole}
 use Rattle.made_captures.specs.Made.{made_captures}
-use Rattle.replay_model.specs.declared.schedule.Line.{Line}
+use Rattle.schedule_lines.specs.declared.lines.Line.{Line}
 use Rattle.setup_text.specs.declared.commands.Command.{Command}
 use Rattle.setup_text.specs.declared.commands.Command.TheVariants.{Check, Make, Replay, Send}
 use Rattle.setup_text.specs.declared.cpu_setups.CpuSetup.{CpuSetup}
@@ -13,22 +14,29 @@ use Rattle.setup_text.specs.declared.reports.RunReport.{RunReport}
 use Rattle.setup_text.specs.declared.setups.Setup.{Setup}
 use Rattle.tap_outside.specs.Contents.{Contents}
 use Rattle.tap_reading.specs.Fronts.{IsAllOf, IsFrontOf}
-use Rattle.tap_replay.specs.Runs.{IsReport, arriving_of, report_of, rules_of}
-use Rattle.capture_reading.specs.Sources.{UnlessFault, WhereEnded, end_by}
+use Rattle.run_reports.specs.Reports.{IsRunReport}
+use Rattle.tap_replay.specs.Runs.{report_of}
+use Rattle.capture_reading.specs.Sources.{EndsAtDamage, UnlessFault, WhereEnded, WhereFault, end_by}
 use Rattle.tap_engine.specs.Commands.{Named}
 use Rattle.tap_engine.specs.Jobs.{HasJob, HasLines}
 
--- the capture under a name gave these bytes, from its front, and ended so: unless reading failed as the bytes say, and
--- whole or cut only where they are all
+-- the capture under a name gave these bytes, from its start, and ended so
 pub record IsCapture (held : Option Contents) (name bytes : List ℕ) (end : CpuEnd) : Type 0 where
   pub front : IsFrontOf held name bytes
+  -- nothing was read after damage, and at most 33,554,432 bytes and a piece of 65,536
+  pub last : EndsAtDamage bytes
+  pub few : length bytes ≤ 33619968
+  -- where reading failed the bytes before it show no damage
+  pub sound : WhereFault end (damage_of bytes ≡ None)
+  -- else the end is what the bytes say, and whole or cut only where they are all
   pub damage : UnlessFault end (end ≡ end_by (end_of bytes))
   pub all : WhereEnded end (IsAllOf held name bytes)
 
 -- the capture of each CPU
 abbrev pub AreCaptures : Option Contents → List CpuSetup → List (List ℕ) → List CpuEnd → Type 0
 AreCaptures held [] [] [] = ⊤
-AreCaptures held (cpu ∷ cpus) (bytes ∷ all) (end ∷ ends) = IsCapture held cpu.file bytes end × AreCaptures held cpus all ends
+AreCaptures held (cpu ∷ cpus) (bytes ∷ all) (end ∷ ends) =
+    IsCapture held cpu.file bytes end × AreCaptures held cpus all ends
 AreCaptures held cpus all ends = ⊥
 
 -- the captures of a `make` are those of its own frames, and each ended whole
@@ -37,25 +45,45 @@ pub record AreMade (setup : Setup) (bytes : List (List ℕ)) (ends : List CpuEnd
   pub whole : ends ≡ map (λ text. Whole) bytes
 
 -- what the sources of a command's run gave, and how they ended
-abbrev pub CapturesFor : Command → Option Contents → Setup → List (List ℕ) → List CpuEnd → Type 0
-CapturesFor Replay held setup bytes ends = AreCaptures held setup.cpus bytes ends
-CapturesFor Make held setup bytes ends = AreMade setup bytes ends
+abbrev pub CapturesFor :
+    Command → Option Contents → Setup → List (List ℕ) → List CpuEnd → Type 0
 CapturesFor Check held setup bytes ends = ⊥
+CapturesFor Make held setup bytes ends = AreMade setup bytes ends
+CapturesFor Replay held setup bytes ends = AreCaptures held setup.cpus bytes ends
 CapturesFor Send held setup bytes ends = ⊥
 
--- A report is that of the setup, the filter, the schedule and the captures that stand under their names; of a `make` it is
--- that of its setup and filter, its own schedule and the captures of its own frames.
+-- the report is the replay report of the command's lines, and of what the captures gave
+pub record IsReplayOf (held : Option Contents) (named : Named) (job : Job) (bytes : List (List ℕ))
+    (ends : List CpuEnd) (report : RunReport) : Type 0 where
+  pub lines : List Line
+  pub lines_are : HasLines held named job lines
+  pub replay : report ≡ report_of job lines bytes ends
+
+-- what a command adds to what holds of every report: `replay` and `make` replay their lines
+abbrev pub IsRunOf :
+    Command → Option Contents → Named → Job → List (List ℕ) → List CpuEnd → RunReport → Type 0
+IsRunOf Check held named job bytes ends report = ⊥
+IsRunOf Make held named job bytes ends report = IsReplayOf held named job bytes ends report
+IsRunOf Replay held named job bytes ends report = IsReplayOf held named job bytes ends report
+IsRunOf Send held named job bytes ends report = ⊥
+
+-- A report is that of the setup, the filter and the captures under their names.
 pub record IsHeadline (held : Option Contents) (named : Named) (report : RunReport) : Type 0 where
   -- the texts were read and are accepted
   pub job : Job
   pub job_is : HasJob held named job
-  pub lines : List Line
-  pub lines_are : HasLines held named job lines
   -- what the captures gave
   pub bytes : List (List ℕ)
   pub ends : List CpuEnd
   pub captures : CapturesFor named.command held job.setup bytes ends
-  -- the report is the replay report
-  pub replay : report ≡ report_of job lines bytes ends
-  -- so its logs are lawful over the arrivals, joined with its notes, and these are runs of the rings
-  pub lawful : IsReport (rules_of job) job.setup.shape job.setup.dump (arriving_of job bytes) report
+  -- what holds of every report: its logs, its members, and that each arrival that passes appears
+  -- once
+  pub report_is : IsRunReport job bytes ends report
+  -- what the command adds
+  pub run : IsRunOf named.command held named job bytes ends report
+
+-- a report, if there is one, is worth that, and the words were a command
+abbrev pub IsWorth : Option Named → Option Contents → Option RunReport → Type 0
+IsWorth command held report =
+    IfSome report (λ report. (named : Named) × (command ≡ Some named) × IsHeadline held named
+    report)

@@ -1,11 +1,11 @@
--- What a command asks for, by the texts under its names: setup, filter, and then the moments or the schedule.
-use Rattle.std.specs.Prelude.{◌≡◌, ◌⊎◌, ℕ, List, length, ⊤, Option, None, Some, Ok, Err}
+-- What a command asks for, by the texts under its names: setup, filter, and then the moments or the
+-- schedule.
+use Rattle.std.specs.Prelude.{◌≡◌, ◌⊎◌, ℕ, List, length, ⊤, Option, None, Some, Result, Ok}
 use Rattle.bpf_filter.specs.declared.insn.Insn.{Insn}
-use Rattle.replay_model.specs.declared.schedule.Line.{Line}
-use Rattle.replay_model.specs.Reports.{IsSchedule}
+use Rattle.schedule_lines.specs.declared.lines.Line.{Line}
+use Rattle.setup_text.specs.Answers.{is_setup_want, is_text_want}
 use Rattle.setup_text.specs.Filters.{filter_of}
 use Rattle.setup_text.specs.Moments.{moments_of}
-use Rattle.setup_text.specs.Sound.{IsSetup}
 use Rattle.made_captures.specs.Made.{made_lines}
 use Rattle.setup_text.specs.declared.commands.Command.{Command}
 use Rattle.setup_text.specs.declared.commands.Command.TheVariants.{Check, Make, Replay, Send}
@@ -14,14 +14,13 @@ use Rattle.setup_text.specs.declared.setup_error.SetupError.{SetupError}
 use Rattle.setup_text.specs.declared.setups.Setup.{Setup}
 use Rattle.setup_text.specs.declared.text_error.TextError.{TextError}
 use Rattle.tap_outside.specs.Contents.{Contents}
-use Rattle.tap_reading.specs.Readers.{Says, schedule_for, setup_for}
-use Rattle.tp_layout.specs.Requests.{transmit_fault}
+use Rattle.tap_outside.specs.Counts.{Rose}
+use Rattle.tap_outside.specs.Seen.{StoreSeen}
+use Rattle.tap_reading.specs.Readers.{Refuses, Says, schedule_for, setup_for}
 use Rattle.tap_reading.specs.declared.stops.Stop.{Stop}
 use Rattle.tap_reading.specs.declared.stops.Stop.TheVariants as stops
 use Rattle.tap_engine.specs.Commands.{Named}
-use Rattle.tap_engine.specs.Names.{filter_for}
-use Rattle.tap_engine.specs.declared.jobs.Loaded.{Loaded}
-use Rattle.tap_engine.specs.declared.jobs.Loaded.TheVariants as loaded
+use Rattle.tap_engine.specs.Names.{filter_for, ticks_for}
 
 -- ---- what is accepted
 
@@ -39,99 +38,88 @@ pub record HasJob (held : Option Contents) (named : Named) (job : Job) : Type 0 
   pub setup : HasSetup held named job.setup
   pub program : HasProgram held (filter_for named.command job.setup) job.program
 
--- the moments that a setup names, where it names some
+-- so were the moments, where some are read
 abbrev pub HasTicks : Option Contents → Option (List ℕ) → Type 0
 HasTicks held None = ⊤
 HasTicks held (Some name) = (moments : List ℕ) × Says moments_of held name (Ok moments)
 
--- the schedule
+-- the reader of schedules for the CPUs and the members of a job
+abbrev pub lines_for : Job → List ℕ → Result (List Line) TextError
+lines_for job = schedule_for (length job.setup.cpus) job.setup.plan.members
+
+-- so was the schedule
 abbrev pub HasSchedule : Option Contents → Named → Job → List Line → Type 0
 HasSchedule held named job lines =
-    Says (schedule_for (length job.setup.cpus) job.setup.plan.members) held named.schedule (Ok lines)
+    Says (lines_for job) held named.schedule (Ok lines)
 
--- what a run does line by line: the schedule of a `replay`, or that which `make` makes itself
+-- what a replay does line by line: the schedule of a `replay`, or that which `make` makes itself
 abbrev pub LinesFor : Command → Option Contents → Named → Job → List Line → Type 0
 LinesFor Replay held named job lines = HasSchedule held named job lines
-LinesFor Make held named job lines = lines ≡ made_lines job.setup.count (length job.setup.cpus) job.setup.plan.members
+LinesFor Make held named job lines =
+    lines ≡ made_lines job.setup.count (length job.setup.cpus) job.setup.plan.members
 LinesFor Check held named job lines = ⊥
 LinesFor Send held named job lines = ⊥
 
 abbrev pub HasLines : Option Contents → Named → Job → List Line → Type 0
 HasLines held named job lines = LinesFor named.command held named job lines
 
--- ---- what is refused, all texts before it being accepted
-
-abbrev pub HasBadSetup : Option Contents → Named → SetupError → Type 0
-HasBadSetup held named error = Says (setup_for named.command) held named.setup (Err error)
-
-pub record HasBadFilter (held : Option Contents) (named : Named) (error : TextError) : Type 0 where
-  pub setup : Setup
-  pub has : HasSetup held named setup
-  pub name : List ℕ
-  pub names : filter_for named.command setup ≡ Some name
-  pub refused : Says filter_of held name (Err error)
-
-pub record HasBadTicks (held : Option Contents) (named : Named) (error : TextError) : Type 0 where
-  pub command : named.command ≡ Check
-  pub job : Job
-  pub has : HasJob held named job
-  pub name : List ℕ
-  pub names : job.setup.ticks ≡ Some name
-  pub refused : Says moments_of held name (Err error)
-
-pub record HasBadSchedule (held : Option Contents) (named : Named) (error : TextError) : Type 0 where
-  pub command : named.command ≡ Replay
-  pub job : Job
-  pub has : HasJob held named job
-  pub refused : Says (schedule_for (length job.setup.cpus) job.setup.plan.members) held named.schedule (Err error)
-
-abbrev pub HasBadText : Option Contents → Named → TextError → Type 0
-HasBadText held named error =
-    HasBadFilter held named error ⊎ (HasBadTicks held named error ⊎ HasBadSchedule held named error)
-
--- a text stops the command: it can't be read, which comes only where reading failed, or is refused
-abbrev pub Stops : Option Contents → Named → Type 0 → Stop → Type 0
-Stops held named failed stops.Unread = failed
-Stops held named failed (stops.Setup error) = HasBadSetup held named error
-Stops held named failed (stops.Text error) = HasBadText held named error
-Stops held named failed stops.Memory = ⊤
-
--- ---- what was loaded
-
--- a run: its job and its lines; both are sound, so that they can be replayed
-pub record IsRun (held : Option Contents) (named : Named) (job : Job) (lines : List Line) : Type 0 where
-  pub job_is : HasJob held named job
-  pub lines_are : HasLines held named job lines
-  pub sound : IsSetup job.setup
-  pub ascending : IsSchedule lines
-
--- a run over the captures under their names
-pub record IsReplay (held : Option Contents) (named : Named) (job : Job) (lines : List Line) : Type 0 where
-  pub command : named.command ≡ Replay
-  pub run : IsRun held named job lines
-
--- a run over frames that are made
-pub record IsMake (held : Option Contents) (named : Named) (job : Job) : Type 0 where
-  pub command : named.command ≡ Make
-  pub job_is : HasJob held named job
-  pub sound : IsSetup job.setup
-
--- a capture that is to be sent, through a ring that can be had
-pub record IsSend (held : Option Contents) (named : Named) (job : Job) : Type 0 where
-  pub command : named.command ≡ Send
-  pub job_is : HasJob held named job
-  pub sound : IsSetup job.setup
-  pub ring : transmit_fault job.setup.request ≡ None
-
--- the moments are accepted where a check ends
+-- a check ends where the texts are accepted, the moments among them
 pub record IsChecked (held : Option Contents) (named : Named) : Type 0 where
   pub command : named.command ≡ Check
   pub job : Job
   pub job_is : HasJob held named job
-  pub ticks : HasTicks held job.setup.ticks
+  pub ticks : HasTicks held (ticks_for named.command job.setup)
 
-abbrev pub IsLoaded : Option Contents → Named → Loaded → Type 0
-IsLoaded held named loaded.Checked = IsChecked held named
-IsLoaded held named (loaded.Replay job lines) = IsReplay held named job lines
-IsLoaded held named (loaded.Make job) = IsMake held named job
-IsLoaded held named (loaded.Send job) = IsSend held named job
+-- ---- what is refused, all texts before it being accepted and no read having failed
+
+abbrev pub HasBadSetup : StoreSeen → StoreSeen → Named → SetupError → Type 0
+HasBadSetup old new named error =
+    Refuses (setup_for named.command) is_setup_want old new named.setup error
+
+pub record HasBadFilter (old new : StoreSeen) (named : Named) (error : TextError) : Type 0 where
+  pub setup : Setup
+  pub has : HasSetup old.held named setup
+  pub name : List ℕ
+  pub names : filter_for named.command setup ≡ Some name
+  pub refused : Refuses filter_of is_text_want old new name error
+
+pub record HasBadTicks (old new : StoreSeen) (named : Named) (error : TextError) : Type 0 where
+  pub job : Job
+  pub has : HasJob old.held named job
+  pub name : List ℕ
+  pub names : ticks_for named.command job.setup ≡ Some name
+  pub refused : Refuses moments_of is_text_want old new name error
+
+pub record HasBadSchedule (old new : StoreSeen) (named : Named) (error : TextError) : Type 0 where
+  pub command : named.command ≡ Replay
+  pub job : Job
+  pub has : HasJob old.held named job
+  pub refused : Refuses (lines_for job) is_text_want old new named.schedule error
+
+abbrev pub HasBadText : StoreSeen → StoreSeen → Named → TextError → Type 0
+HasBadText old new named error =
+    HasBadFilter old new named error
+    ⊎ (HasBadTicks old new named error ⊎ HasBadSchedule old new named error)
+
+-- ---- what stops a command
+
+-- the texts that a run or a `send` needs after setup and filter were read and are accepted
+abbrev pub HasLast : Command → Option Contents → Named → Job → Type 0
+HasLast Check held named job = ⊥
+HasLast Make held named job = ⊤
+HasLast Replay held named job = (lines : List Line) × HasSchedule held named job lines
+HasLast Send held named job = ⊤
+
+-- so were all its texts
+pub record IsAsked (held : Option Contents) (named : Named) : Type 0 where
+  pub job : Job
+  pub job_is : HasJob held named job
+  pub last : HasLast named.command held named job
+
+-- a text can't be read, which comes only where reading failed, or is refused; or memory ran out,
+-- with no read having failed before all texts were accepted
+abbrev pub Stops : StoreSeen → StoreSeen → Named → Stop → Type 0
+Stops old new named stops.Unread = Rose old.read_faults new.read_faults
+Stops old new named (stops.Setup error) = HasBadSetup old new named error
+Stops old new named (stops.Text error) = HasBadText old new named error
+Stops old new named stops.Memory = (new ≡ old) ⊎ IsAsked old.held named

@@ -1,13 +1,11 @@
 pub mod Commands
-pub mod Jobs
 pub mod Names
+pub mod Jobs
 pub mod Headline
 pub mod Sendings
-pub mod Expected
+pub mod Findings
 pub mod Conclusions
 pub mod Sources
-pub mod Making
-pub mod Concluding
 pub mod Complete
-pub mod Asked
 pub mod Numbers
+pub mod InnerErrors

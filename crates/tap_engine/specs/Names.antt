@@ -1,5 +1,6 @@
 -- Which files a command reads and which it saves.
-use Rattle.std.specs.Prelude.{ℕ, Bool, List, [], ◌∷◌, ◌++◌, map, option_to_list, Option, None, Some, unwrap_or, IsTrue, ⊤, Result, Ok, Err}
+use Rattle.std.specs.Prelude.{ℕ, Bool, List, [], ◌∷◌, ◌++◌, map, option_to_list, Option, None, Some}
+use Rattle.std.specs.Prelude.{unwrap_or, IsTrue, ⊤, Result, Ok, Err}
 use Rattle.std.specs.List.{AllByRecursion}
 use Rattle.setup_text.specs.declared.commands.Command.{Command}
 use Rattle.setup_text.specs.declared.commands.Command.TheVariants.{Check, Make, Replay, Send}
@@ -7,6 +8,7 @@ use Rattle.setup_text.specs.declared.cpu_setups.CpuSetup.{CpuSetup}
 use Rattle.setup_text.specs.declared.setup_error.SetupError.{SetupError}
 use Rattle.setup_text.specs.declared.setups.Setup.{Setup}
 use Rattle.tap_outside.specs.Contents.{Contents}
+use Rattle.tap_outside.specs.Seen.{StoreSeen}
 use Rattle.tap_reading.specs.Readers.{setup_for}
 use Rattle.tap_saving.specs.Files.{names_from, sent_name}
 use Rattle.tap_engine.specs.Commands.{Named}
@@ -15,32 +17,46 @@ use Rattle.tap_engine.specs.Commands.{Named}
 abbrev pub filter_for : Command → Setup → Option (List ℕ)
 filter_for Send setup = None
 filter_for Check setup = setup.filter
-filter_for Replay setup = setup.filter
 filter_for Make setup = setup.filter
+filter_for Replay setup = setup.filter
+
+-- the moments that it reads: those of a setup that is checked or of a capture
+abbrev pub ticks_for : Command → Setup → Option (List ℕ)
+ticks_for Check setup = setup.ticks
+ticks_for Make setup = None
+ticks_for Replay setup = None
+ticks_for Send setup = None
 
 -- the capture of CPU 0
 abbrev pub first_file : List CpuSetup → List ℕ
 first_file [] = []
 first_file (cpu ∷ cpus) = cpu.file
 
--- behind setup and filter `check` reads the moments, `replay` the schedule and the captures, and `send` the first capture
-abbrev pub read_behind : Command → List ℕ → Setup → List (List ℕ)
-read_behind Check schedule setup = option_to_list setup.ticks
-read_behind Replay schedule setup = schedule ∷ map (λ cpu. cpu.file) setup.cpus
-read_behind Send schedule setup = first_file setup.cpus ∷ []
-read_behind Make schedule setup = []
+-- after these `replay` reads the schedule and the captures, `capture` the captures, and `send` the
+-- first capture
+abbrev pub read_last : Command → List ℕ → Setup → List (List ℕ)
+read_last Check schedule setup = []
+read_last Make schedule setup = []
+read_last Replay schedule setup = schedule ∷ map (λ cpu. cpu.file) setup.cpus
+read_last Send schedule setup = first_file setup.cpus ∷ []
+
+-- what a command reads after its setup
+abbrev pub read_after : Named → Setup → List (List ℕ)
+read_after named setup =
+    option_to_list (filter_for named.command setup)
+    ++ (option_to_list (ticks_for named.command setup)
+    ++ read_last named.command named.schedule setup)
 
 -- the setup alone where it isn't accepted
 abbrev pub read_by : Named → Result Setup SetupError → List (List ℕ)
 read_by named (Err error) = named.setup ∷ []
-read_by named (Ok setup) =
-    named.setup ∷ (option_to_list (filter_for named.command setup) ++ read_behind named.command named.schedule setup)
+read_by named (Ok setup) = named.setup ∷ read_after named setup
 
--- `replay` and `make` save the files of their members, and `send` what it sent
+-- a run saves the files of its members, and `send` what it sent
 abbrev pub saved_for : Command → Setup → List (List ℕ)
 saved_for Check setup = []
-saved_for Replay setup = names_from setup 0 setup.plan.members
 saved_for Make setup = names_from setup 0 setup.plan.members
+saved_for Replay setup = names_from setup 0 setup.plan.members
 saved_for Send setup = sent_name setup ∷ []
 
 abbrev pub saved_by : Command → Result Setup SetupError → List (List ℕ)
@@ -59,12 +75,16 @@ abbrev pub names_to_save : Option Named → Contents → List (List ℕ)
 names_to_save None files = []
 names_to_save (Some named) files = saved_by named.command (setup_held files named)
 
--- the names of a command, where the store tells what it holds
-abbrev pub names_in : (Option Named → Contents → List (List ℕ)) → Option Named → Option Contents → List (List ℕ)
-names_in names command None = []
-names_in names command (Some files) = names command files
-
 -- each of the names is meant; of a store that doesn't tell what it holds nothing is asked
-abbrev pub AreMeant : (Option Named → Contents → List (List ℕ)) → Option Named → Option Contents → (List ℕ → Bool) → Type 0
+abbrev pub AreMeant : (Option Named → Contents → List (List ℕ)) → Option Named → Option Contents
+    → (List ℕ → Bool) → Type 0
 AreMeant names command None meant = ⊤
-AreMeant names command (Some files) meant = AllByRecursion (λ name. IsTrue (meant name)) (names command files)
+AreMeant names command (Some files) meant =
+    AllByRecursion (λ name. IsTrue (meant name)) (names command files)
+
+-- each file that a command reads is meant for reading, and each that it saves for saving
+abbrev pub AreMeantToRead : Option Named → StoreSeen → Type 0
+AreMeantToRead command store = AreMeant names_to_read command store.held store.to_read
+
+abbrev pub AreMeantToSave : Option Named → StoreSeen → Type 0
+AreMeantToSave command store = AreMeant names_to_save command store.held store.to_save

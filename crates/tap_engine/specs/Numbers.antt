@@ -1,7 +1,8 @@
 -- The numbers of the statuses, with which the program ends.
 use Rattle.std.specs.Prelude.{ℕ}
 use Rattle.tap_engine.specs.declared.outcomes.Status.{Status}
-use Rattle.tap_engine.specs.declared.outcomes.Status.TheVariants.{Damaged, Fine, Memory, ReadFault, Setup, Text, Usage, WriteFault}
+use Rattle.tap_engine.specs.declared.outcomes.Status.TheVariants.{Damaged, Fine, Memory, ReadFault}
+use Rattle.tap_engine.specs.declared.outcomes.Status.TheVariants.{Setup, Text, Usage, WriteFault}
 
 abbrev pub number_of : Status → ℕ
 number_of Fine = 0

@@ -14,22 +14,25 @@ use Rattle.tap_engine.specs.Jobs.{HasJob}
 use Rattle.tap_engine.specs.Names.{first_file}
 use Rattle.tap_engine.specs.declared.sending.Sending.{Sending}
 
--- the capture of CPU 0 was read: it gave these bytes and ended so, and its frames are those of the bytes
+-- the capture of CPU 0 was read: it gave these bytes and ended so, and its frames are those of the
+-- bytes
 pub record IsFirst (held : Option Contents) (setup : Setup) (reading : Reading) : Type 0 where
   pub bytes : List ℕ
   pub capture : IsCapture held (first_file setup.cpus) bytes reading.end
   pub frames : reading.frames ≡ frames_of 0 bytes
 
--- the capture of CPU 0 gave these bytes and ended so; of its frames those were sent that fit into a slot, in order: with
--- `skip_bad` all of them, without it those before the first longer one
+-- the capture of CPU 0 gave these bytes and ended so; of its frames those were sent that fit into a
+-- slot, in order: with `skip_bad` all of them, without it those before the first longer one
 pub record IsSending (held : Option Contents) (setup : Setup) (sending : Sending) : Type 0 where
   pub bytes : List ℕ
   pub capture : IsCapture held (first_file setup.cpus) bytes sending.end
   pub frames : sending.frames ≡ length (frames_of 0 bytes)
-  pub sent : sending.sent ≡ transmitted_of (room_of setup.shape) setup.skip_bad (frames_of 0 bytes)
+  pub sent :
+      sending.sent ≡ transmitted_of (room_of setup.shape) setup.skip_bad (frames_of 0 bytes)
 
 -- it is what a `send` asks for, whose setup was read and is accepted
-pub record IsSent (held : Option Contents) (named : Named) (setup : Setup) (sending : Sending) : Type 0 where
+pub record IsSent (held : Option Contents) (named : Named) (setup : Setup) (sending : Sending)
+    : Type 0 where
   pub command : named.command ≡ Send
   pub job : Job
   pub job_is : HasJob held named job

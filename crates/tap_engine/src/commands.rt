@@ -1,9 +1,9 @@
 //! The words of a command.
 ghost use Rattle.std.specs.Prelude.{◌≡◌, [], ◌∷◌, option_map};
-ghost use Rattle.tap_engine.specs.Commands.{command_of, lone_command};
+ghost use Rattle.tap_engine.specs.Commands.{command_of, lone_command, named_by};
 
 use setup_text::Command;
-use tap_outside::Word;
+use text_lines::Word;
 
 /// A command with the names of its texts.
 #[derive(Clone, Copy)]
@@ -18,7 +18,7 @@ pub(crate) struct Asked<'a> {
 
 /// The command that the words are, if they are one.
 pub(crate) fn command_of(words: &[Word]) -> Option<Asked<'_>>
-    ensures { option_map (λ asked. record { command = asked.command; setup = asked.setup.now; schedule = asked.schedule.now }) result
+    ensures { option_map (λ asked. named_by asked.command asked.setup.now asked.schedule.now) result
         ≡ command_of words.now }
 {
     match words {
@@ -30,7 +30,7 @@ pub(crate) fn command_of(words: &[Word]) -> Option<Asked<'_>>
 
 /// The commands `check CONF`, `send CONF` and `make CONF`.
 fn lone_of<'a>(word: &Word, setup: &'a Word) -> Option<Asked<'a>>
-    ensures { option_map (λ asked. record { command = asked.command; setup = asked.setup.now; schedule = asked.schedule.now }) result
+    ensures { option_map (λ asked. named_by asked.command asked.setup.now asked.schedule.now) result
         ≡ command_of (word.now ∷ setup.now ∷ []) }
 {
     let setup = setup.bytes();
@@ -63,7 +63,7 @@ fn lone_command(word: &[u8]) -> Option<Command>
 
 /// The command `replay CONF SCHED`.
 fn replay_of<'a>(word: &Word, setup: &'a Word, schedule: &'a Word) -> Option<Asked<'a>>
-    ensures { option_map (λ asked. record { command = asked.command; setup = asked.setup.now; schedule = asked.schedule.now }) result
+    ensures { option_map (λ asked. named_by asked.command asked.setup.now asked.schedule.now) result
         ≡ command_of (word.now ∷ setup.now ∷ schedule.now ∷ []) }
 {
     let (setup, schedule) = (setup.bytes(), schedule.bytes());

@@ -1,128 +1,80 @@
 //! The end of a command: its files are saved, its lines are printed, and it has a status.
-ghost use Rattle.std.specs.Prelude.{◌≡◌, ◌≤◌, ℕ, [], ◌∷◌, ◌&&◌, length, All, IfOk, IsTrue};
+ghost use Rattle.std.specs.Prelude.{◌≡◌, ◌&&◌, if◌then◌else◌, IfOk, IsTrue, OnErr};
 ghost use Rattle.std.specs.List.{AllByRecursion};
-ghost use Rattle.tap_outside.specs.Counts.{Rose, RoseBy};
-ghost use Rattle.tap_replay.specs.Runs.{AreShort};
-ghost use Rattle.tap_saving.specs.Files.{names_from, sent_name};
-ghost use Rattle.tap_saving.specs.Saving.{Touches};
-ghost use Rattle.tap_engine.specs.Conclusions.{Concludes};
-ghost use Rattle.tap_engine.specs.Concluding.{status_with, tried};
-ghost use Rattle.tap_engine.specs.Expected.{reported, sent_off, status_by_end, status_of_logs};
+ghost use Rattle.tap_saving.specs.Saving.{Saved, SavedSome, Touches};
+ghost use Rattle.tap_engine.specs.Conclusions.{Concludes, IsPrinted};
+ghost use Rattle.tap_engine.specs.Findings.{IsReady, files_of, names_of};
 
-use crate::sending::Sending;
+use crate::findings::Finding;
 use crate::{Outcome, Status};
-use fanout_group::{CpuEnd, CpuLog};
 use frame_view::Memory;
-use setup_text::{RunReport, Setup};
 use std::alloc::Global;
 use tap_outside::{OutError, Sink, Store, write_whole};
-use tap_printing::{send_lines, summary};
 use tap_saving::{save_members, save_sent};
 
-/// Saves the files of a run and prints its lines. Each is tried whether the other fails or not.
+/// Saves the files of a finding and prints its lines. Each is tried whether the other fails or not.
 pub(crate) fn conclude<S: Store, O: Sink>(
     alloc: Global,
-    setup: &Setup,
-    report: RunReport,
+    finding: Finding,
     store: &mut S,
     out: &mut O,
 ) -> Result<Outcome, Memory>
-    requires cpus { length report.cpus ≤ 8 }
-    requires members { length report.members ≤ 8 }
-    requires names { AllByRecursion (λ name. IsTrue (S.meant_to_save store.old name))
-        (names_from setup.now 0 (length report.members)) }
-    requires packets { AreShort report.members }
-    ensures concludes { IfOk result (λ outcome. Concludes (reported setup.now report) outcome (S.held store.old) (S.held store.new)
-        (O.written out.old) (O.written out.new)
-        (λ n. RoseBy n (S.save_faults store.old) (S.save_faults store.new)) (Rose (O.faults out.old) (O.faults out.new))) }
-    ensures touches { Touches
-        (record { held = S.held store.old; to_read = S.meant_to_read store.old; to_save = S.meant_to_save store.old; read_faults = S.read_faults store.old; save_faults = S.save_faults store.old })
-        (record { held = S.held store.new; to_read = S.meant_to_read store.new; to_save = S.meant_to_save store.new; read_faults = S.read_faults store.new; save_faults = S.save_faults store.new })
-        (names_from setup.now 0 (length report.members)) }
+    requires ready { IsReady finding }
+    requires meant { AllByRecursion (λ name. IsTrue ((S.seen store.old).to_save name))
+        (names_of finding) }
+    ensures concludes { IfOk result (λ outcome. Concludes finding outcome
+        (S.seen store.old) (S.seen store.new) (O.seen out.old) (O.seen out.new)) }
+    ensures touches { Touches (S.seen store.old) (S.seen store.new) (names_of finding) }
+    ensures early { OnErr result
+        (SavedSome (S.seen store.old) (S.seen store.new) (files_of finding)) }
 {
-    let lines = summary(alloc, setup.shape.tov(), &report)?;
-    let saved = save_members(alloc, setup, report.members.as_slice(), store)?;
-    let printed = done(write_whole(out, lines.as_slice()))?;
-    let status = status_with(saved, printed, status_of_ends(report.cpus.as_slice()));
+    let lines = finding.lines(alloc)?;
+    let saved = save(alloc, &finding, store)?;
+    let printed = print(out, lines.as_slice())?;
     Ok(Outcome {
-        status,
-        report: Some(report),
+        status: status_with(saved, printed, finding.status()),
+        report: finding.into_report(),
     })
 }
 
-/// Saves the file of what was sent and prints the lines of that. Each is tried whether the other fails or not.
-pub(crate) fn conclude_sending<S: Store, O: Sink>(
-    alloc: Global,
-    setup: &Setup,
-    sending: &Sending,
-    store: &mut S,
-    out: &mut O,
-) -> Result<Outcome, Memory>
-    requires name { IsTrue (S.meant_to_save store.old (sent_name setup.now)) }
-    requires packets { All (λ packet. length packet.bytes ≤ 4294967291) sending.now.sent.packets }
-    ensures concludes { IfOk result (λ outcome. Concludes (sent_off setup.now sending.now) outcome (S.held store.old) (S.held store.new)
-        (O.written out.old) (O.written out.new)
-        (λ n. RoseBy n (S.save_faults store.old) (S.save_faults store.new)) (Rose (O.faults out.old) (O.faults out.new))) }
-    ensures touches { Touches
-        (record { held = S.held store.old; to_read = S.meant_to_read store.old; to_save = S.meant_to_save store.old; read_faults = S.read_faults store.old; save_faults = S.save_faults store.old })
-        (record { held = S.held store.new; to_read = S.meant_to_read store.new; to_save = S.meant_to_save store.new; read_faults = S.read_faults store.new; save_faults = S.save_faults store.new })
-        (sent_name setup.now ∷ []) }
+/// Saves the files of a finding, and says whether all were saved.
+fn save<S: Store>(alloc: Global, finding: &Finding, store: &mut S) -> Result<bool, Memory>
+    requires ready { IsReady finding.now }
+    requires meant { AllByRecursion (λ name. IsTrue ((S.seen store.old).to_save name))
+        (names_of finding.now) }
+    ensures touches { Touches (S.seen store.old) (S.seen store.new) (names_of finding.now) }
+    ensures saved { IfOk result
+        (Saved (S.seen store.old) (S.seen store.new) (files_of finding.now)) }
+    ensures early { OnErr result
+        (SavedSome (S.seen store.old) (S.seen store.new) (files_of finding.now)) }
 {
-    let lines = send_lines(alloc, sending.frames, sending.end, &sending.sent)?;
-    let saved = save_sent(alloc, setup, &sending.sent.packets, store)?;
-    let printed = done(write_whole(out, lines.as_bytes()))?;
-    Ok(Outcome {
-        status: status_with(saved, printed, with_end(0, sending.end, Status::Fine)),
-        report: None,
-    })
+    match finding {
+        Finding::Ran(setup, report) => {
+            save_members(alloc, setup, report.members.as_slice(), store)
+        }
+        Finding::Sent(setup, sending) => save_sent(alloc, setup, &sending.sent.packets, store),
+        _ => Ok(true),
+    }
 }
 
-/// Whether a try at the outside succeeded. Want of memory is no answer to that.
-fn done(answer: Result<(), OutError>) -> Result<bool, Memory>
-    ensures { result ≡ tried answer }
+/// Prints lines, and says whether all were printed.
+fn print<O: Sink>(out: &mut O, lines: &[u8]) -> Result<bool, Memory>
+    ensures { IfOk result (IsPrinted (O.seen out.old) (O.seen out.new) lines.now) }
 {
-    match answer {
+    match write_whole(out, lines) {
         Ok(()) => Ok(true),
         Err(OutError::Failed) => Ok(false),
         Err(OutError::Memory) => Err(Memory),
     }
 }
 
-/// The status of a command: a fault of saving or printing, else what its sources say.
+/// The status of a finding, unless saving or printing failed.
 fn status_with(saved: bool, printed: bool, status: Status) -> Status
-    ensures { result ≡ status_with (saved && printed) status }
+    ensures { result ≡ (if saved && printed then status else Status.WriteFault) }
 {
     if saved && printed {
         status
     } else {
         Status::WriteFault
-    }
-}
-
-/// What the ends of CPUs say: a fault of any, else damage, that of the lowest CPU.
-fn status_of_ends(logs: &[CpuLog]) -> Status
-    requires { length logs.now ≤ 8 }
-    ensures { result ≡ status_of_logs 0 logs.now }
-{
-    let mut status = Status::Fine;
-    let mut cpu = logs.len() as u32;
-    while cpu > 0 {
-        cpu -= 1;
-        status = with_end(cpu, logs[cpu as usize].end, status);
-    }
-    status
-}
-
-/// The status where a CPU of this number ended so, and those behind it have this status.
-fn with_end(cpu: u32, end: CpuEnd, rest: Status) -> Status
-    ensures { result ≡ status_by_end cpu end rest }
-{
-    match end {
-        CpuEnd::Whole => rest,
-        CpuEnd::Fault => Status::ReadFault,
-        CpuEnd::Damaged(fault) => match rest {
-            Status::ReadFault => Status::ReadFault,
-            _ => Status::Damaged { cpu, fault },
-        },
     }
 }

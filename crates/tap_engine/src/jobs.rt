@@ -1,81 +1,43 @@
 //! What a command asks for: its texts, read and accepted.
-ghost use Rattle.std.specs.Prelude.{◌≡◌, ℕ, ◌≤◌, List, None, Some, IfErr, IfOk, IfSome, IsTrue, OnOk, Ok, length, option_map};
-ghost use Rattle.replay_model.specs.Reports.{IsSchedule};
+ghost use Rattle.std.specs.Prelude.{◌≡◌, ◌≤◌, None, Ok, IfErr, IfOk, IfSome, IsTrue, OnOk, length};
+ghost use Rattle.std.specs.Prelude.{option_map};
+ghost use Rattle.schedule_lines.specs.Ascending.{IsSchedule};
 ghost use Rattle.setup_text.specs.Setups.{request_fault};
 ghost use Rattle.setup_text.specs.Sound.{IsSetup};
-ghost use Rattle.setup_text.specs.declared.commands.Command.TheVariants.{Check};
 ghost use Rattle.setup_text.specs.declared.jobs.Job.{Job};
 ghost use Rattle.setup_text.specs.declared.setups.Setup.{Setup};
-ghost use Rattle.tap_engine.specs.Commands.{Named};
-ghost use Rattle.tap_outside.specs.Counts.{Rose};
+ghost use Rattle.tap_outside.specs.Seen.{OnlyReads};
 ghost use Rattle.tap_reading.specs.Readers.{Says, StopsAtText, schedule_for};
-ghost use Rattle.tap_reading.specs.Stores.{IsReadOnly};
-ghost use Rattle.tap_engine.specs.Jobs.{HasJob, HasProgram, HasSetup, HasTicks, IsLoaded, Stops};
-ghost use Rattle.tap_engine.specs.Names.{AreMeant, filter_for, names_to_read};
+ghost use Rattle.tap_engine.specs.Commands.{Named, named_by};
+ghost use Rattle.tap_engine.specs.Jobs.{HasJob, HasProgram, HasSetup, HasTicks, Stops};
+ghost use Rattle.tap_engine.specs.Names.{AreMeantToRead, filter_for, ticks_for};
 
 use crate::commands::Asked;
 use bpf_filter::Program;
-use replay_model::Schedule;
+use schedule_lines::Schedule;
 use setup_text::{Command, Job, Setup};
 use std::alloc::Global;
-use tap_outside::{Store, Word};
+use tap_outside::Store;
 use tap_reading::{Stop, load_filter, load_schedule, load_setup, load_ticks};
-
-/// What the texts of a command ask for.
-#[derive(Drop)]
-pub(crate) enum Loaded {
-    /// Nothing more: the texts are accepted.
-    Checked,
-    /// A replay of a job by a schedule.
-    Replay(Job, Schedule),
-    /// A replay of the frames that a job has made.
-    Make(Job),
-    /// A job whose first capture is sent.
-    Send(Job),
-}
-
-/// Reads the texts of a command, one after the other.
-pub(crate) fn load<S: Store>(alloc: Global, asked: Asked<'_>, store: &mut S) -> Result<Loaded, Stop>
-    requires { AreMeant names_to_read (Some (record { command = asked.command; setup = asked.setup.now; schedule = asked.schedule.now }))
-        (S.held store.old) (S.meant_to_read store.old) }
-    ensures loaded { IfOk result (IsLoaded (S.held store.old)
-        (record { command = asked.entry.command; setup = asked.entry.setup.now; schedule = asked.entry.schedule.now })) }
-    ensures stop { IfErr result (Stops (S.held store.old)
-        (record { command = asked.entry.command; setup = asked.entry.setup.now; schedule = asked.entry.schedule.now })
-        (Rose (S.read_faults store.old) (S.read_faults store.new))) }
-    ensures store { IsReadOnly
-        (record { held = S.held store.old; to_read = S.meant_to_read store.old; to_save = S.meant_to_save store.old; read_faults = S.read_faults store.old; save_faults = S.save_faults store.old })
-        (record { held = S.held store.new; to_read = S.meant_to_read store.new; to_save = S.meant_to_save store.new; read_faults = S.read_faults store.new; save_faults = S.save_faults store.new }) }
-{
-    let job = load_job(alloc, asked, store)?;
-    match asked.command {
-        Command::Check => {
-            check_ticks(alloc, store, &job.setup.ticks)?;
-            Ok(Loaded::Checked)
-        }
-        Command::Replay => {
-            let schedule = load_lines(alloc, store, asked.schedule, &job.setup)?;
-            Ok(Loaded::Replay(job, schedule))
-        }
-        Command::Make => Ok(Loaded::Make(job)),
-        Command::Send => Ok(Loaded::Send(job)),
-    }
-}
+use text_lines::Word;
 
 /// Reads the setup of a command, and the filter that it names, if the command reads one.
-fn load_job<S: Store>(alloc: Global, asked: Asked<'_>, store: &mut S) -> Result<Job, Stop>
-    requires { AreMeant names_to_read (Some (record { command = asked.command; setup = asked.setup.now; schedule = asked.schedule.now }))
-        (S.held store.old) (S.meant_to_read store.old) }
-    ensures job { IfOk result (HasJob (S.held store.old)
-        (record { command = asked.entry.command; setup = asked.entry.setup.now; schedule = asked.entry.schedule.now })) }
+pub(crate) fn load_job<S: Store>(
+    alloc: Global,
+    asked: Asked<'_>,
+    store: &mut S,
+) -> Result<Job, Stop>
+    requires { AreMeantToRead
+        (Some (named_by asked.command asked.setup.now asked.schedule.now)) (S.seen store.old) }
+    ensures job { IfOk result (HasJob (S.seen store.old).held
+        (named_by asked.entry.command asked.entry.setup.now asked.entry.schedule.now)) }
     ensures sound { IfOk result (λ job. IsSetup job.setup) }
-    ensures ring { IfOk result (λ job. request_fault asked.entry.command job.setup.request ≡ None) }
-    ensures stop { IfErr result (Stops (S.held store.old)
-        (record { command = asked.entry.command; setup = asked.entry.setup.now; schedule = asked.entry.schedule.now })
-        (Rose (S.read_faults store.old) (S.read_faults store.new))) }
-    ensures store { IsReadOnly
-        (record { held = S.held store.old; to_read = S.meant_to_read store.old; to_save = S.meant_to_save store.old; read_faults = S.read_faults store.old; save_faults = S.save_faults store.old })
-        (record { held = S.held store.new; to_read = S.meant_to_read store.new; to_save = S.meant_to_save store.new; read_faults = S.read_faults store.new; save_faults = S.save_faults store.new }) }
+    ensures ring { IfOk result (λ job.
+        request_fault asked.entry.command job.setup.request ≡ None) }
+    ensures stop { IfErr result (Stops (S.seen store.old) (S.seen store.new)
+        (named_by asked.entry.command asked.entry.setup.now asked.entry.schedule.now)) }
+    ensures store { OnlyReads (S.seen store.old) (S.seen store.new) }
+    ensures faultless { OnOk result (S.seen store.new ≡ S.seen store.old) }
 {
     let setup = load_setup(alloc, store, asked.setup, asked.command)?;
     let program = load_program(alloc, store, filter_for(asked.command, &setup))?;
@@ -88,7 +50,7 @@ fn filter_for(command: Command, setup: &Setup) -> Option<&Word>
 {
     match command {
         Command::Send => None,
-        Command::Check | Command::Replay | Command::Make => setup.filter.as_ref(),
+        Command::Check | Command::Make | Command::Replay => { setup.filter.as_ref() }
     }
 }
 
@@ -98,14 +60,15 @@ fn load_program<S: Store>(
     store: &mut S,
     filter: Option<&Word>,
 ) -> Result<Option<Program>, Stop>
-    requires { IfSome filter (λ name. IsTrue (S.meant_to_read store.old name.now)) }
-    ensures program { IfOk result (HasProgram (S.held store.old) (option_map (λ word. word.now) filter.entry)) }
-    ensures stop { IfErr result (λ stop. (named : Named) (setup : Setup) → HasSetup (S.held store.old) named setup
+    requires { IfSome filter (λ name. IsTrue ((S.seen store.old).to_read name.now)) }
+    ensures program { IfOk result
+        (HasProgram (S.seen store.old).held (option_map (λ word. word.now) filter.entry)) }
+    ensures stop { IfErr result (λ stop. (named : Named) (setup : Setup)
+        → HasSetup (S.seen store.old).held named setup
         → filter_for named.command setup ≡ option_map (λ word. word.now) filter.entry
-        → Stops (S.held store.old) named (Rose (S.read_faults store.old) (S.read_faults store.new)) stop) }
-    ensures store { IsReadOnly
-        (record { held = S.held store.old; to_read = S.meant_to_read store.old; to_save = S.meant_to_save store.old; read_faults = S.read_faults store.old; save_faults = S.save_faults store.old })
-        (record { held = S.held store.new; to_read = S.meant_to_read store.new; to_save = S.meant_to_save store.new; read_faults = S.read_faults store.new; save_faults = S.save_faults store.new }) }
+        → Stops (S.seen store.old) (S.seen store.new) named stop) }
+    ensures store { OnlyReads (S.seen store.old) (S.seen store.new) }
+    ensures faultless { OnOk result (S.seen store.new ≡ S.seen store.old) }
 {
     match filter {
         None => Ok(None),
@@ -116,16 +79,20 @@ fn load_program<S: Store>(
     }
 }
 
-/// Reads the moments that a setup names, if it names some. They must be accepted; no command uses them yet.
-fn check_ticks<S: Store>(alloc: Global, store: &mut S, ticks: &Option<Word>) -> Result<(), Stop>
-    requires { IfSome ticks.now (λ name. IsTrue (S.meant_to_read store.old name)) }
-    ensures ticks { OnOk result (HasTicks (S.held store.old) ticks.now) }
-    ensures stop { IfErr result (λ stop. (named : Named) (job : Job) → HasJob (S.held store.old) named job
-        → named.command ≡ Check → job.setup.ticks ≡ ticks.now
-        → Stops (S.held store.old) named (Rose (S.read_faults store.old) (S.read_faults store.new)) stop) }
-    ensures store { IsReadOnly
-        (record { held = S.held store.old; to_read = S.meant_to_read store.old; to_save = S.meant_to_save store.old; read_faults = S.read_faults store.old; save_faults = S.save_faults store.old })
-        (record { held = S.held store.new; to_read = S.meant_to_read store.new; to_save = S.meant_to_save store.new; read_faults = S.read_faults store.new; save_faults = S.save_faults store.new }) }
+/// Reads the moments that a setup names, if it names some, and lets them go: they must be accepted.
+pub(crate) fn check_ticks<S: Store>(
+    alloc: Global,
+    store: &mut S,
+    ticks: &Option<Word>,
+) -> Result<(), Stop>
+    requires { IfSome ticks.now (λ name. IsTrue ((S.seen store.old).to_read name)) }
+    ensures ticks { OnOk result (HasTicks (S.seen store.old).held ticks.now) }
+    ensures stop { IfErr result (λ stop. (named : Named) (job : Job)
+        → HasJob (S.seen store.old).held named job
+        → ticks_for named.command job.setup ≡ ticks.now
+        → Stops (S.seen store.old) (S.seen store.new) named stop) }
+    ensures store { OnlyReads (S.seen store.old) (S.seen store.new) }
+    ensures faultless { OnOk result (S.seen store.new ≡ S.seen store.old) }
 {
     if let Some(name) = ticks {
         load_ticks(alloc, store, name.bytes())?;
@@ -134,22 +101,23 @@ fn check_ticks<S: Store>(alloc: Global, store: &mut S, ticks: &Option<Word>) -> 
 }
 
 /// Reads a schedule for the CPUs and the members of a setup.
-fn load_lines<S: Store>(
+pub(crate) fn load_lines<S: Store>(
     alloc: Global,
     store: &mut S,
     name: &[u8],
     setup: &Setup,
 ) -> Result<Schedule, Stop>
-    requires name { IsTrue (S.meant_to_read store.old name.now) }
+    requires name { IsTrue ((S.seen store.old).to_read name.now) }
     requires few { length setup.now.cpus ≤ 8 }
-    ensures schedule { IfOk result (λ lines. Says (schedule_for (length setup.now.cpus) setup.now.plan.members)
-        (S.held store.old) name.now (Ok lines)) }
+    ensures schedule { IfOk result (λ lines.
+        Says (schedule_for (length setup.now.cpus) setup.now.plan.members)
+        (S.seen store.old).held name.now (Ok lines)) }
     ensures ascending { IfOk result IsSchedule }
-    ensures stop { IfErr result (StopsAtText (schedule_for (length setup.now.cpus) setup.now.plan.members)
-        (S.held store.old) name.now (Rose (S.read_faults store.old) (S.read_faults store.new))) }
-    ensures store { IsReadOnly
-        (record { held = S.held store.old; to_read = S.meant_to_read store.old; to_save = S.meant_to_save store.old; read_faults = S.read_faults store.old; save_faults = S.save_faults store.old })
-        (record { held = S.held store.new; to_read = S.meant_to_read store.new; to_save = S.meant_to_save store.new; read_faults = S.read_faults store.new; save_faults = S.save_faults store.new }) }
+    ensures stop { IfErr result
+        (StopsAtText (schedule_for (length setup.now.cpus) setup.now.plan.members)
+        (S.seen store.old) (S.seen store.new) name.now) }
+    ensures store { OnlyReads (S.seen store.old) (S.seen store.new) }
+    ensures faultless { OnOk result (S.seen store.new ≡ S.seen store.old) }
 {
     let cpus = setup.cpus.len() as u32;
     load_schedule(alloc, store, name, cpus, setup.plan.members())

@@ -3,6 +3,7 @@
 
 mod commands;
 mod concluding;
+mod findings;
 mod jobs;
 mod laws;
 mod making;

@@ -1,7 +1,7 @@
-//! The sources of a run's captures: fetched before it, and closed behind it.
+//! The sources of a run's captures: fetched before it, and closed after it.
 ghost use Rattle.std.specs.Prelude.{◌≡◌, [], ◌∷◌, length, map, option_map, All, IfOk, IsTrue};
 ghost use Rattle.tap_outside.specs.Counts.{RoseBy};
-ghost use Rattle.tap_reading.specs.Stores.{IsReadOnly};
+ghost use Rattle.tap_outside.specs.Seen.{OnlyReads};
 ghost use Rattle.tap_engine.specs.Sources.{AreFetched, faulty_in, missing_in};
 
 use frame_view::Memory;
@@ -15,15 +15,13 @@ pub(crate) fn fetch_captures<S: Store>(
     store: &mut S,
     cpus: &CpuSetupList,
 ) -> Result<Vec<Option<S::Input>>, Memory>
-    requires { All (λ cpu. IsTrue (S.meant_to_read store.old cpu.file)) cpus.now }
-    ensures fetched { IfOk result (λ sources. AreFetched (S.held store.old) cpus.now
-        (map (option_map (λ source. record { left = S.Input.left source; faults = S.Input.faults source })) sources.items)) }
+    requires { All (λ cpu. IsTrue ((S.seen store.old).to_read cpu.file)) cpus.now }
+    ensures fetched { IfOk result (λ sources. AreFetched (S.seen store.old).held cpus.now
+        (map (option_map S.Input.seen) sources.items)) }
     ensures faults { IfOk result (λ sources. RoseBy
-        (missing_in (map (option_map (λ source. record { left = S.Input.left source; faults = S.Input.faults source })) sources.items))
-        (S.read_faults store.old) (S.read_faults store.new)) }
-    ensures store { IsReadOnly
-        (record { held = S.held store.old; to_read = S.meant_to_read store.old; to_save = S.meant_to_save store.old; read_faults = S.read_faults store.old; save_faults = S.save_faults store.old })
-        (record { held = S.held store.new; to_read = S.meant_to_read store.new; to_save = S.meant_to_save store.new; read_faults = S.read_faults store.new; save_faults = S.save_faults store.new }) }
+        (missing_in (map (option_map S.Input.seen) sources.items))
+        (S.seen store.old).read_faults (S.seen store.new).read_faults) }
+    ensures store { OnlyReads (S.seen store.old) (S.seen store.new) }
 {
     let mut sources = Vec::with_capacity(alloc, cpus.len())?;
     for cpu in cpus.as_slice() {
@@ -38,15 +36,13 @@ pub(crate) fn fetch_capture<S: Store>(
     store: &mut S,
     cpu: &CpuSetup,
 ) -> Result<Option<S::Input>, Memory>
-    requires { IsTrue (S.meant_to_read store.old cpu.now.file) }
-    ensures fetched { IfOk result (λ source. AreFetched (S.held store.old) (cpu.now ∷ [])
-        (option_map (λ source. record { left = S.Input.left source; faults = S.Input.faults source }) source ∷ [])) }
+    requires { IsTrue ((S.seen store.old).to_read cpu.now.file) }
+    ensures fetched { IfOk result (λ source. AreFetched (S.seen store.old).held
+        (cpu.now ∷ []) (option_map S.Input.seen source ∷ [])) }
     ensures faults { IfOk result (λ source. RoseBy
-        (missing_in (option_map (λ source. record { left = S.Input.left source; faults = S.Input.faults source }) source ∷ []))
-        (S.read_faults store.old) (S.read_faults store.new)) }
-    ensures store { IsReadOnly
-        (record { held = S.held store.old; to_read = S.meant_to_read store.old; to_save = S.meant_to_save store.old; read_faults = S.read_faults store.old; save_faults = S.save_faults store.old })
-        (record { held = S.held store.new; to_read = S.meant_to_read store.new; to_save = S.meant_to_save store.new; read_faults = S.read_faults store.new; save_faults = S.save_faults store.new }) }
+        (missing_in (option_map S.Input.seen source ∷ []))
+        (S.seen store.old).read_faults (S.seen store.new).read_faults) }
+    ensures store { OnlyReads (S.seen store.old) (S.seen store.new) }
 {
     match store.fetch(cpu.file.bytes()) {
         Ok(source) => Ok(Some(source)),
@@ -57,12 +53,9 @@ pub(crate) fn fetch_capture<S: Store>(
 
 /// Gives the sources back to the store, which counts their faults.
 pub(crate) fn close_captures<S: Store>(store: &mut S, sources: Vec<Option<S::Input>>)
-    ensures faults { RoseBy
-        (faulty_in (map (option_map (λ source. record { left = S.Input.left source; faults = S.Input.faults source })) sources.items))
-        (S.read_faults store.old) (S.read_faults store.new) }
-    ensures store { IsReadOnly
-        (record { held = S.held store.old; to_read = S.meant_to_read store.old; to_save = S.meant_to_save store.old; read_faults = S.read_faults store.old; save_faults = S.save_faults store.old })
-        (record { held = S.held store.new; to_read = S.meant_to_read store.new; to_save = S.meant_to_save store.new; read_faults = S.read_faults store.new; save_faults = S.save_faults store.new }) }
+    ensures faults { RoseBy (faulty_in (map (option_map S.Input.seen) sources.items))
+        (S.seen store.old).read_faults (S.seen store.new).read_faults }
+    ensures store { OnlyReads (S.seen store.old) (S.seen store.new) }
 {
     for source in sources {
         close_capture(store, source);
@@ -71,12 +64,9 @@ pub(crate) fn close_captures<S: Store>(store: &mut S, sources: Vec<Option<S::Inp
 
 /// Gives a source back to the store, if there is one.
 pub(crate) fn close_capture<S: Store>(store: &mut S, source: Option<S::Input>)
-    ensures faults { RoseBy
-        (faulty_in (option_map (λ source. record { left = S.Input.left source; faults = S.Input.faults source }) source ∷ []))
-        (S.read_faults store.old) (S.read_faults store.new) }
-    ensures store { IsReadOnly
-        (record { held = S.held store.old; to_read = S.meant_to_read store.old; to_save = S.meant_to_save store.old; read_faults = S.read_faults store.old; save_faults = S.save_faults store.old })
-        (record { held = S.held store.new; to_read = S.meant_to_read store.new; to_save = S.meant_to_save store.new; read_faults = S.read_faults store.new; save_faults = S.save_faults store.new }) }
+    ensures faults { RoseBy (faulty_in (option_map S.Input.seen source ∷ []))
+        (S.seen store.old).read_faults (S.seen store.new).read_faults }
+    ensures store { OnlyReads (S.seen store.old) (S.seen store.new) }
 {
     if let Some(source) = source {
         store.close(source);

@@ -42,7 +42,8 @@ pub PutsFile-set : (files : List HeldFile) (at : ℕ) (file : HeldFile)
 PutsFile-set files at file found =
     let place = first_named files file.name at file found in
     record {
-      there = find-set (λ f. bytes_eq f.name file.name) files at file place.0 place.1 (same_name file.name);
+      there = find-set (λ f. bytes_eq f.name file.name) files at file place.0 place.1
+          (same_name file.name);
       others = λ other differs. find_past (λ f. bytes_eq f.name other) files at file file
           (rw place.2 (other_name file.name other differs)) (other_name file.name other differs);
     }

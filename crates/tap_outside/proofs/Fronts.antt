@@ -11,7 +11,8 @@ pub Appends-then : (old mid new : Option (List ℕ)) (first second : List ℕ)
 Appends-then None mid new first second one two = tt
 Appends-then (Some xs) None new first second one two = absurd one
 Appends-then (Some xs) (Some ys) None first second one two = absurd two
-Appends-then (Some xs) (Some ys) (Some zs) first second one two = rw (two, one) (append_assoc xs first second)
+Appends-then (Some xs) (Some ys) (Some zs) first second one two =
+    rw (two, one) (append_assoc xs first second)
 
 -- all bytes are a front of them
 pub AppendsFront-all : (old new : Option (List ℕ)) (bytes : List ℕ)

@@ -1,3 +1,5 @@
+pub mod Consumed
 pub mod Fronts
+pub mod Kept
 mod FileLists
 mod Writes

@@ -1,12 +1,14 @@
 -- What is written to a sink, and what a sink in memory stands for.
 use Rattle.std.specs.Prelude.{◌≡◌, ◌≤◌, ℕ, List, ◌++◌, length, [], take, ⊤, Option, None, Some}
 use Rattle.tap_outside.specs.Counts.{counted}
+use Rattle.tap_outside.specs.Seen.{SinkSeen}
 
 -- known bytes grow by a front of these
 abbrev pub AppendsFront : Option (List ℕ) → Option (List ℕ) → List ℕ → Type 0
 AppendsFront None new bytes = ⊤
 AppendsFront (Some old) None bytes = ⊥
-AppendsFront (Some old) (Some new) bytes = (n : ℕ) × (n ≤ length bytes) × (new ≡ old ++ take n bytes)
+AppendsFront (Some old) (Some new) bytes =
+    (n : ℕ) × (n ≤ length bytes) × (new ≡ old ++ take n bytes)
 
 -- a sink in memory
 pub record MemSinkState : Type 0 where
@@ -18,6 +20,10 @@ pub record MemSinkState : Type 0 where
   pub writes : ℕ
   -- the number of those that failed
   pub faults : ℕ
+
+-- such a sink as each sink is seen: it tells what was written
+abbrev pub seen_sink : MemSinkState → SinkSeen
+seen_sink sink = record { written = Some sink.written; faults = sink.faults }
 
 -- a sink before its first write
 abbrev pub fresh_sink : List ℕ → MemSinkState

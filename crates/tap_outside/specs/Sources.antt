@@ -1,6 +1,7 @@
 -- What a source in memory stands for.
-use Rattle.std.specs.Prelude.{ℕ, List, length, min, drop}
+use Rattle.std.specs.Prelude.{ℕ, List, length, min, drop, Some}
 use Rattle.tap_outside.specs.Counts.{counted}
+use Rattle.tap_outside.specs.Seen.{SourceSeen}
 
 -- a source in memory
 pub record MemSourceState : Type 0 where
@@ -14,6 +15,10 @@ pub record MemSourceState : Type 0 where
   pub reads : ℕ
   -- the number of those that failed
   pub faults : ℕ
+
+-- such a source as each source is seen: it tells what is left
+abbrev pub seen_source : MemSourceState → SourceSeen
+seen_source source = record { left = Some source.left; faults = source.faults }
 
 -- a source before its first read
 abbrev pub fresh_source : List ℕ → ℕ → List ℕ → MemSourceState

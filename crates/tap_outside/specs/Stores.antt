@@ -2,6 +2,7 @@
 use Rattle.std.specs.Prelude.{◌≡◌, ◌≢◌, ℕ, List, [], Option, Some, IsNone, ◌⊎◌, Contains, find, bytes_eq, option_map}
 use Rattle.tap_outside.specs.Contents.{Contents}
 use Rattle.tap_outside.specs.Counts.{counted}
+use Rattle.tap_outside.specs.Seen.{StoreSeen, meant_store}
 use Rattle.tap_outside.specs.Sources.{MemSourceState, fresh_source}
 
 -- a file in memory
@@ -52,6 +53,11 @@ pub record MemStoreState : Type 0 where
   pub read_faults : ℕ
   -- the number of saves that failed
   pub save_faults : ℕ
+
+-- such a store as each store is seen: it tells what it holds
+abbrev pub seen_store : MemStoreState → StoreSeen
+seen_store store =
+    meant_store (Some (contents_of store.files)) store.read_faults store.save_faults
 
 -- the next fetch is one that is to fail, or the name isn't held
 abbrev pub FetchFails : MemStoreState → List ℕ → Type 0

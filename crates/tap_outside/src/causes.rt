@@ -8,7 +8,8 @@ use std::alloc::{AllocError, AllocFailed};
 use std::error::Error;
 use std::{fmt, io};
 
-/// The outside failed: a read, a write, a fetch or a save went wrong, and its object counted a fault.
+/// The outside failed: a read, a write, a fetch or a save went wrong, and its object counted a
+/// fault.
 #[derive(Clone, Copy, Debug, PartialEq, Eq)]
 pub struct Failed;
 
@@ -75,7 +76,8 @@ impl<T: Drop> From<AllocFailed<T>> for OutError {
 impl From<io::Error> for OutError {
     ghost from_gives = { λ error e. (e ≡ Memory) ↔ (error_kind error ≡ OutOfMemory) };
 
-    /// Want of memory, where the system tells it, else a fault. Who hands it on as a fault counts it.
+    /// Want of memory, where the system tells it, else a fault. Who hands it on as a fault counts
+    /// it.
     fn from(error: io::Error) -> OutError {
         match error.kind() {
             io::ErrorKind::OutOfMemory => OutError::Memory,

@@ -1,6 +1,7 @@
 //! Real files. What they hold is the system's word, so nothing here tells any content.
-ghost use Rattle.std.specs.Prelude.{◌≡◌, true, refl, None, IfOk};
+ghost use Rattle.std.specs.Prelude.{◌≡◌, refl, None, IfOk};
 ghost use Rattle.std.specs.Io.{ReadsAtMost};
+ghost use Rattle.tap_outside.specs.Seen.{meant_store};
 
 use crate::{Failed, OutError, Source, Store};
 use std::fs::OpenFile;
@@ -26,11 +27,10 @@ pub struct DiskSource<F> {
 }
 
 impl<F: Read + Drop> Source for DiskSource<F> {
-    ghost left = { λ _. None };
+    ghost seen = { λ source. record { left = None; faults = source.faults } };
 
-    ghost faults = { λ source. source.faults };
-
-    /// A read that a signal interrupts is tried again, 16 times at most. Each error that is left is a fault.
+    /// A read that a signal interrupts is tried again, 16 times at most. Each error that is left is
+    /// a fault.
     fn read(&mut self, into: &mut [u8]) -> Result<usize, Failed> {
         let room = into.len().min(self.buffer.len());
         let window = &mut self.buffer[..room];
@@ -60,9 +60,9 @@ fn read_some<F: Read>(file: &mut F, into: &mut [u8]) -> io::Result<usize>
     file.read(into)
 }
 
-/// Real files, by their paths in UTF-8. A file that isn't there, a folder, and a name that is no path count
-/// as faults when they are fetched. A save writes over the file that is there. An error that the system
-/// tells only after a file is closed isn't seen.
+/// Real files, by their paths in UTF-8. A file that isn't there, a folder, and a name that is no
+/// path count as faults when they are fetched. A save writes over the file that is there. An error
+/// that the system tells only after a file is closed isn't seen.
 #[derive(Drop)]
 pub struct DiskStore<'a, R> {
     /// What opens files, and gives memory for a source's buffer.
@@ -79,9 +79,7 @@ where
 {
     /// The files of this system, with no fault so far. It takes no memory.
     pub fn new(rt: &'a R) -> DiskStore<'a, R>
-        ensures held { ⟦<DiskStore<'a, R> as Store>⟧.held result ≡ None }
-        ensures read_faults { ⟦<DiskStore<'a, R> as Store>⟧.read_faults result ≡ 0 }
-        ensures save_faults { ⟦<DiskStore<'a, R> as Store>⟧.save_faults result ≡ 0 }
+        ensures { ⟦<DiskStore<'a, R> as Store>⟧.seen result ≡ meant_store None 0 0 }
     {
         DiskStore {
             rt,
@@ -92,14 +90,14 @@ where
 
     /// The number of faults of reading so far; it stands still at the greatest u64.
     pub fn read_faults(&self) -> u64
-        ensures { result ≡ ⟦<DiskStore<'a, R> as Store>⟧.read_faults self.now }
+        ensures { result ≡ (⟦<DiskStore<'a, R> as Store>⟧.seen self.now).read_faults }
     {
         self.read_faults
     }
 
     /// The number of faults of saving so far; it stands still at the greatest u64.
     pub fn save_faults(&self) -> u64
-        ensures { result ≡ ⟦<DiskStore<'a, R> as Store>⟧.save_faults self.now }
+        ensures { result ≡ (⟦<DiskStore<'a, R> as Store>⟧.seen self.now).save_faults }
     {
         self.save_faults
     }
@@ -111,15 +109,7 @@ where
 {
     type Input = DiskSource<R::File>;
 
-    ghost held = { λ _. None };
-
-    ghost meant_to_read = { λ _ _. true };
-
-    ghost meant_to_save = { λ _ _. true };
-
-    ghost read_faults = { λ store. store.read_faults };
-
-    ghost save_faults = { λ store. store.save_faults };
+    ghost seen = { λ store. meant_store None store.read_faults store.save_faults };
 
     fn fetch(&mut self, name: &[u8]) -> Result<DiskSource<R::File>, OutError> {
         let opened = open_source(self.rt, name);
@@ -164,8 +154,8 @@ fn open_source<R: Files + AllocGlobal>(rt: &R, name: &[u8]) -> Result<DiskSource
     })
 }
 
-/// Makes a file of these bytes. Once it is open its old bytes are gone, so want of memory is a fault from
-/// there on: the file may hold anything then.
+/// Makes a file of these bytes. Once it is open its old bytes are gone, so want of memory is a
+/// fault from there on: the file may hold anything then.
 fn write_file<R: Files>(rt: &R, name: &[u8], bytes: &[u8]) -> Result<(), OutError> {
     let path = str::from_utf8(name).map_err(|_| Failed)?;
     let mut file = fs::create(rt, path)?;

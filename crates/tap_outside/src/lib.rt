@@ -1,5 +1,5 @@
-//! The outside as the product sees it: sources that are read, sinks that are written and stores of named
-//! files, each with a count of its faults; in memory, on disk, and standard output.
+//! The outside as the product sees it: sources that are read, sinks that are written and stores of
+//! named files, each with a count of its faults; in memory, on disk, and standard output.
 #![tactic(auto)]
 
 mod causes;
@@ -12,9 +12,6 @@ mod reading;
 mod standard_output;
 mod storing;
 mod sure_store;
-#[cfg(test)]
-mod tests;
-mod words;
 mod writing;
 
 pub use causes::{Failed, OutError};
@@ -26,5 +23,5 @@ pub use reading::Source;
 pub use standard_output::StdSink;
 pub use storing::Store;
 pub use sure_store::{SureSource, SureStore};
-pub use words::Word;
+pub use text_lines::Word;
 pub use writing::{Sink, write_whole};

@@ -93,8 +93,8 @@ fn place_of(files: &[MemFile], name: &[u8]) -> Option<usize>
     files.iter().position(|file| file.name() == name)
 }
 
-/// Puts a file under its name, in the place of the one that stood there. After `Memory` the files are as
-/// before.
+/// Puts a file under its name, in the place of the one that stood there. After `Memory` the files
+/// are as before.
 pub(crate) fn put_file(files: &mut Vec<MemFile>, file: MemFile) -> Result<(), Memory>
     ensures ok { OnOk result (PutsFile files.old.items files.new.items file) }
     ensures err { OnErr result (files.new.items ≡ files.old.items) }

@@ -3,22 +3,23 @@ ghost use Rattle.std.specs.Prelude.{◌≡◌, ◌<◌, ◌≤◌, ◌↔◌, []
 ghost use Rattle.std.specs.Io.KnownBytes.{WriteAppends};
 ghost use Rattle.tap_outside.specs.Counts.{counted, Rose};
 ghost use Rattle.tap_outside.specs.Outcomes.{OnFailed, OnMemory};
-ghost use Rattle.tap_outside.specs.Sinks.{after_failed_write, after_write, fresh_sink};
+ghost use Rattle.tap_outside.specs.Sinks.{after_failed_write, after_write, fresh_sink, seen_sink};
 
 use crate::{OutError, Sink};
 use frame_view::MomentList;
 use std::alloc::Global;
 use std::marker::Model;
 
-/// A sink that keeps its bytes in memory. Contracts see the bytes written, the numbers of the writes that
-/// fail, and how many writes there were and failed.
+/// A sink that keeps its bytes in memory. Contracts see the bytes written, the numbers of the
+/// writes that fail, and how many writes there were and failed.
 #[derive(Debug, Drop)]
 pub struct MemSink {
     /// The bytes written so far.
     bytes: Vec<u8>,
     /// The numbers of the writes that fail, from 1, in any order.
     failing: MomentList,
-    /// How many writes there were, those left out that wanted memory; it stands still at the greatest u64.
+    /// How many writes there were, those left out that wanted memory; it stands still at the
+    /// greatest u64.
     writes: u64,
     /// How many of them failed; it stands still at the greatest u64.
     faults: u64,
@@ -38,12 +39,11 @@ impl Model for MemSink {
 }
 
 impl MemSink {
-    /// A sink without a byte. The writes fail whose numbers, counted from 1, stand in `failing`; a write that
-    /// wants memory isn't counted. It takes no memory.
+    /// A sink without a byte. The writes fail whose numbers, counted from 1, stand in `failing`; a
+    /// write that wants memory isn't counted. It takes no memory.
     pub fn new(alloc: Global, failing: MomentList) -> MemSink
         ensures fresh { result ≡ fresh_sink failing }
-        ensures written { ⟦<MemSink as Sink>⟧.written result ≡ Some [] }
-        ensures faults { ⟦<MemSink as Sink>⟧.faults result ≡ 0 }
+        ensures seen { ⟦<MemSink as Sink>⟧.seen result ≡ record { written = Some []; faults = 0 } }
     {
         MemSink {
             bytes: Vec::new(alloc),
@@ -55,22 +55,20 @@ impl MemSink {
 
     /// The bytes written so far, lent.
     pub fn written(&self) -> &[u8]
-        ensures { ⟦<MemSink as Sink>⟧.written self.now ≡ Some result.now }
+        ensures { (⟦<MemSink as Sink>⟧.seen self.now).written ≡ Some result.now }
     {
         self.bytes.as_slice()
     }
 }
 
 impl Sink for MemSink {
-    ghost written = { λ sink. Some sink.written };
-
-    ghost faults = { λ sink. sink.faults };
+    ghost seen = { seen_sink };
 
     fn write(&mut self, from: &[u8]) -> Result<usize, OutError>
         requires { 0 < length from.now }
 
-        // A write fails exactly where its number stands among those that are to fail. Else it takes the whole
-        // piece, or wants memory.
+        // A write fails exactly where its number stands among those that are to fail. Else it takes
+        // the whole piece, or wants memory.
         ensures fails { IsErrOf result OutError.Failed ↔
             Contains self.old.failing (counted self.old.writes) }
         ensures whole { IfOk result (λ n. n ≡ length from.now) }
@@ -80,8 +78,10 @@ impl Sink for MemSink {
 
         // What each sink promises.
         ensures bound { IfOk result (λ n. (0 < n) × (n ≤ length from.now)) }
-        ensures bytes { WriteAppends (Some self.old.written) (Some self.new.written) result from.now }
+        ensures bytes { WriteAppends (Some self.old.written) (Some self.new.written)
+            result from.now }
         ensures later { self.old.faults ≤ self.new.faults }
+        ensures faultless { OnOk result (self.new.faults ≡ self.old.faults) }
         ensures cause { OnFailed result (Rose self.old.faults self.new.faults) }
     {
         let number = self.writes.saturating_add(1);

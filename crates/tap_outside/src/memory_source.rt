@@ -1,16 +1,17 @@
 //! A source over bytes in memory, which fails where it is told to.
-ghost use Rattle.std.specs.Prelude.{◌≡◌, ◌<◌, ◌≤◌, ◌↔◌, Some, length, drop, Contains, IsErr, IfOk, OnErr};
+ghost use Rattle.std.specs.Prelude.{◌≡◌, ◌<◌, ◌≤◌, ◌↔◌, Some, length, drop, Contains, IsErr, IfOk, OnErr, OnOk};
 ghost use Rattle.std.specs.Io.{ReadsAtMost};
 ghost use Rattle.std.specs.Io.KnownBytes.{ReadConsumes};
 ghost use Rattle.tap_outside.specs.Counts.{counted, Rose};
-ghost use Rattle.tap_outside.specs.Sources.{after_failed_read, after_read, fresh_source, read_length};
+ghost use Rattle.tap_outside.specs.Seen.{unread_source};
+ghost use Rattle.tap_outside.specs.Sources.{after_failed_read, after_read, fresh_source, read_length, seen_source};
 
 use crate::{Failed, Source};
 use frame_view::{ByteList, MomentList};
 use std::marker::Model;
 
-/// A source over bytes in memory. Contracts see the bytes that are left, the most that one read gives, the
-/// numbers of the reads that fail, and how many reads there were and failed.
+/// A source over bytes in memory. Contracts see the bytes that are left, the most that one read
+/// gives, the numbers of the reads that fail, and how many reads there were and failed.
 #[derive(Debug, Drop)]
 pub struct MemSource {
     /// All bytes of the source, those read among them.
@@ -29,6 +30,7 @@ pub struct MemSource {
 
 impl Model for MemSource {
     ghost use Rattle.std.specs.Prelude.{◌≤◌, length, drop};
+    ghost use Rattle.tap_outside.specs.Seen.{unread_source};
     ghost use Rattle.tap_outside.specs.Sources.{MemSourceState};
 
     ghost Value = { MemSourceState };
@@ -45,13 +47,12 @@ impl Model for MemSource {
 }
 
 impl MemSource {
-    /// A source of these bytes, of which a read gives at most `piece`. The reads fail whose numbers, counted
-    /// from 1, stand in `failing`. It takes no memory.
+    /// A source of these bytes, of which a read gives at most `piece`. The reads fail whose
+    /// numbers, counted from 1, stand in `failing`. It takes no memory.
     pub fn new(bytes: ByteList, piece: usize, failing: MomentList) -> MemSource
         requires { 1 ≤ piece }
         ensures fresh { result ≡ fresh_source bytes piece failing }
-        ensures left { ⟦<MemSource as Source>⟧.left result ≡ Some bytes }
-        ensures faults { ⟦<MemSource as Source>⟧.faults result ≡ 0 }
+        ensures seen { ⟦<MemSource as Source>⟧.seen result ≡ unread_source bytes }
     {
         MemSource {
             bytes,
@@ -72,9 +73,7 @@ impl MemSource {
 }
 
 impl Source for MemSource {
-    ghost left = { λ source. Some source.left };
-
-    ghost faults = { λ source. source.faults };
+    ghost seen = { seen_source };
 
     fn read(&mut self, into: &mut [u8]) -> Result<usize, Failed>
         requires { 0 < length into.old }
@@ -91,6 +90,7 @@ impl Source for MemSource {
         ensures rest { IfOk result (λ n. drop n into.new ≡ drop n into.old) }
         ensures unchanged { OnErr result (into.new ≡ into.old) }
         ensures later { self.old.faults ≤ self.new.faults }
+        ensures faultless { OnOk result (self.new.faults ≡ self.old.faults) }
         ensures cause { OnErr result (Rose self.old.faults self.new.faults) }
     {
         self.reads = self.reads.saturating_add(1);

@@ -1,9 +1,11 @@
 //! A store that keeps its files in memory, and fails where it is told to.
-ghost use Rattle.std.specs.Prelude.{◌≡◌, ◌<◌, ◌≤◌, ◌↔◌, [], true, refl, None, Some, Contains, option_copied, option_map, IfOk, OnOk, OnErr, IsErrOf};
+ghost use Rattle.std.specs.Prelude.{◌≡◌, ◌<◌, ◌≤◌, ◌↔◌, [], refl, None, Some, Contains, option_copied, option_map, IfOk, OnOk, OnErr, IsErrOf};
 ghost use Rattle.tap_outside.specs.Counts.{counted, Rose};
-ghost use Rattle.tap_outside.specs.Contents.{GivesFile, HoldsFile, KeepsOthers};
+ghost use Rattle.tap_outside.specs.Contents.{GivesFile, HoldsFile};
 ghost use Rattle.tap_outside.specs.Outcomes.{OnFailed, OnMemory};
-ghost use Rattle.tap_outside.specs.Stores.{FetchFails, PutsFile, after_failed_fetch, after_failed_save, after_faulty_close, after_fetch, after_save, contents_of, file_of, file_with, fresh_store, source_of};
+ghost use Rattle.tap_outside.specs.Seen.{OnlyReads, OnlySaves, meant_store};
+ghost use Rattle.tap_outside.specs.Sources.{seen_source};
+ghost use Rattle.tap_outside.specs.Stores.{FetchFails, PutsFile, after_failed_fetch, after_failed_save, after_faulty_close, after_fetch, after_save, contents_of, file_of, file_with, fresh_store, seen_store, source_of};
 
 use crate::memory_files::{MemFile, file_named, put_file};
 use crate::{MemSource, OutError, Store};
@@ -14,8 +16,8 @@ use std::marker::Model;
 /// The most bytes that one read of a saved file gives.
 pub(crate) const SAVED_PIECE: usize = 65_536;
 
-/// A store that keeps its files in memory. Contracts see its files, the numbers of the fetches and of the
-/// saves that fail, and how many of each there were and failed.
+/// A store that keeps its files in memory. Contracts see its files, the numbers of the fetches and
+/// of the saves that fail, and how many of each there were and failed.
 #[derive(Debug, Drop)]
 pub struct MemStore {
     /// What gives memory for the files and for the sources.
@@ -26,9 +28,11 @@ pub struct MemStore {
     failing_fetches: MomentList,
     /// The numbers of the saves that fail, from 1, in any order.
     failing_saves: MomentList,
-    /// How many fetches there were, those left out that wanted memory; it stands still at the greatest u64.
+    /// How many fetches there were, those left out that wanted memory; it stands still at the
+    /// greatest u64.
     fetches: u64,
-    /// How many saves there were, those left out that wanted memory; it stands still at the greatest u64.
+    /// How many saves there were, those left out that wanted memory; it stands still at the
+    /// greatest u64.
     saves: u64,
     /// How many fetches failed, and how many sources had a fault when they were closed.
     read_faults: u64,
@@ -53,13 +57,11 @@ impl Model for MemStore {
 }
 
 impl MemStore {
-    /// A store without a file. The fetches and the saves fail whose numbers, each counted from 1, stand in the
-    /// two lists; a call that wants memory isn't counted. It takes no memory.
+    /// A store without a file. The fetches and the saves fail whose numbers, each counted from 1,
+    /// stand in the two lists; a call that wants memory isn't counted. It takes no memory.
     pub fn new(alloc: Global, failing_fetches: MomentList, failing_saves: MomentList) -> MemStore
         ensures fresh { result ≡ fresh_store failing_fetches failing_saves }
-        ensures held { ⟦<MemStore as Store>⟧.held result ≡ Some (λ name. None) }
-        ensures read_faults { ⟦<MemStore as Store>⟧.read_faults result ≡ 0 }
-        ensures save_faults { ⟦<MemStore as Store>⟧.save_faults result ≡ 0 }
+        ensures seen { ⟦<MemStore as Store>⟧.seen result ≡ meant_store (Some (λ name. None)) 0 0 }
     {
         MemStore {
             alloc,
@@ -73,9 +75,9 @@ impl MemStore {
         }
     }
 
-    /// Sets up a file, in the place of one of that name. A read of it gives at most `piece` bytes, and the
-    /// reads fail whose numbers, counted from 1 in each source that is fetched, stand in `failing`. After
-    /// `Memory` the store is as before.
+    /// Sets up a file, in the place of one of that name. A read of it gives at most `piece` bytes,
+    /// and the reads fail whose numbers, counted from 1 in each source that is fetched, stand in
+    /// `failing`. After `Memory` the store is as before.
     pub fn put(
         &mut self,
         name: &[u8],
@@ -89,9 +91,10 @@ impl MemStore {
         ensures same { self.new ≡ record self.old { files = self.new.files } }
         ensures err { OnErr result (self.new ≡ self.old) }
 
-        ensures held { OnOk result (HoldsFile (⟦<MemStore as Store>⟧.held self.new) name.now bytes.now) }
-        ensures others { KeepsOthers (⟦<MemStore as Store>⟧.held self.old)
-            (⟦<MemStore as Store>⟧.held self.new) name.now }
+        ensures held { OnOk result
+            (HoldsFile (⟦<MemStore as Store>⟧.seen self.new).held name.now bytes.now) }
+        ensures only { OnlySaves (⟦<MemStore as Store>⟧.seen self.old)
+            (⟦<MemStore as Store>⟧.seen self.new) name.now }
     {
         let file = MemFile::new(self.alloc, name, bytes, piece, failing)?;
         put_file(&mut self.files, file)
@@ -108,35 +111,25 @@ impl MemStore {
 impl Store for MemStore {
     type Input = MemSource;
 
-    ghost held = { λ store. Some (contents_of store.files) };
-
-    ghost meant_to_read = { λ _ _. true };
-
-    ghost meant_to_save = { λ _ _. true };
-
-    ghost read_faults = { λ store. store.read_faults };
-
-    ghost save_faults = { λ store. store.save_faults };
+    ghost seen = { seen_store };
 
     fn fetch(&mut self, name: &[u8]) -> Result<MemSource, OutError>
-        // A fetch fails exactly where its number stands among those that are to fail, and where the name
-        // isn't held.
+        // A fetch fails exactly where its number stands among those that are to fail, and where the
+        // name isn't held.
         ensures fails { IsErrOf result OutError.Failed ↔ FetchFails self.old name.now }
         ensures given { IfOk result (λ input.
             option_map source_of (file_of self.old.files name.now) ≡ Some input) }
         ensures ok { OnOk result (self.new ≡ after_fetch self.old) }
         ensures failed { OnFailed result (self.new ≡ after_failed_fetch self.old) }
-        ensures want { OnMemory result (self.new ≡ self.old) }
+        ensures memory { OnMemory result (self.new ≡ self.old) }
 
         // What each store promises.
-        ensures fresh { IfOk result (λ input. input.faults ≡ 0) }
         ensures left { IfOk result (λ input.
-            GivesFile (Some (contents_of self.old.files)) name.now (Some input.left)) }
-        ensures later { self.old.read_faults ≤ self.new.read_faults }
+            GivesFile (seen_store self.old).held name.now (seen_source input).left) }
+        ensures fresh { IfOk result (λ input. input.faults ≡ 0) }
+        ensures only { OnlyReads (seen_store self.old) (seen_store self.new) }
+        ensures faultless { OnOk result (seen_store self.new ≡ seen_store self.old) }
         ensures cause { OnFailed result (Rose self.old.read_faults self.new.read_faults) }
-        ensures memory { OnMemory result (self.new.read_faults ≡ self.old.read_faults) }
-        ensures same_files { self.new.files ≡ self.old.files }
-        ensures same_faults { self.new.save_faults ≡ self.old.save_faults }
     {
         let number = self.fetches.saturating_add(1);
         let is_to_fail = self.failing_fetches.as_slice().contains(&number);
@@ -159,10 +152,8 @@ impl Store for MemStore {
         ensures faultless { input.faults ≡ 0 → self.new ≡ self.old }
 
         // What each store promises.
+        ensures only { OnlyReads (seen_store self.old) (seen_store self.new) }
         ensures rose { 0 < input.faults → Rose self.old.read_faults self.new.read_faults }
-        ensures later { self.old.read_faults ≤ self.new.read_faults }
-        ensures same_files { self.new.files ≡ self.old.files }
-        ensures same_faults { self.new.save_faults ≡ self.old.save_faults }
     {
         if input.faults() > 0 {
             self.read_faults = self.read_faults.saturating_add(1);
@@ -170,22 +161,21 @@ impl Store for MemStore {
     }
 
     fn save(&mut self, name: &[u8], bytes: &[u8]) -> Result<(), OutError>
-        // A save fails exactly where its number stands among those that are to fail; no file changes then.
+        // A save fails exactly where its number stands among those that are to fail; no file
+        // changes then.
         ensures fails { IsErrOf result OutError.Failed ↔
             Contains self.old.failing_saves (counted self.old.saves) }
         ensures puts { OnOk result (PutsFile self.old.files self.new.files
             (file_with name.now bytes.now SAVED_PIECE [])) }
         ensures ok { OnOk result (self.new ≡ after_save self.old self.new.files) }
         ensures failed { OnFailed result (self.new ≡ after_failed_save self.old) }
-        ensures want { OnMemory result (self.new ≡ self.old) }
+        ensures memory { OnMemory result (self.new ≡ self.old) }
 
         // What each store promises.
-        ensures saved { OnOk result (contents_of self.new.files name.now ≡ Some bytes.now) }
-        ensures others { KeepsOthers (Some (contents_of self.old.files))
-            (Some (contents_of self.new.files)) name.now }
-        ensures later { self.old.save_faults ≤ self.new.save_faults }
+        ensures saved { OnOk result (HoldsFile (seen_store self.new).held name.now bytes.now) }
+        ensures only { OnlySaves (seen_store self.old) (seen_store self.new) name.now }
+        ensures faultless { OnOk result (self.new.save_faults ≡ self.old.save_faults) }
         ensures cause { OnFailed result (Rose self.old.save_faults self.new.save_faults) }
-        ensures same_faults { self.new.read_faults ≡ self.old.read_faults }
     {
         let number = self.saves.saturating_add(1);
         if self.failing_saves.as_slice().contains(&number) {

@@ -18,27 +18,24 @@ pub struct StdSink<'a, R> {
 impl<'a, R: Print> StdSink<'a, R> {
     /// The standard output of this system, with no fault so far. It takes no memory.
     pub fn new(rt: &'a R) -> StdSink<'a, R>
-        ensures written { ⟦<StdSink<'a, R> as Sink>⟧.written result ≡ None }
-        ensures faults { ⟦<StdSink<'a, R> as Sink>⟧.faults result ≡ 0 }
+        ensures { ⟦<StdSink<'a, R> as Sink>⟧.seen result ≡ record { written = None; faults = 0 } }
     {
         StdSink { rt, faults: 0 }
     }
 
     /// The number of faults so far; it stands still at the greatest u64.
     pub fn faults(&self) -> u64
-        ensures { result ≡ ⟦<StdSink<'a, R> as Sink>⟧.faults self.now }
+        ensures { result ≡ (⟦<StdSink<'a, R> as Sink>⟧.seen self.now).faults }
     {
         self.faults
     }
 }
 
 impl<'a, R: Print> Sink for StdSink<'a, R> {
-    ghost written = { λ _. None };
+    ghost seen = { λ sink. record { written = None; faults = sink.faults } };
 
-    ghost faults = { λ sink. sink.faults };
-
-    /// A write that a signal interrupts is tried again, 16 times at most. Each error that is left is a fault,
-    /// want of memory aside, and so is a write that takes nothing.
+    /// A write that a signal interrupts is tried again, 16 times at most. Each error that is left
+    /// is a fault, want of memory aside, and so is a write that takes nothing.
     fn write(&mut self, from: &[u8]) -> Result<usize, OutError> {
         let written = write_some(self.rt, from);
         if let Err(OutError::Failed) = written {

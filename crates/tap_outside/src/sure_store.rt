@@ -1,8 +1,9 @@
 //! A store in memory that has no fault.
-ghost use Rattle.std.specs.Prelude.{◌≡◌, ◌<◌, ◌≤◌, true, refl, None, Some, length, drop, IfOk, OnOk, OnErr, IsOk};
+ghost use Rattle.std.specs.Prelude.{◌≡◌, ◌<◌, ◌≤◌, refl, None, Some, length, drop, IfOk, OnOk, OnErr, IsOk};
 ghost use Rattle.std.specs.Io.{ReadsAtMost};
 ghost use Rattle.std.specs.Io.KnownBytes.{ReadConsumes};
-ghost use Rattle.tap_outside.specs.Contents.{HoldsFile, KeepsOthers};
+ghost use Rattle.tap_outside.specs.Contents.{HoldsFile};
+ghost use Rattle.tap_outside.specs.Seen.{OnlySaves, meant_store, unread_source};
 ghost use Rattle.tap_outside.specs.Stores.{contents_of};
 
 use crate::memory_store::SAVED_PIECE;
@@ -34,17 +35,14 @@ impl SureSource {
     /// A source of these bytes. It takes no memory.
     pub fn new(bytes: ByteList) -> SureSource
         ensures value { result ≡ bytes }
-        ensures left { ⟦<SureSource as Source>⟧.left result ≡ Some bytes }
-        ensures faults { ⟦<SureSource as Source>⟧.faults result ≡ 0 }
+        ensures seen { ⟦<SureSource as Source>⟧.seen result ≡ unread_source bytes }
     {
         SureSource { bytes, at: 0 }
     }
 }
 
 impl Source for SureSource {
-    ghost left = { λ source. Some source };
-
-    ghost faults = { λ _. 0 };
+    ghost seen = { λ source. record { left = Some source; faults = 0 } };
 
     fn read(&mut self, into: &mut [u8]) -> Result<usize, Failed>
         requires { 0 < length into.old }
@@ -62,8 +60,8 @@ impl Source for SureSource {
     }
 }
 
-/// A store in memory that has no fault: a name that was never set up or saved gives an empty source.
-/// Contracts see its files.
+/// A store in memory that has no fault: a name that was never set up or saved gives an empty
+/// source. Contracts see its files.
 #[derive(Debug, Drop)]
 pub struct SureStore {
     /// What gives memory for the files and for the sources.
@@ -84,7 +82,7 @@ impl Model for SureStore {
 impl SureStore {
     /// A store without a file. It takes no memory.
     pub fn new(alloc: Global) -> SureStore
-        ensures { ⟦<SureStore as Store>⟧.held result ≡ Some (λ name. None) }
+        ensures { ⟦<SureStore as Store>⟧.seen result ≡ meant_store (Some (λ name. None)) 0 0 }
     {
         let files = MemStore::new(alloc, MomentList::new(alloc), MomentList::new(alloc));
         SureStore { alloc, files }
@@ -92,9 +90,10 @@ impl SureStore {
 
     /// Makes a name hold these bytes. After `Memory` the store is as before.
     pub fn put(&mut self, name: &[u8], bytes: &[u8]) -> Result<(), Memory>
-        ensures held { OnOk result (HoldsFile (⟦<SureStore as Store>⟧.held self.new) name.now bytes.now) }
-        ensures others { KeepsOthers (⟦<SureStore as Store>⟧.held self.old)
-            (⟦<SureStore as Store>⟧.held self.new) name.now }
+        ensures held { OnOk result
+            (HoldsFile (⟦<SureStore as Store>⟧.seen self.new).held name.now bytes.now) }
+        ensures only { OnlySaves (⟦<SureStore as Store>⟧.seen self.old)
+            (⟦<SureStore as Store>⟧.seen self.new) name.now }
         ensures err { OnErr result (self.new ≡ self.old) }
     {
         let failing = MomentList::new(self.alloc);
@@ -105,15 +104,7 @@ impl SureStore {
 impl Store for SureStore {
     type Input = SureSource;
 
-    ghost held = { λ store. Some (contents_of store) };
-
-    ghost meant_to_read = { λ _ _. true };
-
-    ghost meant_to_save = { λ _ _. true };
-
-    ghost read_faults = { λ _. 0 };
-
-    ghost save_faults = { λ _. 0 };
+    ghost seen = { λ store. meant_store (Some (contents_of store)) 0 0 };
 
     fn fetch(&mut self, name: &[u8]) -> Result<SureSource, OutError> {
         let bytes = match self.files.file(name) {

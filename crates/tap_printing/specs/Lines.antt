@@ -1,18 +1,22 @@
--- The printed lines of a run and of what was sent, as bytes. Numbers are decimal, and a line feed ends each line.
-use Rattle.std.specs.Prelude.{ℕ, ◌+◌, ◌-◌, List, [], ◌∷◌, ◌++◌, length, sum_by, count_by, flat_map, codes, decimal, ◌==◌, Option, None, Some}
+-- The printed lines of a run and of what was sent, as bytes. Numbers are decimal, and a line feed
+-- ends each line.
+use Rattle.std.specs.Prelude.{ℕ, ◌+◌, List, [], ◌∷◌, ◌++◌, length, flat_map, codes, decimal, Option, None, Some}
 use Rattle.capture_file.specs.declared.error.CaptureError.{CaptureError}
 use Rattle.capture_file.specs.declared.error.CaptureError.TheVariants.{BadMagic, BadVersion, BadLink, BadLength, Truncated, TooLarge, Memory, BadInterface}
 use Rattle.tx_ring.specs.declared.transmitting.Transmitted.{Transmitted}
 use Rattle.ring_model.specs.Fates.{counts_of, totals_of}
 use Rattle.ring_model.specs.Ring.{Size}
 use Rattle.ring_model.specs.declared.notes.Stats.{Stats}
-use Rattle.fanout_group.specs.declared.runs.CpuEnd.{CpuEnd}
-use Rattle.fanout_group.specs.declared.runs.CpuEnd.TheVariants.{Whole, Fault, Damaged}
+use Rattle.capture_file.specs.declared.cpu_end.CpuEnd.{CpuEnd}
+use Rattle.capture_file.specs.declared.cpu_end.CpuEnd.TheVariants.{Whole, Fault, Damaged}
 use Rattle.fanout_group.specs.declared.runs.CpuLog.{CpuLog}
 use Rattle.setup_text.specs.declared.reports.MemberReport.{MemberReport}
 use Rattle.setup_text.specs.declared.reports.RunReport.{RunReport}
+-- the sums are those that add up by a law of reports
+pub use Rattle.run_reports.specs.Totals.{arrivals_in, drops_in, filtered_in, kept_in}
 
--- what is wrong with a capture, and the place of it in bytes; of a capture that is too large, the most that it may have
+-- what is wrong with a capture, and the place of it in bytes; of a capture that is too large, the
+-- most that it may have
 unfoldable pub damage_text : CaptureError → List ℕ
 damage_text BadMagic = codes "bad_magic 0"
 damage_text BadVersion = codes "bad_version 0"
@@ -47,7 +51,8 @@ stats_text stats =
     codes " packets " ++ (decimal stats.packets ++ (codes " drops " ++ (decimal stats.drops
     ++ (codes " freezes " ++ decimal stats.freezes))))
 
--- the line of a member, with its statistics over the whole run and the number of blocks that its reader walked
+-- the line of a member, with its statistics over the whole run and the number of blocks that its
+-- reader walked
 unfoldable pub member_line : ℕ → Stats → ℕ → List ℕ
 member_line member stats blocks =
     codes "member " ++ (decimal member ++ (stats_text stats ++ (codes " blocks " ++ (decimal blocks ++ codes "\n"))))
@@ -66,20 +71,6 @@ member_text size member report =
 abbrev pub member_lines : Size → ℕ → List MemberReport → List ℕ
 member_lines size member [] = []
 member_lines size member (report ∷ reports) = member_text size member report ++ member_lines size (member + 1) reports
-
--- the number of all arrivals, and of those that the filter ended: their verdict is 0
-abbrev pub arrivals_in : List CpuLog → ℕ
-arrivals_in logs = sum_by (λ log. length log.arrivals) logs
-
-abbrev pub filtered_in : List CpuLog → ℕ
-filtered_in logs = sum_by (λ log. count_by (λ entry. entry.verdict == 0) log.arrivals) logs
-
--- the number of packets that members kept, and of those that they dropped
-abbrev pub kept_in : Size → List MemberReport → ℕ
-kept_in size reports = sum_by (λ report. (totals_of size report.notes).packets - (totals_of size report.notes).drops) reports
-
-abbrev pub drops_in : Size → List MemberReport → ℕ
-drops_in size reports = sum_by (λ report. (totals_of size report.notes).drops) reports
 
 -- the line of a run's sums
 unfoldable pub total_line : ℕ → ℕ → ℕ → ℕ → List ℕ

@@ -2,8 +2,8 @@
 ghost use Rattle.std.specs.Prelude.{◌≡◌, ◌++◌, IfOk, OnOk, string_bytes};
 ghost use Rattle.tap_printing.specs.Lines.{arrivals_in, cpu_line, cpu_lines, damage_text, end_text, filtered_in};
 
-use capture_file::CaptureError;
-use fanout_group::{CpuEnd, CpuLog};
+use capture_file::{CaptureError, CpuEnd};
+use fanout_group::CpuLog;
 use frame_view::Memory;
 use std::alloc::Global;
 

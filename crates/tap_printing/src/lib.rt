@@ -1,4 +1,5 @@
-//! The lines that a program prints: those of a run, those of what was sent, and those that say why a text is refused.
+//! The lines that a program prints: those of a run, those of what was sent, and those that say why
+//! a text is refused.
 #![tactic(auto)]
 
 mod cpu_lines;
@@ -6,8 +7,6 @@ mod member_lines;
 mod refusals;
 mod sent_lines;
 mod summaries;
-#[cfg(test)]
-mod tests;
 
 pub use refusals::{setup_refusal, text_refusal};
 pub use sent_lines::send_lines;

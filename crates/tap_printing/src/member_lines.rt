@@ -68,7 +68,8 @@ fn push_counts(
     member: usize,
     counts: &[Stats],
 ) -> Result<(), Memory>
-    ensures { OnOk result (text.new.items ≡ text.old.items ++ flat_map (count_line member) counts.now) }
+    ensures { OnOk result (text.new.items
+        ≡ text.old.items ++ flat_map (count_line member) counts.now) }
 {
     for stats in counts {
         let line = count_line(alloc, member, *stats)?;

@@ -6,7 +6,8 @@ use frame_view::Memory;
 use setup_text::{SetupError, SetupKind, TextError};
 use std::alloc::Global;
 
-/// The line that says why a setup is refused, ended by a line feed. The words are this project's own choice.
+/// The line that says why a setup is refused, ended by a line feed. The words are this project's
+/// own choice.
 #[tactic(auto, unfolding(crate::specs::Refusals::setup_refusal))]
 pub fn setup_refusal(alloc: Global, error: &SetupError) -> Result<String, Memory>
     ensures { IfOk result (λ line. string_bytes line ≡ setup_refusal error.now) }
@@ -31,8 +32,8 @@ fn setup_kind_text(alloc: Global, kind: SetupKind) -> Result<String, Memory>
     Ok(text)
 }
 
-/// The line that says why a filter, moments or a schedule are refused, ended by a line feed. The words are this project's
-/// own choice.
+/// The line that says why a filter, moments or a schedule are refused, ended by a line feed. The
+/// words are this project's own choice.
 #[tactic(auto, unfolding(crate::specs::Refusals::text_refusal))]
 pub fn text_refusal(alloc: Global, error: &TextError) -> Result<String, Memory>
     ensures { IfOk result (λ line. string_bytes line ≡ text_refusal error.now) }

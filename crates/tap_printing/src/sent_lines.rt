@@ -3,13 +3,14 @@ ghost use Rattle.std.specs.Prelude.{◌≡◌, IfOk, string_bytes};
 ghost use Rattle.tap_printing.specs.Lines.{send_lines, sent_cpu_line, sent_line, stop_text};
 
 use crate::cpu_lines::end_text;
-use fanout_group::CpuEnd;
+use capture_file::CpuEnd;
 use frame_view::Memory;
 use std::alloc::Global;
 use tx_ring::Transmitted;
 
-/// The lines of a capture of so many frames that ended so and was sent, each ended by a line feed: that of the capture, and
-/// that of what became of its frames. The lines are this project's own choice.
+/// The lines of a capture of so many frames that ended so and was sent, each ended by a line feed:
+/// that of the capture, and that of what became of its frames. The lines are this project's own
+/// choice.
 #[tactic(auto, unfolding(crate::specs::Lines::send_lines))]
 pub fn send_lines(
     alloc: Global,

@@ -9,9 +9,9 @@ use frame_view::{ByteList, Memory};
 use setup_text::RunReport;
 use std::alloc::Global;
 
-/// The lines of a run, each ended by a line feed: those of the CPUs from 0 up, those of the members, and the sums.
-/// `tov` is the time-out of the rings in milliseconds. The lines are this project's own choice. They don't hang on the
-/// size of a block, nor on the number of blocks.
+/// The lines of a run, each ended by a line feed: those of the CPUs from 0 up, those of the
+/// members, and the sums. `tov` is the time-out of the rings in milliseconds. The lines are this
+/// project's own choice. They don't hang on the size of a block, nor on the number of blocks.
 #[tactic(auto, unfolding(crate::specs::Lines::summary_of))]
 pub fn summary(alloc: Global, tov: u64, report: &RunReport) -> Result<ByteList, Memory>
     ensures { IfOk result

@@ -1,13 +1,14 @@
--- What was read of a file: bytes from its front.
+-- What was read of a file: a prefix of its bytes.
 use Rattle.std.specs.Prelude.{◌≡◌, ℕ, ◌≤◌, List, [], ◌++◌, length, ⊤, Option, None, Some, unwrap_or}
 use Rattle.tap_outside.specs.Contents.{Contents}
 
--- bytes from the front of a whole
+-- bytes from the start of a whole
 pub record IsFront (whole bytes : List ℕ) : Type 0 where
   pub rest : List ℕ
   pub parts : whole ≡ bytes ++ rest
 
--- the bytes are from the front of what the name holds, where the store tells it; a name that isn't held holds nothing
+-- the bytes are a prefix of what the name holds, where the store tells it; a name that isn't held
+-- holds nothing
 abbrev pub IsFrontOf : Option Contents → List ℕ → List ℕ → Type 0
 IsFrontOf None name bytes = ⊤
 IsFrontOf (Some files) name bytes = IsFront (unwrap_or (files name) []) bytes
@@ -17,7 +18,9 @@ abbrev pub IsAllOf : Option Contents → List ℕ → List ℕ → Type 0
 IsAllOf None name bytes = ⊤
 IsAllOf (Some files) name bytes = bytes ≡ unwrap_or (files name) []
 
--- a text that was read: from the front of what the name holds, and all of it unless it is too large
+-- a text that was read: a prefix of what the name holds, all of it unless it is too large, and
+-- never more than one byte above the largest size
 pub record IsTextOf (held : Option Contents) (name text : List ℕ) : Type 0 where
   pub front : IsFrontOf held name text
   pub whole : length text ≤ 1048576 → IsAllOf held name text
+  pub few : length text ≤ 1048577

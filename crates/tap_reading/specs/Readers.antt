@@ -1,6 +1,6 @@
 -- What the reading of a text comes to.
-use Rattle.std.specs.Prelude.{◌≡◌, ℕ, List, length, Bool, true, false, if◌then◌else◌, ⊤, Option, Result, Ok, Err}
-use Rattle.replay_model.specs.declared.schedule.Line.{Line}
+use Rattle.std.specs.Prelude.{◌≡◌, ℕ, List, Bool, false, if◌then◌else◌, Option, Result, Err}
+use Rattle.schedule_lines.specs.declared.lines.Line.{Line}
 use Rattle.setup_text.specs.Answers.{is_setup_want, is_text_want}
 use Rattle.setup_text.specs.Schedules.{schedule_of}
 use Rattle.setup_text.specs.Setups.{setup_of}
@@ -9,6 +9,8 @@ use Rattle.setup_text.specs.declared.setup_error.SetupError.{SetupError}
 use Rattle.setup_text.specs.declared.setups.Setup.{Setup}
 use Rattle.setup_text.specs.declared.text_error.TextError.{TextError}
 use Rattle.tap_outside.specs.Contents.{Contents}
+use Rattle.tap_outside.specs.Counts.{Rose}
+use Rattle.tap_outside.specs.Seen.{StoreSeen}
 use Rattle.tap_reading.specs.Fronts.{IsTextOf}
 use Rattle.tap_reading.specs.declared.stops.Stop.{Stop}
 use Rattle.tap_reading.specs.declared.stops.Stop.TheVariants as stops
@@ -16,30 +18,43 @@ use Rattle.tap_reading.specs.declared.texts.Unread.{Unread}
 use Rattle.tap_reading.specs.declared.texts.Unread.TheVariants as unread
 
 -- the text under a name was read, and a reader of texts says this of it
-pub record Says {A : Type 0} (reader : List ℕ → A) (held : Option Contents) (name : List ℕ) (answer : A) : Type 0 where
+pub record Says {A : Type 0} (reader : List ℕ → A) (held : Option Contents) (name : List ℕ)
+    (answer : A) : Type 0 where
   pub text : List ℕ
   pub read : IsTextOf held name text
   pub is : reader text ≡ answer
 
--- the reader of setups for a command, and that of schedules for a setup
+-- the reader of setups for a command
 abbrev pub setup_for : Command → List ℕ → Result Setup SetupError
 setup_for command text = setup_of text command
 
+-- the reader of schedules for so many CPUs and members
 abbrev pub schedule_for : ℕ → ℕ → List ℕ → Result (List Line) TextError
 schedule_for cpus members text = schedule_of cpus members text
 
--- what ends a command: the text of a name can't be read, which comes only where reading failed, or it is refused
-abbrev pub StopsAtSetup : Command → Option Contents → List ℕ → Type 0 → Stop → Type 0
-StopsAtSetup command held name failed stops.Unread = failed
-StopsAtSetup command held name failed (stops.Setup error) = Says (setup_for command) held name (Err error)
-StopsAtSetup command held name failed (stops.Text error) = ⊥
-StopsAtSetup command held name failed stops.Memory = ⊤
+-- the text under a name was read without a fault, and the reader refuses it, for a fault of the
+-- text
+pub record Refuses {A E : Type 0} (reader : List ℕ → Result A E) (wanted : E → Bool)
+    (old new : StoreSeen) (name : List ℕ) (error : E) : Type 0 where
+  pub same : new ≡ old
+  pub says : Says reader old.held name (Err error)
+  pub not_memory : wanted error ≡ false
 
-abbrev pub StopsAtText : {A : Type 0} → (List ℕ → Result A TextError) → Option Contents → List ℕ → Type 0 → Stop → Type 0
-StopsAtText reader held name failed stops.Unread = failed
-StopsAtText reader held name failed (stops.Setup error) = ⊥
-StopsAtText reader held name failed (stops.Text error) = Says reader held name (Err error)
-StopsAtText reader held name failed stops.Memory = ⊤
+-- why a setup isn't there, and what the store came to: its count rose exactly where reading failed
+abbrev pub StopsAtSetup : Command → StoreSeen → StoreSeen → List ℕ → Stop → Type 0
+StopsAtSetup command old new name stops.Unread = Rose old.read_faults new.read_faults
+StopsAtSetup command old new name (stops.Setup error) =
+    Refuses (setup_for command) is_setup_want old new name error
+StopsAtSetup command old new name (stops.Text error) = ⊥
+StopsAtSetup command old new name stops.Memory = new ≡ old
+
+-- the same of a further text
+abbrev pub StopsAtText : {A : Type 0} → (List ℕ → Result A TextError)
+    → StoreSeen → StoreSeen → List ℕ → Stop → Type 0
+StopsAtText reader old new name stops.Unread = Rose old.read_faults new.read_faults
+StopsAtText reader old new name (stops.Setup error) = ⊥
+StopsAtText reader old new name (stops.Text error) = Refuses reader is_text_want old new name error
+StopsAtText reader old new name stops.Memory = new ≡ old
 
 -- ---- how a fault ends a command
 

@@ -1,18 +1,17 @@
 //! Texts of a store, read and understood.
-ghost use Rattle.std.specs.Prelude.{◌≡◌, None, Ok, IfErr, IfOk, IsTrue};
+ghost use Rattle.std.specs.Prelude.{◌≡◌, None, Ok, IfErr, IfOk, IsTrue, OnOk};
 ghost use Rattle.setup_text.specs.Filters.{filter_of};
 ghost use Rattle.setup_text.specs.Moments.{moments_of};
 ghost use Rattle.setup_text.specs.Setups.{request_fault};
 ghost use Rattle.setup_text.specs.Sound.{IsScheduleFor, IsSetup};
-ghost use Rattle.tap_outside.specs.Counts.{Rose};
+ghost use Rattle.tap_outside.specs.Seen.{OnlyReads};
 ghost use Rattle.tap_reading.specs.Readers.{Says, StopsAtSetup, StopsAtText, schedule_for, setup_for};
-ghost use Rattle.tap_reading.specs.Stores.{IsReadOnly};
 
 use crate::stops::Stop;
 use crate::texts::read_text;
 use bpf_filter::Program;
 use frame_view::MomentList;
-use replay_model::Schedule;
+use schedule_lines::Schedule;
 use setup_text::{Command, Setup, read_filter, read_schedule, read_setup, read_ticks};
 use std::alloc::Global;
 use tap_outside::Store;
@@ -24,15 +23,15 @@ pub fn load_setup<S: Store>(
     name: &[u8],
     command: Command,
 ) -> Result<Setup, Stop>
-    requires { IsTrue (S.meant_to_read store.old name.now) }
-    ensures setup { IfOk result (λ setup. Says (setup_for command) (S.held store.old) name.now (Ok setup)) }
+    requires { IsTrue ((S.seen store.old).to_read name.now) }
+    ensures setup { IfOk result
+        (λ setup. Says (setup_for command) (S.seen store.old).held name.now (Ok setup)) }
     ensures sound { IfOk result IsSetup }
     ensures ring { IfOk result (λ setup. request_fault command setup.request ≡ None) }
-    ensures stop { IfErr result (StopsAtSetup command (S.held store.old) name.now
-        (Rose (S.read_faults store.old) (S.read_faults store.new))) }
-    ensures store { IsReadOnly
-        (record { held = S.held store.old; to_read = S.meant_to_read store.old; to_save = S.meant_to_save store.old; read_faults = S.read_faults store.old; save_faults = S.save_faults store.old })
-        (record { held = S.held store.new; to_read = S.meant_to_read store.new; to_save = S.meant_to_save store.new; read_faults = S.read_faults store.new; save_faults = S.save_faults store.new }) }
+    ensures stop { IfErr result
+        (StopsAtSetup command (S.seen store.old) (S.seen store.new) name.now) }
+    ensures store { OnlyReads (S.seen store.old) (S.seen store.new) }
+    ensures faultless { OnOk result (S.seen store.new ≡ S.seen store.old) }
 {
     let text = read_text(alloc, store, name)?;
     Ok(read_setup(alloc, text.as_slice(), command)?)
@@ -40,13 +39,13 @@ pub fn load_setup<S: Store>(
 
 /// Reads the filter of a name.
 pub fn load_filter<S: Store>(alloc: Global, store: &mut S, name: &[u8]) -> Result<Program, Stop>
-    requires { IsTrue (S.meant_to_read store.old name.now) }
-    ensures program { IfOk result (λ program. Says filter_of (S.held store.old) name.now (Ok program)) }
-    ensures stop { IfErr result (StopsAtText filter_of (S.held store.old) name.now
-        (Rose (S.read_faults store.old) (S.read_faults store.new))) }
-    ensures store { IsReadOnly
-        (record { held = S.held store.old; to_read = S.meant_to_read store.old; to_save = S.meant_to_save store.old; read_faults = S.read_faults store.old; save_faults = S.save_faults store.old })
-        (record { held = S.held store.new; to_read = S.meant_to_read store.new; to_save = S.meant_to_save store.new; read_faults = S.read_faults store.new; save_faults = S.save_faults store.new }) }
+    requires { IsTrue ((S.seen store.old).to_read name.now) }
+    ensures program { IfOk result
+        (λ program. Says filter_of (S.seen store.old).held name.now (Ok program)) }
+    ensures stop { IfErr result
+        (StopsAtText filter_of (S.seen store.old) (S.seen store.new) name.now) }
+    ensures store { OnlyReads (S.seen store.old) (S.seen store.new) }
+    ensures faultless { OnOk result (S.seen store.new ≡ S.seen store.old) }
 {
     let text = read_text(alloc, store, name)?;
     Ok(read_filter(alloc, text.as_slice())?)
@@ -54,13 +53,13 @@ pub fn load_filter<S: Store>(alloc: Global, store: &mut S, name: &[u8]) -> Resul
 
 /// Reads the moments of a name.
 pub fn load_ticks<S: Store>(alloc: Global, store: &mut S, name: &[u8]) -> Result<MomentList, Stop>
-    requires { IsTrue (S.meant_to_read store.old name.now) }
-    ensures moments { IfOk result (λ moments. Says moments_of (S.held store.old) name.now (Ok moments)) }
-    ensures stop { IfErr result (StopsAtText moments_of (S.held store.old) name.now
-        (Rose (S.read_faults store.old) (S.read_faults store.new))) }
-    ensures store { IsReadOnly
-        (record { held = S.held store.old; to_read = S.meant_to_read store.old; to_save = S.meant_to_save store.old; read_faults = S.read_faults store.old; save_faults = S.save_faults store.old })
-        (record { held = S.held store.new; to_read = S.meant_to_read store.new; to_save = S.meant_to_save store.new; read_faults = S.read_faults store.new; save_faults = S.save_faults store.new }) }
+    requires { IsTrue ((S.seen store.old).to_read name.now) }
+    ensures moments { IfOk result
+        (λ moments. Says moments_of (S.seen store.old).held name.now (Ok moments)) }
+    ensures stop { IfErr result
+        (StopsAtText moments_of (S.seen store.old) (S.seen store.new) name.now) }
+    ensures store { OnlyReads (S.seen store.old) (S.seen store.new) }
+    ensures faultless { OnOk result (S.seen store.new ≡ S.seen store.old) }
 {
     let text = read_text(alloc, store, name)?;
     Ok(read_ticks(alloc, text.as_slice())?)
@@ -74,14 +73,14 @@ pub fn load_schedule<S: Store>(
     cpus: u32,
     members: u32,
 ) -> Result<Schedule, Stop>
-    requires { IsTrue (S.meant_to_read store.old name.now) }
-    ensures schedule { IfOk result (λ lines. Says (schedule_for cpus members) (S.held store.old) name.now (Ok lines)) }
+    requires { IsTrue ((S.seen store.old).to_read name.now) }
+    ensures schedule { IfOk result
+        (λ lines. Says (schedule_for cpus members) (S.seen store.old).held name.now (Ok lines)) }
     ensures sound { IfOk result (IsScheduleFor cpus members) }
-    ensures stop { IfErr result (StopsAtText (schedule_for cpus members) (S.held store.old) name.now
-        (Rose (S.read_faults store.old) (S.read_faults store.new))) }
-    ensures store { IsReadOnly
-        (record { held = S.held store.old; to_read = S.meant_to_read store.old; to_save = S.meant_to_save store.old; read_faults = S.read_faults store.old; save_faults = S.save_faults store.old })
-        (record { held = S.held store.new; to_read = S.meant_to_read store.new; to_save = S.meant_to_save store.new; read_faults = S.read_faults store.new; save_faults = S.save_faults store.new }) }
+    ensures stop { IfErr result
+        (StopsAtText (schedule_for cpus members) (S.seen store.old) (S.seen store.new) name.now) }
+    ensures store { OnlyReads (S.seen store.old) (S.seen store.new) }
+    ensures faultless { OnOk result (S.seen store.new ≡ S.seen store.old) }
 {
     let text = read_text(alloc, store, name)?;
     Ok(read_schedule(alloc, text.as_slice(), cpus, members)?)

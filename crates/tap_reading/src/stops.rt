@@ -5,6 +5,7 @@ ghost use Rattle.tap_reading.specs.Readers.{stop_of_setup, stop_of_text, stop_of
 
 use crate::texts::Unread;
 use bpf_filter::FilterError;
+use frame_view::Memory;
 use setup_text::{SetupError, SetupKind, TextError, TextKind};
 
 /// Why a command isn't carried out.
@@ -28,6 +29,16 @@ impl From<Unread> for Stop {
             Unread::Failed => Stop::Unread,
             Unread::Memory => Stop::Memory,
         }
+    }
+}
+
+impl From<Memory> for Stop {
+    ghost use Rattle.tap_reading.specs.declared.stops.Stop.TheVariants.{Memory};
+
+    ghost from_gives = { λ _ stop. stop ≡ Memory };
+
+    fn from(_: Memory) -> Stop {
+        Stop::Memory
     }
 }
 

@@ -1,9 +1,9 @@
 //! Texts, read to their end or past their largest size.
-ghost use Rattle.std.specs.Prelude.{◌≡◌, ◌<◌, ◌≤◌, length, IfOk, IsErrOf, IsTrue, vec_len};
+ghost use Rattle.std.specs.Prelude.{◌≡◌, ◌<◌, ◌≤◌, length, IfOk, IsErrOf, IsTrue, OnOk, vec_len};
 ghost use Rattle.std.specs.Io.KnownBytes.{Consumes, IsAtEnd};
 ghost use Rattle.tap_outside.specs.Counts.{Rose};
+ghost use Rattle.tap_outside.specs.Seen.{OnlyReads};
 ghost use Rattle.tap_reading.specs.Fronts.{IsTextOf};
-ghost use Rattle.tap_reading.specs.Stores.{IsReadOnly};
 
 use frame_view::ByteList;
 use std::alloc::{AllocError, Global};
@@ -32,15 +32,17 @@ impl From<AllocError> for Unread {
     }
 }
 
-/// Reads the text of a name to its end, or until it has more than 1,048,576 bytes; then it has 1,048,577.
+/// Reads the text of a name to its end, or until it has more than 1,048,576 bytes; then it has
+/// 1,048,577. Where a read fails the answer is `Failed`; else the store's count of faults stays.
 pub fn read_text<S: Store>(alloc: Global, store: &mut S, name: &[u8]) -> Result<ByteList, Unread>
-    requires { IsTrue (S.meant_to_read store.old name.now) }
-    ensures text { IfOk result (λ text. IsTextOf (S.held store.old) name.now text) }
+    requires { IsTrue ((S.seen store.old).to_read name.now) }
+    ensures text { IfOk result (λ text. IsTextOf (S.seen store.old).held name.now text) }
+
+    ensures store { OnlyReads (S.seen store.old) (S.seen store.new) }
+    ensures faultless { OnOk result (S.seen store.new ≡ S.seen store.old) }
     ensures failed { IsErrOf result Unread.Failed
-        → Rose (S.read_faults store.old) (S.read_faults store.new) }
-    ensures store { IsReadOnly
-        (record { held = S.held store.old; to_read = S.meant_to_read store.old; to_save = S.meant_to_save store.old; read_faults = S.read_faults store.old; save_faults = S.save_faults store.old })
-        (record { held = S.held store.new; to_read = S.meant_to_read store.new; to_save = S.meant_to_save store.new; read_faults = S.read_faults store.new; save_faults = S.save_faults store.new }) }
+        → Rose (S.seen store.old).read_faults (S.seen store.new).read_faults }
+    ensures memory { IsErrOf result Unread.Memory → S.seen store.new ≡ S.seen store.old }
 {
     let mut input = match store.fetch(name) {
         Ok(input) => input,
@@ -54,10 +56,15 @@ pub fn read_text<S: Store>(alloc: Global, store: &mut S, name: &[u8]) -> Result<
 
 /// Reads a source to its end, or until it gave more bytes than a text may have.
 fn read_source<I: Source>(alloc: Global, input: &mut I) -> Result<ByteList, Unread>
-    requires { I.faults input.old ≡ 0 }
-    ensures bytes { IfOk result (λ text. Consumes (I.left input.old) (I.left input.new) text) }
-    ensures end { IfOk result (λ text. length text ≤ 1048576 → IsAtEnd (I.left input.new)) }
-    ensures failed { IsErrOf result Unread.Failed → 0 < I.faults input.new }
+    requires { (I.seen input.old).faults ≡ 0 }
+    ensures bytes { IfOk result
+        (λ text. Consumes (I.seen input.old).left (I.seen input.new).left text) }
+    ensures end { IfOk result (λ text. length text ≤ 1048576 → IsAtEnd (I.seen input.new).left) }
+    ensures few { IfOk result (λ text. length text ≤ 1048577) }
+
+    ensures faultless { OnOk result ((I.seen input.new).faults ≡ 0) }
+    ensures failed { IsErrOf result Unread.Failed → 0 < (I.seen input.new).faults }
+    ensures memory { IsErrOf result Unread.Memory → (I.seen input.new).faults ≡ 0 }
 {
     let mut text = Vec::new(alloc);
     let mut buffer = zeros(alloc, PIECE)?;

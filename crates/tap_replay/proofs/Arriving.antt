@@ -19,8 +19,8 @@ use Rattle.ring_model.specs.Rings.{Ring, noted}
 use Rattle.ring_model.specs.declared.notes.Note.{Note}
 use Rattle.ring_model.specs.declared.notes.Offer.{Offer}
 use Rattle.tap_replay.specs.Deliveries.{AreTried, ChangedByTries, IsTried}
-use Rattle.tap_replay.specs.Feeding.{Feeding, cpu_of}
-use Rattle.tap_replay.specs.Running.{AreAllOf, IsLogged, IsTriedAs, RunValue, cpu_in, cpus_of, whole}
+use Rattle.cpu_feed.specs.Feeding.{Feeding}
+use Rattle.tap_replay.specs.Running.{AreAllOf, IsLogged, IsTriedAs, RunValue, cpu_in, cpus_of, whole, cpu_of}
 use Rattle.tap_replay.proofs.Routing.{IsAsTried, routed_is}
 use Rattle.tap_replay.proofs.Whole.{all-back, all-set, cpus-at, cpus-set}
 

@@ -2,23 +2,21 @@
 use Rattle.std.proofs.Common.{◌≡◌, ℕ, zero, suc, ◌+◌, ◌<◌, ◌≤◌, Bool, List, [], ◌∷◌, ◌++◌, length, drop, get_or, append-nil, append_assoc, Option, inl, inr, refl, sym, ap, ◌∙◌, subst, arith}
 use Rattle.std.specs.Prelude.{All, IfOk, IsSome, Result, Ok, Err, map, replicate}
 use Rattle.std.specs.List.{AllByRecursion}
-use Rattle.std.proofs.lemmas.List.{length-replicate}
+use Rattle.std.proofs.lemmas.List.{length-map, length-replicate}
 use Rattle.std.proofs.lemmas.List.Elements.{All-get_or, All-map, All-replicate, All-set}
 use Rattle.capture_file.specs.Capture.{frames_of}
 use Rattle.fanout_group.specs.Arrivals.{arrivals_at}
 use Rattle.fanout_group.specs.Plans.{Shape, has_defrag}
+use Rattle.fanout_group.specs.Rules.{Rules}
 use Rattle.fanout_group.specs.declared.logs.Try.{Try}
-use Rattle.fanout_group.specs.declared.runs.CpuEnd.{CpuEnd}
+use Rattle.capture_file.specs.declared.cpu_end.CpuEnd.{CpuEnd}
 use Rattle.fanout_group.specs.declared.runs.CpuLog.{CpuLog}
 use Rattle.frame_view.specs.declared.frames.Frame.{Frame}
-use Rattle.replay_model.specs.Replay.{Cpu, Replay, closed, done_lines, feed_from, no_ring, replayed, started}
-use Rattle.replay_model.specs.Reported.{finished_ring}
-use Rattle.replay_model.specs.Reports.{IsSchedule}
-use Rattle.replay_model.specs.declared.schedule.Line.{Line}
-use Rattle.replay_model.specs.declared.schedule.Line.TheVariants.{Feed, Read, Tick, Stats}
-use Rattle.replay_model.proofs.Rings.{IsOpen, count_open, put_open, read_open, tick_open, try_open}
-use Rattle.replay_model.proofs.Soundness.{lines-more, set-holds}
-use Rattle.replay_model.proofs.Timed.{IsTimed, timed-started}
+use Rattle.replay_model.specs.Replay.{Cpu, Replay, closed, done_line, done_lines, feed_from, finished_ring, no_ring, replayed, started}
+use Rattle.schedule_lines.specs.Ascending.{IsSchedule}
+use Rattle.schedule_lines.specs.declared.lines.Line.{Line}
+use Rattle.schedule_lines.specs.declared.lines.Line.TheVariants.{Feed, Read, Tick, Stats}
+use Rattle.tap_replay.proofs.Timed.{IsTimed, drop_line, timed-started, timed_after}
 use Rattle.ring_model.specs.Ring.{Size}
 use Rattle.ring_model.specs.Rings.{Ring, fresh, noted, note_of_tick, read_once}
 use Rattle.ring_model.specs.declared.notes.Note.{Note}
@@ -29,15 +27,18 @@ use Rattle.setup_text.specs.declared.reports.RunReport.{RunReport}
 use Rattle.tp_layout.specs.Requests.{room_of, size_of}
 use Rattle.tp_layout.specs.declared.requests.RingRequest.{RingRequest}
 use Rattle.tap_replay.specs.Deliveries.{AreTried, ChangedByTries, IsNoteOf, IsTried}
-use Rattle.tap_replay.specs.Feeding.{Closes, Feeding, cpu_of, frames_in}
+use Rattle.cpu_feed.specs.Feeding.{Closes, Feeding, frames_in}
 use Rattle.tap_replay.specs.Reported.{member_of}
-use Rattle.tap_replay.specs.Running.{AreAllOf, AreCpus, IsRun, RunValue, cpus_of, firsts_of, whole}
-use Rattle.tap_replay.specs.Runs.{IsReplayed, captures_from, log_of, logs_from, replay_of, report_of, rules_of}
-use Rattle.capture_reading.specs.Sources.{AllGave, Seen}
+use Rattle.tap_replay.specs.Running.{AreAllOf, AreCpus, IsRun, RunValue, cpus_of, firsts_of, whole, cpu_of}
+use Rattle.run_reports.specs.Reports.{IsRunReport}
+use Rattle.run_reports.specs.Jobs.{captures_from, rules_of}
+use Rattle.tap_replay.specs.Runs.{IsReplayed, log_of, logs_from, replay_of, report_of}
+use Rattle.capture_reading.specs.Sources.{AllGave}
+use Rattle.tap_outside.specs.Seen.{SourceSeen}
 use Rattle.tap_replay.specs.Turning.{AllClose, FedRest, Finishes, LineDone, MembersAfter, Starts, starting_from}
 use Rattle.tap_replay.proofs.Whole.{as-many}
 
-abbrev first : Feeding → Option Seen
+abbrev first : Feeding → Option SourceSeen
 first cpu = cpu.first
 
 abbrev bytes_in : Feeding → List ℕ
@@ -48,18 +49,18 @@ end_in log = log.end
 
 -- ---- before the first line
 
-starting_cpus : (plan : Shape) (number : ℕ) (firsts : List (Option Seen)) → AreCpus plan number (starting_from plan number firsts)
+starting_cpus : (plan : Shape) (number : ℕ) (firsts : List (Option SourceSeen)) → AreCpus plan number (starting_from plan number firsts)
 starting_cpus plan number [] = tt
 starting_cpus plan number (f ∷ firsts) = (refl, refl, starting_cpus plan (number + 1) firsts)
 
-starting_firsts : (plan : Shape) (number : ℕ) (firsts : List (Option Seen)) → map first (starting_from plan number firsts) ≡ firsts
+starting_firsts : (plan : Shape) (number : ℕ) (firsts : List (Option SourceSeen)) → map first (starting_from plan number firsts) ≡ firsts
 starting_firsts plan number [] = refl
-starting_firsts plan number (f ∷ firsts) = ap (λ (fs : List (Option Seen)). f ∷ fs) (starting_firsts plan (number + 1) firsts)
+starting_firsts plan number (f ∷ firsts) = ap (λ (fs : List (Option SourceSeen)). f ∷ fs) (starting_firsts plan (number + 1) firsts)
 
 abbrev waits : List (Option Frame) → Cpu
 waits waiting = record { waiting = waiting; present = 0; log = [] }
 
-starting_whole : (plan : Shape) (number : ℕ) (all : List (List Frame)) (firsts : List (Option Seen)) → AreAllOf all (starting_from plan number firsts)
+starting_whole : (plan : Shape) (number : ℕ) (all : List (List Frame)) (firsts : List (Option SourceSeen)) → AreAllOf all (starting_from plan number firsts)
     → cpus_of all (starting_from plan number firsts) ≡ map waits (map (arrivals_at (has_defrag plan.flags)) all)
 starting_whole plan number [] [] h = refl
 starting_whole plan number [] (f ∷ firsts) h = absurd h
@@ -67,7 +68,7 @@ starting_whole plan number (a ∷ all) [] h = absurd h
 starting_whole plan number (a ∷ all) (f ∷ firsts) h =
     ap (λ (cs : List Cpu). waits (arrivals_at (has_defrag plan.flags) a) ∷ cs) (starting_whole plan (number + 1) all firsts h.1)
 
-pub starts_run : (job : Job) (firsts : List (Option Seen)) (run : RunValue) → Starts job firsts run → IsRun job run
+pub starts_run : (job : Job) (firsts : List (Option SourceSeen)) (run : RunValue) → Starts job firsts run → IsRun job run
 starts_run job firsts run s =
     let size = size_of job.setup.shape in
     let P : Ring → Type 0 = λ ring. ring.size ≡ size in
@@ -77,13 +78,13 @@ starts_run job firsts run s =
       cpus = subst (λ (cs : List Feeding). AreCpus job.setup.plan 0 cs) (sym s.cpus) (starting_cpus job.setup.plan 0 firsts);
     }
 
-pub starts_timed : (job : Job) (firsts : List (Option Seen)) (run : RunValue) (lines : List Line) → Starts job firsts run → IsSchedule lines
+pub starts_timed : (job : Job) (firsts : List (Option SourceSeen)) (run : RunValue) (lines : List Line) → Starts job firsts run → IsSchedule lines
     → IsTimed (size_of job.setup.shape) run.members lines
 starts_timed job firsts run lines s schedule =
     subst (λ (rs : List Ring). IsTimed (size_of job.setup.shape) rs lines) (sym s.members)
     (timed-started (size_of job.setup.shape) job.setup.plan.members lines schedule)
 
-starts_whole : (job : Job) (firsts : List (Option Seen)) (run : RunValue) (all : List (List Frame)) → Starts job firsts run → AreAllOf all run.cpus
+starts_whole : (job : Job) (firsts : List (Option SourceSeen)) (run : RunValue) (all : List (List Frame)) → Starts job firsts run → AreAllOf all run.cpus
     → whole all run ≡ started (rules_of job) (size_of job.setup.shape) (map (arrivals_at (has_defrag job.setup.plan.flags)) all)
 starts_whole job firsts run all s h =
     let g = subst (λ (cs : List Feeding). AreAllOf all cs) s.cpus h in
@@ -94,50 +95,12 @@ starts_whole job firsts run all s h =
 
 -- ---- the lines
 
-note_open : (size : Size) (clock : ℕ) (offer : Offer) (ring : Ring) (note : Note) → IsNoteOf offer ring note → IsOpen size clock ring → IsOpen size clock (noted ring note)
-note_open size clock offer ring note (inl e) h = subst (λ (n : Note). IsOpen size clock (noted ring n)) (sym e) (try_open size clock ring offer h)
-note_open size clock offer ring note (inr e) h = subst (λ (n : Note). IsOpen size clock (noted ring n)) (sym e) (put_open size clock ring offer h)
-
-tries_open : (size : Size) (clock : ℕ) (offer : Offer) (tries : List Try) (old new : List Ring) → AreTried offer tries old new → All (IsOpen size clock) old
-    → All (IsOpen size clock) new
-tries_open size clock offer [] old new h all = subst (λ (rs : List Ring). All (IsOpen size clock) rs) (sym h) all
-tries_open size clock offer (t ∷ tries) old new h all =
-    let one : IsTried offer t old h.0 = h.1 in
-    let here = All-get_or (IsOpen size clock) old t.member no_ring one.within all in
-    let next : All (IsOpen size clock) h.0 = subst (λ (rs : List Ring). All (IsOpen size clock) rs) (sym one.rings_are)
-    (All-set (IsOpen size clock) old t.member _ (note_open size clock offer (get_or old t.member no_ring) one.note one.note_is here) all) in
-    tries_open size clock offer tries h.0 new h.2 next
-
-changed_open : (size : Size) (clock : ℕ) (old new : List Ring) → ChangedByTries old new → All (IsOpen size clock) old → All (IsOpen size clock) new
-changed_open size clock old new (inl e) all = subst (λ (rs : List Ring). All (IsOpen size clock) rs) (sym e) all
-changed_open size clock old new (inr t) all = tries_open size clock t.0 t.1 old new t.2 all
-
-timed_after : (size : Size) (line : Line) (lines : List Line) (old new : List Ring) → MembersAfter line old new → IsTimed size old (line ∷ lines) → IsTimed size new lines
-timed_after size (Feed cpu) lines old new m h = record { clock = h.clock; opens = changed_open size h.clock old new m h.opens; rest = h.rest }
-timed_after size (Read member) lines old new m h =
-    let set = set-holds (IsOpen size h.clock) (length old) member old (read_once (get_or old member no_ring))
-    (record { count = refl; each = h.opens }) (λ one. read_open size h.clock (get_or old member no_ring) one) in
-    record { clock = h.clock; opens = subst (λ (rs : List Ring). All (IsOpen size h.clock) rs) (sym m) set.each; rest = h.rest }
-timed_after size (Tick ms) lines old new m h = record {
-  clock = ms;
-  opens = subst (λ (rs : List Ring). All (IsOpen size ms) rs) (sym m)
-      (All-map (IsOpen size ms) (λ (ring : Ring). noted ring (note_of_tick ring ms)) old (λ k d l. tick_open size h.clock ms _ h.rest.0 (h.opens k d l)));
-  rest = h.rest.2;
-}
-timed_after size (Stats member) lines old new m h =
-    let set = set-holds (IsOpen size h.clock) (length old) member old _
-    (record { count = refl; each = h.opens }) (λ one. count_open size h.clock (get_or old member no_ring) one) in
-    record { clock = h.clock; opens = subst (λ (rs : List Ring). All (IsOpen size h.clock) rs) (sym m) set.each; rest = h.rest }
-
-drop_suc : (at : ℕ) (lines : List Line) (none : Line) → at < length lines → drop at lines ≡ get_or lines at none ∷ drop (suc at) lines
-drop_suc at [] none h = absurd (omega (arith, h))
-drop_suc zero (line ∷ lines) none h = refl
-drop_suc (suc at) (line ∷ lines) none h = drop_suc at lines none (omega (arith, h))
-
-drop_line : (at : ℕ) (lines : List Line) (none : Line) → at < length lines → drop at lines ≡ get_or lines at none ∷ drop (at + 1) lines
-drop_line at lines none h =
-    let next : suc at ≡ at + 1 = omega arith in
-    drop_suc at lines none h ∙ ap (λ (n : ℕ). get_or lines at none ∷ drop n lines) next
+-- one line of a schedule more
+lines-more : (rules : Rules) (room at : ℕ) (lines : List Line) (none : Line) (old new : Replay) → at < length lines
+    → new ≡ done_line rules room (get_or lines at none) old
+    → done_lines rules room (drop (at + 1) lines) new ≡ done_lines rules room (drop at lines) old
+lines-more rules room at lines none old new h e =
+    ap (λ (r : Replay). done_lines rules room (drop (at + 1) lines) r) e ∙ ap (λ (ls : List Line). done_lines rules room ls old) (sym (drop_line at lines none h))
 
 -- after some lines
 pub record Did (job : Job) (lines : List Line) (at : ℕ) (start now : RunValue) : Type 0 where
@@ -147,7 +110,7 @@ pub record Did (job : Job) (lines : List Line) (at : ℕ) (start now : RunValue)
       × (done_lines (rules_of job) (room_of job.setup.shape) (drop at lines) (whole all now) ≡ done_lines (rules_of job) (room_of job.setup.shape) lines (whole all start))
   pub firsts : firsts_of now ≡ firsts_of start
 
-pub did_first : (job : Job) (lines : List Line) (firsts : List (Option Seen)) (run : RunValue) → Starts job firsts run → IsSchedule lines → Did job lines 0 run run
+pub did_first : (job : Job) (lines : List Line) (firsts : List (Option SourceSeen)) (run : RunValue) → Starts job firsts run → IsSchedule lines → Did job lines 0 run run
 did_first job lines firsts run s schedule = record {
   run = starts_run job firsts run s;
   timed = starts_timed job firsts run lines s schedule;
@@ -186,7 +149,7 @@ captures_are plan number (c ∷ cpus) h =
     ap (λ (n : ℕ). frames_of n c.bytes ∷ map frames_in cpus) h.0
     ∙ ap (λ (cs : List (List Frame)). frames_of number c.bytes ∷ cs) (captures_are plan (number + 1) cpus h.2)
 
-logs_are : (plan : Shape) (number : ℕ) (cpus : List Feeding) (nows : List (Option Seen)) (logs : List CpuLog) → AreCpus plan number cpus → AllClose cpus nows logs
+logs_are : (plan : Shape) (number : ℕ) (cpus : List Feeding) (nows : List (Option SourceSeen)) (logs : List CpuLog) → AreCpus plan number cpus → AllClose cpus nows logs
     → logs ≡ logs_from number (map bytes_in cpus) (map end_in logs) (cpus_of (map frames_in cpus) cpus)
 logs_are plan number [] [] [] h k = refl
 logs_are plan number [] [] (log ∷ logs) h k = absurd k
@@ -200,7 +163,15 @@ logs_are plan number (c ∷ cpus) (now ∷ nows) (log ∷ logs) h k =
     ap (λ (l : CpuLog). l ∷ logs) log_is
     ∙ ap (λ (ls : List CpuLog). log_of number c.bytes log.end (cpu_of (frames_in c) c) ∷ ls) (logs_are plan (number + 1) cpus nows logs h.2 k.1)
 
-all_gave : (cpus : List Feeding) (nows : List (Option Seen)) (logs : List CpuLog) → AllClose cpus nows logs
+closed_many : (cpus : List Feeding) (nows : List (Option SourceSeen)) (logs : List CpuLog) → AllClose cpus nows logs → length logs ≡ length cpus
+closed_many [] [] [] k = refl
+closed_many [] [] (log ∷ logs) k = absurd k
+closed_many [] (now ∷ nows) logs k = absurd k
+closed_many (c ∷ cpus) [] logs k = absurd k
+closed_many (c ∷ cpus) (now ∷ nows) [] k = absurd k
+closed_many (c ∷ cpus) (now ∷ nows) (log ∷ logs) k = let rest = closed_many cpus nows logs k.1 in omega (arith, rest)
+
+all_gave : (cpus : List Feeding) (nows : List (Option SourceSeen)) (logs : List CpuLog) → AllClose cpus nows logs
     → AllGave (map first cpus) nows (map bytes_in cpus) (map end_in logs)
 all_gave [] [] [] k = tt
 all_gave [] [] (log ∷ logs) k = absurd k
@@ -219,7 +190,7 @@ replayed_whole job lines arriving last count end last_is count_is end_is =
     ap (λ (r : Replay). closed r) (end_is ∙ ap (λ (n : ℕ). feed_from (rules_of job) (room_of job.setup.shape) 0 n last) count_is)
     ∙ ap (λ (r : Replay). closed (feed_from (rules_of job) (room_of job.setup.shape) 0 (length r.cpus) r)) last_is
 
-module _ (job : Job) (lines : List Line) (firsts : List (Option Seen)) (start mid final : RunValue) (at : ℕ)
+module _ (job : Job) (lines : List Line) (firsts : List (Option SourceSeen)) (start mid final : RunValue) (at : ℕ)
     (s : Starts job firsts start) (d : Did job lines at start mid) (past : length lines ≤ at) (f : FedRest job mid final) where
   abbrev totals : List (List Frame)
   totals = map frames_in final.cpus
@@ -243,7 +214,7 @@ module _ (job : Job) (lines : List Line) (firsts : List (Option Seen)) (start mi
   firsts_are : map first final.cpus ≡ firsts
   firsts_are = f.firsts ∙ d.firsts ∙ ap (λ (cs : List Feeding). map first cs) s.cpus ∙ starting_firsts job.setup.plan 0 firsts
 
-  report_is : (shape : RingRequest) (asked : Bool) (nows : List (Option Seen)) (report : RunReport) → job.setup.shape ≡ shape → job.setup.dump ≡ asked
+  report_is : (shape : RingRequest) (asked : Bool) (nows : List (Option SourceSeen)) (report : RunReport) → job.setup.shape ≡ shape → job.setup.dump ≡ asked
       → Finishes shape asked final nows report → report ≡ report_of job lines bytes (map end_in report.cpus)
   unfolding report_of
   report_is shape asked nows report shape_is asked_is e =
@@ -256,29 +227,43 @@ module _ (job : Job) (lines : List Line) (firsts : List (Option Seen)) (start mi
       ∙ ap (λ (ms : List MemberReport). record { cpus = logs_from 0 bytes ends (cpus_of totals final.cpus); members = ms }) members
       ∙ ap (λ (r : Replay). record { cpus = logs_from 0 bytes ends r.cpus; members = map (member_of job.setup.shape job.setup.dump) r.members }) is_replay
 
-  is_replayed : (shape : RingRequest) (asked : Bool) (nows : List (Option Seen)) (report : RunReport) → job.setup.shape ≡ shape → job.setup.dump ≡ asked
+  -- whatever the sources gave, the report is that of a run
+  abbrev Reports : Type 0
+  Reports = (all : List (List ℕ)) (ends : List CpuEnd) → length ends ≡ length all → IsRunReport job all ends (report_of job lines all ends)
+
+  is_run : (reports : Reports) (shape : RingRequest) (asked : Bool) (nows : List (Option SourceSeen)) (report : RunReport) → job.setup.shape ≡ shape
+      → job.setup.dump ≡ asked → Finishes shape asked final nows report → IsRunReport job bytes (map end_in report.cpus) report
+  is_run reports shape asked nows report shape_is asked_is e =
+      let closed = closed_many final.cpus nows report.cpus e.cpus in
+      let ends = length-map report.cpus end_in in
+      let all = length-map final.cpus bytes_in in
+      subst (λ (r : RunReport). IsRunReport job bytes (map end_in report.cpus) r) (sym (report_is shape asked nows report shape_is asked_is e))
+      (reports bytes (map end_in report.cpus) (omega (arith, closed, ends, all)))
+
+  is_replayed : (reports : Reports) (shape : RingRequest) (asked : Bool) (nows : List (Option SourceSeen)) (report : RunReport) → job.setup.shape ≡ shape → job.setup.dump ≡ asked
       → Finishes shape asked final nows report → IsReplayed job lines firsts nows report
-  is_replayed shape asked nows report shape_is asked_is e = record {
+  is_replayed reports shape asked nows report shape_is asked_is e = record {
     bytes = bytes;
     ends = map end_in report.cpus;
-    gave = subst (λ (fs : List (Option Seen)). AllGave fs nows bytes (map end_in report.cpus)) firsts_are (all_gave final.cpus nows report.cpus e.cpus);
+    gave = subst (λ (fs : List (Option SourceSeen)). AllGave fs nows bytes (map end_in report.cpus)) firsts_are (all_gave final.cpus nows report.cpus e.cpus);
+    run = is_run reports shape asked nows report shape_is asked_is e;
     report_is = report_is shape asked nows report shape_is asked_is e;
   }
 
   -- what the closing tells
-  pub told : {A E : Type 0} (result : Result A E) (nows : A → List (Option Seen)) (report : A → RunReport) (shape : RingRequest) (asked : Bool)
+  pub told : Reports → {A E : Type 0} (result : Result A E) (nows : A → List (Option SourceSeen)) (report : A → RunReport) (shape : RingRequest) (asked : Bool)
       → job.setup.shape ≡ shape → job.setup.dump ≡ asked → IfOk result (λ ran. Finishes shape asked final (nows ran) (report ran))
       → IfOk result (λ ran. IsReplayed job lines firsts (nows ran) (report ran))
-  told (Ok ran) nows report shape asked shape_is asked_is e = is_replayed shape asked (nows ran) (report ran) shape_is asked_is e
-  told (Err error) nows report shape asked shape_is asked_is e = tt
+  told reports (Ok ran) nows report shape asked shape_is asked_is e = is_replayed reports shape asked (nows ran) (report ran) shape_is asked_is e
+  told reports (Err error) nows report shape asked shape_is asked_is e = tt
 
 -- ---- closing CPU by CPU
 
-pub close_none : {X : Type 0} (f : X → Option Seen) (xs : List X) (logs : List CpuLog) → xs ≡ [] → logs ≡ [] → AllClose [] (map f xs) logs
+pub close_none : {X : Type 0} (f : X → Option SourceSeen) (xs : List X) (logs : List CpuLog) → xs ≡ [] → logs ≡ [] → AllClose [] (map f xs) logs
 close_none {X = X} f xs logs e k =
     subst (λ (ys : List X). AllClose [] (map f ys) logs) (sym e) (subst (λ (ls : List CpuLog). AllClose [] [] ls) (sym k) tt)
 
-close_one : {X : Type 0} (f : X → Option Seen) (done : List Feeding) (cpu : Feeding) (xs : List X) (x : X) (logs : List CpuLog) (log : CpuLog)
+close_one : {X : Type 0} (f : X → Option SourceSeen) (done : List Feeding) (cpu : Feeding) (xs : List X) (x : X) (logs : List CpuLog) (log : CpuLog)
     → AllClose done (map f xs) logs → Closes cpu (f x) log → AllClose (done ++ cpu ∷ []) (map f (xs ++ x ∷ [])) (logs ++ log ∷ [])
 close_one f [] cpu [] x [] log h one = (one, tt)
 close_one f [] cpu [] x (l ∷ logs) log h one = absurd h
@@ -287,7 +272,7 @@ close_one f (c ∷ done) cpu [] x logs log h one = absurd h
 close_one f (c ∷ done) cpu (y ∷ xs) x [] log h one = absurd h
 close_one f (c ∷ done) cpu (y ∷ xs) x (l ∷ logs) log h one = (h.0, close_one f done cpu xs x logs log h.1 one)
 
-pub close_more : {X : Type 0} (f : X → Option Seen) (all done before after : List Feeding) (cpu : Feeding) (xs more : List X) (x : X) (logs grown : List CpuLog) (log : CpuLog)
+pub close_more : {X : Type 0} (f : X → Option SourceSeen) (all done before after : List Feeding) (cpu : Feeding) (xs more : List X) (x : X) (logs grown : List CpuLog) (log : CpuLog)
     → before ≡ cpu ∷ after → all ≡ done ++ before → AllClose done (map f xs) logs → Closes cpu (f x) log → more ≡ xs ++ x ∷ [] → grown ≡ logs ++ log ∷ []
     → (front : List Feeding) × (all ≡ front ++ after) × AllClose front (map f more) grown
 close_more {X = X} f all done before after cpu xs more x logs grown log next parts h one more_is grown_is = (
@@ -301,7 +286,7 @@ pub no_cpus : (cpus : List Feeding) → length cpus ≡ 0 → cpus ≡ []
 no_cpus [] e = refl
 no_cpus (c ∷ cpus) e = absurd (omega (arith, e))
 
-pub close_all : {X : Type 0} (f : X → Option Seen) (all done rest : List Feeding) (xs : List X) (logs : List CpuLog) → rest ≡ [] → all ≡ done ++ rest
+pub close_all : {X : Type 0} (f : X → Option SourceSeen) (all done rest : List Feeding) (xs : List X) (logs : List CpuLog) → rest ≡ [] → all ≡ done ++ rest
     → AllClose done (map f xs) logs → AllClose all (map f xs) logs
 close_all f all done rest xs logs none parts h =
     subst (λ (cs : List Feeding). AllClose cs (map f xs) logs) (sym (parts ∙ ap (λ (cs : List Feeding). done ++ cs) none ∙ append-nil done)) h

@@ -23,10 +23,11 @@ use Rattle.ring_words.specs.Rings.{Entry}
 use Rattle.tp_layout.specs.Requests.{numbers_of, size_of}
 use Rattle.tp_layout.specs.Writing.{IsWritable, zero_block}
 use Rattle.tp_layout.specs.declared.requests.RingRequest.{RingRequest}
-use Rattle.tap_replay.specs.Blocks.{HasRead, taken_from}
+use Rattle.run_reports.specs.Blocks.{taken_from}
+use Rattle.tap_replay.specs.Blocks.{HasRead}
 use Rattle.tap_replay.specs.Members.{IsMember, Parts, ring_of}
-use Rattle.tap_replay.proofs.Growing.{Grows, few_done, front_stays, grows_noted}
-use Rattle.tap_replay.proofs.Keeping.{as_many}
+use Rattle.run_reports.proofs.Growing.{Grows, few_done, front_stays, grows_noted}
+use Rattle.run_reports.proofs.Keeping.{as_many}
 use Rattle.tap_replay.proofs.Reading.{Tells, came, none_read, one_read, released_done}
 
 some_same : (a b : ℕ) → Some a ≡ Some b → a ≡ b

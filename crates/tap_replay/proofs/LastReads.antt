@@ -1,5 +1,5 @@
 -- What a closed member reports.
-use Rattle.std.proofs.Common.{◌≡◌, ℕ, Bool, true, false, List, [], ◌∷◌, ◌++◌, length, refl, sym, ap, ◌∙◌, subst, map}
+use Rattle.std.proofs.Common.{◌≡◌, ℕ, Bool, true, false, List, [], ◌∷◌, ◌++◌, length, refl, sym, ap, ◌∙◌, subst, map, None}
 use Rattle.block_ring.specs.Producing.{Producing}
 use Rattle.frame_view.specs.declared.frames.Packet.{Packet}
 use Rattle.reader_walk.specs.Readers.{ReaderValue, dump_by, outputs_of, walked_of}
@@ -17,10 +17,12 @@ use Rattle.setup_text.specs.declared.reports.MemberReport.{MemberReport}
 use Rattle.tp_layout.specs.Dump.{dump_of}
 use Rattle.tp_layout.specs.Requests.{fills_hash, size_of}
 use Rattle.tp_layout.specs.declared.requests.RingRequest.{RingRequest}
-use Rattle.tap_replay.specs.Blocks.{HasReadAll, taken_from}
+use Rattle.run_reports.specs.Blocks.{taken_from}
+use Rattle.tap_replay.specs.Blocks.{HasReadAll}
 use Rattle.tap_replay.specs.Members.{ring_of}
-use Rattle.tap_replay.specs.Reported.{dump_where, member_of}
-use Rattle.tap_replay.proofs.Keeping.{as_many, kept_in_blocks, texts_are, walked_are}
+use Rattle.run_reports.specs.Members.{dump_where}
+use Rattle.tap_replay.specs.Reported.{member_of}
+use Rattle.run_reports.proofs.Keeping.{as_many, kept_in_blocks, texts_are, walked_are}
 
 dump_is : (shape : RingRequest) (asked : Bool) (notes : List Note)
     → dump_by asked shape (taken_from shape 1 (state_of (size_of shape) notes).done) ≡ dump_where asked shape notes
@@ -29,7 +31,7 @@ dump_is shape true notes = texts_are shape 1 (state_of (size_of shape) notes).do
 dump_is shape false notes = refl
 
 abbrev report_with : List Note → List Packet → List ℕ → ℕ → MemberReport
-report_with notes walked dump blocks = record { notes = notes; walked = walked; dump = dump; blocks = blocks }
+report_with notes walked dump blocks = record { notes = notes; walked = walked; dump = dump; blocks = blocks; ring = None }
 
 pub closed_report : (shape : RingRequest) (asked : Bool) (producer : Producing PlainState) (notes : List Note) (reader : ReaderValue) (outputs : Outputs) (ring : Ring)
     → ring_of producer ≡ ring → producer.shape ≡ shape → notes ≡ producer.notes ++ Finished ∷ []

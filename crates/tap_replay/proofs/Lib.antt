@@ -1,10 +1,8 @@
-mod Growing
-mod Keeping
 mod Reading
 mod Holding
 mod LastReads
-mod Piecewise
-mod Totals
+mod Clocks
+mod Timed
 mod Routing
 mod Stepping
 mod Whole
@@ -12,5 +10,4 @@ mod Arriving
 mod RunSteps
 mod Lines
 mod Concluding
-mod KeptOffers
 mod GroupLaw

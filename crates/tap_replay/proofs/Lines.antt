@@ -3,29 +3,40 @@ use Rattle.std.proofs.Common.{◌≡◌, ℕ, zero, suc, ◌+◌, ◌-◌, ◌<�
 use Rattle.std.specs.Prelude.{IsSome, MatchBool, OnOk, Result, Ok, Err, map, slice_set}
 use Rattle.std.specs.List.{AllByRecursion}
 use Rattle.std.proofs.lemmas.Bool.{cases_eq}
-use Rattle.std.proofs.lemmas.List.{get_or-set_other, get_or-set_same, get_or_past, length-map, set-set}
+use Rattle.std.proofs.lemmas.List.{drop_all, get_or-set_other, get_or-set_same, get_or_past, length-map, set-set}
 use Rattle.std.proofs.lemmas.List.Elements.{All-map}
 use Rattle.fanout_group.specs.Arrivals.{arrivals_from}
 use Rattle.fanout_group.specs.Plans.{has_defrag}
 use Rattle.fanout_group.specs.Rules.{Rules}
 use Rattle.frame_view.specs.declared.frames.Frame.{Frame}
 use Rattle.replay_model.specs.Replay.{Cpu, Replay, cpu_at, fed_by, feed, feed_from, feed_times, no_cpu}
-use Rattle.replay_model.specs.declared.schedule.Line.{Line}
-use Rattle.replay_model.specs.declared.schedule.Line.TheVariants.{Feed, Tick}
+use Rattle.schedule_lines.specs.declared.lines.Line.{Line}
+use Rattle.schedule_lines.specs.declared.lines.Line.TheVariants.{Feed, Tick}
 use Rattle.replay_model.proofs.Arriving.{arrived_is}
-use Rattle.replay_model.proofs.FeedSteps.{fed_cpu}
-use Rattle.replay_model.proofs.Soundness.{has-cpu}
 use Rattle.ring_model.specs.Rings.{Ring, noted, note_of_tick}
 use Rattle.setup_text.specs.declared.jobs.Job.{Job}
 use Rattle.tp_layout.specs.Requests.{room_of, size_of}
-use Rattle.tap_replay.specs.Fed.{FedOne, IsAtItsEnd}
-use Rattle.tap_replay.specs.Feeding.{Feeding, IsAllOfCpu, cpu_of, frames_in}
-use Rattle.tap_replay.specs.Running.{AreAllOf, Feeds, IsRun, RunValue, cpu_in, cpus_of, firsts_of, no_feeding, whole}
-use Rattle.tap_replay.specs.Runs.{rules_of}
+use Rattle.cpu_feed.specs.Fed.{FedOne, IsAtItsEnd}
+use Rattle.cpu_feed.specs.Feeding.{Feeding, IsAllOfCpu, frames_in}
+use Rattle.tap_replay.specs.Running.{AreAllOf, Feeds, IsRun, RunValue, cpu_in, cpus_of, firsts_of, no_feeding, whole, cpu_of}
+use Rattle.run_reports.specs.Jobs.{rules_of}
 use Rattle.tap_replay.specs.Turning.{FedRest, FedWhole, LineDone, fed_whole}
 use Rattle.tap_replay.proofs.Stepping.{run_with}
-use Rattle.tap_replay.proofs.Totals.{drop_past}
 use Rattle.tap_replay.proofs.Whole.{all-set, as-many, cpus-at, no_frames, set_same}
+
+has-cpu : (cpus : List Cpu) (cpu : ℕ) (arrival : Option Frame) (rest : List (Option Frame))
+    → (get_or cpus cpu no_cpu).waiting ≡ arrival ∷ rest → cpu < length cpus
+has-cpu [] cpu arrival rest e = cc
+has-cpu (c ∷ cpus) zero arrival rest e = omega arith
+has-cpu (c ∷ cpus) (suc cpu) arrival rest e = omega (arith, has-cpu cpus cpu arrival rest e)
+
+fed_cpu : (rules : Rules) (room count cpu : ℕ) (old new : Replay) → cpu < count
+    → new ≡ feed_times rules room cpu (length (cpu_at old cpu).waiting) old
+    → feed_from rules room (cpu + 1) (count - (cpu + 1)) new ≡ feed_from rules room cpu (count - cpu) old
+fed_cpu rules room count cpu old new h e =
+    let less : suc (count - (cpu + 1)) ≡ count - cpu = omega (arith, h) in
+    ap (λ (r : Replay). feed_from rules room (cpu + 1) (count - (cpu + 1)) r) e
+    ∙ ap (λ left. feed_from rules room cpu left old) less
 
 -- ---- a tick
 
@@ -111,7 +122,7 @@ none_left : (all : List Frame) (cpu : Feeding) → IsAllOfCpu all cpu → IsAtIt
 none_left all cpu h end =
     let whole : all ≡ frames_in cpu = h.1 ∙ ap (λ (fs : List Frame). frames_in cpu ++ fs) (h.2 end.ended) ∙ append-nil (frames_in cpu) in
     ap (λ (fs : List Frame). arrivals_from (has_defrag cpu.path.shape.flags) cpu.path.held fs)
-    (ap (λ (fs : List Frame). drop cpu.fed fs) whole ∙ drop_past cpu.fed (frames_in cpu) end.all)
+    (ap (λ (fs : List Frame). drop cpu.fed fs) whole ∙ drop_all cpu.fed (frames_in cpu) end.all)
 
 -- a CPU at its end has nothing that waits
 pub fed_to_end : (job : Job) (cpu : ℕ) (all : List (List Frame)) (cpus : List Feeding) (one : Feeding) (new : RunValue) → cpu < length cpus

@@ -13,7 +13,8 @@ use Rattle.ring_words.specs.Rings.{Entry}
 use Rattle.tp_layout.specs.Blocks.{BeginsWith}
 use Rattle.tp_layout.specs.Dump.{packets_of_offers}
 use Rattle.tp_layout.specs.declared.requests.RingRequest.{RingRequest}
-use Rattle.tap_replay.specs.Blocks.{HasRead, HasReadAll, read_of, taken_from}
+use Rattle.run_reports.specs.Blocks.{read_of, taken_from}
+use Rattle.tap_replay.specs.Blocks.{HasRead, HasReadAll}
 
 -- the law of reading
 abbrev pub Tells : Type 0

@@ -16,13 +16,13 @@ use Rattle.ring_model.specs.declared.notes.Offer.{Offer}
 use Rattle.setup_text.specs.declared.jobs.Job.{Job}
 use Rattle.tp_layout.specs.Requests.{room_of, size_of}
 use Rattle.tap_replay.specs.Deliveries.{ChangedByTries}
-use Rattle.tap_replay.specs.Fed.{GoesOn, arrival_of}
-use Rattle.tap_replay.specs.Feeding.{Feeding}
-use Rattle.tap_replay.specs.Runs.{lens_of, rules_of}
+use Rattle.cpu_feed.specs.Fed.{GoesOn, arrival_of}
+use Rattle.cpu_feed.specs.Feeding.{Feeding}
+use Rattle.run_reports.specs.Jobs.{lens_of, rules_of}
 use Rattle.tap_replay.specs.Running.{AreCpus, Arrives, Does, Feeds, IsLogged, IsRun, Nexts, RunValue, cpu_in, firsts_of, no_feeding, whole}
-use Rattle.capture_reading.specs.Sources.{Seen}
-use Rattle.tap_replay.specs.declared.fed.Fed.{Fed}
-use Rattle.tap_replay.specs.declared.fed.Fed.TheVariants.{Arrival, Nothing, End}
+use Rattle.tap_outside.specs.Seen.{SourceSeen}
+use Rattle.cpu_feed.specs.declared.fed.Fed.{Fed}
+use Rattle.cpu_feed.specs.declared.fed.Fed.TheVariants.{Arrival, Nothing, End}
 use Rattle.tap_replay.proofs.Arriving.{Looked, all_take, arrives, as_changed, as_count, as_keep, cpus_are, made_tries}
 use Rattle.tap_replay.proofs.Whole.{cpus-keep, cpus-number, cpus-shape, feeds_frame, feeds_nothing, next_does}
 
@@ -107,13 +107,13 @@ module _ (job : Job) (cpu : ℕ) (frame : Frame) (lens : Lens) (room queue : ℕ
 
 -- ---- a frame is fed
 
-abbrev first : Feeding → Option Seen
+abbrev first : Feeding → Option SourceSeen
 first cpu = cpu.first
 
 firsts_set : (cpus : List Feeding) (at : ℕ) (c : Feeding) → c.first ≡ (get_or cpus at no_feeding).first → map first (slice_set cpus at c) ≡ map first cpus
 firsts_set [] at c e = refl
-firsts_set (d ∷ cpus) zero c e = ap (λ (f : Option Seen). f ∷ map first cpus) e
-firsts_set (d ∷ cpus) (suc at) c e = ap (λ (fs : List (Option Seen)). d.first ∷ fs) (firsts_set cpus at c e)
+firsts_set (d ∷ cpus) zero c e = ap (λ (f : Option SourceSeen). f ∷ map first cpus) e
+firsts_set (d ∷ cpus) (suc at) c e = ap (λ (fs : List (Option SourceSeen)). d.first ∷ fs) (firsts_set cpus at c e)
 
 next_firsts : (cpu : ℕ) (fed : Fed) (old new : RunValue) → Nexts cpu fed old new → firsts_of new ≡ firsts_of old
 next_firsts cpu fed old new n =

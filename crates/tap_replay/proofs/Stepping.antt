@@ -14,10 +14,10 @@ use Rattle.replay_model.specs.Taking as taking
 use Rattle.ring_model.specs.Rings.{Ring}
 use Rattle.ring_model.specs.declared.notes.Offer.{Offer}
 use Rattle.tap_replay.specs.Deliveries.{AreTried, DeskValue, Follows, TakesAt}
-use Rattle.tap_replay.specs.Fed.{GoesOn, arrival_of}
-use Rattle.tap_replay.specs.Feeding.{Feeding, IsAllOfCpu, IsSameCpu, Takes}
+use Rattle.cpu_feed.specs.Fed.{GoesOn, arrival_of}
+use Rattle.cpu_feed.specs.Feeding.{Feeding, IsAllOfCpu, IsSameCpu, Takes}
 use Rattle.tap_replay.specs.Running.{IsLogged, IsTriedAs, Nexts, RunValue, no_feeding}
-use Rattle.tap_replay.specs.declared.fed.Fed.{Fed}
+use Rattle.cpu_feed.specs.declared.fed.Fed.{Fed}
 
 pub got_same : {X : Type 0} (xs : List X) (at : ℕ) (d e : X) → at < length xs → get_or xs at d ≡ get_or xs at e
 got_same [] at d e h = absurd (omega (arith, h))

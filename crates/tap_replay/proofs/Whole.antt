@@ -1,16 +1,19 @@
 -- The CPUs of a run, and those of the replay of all their frames, place by place.
 use Rattle.std.proofs.Common.{◌≡◌, ℕ, zero, suc, ◌+◌, ◌<◌, List, [], ◌∷◌, length, drop, get_or, Option, None, Some, refl, sym, ap, ◌∙◌, subst, arith}
 use Rattle.std.specs.Prelude.{slice_set}
+use Rattle.fanout_group.specs.Paths.{Path}
 use Rattle.fanout_group.specs.Plans.{Shape}
 use Rattle.frame_view.specs.declared.frames.Frame.{Frame}
-use Rattle.replay_model.specs.Feeds.{next_of}
 use Rattle.replay_model.specs.Replay.{Cpu, Replay, arrived, cpu_at, fed_by, feed, no_cpu}
 use Rattle.fanout_group.specs.Rules.{Rules}
-use Rattle.replay_model.proofs.Soundness.{with_rest}
-use Rattle.tap_replay.specs.Fed.{arrival_of}
-use Rattle.tap_replay.specs.Feeding.{Feeding, IsAllOfCpu, cpu_of}
-use Rattle.tap_replay.specs.Running.{AreAllOf, AreCpus, Nexts, RunValue, cpu_in, cpus_of, no_feeding, whole}
-use Rattle.tap_replay.specs.declared.fed.Fed.{Fed}
+use Rattle.cpu_feed.specs.Fed.{arrival_of}
+use Rattle.cpu_feed.specs.Feeding.{Feeding, IsAllOfCpu, next_of, Takes, waiting_of}
+use Rattle.tap_replay.specs.Running.{AreAllOf, AreCpus, Nexts, RunValue, cpu_in, cpus_of, no_feeding, whole, cpu_of}
+use Rattle.cpu_feed.specs.declared.fed.Fed.{Fed}
+
+-- a CPU has a frame less that waits
+abbrev pub with_rest : ℕ → List (Option Frame) → Replay → Replay
+with_rest cpu rest replay = record replay { cpus = slice_set replay.cpus cpu (record (cpu_at replay cpu) { waiting = rest }) }
 
 abbrev pub no_frames : List Frame
 no_frames = []
@@ -66,6 +69,13 @@ as-many (a ∷ all) (d ∷ cpus) h = let rest = as-many all cpus h.1 in omega (a
 
 -- ---- the next frame of a CPU
 
+-- of the CPU of a replay of all frames the next one is taken
+taken_cpu : (all : List Frame) (old new : Feeding) (arrival : Option Frame) → Takes all old arrival new
+    → cpu_of all new ≡ record (cpu_of all old) { waiting = drop 1 (cpu_of all old).waiting }
+taken_cpu all old new arrival t =
+    ap (λ (ws : List (Option Frame)). record { waiting = ws; present = new.path.present; log = new.path.log }) t.waiting_is
+    ∙ ap (λ (path : Path). record { waiting = drop 1 (waiting_of all old); present = path.present; log = path.log }) t.path_is
+
 pub record Taken (cpu : ℕ) (fed : Fed) (all : List (List Frame)) (old new : RunValue) : Type 0 where
   pub before : AreAllOf all old.cpus
   pub rest_is : whole all new ≡ with_rest cpu (drop 1 (cpu_at (whole all old) cpu).waiting) (whole all old)
@@ -86,7 +96,7 @@ next_does cpu fed all old new n within h =
       rest_is = ap (λ (run : RunValue). whole all run) n.new_is
           ∙ ap (λ (cs : List Cpu). record (whole all old) { cpus = cs }) (cpus-set all old.cpus cpu c g)
           ∙ ap (λ (x : Cpu). record (whole all old) { cpus = slice_set (cpus_of all old.cpus) cpu x })
-          (t.rest_is ∙ ap (λ (x : Cpu). record x { waiting = drop 1 x.waiting }) (sym was));
+          (taken_cpu a (cpu_in old cpu) c (arrival_of fed) t ∙ ap (λ (x : Cpu). record x { waiting = drop 1 x.waiting }) (sym was));
       arrival_is = t.arrival_is ∙ ap (λ (x : Cpu). next_of x.waiting) (sym was);
     }
 

@@ -22,13 +22,16 @@ pub record IsTried (offer : Offer) (t : Try) (old new : List Ring) : Type 0 wher
 -- tries, one after the other
 abbrev pub AreTried : Offer → List Try → List Ring → List Ring → Type 0
 AreTried offer [] old new = new ≡ old
-AreTried offer (t ∷ tries) old new = (next : List Ring) × IsTried offer t old next × AreTried offer tries next new
+AreTried offer (t ∷ tries) old new =
+    (next : List Ring) × IsTried offer t old next × AreTried offer tries next new
 
 -- the rings changed by tries alone, of one offer or of none
 abbrev pub ChangedByTries : List Ring → List Ring → Type 0
-ChangedByTries old new = (new ≡ old) ⊎ ((offer : Offer) × (tries : List Try) × AreTried offer tries old new)
+ChangedByTries old new =
+    (new ≡ old) ⊎ ((offer : Offer) × (tries : List Try) × AreTried offer tries old new)
 
--- a member takes an offer at a desk: it is that for which the desk was made, and the member's ring takes it
+-- a member takes an offer at a desk: it is that for which the desk was made, and the member's ring
+-- takes it
 pub record TakesAt (made : Offer) (members : List Ring) (member : ℕ) (offer : Offer) : Type 0 where
   pub same : offer ≡ made
   pub within : member < length members
@@ -39,6 +42,9 @@ pub record DeskValue : Type 0 where
   pub offer : Offer
   pub members : List Ring
   pub tries : List Try
+
+abbrev pub desk_with : Offer → List Ring → List Try → DeskValue
+desk_with offer members tries = record { offer = offer; members = members; tries = tries }
 
 -- the same desk after some tries more
 pub record Follows (old new : DeskValue) : Type 0 where

@@ -2,8 +2,6 @@ pub mod Reported
 pub mod Blocks
 pub mod Members
 pub mod Runs
-pub mod Feeding
-pub mod Fed
 pub mod Deliveries
 pub mod DeskLaws
 pub mod Running

@@ -31,4 +31,5 @@ pub record IsMember (shape : RingRequest) (asked : Bool) (member : Parts) : Type
   pub noted_is : member.noted ≡ length member.producer.notes
   pub few : member.noted ≤ 2 ^ 39
   pub read : member.stuck ≡ false
-      → HasRead shape asked (state_of (size_of shape) member.producer.notes).done member.producer.end member.reader
+      → HasRead shape asked (state_of (size_of shape) member.producer.notes).done
+      member.producer.end member.reader

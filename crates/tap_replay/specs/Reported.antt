@@ -1,24 +1,20 @@
 -- What a replay over rings of blocks reports.
-use Rattle.std.specs.Prelude.{ℕ, Bool, List, [], length, map, if◌then◌else◌}
+use Rattle.std.specs.Prelude.{Bool, length, map, None}
 use Rattle.ring_model.specs.Fates.{kept_of}
 use Rattle.ring_model.specs.Offers.{packet_of}
 use Rattle.ring_model.specs.Rings.{Ring, state}
-use Rattle.ring_model.specs.declared.notes.Note.{Note}
-use Rattle.tp_layout.specs.Dump.{dump_of}
+use Rattle.run_reports.specs.Members.{dump_where}
 use Rattle.tp_layout.specs.Requests.{fills_hash}
 use Rattle.tp_layout.specs.declared.requests.RingRequest.{RingRequest}
 use Rattle.setup_text.specs.declared.reports.MemberReport.{MemberReport}
 
--- the dump of notes, where it is asked for
-abbrev pub dump_where : Bool → RingRequest → List Note → List ℕ
-dump_where asked shape notes = if asked then dump_of shape notes else []
-
--- what is reported of a closed ring of blocks of this shape: the packets of the offers that it kept, its dump where that
--- is asked for, and the number of retired blocks
+-- what is reported of a closed ring of blocks of this shape: the packets of the offers that it
+-- kept, its dump where that is asked for, and the number of retired blocks; one thread ran it
 abbrev pub member_of : RingRequest → Bool → Ring → MemberReport
 member_of shape asked ring = record {
   notes = ring.notes;
   walked = map (packet_of (fills_hash shape)) (kept_of ring.notes);
   dump = dump_where asked shape ring.notes;
   blocks = length (state ring).done;
+  ring = None;
 }

@@ -1,4 +1,5 @@
--- A replay on its way whose sources are read a piece at a time, and the replay of all their frames that it stands for.
+-- A replay on its way whose sources are read a piece at a time, and the replay of all their frames
+-- that it stands for.
 use Rattle.std.specs.Prelude.{◌≡◌, ℕ, ◌+◌, Bool, List, [], ◌∷◌, length, slice_index_or, slice_set, map, ⊤, Option, None, Some, All, MatchBool, unwrap_or}
 use Rattle.fanout_group.specs.Paths.{Path, first_path, logged}
 use Rattle.fanout_group.specs.Plans.{Shape, rolls_over}
@@ -14,11 +15,11 @@ use Rattle.ring_model.specs.declared.notes.Offer.{Offer}
 use Rattle.setup_text.specs.declared.jobs.Job.{Job}
 use Rattle.tp_layout.specs.Requests.{room_of, size_of}
 use Rattle.tap_replay.specs.Deliveries.{AreTried, ChangedByTries}
-use Rattle.tap_replay.specs.Fed.{FedOne, GoesOn, IsAtItsEnd, arrival_of}
-use Rattle.tap_replay.specs.Feeding.{Feeding, IsAllOfCpu, IsSameCpu, Takes, cpu_of}
-use Rattle.tap_replay.specs.Runs.{rules_of}
-use Rattle.capture_reading.specs.Sources.{Seen}
-use Rattle.tap_replay.specs.declared.fed.Fed.{Fed}
+use Rattle.cpu_feed.specs.Fed.{FedOne, GoesOn, IsAtItsEnd, arrival_of}
+use Rattle.cpu_feed.specs.Feeding.{Feeding, IsAllOfCpu, IsSameCpu, Takes, waiting_of}
+use Rattle.run_reports.specs.Jobs.{rules_of}
+use Rattle.tap_outside.specs.Seen.{SourceSeen}
+use Rattle.cpu_feed.specs.declared.fed.Fed.{Fed}
 
 pub record RunValue : Type 0 where
   pub cpus : List Feeding
@@ -39,6 +40,11 @@ no_feeding = record {
 abbrev pub cpu_in : RunValue → ℕ → Feeding
 cpu_in run cpu = slice_index_or run.cpus cpu no_feeding
 
+-- the CPU of a replay of all these frames
+abbrev pub cpu_of : List Frame → Feeding → Cpu
+cpu_of all cpu =
+    record { waiting = waiting_of all cpu; present = cpu.path.present; log = cpu.path.log }
+
 -- the CPUs of a replay of all frames of each source
 abbrev pub cpus_of : List (List Frame) → List Feeding → List Cpu
 cpus_of (all ∷ rest) (cpu ∷ cpus) = cpu_of all cpu ∷ cpus_of rest cpus
@@ -56,15 +62,18 @@ whole all run = record { cpus = cpus_of all run.cpus; members = run.members; tic
 
 -- the run makes this step of a replay, whatever its sources still give
 abbrev pub Does : (Replay → Replay) → RunValue → RunValue → Type 0
-Does step old new = (all : List (List Frame)) → AreAllOf all new.cpus → AreAllOf all old.cpus × (whole all new ≡ step (whole all old))
+Does step old new =
+    (all : List (List Frame)) → AreAllOf all new.cpus → AreAllOf all old.cpus
+    × (whole all new ≡ step (whole all old))
 
 -- the CPUs are numbered from this number up, and their groups have this shape
 abbrev pub AreCpus : Shape → ℕ → List Feeding → Type 0
 AreCpus plan number [] = ⊤
-AreCpus plan number (cpu ∷ cpus) = (cpu.number ≡ number) × (cpu.path.shape ≡ plan) × AreCpus plan (number + 1) cpus
+AreCpus plan number (cpu ∷ cpus) =
+    (cpu.number ≡ number) × (cpu.path.shape ≡ plan) × AreCpus plan (number + 1) cpus
 
 -- the sources as they were handed in
-abbrev pub firsts_of : RunValue → List (Option Seen)
+abbrev pub firsts_of : RunValue → List (Option SourceSeen)
 firsts_of run = map (λ cpu. cpu.first) run.cpus
 
 -- the run is one of the job
@@ -77,23 +86,32 @@ pub record IsRun (job : Job) (run : RunValue) : Type 0 where
 pub record Nexts (cpu : ℕ) (fed : Fed) (old new : RunValue) : Type 0 where
   pub new_is : new ≡ record old { cpus = slice_set old.cpus cpu (cpu_in new cpu) }
   pub same : IsSameCpu (cpu_in old cpu) (cpu_in new cpu)
-  pub takes : (all : List Frame) → IsAllOfCpu all (cpu_in new cpu) → Takes all (cpu_in old cpu) (arrival_of fed) (cpu_in new cpu)
+  pub takes : (all : List Frame) → IsAllOfCpu all (cpu_in new cpu)
+      → Takes all (cpu_in old cpu) (arrival_of fed) (cpu_in new cpu)
   pub goes : GoesOn (cpu_in old cpu) fed (cpu_in new cpu)
 
 -- the tries of an arrival that offers this: none, or a route, each with its note
-abbrev pub IsTriedAs : Shape → ℕ → ℕ → Option ℕ → Option Offer → List Try → List Ring → List Ring → Type 0
+abbrev pub IsTriedAs : Shape → ℕ → ℕ → Option ℕ → Option Offer → List Try → List Ring → List Ring
+    → Type 0
 IsTriedAs plan present queue ticket None tries old new = (tries ≡ []) × (new ≡ old)
 IsTriedAs plan present queue ticket (Some offer) tries old new =
-    IsRoute (rolls_over plan) plan.members (home_by plan.mode plan.members offer.hash (unwrap_or ticket 0) offer.frame.cpu queue present) tries
+    IsRoute (rolls_over plan) plan.members
+    (home_by plan.mode plan.members offer.hash (unwrap_or ticket 0) offer.frame.cpu queue present)
+    tries
     × AreTried offer tries old new
 
 -- an arrival is logged with its tries
-pub record IsLogged (queue cpu : ℕ) (entry : ArrivalLog) (made : Option Offer) (old new : RunValue) : Type 0 where
+pub record IsLogged (queue cpu : ℕ) (entry : ArrivalLog) (made : Option Offer)
+    (old new : RunValue) : Type 0 where
   pub tries : List Try
   pub cpus_are : new.cpus ≡ slice_set old.cpus cpu
-      (record (cpu_in old cpu) { path = logged (record entry { tries = tries }) (cpu_in old cpu).path })
+      (record (cpu_in old cpu) {
+        path = logged (record entry { tries = tries })
+            (cpu_in old cpu).path;
+      })
   pub ticket_is : new.ticket ≡ old.ticket
-  pub tried : IsTriedAs (cpu_in old cpu).path.shape (cpu_in old cpu).path.present queue entry.ticket made tries old.members new.members
+  pub tried : IsTriedAs (cpu_in old cpu).path.shape
+      (cpu_in old cpu).path.present queue entry.ticket made tries old.members new.members
 
 -- one CPU was fed: it goes on, or has ended
 pub record FeedsOn (cpu : ℕ) (more : Bool) (old new : RunValue) : Type 0 where
@@ -103,7 +121,7 @@ pub record FeedsOn (cpu : ℕ) (more : Bool) (old new : RunValue) : Type 0 where
 
 -- a frame arrives at a CPU
 pub record Arrives (job : Job) (cpu : ℕ) (frame : Frame) (old new : RunValue) : Type 0 where
-  pub does : Does (λ replay. arrived (rules_of job) (room_of job.setup.shape) cpu frame replay) old new
+  pub does : Does (arrived (rules_of job) (room_of job.setup.shape) cpu frame) old new
   pub run : IsRun job new
   pub path : Path
   pub cpus_are : new.cpus ≡ slice_set old.cpus cpu (record (cpu_in old cpu) { path = path })

@@ -1,14 +1,14 @@
 //! A replay after its last frame: what it reports, and the sources that it gives back.
 ghost use Rattle.std.specs.Prelude.{◌≡◌, map, option_map, IfOk, IsSome};
 ghost use Rattle.std.specs.List.{AllByRecursion};
-ghost use Rattle.replay_model.specs.Reported.{finished_ring};
+ghost use Rattle.replay_model.specs.Replay.{finished_ring};
 ghost use Rattle.tap_replay.specs.Reported.{member_of};
 ghost use Rattle.tap_replay.specs.Turning.{AllClose, Finishes};
 
-use crate::cpu_feed::CpuFeed;
 use crate::member::Member;
 use crate::replay_run::ReplayRun;
 use crate::setting::Setting;
+use cpu_feed::CpuFeed;
 use fanout_group::CpuLogList;
 use frame_view::Memory;
 use setup_text::{MemberList, Ran, RunReport};
@@ -31,7 +31,7 @@ pub(crate) fn close_cpus<S: Source>(
 ) -> Result<ClosedCpus<S>, Memory>
     requires { AllByRecursion (λ cpu. IsSome cpu.ended) cpus.items }
     ensures { IfOk result (λ closed. AllClose cpus.items
-        (map (option_map (λ source. record { left = S.left source; faults = S.faults source })) closed.sources.items)
+        (map (option_map S.seen) closed.sources.items)
         closed.logs) }
 {
     let mut sources = Vec::with_capacity(alloc, cpus.len())?;
@@ -66,7 +66,7 @@ pub(crate) fn finish<S: Source, K: Setting>(
 ) -> Result<Ran<S>, Memory>
     requires { AllByRecursion (λ cpu. IsSome cpu.ended) run.cpus }
     ensures { IfOk result (λ ran. Finishes K.shape K.dumps run
-        (map (option_map (λ source. record { left = S.left source; faults = S.faults source })) ran.sources.items)
+        (map (option_map S.seen) ran.sources.items)
         ran.report) }
 {
     let closed = close_cpus(alloc, run.cpus)?;

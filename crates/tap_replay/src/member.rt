@@ -1,9 +1,10 @@
 //! A member: a ring of blocks, and the reader that takes them.
 //!
-//! Frames go into the ring's open block, and a full block is retired. A read takes the oldest retired block, copies its
-//! packets and gives it back. The close retires the open block, and then reads until no block waits.
+//! Frames go into the ring's open block, and a full block is retired. A read takes the oldest
+//! retired block, copies its packets and gives it back. The close retires the open block, and then
+//! reads until no block waits.
 ghost use Rattle.std.specs.Prelude.{◌≡◌, ◌^◌, ◌≤◌, IfErr, IfOk, OnErr, OnOk};
-ghost use Rattle.replay_model.specs.Reported.{finished_ring};
+ghost use Rattle.replay_model.specs.Replay.{finished_ring};
 ghost use Rattle.replay_model.specs.Taking.{Takes};
 ghost use Rattle.ring_model.specs.Rings.{fresh, note_of_put, note_of_tick, note_of_try, noted, read_once, state};
 ghost use Rattle.ring_model.specs.Told.{put_told, try_told};
@@ -25,7 +26,8 @@ use tp_layout::{Block, Shape, blocks};
 /// So many notes a ring takes. No run has memory for as many.
 const MOST_NOTES: u64 = 1 << 39;
 
-/// A member. Contracts see its ring: its size, its notes, and how many blocks its reader has released.
+/// A member. Contracts see its ring: its size, its notes, and how many blocks its reader has
+/// released.
 #[derive(Drop)]
 pub(crate) struct Member<K: Setting> {
     /// The ring that frames go into.
@@ -75,8 +77,8 @@ impl<K: Setting> Member<K> {
         })
     }
 
-    /// Keeps a packet, or drops it where it finds no room and no free block; the open block is then retired. After
-    /// `Unput` the ring is as before, and the offer comes back.
+    /// Keeps a packet, or drops it where it finds no room and no free block; the open block is then
+    /// retired. After `Unput` the ring is as before, and the offer comes back.
     pub(crate) fn put(&mut self, offer: Offer) -> Result<Put, Unput>
         requires { Takes offer self.old }
         ensures ok { OnOk result (self.new ≡ noted self.old (note_of_put self.old offer)) }
@@ -92,8 +94,8 @@ impl<K: Setting> Member<K> {
         Ok(put)
     }
 
-    /// Keeps a packet, or hands it back where it finds no room and no free block. After `Unput` the ring is as before,
-    /// and the offer comes back.
+    /// Keeps a packet, or hands it back where it finds no room and no free block. After `Unput` the
+    /// ring is as before, and the offer comes back.
     pub(crate) fn try_put(&mut self, offer: Offer) -> Result<Tried, Unput>
         requires { Takes offer self.old }
         ensures ok { OnOk result (self.new ≡ noted self.old (note_of_try self.old offer)) }
@@ -109,8 +111,8 @@ impl<K: Setting> Member<K> {
         Ok(tried)
     }
 
-    /// The clock goes on to a moment, in milliseconds. Where the deadline is reached an open block that has packets is
-    /// retired, and a next block is asked for.
+    /// The clock goes on to a moment, in milliseconds. Where the deadline is reached an open block
+    /// that has packets is retired, and a next block is asked for.
     pub(crate) fn tick(&mut self, ms: u64) -> Result<(), Memory>
         requires later { (state self.old).clock ≤ ms }
         requires small { ms ≤ 2 ^ 63 }
@@ -175,6 +177,7 @@ impl<K: Setting> Member<K> {
             walked: outputs.walked,
             dump: outputs.dump,
             blocks: outputs.blocks,
+            ring: None,
         })
     }
 }

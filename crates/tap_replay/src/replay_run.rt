@@ -1,31 +1,30 @@
-//! A replay on its way: its CPUs, the members of its group and the next ticket, and what each line does to them.
+//! A replay on its way: its CPUs, the members of its group and the next ticket, and what each line
+//! does to them.
 //!
 //! An arrival draws its ticket first, then its hash and verdict are found, then its tries are made.
 ghost use Rattle.std.specs.Prelude.{◌≡◌, ◌<◌, ◌≤◌, ◌^◌, [], Some, length, map, slice_index_or, slice_set, All, IfOk, IfSome, OnOk};
 ghost use Rattle.fanout_group.specs.Arrivals.{IsArrival};
 ghost use Rattle.fanout_group.specs.Rules.{HasTicket};
 ghost use Rattle.replay_model.specs.Replay.{no_ring, noted_at};
-ghost use Rattle.replay_model.specs.declared.schedule.Line.TheVariants.{Feed};
+ghost use Rattle.schedule_lines.specs.declared.lines.Line.TheVariants.{Feed};
 ghost use Rattle.replay_model.specs.Taking.{MayCome, Takes};
 ghost use Rattle.ring_model.specs.Rings.{noted, note_of_tick, read_once, state};
 ghost use Rattle.ring_model.specs.declared.notes.Note.TheVariants.{Counted};
 ghost use Rattle.setup_text.specs.Sound.{IsSetup};
-ghost use Rattle.tap_replay.specs.Fed.{arrival_of};
+ghost use Rattle.cpu_feed.specs.Fed.{arrival_of};
 ghost use Rattle.tap_replay.specs.Running.{Arrives, Feeds, IsLogged, IsRun, Nexts, cpu_in};
 ghost use Rattle.tap_replay.specs.Turning.{FedRest, FedWhole, LineDone};
 
-use crate::cpu_feed::CpuFeed;
-use crate::drawing::{next_ticket, ticket_of};
-use crate::fed::Fed;
-use crate::looking::rules_at;
 use crate::member::Member;
 use crate::ring_desk::RingDesk;
 use crate::setting::Setting;
+use crate::tickets::{next_ticket, ticket_of};
 use capture_reading::Buffer;
+use cpu_feed::{CpuFeed, Fed, rules_at};
 use fanout_group::ArrivalLog;
 use frame_view::{Frame, Memory};
-use replay_model::Line;
 use ring_model::Offer;
+use schedule_lines::Line;
 use setup_text::Job;
 use std::alloc::Global;
 use std::marker::Model;
@@ -46,15 +45,12 @@ pub(crate) struct ReplayRun<S: Source, K: Setting> {
 }
 
 impl<S: Source, K: Setting> Model for ReplayRun<S, K> {
-    ghost use Rattle.std.specs.Prelude.{◌<◌, length};
     ghost use Rattle.tap_replay.specs.Running.{RunValue};
 
     ghost Value = { RunValue };
 
     ghost view = { λ run.
         record { cpus = run.cpus.items; members = run.members.items; ticket = run.ticket } };
-
-    ghost invariant = { λ run. 0 < length run.buffer.bytes.items };
 }
 
 impl<S: Source, K: Setting> ReplayRun<S, K> {

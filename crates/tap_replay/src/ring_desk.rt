@@ -2,7 +2,7 @@
 ghost use Rattle.std.specs.Prelude.{◌≡◌, ◌<◌, ◌∷◌, ◌++◌, [], vec_capacity, vec_len};
 ghost use Rattle.fanout_group.specs.Desks.{fate_of_put, fate_of_try};
 ghost use Rattle.fanout_group.specs.Routes.{a_try};
-ghost use Rattle.tap_replay.specs.Deliveries.{Follows, TakesAt};
+ghost use Rattle.tap_replay.specs.Deliveries.{Follows, TakesAt, desk_with};
 ghost use Rattle.tap_replay.specs.DeskLaws.{follows_itself, follows_on};
 
 use crate::member::Member;
@@ -72,8 +72,8 @@ impl<K: Setting> Desk for RingDesk<K> {
     ghost takes = { λ desk member offer. TakesAt desk.offer.value desk.members.items member offer };
 
     ghost follows = { λ old new. Follows
-        (record { offer = old.offer.value; members = old.members.items; tries = old.tries.items })
-        (record { offer = new.offer.value; members = new.members.items; tries = new.tries.items }) };
+        (desk_with old.offer.value old.members.items old.tries.items)
+        (desk_with new.offer.value new.members.items new.tries.items) };
 
     fn try_put(&mut self, member: u32, offer: Offer) -> Result<Tried, Unput> {
         let Ok(()) = self.tries.reserve(1) else {
@@ -93,11 +93,12 @@ impl<K: Setting> Desk for RingDesk<K> {
         Ok(put)
     }
 
-    ghost stays = { λ desk. follows_itself (record { offer = desk.offer.value; members = desk.members.items; tries = desk.tries.items }) };
+    ghost stays = { λ desk.
+        follows_itself (desk_with desk.offer.value desk.members.items desk.tries.items) };
 
     ghost goes_on = { λ first next last one two. follows_on
-        (record { offer = first.offer.value; members = first.members.items; tries = first.tries.items })
-        (record { offer = next.offer.value; members = next.members.items; tries = next.tries.items })
-        (record { offer = last.offer.value; members = last.members.items; tries = last.tries.items })
+        (desk_with first.offer.value first.members.items first.tries.items)
+        (desk_with next.offer.value next.members.items next.tries.items)
+        (desk_with last.offer.value last.members.items last.tries.items)
         one two };
 }

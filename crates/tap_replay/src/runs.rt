@@ -1,24 +1,30 @@
 //! The replay of a job: its sources are read as its schedule asks for their frames.
 ghost use Rattle.std.specs.Prelude.{◌≡◌, ℕ, List, length, map, option_map, All, IfOk};
-ghost use Rattle.fanout_group.specs.declared.runs.CpuEnd.{CpuEnd};
-ghost use Rattle.replay_model.specs.declared.schedule.Line.{Line};
-ghost use Rattle.replay_model.specs.Reports.{IsSchedule};
+ghost use Rattle.capture_file.specs.declared.cpu_end.CpuEnd.{CpuEnd};
+ghost use Rattle.schedule_lines.specs.declared.lines.Line.{Line};
+ghost use Rattle.schedule_lines.specs.Ascending.{IsSchedule};
+ghost use Rattle.run_reports.specs.Reports.{IsRunReport};
 ghost use Rattle.setup_text.specs.Sound.{IsSetup};
 ghost use Rattle.setup_text.specs.declared.jobs.Job.{Job};
-ghost use Rattle.tap_replay.specs.Runs.{AreShort, IsReplayed, IsReport, arriving_of, report_of, rules_of};
+ghost use Rattle.tap_replay.specs.Runs.{IsReplayed, report_of};
 
 use crate::closing::finish;
 use crate::setting::Setting;
 use crate::starting::start;
 use capture_file::frames_are_numbered;
 use frame_view::Memory;
-use replay_model::{Schedule, a_replay_reports_a_group};
+use replay_model::a_replay_reports_a_group;
+use run_reports::a_group_s_report_is_that_of_a_run;
+use schedule_lines::Schedule;
 use setup_text::{Job, Ran};
 use std::alloc::Global;
 use std::marker::Brand;
 use tap_outside::Source;
 
-/// Replays a job over rings of blocks by a schedule.
+/// Replays a job over rings of blocks: the lines of the schedule in order, and then each CPU from 0
+/// up to its end. The sources are one for each CPU, and come back less the bytes that they gave; a
+/// CPU without one ends with a fault. The only error is that an allocation fails, and the sources
+/// are dropped then.
 pub fn replay<S: Source>(
     alloc: Global,
     job: &Job,
@@ -29,8 +35,8 @@ pub fn replay<S: Source>(
     requires sources { length sources.items ≡ length job.now.setup.cpus }
     requires schedule { IsSchedule schedule.now }
     ensures ran { IfOk result (λ ran. IsReplayed job.now schedule.now
-        (map (option_map (λ source. record { left = S.left source; faults = S.faults source })) sources.items)
-        (map (option_map (λ source. record { left = S.left source; faults = S.faults source })) ran.sources.items)
+        (map (option_map S.seen) sources.items)
+        (map (option_map S.seen) ran.sources.items)
         ran.report) }
 {
     replay_as::<S, Brand>(alloc, job, sources, schedule)
@@ -49,10 +55,11 @@ fn replay_as<S: Source, K: Setting>(
     requires sources { length sources.items ≡ length job.now.setup.cpus }
     requires schedule { IsSchedule schedule.now }
     ensures ran { IfOk result (λ ran. IsReplayed job.now schedule.now
-        (map (option_map (λ source. record { left = S.left source; faults = S.faults source })) sources.items)
-        (map (option_map (λ source. record { left = S.left source; faults = S.faults source })) ran.sources.items)
+        (map (option_map S.seen) sources.items)
+        (map (option_map S.seen) ran.sources.items)
         ran.report) }
 {
+    a_job_reports_a_group();
     let mut run = start::<S, K>(alloc, job, sources)?;
     for line in schedule.as_slice() {
         run.line(alloc, job, *line)?;
@@ -61,17 +68,16 @@ fn replay_as<S: Source, K: Setting>(
     finish(alloc, run)
 }
 
-/// The report of a replay is one of its group, whatever the schedule: its logs are lawful over the arrivals of what the
-/// sources gave, logs and notes are joined, each member's notes are a run of its ring from its opening to its close, and
-/// what a member's reader read is what was kept.
+/// The report of a replay is that of a run, whatever the schedule: its logs are lawful over the
+/// arrivals of what the sources gave, logs and notes are joined, each arrival that passes stands
+/// exactly once, each member's notes are a run of its ring from its opening to its close, and what
+/// a member's reader read is what was kept.
 pub fn a_job_reports_a_group()
-    ensures group { (job : Job) (lines : List Line) (all : List (List ℕ)) (ends : List CpuEnd) → IsSetup job.setup
-        → IsSchedule lines → length all ≡ length job.setup.cpus → length ends ≡ length all
-        → IsReport (rules_of job) job.setup.shape job.setup.dump (arriving_of job all) (report_of job lines all ends) }
-    ensures short { (job : Job) (lines : List Line) (all : List (List ℕ)) (ends : List CpuEnd) → IsSetup job.setup
-        → IsSchedule lines → length all ≡ length job.setup.cpus → length ends ≡ length all
-        → AreShort (report_of job lines all ends).members }
+    ensures run { (job : Job) (lines : List Line) (all : List (List ℕ)) (ends : List CpuEnd)
+        → IsSetup job.setup → IsSchedule lines → length ends ≡ length all
+        → IsRunReport job all ends (report_of job lines all ends) }
 {
     frames_are_numbered();
     a_replay_reports_a_group();
+    a_group_s_report_is_that_of_a_run();
 }

@@ -4,8 +4,8 @@ ghost use Rattle.tp_layout.specs.declared.requests.RingRequest.{RingRequest};
 
 use std::marker::Brand;
 
-/// What all members of one run have in common. It is known only at run time; contracts see it at the type of the
-/// members.
+/// What all members of one run have in common. It is known only at run time; contracts see it at
+/// the type of the members.
 pub(crate) trait Setting {
     // The shape of the rings' blocks.
     ghost shape: { RingRequest };

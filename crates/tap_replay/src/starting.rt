@@ -5,11 +5,11 @@ ghost use Rattle.setup_text.specs.Sound.{IsSetup};
 ghost use Rattle.tap_replay.specs.Turning.{Starts, starting_from};
 ghost use Rattle.tp_layout.specs.Requests.{size_of};
 
-use crate::cpu_feed::CpuFeed;
 use crate::member::Member;
 use crate::replay_run::ReplayRun;
 use crate::setting::Setting;
 use capture_reading::Buffer;
+use cpu_feed::CpuFeed;
 use fanout_group::Plan;
 use frame_view::Memory;
 use setup_text::Job;
@@ -27,7 +27,7 @@ pub(crate) fn start<S: Source, K: Setting>(
     requires dump { job.now.setup.dump ≡ K.dumps }
     requires few { length sources.items ≤ 8 }
     ensures { IfOk result (λ run. Starts job.now
-        (map (option_map (λ source. record { left = S.left source; faults = S.faults source })) sources.items) run) }
+        (map (option_map S.seen) sources.items) run) }
 {
     let plan = job.setup.plan;
     let members = open_members(alloc, plan.members(), &job.setup.shape, job.setup.dump)?;
@@ -47,7 +47,7 @@ fn feeds_of<S: Source>(
 ) -> Result<Vec<CpuFeed<S>>, Memory>
     requires few { length sources.items ≤ 8 }
     ensures { IfOk result (λ cpus. cpus.items ≡ starting_from plan 0
-        (map (option_map (λ source. record { left = S.left source; faults = S.faults source })) sources.items)) }
+        (map (option_map S.seen) sources.items)) }
 {
     let mut cpus = Vec::with_capacity(alloc, sources.len())?;
     for source in sources {

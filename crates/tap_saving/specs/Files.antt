@@ -1,5 +1,5 @@
--- The files of a run: for each member from 0 up its packets, and its blocks where they are asked for. The file of what was
--- sent.
+-- The files of a run: for each member from 0 up its packets, and its blocks where they are asked
+-- for. The file of what was sent.
 use Rattle.std.specs.Prelude.{ℕ, zero, suc, ◌+◌, List, [], ◌∷◌, ◌++◌, codes, if◌then◌else◌}
 use Rattle.std.specs.Fmt.{decimal}
 use Rattle.capture_file.specs.Output.{output_of}
@@ -7,6 +7,7 @@ use Rattle.frame_view.specs.declared.frames.Packet.{Packet}
 use Rattle.setup_text.specs.declared.reports.MemberReport.{MemberReport}
 use Rattle.setup_text.specs.declared.setups.Setup.{Setup}
 
+-- a file: what its name shall hold
 pub record File : Type 0 where
   pub name : List ℕ
   pub bytes : List ℕ
@@ -34,12 +35,24 @@ sent_name setup = setup.prefix ++ codes ".tx.pcap"
 abbrev pub sent_file : Setup → List Packet → File
 sent_file setup packets = record { name = sent_name setup; bytes = output_of packets }
 
--- a member's files: the output of the packets that were read, and the dump
+-- the file of a member's packets: the output of those that were read
+abbrev pub packets_file : Setup → ℕ → MemberReport → File
+packets_file setup member report =
+    record { name = file_name setup.prefix member (codes ".pcap"); bytes = output_of report.walked }
+
+-- the file of a member's blocks: its dump
+abbrev pub blocks_file : Setup → ℕ → MemberReport → File
+blocks_file setup member report =
+    record { name = file_name setup.prefix member (codes ".blk"); bytes = report.dump }
+
+-- a member's files
 abbrev pub files_at : Setup → ℕ → MemberReport → List File
 files_at setup member report =
-    record { name = file_name setup.prefix member (codes ".pcap"); bytes = output_of report.walked }
-    ∷ (if setup.dump then record { name = file_name setup.prefix member (codes ".blk"); bytes = report.dump } ∷ [] else [])
+    packets_file setup member report
+    ∷ (if setup.dump then blocks_file setup member report ∷ [] else [])
 
+-- and those of some members, from one on
 abbrev pub files_from : Setup → ℕ → List MemberReport → List File
 files_from setup member [] = []
-files_from setup member (report ∷ reports) = files_at setup member report ++ files_from setup (member + 1) reports
+files_from setup member (report ∷ reports) =
+    files_at setup member report ++ files_from setup (member + 1) reports

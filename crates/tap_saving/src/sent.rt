@@ -1,5 +1,5 @@
 //! The file of what was sent.
-ghost use Rattle.std.specs.Prelude.{◌≡◌, ◌≤◌, [], ◌∷◌, length, All, IfOk, IsTrue};
+ghost use Rattle.std.specs.Prelude.{◌≡◌, ◌≤◌, [], ◌∷◌, length, All, IfOk, IsTrue, OnErr};
 ghost use Rattle.tap_saving.specs.Files.{sent_file, sent_name};
 ghost use Rattle.tap_saving.specs.Saving.{Saved, Touches};
 
@@ -11,24 +11,21 @@ use setup_text::Setup;
 use std::alloc::Global;
 use tap_outside::Store;
 
-/// Saves the packets that were sent, as a capture file whose name is the setup's prefix and `.tx.pcap`. It says whether the
-/// file was saved. The name is this project's own choice.
+/// Saves the packets that were sent, as a capture file whose name is the setup's prefix and
+/// `.tx.pcap`. It returns whether the file was saved. Where memory runs out the store is as before.
+/// The name is this project's own choice.
 pub fn save_sent<S: Store>(
     alloc: Global,
     setup: &Setup,
     packets: &Packets,
     store: &mut S,
 ) -> Result<bool, Memory>
-    requires meant { IsTrue (S.meant_to_save store.old (sent_name setup.now)) }
+    requires meant { IsTrue ((S.seen store.old).to_save (sent_name setup.now)) }
     requires short { All (λ packet. length packet.bytes ≤ 4294967291) packets.now }
-    ensures touches { Touches
-        (record { held = S.held store.old; to_read = S.meant_to_read store.old; to_save = S.meant_to_save store.old; read_faults = S.read_faults store.old; save_faults = S.save_faults store.old })
-        (record { held = S.held store.new; to_read = S.meant_to_read store.new; to_save = S.meant_to_save store.new; read_faults = S.read_faults store.new; save_faults = S.save_faults store.new })
-        (sent_name setup.now ∷ []) }
-    ensures saved { IfOk result (λ all. Saved
-        (record { held = S.held store.old; to_read = S.meant_to_read store.old; to_save = S.meant_to_save store.old; read_faults = S.read_faults store.old; save_faults = S.save_faults store.old })
-        (record { held = S.held store.new; to_read = S.meant_to_read store.new; to_save = S.meant_to_save store.new; read_faults = S.read_faults store.new; save_faults = S.save_faults store.new })
+    ensures touches { Touches (S.seen store.old) (S.seen store.new) (sent_name setup.now ∷ []) }
+    ensures saved { IfOk result (λ all. Saved (S.seen store.old) (S.seen store.new)
         (sent_file setup.now packets.now ∷ []) all) }
+    ensures memory { OnErr result (S.seen store.new ≡ S.seen store.old) }
 {
     let name = sent_name(alloc, &setup.prefix)?;
     let text = pcap_text(alloc, packets)?;

@@ -6,12 +6,12 @@ use lib.ListN.{get_elem?}
 use Rattle.atomic_table.specs.Table.{State, Me, step, keeps, Allows, Splits, Joins, Final, Seen}
 use Rattle.atomic_table.proofs.Lists.{at_set, set_else}
 use Rattle.ticket_dealer.specs.declared.knowing.Hand.{Hand}
-use Rattle.ticket_dealer.specs.Tickets.{times, once_below, AllBelow}
+use Rattle.ticket_dealer.specs.Tickets.{times, once_below, AllBelow, Rises}
 use Rattle.ticket_dealer.specs.Hands.{total, without_feeder, feeder_of, without_other, other_of, drew, ended, saw, joined, spent}
 use Rattle.ticket_dealer.specs.Dealt.{HandOk, Dealt}
 use Rattle.ticket_dealer.specs.Steps.{Drew, Ended, Saw}
 use Rattle.ticket_dealer.proofs.Totals.{total_set, total_more, total_above, total_both, total_times, total_one, at_more, words_again}
-use Rattle.ticket_dealer.proofs.Lists.{times_join, once_more, below_up, below_join}
+use Rattle.ticket_dealer.proofs.Lists.{times_join, once_more, below_up, below_join, rises_more}
 
 abbrev St : Type 0
 St = State (Unit {0}) Hand
@@ -30,6 +30,7 @@ module _ (feeders : ℕ) where
   hand_later next later live fewer v up down ok = record {
     below = below_up next later v.drawn up ok.below;
     few = ok.few;
+    rises = ok.rises;
     later = λ some_shares. let was = ok.later some_shares in omega (arith, was, down);
     knows = ok.knows;
   }
@@ -59,6 +60,7 @@ module _ (feeders : ℕ) where
             (λ same. subst (HandOk feeders (get_or (set s.words 0 word) 0 0) (get_or (set s.words 0 word) 1 0)) same.1 (subst₂ (λ (y z : ℕ). HandOk feeders y z w) (sym first) (sym second) (record {
               below = below_join (next + 1) v.drawn (next ∷ []) (below_up next (next + 1) v.drawn (omega arith) (subst (λ (z : ℕ). AllBelow z v.drawn) (sym is) mine.below)) (omega arith, tt);
               few = omega (arith, long, room);
+              rises = λ one. rises_more 0 next v.drawn (mine.rises one) (subst (λ (z : ℕ). AllBelow z v.drawn) (sym is) mine.below) (omega arith);
               later = mine.later;
               knows = mine.knows;
             })))
@@ -92,7 +94,7 @@ module _ (feeders : ℕ) where
         live = let sums = total_set (λ v. v.owes) s.views id v w at in let old = r.live in omega (arith, sums, old, second, less, owing);
         calls = let sums = total_set (λ v. v.ended) s.views id v w at in let old = r.calls in omega (arith, sums, old, second, less);
         each_hand = λ j u to. ⊎_elim
-            (λ same. subst (HandOk feeders (get_or (set s.words 1 word) 0 0) (get_or (set s.words 1 word) 1 0)) same.1 (let was = other_hand id v mine in record { below = was.below; few = was.few; later = was.later; knows = was.knows }))
+            (λ same. subst (HandOk feeders (get_or (set s.words 1 word) 0 0) (get_or (set s.words 1 word) 1 0)) same.1 (let was = other_hand id v mine in record { below = was.below; few = was.few; rises = was.rises; later = was.later; knows = was.knows }))
             (λ other. other_hand j u (r.each_hand j u other.1))
             (at_set s.views id j w u to);
       }
@@ -123,7 +125,7 @@ module _ (feeders : ℕ) where
         live = let sums = total_set (λ v. v.owes) s.views id v w at in let old = r.live in omega (arith, sums, old);
         calls = let sums = total_set (λ v. v.ended) s.views id v w at in let old = r.calls in omega (arith, sums, old);
         each_hand = λ j u to. ⊎_elim
-            (λ same. subst (HandOk feeders (get_or s.words 0 0) found) same.1 (record { below = mine.below; few = mine.few; later = λ _. omega arith; knows = mine.knows }))
+            (λ same. subst (HandOk feeders (get_or s.words 0 0) found) same.1 (record { below = mine.below; few = mine.few; rises = mine.rises; later = λ _. omega arith; knows = mine.knows }))
             (λ other. r.each_hand j u other.1)
             (at_set s.views id j w u to);
       })
@@ -157,6 +159,7 @@ module _ (feeders : ℕ) where
         = λ t drawn live known. record {
           below = subst (AllBelow (get_or s.words 0 0)) (sym drawn) tt;
           few = let long : length t.drawn ≡ 0 = ap length drawn in omega (arith, long);
+          rises = λ _. subst (Rises 0) (sym drawn) tt;
           later = λ _. let was = mine.later some_shares in omega (arith, was, live);
           knows = λ _. known ∙ mine.knows some_shares;
         } in record {
@@ -194,11 +197,16 @@ module _ (feeders : ℕ) where
         live = sums (λ v. v.owes) refl refl ∙ r.live;
         calls = ap (λ (z : ℕ). z + get_or s.words 1 0) (sums (λ v. v.ended) refl refl) ∙ r.calls;
         each_hand = λ j t here. ⊎_elim
-            (λ same. subst (HandOk feeders (get_or s.words 0 0) (get_or s.words 1 0)) same.1 (record { below = tt; few = omega arith; later = λ none_left. absurd (omega (arith, none_left)); knows = λ none_left. absurd (omega (arith, none_left)) }))
+            (λ same. subst (HandOk feeders (get_or s.words 0 0) (get_or s.words 1 0)) same.1 (record { below = tt; few = omega arith; rises = λ none_left. absurd (omega (arith, none_left)); later = λ none_left. absurd (omega (arith, none_left)); knows = λ none_left. absurd (omega (arith, none_left)) }))
             (λ among. ⊎_elim
             (λ same. subst (HandOk feeders (get_or s.words 0 0) (get_or s.words 1 0)) same.1 (record {
               below = below_join (get_or s.words 0 0) w.drawn v.drawn yours.below mine.below;
               few = let long = length-append w.drawn v.drawn in let a = mine.few in let c = yours.few in omega (arith, long, a, c);
+              rises = λ one.
+                  let none_left : w.shares ≡ 0 = omega (arith, one, some_shares) in
+                  let c = yours.few in
+                  let empty = nothing_in w.drawn (omega (arith, none_left, c)) in
+                  subst (λ (z : List ℕ). Rises 0 (z ++ v.drawn)) (sym empty) (mine.rises (omega (arith, one, none_left)));
               later = λ _. mine.later some_shares;
               knows = λ _. mine.knows some_shares;
             }))
@@ -208,9 +216,33 @@ module _ (feeders : ℕ) where
       }
 
   -- the table is closed, and this seat stands for all
-  pub closes : (words : List ℕ) (slots : List (Unit {0})) (id : ℕ) (v : Hand) (number : ℕ) → v.shares ≡ feeders + 9 → Final (Seen (Dealt feeders) id v) words slots → get_elem? words 0 ≡ some number → (ticket : ℕ) → times ticket v.drawn ≡ once_below number ticket
-  closes words slots id v number all final here ticket = let s = final.0 in let r = final.1.0 in let at = final.1.1 in
-      let others : (j : ℕ) (u : Hand) → j ≢ id → get_elem? s.views j ≡ some u → times ticket u.drawn ≡ 0
-      = λ j u other to. let both = total_both (λ v. v.shares) s.views j id u v other to at in let shares = r.shares in let few = (r.each_hand j u to).few in let n : ℕ = total (λ v. v.shares) s.views in
-      let both' : u.shares + v.shares ≤ n = both in let shares' : n ≡ feeders + 9 = shares in let none_left : length u.drawn ≡ 0 = omega (arith, both', shares', few, all) in ap (times ticket) (nothing_in u.drawn none_left) in
-      sym (total_one (λ v. times ticket v.drawn) s.views id v at others) ∙ r.once ticket ∙ ap (λ (z : ℕ). once_below z ticket) (word_is s.words number (subst (λ (z : List ℕ). get_elem? z 0 ≡ some number) (sym final.2) here))
+  module _ (words : List ℕ) (slots : List (Unit {0})) (id : ℕ) (v : Hand) (number : ℕ) (all : v.shares ≡ feeders + 9)
+      (final : Final (Seen (Dealt feeders) id v) words slots) (here : get_elem? words 0 ≡ some number) where
+    abbrev last : St
+    last = final.0
+
+    rule : Dealt feeders last
+    rule = final.1.0
+
+    -- so no other seat has a ticket
+    others_none : (j : ℕ) (u : Hand) → j ≢ id → get_elem? last.views j ≡ some u → length u.drawn ≡ 0
+    others_none j u other to =
+        let n : ℕ = total (λ v. v.shares) last.views in
+        let both : u.shares + v.shares ≤ n = total_both (λ v. v.shares) last.views j id u v other to final.1.1 in
+        let shares : n ≡ feeders + 9 = rule.shares in
+        let few = (rule.each_hand j u to).few in
+        omega (arith, both, shares, few, all)
+
+    number_is : get_or last.words 0 0 ≡ number
+    number_is = word_is last.words number (subst (λ (z : List ℕ). get_elem? z 0 ≡ some number) (sym final.2) here)
+
+    pub closes : (ticket : ℕ) → times ticket v.drawn ≡ once_below number ticket
+    closes ticket =
+        sym (total_one (λ v. times ticket v.drawn) last.views id v final.1.1
+        (λ j u other to. ap (times ticket) (nothing_in u.drawn (others_none j u other to))))
+        ∙ rule.once ticket ∙ ap (λ (z : ℕ). once_below z ticket) number_is
+
+    pub closes_sum : length v.drawn ≡ number
+    closes_sum =
+        sym (total_one (λ v. length v.drawn) last.views id v final.1.1 others_none)
+        ∙ rule.sum ∙ number_is

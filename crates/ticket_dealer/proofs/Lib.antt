@@ -1,3 +1,4 @@
 mod Totals
 mod Lists
 mod Asks
+mod Dealings

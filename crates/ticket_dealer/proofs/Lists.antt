@@ -1,5 +1,5 @@
 -- How often a ticket was drawn, and which numbers are above which.
-use Rattle.std.proofs.Common.{◌≡◌, ℕ, ◌+◌, ◌<◌, ◌≤◌, eq-eqb, ne_eqb, Bool, true, false, cond, List, [], ◌∷◌, ◌++◌, length, count_by, nat_lt, ◌==◌, if◌then◌else◌, sym, refl, ap, ap₂, ◌∙◌, append_assoc, append-nil, length-append, arith}
+use Rattle.std.proofs.Common.{◌≡◌, ℕ, ◌+◌, ◌<◌, ◌≤◌, eq-eqb, ne_eqb, Bool, true, false, cond, List, [], ◌∷◌, ◌++◌, length, sum_by, count_by, nat_lt, ◌==◌, if◌then◌else◌, sym, refl, ap, ap₂, ◌∙◌, append_assoc, append-nil, length-append, arith}
 use Rattle.std.specs.List.{AllByRecursion}
 use Rattle.std.proofs.lemmas.List.Sums.{sum_by-cons}
 use Rattle.std.proofs.lemmas.Bool.{lt-ltb, ltb-true}
@@ -16,7 +16,7 @@ not_true : (b : Bool) → ¬ (b ≡ true) → b ≡ false
 not_true true never = absurd (never refl)
 not_true false never = refl
 
-below_yes : (ticket number : ℕ) → ticket < number → once_below number ticket ≡ 1
+pub below_yes : (ticket number : ℕ) → ticket < number → once_below number ticket ≡ 1
 below_yes ticket number below = ap (λ (b : Bool). if b then 1 else 0) (lt-ltb ticket number below)
 
 below_no : (ticket number : ℕ) → number ≤ ticket → once_below number ticket ≡ 0
@@ -53,6 +53,14 @@ pub seats_times : (ticket : ℕ) (seats : List SeatValue) → drawn_times ticket
 seats_times ticket [] = refl
 seats_times ticket (seat ∷ seats) = sum_by-cons (λ (s : SeatValue). count_by (λ drawn. drawn == ticket) s.drawn) seat seats
     ∙ ap₂ (λ (a b : ℕ). a + b) (count_times ticket seat.drawn) (seats_times ticket seats) ∙ sym (times_join ticket seat.drawn (all_drawn seats))
+
+-- how many tickets all seats have
+pub seats_count : (seats : List SeatValue) → sum_by (λ (s : SeatValue). length s.drawn) seats ≡ length (all_drawn seats)
+seats_count [] = refl
+seats_count (seat ∷ seats) =
+    sum_by-cons (λ (s : SeatValue). length s.drawn) seat seats
+    ∙ ap (λ (z : ℕ). length seat.drawn + z) (seats_count seats)
+    ∙ sym (length-append seat.drawn (all_drawn seats))
 
 -- the tickets of some seats and of one more
 pub drawn_more : (seats : List SeatValue) (x : SeatValue) → all_drawn (seats ++ x ∷ []) ≡ all_drawn seats ++ x.drawn

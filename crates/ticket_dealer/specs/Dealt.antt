@@ -6,12 +6,14 @@ use lib.ListN.{get_elem?}
 use Rattle.atomic_table.specs.Table.{State}
 use Rattle.ticket_dealer.specs.declared.knowing.Hand.{Hand}
 use Rattle.ticket_dealer.specs.Hands.{total}
-use Rattle.ticket_dealer.specs.Tickets.{times, once_below, AllBelow}
+use Rattle.ticket_dealer.specs.Tickets.{times, once_below, AllBelow, Rises}
 
--- Of a seat: what it drew is below the next ticket, it drew few, and no more feeders are live than it found
+-- Of a seat: what it drew is below the next ticket, it drew few, in order where it stands for one of the dealer's,
+-- and no more feeders are live than it found
 pub record HandOk (feeders next live : ℕ) (v : Hand) : Type 0 where
   pub below : AllBelow next v.drawn
   pub few : length v.drawn ≤ v.shares * 2 ^ 32
+  pub rises : v.shares ≡ 1 → Rises 0 v.drawn
   pub later : 0 < v.shares → live ≤ v.live
   pub knows : 0 < v.shares → v.feeders ≡ feeders
 

@@ -1,5 +1,5 @@
 -- What a seat of a dealer is to its owner.
-use Rattle.std.specs.Prelude.{◌≡◌, ℕ, ◌+◌, ◌≤◌, ◌==◌, nat_lt, if◌then◌else◌, List, [], ◌∷◌, ◌++◌, replicate, sum_by, count_by}
+use Rattle.std.specs.Prelude.{◌≡◌, ℕ, ◌+◌, ◌≤◌, ◌==◌, nat_lt, if◌then◌else◌, List, [], ◌∷◌, ◌++◌, length, replicate, sum_by, count_by}
 use Rattle.std.specs.List.{AllByRecursion}
 use Rattle.atomic_table.specs.Seated.{TableId}
 use Rattle.ticket_dealer.specs.Tickets.{Rises}
@@ -82,7 +82,8 @@ drawn_times ticket seats = sum_by (λ seat. count_by (λ drawn. drawn == ticket)
 abbrev pub RisesIn : SeatValue → Type 0
 RisesIn seat = Rises 0 seat.drawn
 
--- the tickets of all seats are the numbers below this one, each once, rising in each seat
+-- the tickets of all seats are the numbers below this one, each once, rising in each seat, and as many in all
 pub record AreDealt (seats : List SeatValue) (number : ℕ) : Type 0 where
   pub once : (ticket : ℕ) → drawn_times ticket seats ≡ (if nat_lt ticket number then 1 else 0)
+  pub sum : sum_by (λ seat. length seat.drawn) seats ≡ number
   pub rising : AllByRecursion RisesIn seats

@@ -6,10 +6,10 @@ mod dealer_seat;
 mod drawing;
 mod gathering;
 mod knowing;
+mod laws;
 mod opening;
 mod plays;
-#[cfg(test)]
-mod tests;
 
 pub use dealer::Dealer;
 pub use dealer_seat::DealerSeat;
+pub use laws::the_dealing_holds;

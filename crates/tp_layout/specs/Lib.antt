@@ -1,5 +1,6 @@
 pub mod Requests
 pub mod RequestWords
+pub mod LayoutWords
 pub mod Rows
 pub mod Packets
 pub mod Blocks

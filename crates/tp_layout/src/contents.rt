@@ -1,6 +1,6 @@
 //! A block as what a ring hands over: its bytes are what a reader sees, its shape is what all blocks of a ring share.
 use crate::Block;
-use ring_words::Content;
+use block_content::Content;
 
 impl Content for Block {
     ghost use Rattle.tp_layout.specs.Blocks.{BeginsLawfully};

@@ -1,5 +1,6 @@
 //! Why a ring can't be had, and why a block isn't read.
 ghost use Rattle.std.specs.Prelude.{◌≡◌, Some};
+ghost use Rattle.tp_layout.specs.LayoutWords.{kind_word, layout_text};
 ghost use Rattle.tp_layout.specs.RequestWords.{word_of};
 
 use std::error::Error;
@@ -74,6 +75,22 @@ pub enum LayoutKind {
     Field,
 }
 
+impl LayoutKind {
+    /// The word for what is wrong, as a program prints it.
+    pub fn word(&self) -> &'static str
+        ensures { result.now ≡ kind_word self.now }
+    {
+        match self {
+            LayoutKind::Version => "version",
+            LayoutKind::Length => "length",
+            LayoutKind::Offset => "offset",
+            LayoutKind::Count => "count",
+            LayoutKind::Snap => "snap",
+            LayoutKind::Field => "field",
+        }
+    }
+}
+
 /// The first fault of a block.
 #[derive(Clone, Copy, Debug, PartialEq, Eq)]
 pub struct LayoutError {
@@ -91,3 +108,13 @@ impl LayoutError {
         LayoutError { kind, at }
     }
 }
+
+impl fmt::Display for LayoutError {
+    ghost output = { λ error. Some (layout_text error) };
+
+    fn fmt<W: fmt::Write>(&self, f: &mut fmt::Formatter<W>) -> fmt::Result {
+        write!(f, "{} at {}", self.kind.word(), self.at)
+    }
+}
+
+impl Error for LayoutError {}

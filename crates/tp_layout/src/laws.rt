@@ -8,7 +8,8 @@ ghost use Rattle.tp_layout.specs.declared.requests.RingRequest.{RingRequest};
 
 /// A lawful text tells the number, the status and the packets of its block: two that are equal say the same.
 pub fn a_text_says_one_thing()
-    ensures { (shape : RingRequest) (first second : Said) → HaveOneText shape first second → first ≡ second }
+    ensures { (shape : RingRequest) (first second : Said)
+        → HaveOneText shape first second → first ≡ second }
 {}
 
 /// A block that was opened, filled with the packets of offers one behind another and closed begins with the lawful text
@@ -16,5 +17,6 @@ pub fn a_text_says_one_thing()
 pub fn a_closed_block_begins_with_its_text()
     ensures { (shape : RingRequest) (number status : ℕ) (offers : List Offer) (bytes : List ℕ)
         → GoIn shape number status offers bytes
-        → BeginsWith shape number status (packets_of_offers shape offers) (written shape number status offers bytes) }
+        → BeginsWith shape number status (packets_of_offers shape offers)
+        (written shape number status offers bytes) }
 {}

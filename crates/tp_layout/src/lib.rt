@@ -14,8 +14,6 @@ mod packet_writing;
 mod requests;
 mod ring_blocks;
 mod shapes;
-#[cfg(test)]
-mod tests;
 mod walking;
 mod writing;
 

@@ -47,7 +47,8 @@ fn captured(offer: &Offer) -> &[u8]
 fn put_header(bytes: &mut [u8], at: usize, next: u32, offer: &Offer, fill: bool)
     requires fits { at + 40 ≤ length bytes.old }
     requires snap { offer.now.snap ≤ length offer.now.frame.bytes }
-    ensures written { bytes.new ≡ put at (bytes_of (header_rows next (packet_of fill offer.now))) bytes.old }
+    ensures written { bytes.new
+        ≡ put at (bytes_of (header_rows next (packet_of fill offer.now))) bytes.old }
     ensures typed { HasNumbers (packet_of fill offer.now) }
 {
     let (status, tci, tpid) = vlan_fields(offer.frame.tag);
@@ -76,7 +77,8 @@ fn rxhash(offer: &Offer, fill: bool) -> u32
 fn put_address(bytes: &mut [u8], at: usize, protocol: u16, pkttype: u8, from: &[u8])
     requires fits { at + 18 ≤ length bytes.old }
     requires six { length from.now ≡ 6 }
-    ensures written { (packet : Packet) → packet.protocol ≡ protocol → packet.pkttype ≡ pkttype → packet.addr ≡ from.now
+    ensures written { (packet : Packet)
+        → packet.protocol ≡ protocol → packet.pkttype ≡ pkttype → packet.addr ≡ from.now
         → bytes.new ≡ put at (bytes_of (address_rows packet)) bytes.old }
     ensures protocol { protocol < 2 ^ 16 }
     ensures typed { (i : ℕ) → slice_index from.now i < 256 }

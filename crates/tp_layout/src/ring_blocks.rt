@@ -59,7 +59,8 @@ impl Block {
         requires order { 48 ≤ first }
         requires fits { first ≤ self.old.shape.block_size }
         ensures { (shape : RingRequest) → first ≡ first_of shape
-            → self.new ≡ record self.old { bytes = put 0 (open_header shape number) self.old.bytes } }
+            → self.new
+            ≡ record self.old { bytes = put 0 (open_header shape number) self.old.bytes } }
     {
         zeros_first(&mut self.bytes, self.shape.block_size());
         put_empty(self.bytes.as_mut_slice(), first, number);
@@ -93,7 +94,8 @@ impl Block {
 
 /// The blocks of a ring of this shape, of zeros. Their bytes have room, and cost nothing more until they are written.
 pub fn blocks(alloc: Global, shape: &Shape) -> Result<Vec<Block>, Memory>
-    ensures { IfOk result (λ blocks. blocks.items ≡ replicate shape.now.block_nr (zero_block shape.now)) }
+    ensures { IfOk result (λ blocks.
+        blocks.items ≡ replicate shape.now.block_nr (zero_block shape.now)) }
 {
     let zeros = zeros(alloc, shape)?;
     let mut blocks = Vec::new(alloc);
@@ -104,7 +106,7 @@ pub fn blocks(alloc: Global, shape: &Shape) -> Result<Vec<Block>, Memory>
 }
 
 /// As many zeros as a block has bytes, to be shared.
-pub(crate) fn zeros(alloc: Global, shape: &Shape) -> Result<Arc<Vec<u8>, Global>, Memory>
+fn zeros(alloc: Global, shape: &Shape) -> Result<Arc<Vec<u8>, Global>, Memory>
     ensures { IfOk result (λ zeros. (arc_value zeros).items ≡ replicate shape.now.block_size 0) }
 {
     let size = shape.block_size() as usize;
@@ -113,7 +115,7 @@ pub(crate) fn zeros(alloc: Global, shape: &Shape) -> Result<Arc<Vec<u8>, Global>
 }
 
 /// A block of zeros that was never written.
-pub(crate) fn unwritten_block(
+fn unwritten_block(
     alloc: Global,
     shape: &Shape,
     zeros: &Arc<Vec<u8>, Global>,

@@ -20,7 +20,8 @@ pub fn walk<'a>(bytes: &'a [u8], shape: &Shape) -> Result<PacketWalk<'a>, Layout
     ensures found { IfOk result (λ packets. HasText shape.now bytes.now packets) }
     ensures only { (number status : ℕ) (packets : List Packet)
         → BeginsWith shape.now number status packets bytes.now → result ≡ Ok packets }
-    ensures lawful { (number status : ℕ) → BeginsLawfully shape.now number status bytes.now → IsOk result }
+    ensures lawful { (number status : ℕ)
+        → BeginsLawfully shape.now number status bytes.now → IsOk result }
 {
     walk_by(bytes, shape, Ends::UpTo(shape.block_size()))
 }
@@ -32,7 +33,8 @@ pub fn walk_text<'a>(text: &'a [u8], shape: &Shape) -> Result<PacketWalk<'a>, La
     requires size { length text.now ≤ shape.now.block_size }
     ensures fault { told result ≡ text_fault shape.now text.now }
     ensures found { IfOk result (λ packets. IsTextOf shape.now text.now packets) }
-    ensures only { (number status : ℕ) (packets : List Packet) → IsLawful shape.now number status packets
+    ensures only { (number status : ℕ) (packets : List Packet)
+        → IsLawful shape.now number status packets
         → text.now ≡ block_text shape.now number status packets → result ≡ Ok packets }
 {
     walk_by(text, shape, Ends::At(text.len()))
@@ -40,7 +42,8 @@ pub fn walk_text<'a>(text: &'a [u8], shape: &Shape) -> Result<PacketWalk<'a>, La
 
 /// The text that a block begins with, lent: all bytes up to its end.
 pub fn text_of(block: &Block) -> &[u8]
-    requires { (number : ℕ) × (status : ℕ) × BeginsLawfully block.now.shape number status block.now.bytes }
+    requires { (number : ℕ) × (status : ℕ)
+        × BeginsLawfully block.now.shape number status block.now.bytes }
     ensures { (number status : ℕ) (packets : List Packet)
         → BeginsWith block.now.shape number status packets block.now.bytes
         → result.now ≡ block_text block.now.shape number status packets }
@@ -125,7 +128,8 @@ fn check_packets(bytes: &[u8], at: u32, count: u32) -> Result<(u32, u32), Layout
 fn check_times(bytes: &[u8], area: &[u8], last: (u32, u32)) -> Result<(), LayoutError>
     requires header { 48 ≤ length bytes.now }
     requires packet { 88 ≤ length area.now }
-    ensures { told result ≡ time_tests (number_at 4 4 area.now, number_at 4 8 area.now) last bytes.now }
+    ensures { told result
+        ≡ time_tests (number_at 4 4 area.now, number_at 4 8 area.now) last bytes.now }
 {
     let first = (u32_at(area, 4), u32_at(area, 8));
     if u32_at(bytes, 32) != first.0 || u32_at(bytes, 36) != first.1 {

@@ -57,7 +57,8 @@ pub fn write_packet(block: &mut Block, shape: &Shape, at: u32, offer: &Offer)
     } }
     ensures held { (number : ℕ) (packets : List Packet)
         → IsOpen shape.now number packets block.old.bytes → at ≡ end_of shape.now packets
-        → IsOpen shape.now number (packets ++ packet_of (fills_hash shape.now) offer.now ∷ []) block.new.bytes }
+        → IsOpen shape.now number
+        (packets ++ packet_of (fills_hash shape.now) offer.now ∷ []) block.new.bytes }
 {
     let fill = shape.fill_hash();
     block.put_packet(at, offer, fill);
@@ -72,7 +73,8 @@ pub fn close_header(block: &mut Block, shape: &Shape, closing: &Closing)
     ensures written { block.new ≡ record block.old { bytes = closed closing.now block.old.bytes } }
     ensures text { (number : ℕ) (packets : List Packet)
         → IsOpen shape.now number packets block.old.bytes → 0 < number → 0 < length packets
-        → closing.now ≡ closing_of shape.now closing.now.status packets → IsTrue (is_status closing.now.status)
+        → closing.now ≡ closing_of shape.now closing.now.status packets
+        → IsTrue (is_status closing.now.status)
         → BeginsWith shape.now number closing.now.status packets block.new.bytes }
 {
     block.put_closing(closing);

@@ -1,5 +1,5 @@
 -- What the table keeps is the turn history.
-use Rattle.std.proofs.Common.{◌≡◌, ℕ, Bool, List, sym, ◌∙◌, subst, ⊎_elim, inl, inr, arith, Option}
+use Rattle.std.proofs.Common.{◌≡◌, ℕ, Bool, List, sym, ap, ◌∙◌, subst, ⊎_elim, inl, inr, arith, Option}
 use mathlib.Core.Option.{some}
 use lib.ListN.{get_elem?}
 use Rattle.atomic_table.specs.Table.{State}
@@ -20,6 +20,10 @@ module _ {V E B : Type 0} (stored : V → List E) (base : V → B) (may_add : B 
     few = tickets_below stored base may_add b f n s r;
     owned = λ i number mine. let made = r.owned i number mine in let within = r.within in omega (arith, made, within);
     sum = r.sum;
+    one_seat = λ i j v w p q here there same.
+        sym (r.each_place i here.1.0 v p here.0 here.1.1).lies
+        ∙ ap r.seat_of same
+        ∙ (r.each_place j there.1.0 w q there.0 there.1.1).lies;
     each_drew = λ j v p stands. let ok = r.each_place j stands.1.0 v p stands.0 stands.1.1 in (ok.drawn_is, ok.few);
     each_turn = r.each_turn;
     each_waits = λ i j v p stands late mine. ((r.each_place j stands.1.0 v p stands.0 stands.1.1).pending i late mine).1;

@@ -1,5 +1,5 @@
 mod Totals
-mod Lists
+pub mod Lists
 mod Histories
 mod Drawing
 mod Looking

@@ -54,6 +54,9 @@ module _ {V E B : Type 0} (stored : V → List E) (base : V → B) (may_add : B 
     -- each ticket belongs to one of the seats, which together have them all, and each has few
     pub owned : (i number : ℕ) → get_elem? owners i ≡ some number → number < n
     pub sum : total drawn_of table.views ≡ length owners
+    -- each ticket's seat is one: no two seats of the table stand for a seat of the same number
+    pub one_seat : (i j : ℕ) (v w : Knows E B) (here there : Place E) → StandsFor table.views i v here
+        → StandsFor table.views j w there → here.number ≡ there.number → i ≡ j
     pub each_drew : (j : ℕ) (v : Knows E B) (place : Place E) → StandsFor table.views j v place →
         (place.drawn ≡ times place.number owners) × (place.drawn ≤ 2 ^ 32)
     -- a turn that has ended added one entry at most, which its seat may add

@@ -8,8 +8,6 @@ mod knowing;
 mod laws;
 mod making;
 mod plays;
-#[cfg(test)]
-mod tests;
 mod turn_lock;
 mod turn_seat;
 mod turns;

@@ -4,3 +4,4 @@ pub mod Sending
 pub mod Keeping
 pub mod Transmitting
 pub mod Laws
+pub mod Words

@@ -1,4 +1,7 @@
 //! Why a frame isn't placed, and why no more frames are sent.
+ghost use Rattle.std.specs.Prelude.{Some};
+ghost use Rattle.tx_ring.specs.Words.{place_words, send_words};
+
 use frame_view::Memory;
 use std::error::Error;
 use std::fmt;
@@ -24,6 +27,8 @@ pub enum SendError {
 }
 
 impl fmt::Display for TxError {
+    ghost output = { λ error. Some (place_words error) };
+
     fn fmt<W: fmt::Write>(&self, f: &mut fmt::Formatter<W>) -> fmt::Result {
         match self {
             TxError::TooLong => write!(f, "too long for a slot"),
@@ -36,6 +41,8 @@ impl fmt::Display for TxError {
 impl Error for TxError {}
 
 impl fmt::Display for SendError {
+    ghost output = { λ error. Some (send_words error) };
+
     fn fmt<W: fmt::Write>(&self, f: &mut fmt::Formatter<W>) -> fmt::Result {
         match self {
             SendError::BadSlot(slot) => write!(f, "bad slot {slot}"),

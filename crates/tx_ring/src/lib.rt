@@ -6,8 +6,6 @@ mod laws;
 mod ring;
 mod slot_fields;
 mod slots;
-#[cfg(test)]
-mod tests;
 mod transmitting;
 
 pub use error::{SendError, TxError};

@@ -1,6 +1,6 @@
 -- The words so far are summed, and each of them is below 2 ^ 16.
 use Rattle.std.proofs.Common.{◌≡◌, ◌+◌, ◌*◌, ◌≤◌, drop}
-use Rattle.frame_view.specs.InternetChecksum.{sum_of_words}
+use Rattle.frame_view.proofs.Words.{sum_of_words}
 use Rattle.frame_view.proofs.checksums.checksum.Given as goal
 
 abbrev pub invariant-loop-word : goal.invariant-loop-word

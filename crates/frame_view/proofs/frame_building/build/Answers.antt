@@ -18,7 +18,7 @@ returns-clause-viewed c =
 pub returns-clause-checked : goal.returns-clause-checked
 unfolding built
 returns-clause-checked c =
-    let checked = checksum_of-built c.args.parts.now (omega arith) (omega arith) in
+    let checked = checksum_of-built c.args.parts.now (omega arith) (omega arith) c.requires in
     let bytes : c.from_vec.result ≡ built c.args.parts.now = grind (arith, common_steps) in
     ap (λ (b : List ℕ). checksum_of (take 20 (drop 14 b))) bytes ∙ checked
 

@@ -1,15 +1,14 @@
-use Rattle.tap_outside.specs.Counts.{Rose, RoseBy}
-use Rattle.tap_engine.proofs.Complete.{complete_of, worth_of}
+use Rattle.tap_engine.proofs.Complete.{complete_of}
+use Rattle.tap_engine.proofs.Concluded.{no_memory}
+use Rattle.tap_engine.proofs.InnerErrors.{told_of_texts}
 use Rattle.tap_engine.proofs.running.run_plain.Goals as goal
 
-pub returns-clause-headline : goal.returns-clause-headline
-returns-clause-headline g c =
-    worth_of _ _ _ (λ n. RoseBy n (g.S.Store.read_faults c.args.store.now) (g.S.Store.read_faults c.carry_out.new.store))
-    (λ n. RoseBy n (g.S.Store.save_faults c.args.store.now) (g.S.Store.save_faults c.carry_out.new.store))
-    (Rose (g.O.Sink.faults c.args.out.now) (g.O.Sink.faults c.carry_out.new.out)) c.carry_out.result _ _ c.carry_out.ensures.want c.carry_out.ensures.told
+pub returns-in-Ok-clause-gave_up : goal.returns-in-Ok-clause-gave_up
+returns-in-Ok-clause-gave_up g c = λ memory. absurd
+    (no_memory _ _ _ _ _ _ c.in-Ok.ensures.told.concludes memory)
 
-pub returns-clause-complete : goal.returns-clause-complete
-returns-clause-complete g c =
-    complete_of c.damage_stays.ensures.damage c.damage_is_the_end.ensures.end _ _ _ (g.S.Store.read_faults c.args.store.now) (g.S.Store.read_faults c.carry_out.new.store)
-    (λ n. RoseBy n (g.S.Store.save_faults c.args.store.now) (g.S.Store.save_faults c.carry_out.new.store))
-    (Rose (g.O.Sink.faults c.args.out.now) (g.O.Sink.faults c.carry_out.new.out)) c.carry_out.result _ _ c.carry_out.ensures.told
+pub returns-in-Ok-clause-no_memory : goal.returns-in-Ok-clause-no_memory
+returns-in-Ok-clause-no_memory g c = told_of_texts _ _ _ _ _ _ c.in-Ok.ensures.told
+
+pub returns-in-Ok-clause-complete : goal.returns-in-Ok-clause-complete
+returns-in-Ok-clause-complete g c = complete_of _ _ _ _ _ _ c.in-Ok.ensures.told

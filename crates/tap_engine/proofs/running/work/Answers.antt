@@ -1,28 +1,64 @@
-use Rattle.setup_text.specs.declared.commands.Command.TheVariants.{Make, Replay, Send}
-use Rattle.tap_engine.specs.declared.jobs.Loaded.TheVariants as loaded
-use Rattle.tap_engine.proofs.Carried.{checks, loaded_is, make_asked, others_of}
+use Rattle.std.proofs.Common.{refl}
+use Rattle.std.proofs.lemmas.Result.{err_from_is_err_and}
+use Rattle.tap_engine.specs.Commands.{Named, named_by}
+use Rattle.tap_engine.proofs.Meant.{names_meant}
+use Rattle.tap_engine.proofs.Worked.{first_meant, run_meant, schedule_meant, ticks_are, ticks_meant}
 use Rattle.tap_engine.proofs.running.work.Goals as goal
 
-pub returns-in-Checked-clause-made : goal.returns-in-Checked-clause-made
-returns-in-Checked-clause-made g c = λ named is.
-    checks (g.S.Store.held c.args.store.now) named c.say.result _ _ _ _ _ (loaded_is (g.S.Store.held c.args.store.now) named c.args.loaded loaded.Checked c.in-Checked.is is)
-    c.say.ensures.concludes c.say.ensures.unprinted
+pub check_ticks-requires-after_bounds : goal.check_ticks-requires-after_bounds
+check_ticks-requires-after_bounds g c κs within =
+    let store = g.S.Store.seen c.args.store.now in
+    let named : Named = named_by c.args.asked.command c.args.asked.setup.now
+    c.args.asked.schedule.now in
+    let setup = c.args.job.setup in
+    ticks_meant store.to_read named setup c.in-Check.is
+    (names_meant store.held store.to_read named setup (g.met.S.Store.untold_reads c.args.store.now)
+    c.requires.reads c.requires.job.setup)
 
-pub returns-in-Replay-clause-others : goal.returns-in-Replay-clause-others
-returns-in-Replay-clause-others g c = λ named is.
-    let replay = loaded_is (g.S.Store.held c.args.store.now) named c.args.loaded (loaded.Replay c.in-Replay.job c.in-Replay.schedule) c.in-Replay.is is in
-    others_of (g.S.Store.held c.args.store.now) _ named c.in-Replay.job.setup Replay replay.command replay.run.job_is.setup c.run_captures.ensures.others
+pub returns-in_err-check_ticks-in-Check-clause-stop :
+    goal.returns-in_err-check_ticks-in-Check-clause-stop
+returns-in_err-check_ticks-in-Check-clause-stop g c =
+    let named : Named = named_by c.args.asked.command c.args.asked.setup.now
+    c.args.asked.schedule.now in
+    let p = err_from_is_err_and c.from_residual.result
+    c.from_residual.ensures.1 in
+    rw (p.1, p.2) (c.in_err-check_ticks-in-Check.ensures.stop named c.args.job c.requires.job
+    (ticks_are named c.args.job.setup c.in-Check.is))
 
-pub returns-in-Make-clause-others : goal.returns-in-Make-clause-others
-returns-in-Make-clause-others g c = λ named is.
-    let make = loaded_is (g.S.Store.held c.args.store.now) named c.args.loaded (loaded.Make c.in-Make.job) c.in-Make.is is in
-    others_of (g.S.Store.held c.args.store.now) _ named c.in-Make.job.setup Make make.command make.job_is.setup c.run_made.ensures.others
+pub replay_scheduled-requires-clause-schedule : goal.replay_scheduled-requires-clause-schedule
+replay_scheduled-requires-clause-schedule g c κs within =
+    let store = g.S.Store.seen c.args.store.now in
+    let named : Named = named_by c.args.asked.command c.args.asked.setup.now
+    c.args.asked.schedule.now in
+    let setup = c.args.job.setup in
+    schedule_meant store.to_read named setup c.in-Replay.is
+    (names_meant store.held store.to_read named setup (g.met.S.Store.untold_reads c.args.store.now)
+    c.requires.reads c.requires.job.setup)
 
-pub returns-in-Make-clause-asked : goal.returns-in-Make-clause-asked
-returns-in-Make-clause-asked g c = λ named is.
-    make_asked (g.S.Store.held c.args.store.now) _ named c.in-Make.job (loaded_is (g.S.Store.held c.args.store.now) named c.args.loaded (loaded.Make c.in-Make.job) c.in-Make.is is)
+pub replay_scheduled-requires-clause-captures : goal.replay_scheduled-requires-clause-captures
+replay_scheduled-requires-clause-captures g c κs within =
+    let store = g.S.Store.seen c.args.store.now in
+    let named : Named = named_by c.args.asked.command c.args.asked.setup.now
+    c.args.asked.schedule.now in
+    let setup = c.args.job.setup in
+    run_meant store.to_read named setup c.in-Replay.is
+    (names_meant store.held store.to_read named setup (g.met.S.Store.untold_reads c.args.store.now)
+    c.requires.reads c.requires.job.setup)
 
-pub returns-in-Send-clause-others : goal.returns-in-Send-clause-others
-returns-in-Send-clause-others g c = λ named is.
-    let send = loaded_is (g.S.Store.held c.args.store.now) named c.args.loaded (loaded.Send c.in-Send.job) c.in-Send.is is in
-    others_of (g.S.Store.held c.args.store.now) _ named c.in-Send.job.setup Send send.command send.job_is.setup c.run_sending.ensures.others
+pub returns-in_err-report-in-Replay-clause-stop : goal.returns-in_err-report-in-Replay-clause-stop
+returns-in_err-report-in-Replay-clause-stop g c =
+    let named : Named = named_by c.args.asked.command c.args.asked.setup.now
+    c.args.asked.schedule.now in
+    let p = err_from_is_err_and c.from_residual-in_err-report-in-Replay.result
+    c.from_residual-in_err-report-in-Replay.ensures.1 in
+    rw (p.1, p.2) (c.in_err-report-in-Replay.ensures.stop named c.in-Replay.is refl c.requires.job)
+
+pub send_capture-requires-clause-meant : goal.send_capture-requires-clause-meant
+send_capture-requires-clause-meant g c κs within =
+    let store = g.S.Store.seen c.args.store.now in
+    let named : Named = named_by c.args.asked.command c.args.asked.setup.now
+    c.args.asked.schedule.now in
+    let setup = c.args.job.setup in
+    first_meant store.to_read named setup c.in-Send.is
+    (names_meant store.held store.to_read named setup (g.met.S.Store.untold_reads c.args.store.now)
+    c.requires.reads c.requires.job.setup)

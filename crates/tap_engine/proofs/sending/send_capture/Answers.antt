@@ -11,4 +11,5 @@ returns-clause-short g c =
     let read = c.in_ok-frames.ensures.read in
     subst (λ (told : Transmitted). All IsShort told.packets) (sym c.in_ok-sent.ensures)
     (sent_short _ c.args.setup.now.skip_bad c.in_ok-frames.field-0.frames
-    (subst (λ (frames : List Frame). All IsCaptured frames) (sym read.frames) (c.frames_are_captured.ensures 0 read.bytes)))
+    (subst (λ (frames : List Frame). All IsCaptured frames) (sym read.frames)
+    (c.frames_are_captured.ensures 0 read.bytes)))

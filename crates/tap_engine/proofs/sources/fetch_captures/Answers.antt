@@ -1,12 +1,18 @@
 use Rattle.std.proofs.Common.{◌<◌, length, subst, get_or, ap, ◌∙◌}
 use Rattle.std.specs.Prelude.{option_map}
-use Rattle.tap_engine.proofs.Fetched.{goes_on, read_then}
+use Rattle.tap_engine.proofs.Fetched.{goes_on, held_same, reads_then}
 use Rattle.tap_engine.proofs.sources.fetch_captures.Goals as goal
 
 pub loop-cpu-preserved : goal.loop-cpu-preserved
 loop-cpu-preserved g c =
     let inv = c.loop-cpu.invariant in
-    let next = goes_on (option_map (λ source. record { left = g.S.Input.Source.left source; faults = g.S.Input.Source.faults source }))
-    _ _ c.args.cpus.now c.loop-cpu.cpu-index c.cpu-item.result c.loop-cpu.sources.items c.push.new.self.items c.in_ok-source.source _ _ _
-    inv.0.held (c.cpu-item.is ∙ ap (λ cpus. get_or cpus c.loop-cpu.cpu-index c.cpu-item.result) c.as_slice-cpu-items.ensures) (subst (λ cpus. c.loop-cpu.cpu-index < length cpus) c.as_slice-cpu-items.ensures c.loop-cpu-test.true) c.in_ok-push.ensures.items inv.1 c.in_ok-source.ensures.fetched inv.2 c.in_ok-source.ensures.faults in
-    (read_then _ _ _ inv.0 c.fetch_capture.ensures.store, next.0, next.1)
+    let next = goes_on (option_map g.S.Input.Source.seen) _ _ c.args.cpus.now c.loop-cpu.cpu-index
+    c.cpu-item.result
+    c.loop-cpu.sources.items c.push.new.self.items c.in_ok-source.source _ _ _
+    (held_same _ _ inv.0) (c.cpu-item.is ∙ ap (λ cpus. get_or cpus c.loop-cpu.cpu-index
+    c.cpu-item.result) c.as_slice-cpu-items.ensures)
+    (subst (λ cpus. c.loop-cpu.cpu-index < length cpus) c.as_slice-cpu-items.ensures
+    c.loop-cpu-test.true)
+    c.in_ok-push.ensures.items inv.1 c.in_ok-source.ensures.fetched inv.2
+    c.in_ok-source.ensures.faults in
+    (reads_then _ _ _ inv.0 c.fetch_capture.ensures.store, next.0, next.1)

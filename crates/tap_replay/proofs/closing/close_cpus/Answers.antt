@@ -1,8 +1,8 @@
 use Rattle.std.proofs.Common.{◌≡◌, [], length, rules, subst, List}
 use Rattle.std.specs.Prelude.{IsSome, option_map}
 use Rattle.std.specs.List.{AllByRecursion}
-use Rattle.tap_replay.specs.Feeding.{Feeding}
-use Rattle.capture_reading.specs.Sources.{Seen}
+use Rattle.cpu_feed.specs.Feeding.{Feeding}
+use Rattle.tap_outside.specs.Seen.{SourceSeen}
 use Rattle.tap_replay.proofs.Concluding.{close_all, close_more, close_none, ended_rest, no_cpus}
 use Rattle.tap_replay.proofs.closing.close_cpus.Goals as goal
 
@@ -14,7 +14,7 @@ loop-cpu-init g c =
       closed = (
         [],
         same,
-        close_none (option_map {T = g.row.S.Denot} {U = Seen} (λ source. record { left = g.S.Source.left source; faults = g.S.Source.faults source })) _ _
+        close_none (option_map {T = g.row.S.Denot} {U = SourceSeen} g.S.Source.seen) _ _
             c.in_ok-sources.ensures.items c.new-logs.ensures,
       );
     }
@@ -25,7 +25,7 @@ loop-cpu-preserved g c =
     let closed = c.loop-cpu.invariant.closed in
     record {
       ended = ended_rest _ _ c.in-Some.cpu next c.loop-cpu.invariant.ended;
-      closed = close_more (option_map {T = g.row.S.Denot} {U = Seen} (λ source. record { left = g.S.Source.left source; faults = g.S.Source.faults source }))
+      closed = close_more (option_map {T = g.row.S.Denot} {U = SourceSeen} g.S.Source.seen)
           c.args.cpus.items closed.0 _ _ c.in-Some.cpu c.loop-cpu.sources.items _ c.in_ok-source.source c.loop-cpu.logs _ c.in_ok-source.log next closed.1 closed.2
           c.in_ok-source.ensures c.in_ok-push.ensures.items c.in_ok-push-2.ensures.ok;
     }
@@ -36,5 +36,5 @@ returns g c =
     let empty = c.in-None.ensures.steps.0 in
     let count : length c.loop-cpu.cpu-iterator.rest.items ≡ 0 = search rules in
     let none : c.loop-cpu.cpu-iterator.rest.items ≡ [] = no_cpus _ count in
-    close_all (option_map {T = g.row.S.Denot} {U = Seen} (λ source. record { left = g.S.Source.left source; faults = g.S.Source.faults source }))
+    close_all (option_map {T = g.row.S.Denot} {U = SourceSeen} g.S.Source.seen)
     c.args.cpus.items closed.0 _ c.loop-cpu.sources.items c.loop-cpu.logs none closed.1 closed.2

@@ -1,8 +1,8 @@
 use Rattle.std.proofs.Common.{◌≡◌, ◌++◌, List}
 use Rattle.std.specs.Prelude.{map, option_map, IsSome}
 use Rattle.std.specs.List.{AllByRecursion}
-use Rattle.tap_replay.specs.Feeding.{Feeding}
-use Rattle.capture_reading.specs.Sources.{Seen}
+use Rattle.cpu_feed.specs.Feeding.{Feeding}
+use Rattle.tap_outside.specs.Seen.{SourceSeen}
 use Rattle.tap_replay.specs.Turning.{AllClose}
 use Rattle.tap_replay.proofs.closing.close_cpus.Given as goal
 
@@ -10,5 +10,5 @@ abbrev pub invariant-loop-cpu : goal.invariant-loop-cpu
 invariant-loop-cpu g l = record {
   ended : AllByRecursion (λ cpu. IsSome cpu.ended) l.cpu-iterator.rest.items;
   closed : (done : List Feeding) × (l.fn.cpus.items ≡ done ++ l.cpu-iterator.rest.items)
-      × AllClose done (map (option_map {T = g.row.S.Denot} {U = Seen} (λ source. record { left = g.S.Source.left source; faults = g.S.Source.faults source })) l.sources.items) l.logs;
+      × AllClose done (map (option_map {T = g.row.S.Denot} {U = SourceSeen} g.S.Source.seen) l.sources.items) l.logs;
 }

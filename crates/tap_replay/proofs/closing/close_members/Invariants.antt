@@ -1,6 +1,6 @@
 use Rattle.std.proofs.Common.{◌≡◌, ◌++◌}
 use Rattle.std.specs.Prelude.{map}
-use Rattle.replay_model.specs.Reported.{finished_ring}
+use Rattle.replay_model.specs.Replay.{finished_ring}
 use Rattle.tap_replay.specs.Reported.{member_of}
 use Rattle.tap_replay.proofs.closing.close_members.Given as goal
 

@@ -1,10 +1,10 @@
-use Rattle.tap_replay.proofs.GroupLaw.{are_short, is_group}
+use Rattle.tap_replay.proofs.GroupLaw.{is_group, logs_are}
 use Rattle.tap_replay.proofs.runs.a_job_reports_a_group.Goals as goal
 
-pub returns-clause-group : goal.returns-clause-group
-returns-clause-group c = λ job lines all ends setup schedule cpus many.
-    is_group c.frames_are_numbered.ensures c.a_replay_reports_a_group.ensures job lines all ends setup schedule many
-
-pub returns-clause-short : goal.returns-clause-short
-returns-clause-short c = λ job lines all ends setup schedule cpus many.
-    are_short c.frames_are_numbered.ensures c.a_replay_reports_a_group.ensures job lines all ends setup schedule many
+pub returns : goal.returns
+returns c = record {
+  run = λ job lines all ends setup schedule many.
+      c.a_group_s_report_is_that_of_a_run.ensures job all ends _ setup
+      (logs_are c.frames_are_numbered.ensures c.a_replay_reports_a_group.ensures job lines all ends setup schedule many)
+      (is_group c.frames_are_numbered.ensures c.a_replay_reports_a_group.ensures job lines all ends setup schedule many);
+}

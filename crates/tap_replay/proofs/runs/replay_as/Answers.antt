@@ -1,11 +1,11 @@
 use Rattle.std.proofs.Common.{◌<◌, ◌≤◌, get_or, length, map, rules, subst, sym, List}
 use Rattle.std.specs.Prelude.{option_map}
 use Rattle.replay_model.specs.Taking.{MayCome}
-use Rattle.replay_model.specs.declared.schedule.Line.{Line}
-use Rattle.replay_model.specs.declared.schedule.Line.TheVariants.{Feed}
-use Rattle.replay_model.proofs.Timed.{may-next}
+use Rattle.schedule_lines.specs.declared.lines.Line.{Line}
+use Rattle.schedule_lines.specs.declared.lines.Line.TheVariants.{Feed}
+use Rattle.tap_replay.proofs.Timed.{may-next}
 use Rattle.tp_layout.specs.Requests.{size_of}
-use Rattle.capture_reading.specs.Sources.{Seen}
+use Rattle.tap_outside.specs.Seen.{SourceSeen}
 use Rattle.tap_replay.specs.Turning.{LineDone}
 use Rattle.tap_replay.proofs.Concluding.{Did, did_first, did_more, told}
 use Rattle.tap_replay.proofs.runs.replay_as.Goals as goal
@@ -45,7 +45,9 @@ returns g c =
     record { run = i.run; timed = i.timed; does = i.does; firsts = i.firsts } in
     record {
       ran = told c.args.job.now lines _ c.in_ok-run.run' c.loop-line.run c.feed_rest.new.self c.loop-line.line-index c.in_ok-run.ensures before past
-          c.in_ok-feed_rest.ensures c.finish.result
-          (λ ran. map (option_map {T = g.row.S.Denot} {U = Seen} (λ source. record { left = g.S.Source.left source; faults = g.S.Source.faults source })) ran.sources.items)
+          c.in_ok-feed_rest.ensures
+          (λ all ends many. c.a_job_reports_a_group.ensures.run c.args.job.now lines all ends c.requires.setup c.requires.schedule many)
+          c.finish.result
+          (λ ran. map (option_map {T = g.row.S.Denot} {U = SourceSeen} g.S.Source.seen) ran.sources.items)
           (λ ran. ran.report) g.K.Setting.shape g.K.Setting.dumps c.requires.shape c.requires.dump c.finish.ensures;
     }

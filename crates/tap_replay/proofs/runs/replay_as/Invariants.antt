@@ -1,10 +1,10 @@
 use Rattle.std.proofs.Common.{◌≡◌, List, drop}
 use Rattle.frame_view.specs.declared.frames.Frame.{Frame}
 use Rattle.replay_model.specs.Replay.{done_lines}
-use Rattle.replay_model.proofs.Timed.{IsTimed}
+use Rattle.tap_replay.proofs.Timed.{IsTimed}
 use Rattle.tp_layout.specs.Requests.{room_of, size_of}
 use Rattle.tap_replay.specs.Running.{AreAllOf, IsRun, firsts_of, whole}
-use Rattle.tap_replay.specs.Runs.{rules_of}
+use Rattle.run_reports.specs.Jobs.{rules_of}
 use Rattle.tap_replay.proofs.runs.replay_as.Given as goal
 
 abbrev pub invariant-loop-line : goal.invariant-loop-line

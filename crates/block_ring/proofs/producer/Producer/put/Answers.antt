@@ -65,6 +65,7 @@ returns-clause-put g c =
       adds = adds;
       told = c.noted_put-note.ensures.put;
       looked = c.put-found.ensures.looked;
+      count = c.put-found.ensures.count;
       exact = c.put-found.ensures.exact;
     } in (
       found,

@@ -72,6 +72,7 @@ returns-clause-ticked g c =
     let ticks : Ticks g.E.FeederEnd.feed _ _ c.args.ms found = record {
       adds = adds;
       looked = c.tick-found.ensures.looked;
+      count = c.tick-found.ensures.count;
       exact = c.tick-found.ensures.exact;
     } in (
       found,

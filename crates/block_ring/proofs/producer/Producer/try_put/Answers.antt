@@ -65,6 +65,7 @@ returns-clause-tried g c =
       adds = adds;
       told = c.noted_try-note.ensures.tried;
       looked = c.try_put-found.ensures.looked;
+      count = c.try_put-found.ensures.count;
       exact = c.try_put-found.ensures.exact;
     } in (
       found,

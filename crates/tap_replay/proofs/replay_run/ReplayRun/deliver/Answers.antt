@@ -1,5 +1,5 @@
 use Rattle.std.proofs.Common.{◌≡◌, ◌∙◌, ◌<◌, ◌≤◌, ap, length, rules, sym, subst}
-use Rattle.tap_replay.specs.Feeding.{Feeding}
+use Rattle.cpu_feed.specs.Feeding.{Feeding}
 use Rattle.tap_replay.specs.Running.{RunValue, cpu_in, no_feeding}
 use Rattle.tap_replay.proofs.Stepping.{delivered_told, desk_takes, got_same}
 use Rattle.tap_replay.proofs.replay_run.ReplayRun.deliver.Goals as goal

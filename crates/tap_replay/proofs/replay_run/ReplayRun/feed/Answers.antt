@@ -1,8 +1,8 @@
 use Rattle.std.proofs.Common.{◌≡◌, ◌∙◌, subst}
 use Rattle.std.specs.Prelude.{IfSome}
-use Rattle.tap_replay.specs.Fed.{arrival_of}
+use Rattle.cpu_feed.specs.Fed.{arrival_of}
 use Rattle.tap_replay.specs.Running.{cpu_in}
-use Rattle.tap_replay.specs.declared.fed.Fed.{Fed}
+use Rattle.cpu_feed.specs.declared.fed.Fed.{Fed}
 use Rattle.tap_replay.proofs.RunSteps.{feeds_arrival, feeds_end, feeds_none, next_run, number_at}
 use Rattle.tap_replay.proofs.replay_run.ReplayRun.feed.Goals as goal
 

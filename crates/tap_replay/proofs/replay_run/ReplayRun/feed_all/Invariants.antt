@@ -1,7 +1,7 @@
 use Rattle.std.proofs.Common.{◌≡◌, ◌-◌, List}
 use Rattle.std.specs.Prelude.{slice_set}
 use Rattle.frame_view.specs.declared.frames.Frame.{Frame}
-use Rattle.tap_replay.specs.Feeding.{Feeding}
+use Rattle.cpu_feed.specs.Feeding.{Feeding}
 use Rattle.tap_replay.specs.Running.{AreAllOf, IsRun, cpu_in, firsts_of, whole}
 use Rattle.tap_replay.specs.Turning.{fed_whole}
 use Rattle.tap_replay.proofs.replay_run.ReplayRun.feed_all.Given as goal

@@ -2,9 +2,9 @@ use Rattle.std.proofs.Common.{◌≡◌, ◌-◌, ◌<◌, ℕ, List, length}
 use Rattle.frame_view.specs.declared.frames.Frame.{Frame}
 use Rattle.replay_model.specs.Replay.{feed_from}
 use Rattle.tp_layout.specs.Requests.{room_of}
-use Rattle.tap_replay.specs.Fed.{IsAtItsEnd}
+use Rattle.cpu_feed.specs.Fed.{IsAtItsEnd}
 use Rattle.tap_replay.specs.Running.{AreAllOf, IsRun, cpu_in, firsts_of, whole}
-use Rattle.tap_replay.specs.Runs.{rules_of}
+use Rattle.run_reports.specs.Jobs.{rules_of}
 use Rattle.tap_replay.proofs.replay_run.ReplayRun.feed_rest.Given as goal
 
 abbrev pub invariant-loop-cpu : goal.invariant-loop-cpu

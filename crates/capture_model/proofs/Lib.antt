@@ -1,0 +1,4 @@
+pub mod OwnNotes
+pub mod Attempts
+pub mod TicketCounts
+pub mod Joint

@@ -1,0 +1,4 @@
+pub mod Seats
+pub mod Ticks
+pub mod Tried
+pub mod Threads

@@ -1,0 +1,113 @@
+//! Captures with one field overwritten or cut: the damage, its place, and the frames before it.
+use crate::feeding::{Answer, decode};
+use crate::spellings::LITTLE_NANO;
+use capture_file::CaptureError;
+use frame_view::{Frames, Memory};
+use std::alloc::Global;
+use std::test::Fail;
+
+/// A name, a place, the bytes that stand there, the number of frames, and the answer.
+type Row = (&'static str, usize, [u8; 4], usize, Answer);
+
+static ROWS: [Row; 11] = [
+    (
+        "another magic",
+        0,
+        [0x4d, 0x3c, 0xb2, 0xa0],
+        0,
+        Err(CaptureError::BadMagic),
+    ),
+    (
+        "pcapng",
+        0,
+        [0x0a, 0x0d, 0x0d, 0x0a],
+        0,
+        Err(CaptureError::BadMagic),
+    ),
+    (
+        "version 2.3",
+        4,
+        [2, 0, 3, 0],
+        0,
+        Err(CaptureError::BadVersion),
+    ),
+    (
+        "version in the other order",
+        4,
+        [0, 2, 0, 4],
+        0,
+        Err(CaptureError::BadVersion),
+    ),
+    (
+        "link type 101",
+        20,
+        [0x65, 0, 1, 0],
+        0,
+        Err(CaptureError::BadLink(0x0001_0065)),
+    ),
+    (
+        "a first record of 262,145 bytes",
+        32,
+        [1, 0, 4, 0],
+        0,
+        Err(CaptureError::BadLength(24)),
+    ),
+    (
+        "a second record too long",
+        62,
+        [0xff; 4],
+        1,
+        Err(CaptureError::BadLength(54)),
+    ),
+    (
+        "a third record too long",
+        81,
+        [0xff; 4],
+        2,
+        Err(CaptureError::BadLength(73)),
+    ),
+    ("a time zone", 8, [1, 2, 3, 4], 3, Ok(())),
+    ("a snap length", 16, [1, 0, 0, 0], 3, Ok(())),
+    ("flags in the link field", 20, [1, 0, 0, 0xf0], 3, Ok(())),
+];
+
+/// The capture with a field overwritten.
+fn overwritten(alloc: Global, place: usize, field: [u8; 4]) -> Result<Vec<u8>, Memory> {
+    let mut bytes = LITTLE_NANO.to_vec(alloc)?;
+    for (at, byte) in field.iter().enumerate() {
+        if let Some(to) = bytes.get_mut(place.saturating_add(at)) {
+            *to = *byte;
+        }
+    }
+    Ok(bytes)
+}
+
+#[test]
+fn names_damage(rt: HostRuntime) -> Result<(), Fail> {
+    for (name, place, field, count, answer) in &ROWS {
+        let bytes = overwritten(rt.alloc(), *place, *field)?;
+        let mut frames = Frames::new(rt.alloc());
+        let answers = decode(rt.alloc(), &bytes, 7, &mut frames);
+        assert_eq!(rt; answers, (*answer, *answer, 0), "{name}");
+        assert_eq!(rt; frames.len(), *count, "{name}");
+    }
+    Ok(())
+}
+
+#[test]
+fn names_a_cut(rt: HostRuntime) {
+    // a length, the end, and the bytes that are kept
+    for (length, end, rest) in [
+        (0, Err(CaptureError::Truncated(0)), 0),
+        (23, Err(CaptureError::Truncated(0)), 23),
+        (24, Ok(()), 0),
+        (53, Err(CaptureError::Truncated(24)), 29),
+        (54, Ok(()), 0),
+        (104, Err(CaptureError::Truncated(73)), 31),
+    ] {
+        let mut frames = Frames::new(rt.alloc());
+        let cut = LITTLE_NANO.get(..length).unwrap_or(&[]);
+        let answers = decode(rt.alloc(), cut, 65_536, &mut frames);
+        assert_eq!(rt; answers, (Ok(()), end, rest), "{length} bytes");
+    }
+}

@@ -1,0 +1,50 @@
+//! One capture in four spellings, and one frame, as another program writes what is in them.
+use crate::feeding::{decode, text_of};
+use crate::spellings::{BIG_MICRO, BIG_NANO, LITTLE_MICRO, LITTLE_NANO, ONE_FRAME, THREE_FRAMES};
+use frame_view::Frames;
+use std::test::Fail;
+
+#[test]
+fn reads_one_capture_in_four_spellings(rt: HostRuntime) -> Result<(), Fail> {
+    let alloc = rt.alloc();
+    let rows: [(&str, &[u8], usize); 4] = [
+        ("little, microseconds", &LITTLE_MICRO, 1),
+        ("big, microseconds", &BIG_MICRO, 7),
+        ("little, nanoseconds", &LITTLE_NANO, 65_536),
+        ("big, nanoseconds", &BIG_NANO, 7),
+    ];
+    for (name, bytes, size) in rows {
+        let mut frames = Frames::new(alloc);
+        let answers = decode(alloc, bytes, size, &mut frames);
+        assert_eq!(rt; answers, (Ok(()), Ok(()), 0), "{name}");
+        let text = text_of(alloc, &frames)?;
+        assert_eq!(rt; text.as_slice(), THREE_FRAMES.as_slice(), "{name}");
+    }
+    Ok(())
+}
+
+#[test]
+fn counts_frames_of_a_cpu(rt: HostRuntime) -> Result<(), Fail> {
+    let mut frames = Frames::new(rt.alloc());
+    let _answers = decode(rt.alloc(), &LITTLE_NANO, 50, &mut frames);
+    let last = frames.get(2).ok_or("there are three frames")?;
+    assert_eq!(rt; (last.cpu, last.index, last.tag), (3, 2, None));
+    Ok(())
+}
+
+#[test]
+fn writes_one_frame_as_it_was_read(rt: HostRuntime) -> Result<(), Fail> {
+    let mut frames = Frames::new(rt.alloc());
+    let answers = decode(rt.alloc(), &ONE_FRAME, 5, &mut frames);
+    assert_eq!(rt; answers, (Ok(()), Ok(()), 0));
+    let text = text_of(rt.alloc(), &frames)?;
+    assert_eq!(rt; text.as_slice(), ONE_FRAME.as_slice());
+    Ok(())
+}
+
+#[test]
+fn writes_a_header_where_there_is_no_packet(rt: HostRuntime) -> Result<(), Fail> {
+    let text = text_of(rt.alloc(), &Frames::new(rt.alloc()))?;
+    assert_eq!(rt; text.as_slice(), &ONE_FRAME[..24]);
+    Ok(())
+}

@@ -1,0 +1,3 @@
+mod Piecewise
+mod Totals
+mod Lawfulness

@@ -1,0 +1,35 @@
+//! What the arrivals of a CPU are looked at with.
+ghost use Rattle.std.specs.Prelude.{◌≡◌, ◌%◌, ◌<◌};
+ghost use Rattle.fanout_group.specs.Judging.{AgreesAt};
+ghost use Rattle.fanout_group.specs.Lenses.{lens_of};
+ghost use Rattle.setup_text.specs.Sound.{IsSetup};
+ghost use Rattle.run_reports.specs.Jobs.{lens_of as lens_of_job};
+ghost use Rattle.tp_layout.specs.Requests.{room_of};
+
+use fanout_group::ArrivalRules;
+use setup_text::Job;
+
+/// What the arrivals of a CPU are looked at with: the job's key, filter and address, the CPU's
+/// receive queue, and the room of a block.
+pub fn rules_at(job: &Job, cpu: usize) -> ArrivalRules
+    requires setup { IsSetup job.now.setup }
+    ensures agrees { AgreesAt cpu (lens_of_job job.now) (lens_of result) }
+    ensures queue { result.queue ≡ (lens_of_job job.now).queue cpu }
+    ensures room { result.room ≡ room_of job.now.setup.shape }
+    ensures some { 82 < result.room }
+    ensures even { result.room % 8 ≡ 0 }
+{
+    let queue = match job.setup.cpus.get(cpu) {
+        Some(cpu) => cpu.queue,
+        None => 0,
+    };
+    let _first = job.setup.shape.first();
+    let _size = job.setup.shape.block_size();
+    ArrivalRules {
+        key: job.setup.key.as_ref(),
+        filter: job.program.as_ref(),
+        own: job.setup.mac,
+        queue,
+        room: job.setup.shape.room(),
+    }
+}

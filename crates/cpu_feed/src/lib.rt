@@ -1,0 +1,12 @@
+//! A CPU of a run: its source, read a piece at a time, the frames of the last piece that wait, and
+//! its receive path.
+#![tactic(auto)]
+
+mod arrival_rules;
+mod fed;
+mod feed;
+mod trace;
+
+pub use arrival_rules::rules_at;
+pub use fed::Fed;
+pub use feed::CpuFeed;

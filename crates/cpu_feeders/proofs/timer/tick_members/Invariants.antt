@@ -1,0 +1,12 @@
+use Rattle.std.proofs.Common.{◌≡◌, ◌<◌, ◌≤◌, ℕ, length, get_or}
+use Rattle.member_turns.specs.Seats.{Lock, Seat}
+use Rattle.member_turns.specs.Turning.{IsTickTurn}
+use Rattle.cpu_feeders.proofs.timer.tick_members.Given as goal
+
+abbrev pub invariant-loop-at : goal.invariant-loop-at
+invariant-loop-at g l = record {
+  count : length l.stands.items ≡ length l.fn.stands.items;
+  told : (member : ℕ) (lock : Lock) (seat : Seat) → member < l.at →
+      IsTickTurn (get_or l.members member lock) (get_or l.fn.stands.items member seat) (get_or l.stands.items member seat) l.ms;
+  rest : (member : ℕ) (seat : Seat) → l.at ≤ member → get_or l.stands.items member seat ≡ get_or l.fn.stands.items member seat;
+}

@@ -1,0 +1,26 @@
+-- What the reader of a member does.
+use Rattle.std.specs.Prelude.{◌≡◌, ℕ, false, List, length, map}
+use Rattle.cpu_feeders.specs.declared.walker.Walker.{Walker}
+use Rattle.reader_walk.specs.Takers.{Base, Taken, taken_in}
+use Rattle.ring_words.specs.Rings.{Entry}
+use Rattle.tp_layout.specs.Requests.{numbers_of}
+
+-- what is read of blocks
+abbrev pub taken_of : Base → List Entry → List Taken
+taken_of base entries = map (λ (entry : Entry). taken_in base.shape entry.0) entries
+
+module _ {T : Type 0} (base_of : T → Base) (taken_by : T → List Taken) where
+  -- a reader with no block in hand: unless a request for memory was refused its taker has read all
+  -- blocks that it took
+  pub record Walks (base : Base) (walker : Walker T) : Type 0 where
+    pub base_is : base_of walker.taker ≡ base
+    pub kind : walker.end.kind ≡ numbers_of base.shape
+    pub hand : walker.end.in_hand ≡ false
+    pub released : walker.released ≡ length walker.end.taken
+    pub read : walker.full ≡ false → taken_by walker.taker ≡ taken_of base walker.end.taken
+
+  -- the same reader after some blocks
+  pub record HasWalked (base : Base) (before after : Walker T) : Type 0 where
+    pub walks : Walks base after
+    pub member : after.member ≡ before.member
+    pub ring : after.end.id ≡ before.end.id

@@ -1,0 +1,79 @@
+//! The timer of a run: it tells each moment to each member.
+ghost use Rattle.std.specs.Prelude.{◌≡◌, ◌^◌, ◌<◌, ◌≤◌, ℕ, [], length, slice_index_or, OnOk};
+ghost use Rattle.cpu_feeders.specs.Timing.{AreTimed, AreTimers, HaveTicked, TimesOut};
+ghost use Rattle.member_turns.specs.Seats.{Lock, Seat, moment_of, own_of};
+ghost use Rattle.setup_text.specs.Sound.{AreMoments};
+
+use crate::{Gate, Point};
+use frame_view::Memory;
+use member_turns::{Member, Stand, tick_turn};
+use std::sync::Wait;
+
+/// The timer's thread.
+#[derive(Drop)]
+pub struct Timer {
+    /// Its stand at each member, from 0 up.
+    pub stands: Vec<Stand>,
+    /// Whether a request for memory was refused.
+    pub full: bool,
+}
+
+/// Tells a moment to each member, from member 0 up.
+fn tick_members<R: Wait>(
+    rt: &R,
+    members: &[Member],
+    stands: &mut Vec<Stand>,
+    ms: u64,
+) -> Result<(), Memory>
+    requires timers { AreTimers members.now stands.old.items }
+    requires few { (member : ℕ) (seat : Seat) → member < length stands.old.items →
+        (slice_index_or stands.old.items member seat).entered < 2 ^ 32 }
+    requires later { (member : ℕ) (lock : Lock) (seat : Seat) → member < length stands.old.items →
+        moment_of (own_of (slice_index_or members.now member lock)
+        (slice_index_or stands.old.items member seat)) ≤ ms }
+    requires small { ms ≤ 2 ^ 63 }
+    ensures { OnOk result (HaveTicked ms members.now stands.old.items stands.new.items) }
+{
+    for at in 0..members.len() {
+        tick_turn(rt, &members[at], &mut stands[at], ms)?;
+    }
+    Ok(())
+}
+
+/// Tells each of the moments to each member.
+fn tick_all<R: Wait, G: Gate>(
+    rt: &R,
+    members: &[Member],
+    moments: &[u64],
+    gate: &G,
+    stands: &mut Vec<Stand>,
+) -> Result<(), Memory>
+    requires moments { AreMoments moments.now }
+    requires fresh { AreTimed [] members.now stands.old.items }
+    ensures { OnOk result (AreTimed moments.now members.now stands.new.items) }
+{
+    for ms in moments {
+        gate.at(Point::Ticking { ms: *ms });
+        tick_members(rt, members, stands, *ms)?;
+    }
+    Ok(())
+}
+
+/// Tells each of the moments to each member, from member 0 up, or stops where a request for memory
+/// is refused.
+pub fn run_timer<R: Wait, G: Gate>(
+    rt: &R,
+    members: &[Member],
+    moments: &[u64],
+    gate: &G,
+    timer: &mut Timer,
+)
+    requires moments { AreMoments moments.now }
+    requires fresh { AreTimed [] members.now timer.old.stands.items }
+    ensures { TimesOut moments.now members.now timer.new }
+{
+    match tick_all(rt, members, moments, gate, &mut timer.stands) {
+        Ok(()) => {}
+        Err(Memory) => timer.full = true,
+    }
+}

@@ -1,0 +1,100 @@
+//! The reader of a member: it takes retired blocks, hands them to its taker and releases them.
+ghost use Rattle.std.specs.Prelude.{◌≡◌, ◌^◌, ◌<◌, false, [], ◌∷◌, ◌++◌, length};
+ghost use Rattle.cpu_feeders.specs.Walks.{HasWalked, Walks};
+ghost use Rattle.reader_walk.specs.Takers.{IsReadable, taken_in};
+ghost use Rattle.ticket_dealer.specs.Seats.{IsFreshOf};
+
+use crate::{Gate, Point};
+use fanout_group::{Dealer, DealerSeat};
+use frame_view::Memory;
+use reader_walk::Taker;
+use ring_words::{TableWalker, WalkerEnd};
+use std::sync::Wait;
+use std::thread;
+use tp_layout::Block;
+
+/// The word of a block that is given back: it is the feeder's again (TP_STATUS_KERNEL of
+/// `linux/if_packet.h`).
+const FREE: u32 = 0;
+
+/// A reader's thread.
+#[derive(Drop)]
+pub struct Walker<T: Taker + Drop> {
+    /// The number of its member, from 0.
+    pub member: u32,
+    /// The reader's end of the member's ring.
+    pub end: TableWalker<Block>,
+    /// What reads each block.
+    pub taker: T,
+    /// Its seat at the dealer, by which it knows how many feeders go on.
+    pub seat: DealerSeat,
+    /// How many blocks it has released.
+    pub released: u64,
+    /// Whether a request for memory was refused: its taker reads no more, and it releases what it
+    /// takes.
+    pub full: bool,
+}
+
+/// Hands a block to a taker, unless a request for memory was refused before; gives whether one was
+/// refused by now.
+fn read_block<T: Taker>(taker: &mut T, block: &Block, full: bool) -> bool
+    requires readable { IsReadable (T.base taker.old).shape block.now }
+    requires few { full ≡ false → length (T.taken taker.old) < 2 ^ 40 }
+    ensures base { T.base taker.new ≡ T.base taker.old }
+    ensures full { result ≡ false → full ≡ false }
+    ensures read { result ≡ false → T.taken taker.new
+        ≡ T.taken taker.old ++ taken_in (T.base taker.old).shape block.now.bytes ∷ [] }
+{
+    if full {
+        return true;
+    }
+    match taker.block(block) {
+        Ok(()) => false,
+        Err(Memory) => true,
+    }
+}
+
+/// Takes the next retired block, if there is one, hands it to the taker and releases it. Where a
+/// request for memory was refused it is released all the same.
+fn take_next<T: Taker + Drop, G: Gate>(gate: &G, walker: &mut Walker<T>) -> bool
+    requires { Walks T.base T.taken (T.base walker.old.taker) walker.old }
+    ensures walked { HasWalked T.base T.taken (T.base walker.old.taker) walker.old walker.new }
+    ensures seat { walker.new.seat ≡ walker.old.seat }
+{
+    let Some(block) = walker.end.take() else {
+        return false;
+    };
+    walker.full = read_block(&mut walker.taker, &block, walker.full);
+    walker.end.release(block, FREE);
+    walker.released += 1;
+    gate.at(Point::Released {
+        member: walker.member,
+        blocks: walker.released,
+    });
+    true
+}
+
+/// Reads blocks until no feeder goes on and none waits. Feeders are counted before each look, so
+/// that what they retired is seen.
+pub fn run_walker<T: Taker + Drop, R: Wait, G: Gate>(
+    rt: &R,
+    dealer: &Dealer,
+    gate: &G,
+    walker: &mut Walker<T>,
+)
+    requires walks { Walks T.base T.taken (T.base walker.old.taker) walker.old }
+    requires seat { IsFreshOf dealer.now walker.old.seat }
+    ensures walked { HasWalked T.base T.taken (T.base walker.old.taker) walker.old walker.new }
+    ensures seat { IsFreshOf dealer.now walker.new.seat }
+{
+    for _ in rt.forever() {
+        let live = dealer.live(&mut walker.seat);
+        if !take_next(gate, walker) {
+            if live == 0 {
+                return;
+            }
+            thread::yield_now();
+        }
+    }
+    unreachable!()
+}

@@ -1,0 +1,62 @@
+//! A ring of two blocks between two threads, step by step in one thread, and how it is finished.
+ghost use Rattle.std.specs.Prelude.{◌≡◌, ◌<◌, ◌≤◌, ◌+◌, false, length, IfSome};
+
+use crate::letters::Letter;
+use ring_words::{FeederEnd, Next, TableFeeder, TableWalker, WalkerEnd, finish, table_ring};
+use std::test::Fail;
+
+/// Fills the next block with a letter and retires it; or the number of the block that is still there.
+pub(crate) fn fill(feeder: &mut TableFeeder<Letter>, letter: u8) -> Option<u64>
+    requires hand { feeder.old.given ≡ length feeder.old.retired }
+    requires few { feeder.old.given < 1000000 }
+    ensures ring { feeder.new.id ≡ feeder.old.id }
+    ensures hand { feeder.new.given ≡ length feeder.new.retired }
+    ensures more { feeder.new.given ≤ feeder.old.given + 1 }
+    ensures held { IfSome result (λ number. feeder.new.given ≡ feeder.old.given) }
+{
+    match feeder.next() {
+        Next::Free { .. } => {
+            feeder.retire(Letter(letter), 1);
+            None
+        }
+        Next::Held(number) => Some(number),
+    }
+}
+
+/// Takes the next block and releases it, and gives its letter.
+pub(crate) fn read(walker: &mut TableWalker<Letter>) -> Option<u8>
+    requires hand { walker.old.in_hand ≡ false }
+    ensures hand { walker.new.in_hand ≡ false }
+    ensures ring { walker.new.id ≡ walker.old.id }
+{
+    let letter = walker.take()?;
+    let read = letter.0;
+    walker.release(letter, 0);
+    Some(read)
+}
+
+#[test]
+fn a_place_is_held_until_its_block_was_released(rt: HostRuntime) -> Result<(), Fail> {
+    let alloc = rt.alloc();
+    let blocks = Vec::from_array(alloc, [Letter(0), Letter(0)])?;
+    let (mut feeder, mut walker) = table_ring(alloc, blocks)?;
+    assert_eq!(rt; read(&mut walker), None);
+    assert_eq!(rt; fill(&mut feeder, b'a'), None);
+    assert_eq!(rt; fill(&mut feeder, b'b'), None);
+    assert_eq!(rt; fill(&mut feeder, b'c'), Some(1));
+    assert_eq!(rt; read(&mut walker), Some(b'a'));
+    let free = matches!(feeder.next(), Next::Free { .. });
+    assert!(rt; free);
+    let pending = finish(alloc, feeder, walker)?;
+    assert_eq!(rt; pending.len(), 1);
+    assert_eq!(rt;
+        format!(in alloc; "{pending:?}")?.as_str(),
+        "Pending { blocks: 1, .. }"
+    );
+    let Some((letter, status)) = pending.get(0) else {
+        panic!(rt; "no block is pending")
+    };
+    assert_eq!(rt; (letter.0, status), (b'b', 1));
+    assert!(rt; pending.get(1).is_none());
+    Ok(())
+}

@@ -1,0 +1,109 @@
+//! Two threads that draw tickets, and the count of live feeders.
+ghost use Rattle.std.specs.Prelude.{◌≡◌, ◌^◌, ◌<◌, length, replicate, IfOk};
+ghost use Rattle.ticket_dealer.specs.Seats.{IsFreshOf, IsSeatOf, fresh_seat};
+
+use frame_view::Memory;
+use std::alloc::Global;
+use std::test::Fail;
+use std::thread;
+use std::thread::Threads;
+use ticket_dealer::{Dealer, DealerSeat};
+
+/// A seat draws a ticket for each place.
+fn draw_all(dealer: &Dealer, mut seat: DealerSeat, mut into: Vec<u64>) -> (DealerSeat, Vec<u64>)
+    requires own { IsFreshOf dealer.now seat }
+    requires few { length into.items < 2 ^ 32 }
+    ensures own { IsSeatOf dealer.now result.0 }
+    ensures drawn { result.0.drawn ≡ result.1.items }
+{
+    draw_into(dealer, &mut seat, into.as_mut_slice());
+    (seat, into)
+}
+
+/// The same, into a slice.
+fn draw_into(dealer: &Dealer, seat: &mut DealerSeat, into: &mut [u64])
+    requires own { IsFreshOf dealer.now seat.old }
+    requires few { length into.old < 2 ^ 32 }
+    ensures own { IsSeatOf dealer.now seat.new }
+    ensures drawn { seat.new.drawn ≡ into.new }
+{
+    for k in 0..into.len() {
+        into[k] = dealer.draw(seat);
+    }
+}
+
+/// A dealer of two feeders, with their seats and the others.
+fn two_feeders(alloc: Global) -> Result<(Dealer, DealerSeat, DealerSeat, Vec<DealerSeat>), Memory>
+    ensures feeders { IfOk result (λ made. made.0.feeders ≡ 2) }
+    ensures first { IfOk result (λ made. made.1 ≡ fresh_seat made.0 1) }
+    ensures second { IfOk result (λ made. made.2 ≡ fresh_seat made.0 1) }
+    ensures others { IfOk result (λ made. made.3.items ≡ replicate 9 (fresh_seat made.0 0)) }
+{
+    let (dealer, mut seats) = Dealer::new(alloc, 2)?;
+    let first = seats.remove(0);
+    let second = seats.remove(0);
+    Ok((dealer, first, second, seats))
+}
+
+/// What two threads draw, each so many, and the number of all.
+fn drawn_by_two<R: Threads + Sync>(
+    rt: &R,
+    alloc: Global,
+    each: usize,
+) -> Result<(u64, Vec<u64>, Vec<u64>), Memory>
+    requires { each < 2 ^ 32 }
+{
+    let one = vec![in alloc; 0u64; each]?;
+    let two = vec![in alloc; 0u64; each]?;
+    let (dealer, first, second, mut seats) = two_feeders(alloc)?;
+    let held = &dealer;
+    let ((first, mine), (second, yours)) = thread::join(
+        rt,
+        move ||
+            requires { IsFreshOf held.now first × (length one.items < 2 ^ 32) }
+            ensures { IsSeatOf held.entry.now result.0 × (result.0.drawn ≡ result.1.items) }
+        { draw_all(held, first, one) },
+        move ||
+            requires { IsFreshOf held.now second × (length two.items < 2 ^ 32) }
+            ensures { IsSeatOf held.entry.now result.0 × (result.0.drawn ≡ result.1.items) }
+        { draw_all(held, second, two) },
+    );
+    seats.push(first)?;
+    seats.push(second)?;
+    Ok((dealer.close(seats), mine, yours))
+}
+
+#[test]
+fn each_ticket_is_drawn_once(rt: HostRuntime) -> Result<(), Fail> {
+    let (count, mine, yours) = drawn_by_two(&rt, rt.alloc(), 1000)?;
+    assert_eq!(rt; count, 2000);
+    let mut all = Vec::with_capacity(rt.alloc(), 2000)?;
+    for tickets in [&mine, &yours] {
+        for k in 1..tickets.len() {
+            assert!(rt; tickets[k - 1] < tickets[k], "in order at {k}");
+        }
+        for ticket in tickets {
+            all.push(*ticket)?;
+        }
+    }
+    all.sort()?;
+    for k in 0..all.len() {
+        assert_eq!(rt; all[k], k as u64);
+    }
+    Ok(())
+}
+
+#[test]
+fn feeders_end(rt: HostRuntime) -> Result<(), Fail> {
+    let (dealer, mut first, mut second, mut seats) = two_feeders(rt.alloc())?;
+    assert_eq!(rt; dealer.live(&mut first), 2);
+    dealer.done(&mut second);
+    assert_eq!(rt; dealer.live(&mut first), 1);
+    assert_eq!(rt; dealer.draw(&mut second), 0);
+    dealer.done(&mut first);
+    assert_eq!(rt; dealer.live(&mut second), 0);
+    seats.push(first)?;
+    seats.push(second)?;
+    assert_eq!(rt; dealer.close(seats), 1);
+    Ok(())
+}

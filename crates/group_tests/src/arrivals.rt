@@ -1,0 +1,59 @@
+//! What arrives of tagged fragments, on a path that puts them together.
+ghost use Rattle.std.specs.Prelude.{◌≡◌, ◌≤◌, None, length, IfOk};
+ghost use Rattle.capture_file.specs.Laws.{IsCaptured};
+
+use fanout_group::{Mode, Plan, ReceivePath};
+use frame_view::{ByteList, Frame, Memory, Tag};
+use std::alloc::Global;
+use std::test::Fail;
+
+/// The link header of an IPv4 frame after a customer tag, and an IPv4 header from 10.0.0.1 to
+/// 10.0.0.2 with protocol 17, up to its fields of length and fragment, which follow.
+const TAGGED: [u8; 18] = [
+    2, 0, 0, 0, 0, 2, 2, 0, 0, 0, 0, 1, 0x81, 0x00, 0x20, 0x07, 0x08, 0x00,
+];
+
+/// A tagged frame with a fragment: its flags and offset, and its data.
+fn fragment(alloc: Global, index: u32, place: u16, content: &[u8]) -> Result<Frame, Memory>
+    requires few { length content.now ≤ 100 }
+    ensures bare { IfOk result (λ frame. frame.tag ≡ None) }
+    ensures captured { IfOk result IsCaptured }
+{
+    let total = 20 + content.len() as u16;
+    let mut bytes = Vec::new(alloc);
+    bytes.extend_from_slice(&TAGGED)?;
+    bytes.extend_from_slice(&[0x45, 0])?;
+    bytes.extend_from_slice(&total.to_be_bytes())?;
+    bytes.extend_from_slice(&[0x12, 0x34])?;
+    bytes.extend_from_slice(&place.to_be_bytes())?;
+    bytes.extend_from_slice(&[64, 17, 0, 0, 10, 0, 0, 1, 10, 0, 0, 2])?;
+    bytes.extend_from_slice(content)?;
+    Ok(Frame {
+        cpu: 0,
+        index,
+        sec: 0,
+        nsec: 0,
+        wire: bytes.len() as u32,
+        bytes: ByteList::from_vec(bytes),
+        tag: None,
+    })
+}
+
+#[test]
+fn tagged_fragments_arrive_as_one_datagram(rt: HostRuntime) -> Result<(), Fail> {
+    let alloc = rt.alloc();
+    let mut path = ReceivePath::new(alloc, Plan::check(1, Mode::Cpu, 0x8000, false)?);
+    let last = path.arrive(fragment(alloc, 0, 2, &[20, 21, 22, 23])?)?;
+    let first = path.arrive(fragment(alloc, 1, 0x2000, &[1; 8])?)?;
+    assert!(rt; last.is_none() && first.is_none());
+    let whole = path.arrive(fragment(alloc, 2, 0x2001, &[2; 8])?)?;
+    let whole = whole.ok_or("the third fragment makes it whole")?;
+    let tag = Tag {
+        tpid: 0x8100,
+        tci: 0x2007,
+    };
+    assert_eq!(rt; (whole.index, whole.wire, whole.tag), (2, 54, Some(tag)));
+    let header = [0x45, 0, 0, 40, 0x12, 0x34, 0, 0, 64, 17, 0x54, 0x8f];
+    assert_eq!(rt; whole.bytes.as_slice().get(14..26), Some(&header[..]));
+    Ok(())
+}

@@ -1,0 +1,266 @@
+//! Whole deliveries: each arrival is judged, delivered and logged, and its tries are compared.
+ghost use Rattle.std.specs.Prelude.{◌≡◌, ◌<◌, ◌≤◌, None, length, IfOk, OnOk};
+ghost use Rattle.fanout_group.specs.Arrivals.{IsArrival};
+ghost use Rattle.fanout_group.specs.Rules.{HasTicket};
+
+use crate::list_desk::{ListDesk, shown};
+use bpf_filter::{Program, read_ddd};
+use fanout_group::{ArrivalList, ArrivalRules, Judged, Mode, Plan, ReceivePath};
+use flow_hash::Key;
+use frame_view::{ByteList, Frame, Memory};
+use std::alloc::Global;
+use std::test::Fail;
+
+/// The usual key of receive side scaling.
+const DIGITS: &[u8] =
+    b"6d5a56da255b0ec24167253d43a38fb0d0ca2bcbae7b30b477cb2da38030f20c6a42b73bbeac01fa";
+
+/// Neither a key nor a filter, and large blocks.
+const OPEN: ArrivalRules<'static> = ArrivalRules {
+    key: None,
+    filter: None,
+    own: None,
+    queue: 0,
+    room: 4048,
+};
+
+/// An arrival of CPU 0: these bytes, and zeros up to 60.
+fn arrival(alloc: Global, index: u32, bytes: &[u8]) -> Result<Frame, Memory>
+    ensures { IfOk result IsArrival }
+{
+    let mut all = vec![in alloc; 0; 60]?;
+    for (to, from) in all.iter_mut().zip(bytes) {
+        *to = *from;
+    }
+    Ok(Frame {
+        cpu: 0,
+        index,
+        sec: 0,
+        nsec: 0,
+        wire: 60,
+        bytes: ByteList::from_vec(all),
+        tag: None,
+    })
+}
+
+/// Judges an arrival, delivers what it offers, and logs it.
+fn take(
+    alloc: Global,
+    path: &mut ReceivePath,
+    rules: &ArrivalRules<'_>,
+    desk: &mut ListDesk,
+    arrival: Frame,
+    ticket: Option<u64>,
+) -> Result<(), Memory>
+    requires arrival { IsArrival arrival }
+    requires room { 82 < rules.now.room }
+    requires ticket { HasTicket path.old.shape.mode ticket }
+    requires members { path.old.shape.members ≡ length desk.old.rooms.items }
+    ensures shape { OnOk result (path.new.shape ≡ path.old.shape) }
+    ensures members { OnOk result (length desk.new.rooms.items ≡ length desk.old.rooms.items) }
+{
+    desk.tries = Vec::new(alloc);
+    let Judged { entry, offer } = rules.judge(alloc, arrival, ticket);
+    match offer {
+        None => path.pass_over(entry),
+        Some(offer) => path.deliver(alloc, desk, rules.queue, entry, offer),
+    }
+}
+
+/// The ticket of an arrival, where the mode draws one.
+fn ticket(mode: Mode, next: u32) -> Option<u64>
+    ensures { HasTicket mode result }
+{
+    match mode {
+        Mode::Lb => Some(u64::from(next)),
+        _ => None,
+    }
+}
+
+/// The log of arrivals with these bytes each, at members that each have room for `room` packets.
+fn log_of(
+    alloc: Global,
+    plan: Plan,
+    rules: &ArrivalRules<'_>,
+    room: u32,
+    frames: &[&[u8]],
+) -> Result<ArrivalList, Memory>
+    requires room { 82 < rules.now.room }
+    requires few { length frames.now ≤ 100 }
+{
+    let mut desk = ListDesk {
+        rooms: vec![in alloc; room; plan.members() as usize]?,
+        tries: Vec::new(alloc),
+    };
+    let mut path = ReceivePath::new(alloc, plan);
+    for (index, &bytes) in frames.iter().enumerate() {
+        let index = index as u32;
+        let ticket = ticket(plan.mode(), index);
+        take(
+            alloc,
+            &mut path,
+            rules,
+            &mut desk,
+            arrival(alloc, index, bytes)?,
+            ticket,
+        )?;
+    }
+    Ok(path.into_log())
+}
+
+const ROLLOVER: u32 = 0x1000;
+
+/// An arrival of zeros alone.
+const NO_BYTES: &[u8] = &[];
+
+/// A name, the mode, the flags, and the tries of nine arrivals alike at two members with room for
+/// four packets each.
+type Row = (&'static str, Mode, u32, [&'static str; 9]);
+
+static ROUNDS: [Row; 4] = [
+    (
+        "with rollover",
+        Mode::Cpu,
+        ROLLOVER,
+        [
+            "kept 0 ",
+            "kept 0 ",
+            "kept 0 ",
+            "kept 0 ",
+            "refused 0 kept 1 ",
+            "refused 0 kept 1 ",
+            "refused 0 kept 1 ",
+            "refused 0 kept 1 ",
+            "refused 0 refused 1 dropped 0 ",
+        ],
+    ),
+    (
+        "mode rollover",
+        Mode::Rollover,
+        0,
+        [
+            "kept 0 ",
+            "kept 0 ",
+            "kept 0 ",
+            "kept 0 ",
+            "refused 0 kept 1 ",
+            "kept 1 ",
+            "kept 1 ",
+            "kept 1 ",
+            "refused 1 refused 0 dropped 1 ",
+        ],
+    ),
+    (
+        "without rollover",
+        Mode::Cpu,
+        0,
+        [
+            "kept 0 ",
+            "kept 0 ",
+            "kept 0 ",
+            "kept 0 ",
+            "dropped 0 ",
+            "dropped 0 ",
+            "dropped 0 ",
+            "dropped 0 ",
+            "dropped 0 ",
+        ],
+    ),
+    (
+        "round robin",
+        Mode::Lb,
+        0,
+        [
+            "kept 0 ",
+            "kept 1 ",
+            "kept 0 ",
+            "kept 1 ",
+            "kept 0 ",
+            "kept 1 ",
+            "kept 0 ",
+            "kept 1 ",
+            "dropped 0 ",
+        ],
+    ),
+];
+
+#[test]
+fn tries_members_by_mode_and_flag(rt: HostRuntime) -> Result<(), Fail> {
+    for (name, mode, flags, rounds) in &ROUNDS {
+        assert!(rt; *flags == 0 || *flags == ROLLOVER);
+        let plan = Plan::check(2, *mode, *flags, false)?;
+        let log = log_of(rt.alloc(), plan, &OPEN, 4, &[NO_BYTES; 9])?;
+        assert_eq!(rt; log.len(), 9, "{name}");
+        for (entry, want) in log.as_slice().iter().zip(rounds) {
+            let tries = shown(rt.alloc(), entry.tries.as_slice())?;
+            assert_eq!(rt; tries.as_str(), *want, "{name}, arrival {}", entry.index);
+        }
+    }
+    Ok(())
+}
+
+/// A TCP frame from 66.9.149.187 port 2794 to 161.142.100.80 port 1766, of the verification suite.
+const THERE: &[u8] = &[
+    2, 0, 0, 0, 0, 2, 2, 0, 0, 0, 0, 1, 0x08, 0x00, 0x45, 0, 0, 40, 0, 0, 0, 0, 64, 6, 0, 0, 66, 9,
+    149, 187, 161, 142, 100, 80, 0x0a, 0xea, 0x06, 0xe6,
+];
+
+/// The same the other way round.
+const BACK: &[u8] = &[
+    2, 0, 0, 0, 0, 1, 2, 0, 0, 0, 0, 2, 0x08, 0x00, 0x45, 0, 0, 40, 0, 0, 0, 0, 64, 6, 0, 0, 161,
+    142, 100, 80, 66, 9, 149, 187, 0x06, 0xe6, 0x0a, 0xea,
+];
+
+#[test]
+fn the_flow_hash_chooses_the_member(rt: HostRuntime) -> Result<(), Fail> {
+    let key = Key::from_hex(rt.alloc(), DIGITS)?;
+    let rules = ArrivalRules {
+        key: Some(&key),
+        ..OPEN
+    };
+    for (members, want) in [(4, "kept 0 "), (7, "kept 2 ")] {
+        let plan = Plan::check(members, Mode::Hash, 0, true)?;
+        let log = log_of(rt.alloc(), plan, &rules, 4, &[THERE, BACK])?;
+        for entry in log.as_slice() {
+            let tries = shown(rt.alloc(), entry.tries.as_slice())?;
+            assert_eq!(rt;
+                (entry.hash, tries.as_str()),
+                (0x51cc_c178, want),
+                "{members} members"
+            );
+        }
+    }
+    Ok(())
+}
+
+/// A filter, as `tcpdump -ddd ip` writes it, that keeps 96 bytes.
+const IP_96: &[u8] = b"4\n40 0 0 12\n21 0 1 2048\n6 0 0 96\n6 0 0 0\n";
+
+/// An ARP frame.
+const ARP: &[u8] = &[2, 0, 0, 0, 0, 2, 2, 0, 0, 0, 0, 1, 0x08, 0x06];
+
+#[test]
+fn a_filtered_arrival_draws_a_ticket(rt: HostRuntime) -> Result<(), Fail> {
+    let filter = Program::check(rt.alloc(), read_ddd(rt.alloc(), IP_96)?)?;
+    let rules = ArrivalRules {
+        filter: Some(&filter),
+        ..OPEN
+    };
+    let plan = Plan::check(2, Mode::Lb, 0, false)?;
+    let log = log_of(rt.alloc(), plan, &rules, 4, &[THERE, ARP, BACK])?;
+    for (entry, (verdict, want)) in log
+        .as_slice()
+        .iter()
+        .zip([(96, "kept 0 "), (0, ""), (96, "kept 0 ")])
+    {
+        let tries = shown(rt.alloc(), entry.tries.as_slice())?;
+        assert_eq!(rt; entry.ticket, Some(u64::from(entry.index)));
+        assert_eq!(rt;
+            (entry.verdict, tries.as_str()),
+            (verdict, want),
+            "at {}",
+            entry.index
+        );
+    }
+    Ok(())
+}

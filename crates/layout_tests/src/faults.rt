@@ -1,0 +1,65 @@
+//! The text of a block with one byte changed, and texts that end elsewhere.
+use crate::sample_blocks::{PAGES, TEXT, fault, part};
+use frame_view::Memory;
+use std::alloc::Global;
+use std::test::Fail;
+use tp_layout::{LayoutKind, walk_text};
+
+/// The place of a byte that is changed by an exclusive or with 1, and the fault with its place.
+const CHANGES: [(usize, Option<(LayoutKind, u32)>); 12] = [
+    (0, Some((LayoutKind::Version, 0))),
+    (8, Some((LayoutKind::Field, 8))),
+    (12, Some((LayoutKind::Count, 12))),
+    (20, Some((LayoutKind::Length, 20))),
+    (32, Some((LayoutKind::Field, 32))),
+    (48, Some((LayoutKind::Offset, 48))),
+    (52, Some((LayoutKind::Field, 32))),
+    (60, Some((LayoutKind::Snap, 60))),
+    (64, None),
+    (68, Some((LayoutKind::Field, 68))),
+    (116, Some((LayoutKind::Field, 116))),
+    (130, None),
+];
+
+/// A block of a page that begins with the text, with one byte changed.
+fn changed(alloc: Global, place: usize) -> Result<Vec<u8>, Memory> {
+    let mut bytes = TEXT.to_vec(alloc)?;
+    bytes.resize(4096, 0)?;
+    if let Some(byte) = bytes.get_mut(place) {
+        *byte ^= 1;
+    }
+    Ok(bytes)
+}
+
+#[test]
+fn one_byte_changed(rt: HostRuntime) -> Result<(), Fail> {
+    let shape = PAGES.check().ok().ok_or("a valid request")?;
+    for (place, told) in CHANGES {
+        let bytes = changed(rt.alloc(), place)?;
+        if bytes.len() != shape.block_size() as usize {
+            return Err("a page".into());
+        }
+        assert_eq!(rt;
+            fault(bytes.as_slice(), &shape),
+            told,
+            "the byte at {place}"
+        );
+    }
+    Ok(())
+}
+
+#[test]
+fn a_text_that_ends_elsewhere(rt: HostRuntime) -> Result<(), Fail> {
+    let shape = PAGES.check().ok().ok_or("a valid request")?;
+    for size in [48, 136, 143] {
+        let text = part(&TEXT, 0, size);
+        if text.len() < 48 || text.len() > shape.block_size() as usize {
+            return Err("a descriptor at least and a block at most".into());
+        }
+        let found = walk_text(text, &shape)
+            .err()
+            .map(|fault| (fault.kind, fault.at));
+        assert_eq!(rt; found, Some((LayoutKind::Length, 20)), "{size} bytes");
+    }
+    Ok(())
+}

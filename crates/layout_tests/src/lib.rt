@@ -1,0 +1,16 @@
+//! Tests of blocks as bytes and of transmit rings: texts that another program wrote, the limits of the rules, and each call
+//! once where there is memory.
+#![tactic(auto)]
+
+#[cfg(test)]
+mod faults;
+#[cfg(test)]
+mod limits;
+#[cfg(test)]
+mod sample_blocks;
+#[cfg(test)]
+mod sent_frames;
+#[cfg(test)]
+mod slots;
+#[cfg(test)]
+mod texts;

@@ -1,0 +1,130 @@
+//! Blocks of a page with one frame, for the tests.
+ghost use Rattle.std.specs.Prelude.{◌≡◌, ◌+◌, ◌<◌, ◌≤◌, IfOk, IfSome, IsTrue, length};
+ghost use Rattle.frame_view.specs.Vlan.{is_tpid};
+ghost use Rattle.ring_model.specs.Sizes.{need_of};
+ghost use Rattle.tp_layout.specs.Blocks.{BeginsLawfully};
+ghost use Rattle.tp_layout.specs.Requests.{first_of};
+ghost use Rattle.tp_layout.specs.Writing.{IsWritable};
+
+use frame_view::{ByteList, Frame, Memory, Tag};
+use ring_model::{Offer, need};
+use std::alloc::Global;
+use std::test::Fail;
+use tp_layout::{
+    Block, Closing, LayoutKind, RingRequest, Shape, blocks, close_header, walk, write_header,
+    write_packet,
+};
+
+/// Two blocks of a page.
+pub(crate) const PAGES: RingRequest = RingRequest {
+    block_size: 4096,
+    block_nr: 2,
+    frame_size: 2048,
+    frame_nr: 4,
+    tov: 0,
+    sizeof_priv: 0,
+    features: 0,
+};
+
+/// A broadcast frame of 14 bytes.
+pub(crate) const FRAME: [u8; 14] = [0xff, 0xff, 0xff, 0xff, 0xff, 0xff, 2, 0, 0, 0, 0, 1, 8, 6];
+
+/// Block 1 with that frame alone, at 1 second and 2,000 nanoseconds, written by another program.
+pub(crate) const TEXT: [u8; 144] = [
+    2, 0, 0, 0, 0x30, 0, 0, 0, 1, 0, 0, 0, 1, 0, 0, 0, 0x30, 0, 0, 0, 0x90, 0, 0, 0, 1, 0, 0, 0, 0,
+    0, 0, 0, 1, 0, 0, 0, 0xd0, 7, 0, 0, 1, 0, 0, 0, 0xd0, 7, 0, 0, 0, 0, 0, 0, 1, 0, 0, 0, 0xd0, 7,
+    0, 0, 0x0e, 0, 0, 0, 0x0e, 0, 0, 0, 1, 0, 0, 0, 0x52, 0, 0x60, 0, 0, 0, 0, 0, 0, 0, 0, 0, 0, 0,
+    0, 0, 0, 0, 0, 0, 0, 0, 0, 0, 0x11, 0, 8, 6, 1, 0, 0, 0, 1, 0, 1, 6, 2, 0, 0, 0, 0, 1, 0, 0, 0,
+    0, 0, 0, 0, 0, 0, 0, 0, 0, 0, 0, 0, 0, 0xff, 0xff, 0xff, 0xff, 0xff, 0xff, 2, 0, 0, 0, 0, 1, 8,
+    6,
+];
+
+/// The offer of a frame of these bytes, of which so many are kept.
+pub(crate) fn offer(
+    alloc: Global,
+    bytes: &[u8],
+    snap: u32,
+    wire: u32,
+    tag: Option<Tag>,
+) -> Result<Offer, Memory>
+    requires whole { 14 ≤ length bytes.now }
+    requires some { 0 < snap }
+    requires kept { snap ≤ length bytes.now }
+    requires wire { snap ≤ wire }
+    requires tag { IfSome tag (λ tag. IsTrue (is_tpid tag.tpid)) }
+    ensures sound { IfOk result IsWritable }
+    ensures snap { IfOk result (λ offer. offer.snap ≡ snap) }
+{
+    Ok(Offer {
+        frame: Frame {
+            cpu: 0,
+            index: 0,
+            sec: 1,
+            nsec: 2_000,
+            wire,
+            bytes: ByteList::from_vec(bytes.to_vec(alloc)?),
+            tag,
+        },
+        snap,
+        hash: 0,
+        pkttype: 1,
+    })
+}
+
+/// A block of zeros.
+#[tactic(auto, using(crate::proofs::Alike::last_alike))]
+pub(crate) fn new_block(alloc: Global, shape: &Shape) -> Result<Block, Fail>
+    ensures { IfOk result (λ block. block.shape ≡ shape.now) }
+{
+    let mut all = blocks(alloc, shape)?;
+    match all.pop() {
+        Some(block) => Ok(block),
+        None => Err("a ring has blocks".into()),
+    }
+}
+
+/// Block 1 with the packet of an offer alone, retired with status 1.
+pub(crate) fn block_with(alloc: Global, shape: &Shape, offer: &Offer) -> Result<Block, Fail>
+    requires sound { IsWritable offer.now }
+    requires fits { first_of shape.now + need_of offer.now.snap ≤ shape.now.block_size }
+    ensures shape { IfOk result (λ block. block.shape ≡ shape.now) }
+    ensures text { IfOk result (λ block. BeginsLawfully block.shape 1 1 block.bytes) }
+{
+    let mut block = new_block(alloc, shape)?;
+    let first = shape.first();
+    let frame = &offer.frame;
+    write_header(&mut block, shape, 1);
+    write_packet(&mut block, shape, first, offer);
+    close_header(
+        &mut block,
+        shape,
+        &Closing {
+            status: 1,
+            packets: 1,
+            length: first + need(offer.snap),
+            last_at: first,
+            first_sec: frame.sec,
+            first_nsec: frame.nsec,
+            last_sec: frame.sec,
+            last_nsec: frame.nsec,
+        },
+    );
+    Ok(block)
+}
+
+/// The bytes from a place up to another, as far as they are there.
+pub(crate) fn part(bytes: &[u8], from: usize, to: usize) -> &[u8] {
+    let (front, _) = bytes.split_at(to.min(bytes.len()));
+    let (_, back) = front.split_at(from.min(front.len()));
+    back
+}
+
+/// The fault of a block and its place, if it has one.
+pub(crate) fn fault(bytes: &[u8], shape: &Shape) -> Option<(LayoutKind, u32)>
+    requires { length bytes.now ≡ shape.now.block_size }
+{
+    match walk(bytes, shape) {
+        Ok(_) => None,
+        Err(fault) => Some((fault.kind, fault.at)),
+    }
+}

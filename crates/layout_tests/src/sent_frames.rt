@@ -1,0 +1,109 @@
+//! Frames that are sent through a ring of four slots of 2048 bytes.
+ghost use Rattle.std.specs.Prelude.{◌≡◌, ◌<◌, IfOk, length};
+
+use crate::slots::SLOTS;
+use frame_view::{ByteList, Frame, Frames};
+use std::alloc::Global;
+use std::test::Fail;
+use tx_ring::transmit_frames;
+
+/// The lengths of the frames, those that are sent, how many are skipped, and where the ring stops.
+#[derive(Clone, Copy)]
+struct Row {
+    name: &'static str,
+    skip_bad: bool,
+    lengths: &'static [usize],
+    sent: &'static [usize],
+    skipped: u64,
+    stop: Option<u32>,
+}
+
+const ROWS: [Row; 5] = [
+    Row {
+        name: "a longer frame stops the ring",
+        skip_bad: false,
+        lengths: &[60, 3000, 60],
+        sent: &[60],
+        skipped: 0,
+        stop: Some(1),
+    },
+    Row {
+        name: "a longer frame is skipped",
+        skip_bad: true,
+        lengths: &[60, 3000, 60],
+        sent: &[60, 60],
+        skipped: 1,
+        stop: None,
+    },
+    Row {
+        name: "more frames than slots",
+        skip_bad: false,
+        lengths: &[60, 61, 62, 63, 64, 65],
+        sent: &[60, 61, 62, 63, 64, 65],
+        skipped: 0,
+        stop: None,
+    },
+    Row {
+        name: "runts are counted and not sent",
+        skip_bad: false,
+        lengths: &[13, 14, 2000, 0, 2001, 60],
+        sent: &[14, 2000],
+        skipped: 0,
+        stop: Some(4),
+    },
+    Row {
+        name: "no frame",
+        skip_bad: false,
+        lengths: &[],
+        sent: &[],
+        skipped: 0,
+        stop: None,
+    },
+];
+
+/// Frames of so many zeros each, numbered from 0.
+fn frames(alloc: Global, lengths: &[usize]) -> Result<Frames, Fail>
+    requires { length lengths.now < 100 }
+    ensures { IfOk result (λ frames. length frames ≡ length lengths.now) }
+{
+    let mut frames = Frames::new(alloc);
+    for (index, length) in lengths.iter().enumerate() {
+        let bytes = vec![in alloc; 0; *length]?;
+        frames.push(Frame {
+            cpu: 0,
+            index: index as u32,
+            sec: 1,
+            nsec: 2,
+            wire: 3000,
+            bytes: ByteList::from_vec(bytes),
+            tag: None,
+        })?;
+    }
+    Ok(frames)
+}
+
+#[test]
+fn frames_through_a_ring(rt: HostRuntime) -> Result<(), Fail> {
+    let alloc = rt.alloc();
+    for row in ROWS {
+        let shape = SLOTS.check_tx().ok().ok_or("a valid request")?;
+        if row.lengths.len() >= 100 {
+            return Err("few frames".into());
+        }
+        let frames = frames(alloc, row.lengths)?;
+        let told = transmit_frames(alloc, shape, row.skip_bad, &frames)?;
+        let mut sent = Vec::new(alloc);
+        for packet in told.packets.as_slice() {
+            sent.push(packet.bytes.len())?;
+        }
+        assert_eq!(rt; sent.as_slice(), row.sent, "{}", row.name);
+        let counts = (told.sent, told.skipped, told.stop);
+        assert_eq!(rt;
+            counts,
+            (row.sent.len() as u64, row.skipped, row.stop),
+            "{}",
+            row.name
+        );
+    }
+    Ok(())
+}

@@ -1,0 +1,153 @@
+//! Blocks that are written and walked, beside bytes that another program wrote.
+use crate::sample_blocks::{FRAME, PAGES, TEXT, block_with, fault, new_block, offer, part};
+use frame_view::Tag;
+use ring_model::need;
+use std::test::Fail;
+use tp_layout::{
+    Closing, LayoutError, PacketRef, PacketWalk, RingRequest, close_header, text_of, walk,
+    walk_text, write_header, write_packet,
+};
+
+/// The packet of a walk that gives just one.
+fn only_packet(answer: Result<PacketWalk<'_>, LayoutError>) -> Option<PacketRef<'_>> {
+    let Ok(mut packets) = answer else {
+        return None;
+    };
+    let first = packets.next();
+    match packets.next() {
+        None => first,
+        Some(_) => None,
+    }
+}
+
+/// Whether a packet is that of the frame.
+fn is_the_frame(packet: Option<PacketRef<'_>>) -> bool {
+    let Some(packet) = packet else {
+        return false;
+    };
+    let times = packet.sec == 1 && packet.nsec == 2_000;
+    let lengths = packet.wire == 14 && packet.rxhash == 0;
+    let kinds = packet.protocol == 0x0806 && packet.pkttype == 1 && packet.tag.is_none();
+    let bytes = packet.addr == [2, 0, 0, 0, 0, 1] && packet.bytes == FRAME.as_slice();
+    times && lengths && kinds && bytes
+}
+
+#[test]
+fn a_block_with_one_frame(rt: HostRuntime) -> Result<(), Fail> {
+    let alloc = rt.alloc();
+    let shape = PAGES.check().ok().ok_or("a valid request")?;
+    let offer = offer(alloc, &FRAME, 14, 14, None)?;
+    let block = block_with(alloc, &shape, &offer)?;
+    assert_eq!(rt; text_of(&block), TEXT.as_slice());
+    let bytes = block.bytes();
+    assert_eq!(rt; part(bytes, 144, 4096).len(), 3952);
+    assert_eq!(rt; fault(bytes, &shape), None);
+    assert!(rt; is_the_frame(only_packet(walk(bytes, &shape))));
+    assert!(rt; is_the_frame(only_packet(walk_text(&TEXT, &shape))));
+    Ok(())
+}
+
+#[test]
+fn a_private_area_before_the_frame(rt: HostRuntime) -> Result<(), Fail> {
+    let alloc = rt.alloc();
+    let request = RingRequest {
+        sizeof_priv: 13,
+        ..PAGES
+    };
+    let shape = request.check().ok().ok_or("a valid request")?;
+    if shape.room() < need(14) {
+        return Err("a frame fits".into());
+    }
+    let offer = offer(alloc, &FRAME, 14, 14, None)?;
+    let block = block_with(alloc, &shape, &offer)?;
+    let bytes = block.bytes();
+    assert_eq!(rt; part(bytes, 16, 24), [64, 0, 0, 0, 160, 0, 0, 0].as_slice());
+    assert_eq!(rt; part(bytes, 48, 64), [0; 16].as_slice());
+    assert_eq!(rt; fault(bytes, &shape), None);
+    Ok(())
+}
+
+#[test]
+fn a_packet_with_a_tag(rt: HostRuntime) -> Result<(), Fail> {
+    let alloc = rt.alloc();
+    let shape = PAGES.check().ok().ok_or("a valid request")?;
+    let tag = Tag {
+        tpid: 0x8100,
+        tci: 0x0064,
+    };
+    let mut frame = [0; 60];
+    frame[12] = 8;
+    let offer = offer(alloc, &frame, 60, 60, Some(tag))?;
+    let block = block_with(alloc, &shape, &offer)?;
+    let bytes = block.bytes();
+    assert_eq!(rt; part(bytes, 20, 24), [192, 0, 0, 0].as_slice());
+    let lengths = [60, 0, 0, 0, 60, 0, 0, 0, 81, 0, 0, 0];
+    assert_eq!(rt; part(bytes, 60, 72), lengths.as_slice());
+    assert_eq!(rt; part(bytes, 80, 87), [0x64, 0, 0, 0, 0, 0x81, 0].as_slice());
+    let packet = only_packet(walk(bytes, &shape)).ok_or("it has a packet")?;
+    let told = (packet.tag, packet.protocol, packet.wire);
+    assert_eq!(rt; told, (Some(tag), 0x0800, 60));
+    Ok(())
+}
+
+#[test]
+fn three_frames_one_after_another(rt: HostRuntime) -> Result<(), Fail> {
+    let alloc = rt.alloc();
+    let shape = PAGES.check().ok().ok_or("a valid request")?;
+    let offer = offer(alloc, &[0; 60], 60, 60, None)?;
+    let mut block = new_block(alloc, &shape)?;
+    let first = shape.first();
+    if shape.room() < 432 {
+        return Err("three frames fit".into());
+    }
+    write_header(&mut block, &shape, 1);
+    write_packet(&mut block, &shape, first, &offer);
+    write_packet(&mut block, &shape, first + 144, &offer);
+    write_packet(&mut block, &shape, first + 288, &offer);
+    let closing = Closing {
+        status: 1,
+        packets: 3,
+        length: first + 432,
+        last_at: first + 288,
+        first_sec: 1,
+        first_nsec: 2_000,
+        last_sec: 1,
+        last_nsec: 2_000,
+    };
+    close_header(&mut block, &shape, &closing);
+    let bytes = block.bytes();
+    let sizes = [3, 0, 0, 0, 48, 0, 0, 0, 0xe0, 1, 0, 0];
+    assert_eq!(rt; part(bytes, 12, 24), sizes.as_slice());
+    for (place, next) in [(48, 144), (192, 144), (336, 0)] {
+        assert_eq!(rt;
+            part(bytes, place, place + 4),
+            [next, 0, 0, 0].as_slice(),
+            "at {place}"
+        );
+    }
+    let mut packets = walk(bytes, &shape).ok().ok_or("the text is lawful")?;
+    for left in [true, true, true, false] {
+        assert_eq!(rt; packets.next().is_some(), left);
+    }
+    Ok(())
+}
+
+#[test]
+fn a_frame_cut_to_the_room(rt: HostRuntime) -> Result<(), Fail> {
+    let alloc = rt.alloc();
+    let shape = PAGES.check().ok().ok_or("a valid request")?;
+    let bytes = vec![in alloc; 7; 4000]?;
+    // 9,000 bytes on the wire of which 3,966 are kept, and a frame of 3,966 bytes
+    for wire in [9_000, 3_966] {
+        if wire < 3_966 || shape.room() < need(3_966) {
+            return Err("so many bytes fit".into());
+        }
+        let offer = offer(alloc, bytes.as_slice(), 3_966, wire, None)?;
+        let block = block_with(alloc, &shape, &offer)?;
+        assert_eq!(rt; part(block.bytes(), 20, 24), [0, 16, 0, 0].as_slice());
+        assert_eq!(rt; text_of(&block).len(), 4096);
+        let packet = only_packet(walk(block.bytes(), &shape)).ok_or("it has a packet")?;
+        assert_eq!(rt; (packet.wire, packet.bytes.len()), (wire, 3_966));
+    }
+    Ok(())
+}

@@ -1,0 +1,97 @@
+//! The lines that runs print.
+use crate::reports::{Cpu, Member, printed};
+use capture_file::CpuEnd;
+use frame_view::Memory;
+
+/// No filter keeps a frame from passing whole.
+const PASS: u32 = 4_294_967_295;
+
+/// A name, the time-out, the CPUs, the members, and the lines.
+type Row<'a> = (&'a str, u64, &'a [Cpu<'a>], &'a [Member<'a>], &'a str);
+
+static ROWS: [Row<'static>; 7] = [
+    (
+        "no frame",
+        0,
+        &[(0, &[], CpuEnd::Whole)],
+        &[(".", &[], 0)],
+        "cpu 0 frames 0 arrivals 0 end ok
+member 0 packets 0 drops 0 freezes 0 blocks 0
+total arrivals 0 filtered 0 kept 0 drops 0
+",
+    ),
+    (
+        "three frames",
+        0,
+        &[(3, &[PASS; 3], CpuEnd::Whole)],
+        &[("kkk.", &[], 1)],
+        "cpu 0 frames 3 arrivals 3 end ok
+member 0 packets 3 drops 0 freezes 0 blocks 1
+total arrivals 3 filtered 0 kept 3 drops 0
+",
+    ),
+    (
+        "drops",
+        0,
+        &[(7, &[PASS; 7], CpuEnd::Whole)],
+        &[("kknkddd.", &[], 2)],
+        "cpu 0 frames 7 arrivals 7 end ok
+member 0 packets 7 drops 3 freezes 1 blocks 2
+total arrivals 7 filtered 0 kept 4 drops 3
+",
+    ),
+    (
+        "statistics",
+        0,
+        &[(7, &[PASS; 7], CpuEnd::Whole)],
+        &[("kknkdnck.", &[], 3)],
+        "cpu 0 frames 7 arrivals 7 end ok
+member 0 packets 7 drops 1 freezes 1 blocks 3
+count 0 packets 6 drops 1 freezes 1
+total arrivals 7 filtered 0 kept 6 drops 1
+",
+    ),
+    (
+        "rollover",
+        0,
+        &[(9, &[PASS; 9], CpuEnd::Whole)],
+        &[("kknkrrrrrd.", &[], 2), ("kknkr.", &[], 2)],
+        "cpu 0 frames 9 arrivals 9 end ok
+member 0 packets 5 drops 1 freezes 1 blocks 2
+member 1 packets 4 drops 0 freezes 0 blocks 2
+total arrivals 9 filtered 0 kept 8 drops 1
+",
+    ),
+    (
+        "filtered",
+        0,
+        &[(3, &[96, 0, 96], CpuEnd::Whole), (2, &[0], CpuEnd::Fault)],
+        &[("kk.", &[], 1)],
+        "cpu 0 frames 3 arrivals 3 end ok
+cpu 1 frames 2 arrivals 1 end fault
+member 0 packets 2 drops 0 freezes 0 blocks 1
+total arrivals 4 filtered 2 kept 2 drops 0
+",
+    ),
+    (
+        "ticks",
+        5,
+        &[],
+        &[("tktcHccdTkd.", &[5, 9, 10, 15], 2)],
+        "member 0 packets 4 drops 2 freezes 2 blocks 2
+count 0 packets 1 drops 0 freezes 0
+count 0 packets 0 drops 0 freezes 1
+count 0 packets 0 drops 0 freezes 0
+total arrivals 0 filtered 0 kept 2 drops 2
+",
+    ),
+];
+
+#[test]
+fn prints_the_lines_of_runs(rt: HostRuntime) -> Result<(), Memory> {
+    for (name, tov, cpus, members, lines) in &ROWS {
+        let text = printed(rt.alloc(), *tov, cpus, members)?;
+        assert_eq!(rt; text.as_slice(), lines.as_bytes(), "{name}");
+    }
+    Ok(())
+}

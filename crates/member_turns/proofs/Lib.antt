@@ -1,0 +1,5 @@
+pub mod Moments
+pub mod OneTurn
+pub mod Closed
+pub mod AllAlike
+pub mod DeskTurns

@@ -1,0 +1,30 @@
+-- Which notes of a member's ring a seat of its lock may add: the seat C of a CPU C those about
+-- frames of C, and the seat behind those of all CPUs, which is the timer's, those of ticks.
+use Rattle.std.specs.Prelude.{ℕ, Bool, false, ◌&&◌, nat_lt, ◌==◌, List, ◌∷◌}
+use Rattle.atomic_table.specs.Seated.{TableId}
+use Rattle.ring_model.specs.declared.notes.Note.{Note}
+use Rattle.ring_model.specs.declared.notes.Note.TheVariants.{Kept, Refused, Dropped, Ticked, Counted, Finished}
+use Rattle.member_turns.specs.declared.ring_base.RingBase.{RingBase}
+
+-- the id of a ring's table as numbers, which tell it from every other
+abbrev pub table_numbers : TableId → List ℕ
+table_numbers id =
+    id.words ∷ id.slots ∷ id.views_name ∷ id.atom ∷ id.block ∷ id.offset ∷ id.slot_names
+
+-- of a ring that so many CPUs put frames into, the seat of this number may add notes about frames
+-- of a CPU: it is the CPU's, which is one of them
+abbrev pub is_seat_of : ℕ → ℕ → ℕ → Bool
+is_seat_of cpus number cpu = (cpu == number) && nat_lt cpu cpus
+
+-- the seat of this number may add the note
+abbrev pub may_add : ℕ → ℕ → Note → Bool
+may_add cpus number (Kept offer found) = is_seat_of cpus number offer.frame.cpu
+may_add cpus number (Refused cpu index need held) = is_seat_of cpus number cpu
+may_add cpus number (Dropped cpu index need held) = is_seat_of cpus number cpu
+may_add cpus number (Ticked ms found) = number == cpus
+may_add cpus number Counted = false
+may_add cpus number Finished = false
+
+-- and that by the base of a ring
+abbrev pub may_note : RingBase → ℕ → Note → Bool
+may_note base = may_add base.cpus

@@ -1,0 +1,71 @@
+//! How a member is closed, once all its stands are handed in.
+ghost use Rattle.std.specs.Prelude.{◌≡◌, ◌++◌, ◌≤◌, false, length, IfOk};
+ghost use Rattle.std.specs.List.{AllByRecursion};
+ghost use Rattle.block_ring.specs.Noting.{held_count};
+ghost use Rattle.block_ring.specs.Texts.{AreTexts};
+ghost use Rattle.member_turns.specs.Closings.{AreClosedNotes, contents_of};
+ghost use Rattle.member_turns.specs.Entries.{table_numbers};
+ghost use Rattle.ring_model.specs.Ring.{IsWholeRun, state_of};
+ghost use Rattle.tp_layout.specs.Requests.{numbers_of, size_of};
+ghost use Rattle.turn_lock.specs.Seats.{IsIdleSeatOf};
+
+use crate::{Member, MemberRing, Stand};
+use frame_view::Memory;
+use ring_model::Notes;
+use ring_words::{Pending, TableWalker, finish};
+use std::alloc::Global;
+use tp_layout::Block;
+use turn_lock::TurnSeat;
+
+/// What is left of a member that is closed.
+#[derive(Drop)]
+pub struct ClosedMember {
+    /// The notes of its ring, of which the last says that it was closed.
+    pub notes: Notes,
+    /// The blocks that were retired and that the reader didn't take.
+    pub pending: Pending<Block>,
+}
+
+/// Closes a member, when all its stands are handed in and its reader has no block in hand. An open
+/// block that has packets is retired.
+///
+/// The notes are those that the seats added, each seat's in its order, and after them the one that
+/// the ring was closed. `Pending` has all blocks that were retired, of which the reader took the
+/// first ones and the pending ones are left.
+pub fn close_member(
+    alloc: Global,
+    member: Member,
+    stands: Vec<Stand>,
+    walker: TableWalker<Block>,
+) -> Result<ClosedMember, Memory>
+    requires all { length stands.items ≡ member.seats }
+    requires own { AllByRecursion (IsIdleSeatOf member) stands.items }
+    requires ring { table_numbers walker.id ≡ member.base.table }
+    requires hand { walker.in_hand ≡ false }
+    ensures notes { IfOk result (λ closed. AreClosedNotes member stands.items closed.notes) }
+    ensures run { IfOk result (λ closed. IsWholeRun (size_of member.base.shape) closed.notes) }
+    ensures texts { IfOk result (λ closed. AreTexts member.base.shape 1 closed.pending.retired
+        (state_of (size_of member.base.shape) closed.notes).done) }
+    ensures looks { IfOk result (λ closed. held_count closed.notes ≤ closed.pending.holds) }
+    ensures taken { IfOk result (λ closed.
+        walker.taken ++ contents_of closed.pending.blocks ≡ closed.pending.retired) }
+    ensures passed { IfOk result (λ closed. closed.pending.passed ≡ length walker.taken) }
+    ensures kind { IfOk result (λ closed. closed.pending.kind ≡ numbers_of member.base.shape) }
+{
+    let seats = as_seats(alloc, stands)?;
+    let ring = member.lock.close(seats);
+    let (feeder, notes) = ring.producer.finish();
+    let pending = finish(alloc, feeder, walker)?;
+    Ok(ClosedMember { notes, pending })
+}
+
+/// The seat of each stand.
+fn as_seats(alloc: Global, stands: Vec<Stand>) -> Result<Vec<TurnSeat<MemberRing>>, Memory>
+    ensures { IfOk result (λ seats. seats.items ≡ stands.items) }
+{
+    let mut seats = Vec::with_capacity(alloc, stands.len())?;
+    for stand in stands {
+        seats.push(stand.seat)?;
+    }
+    Ok(seats)
+}

@@ -1,0 +1,34 @@
+//! The tries that were made at a desk, which only proofs read.
+ghost use Rattle.std.specs.Prelude.{◌≡◌, List, [], ◌∷◌, ◌++◌};
+ghost use Rattle.std.specs.Borrow.{ftrue};
+ghost use Rattle.fanout_group.specs.declared.logs.Try.{Try};
+
+use fanout_group::Try;
+use std::marker::Model;
+
+/// The tries that were made, in their order. It takes no memory, and its calls do nothing when they
+/// run.
+#[derive(Drop)]
+pub(crate) struct TryTrace {
+    ghost tries: { List Try },
+}
+
+impl Model for TryTrace {
+    ghost also_owns = { λ _. ftrue };
+}
+
+impl TryTrace {
+    /// That of no try.
+    pub(crate) fn new() -> TryTrace
+        ensures { result.tries ≡ [] }
+    {
+        TryTrace {}
+    }
+
+    /// That with one try more.
+    pub(crate) fn after(&self, _made: &Try) -> TryTrace
+        ensures { result.tries ≡ self.now.tries ++ _made.now ∷ [] }
+    {
+        TryTrace {}
+    }
+}

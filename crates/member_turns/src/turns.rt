@@ -1,0 +1,108 @@
+//! The turns at a member: a packet is tried or put, or the clock goes on. Each is one turn of a
+//! seat, and adds one note, or none where a request for memory was refused.
+ghost use Rattle.std.specs.Prelude.{◌≡◌, ◌+◌, ◌^◌, ◌<◌, ◌≤◌, [], ◌∷◌, IfErr, IfOk, OnErr, OnOk};
+ghost use Rattle.member_turns.specs.Seats.{IsReady, moment_of, own_of};
+ghost use Rattle.member_turns.specs.Turning.{IsPutTurn, IsTickTurn, IsTryTurn, Turned};
+ghost use Rattle.tp_layout.specs.Requests.{room_of};
+ghost use Rattle.tp_layout.specs.Writing.{IsWritable};
+
+use crate::{Member, Stand};
+use block_ring::TickError;
+use frame_view::Memory;
+use ring_model::{Offer, Put, Tried, Unput};
+use std::sync::Wait;
+
+/// Keeps a packet at a member, or hands it back where the ring has no room for it and the next
+/// block is still the reader's; then only the note is new. It waits for the turn of the stand,
+/// which is that of the packet's CPU and has entered fewer than 2^32 times.
+///
+/// After `Unput` a request for memory was refused: the turn added no note, and the offer comes
+/// back.
+pub fn try_turn<R: Wait>(
+    rt: &R,
+    member: &Member,
+    stand: &mut Stand,
+    offer: Offer,
+) -> Result<Tried, Unput>
+    requires ready { IsReady member.now offer.frame.cpu stand.old }
+    requires cpu { offer.frame.cpu < member.now.base.cpus }
+    requires few { stand.old.entered < 2 ^ 32 }
+    requires room { 82 + offer.snap ≤ room_of member.now.base.shape }
+    requires sound { IsWritable offer }
+    ensures tried { IfOk result (IsTryTurn member.now stand.old stand.new offer) }
+    ensures unput { IfErr result (λ unput. unput.offer ≡ offer) }
+    ensures err { OnErr result (Turned member.now stand.old stand.new []) }
+{
+    let mut ring = member.lock.enter(rt, &mut stand.seat);
+    match ring.producer.try_put(offer) {
+        Ok(tried) => {
+            member.lock.leave(&mut stand.seat, ring);
+            Ok(tried)
+        }
+        Err(unput) => {
+            member.lock.leave(&mut stand.seat, ring);
+            Err(unput)
+        }
+    }
+}
+
+/// Keeps a packet at a member, or drops it where the ring has no room for it and the next block is
+/// still the reader's; an open block is then retired, and the ring is frozen. The stand is as for
+/// `try_turn`.
+///
+/// After `Unput` a request for memory was refused: the turn added no note, and the offer comes
+/// back.
+pub fn put_turn<R: Wait>(
+    rt: &R,
+    member: &Member,
+    stand: &mut Stand,
+    offer: Offer,
+) -> Result<Put, Unput>
+    requires ready { IsReady member.now offer.frame.cpu stand.old }
+    requires cpu { offer.frame.cpu < member.now.base.cpus }
+    requires few { stand.old.entered < 2 ^ 32 }
+    requires room { 82 + offer.snap ≤ room_of member.now.base.shape }
+    requires sound { IsWritable offer }
+    ensures put { IfOk result (IsPutTurn member.now stand.old stand.new offer) }
+    ensures unput { IfErr result (λ unput. unput.offer ≡ offer) }
+    ensures err { OnErr result (Turned member.now stand.old stand.new []) }
+{
+    let mut ring = member.lock.enter(rt, &mut stand.seat);
+    match ring.producer.put(offer) {
+        Ok(put) => {
+            member.lock.leave(&mut stand.seat, ring);
+            Ok(put)
+        }
+        Err(unput) => {
+            member.lock.leave(&mut stand.seat, ring);
+            Err(unput)
+        }
+    }
+}
+
+/// Brings a member's clock forward to a moment, in milliseconds, which isn't before the last one
+/// that this stand told. It waits for the turn of the stand, which is the timer's and has entered
+/// fewer than 2^32 times.
+///
+/// After `Memory` the turn added no note.
+pub fn tick_turn<R: Wait>(rt: &R, member: &Member, stand: &mut Stand, ms: u64) -> Result<(), Memory>
+    requires ready { IsReady member.now member.now.base.cpus stand.old }
+    requires few { stand.old.entered < 2 ^ 32 }
+    requires later { moment_of (own_of member.now stand.old) ≤ ms }
+    requires small { ms ≤ 2 ^ 63 }
+    ensures ticked { OnOk result (IsTickTurn member.now stand.old stand.new ms) }
+    ensures err { OnErr result (Turned member.now stand.old stand.new []) }
+{
+    let mut ring = member.lock.enter(rt, &mut stand.seat);
+    match ring.producer.tick(ms) {
+        Ok(()) => {
+            member.lock.leave(&mut stand.seat, ring);
+            Ok(())
+        }
+        Err(TickError::Memory) => {
+            member.lock.leave(&mut stand.seat, ring);
+            Err(Memory)
+        }
+        Err(TickError::Backwards(_)) => unreachable!(),
+    }
+}

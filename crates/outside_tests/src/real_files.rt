@@ -1,0 +1,38 @@
+//! Real files.
+use crate::in_memory::fetched;
+use std::fs;
+use std::test::Fail;
+use tap_outside::{DiskStore, OutError, Store};
+
+#[test]
+fn files_that_are_there_and_not(rt: HostRuntime) -> Result<(), Fail> {
+    let mut store = DiskStore::new(&rt);
+    let names: [&[u8]; 5] = [b"tap_outside.none", b".", b"", b"a\0b", b"\xff"];
+    for name in names {
+        let failed = fetched(rt.alloc(), &mut store, name).err();
+        assert_eq!(rt; failed, Some(OutError::Failed), "{name:?}");
+    }
+    assert_eq!(rt;
+        store.save(b"tap_outside.none/file", b"x"),
+        Err(OutError::Failed)
+    );
+    assert_eq!(rt; (store.read_faults(), store.save_faults()), (5, 1));
+    Ok(())
+}
+
+#[test]
+fn what_is_saved_is_read_back(rt: HostRuntime) -> Result<(), Fail> {
+    let mut store = DiskStore::new(&rt);
+    for bytes in ["a longer file", "saved bytes", ""] {
+        assert_eq!(rt;
+            store.save(b"tap_outside.saved", bytes.as_bytes()),
+            Ok(()),
+            "{bytes}"
+        );
+        let read = fetched(rt.alloc(), &mut store, b"tap_outside.saved")?;
+        assert_eq!(rt; read.as_slice(), bytes.as_bytes(), "{bytes}");
+    }
+    fs::remove_file(&rt, "tap_outside.saved")?;
+    assert_eq!(rt; (store.read_faults(), store.save_faults()), (0, 0));
+    Ok(())
+}

@@ -1,6 +1,0 @@
-use Rattle.std.proofs.Common.{drop}
-use Rattle.replay_model.specs.Reports.{AreAscending}
-use Rattle.replay_model.proofs.tests.is_schedule.Given as goal
-
-abbrev pub invariant-loop-line : goal.invariant-loop-line
-invariant-loop-line l = AreAscending l.clock (drop l.line-index l.lines) → AreAscending 0 l.lines

@@ -1,0 +1,104 @@
+//! A report as text: the tickets and tries of each CPU, and the notes of each member.
+use fanout_group::{ArrivalLog, CpuLog, Fate, Try};
+use frame_view::Memory;
+use ring_model::{Found, Note};
+use setup_text::{MemberReport, RunReport};
+use std::alloc::Global;
+
+/// Appends a letter, and the number of the block that was still the reader's where it isn't 1.
+fn push_held(text: &mut String, letter: &str, number: u64) -> Result<(), Memory> {
+    text.push_str(letter)?;
+    if number != 1 {
+        write!(text, "{number}")?;
+    }
+    Ok(())
+}
+
+/// Appends a letter for what was found of the next block: it wasn't looked at, it was free, or it
+/// was still the reader's.
+fn push_found(text: &mut String, letters: [&str; 3], found: Found) -> Result<(), Memory> {
+    let [unasked, free, held] = letters;
+    match found {
+        Found::NotAsked => text.push_str(unasked)?,
+        Found::Free => text.push_str(free)?,
+        Found::Held(number) => push_held(text, held, number)?,
+    }
+    Ok(())
+}
+
+/// Appends the letters of a note: `k` for a packet kept where the next block wasn't looked at, `n`
+/// for one that opened it, `r` for one refused and `d` for one dropped; for a tick `t` where the
+/// next block wasn't looked at, `T` where it was free and `H` where it was still the reader's; `c`
+/// where statistics were taken, and a point at the end.
+fn push_note(text: &mut String, note: &Note) -> Result<(), Memory> {
+    match note {
+        Note::Kept { found, .. } => push_found(text, ["k", "n", "?"], *found)?,
+        Note::Refused { number, .. } => push_held(text, "r", *number)?,
+        Note::Dropped { number, .. } => push_held(text, "d", *number)?,
+        Note::Ticked { found, .. } => push_found(text, ["t", "T", "H"], *found)?,
+        Note::Counted => text.push_str("c")?,
+        Note::Finished => text.push_str(".")?,
+    }
+    Ok(())
+}
+
+/// Appends the line of a member: its notes, and the numbers of the packets and of the blocks that
+/// its reader walked.
+fn push_member(text: &mut String, member: &MemberReport) -> Result<(), Memory> {
+    for note in member.notes.as_slice() {
+        push_note(text, note)?;
+    }
+    write!(text, " {} {}\n", member.walked.len(), member.blocks)?;
+    Ok(())
+}
+
+/// Appends the letter of what came of a try, and its member.
+fn push_try(text: &mut String, tried: Try) -> Result<(), Memory> {
+    let letter = match tried.fate {
+        Fate::Kept => "k",
+        Fate::Refused => "r",
+        Fate::Dropped => "d",
+    };
+    write!(text, "{letter}{}", tried.member)?;
+    Ok(())
+}
+
+/// Appends an arrival: its index where that isn't the one that was due, its ticket if it has one,
+/// its tries, and a point.
+fn push_arrival(text: &mut String, arrival: &ArrivalLog, due: usize) -> Result<(), Memory> {
+    if arrival.index as usize != due {
+        write!(text, "@{} ", arrival.index)?;
+    }
+    if let Some(ticket) = arrival.ticket {
+        write!(text, "{ticket}")?;
+    }
+    for tried in arrival.tries.as_slice() {
+        push_try(text, *tried)?;
+    }
+    Ok(text.push_str(".")?)
+}
+
+/// Appends the line of a CPU: its arrivals, and how many bytes its capture gave.
+fn push_cpu(text: &mut String, log: &CpuLog) -> Result<(), Memory> {
+    for (due, arrival) in log.arrivals.as_slice().iter().enumerate() {
+        push_arrival(text, arrival, due)?;
+    }
+    write!(text, " {}\n", log.given)?;
+    Ok(())
+}
+
+/// The text of a report: a line for each CPU and then one for each member. A CPU's line is its
+/// arrivals, each with its index where that isn't the one that was due, its ticket if it has one,
+/// and its tries with what came of each and the member; and how many bytes its capture gave. A
+/// member's is the letters of its notes, and the numbers of the packets and of the blocks that its
+/// reader walked.
+pub fn report_text(alloc: Global, report: &RunReport) -> Result<String, Memory> {
+    let mut text = String::new(alloc);
+    for log in report.cpus.as_slice() {
+        push_cpu(&mut text, log)?;
+    }
+    for member in report.members.as_slice() {
+        push_member(&mut text, member)?;
+    }
+    Ok(text)
+}

@@ -1,0 +1,32 @@
+-- The sums over a run that are printed.
+use Rattle.std.specs.Prelude.{◌≡◌, ℕ, ◌+◌, ◌-◌, List, length, sum_by, count_by, ◌==◌}
+use Rattle.fanout_group.specs.declared.runs.CpuLog.{CpuLog}
+use Rattle.ring_model.specs.Fates.{totals_of}
+use Rattle.ring_model.specs.Ring.{Size}
+use Rattle.setup_text.specs.declared.reports.MemberReport.{MemberReport}
+use Rattle.setup_text.specs.declared.reports.RunReport.{RunReport}
+
+-- the number of all arrivals
+abbrev pub arrivals_in : List CpuLog → ℕ
+arrivals_in logs = sum_by (λ log. length log.arrivals) logs
+
+-- the number of those that the filter ended: their verdict is 0
+abbrev pub filtered_in : List CpuLog → ℕ
+filtered_in logs = sum_by (λ log. count_by (λ entry. entry.verdict == 0) log.arrivals) logs
+
+-- the number of packets that members kept
+abbrev pub kept_in : Size → List MemberReport → ℕ
+kept_in size reports =
+    sum_by
+    (λ report. (totals_of size report.notes).packets - (totals_of size report.notes).drops)
+    reports
+
+-- the number of packets that they dropped
+abbrev pub drops_in : Size → List MemberReport → ℕ
+drops_in size reports = sum_by (λ report. (totals_of size report.notes).drops) reports
+
+-- the arrivals are those that the filter ended, those that were kept and those that were dropped
+abbrev pub TotalsAddUp : Size → RunReport → Type 0
+TotalsAddUp size report =
+    arrivals_in report.cpus
+    ≡ filtered_in report.cpus + (kept_in size report.members + drops_in size report.members)

@@ -1,0 +1,68 @@
+//! Laws of reports, each the contract of a function that does nothing.
+ghost use Rattle.std.specs.Prelude.{ℕ, List, Option, All};
+ghost use Rattle.capture_file.specs.declared.cpu_end.CpuEnd.{CpuEnd};
+ghost use Rattle.fanout_group.specs.Joined.{Logged};
+ghost use Rattle.fanout_group.specs.Once.{IsGroupReport};
+ghost use Rattle.fanout_group.specs.Rules.{Rules};
+ghost use Rattle.frame_view.specs.declared.frames.Frame.{Frame};
+ghost use Rattle.ring_model.specs.declared.notes.Note.{Note};
+ghost use Rattle.run_reports.specs.Jobs.{arriving_of, rules_of};
+ghost use Rattle.run_reports.specs.Logs.{AreLogsFrom};
+ghost use Rattle.run_reports.specs.Members.{AreShort};
+ghost use Rattle.run_reports.specs.Once.{EachArrivalStandsOnce, EachStandsAtItsLastTry};
+ghost use Rattle.run_reports.specs.Reports.{IsReport, IsRunReport};
+ghost use Rattle.run_reports.specs.Totals.{TotalsAddUp};
+ghost use Rattle.setup_text.specs.Sound.{IsSetup};
+ghost use Rattle.setup_text.specs.declared.jobs.Job.{Job};
+ghost use Rattle.setup_text.specs.declared.reports.RunReport.{RunReport};
+ghost use Rattle.tp_layout.specs.Requests.{size_of};
+
+use fanout_group::each_frame_stands_exactly_once;
+use ring_model::statistics_count_each_packet;
+
+/// Each packet that a group reports is short enough for an output file: it was cut to the room of a
+/// block.
+pub fn a_group_s_packets_are_short()
+    ensures { (job : Job) (arriving : List (List (Option Frame))) (report : RunReport)
+        → IsSetup job.setup
+        → IsReport (rules_of job) job.setup.shape job.setup.dump arriving report
+        → AreShort report.members }
+{}
+
+/// Where logs are lawful and joined with notes, each arrival whose verdict isn't 0 stands once
+/// among all Kept and Dropped notes of all members, and nothing else stands there.
+pub fn each_arrival_stands_exactly_once()
+    ensures { (rules : Rules) (room : ℕ) (cpus : List Logged) (members : List (List Note))
+        → IsGroupReport rules room cpus members → EachArrivalStandsOnce rules cpus members }
+{
+    each_frame_stands_exactly_once();
+}
+
+/// A report is that of a run where its logs are those of the bytes, logs and notes are joined, and
+/// each member's notes are a whole run: the rest follows.
+pub fn a_group_s_report_is_that_of_a_run()
+    ensures { (job : Job) (bytes : List (List ℕ)) (ends : List CpuEnd) (report : RunReport)
+        → IsSetup job.setup
+        → AreLogsFrom 0 bytes ends report.cpus
+        → IsReport (rules_of job) job.setup.shape job.setup.dump (arriving_of job bytes) report
+        → IsRunReport job bytes ends report }
+{
+    each_arrival_stands_exactly_once();
+    a_group_s_packets_are_short();
+}
+
+/// In the report of a run the arrivals are those that the filter ended, those that members kept and
+/// those that they dropped.
+pub fn the_totals_add_up()
+    ensures { (job : Job) (bytes : List (List ℕ)) (ends : List CpuEnd) (report : RunReport)
+        → IsRunReport job bytes ends report
+        → TotalsAddUp (size_of job.setup.shape) report }
+{
+    statistics_count_each_packet();
+}
+
+/// It stands among the notes of one member: that of the last try of its route.
+pub fn each_arrival_stands_at_its_last_try()
+    ensures { (rules : Rules) (room : ℕ) (cpus : List Logged) (members : List (List Note))
+        → IsGroupReport rules room cpus members → EachStandsAtItsLastTry cpus members }
+{}

@@ -1,0 +1,10 @@
+//! What the report of a run is worth, whatever its command: the logs of its CPUs, the notes of its
+//! members, and what the members' readers read.
+#![tactic(auto)]
+
+mod laws;
+
+pub use laws::{
+    a_group_s_packets_are_short, a_group_s_report_is_that_of_a_run,
+    each_arrival_stands_at_its_last_try, each_arrival_stands_exactly_once, the_totals_add_up,
+};

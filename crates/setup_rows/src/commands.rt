@@ -1,0 +1,100 @@
+//! What the lines of a setup say together, for each command.
+use crate::answers::{answer_to_added, setup_answer};
+use frame_view::Memory;
+use setup_text::Command;
+
+/// A command, lines after the five that are needed, and what it finds of the lines together.
+static TOGETHER: [(Command, &str, &str); 20] = [
+    (Command::Check, "", ""),
+    (Command::Replay, "", ""),
+    (Command::Send, "", ""),
+    // only `Make` needs its line, before a fault of the ring or of the group
+    (Command::Make, "", "setup line 0: missing make\n"),
+    (
+        Command::Make,
+        "tov 8\npriv 16\n",
+        "setup line 0: missing make\n",
+    ),
+    (
+        Command::Make,
+        "features 2\n",
+        "setup line 0: missing make\n",
+    ),
+    (Command::Make, "members 0\n", "setup line 0: missing make\n"),
+    (
+        Command::Make,
+        "make 1 5\nfeatures 2\n",
+        "setup line 0: request feature\n",
+    ),
+    (
+        Command::Make,
+        "make 1 5\nmembers 0\n",
+        "setup line 0: group no_member\n",
+    ),
+    (Command::Make, "make 1 5\n", ""),
+    // only `Send` asks for a ring without a time-out, a private area and a feature
+    (Command::Send, "tov 8\n", "setup line 0: request transmit\n"),
+    (
+        Command::Send,
+        "priv 16\n",
+        "setup line 0: request transmit\n",
+    ),
+    (
+        Command::Send,
+        "features 1\n",
+        "setup line 0: request transmit\n",
+    ),
+    (
+        Command::Send,
+        "features 2\n",
+        "setup line 0: request feature\n",
+    ),
+    (
+        Command::Send,
+        "priv 1025\n",
+        "setup line 0: request private\n",
+    ),
+    (
+        Command::Send,
+        "tov 8\nmembers 0\n",
+        "setup line 0: request transmit\n",
+    ),
+    (
+        Command::Send,
+        "members 0\n",
+        "setup line 0: group no_member\n",
+    ),
+    (Command::Check, "tov 8\npriv 16\nfeatures 1\n", ""),
+    (Command::Replay, "tov 8\npriv 16\nfeatures 1\n", ""),
+    (Command::Make, "tov 8\npriv 16\nfeatures 1\nmake 1 5\n", ""),
+];
+
+#[test]
+fn tests_lines_together_for_a_command(rt: HostRuntime) -> Result<(), Memory> {
+    for (command, lines, fault) in &TOGETHER {
+        let answer = answer_to_added(rt.alloc(), lines, *command)?;
+        assert_eq!(rt; answer.as_str(), *fault, "{command:?} {lines}");
+    }
+    Ok(())
+}
+
+/// The first four of the lines that are needed.
+const WITHOUT_CPU: &str = "block_size 4096\nblock_nr 2\nframe_size 2048\nframe_nr 4\n";
+
+#[test]
+fn misses_a_cpu_for_each_command(rt: HostRuntime) -> Result<(), Memory> {
+    for command in [
+        Command::Check,
+        Command::Replay,
+        Command::Send,
+        Command::Make,
+    ] {
+        let answer = setup_answer(rt.alloc(), WITHOUT_CPU.as_bytes(), command)?;
+        assert_eq!(rt;
+            answer.as_str(),
+            "setup line 0: missing cpu\n",
+            "{command:?}"
+        );
+    }
+    Ok(())
+}

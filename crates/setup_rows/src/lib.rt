@@ -1,0 +1,18 @@
+//! Tests of the texts of a run: setups, moments, schedules and filters, and the lines and words of
+//! which they are made.
+#![tactic(auto)]
+
+#[cfg(test)]
+mod accepted_setups;
+#[cfg(test)]
+mod added_lines;
+#[cfg(test)]
+mod answers;
+#[cfg(test)]
+mod commands;
+#[cfg(test)]
+mod lines_and_words;
+#[cfg(test)]
+mod side_texts;
+#[cfg(test)]
+mod whole_setups;

@@ -1,0 +1,187 @@
+-- What is found, and what a text that stops a command comes to, also where more was read before.
+use Rattle.std.proofs.Common.{◌≡◌, ◌≢◌, ℕ, ◌+◌, ◌<◌, ◌≤◌, Bool, List, [], ◌∷◌, length, inl, inr}
+use Rattle.std.proofs.Common.{refl, sym, ap, ◌∙◌, Option, None, Some, subst, arith}
+use Rattle.std.specs.Prelude.{◌⊎◌, IsTrue, IfOk, IfErr, OnErr, Result, Ok, Err}
+use Rattle.std.specs.List.{AllByRecursion}
+use Rattle.capture_file.specs.declared.cpu_end.CpuEnd.{CpuEnd}
+use Rattle.capture_file.specs.declared.cpu_end.CpuEnd.TheVariants.{Whole, Fault, Damaged}
+use Rattle.fanout_group.specs.declared.runs.CpuLog.{CpuLog}
+use Rattle.frame_view.specs.declared.want.Memory.{Memory}
+use Rattle.made_captures.specs.Made.{made_lines}
+use Rattle.setup_text.specs.Filters.{filter_of}
+use Rattle.setup_text.specs.Moments.{moments_of}
+use Rattle.setup_text.specs.declared.commands.Command.{Command}
+use Rattle.setup_text.specs.declared.commands.Command.TheVariants.{Check, Make, Replay, Send}
+use Rattle.setup_text.specs.declared.jobs.Job.{Job}
+use Rattle.setup_text.specs.declared.reports.MemberReport.{MemberReport}
+use Rattle.setup_text.specs.declared.reports.RunReport.{RunReport}
+use Rattle.setup_text.specs.declared.setups.Setup.{Setup}
+use Rattle.tap_outside.specs.Contents.{Contents}
+use Rattle.tap_outside.specs.Seen.{OnlyReads, StoreSeen}
+use Rattle.tap_reading.specs.Readers.{StopsAtSetup, StopsAtText}
+use Rattle.tap_reading.specs.declared.stops.Stop.{Stop}
+use Rattle.tap_reading.specs.declared.stops.Stop.TheVariants as stops
+use Rattle.tap_saving.specs.Files.{names_from, sent_name}
+use Rattle.tap_engine.specs.Commands.{Named}
+use Rattle.tap_engine.specs.Findings.{IsFound, IsReady, IsReported, finding_of, names_of}
+use Rattle.tap_engine.specs.Headline.{CapturesFor, IsHeadline}
+use Rattle.tap_engine.specs.Jobs.{HasJob, HasSetup, IsAsked, Stops, lines_for}
+use Rattle.tap_engine.specs.Sendings.{IsSent}
+use Rattle.tap_engine.specs.Conclusions.{IsCut}
+use Rattle.tap_engine.specs.declared.findings.Finding.{Finding}
+use Rattle.tap_engine.specs.declared.findings.Finding.TheVariants as finding
+use Rattle.std.proofs.lemmas.List.{length-map}
+use Rattle.tap_engine.specs.Names.{AreMeantToSave, filter_for, saved_for, ticks_for}
+use Rattle.tap_engine.proofs.Meant.{AllMeant, Untold, outputs_meant}
+
+pub if_ok : {A E : Type 0} (P Q : A → Type 0) (result : Result A E) → ((x : A) → P x → Q x)
+    → IfOk result P → IfOk result Q
+if_ok P Q (Ok x) f p = f x p
+if_ok P Q (Err e) f p = p
+
+pub if_err : {A E : Type 0} (P Q : E → Type 0) (result : Result A E) → ((e : E) → P e → Q e)
+    → IfErr result P → IfErr result Q
+if_err P Q (Ok x) f p = p
+if_err P Q (Err e) f p = f e p
+
+pub on_err : {A E : Type 0} (P Q : Type 0) (result : Result A E) → (P → Q) → OnErr result P
+    → OnErr result Q
+on_err P Q (Ok x) f p = p
+on_err P Q (Err e) f p = f p
+
+pub err_with : {A E : Type 0} (P : Type 0) (result : Result A E) → P → OnErr result P
+err_with P (Ok x) p = tt
+err_with P (Err e) p = p
+
+-- ---- why a text stops a command
+
+pub at_setup : (old new : StoreSeen) (named : Named) (stop : Stop)
+    → StopsAtSetup named.command old new named.setup stop → Stops old new named stop
+at_setup old new named stops.Unread h = h
+at_setup old new named (stops.Setup error) h = h
+at_setup old new named (stops.Text error) h = absurd h
+at_setup old new named stops.Memory h = inl h
+
+pub at_filter : (old new : StoreSeen) (name : List ℕ) (stop : Stop)
+    → StopsAtText filter_of old new name stop
+    → (named : Named) (setup : Setup) → HasSetup old.held named setup
+    → filter_for named.command setup ≡ Some name
+    → Stops old new named stop
+at_filter old new name stops.Unread h named setup has is = h
+at_filter old new name (stops.Setup error) h named setup has is = absurd h
+at_filter old new name (stops.Text error) h named setup has is =
+    inl (record { setup = setup; has = has; name = name; names = is; refused = h })
+at_filter old new name stops.Memory h named setup has is = inl h
+
+pub at_ticks : (old new : StoreSeen) (name : List ℕ) (stop : Stop)
+    → StopsAtText moments_of old new name stop
+    → (named : Named) (job : Job) → HasJob old.held named job
+    → ticks_for named.command job.setup ≡ Some name
+    → Stops old new named stop
+at_ticks old new name stops.Unread h named job has is = h
+at_ticks old new name (stops.Setup error) h named job has is = absurd h
+at_ticks old new name (stops.Text error) h named job has is =
+    inr (inl (record { job = job; has = has; name = name; names = is; refused = h }))
+at_ticks old new name stops.Memory h named job has is = inl h
+
+pub at_schedule : (old new : StoreSeen) (named : Named) (job : Job) (stop : Stop)
+    → StopsAtText (lines_for job) old new named.schedule stop → HasJob old.held named job
+    → named.command ≡ Replay
+    → Stops old new named stop
+at_schedule old new named job stops.Unread h has command = h
+at_schedule old new named job (stops.Setup error) h has command = absurd h
+at_schedule old new named job (stops.Text error) h has command =
+    inr (inr (record { command = command; job = job; has = has; refused = h }))
+at_schedule old new named job stops.Memory h has command = inl h
+
+-- where the store was read before and is as it was
+pub stops_same : (old mid new : StoreSeen) (named : Named) (stop : Stop) → mid ≡ old
+    → Stops mid new named stop → Stops old new named stop
+stops_same old mid new named stop same h = subst (λ (s : StoreSeen). Stops s new named stop) same h
+
+-- what is found where a text stops the command
+pub found_of : (old new : StoreSeen) (named : Named) (answer : Result Finding Stop)
+    → IfOk answer (IsFound (Some named) old new) → IfErr answer (Stops old new named)
+    → IfOk (finding_of answer) (IsFound (Some named) old new)
+found_of old new named (Ok found) h k = h
+found_of old new named (Err stops.Unread) h k = k
+found_of old new named (Err (stops.Setup error)) h k = k
+found_of old new named (Err (stops.Text error)) h k = k
+found_of old new named (Err stops.Memory) h k = tt
+
+pub cut_of : (command : Option Named) (old new : StoreSeen) (named : Named)
+    (answer : Result Finding Stop) → command ≡ Some named
+    → OnlyReads old new → IfErr answer (Stops old new named)
+    → OnErr (finding_of answer) (IsCut command old new)
+cut_of command old new named (Ok found) is reads h = tt
+cut_of command old new named (Err stops.Unread) is reads h = tt
+cut_of command old new named (Err (stops.Setup error)) is reads h = tt
+cut_of command old new named (Err (stops.Text error)) is reads h = tt
+cut_of command old new named (Err stops.Memory) is reads h = record { reads = reads; cause = by h }
+  where
+    by : (new ≡ old) ⊎ IsAsked old.held named → (new ≡ old)
+        ⊎ ((n : Named) × (command ≡ Some n) × IsAsked old.held n)
+    by (inl same) = inl same
+    by (inr asked) = inr (named, is, asked)
+
+pub ready_of : (answer : Result Finding Stop) → IfOk answer IsReady
+    → IfOk (finding_of answer) IsReady
+ready_of (Ok found) h = h
+ready_of (Err stops.Unread) h = tt
+ready_of (Err (stops.Setup error)) h = tt
+ready_of (Err (stops.Text error)) h = tt
+ready_of (Err stops.Memory) h = tt
+
+-- ---- what is saved of it is what the command saves
+
+members_count : (held : Option Contents) (named : Named) (report : RunReport)
+    (h : IsHeadline held named report)
+    → length report.members ≡ h.job.setup.plan.members
+members_count held named report h =
+    sym (length-map report.members (λ (member : MemberReport). member.notes))
+    ∙ h.report_is.group.count
+
+run_saves : (command : Command) (held : Option Contents) (setup : Setup) (bytes : List (List ℕ))
+    (ends : List CpuEnd)
+    → CapturesFor command held setup bytes ends
+    → saved_for command setup ≡ names_from setup 0 setup.plan.members
+run_saves Check held setup bytes ends h = absurd h
+run_saves Make held setup bytes ends h = refl
+run_saves Replay held setup bytes ends h = refl
+run_saves Send held setup bytes ends h = absurd h
+
+report_names : (held : Option Contents) (named : Named) (setup : Setup) (report : RunReport)
+    → (h : IsReported held named setup report)
+    → saved_for named.command h.headline.job.setup ≡ names_from setup 0 (length report.members)
+report_names held named setup report h =
+    let head = h.headline in
+    run_saves named.command held head.job.setup head.bytes head.ends head.captures
+    ∙ ap (λ count. names_from head.job.setup 0 count) (sym (members_count held named report head))
+    ∙ ap (λ (s : Setup). names_from s 0 (length report.members)) h.setup_is
+
+pub saves_meant : (old new : StoreSeen) (command : Option Named) (found : Finding)
+    → Untold old.held old.to_save
+    → AreMeantToSave command old → IsFound command old new found
+    → AllMeant old.to_save (names_of found)
+saves_meant old new None finding.NoCommand untold all h = tt
+saves_meant old new None finding.Unread untold all h = absurd h
+saves_meant old new None (finding.BadSetup error) untold all h = absurd h
+saves_meant old new None (finding.BadText error) untold all h = absurd h
+saves_meant old new None finding.Checked untold all h = absurd h
+saves_meant old new None (finding.Ran setup report) untold all h = absurd h
+saves_meant old new None (finding.Sent setup sending) untold all h = absurd h
+saves_meant old new (Some named) finding.NoCommand untold all h = absurd h
+saves_meant old new (Some named) finding.Unread untold all h = tt
+saves_meant old new (Some named) (finding.BadSetup error) untold all h = tt
+saves_meant old new (Some named) (finding.BadText error) untold all h = tt
+saves_meant old new (Some named) finding.Checked untold all h = tt
+saves_meant old new (Some named) (finding.Ran setup report) untold all h =
+    let head = h.0.headline in
+    subst (λ (names : List (List ℕ)). AllMeant old.to_save names)
+    (report_names old.held named setup report h.0)
+    (outputs_meant old.held old.to_save named head.job.setup untold all head.job_is.setup)
+saves_meant old new (Some named) (finding.Sent setup sending) untold all h =
+    let sent = h.0 in
+    subst (λ (s : Setup). AllMeant old.to_save (saved_for Send s)) sent.setup_is
+    (subst (λ (c : Command). AllMeant old.to_save (saved_for c sent.job.setup)) sent.command
+    (outputs_meant old.held old.to_save named sent.job.setup untold all sent.job_is.setup))

@@ -1,0 +1,152 @@
+-- What the work of a command comes to, where its job is accepted.
+use Rattle.std.proofs.Common.{◌≡◌, ℕ, ◌≤◌, Bool, List, length, refl, sym, ap, subst, inr, arith}
+use Rattle.std.proofs.Common.{Option, None, Some}
+use Rattle.std.specs.Prelude.{IfSome, IsTrue, All, Ok}
+use Rattle.schedule_lines.specs.declared.lines.Line.{Line}
+use Rattle.setup_text.specs.Setups.{request_fault}
+use Rattle.setup_text.specs.declared.commands.Command.{Command}
+use Rattle.setup_text.specs.declared.commands.Command.TheVariants.{Check, Make, Replay, Send}
+use Rattle.setup_text.specs.declared.jobs.Job.{Job}
+use Rattle.setup_text.specs.declared.reports.RunReport.{RunReport}
+use Rattle.setup_text.specs.declared.setups.Setup.{Setup}
+use Rattle.tap_outside.specs.Contents.{Contents}
+use Rattle.tap_outside.specs.Counts.{RoseBy}
+use Rattle.tap_outside.specs.Seen.{OnlyReads, StoreSeen}
+use Rattle.tp_layout.specs.Requests.{transmit_fault}
+use Rattle.tap_engine.specs.Commands.{Named}
+use Rattle.tap_reading.specs.Readers.{Says}
+use Rattle.tap_engine.specs.Findings.{IsFound, IsReported, fault_at}
+use Rattle.tap_engine.specs.Jobs.{HasJob, HasLast, HasLines, HasSchedule, HasTicks, IsAsked}
+use Rattle.tap_engine.specs.Jobs.{LinesFor, lines_for}
+use Rattle.tap_engine.specs.Names.{first_file, read_last, ticks_for}
+use Rattle.tap_engine.specs.Sendings.{IsSending}
+use Rattle.tap_engine.specs.declared.findings.Finding.TheVariants as finding
+use Rattle.tap_engine.specs.declared.sending.Sending.{Sending}
+use Rattle.tap_engine.proofs.Meant.{AfterMeant, AllMeant, captures_meant}
+
+-- ---- the names that are read last are meant
+
+last_meant : (meant : List ℕ → Bool) (named : Named) (setup : Setup) (command : Command)
+    → named.command ≡ command
+    → AfterMeant meant named setup → AllMeant meant (read_last command named.schedule setup)
+last_meant meant named setup command is all =
+    subst (λ (c : Command). AllMeant meant (read_last c named.schedule setup)) is all.last
+
+pub ticks_meant : (meant : List ℕ → Bool) (named : Named) (setup : Setup) → named.command ≡ Check
+    → AfterMeant meant named setup → IfSome setup.ticks (λ name. IsTrue (meant name))
+ticks_meant meant named setup is all =
+    subst (λ (c : Command). IfSome (ticks_for c setup) (λ name. IsTrue (meant name))) is all.ticks
+
+pub schedule_meant : (meant : List ℕ → Bool) (named : Named) (setup : Setup)
+    → named.command ≡ Replay
+    → AfterMeant meant named setup → IsTrue (meant named.schedule)
+schedule_meant meant named setup is all = (last_meant meant named setup Replay is all).0
+
+pub run_meant : (meant : List ℕ → Bool) (named : Named) (setup : Setup) → named.command ≡ Replay
+    → AfterMeant meant named setup → All (λ cpu. IsTrue (meant cpu.file)) setup.cpus
+run_meant meant named setup is all = captures_meant meant setup.cpus
+    (last_meant meant named setup Replay is all).1
+
+pub first_meant : (meant : List ℕ → Bool) (named : Named) (setup : Setup) → named.command ≡ Send
+    → AfterMeant meant named setup → IsTrue (meant (first_file setup.cpus))
+first_meant meant named setup is all = (last_meant meant named setup Send is all).0
+
+-- ---- the ring of a `send` is one for transmitting
+
+pub transmits : (command : Command) (setup : Setup) → command ≡ Send
+    → request_fault command setup.request ≡ None
+    → transmit_fault setup.request ≡ None
+transmits command setup is ring = subst (λ (c : Command). request_fault c setup.request ≡ None) is
+    ring
+
+-- ---- what is found
+
+pub checks : (old new : StoreSeen) (named : Named) (job : Job) → named.command ≡ Check
+    → HasJob old.held named job
+    → HasTicks old.held job.setup.ticks → IsFound (Some named) old new finding.Checked
+checks old new named job is has ticks = record {
+  command = is;
+  job = job;
+  job_is = has;
+  ticks = subst (λ (c : Command). HasTicks old.held (ticks_for c job.setup)) (sym is) ticks;
+}
+
+pub ticks_are : (named : Named) (setup : Setup) → named.command ≡ Check
+    → ticks_for named.command setup ≡ setup.ticks
+ticks_are named setup is = ap (λ (c : Command). ticks_for c setup) is
+
+pub sends : (old new : StoreSeen) (named : Named) (job : Job) (sending : Sending)
+    → named.command ≡ Send → HasJob old.held named job
+    → IsSending old.held job.setup sending
+    → RoseBy (fault_at sending.end) old.read_faults new.read_faults
+    → IsFound (Some named) old new (finding.Sent job.setup sending)
+sends old new named job sending is has sent faults =
+    (record { command = is; job = job; job_is = has; setup_is = refl; sending_is = sent }, faults)
+
+pub none_rose : (n a : ℕ) → n ≡ 0 → RoseBy n a a
+none_rose n a none = omega (arith, none)
+
+-- ---- what was asked for, where memory ran out
+
+pub made_asked : (held : Option Contents) (named : Named) (job : Job) → named.command ≡ Make
+    → HasJob held named job → IsAsked held named
+made_asked held named job is has =
+    record {
+      job = job;
+      job_is = has;
+      last = subst (λ (c : Command). HasLast c held named job)
+          (sym is) tt;
+    }
+
+pub send_asked : (held : Option Contents) (named : Named) (job : Job) → named.command ≡ Send
+    → HasJob held named job → IsAsked held named
+send_asked held named job is has =
+    record {
+      job = job;
+      job_is = has;
+      last = subst (λ (c : Command). HasLast c held named job)
+          (sym is) tt;
+    }
+
+pub replay_asked : (held : Option Contents) (named : Named) (job : Job) (lines : List Line)
+    → named.command ≡ Replay → HasJob held named job
+    → HasSchedule held named job lines → IsAsked held named
+replay_asked held named job lines is has schedule =
+    record {
+      job = job;
+      job_is = has;
+      last = subst (λ (c : Command). HasLast c held named job)
+          (sym is) (lines, schedule);
+    }
+
+-- also by the name of its schedule
+schedule_by : (held : Option Contents) (named : Named) (job : Job) (name : List ℕ)
+    (lines : List Line) → named.schedule ≡ name
+    → Says (lines_for job) held name (Ok lines) → HasSchedule held named job lines
+schedule_by held named job name lines called says =
+    subst (λ (n : List ℕ). Says (lines_for job) held n (Ok lines)) (sym called) says
+
+pub asked_by_name : (held : Option Contents) (named : Named) (job : Job) (name : List ℕ)
+    (lines : List Line) → named.command ≡ Replay
+    → named.schedule ≡ name → HasJob held named job → Says (lines_for job) held name (Ok lines)
+    → IsAsked held named
+asked_by_name held named job name lines is called has says =
+    replay_asked held named job lines is has (schedule_by held named job name lines called says)
+
+-- what a report is worth, whatever `replay` asks for it
+abbrev pub IsWorthTo : StoreSeen → Job → List Line → RunReport → Type 0
+IsWorthTo store job lines report =
+    (named : Named) → named.command ≡ Replay → HasJob store.held named job
+    → HasLines store.held named job lines
+    → IsReported store.held named job.setup report
+
+pub scheduled : (old mid : StoreSeen) (job : Job) (name : List ℕ) (lines : List Line)
+    (report : RunReport) → mid ≡ old
+    → Says (lines_for job) old.held name (Ok lines) → IsWorthTo mid job lines report
+    → (named : Named) → named.command ≡ Replay → named.schedule ≡ name → HasJob old.held named job
+    → IsReported old.held named job.setup report
+scheduled old mid job name lines report same says worth named is called has =
+    let here : IsWorthTo old job lines report = subst (λ (s : StoreSeen). IsWorthTo s job lines
+    report) same worth in
+    here named is has (subst (λ (c : Command). LinesFor c old.held named job lines) (sym is)
+    (schedule_by old.held named job name lines called says))

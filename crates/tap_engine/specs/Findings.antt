@@ -1,0 +1,133 @@
+-- What a command finds, by what the outside gives, and what it answers, prints and saves by that.
+use Rattle.std.specs.Prelude.{◌≡◌, ◌≤◌, ℕ, ◌+◌, List, [], ◌∷◌, codes, length, All, Option, None}
+use Rattle.std.specs.Prelude.{Some, ⊤, Result, Ok, Err}
+use Rattle.capture_file.specs.declared.cpu_end.CpuEnd.{CpuEnd}
+use Rattle.capture_file.specs.declared.cpu_end.CpuEnd.TheVariants.{Whole, Fault, Damaged}
+use Rattle.fanout_group.specs.declared.runs.CpuLog.{CpuLog}
+use Rattle.frame_view.specs.declared.want.Memory.{Memory}
+use Rattle.setup_text.specs.declared.reports.RunReport.{RunReport}
+use Rattle.setup_text.specs.declared.setups.Setup.{Setup}
+use Rattle.tap_outside.specs.Contents.{Contents}
+use Rattle.tap_outside.specs.Counts.{Rose, RoseBy}
+use Rattle.tap_outside.specs.Seen.{StoreSeen}
+use Rattle.tap_printing.specs.Lines.{send_lines, summary_of}
+use Rattle.tap_printing.specs.Refusals.{setup_refusal, text_refusal}
+use Rattle.tap_reading.specs.declared.stops.Stop.{Stop}
+use Rattle.tap_reading.specs.declared.stops.Stop.TheVariants as stops
+use Rattle.run_reports.specs.Members.{AreShort}
+use Rattle.tap_saving.specs.Files.{File, files_from, names_from, sent_file, sent_name}
+use Rattle.tp_layout.specs.Requests.{size_of}
+use Rattle.tap_engine.specs.Commands.{Named}
+use Rattle.tap_engine.specs.Headline.{IsHeadline}
+use Rattle.tap_engine.specs.Jobs.{HasBadSetup, HasBadText, IsChecked}
+use Rattle.tap_engine.specs.Sendings.{IsSent}
+use Rattle.tap_engine.specs.declared.findings.Finding.{Finding}
+use Rattle.tap_engine.specs.declared.findings.Finding.TheVariants as finding
+use Rattle.tap_engine.specs.declared.outcomes.Status.{Status}
+use Rattle.tap_engine.specs.declared.outcomes.Status.TheVariants as statuses
+
+-- ---- what is found
+
+-- a report is worth the headline, and its setup is this
+pub record IsReported (held : Option Contents) (named : Named) (setup : Setup) (report : RunReport)
+    : Type 0 where
+  pub headline : IsHeadline held named report
+  pub setup_is : headline.job.setup ≡ setup
+
+-- how many CPUs ended with a fault
+abbrev pub fault_at : CpuEnd → ℕ
+fault_at Fault = 1
+fault_at Whole = 0
+fault_at (Damaged damage) = 0
+
+abbrev pub faults_in : List CpuLog → ℕ
+faults_in [] = 0
+faults_in (log ∷ logs) = fault_at log.end + faults_in logs
+
+-- A command finds this in a store. A text that can't be read comes only where reading failed, and
+-- as many captures end with a fault as reading failed, or fewer.
+abbrev pub IsFound : Option Named → StoreSeen → StoreSeen → Finding → Type 0
+IsFound None old new finding.NoCommand = ⊤
+IsFound None old new found = ⊥
+IsFound (Some named) old new finding.NoCommand = ⊥
+IsFound (Some named) old new finding.Unread = Rose old.read_faults new.read_faults
+IsFound (Some named) old new (finding.BadSetup error) = HasBadSetup old new named error
+IsFound (Some named) old new (finding.BadText error) = HasBadText old new named error
+IsFound (Some named) old new finding.Checked = IsChecked old.held named
+IsFound (Some named) old new (finding.Ran setup report) =
+    IsReported old.held named setup report
+    × RoseBy (faults_in report.cpus) old.read_faults new.read_faults
+IsFound (Some named) old new (finding.Sent setup sending) =
+    IsSent old.held named setup sending
+    × RoseBy (fault_at sending.end) old.read_faults new.read_faults
+
+-- what is found where a text stops the command
+abbrev pub finding_of : Result Finding Stop → Result Finding Memory
+finding_of (Ok found) = Ok found
+finding_of (Err stops.Unread) = Ok finding.Unread
+finding_of (Err (stops.Setup error)) = Ok (finding.BadSetup error)
+finding_of (Err (stops.Text error)) = Ok (finding.BadText error)
+finding_of (Err stops.Memory) = Err (record {})
+
+-- ---- what follows from it
+
+-- the status of the first CPU that didn't end whole: a fault of any comes before damage
+abbrev pub status_by_end : ℕ → CpuEnd → Status → Status
+status_by_end cpu Whole rest = rest
+status_by_end cpu Fault rest = statuses.ReadFault
+status_by_end cpu (Damaged damage) statuses.ReadFault = statuses.ReadFault
+status_by_end cpu (Damaged damage) rest = statuses.Damaged cpu damage
+
+abbrev pub status_of_logs : ℕ → List CpuLog → Status
+status_of_logs cpu [] = statuses.Fine
+status_of_logs cpu (log ∷ logs) = status_by_end cpu log.end (status_of_logs (cpu + 1) logs)
+
+-- the status
+abbrev pub status_of : Finding → Status
+status_of finding.NoCommand = statuses.Usage
+status_of finding.Unread = statuses.ReadFault
+status_of (finding.BadSetup error) = statuses.Setup error
+status_of (finding.BadText error) = statuses.Text error
+status_of finding.Checked = statuses.Fine
+status_of (finding.Ran setup report) = status_of_logs 0 report.cpus
+status_of (finding.Sent setup sending) = status_by_end 0 sending.end statuses.Fine
+
+-- the report
+abbrev pub report_in : Finding → Option RunReport
+report_in (finding.Ran setup report) = Some report
+report_in found = None
+
+-- the printed lines
+abbrev pub lines_of : Finding → List ℕ
+lines_of finding.NoCommand = codes "usage: ringtap check|replay|capture|send|make CONF [SCHED]\n"
+lines_of finding.Unread = codes "read fault\n"
+lines_of (finding.BadSetup error) = setup_refusal error
+lines_of (finding.BadText error) = text_refusal error
+lines_of finding.Checked = codes "ok\n"
+lines_of (finding.Ran setup report) = summary_of (size_of setup.shape) report
+lines_of (finding.Sent setup sending) = send_lines sending.frames sending.end sending.sent
+
+-- the files, and their names
+abbrev pub files_of : Finding → List File
+files_of (finding.Ran setup report) = files_from setup 0 report.members
+files_of (finding.Sent setup sending) = sent_file setup sending.sent.packets ∷ []
+files_of found = []
+
+abbrev pub names_of : Finding → List (List ℕ)
+names_of (finding.Ran setup report) = names_from setup 0 (length report.members)
+names_of (finding.Sent setup sending) = sent_name setup ∷ []
+names_of found = []
+
+-- ---- what its files and its lines need
+
+-- at most eight CPUs and members, and packets that are short enough for an output file
+pub record IsSmall (report : RunReport) : Type 0 where
+  pub cpus : length report.cpus ≤ 8
+  pub members : length report.members ≤ 8
+  pub packets : AreShort report.members
+
+abbrev pub IsReady : Finding → Type 0
+IsReady (finding.Ran setup report) = IsSmall report
+IsReady (finding.Sent setup sending) =
+    All (λ packet. length packet.bytes ≤ 4294967291) sending.sent.packets
+IsReady found = ⊤

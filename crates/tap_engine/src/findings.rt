@@ -1,0 +1,108 @@
+//! What a command finds, before anything is printed and saved.
+ghost use Rattle.std.specs.Prelude.{◌≡◌, ◌≤◌, IfOk, length};
+ghost use Rattle.tap_engine.specs.Findings.{IsReady, lines_of, report_in, status_by_end, status_of};
+ghost use Rattle.tap_engine.specs.Findings.{status_of_logs};
+
+use crate::Status;
+use crate::sending::Sending;
+use capture_file::CpuEnd;
+use fanout_group::CpuLog;
+use frame_view::{ByteList, Memory};
+use setup_text::{RunReport, Setup, SetupError, TextError};
+use std::alloc::Global;
+use tap_printing::{send_lines, setup_refusal, summary, text_refusal};
+
+/// What a command finds, by what the outside gives.
+#[derive(Drop)]
+pub(crate) enum Finding {
+    /// The words are no command.
+    NoCommand,
+    /// A text can't be read.
+    Unread,
+    /// The setup is refused.
+    BadSetup(SetupError),
+    /// A further text is refused, all before it being accepted.
+    BadText(TextError),
+    /// All texts are accepted, and there is nothing to run.
+    Checked,
+    /// The run of a setup was made.
+    Ran(Setup, RunReport),
+    /// The capture of a setup was sent.
+    Sent(Setup, Sending),
+}
+
+impl Finding {
+    /// The lines that it prints.
+    pub(crate) fn lines(&self, alloc: Global) -> Result<ByteList, Memory>
+        ensures { IfOk result (λ lines. lines ≡ lines_of self.now) }
+    {
+        let line = match self {
+            Finding::NoCommand => {
+                format!(in alloc; "usage: ringtap check|replay|capture|send|make CONF [SCHED]\n")?
+            }
+            Finding::Unread => format!(in alloc; "read fault\n")?,
+            Finding::BadSetup(error) => setup_refusal(alloc, error)?,
+            Finding::BadText(error) => text_refusal(alloc, error)?,
+            Finding::Checked => format!(in alloc; "ok\n")?,
+            Finding::Ran(setup, report) => return summary(alloc, setup.shape.tov(), report),
+            Finding::Sent(_, sending) => {
+                send_lines(alloc, sending.frames, sending.end, &sending.sent)?
+            }
+        };
+        Ok(ByteList::from_vec(line.into_bytes()))
+    }
+
+    /// The status where nothing fails at printing and saving.
+    pub(crate) fn status(&self) -> Status
+        requires { IsReady self.now }
+        ensures { result ≡ status_of self.now }
+    {
+        match self {
+            Finding::NoCommand => Status::Usage,
+            Finding::Unread => Status::ReadFault,
+            Finding::BadSetup(error) => Status::Setup(*error),
+            Finding::BadText(error) => Status::Text(*error),
+            Finding::Checked => Status::Fine,
+            Finding::Ran(_, report) => status_of_ends(report.cpus.as_slice()),
+            Finding::Sent(_, sending) => status_with_end(0, sending.end, Status::Fine),
+        }
+    }
+
+    /// The report, if a run was made.
+    pub(crate) fn into_report(self) -> Option<RunReport>
+        ensures { result ≡ report_in self }
+    {
+        match self {
+            Finding::Ran(_, report) => Some(report),
+            _ => None,
+        }
+    }
+}
+
+/// What the ends of CPUs say: a fault of any, else damage, that of the lowest CPU.
+fn status_of_ends(logs: &[CpuLog]) -> Status
+    requires { length logs.now ≤ 8 }
+    ensures { result ≡ status_of_logs 0 logs.now }
+{
+    let mut status = Status::Fine;
+    let mut cpu = logs.len() as u32;
+    while cpu > 0 {
+        cpu -= 1;
+        status = status_with_end(cpu, logs[cpu as usize].end, status);
+    }
+    status
+}
+
+/// The status where a CPU of this number ended so, and those after it have this status.
+fn status_with_end(cpu: u32, end: CpuEnd, rest: Status) -> Status
+    ensures { result ≡ status_by_end cpu end rest }
+{
+    match end {
+        CpuEnd::Whole => rest,
+        CpuEnd::Fault => Status::ReadFault,
+        CpuEnd::Damaged(fault) => match rest {
+            Status::ReadFault => Status::ReadFault,
+            _ => Status::Damaged { cpu, fault },
+        },
+    }
+}

@@ -1,0 +1,58 @@
+-- What contracts see of the outside: a source, a sink and a store, each as one record.
+use Rattle.std.specs.Prelude.{◌≡◌, ◌≤◌, ℕ, List, Bool, true, Option, Some}
+use Rattle.tap_outside.specs.Contents.{Contents, KeepsOthers}
+
+-- a source, of which bytes are read
+pub record SourceSeen : Type 0 where
+  -- the bytes still to come, where the source tells them
+  pub left : Option (List ℕ)
+  -- the number of reads that failed
+  pub faults : ℕ
+
+-- a source of bytes that it tells, before its first read
+abbrev pub unread_source : List ℕ → SourceSeen
+unread_source bytes = record { left = Some bytes; faults = 0 }
+
+-- a sink, to which bytes are written
+pub record SinkSeen : Type 0 where
+  -- the bytes written so far, where the sink tells them
+  pub written : Option (List ℕ)
+  -- the number of writes that failed
+  pub faults : ℕ
+
+-- a store of named files
+pub record StoreSeen : Type 0 where
+  -- what each name holds, where the store tells it
+  pub held : Option Contents
+  -- whether a name is meant for reading
+  pub to_read : List ℕ → Bool
+  -- whether a name is meant for saving
+  pub to_save : List ℕ → Bool
+  -- the number of fetches that failed, and of sources that had a fault when they were closed
+  pub read_faults : ℕ
+  -- the number of saves that failed
+  pub save_faults : ℕ
+
+-- a store in which every name is meant for reading and for saving: what it holds, and its two
+-- counts
+abbrev pub meant_store : Option Contents → ℕ → ℕ → StoreSeen
+meant_store contents reads saves =
+    record {
+      held = contents;
+      to_read = λ _. true;
+      to_save = λ _. true;
+      read_faults = reads;
+      save_faults = saves;
+    }
+
+-- all of a store is as before, but its count of faults of reading, which may have risen
+pub record OnlyReads (old new : StoreSeen) : Type 0 where
+  pub same : new ≡ record old { read_faults = new.read_faults }
+  pub later : old.read_faults ≤ new.read_faults
+
+-- all of a store is as before, but what this name holds, and its count of faults of saving, which
+-- may have risen
+pub record OnlySaves (old new : StoreSeen) (name : List ℕ) : Type 0 where
+  pub same : new ≡ record old { held = new.held; save_faults = new.save_faults }
+  pub others : KeepsOthers old.held new.held name
+  pub later : old.save_faults ≤ new.save_faults

@@ -1,6 +1,0 @@
-use Rattle.std.proofs.Common.{◌≤◌}
-use Rattle.tx_ring.proofs.tests.do_all.Given as goal
-
--- one slot at most was placed for each act
-abbrev pub invariant-loop-act : goal.invariant-loop-act
-invariant-loop-act l = l.ring.placed ≤ l.act-index
