@@ -9,6 +9,10 @@ bytes, of 1514 bytes, or of 60, 590 and 1514 bytes by turns. Each is replayed wi
 that drops. Those of 60 and of 1514 bytes are sent through a ring of 2048 slots. Files are written below bench/work. With
 --beside the replays alone are run, by turns with those of another program, as an earlier one; both must print the same.
 
+Where there is a C compiler, seven replays of 32 MiB are run by turns with bench/plain_ring.c, which does the same with arrays and keeps no
+notes. Both must save the same files. Page faults are those of one run; instructions are those that valgrind counts of a capture
+of 2 MiB, by frame, where valgrind is there.
+
 Time is that from start to end, CPU that of the processor for user and system, each the least of some runs. Memory is the
 largest resident size; the system counts no less than this script's own, about 14 MiB.
 
@@ -103,6 +107,100 @@ def write_setup(path, ring, cpus=1, more=""):
         file.write("cpu in.pcap\n" * cpus + more)
 
 
+# What is compared with the program in C: the lengths of the frames or the kind of the flows, and what the group is.
+PASSES_LARGE = "4\n128 0 0 0\n53 0 1 1000\n6 0 0 262144\n6 0 0 0\n"
+CASES = {
+    "60 bytes": (FRAMES["60"], "", []),
+    "60, 590 and 1514 bytes": (FRAMES["mixed"], "", []),
+    "1514 bytes": (FRAMES["1514"], "", []),
+    "hash of four, 60 bytes": ("small", f"members 4\nmode hash\nkey {KEY}\nfeatures 1\n", ["4", "key", KEY]),
+    "hash of four, 1,042 bytes": ("hash", GROUPS["hash"], ["4", "key", KEY]),
+    "reassembly": ("defrag", f"features 1\n{GROUPS['defrag']}", ["4", "key", KEY, "defrag"]),
+    "filter that passes few": ([60] * 15 + [1514], "filter large.ddd\n", ["1", "filter", "large.ddd"]),
+}
+
+
+def make_small_flows(path, size):
+    """Writes a capture of UDP flows in frames of 60 bytes of at most so many bytes, and gives the number of its frames."""
+    count = (size - 24) // 76
+    with open(path, "wb") as file:
+        file.write(struct.pack("<IHHiIII", 0xA1B2C3D4, 2, 4, 0, 0, 65535, 1))
+        for number in range(count):
+            frame = bytearray(datagram(number)[:60])
+            struct.pack_into(">H", frame, 16, 46)
+            file.write(struct.pack("<IIII", number // 100_000, number % 100_000 * 10, 60, 60) + frame)
+    return count
+
+
+def make_case(kind, size):
+    if kind == "small":
+        return make_small_flows("in.pcap", size)
+    return make_flows("in.pcap", size, kind) if isinstance(kind, str) else make_capture("in.pcap", size, kind)
+
+
+def faults_of(words):
+    """The page faults of a run, and its largest memory in bytes."""
+    with open(os.devnull, "wb") as out:
+        process = subprocess.Popen(words, stdout=out)
+        _, _, usage = os.wait4(process.pid, 0)
+        process.returncode = 0
+    return usage.ru_minflt, usage.ru_maxrss * 1024
+
+
+def instructions_of(words):
+    """The instructions of a run as valgrind counts them, or None where it isn't there."""
+    if not shutil.which("valgrind"):
+        return None
+    ran = subprocess.run(
+        ["valgrind", "--tool=callgrind", "--callgrind-out-file=/dev/null", *words], capture_output=True, text=True, check=True
+    )
+    return next(int(line.split()[-1].replace(",", "")) for line in ran.stderr.splitlines() if "Collected" in line)
+
+
+def same_files(members):
+    """Whether both programs saved the same packets."""
+    for member in range(members):
+        with open(f"out.{member}.pcap", "rb") as one, open(f"plain.{member}.pcap", "rb") as other:
+            if one.read() != other.read():
+                return False
+    return True
+
+
+def times_of_plain(program, asked):
+    """Prints the table of the program in C, and how many times its time each case takes."""
+    compiler = shutil.which("cc") or shutil.which("gcc")
+    if not compiler:
+        print("\nno C compiler, so nothing is compared with a program in C")
+        return
+    plain = os.path.join(WORK, "plain_ring")
+    subprocess.run([compiler, "-O2", "-o", plain, os.path.join(TOP, "bench", "plain_ring.c")], check=True)
+    with open("large.ddd", "w", encoding="ascii") as file:
+        file.write(PASSES_LARGE)
+    ring = RINGS["keeps"]
+    print("\n| Case, 32 MiB | Frames | Time, ms | C, ms | Times | Page faults | C | Memory, MiB | C | Instructions a frame | C |")
+    print("|---|---|---|---|---|---|---|---|---|---|---|")
+    for case, (kind, group, words) in CASES.items():
+        ours = [program, "replay", "conf", "sched"]
+        theirs = [plain, "in.pcap", "plain", str(ring["block_size"]), str(ring["block_nr"]), *(words or ["1"])]
+        write_setup("conf", ring, 1, group)
+        few = make_case(kind, 2 * MIB)
+        counts = [instructions_of(one) for one in (ours, theirs)]
+        count = make_case(kind, 32 * MIB)
+        least = [float("inf"), float("inf")]
+        for _ in range(asked.runs):
+            for at, one in enumerate((ours, theirs)):
+                least[at] = min(least[at], measure(one, 1)[0])
+        if not same_files(int((words or ["1"])[0])):
+            sys.exit(f"{case}: the program in C saved other files")
+        (faults, memory), (c_faults, c_memory) = faults_of(ours), faults_of(theirs)
+        each = [f"{number / few:,.0f}" if number else "-" for number in counts]
+        print(
+            f"| {case} | {count:,} | {least[0] * 1000:.0f} | {least[1] * 1000:.0f} | {least[0] / least[1]:.2f} | {faults:,}"
+            f" | {c_faults:,} | {memory / MIB:.0f} | {c_memory / MIB:.0f} | {each[0]} | {each[1]} |",
+            flush=True,
+        )
+
+
 def measure(words, runs):
     """Of some runs the least time and CPU time in seconds, the largest memory in bytes, and what the last one printed."""
     best, least, memory, printed = float("inf"), float("inf"), 0, b""
@@ -180,6 +278,7 @@ def main():
     found.update(times_of_groups(program, asked))
     found.update(times_of_made(program, asked))
     found.update(times_of_sent(program, asked))
+    times_of_plain(program, asked)
     is_large = memory_of_refused(program, asked)
     shutil.rmtree(WORK)
     sys.exit(1 if grows(found) or is_large else 0)

@@ -1,0 +1,124 @@
+#!/usr/bin/env python3
+"""Which crate and which of its parts takes the gate's time.
+
+    gate_times.py --watch OUT [PID]   samples the prover's processes each second, and writes to OUT what each took so far
+    gate_times.py --table OUT         prints a table of it: of each crate its own proof, its tests' proof and its edits
+
+Start the watch beside `rt ci`. With a PID it counts the processes below that one alone, and ends with it; without one it counts
+every process of the prover on the machine, and ends when it is interrupted.
+
+Times are seconds of one processor, for user and system. A process that ends between two samples is counted up to the last one,
+so a check falls short by a second at most, and one of less than a second may be missing. Memory is the largest resident size
+of one process.
+"""
+import argparse
+import collections
+import json
+import os
+import signal
+import sys
+import time
+
+PROVER = "rattle"
+PARTS = ["proof", "tests", "edits"]
+TICK = os.sysconf("SC_CLK_TCK")
+
+Seen = collections.namedtuple("Seen", "crate part seconds kib")
+
+
+def text_of(pid, name):
+    with open(f"/proc/{pid}/{name}", encoding="utf-8", errors="replace") as file:
+        return file.read()
+
+
+def fields_of(pid):
+    """The numbers of a process's stat file that stand behind its name: its state is the first."""
+    return text_of(pid, "stat").rpartition(")")[2].split()
+
+
+def seen_of(pid, fields):
+    """What a process of the prover took until now; None for any other process."""
+    words = text_of(pid, "cmdline").split("\0")
+    if os.path.basename(words[0]) != PROVER or "--crate-name" not in words:
+        return None
+    # an edit is tried in a copy of the crate, in a folder of its own
+    is_edit = os.path.basename(os.readlink(f"/proc/{pid}/cwd")).startswith("rt-edit")
+    part = "edits" if is_edit else "tests" if "--test" in words else "proof"
+    peak = next((line.split()[1] for line in text_of(pid, "status").splitlines() if line.startswith("VmHWM")), "0")
+    seconds = (int(fields[11]) + int(fields[12])) / TICK
+    return Seen(words[words.index("--crate-name") + 1], part, seconds, int(peak))
+
+
+def sample(seen, top):
+    """Notes what each process took, by its number and its start. Says whether the top one still runs."""
+    stats = {}
+    for name in filter(str.isdigit, os.listdir("/proc")):
+        try:
+            stats[int(name)] = fields_of(name)
+        except OSError:
+            continue
+    for pid, fields in stats.items():
+        above = pid
+        while top and above != top and above in stats:
+            above = int(stats[above][1])
+        if top and above != top:
+            continue
+        try:
+            now = seen_of(pid, fields)
+        except OSError:
+            continue
+        if now:
+            seen[f"{pid} {fields[19]}"] = now
+    return not top or stats.get(top, ["Z"])[0] != "Z"
+
+
+def watch(path, top):
+    seen, begun = {}, time.time()
+    signal.signal(signal.SIGTERM, signal.default_int_handler)
+    try:
+        while sample(seen, top):
+            write(path, seen, time.time() - begun)
+            time.sleep(1)
+    except KeyboardInterrupt:
+        pass
+    write(path, seen, time.time() - begun)
+
+
+def write(path, seen, seconds):
+    with open(path + ".new", "w", encoding="utf-8") as file:
+        json.dump({"seconds": seconds, "processes": sorted(seen.values())}, file)
+    os.replace(path + ".new", path)
+
+
+def table(path):
+    with open(path, encoding="utf-8") as file:
+        told = json.load(file)
+    took, peak = collections.defaultdict(collections.Counter), collections.Counter()
+    for crate, part, seconds, kib in told["processes"]:
+        took[crate][part] += seconds
+        took["all"][part] += seconds
+        peak[crate], peak["all"] = max(peak[crate], kib), max(peak["all"], kib)
+    print("| Crate | Proof, s | Tests, s | Edits, s | All, s | Memory, MiB |")
+    print("|---|---|---|---|---|---|")
+    for crate, parts in sorted(took.items(), key=lambda it: (it[0] != "all", sum(it[1].values())), reverse=True):
+        times = " | ".join(f"{parts[part]:,.0f}" for part in PARTS)
+        print(f"| {crate} | {times} | {sum(parts.values()):,.0f} | {peak[crate] / 1024:,.0f} |")
+    print(f"\n{told['seconds']:,.0f} seconds on the clock.")
+
+
+def main():
+    parser = argparse.ArgumentParser(description=__doc__, formatter_class=argparse.RawDescriptionHelpFormatter)
+    parser.add_argument("--watch", metavar="OUT")
+    parser.add_argument("--table", metavar="OUT")
+    parser.add_argument("pid", nargs="?", type=int)
+    asked = parser.parse_args()
+    if bool(asked.watch) == bool(asked.table):
+        parser.error("--watch or --table is wanted")
+    if asked.watch:
+        watch(asked.watch, asked.pid)
+    else:
+        table(asked.table)
+
+
+if __name__ == "__main__":
+    sys.exit(main())
