@@ -1,3 +1,5 @@
 mod Piecewise
 mod Totals
 mod Lawfulness
+pub mod ClosedOnes
+mod Knowing

@@ -110,6 +110,12 @@ at_end mid popped came pops came_is ready =
     let few = got_none mid.fed (frames_in mid) (sym came_is ∙ pops.frame_is) in
     subst (λ (cpu : Feeding). IsAtItsEnd cpu) (sym now) (record { ended = has_ended mid few ready; all = few })
 
+-- nothing more was fed
+pub none_fed : (old mid popped : Feeding) (came : Option Frame) → HasRead old mid → Pops mid came popped → came ≡ None → popped.fed ≡ old.fed
+none_fed old mid popped came read pops came_is =
+    let now : popped ≡ mid = pops.new_is ∙ ap (λ (o : Option Frame). behind o mid) came_is in
+    ap (λ (cpu : Feeding). cpu.fed) now ∙ ap (λ (cpu : Feeding). cpu.fed) read.rest_is
+
 pub one_fed : (old mid popped new : Feeding) (frame : Frame) (came : Option Frame) → HasRead old mid → Pops mid came popped → came ≡ Some frame
     → new.fed ≡ popped.fed → length (frames_in mid) ≤ 2097150 → FedOne old new
 one_fed old mid popped new frame came read pops came_is fed few =

@@ -1,12 +1,13 @@
 -- A CPU whose source is read a piece at a time, and what arrives at the frames that it hasn't fed
 -- yet.
-use Rattle.std.specs.Prelude.{◌≡◌, ℕ, ◌+◌, ◌-◌, ◌<◌, ◌≤◌, List, [], ◌∷◌, ◌++◌, length, drop, slice_get, is_some, if◌then◌else◌, Option, None, Some, IsSome}
+use Rattle.std.specs.Prelude.{◌≡◌, ◌≢◌, ℕ, Bool, true, false, ◌+◌, ◌-◌, ◌<◌, ◌≤◌, List, [], ◌∷◌, ◌++◌, length, drop, slice_get, is_some, if◌then◌else◌, Option, None, Some, IsSome}
 use Rattle.capture_file.specs.Capture.{damage_of, frames_of}
 use Rattle.capture_file.specs.Decoding.{DecoderValue, Stands}
 use Rattle.fanout_group.specs.Arrivals.{arrivals_from}
 use Rattle.fanout_group.specs.Paths.{Path}
 use Rattle.fanout_group.specs.Plans.{has_defrag}
 use Rattle.capture_file.specs.declared.cpu_end.CpuEnd.{CpuEnd}
+use Rattle.capture_file.specs.declared.cpu_end.CpuEnd.TheVariants.{Fault}
 use Rattle.fanout_group.specs.declared.runs.CpuLog.{CpuLog}
 use Rattle.frame_view.specs.declared.frames.Frame.{Frame}
 use Rattle.capture_reading.specs.Sources.{GaveIfThere, Giving}
@@ -54,6 +55,25 @@ pub record IsFed (number : ℕ) (first now : Option SourceSeen) (bytes : List �
   pub giving : Giving first now bytes ended
   pub sound : ended ≡ None → damage_of bytes ≡ None
 
+-- no read failed since the source was handed in
+abbrev pub HasNoFault : Option SourceSeen → Option SourceSeen → Type 0
+HasNoFault None None = Unit {0}
+HasNoFault (Some first) (Some now) = now.faults ≡ first.faults
+HasNoFault first now = ⊥
+
+-- the frames of a piece were lost, since there was no memory for them: the source hadn't ended, and
+-- no read had failed
+pub record IsStuck (first now : Option SourceSeen) (ended : Option CpuEnd) : Type 0 where
+  pub unended : ended ≡ None
+  pub faultless : HasNoFault first now
+
+-- what is known of the source, whether a piece was lost or not
+pub record IsKnown (stuck : Bool) (number : ℕ) (first now : Option SourceSeen) (bytes : List ℕ)
+    (ended : Option CpuEnd) (fed given : ℕ) (decoder : DecoderValue)
+    (waiting : List Frame) : Type 0 where
+  pub whole : stuck ≡ false → IsFed number first now bytes ended fed given decoder waiting
+  pub lost : stuck ≡ true → IsStuck first now ended
+
 -- ---- the steps
 
 -- more was read: nothing was fed, and what all frames are by now they were before
@@ -69,6 +89,14 @@ IsReady cpu = cpu.ended ≡ None → cpu.fed < length (frames_in cpu)
 abbrev pub behind : Option Frame → Feeding → Feeding
 behind None cpu = cpu
 behind (Some frame) cpu = record cpu { fed = cpu.fed + 1 }
+
+-- no read failed, unless one had failed before
+abbrev pub HasNotFailed : Feeding → Feeding → Type 0
+HasNotFailed old new = old.ended ≢ Some Fault → new.ended ≢ Some Fault
+
+-- where a read has failed, all frames were fed before it
+abbrev pub FailsFed : Feeding → Type 0
+FailsFed cpu = cpu.ended ≡ Some Fault → length (frames_in cpu) ≤ cpu.fed
 
 -- the next frame is fed
 pub record Pops (old : Feeding) (frame : Option Frame) (new : Feeding) : Type 0 where

@@ -1,3 +1,4 @@
 pub mod Feeding
 pub mod Fed
 pub mod Lawful
+pub mod Closing

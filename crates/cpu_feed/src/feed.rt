@@ -5,8 +5,9 @@
 //! capture. A frame that is fed moves out of the queue into the receive path. The source has ended
 //! once a read gave no byte or failed, or the bytes showed damage; the frames before that are still
 //! fed.
-ghost use Rattle.std.specs.Prelude.{◌≡◌, ◌+◌, ◌<◌, ◌≤◌, ℕ, List, None, Some, false, true, [], ◌∷◌, ◌++◌, length, option_map, unwrap_or, IfOk, IfSome, IsSome, OnOk};
+ghost use Rattle.std.specs.Prelude.{◌≡◌, ◌≢◌, ◌+◌, ◌<◌, ◌≤◌, ℕ, List, None, Some, false, true, [], ◌∷◌, ◌++◌, length, option_map, unwrap_or, IfOk, IfSome, IsSome, OnErr, OnOk};
 ghost use Rattle.capture_file.specs.Laws.{IsCaptured};
+ghost use Rattle.capture_file.specs.declared.cpu_end.CpuEnd.TheVariants.{Fault};
 ghost use Rattle.fanout_group.specs.Arrivals.{HasPlaceOf, IsArrival, arrival_at, held_behind};
 ghost use Rattle.fanout_group.specs.Judging.{Lens};
 ghost use Rattle.fanout_group.specs.Paths.{IsPath, IsPathBehind, first_path, logged};
@@ -14,8 +15,9 @@ ghost use Rattle.fanout_group.specs.Plans.{has_defrag, rolls_over};
 ghost use Rattle.fanout_group.specs.Routes.{IsRoute};
 ghost use Rattle.fanout_group.specs.Rules.{HasTicket, Rules, home_by};
 ghost use Rattle.frame_view.specs.declared.frames.Frame.{Frame};
-ghost use Rattle.cpu_feed.specs.Feeding.{Closes, HasRead, IsAllOfCpu, IsReady, IsSameCpu, Pops, Takes, frames_in, unread};
+ghost use Rattle.cpu_feed.specs.Feeding.{Closes, FailsFed, HasNotFailed, HasRead, IsAllOfCpu, IsReady, IsSameCpu, Pops, Takes, frames_in, unread};
 ghost use Rattle.cpu_feed.specs.Fed.{GoesOn, arrival_of};
+ghost use Rattle.cpu_feed.specs.declared.fed.Fed.TheVariants.{End};
 ghost use Rattle.cpu_feed.specs.Lawful.{FeedsLawfully, LogsLawfully};
 
 use crate::fed::Fed;
@@ -63,8 +65,8 @@ pub struct CpuFeed<S: Source> {
 }
 
 impl<S: Source> Model for CpuFeed<S> {
-    ghost use Rattle.std.specs.Prelude.{◌≡◌, false, option_map};
-    ghost use Rattle.cpu_feed.specs.Feeding.{Feeding, IsFed};
+    ghost use Rattle.std.specs.Prelude.{option_map};
+    ghost use Rattle.cpu_feed.specs.Feeding.{Feeding, IsKnown};
 
     ghost Value = { Feeding };
 
@@ -77,7 +79,7 @@ impl<S: Source> Model for CpuFeed<S> {
       path = cpu.path;
     } };
 
-    ghost invariant = { λ cpu. cpu.stuck ≡ false → IsFed cpu.number
+    ghost invariant = { λ cpu. IsKnown cpu.stuck cpu.number
         (option_map S.seen cpu.first.value)
         (option_map S.seen cpu.source)
         cpu.trace.bytes cpu.ended cpu.fed cpu.given cpu.decoder cpu.waiting.items };
@@ -118,6 +120,7 @@ impl<S: Source> CpuFeed<S> {
         ensures dry { IfOk result (λ dry. dry ≡ true
             → (self.now.ended ≡ None) × (length (frames_in self.now) ≤ self.now.fed)) }
         ensures ready { IfOk result (λ dry. dry ≡ false → IsReady self.now) }
+        ensures err { OnErr result (self.now.ended ≡ None) }
     {
         if self.stuck {
             return Err(Memory);
@@ -132,6 +135,8 @@ impl<S: Source> CpuFeed<S> {
         requires none { length (frames_in self.old) ≤ self.old.fed }
         ensures read { OnOk result (HasRead self.old self.new) }
         ensures less { OnOk result (unread self.new < unread self.old) }
+        ensures failed { OnOk result (FailsFed self.new) }
+        ensures err { OnErr result (self.new.ended ≡ None) }
     {
         damage_is_the_end();
         too_many_bytes_are_damage();
@@ -166,6 +171,8 @@ impl<S: Source> CpuFeed<S> {
     fn fill(&mut self, alloc: Global, buffer: &mut Buffer) -> Result<(), Memory>
         ensures read { OnOk result (HasRead self.old self.new) }
         ensures ready { OnOk result (IsReady self.new) }
+        ensures failed { OnOk result (self.old.ended ≢ Some Fault → FailsFed self.new) }
+        ensures err { OnErr result (self.new.ended ≡ None) }
     {
         'reading: while self.is_dry()? {
             self.read_piece(alloc, buffer)?;
@@ -175,7 +182,8 @@ impl<S: Source> CpuFeed<S> {
 
     /// Takes the next frame that waits.
     fn pop(&mut self) -> Result<Option<Frame>, Memory>
-        ensures { IfOk result (λ frame. Pops self.old frame self.new) }
+        ensures pops { IfOk result (λ frame. Pops self.old frame self.new) }
+        ensures err { OnErr result (self.new.ended ≡ None) }
     {
         frames_are_few();
         if self.stuck {
@@ -201,6 +209,7 @@ impl<S: Source> CpuFeed<S> {
             held = held_behind (has_defrag self.old.path.shape.flags) self.old.path.held frame;
           };
         }) }
+        ensures ended { self.new.ended ≡ self.old.ended }
         ensures sound { IfOk result (λ arrival. IfSome arrival IsArrival) }
         ensures place { IfOk result (λ arrival. IfSome arrival (HasPlaceOf frame)) }
         ensures lawful { IfOk result (λ arrival. (rules : Rules) (frames : List Frame)
@@ -211,7 +220,8 @@ impl<S: Source> CpuFeed<S> {
     }
 
     /// Feeds the next frame, if there is one, and gives what arrives at it. Reads on where no frame
-    /// waits. The only error is that an allocation fails; a CPU that answered it is to be dropped.
+    /// waits. The only error is that an allocation fails, and never that a read failed; a CPU that
+    /// answered it is to be dropped.
     pub fn next(&mut self, alloc: Global, buffer: &mut Buffer) -> Result<Fed, Memory>
         ensures same { OnOk result (IsSameCpu self.old self.new) }
         ensures takes { IfOk result (λ fed. (all : List Frame)
@@ -220,7 +230,9 @@ impl<S: Source> CpuFeed<S> {
         ensures place { IfOk result (λ fed.
             IfSome (arrival_of fed) (λ arrival. arrival.cpu ≡ self.old.number)) }
         ensures more { IfOk result (λ fed. GoesOn self.old fed self.new) }
+        ensures idle { IfOk result (λ fed. fed ≡ End → self.new.fed ≡ self.old.fed) }
         ensures lawful { IfOk result (λ fed. FeedsLawfully self.old (arrival_of fed) self.new) }
+        ensures err { OnErr result (HasNotFailed self.old self.new) }
     {
         frames_are_few();
         frames_are_numbered();

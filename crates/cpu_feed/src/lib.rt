@@ -3,10 +3,12 @@
 #![tactic(auto)]
 
 mod arrival_rules;
+mod closing;
 mod fed;
 mod feed;
 mod trace;
 
 pub use arrival_rules::rules_at;
+pub use closing::{ClosedCpus, close_cpus};
 pub use fed::Fed;
 pub use feed::CpuFeed;

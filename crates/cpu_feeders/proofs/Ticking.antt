@@ -1,8 +1,5 @@
 -- A moment that the timer tells each member, one after the other.
-use Rattle.std.proofs.Common.{◌≡◌, ◌≢◌, ◌<◌, ◌≤◌, ◌+◌, ◌⊎◌, inl, inr, ℕ, zero, suc, Bool, true, false, List, [], ◌∷◌, ◌++◌, length, take, refl, sym, ap, ◌∙◌, subst, arith, get_or, set, length-append}
-use Rattle.std.proofs.lemmas.Bool.{eqb-true, eqb-false}
-use Rattle.std.proofs.lemmas.List.{get_or-set_same, get_or-set_other}
-use Rattle.std.specs.Prelude.{◌==◌}
+use Rattle.std.proofs.Common.{◌≡◌, ◌<◌, ◌≤◌, ℕ, zero, suc, List, [], ◌∷◌, ◌++◌, length, take, refl, ap, ◌∙◌, subst, arith, get_or, length-append}
 use Rattle.capture_model.specs.Ticks.{ticks_of}
 use Rattle.member_turns.specs.Seats.{IsReady, Lock, Seat, moment_from, moment_of, own_of}
 use Rattle.member_turns.specs.Turning.{IsTickTurn}
@@ -10,7 +7,7 @@ use Rattle.ring_model.specs.declared.notes.Found.{Found}
 use Rattle.ring_model.specs.declared.notes.Note.{Note}
 use Rattle.ring_model.specs.declared.notes.Note.TheVariants.{Kept, Refused, Dropped, Ticked, Counted, Finished}
 use Rattle.setup_text.specs.Sound.{AreRising}
-use Rattle.cpu_feeders.specs.Timing.{IsTimed}
+use Rattle.capture_reports.specs.Timing.{IsTimed}
 
 -- an element of a list
 pub item : {A : Type 0} (xs : List A) (i : ℕ) → i < length xs → A

@@ -1,2 +1,13 @@
 pub mod Timing
 pub mod Walks
+pub mod Stands
+pub mod Openings
+pub mod Feeds
+pub mod Working
+pub mod Hiring
+pub mod Parting
+pub mod Closings
+pub mod Crews
+pub mod Readers
+pub mod FeedSteps
+pub mod Runs

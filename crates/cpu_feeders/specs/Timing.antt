@@ -1,7 +1,7 @@
 -- What the timer of a run does at the members.
-use Rattle.std.specs.Prelude.{◌≡◌, ℕ, ◌+◌, ◌<◌, false, List, [], ◌∷◌, length, slice_index_or}
-use Rattle.capture_model.specs.Ticks.{ticks_of}
-use Rattle.member_turns.specs.Seats.{IsReady, Lock, Seat, own_of}
+use Rattle.std.specs.Prelude.{◌≡◌, ℕ, ◌<◌, false, List, length, slice_index_or}
+use Rattle.capture_reports.specs.Timing.{AreTimed}
+use Rattle.member_turns.specs.Seats.{IsReady, Lock, Seat}
 use Rattle.member_turns.specs.Turning.{IsTickTurn}
 use Rattle.cpu_feeders.specs.declared.timer.Timer.{Timer}
 
@@ -16,18 +16,6 @@ pub record HaveTicked (ms : ℕ) (locks : List Lock) (before after : List Seat) 
   pub count : length after ≡ length before
   pub each : (member : ℕ) (lock : Lock) (seat : Seat) → member < length before →
       IsTickTurn (slice_index_or locks member lock) (slice_index_or before member seat) (slice_index_or after member seat) ms
-
--- the timer has told a member these moments, a turn each
-pub record IsTimed (moments : List ℕ) (lock : Lock) (seat : Seat) : Type 0 where
-  pub ready : IsReady lock lock.base.cpus seat
-  pub entered : seat.entered ≡ length moments
-  pub ticks : ticks_of (own_of lock seat) ≡ moments
-
--- and so at each member
-pub record AreTimed (moments : List ℕ) (locks : List Lock) (seats : List Seat) : Type 0 where
-  pub count : length seats ≡ length locks
-  pub each : (member : ℕ) (lock : Lock) (seat : Seat) → member < length seats →
-      IsTimed moments (slice_index_or locks member lock) (slice_index_or seats member seat)
 
 -- unless a request for memory was refused the timer has told each member all moments
 abbrev pub TimesOut : List ℕ → List Lock → Timer → Type 0

@@ -1,5 +1,5 @@
 -- What the reader of a member does.
-use Rattle.std.specs.Prelude.{◌≡◌, ℕ, false, List, length, map}
+use Rattle.std.specs.Prelude.{◌≡◌, false, List, length, map}
 use Rattle.cpu_feeders.specs.declared.walker.Walker.{Walker}
 use Rattle.reader_walk.specs.Takers.{Base, Taken, taken_in}
 use Rattle.ring_words.specs.Rings.{Entry}

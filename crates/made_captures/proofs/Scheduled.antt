@@ -1,12 +1,12 @@
--- The lines of a made schedule: one by one, and without a tick.
-use Rattle.std.proofs.Common.{◌≡◌, ℕ, zero, suc, ◌+◌, ◌%◌, List, [], ◌∷◌, ◌++◌, true, false, Bool, sym, ap, ◌∙◌, append_assoc, arith}
+-- The lines of a made schedule: one by one, without a tick, and not many.
+use Rattle.std.proofs.Common.{◌≡◌, ℕ, zero, suc, ◌+◌, ◌*◌, ◌%◌, ◌≤◌, List, [], ◌∷◌, ◌++◌, length, true, false, Bool, sym, ap, ◌∙◌, append_assoc, length-append, arith}
 use Rattle.std.specs.Prelude.{if◌then◌else◌, ◌==◌}
 use Rattle.std.specs.List.{flat_map, range_with_len}
 use Rattle.std.proofs.lemmas.Grind.{flat_map-append}
 use Rattle.std.proofs.lemmas.List.{append-nil}
 use Rattle.schedule_lines.specs.Ascending.{AreAscending, IsSchedule}
 use Rattle.schedule_lines.specs.declared.lines.Line.{Line}
-use Rattle.schedule_lines.specs.declared.lines.Line.TheVariants.{Read}
+use Rattle.schedule_lines.specs.declared.lines.Line.TheVariants.{Feed, Read}
 use Rattle.made_captures.specs.Made.{feed_lines, made_lines, read_lines}
 
 -- ---- the loops
@@ -58,3 +58,27 @@ feeds_ascend from (suc n) cpus members clock =
 pub made_lines_ascend : (count cpus members : ℕ) → IsSchedule (made_lines count cpus members)
 unfolding made_lines
 made_lines_ascend count cpus members = feeds_ascend 0 count cpus members 0
+
+-- ---- not many lines
+
+reads_few : (from n : ℕ) → length (flat_map (λ member. Read member ∷ Read member ∷ []) (range_with_len from n)) ≤ 2 * n
+reads_few from zero = omega arith
+reads_few from (suc n) = let rest = reads_few (from + 1) n in omega (arith, rest)
+
+feed_few : (is : Bool) (cpu members : ℕ) → members ≤ 8 → length (Feed cpu ∷ (if is then read_lines members else [])) ≤ 17
+unfolding read_lines
+feed_few true cpu members few = let reads = reads_few 0 members in omega (arith, few, reads)
+feed_few false cpu members few = omega arith
+
+feeds_few : (from n cpus members : ℕ) → members ≤ 8 → length (flat_map (feed_lines cpus members) (range_with_len from n)) ≤ 17 * n
+unfolding feed_lines
+feeds_few from zero cpus members few = omega arith
+feeds_few from (suc n) cpus members few =
+    let rest = feeds_few (from + 1) n cpus members few in
+    let one = feed_few ((from + 1) % 64 == 0) (from % cpus) members few in
+    let sum = length-append (feed_lines cpus members from) (flat_map (feed_lines cpus members) (range_with_len (from + 1) n)) in
+    omega (arith, rest, one, sum)
+
+pub made_lines_few : (count cpus members : ℕ) → count ≤ 20000 → members ≤ 8 → length (made_lines count cpus members) ≤ 1048576
+unfolding made_lines
+made_lines_few count cpus members most few = let all = feeds_few 0 count cpus members few in omega (arith, most, all)

@@ -1,5 +1,5 @@
 //! Laws of a made input, for callers: each function does nothing, and its contract is the law.
-ghost use Rattle.std.specs.Prelude.{◌≡◌, ℕ, ◌≤◌, All, None};
+ghost use Rattle.std.specs.Prelude.{◌≡◌, ℕ, ◌≤◌, length, All, None};
 ghost use Rattle.capture_file.specs.Capture.{frames_of, end_of};
 ghost use Rattle.frame_maker.specs.Made.{made};
 ghost use Rattle.made_captures.specs.Made.{as_captured, capture_for, given_to, made_captures, made_lines};
@@ -15,6 +15,12 @@ pub fn a_made_capture_is_whole()
     ensures frames { (seed count cpus cpu number : ℕ) → count ≤ 20000
         → frames_of number (capture_for seed count cpus cpu)
         ≡ as_captured number 0 (given_to cpus cpu (made seed count)) }
+{}
+
+/// A made schedule has few lines.
+pub fn a_made_schedule_has_few_lines()
+    ensures { (count cpus members : ℕ) → count ≤ 20000 → members ≤ 8
+        → length (made_lines count cpus members) ≤ 1048576 }
 {}
 
 /// A made schedule has no ticks, so it can be replayed.

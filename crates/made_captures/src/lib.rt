@@ -8,5 +8,7 @@ mod laws;
 mod scheduling;
 
 pub use capturing::made_sources;
-pub use laws::{a_made_capture_is_whole, a_made_schedule_has_no_ticks};
+pub use laws::{
+    a_made_capture_is_whole, a_made_schedule_has_few_lines, a_made_schedule_has_no_ticks,
+};
 pub use scheduling::made_schedule;

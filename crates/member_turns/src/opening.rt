@@ -27,6 +27,7 @@ pub fn open_member(
       cpus = cpus;
       table = table_numbers opened.2.id;
     }) }
+    ensures first { IfOk result (λ opened. opened.0.first ≡ []) }
     ensures count { IfOk result (λ opened. opened.0.seats ≡ cpus + 1) }
     ensures stands { IfOk result (λ opened. opened.1.items ≡ fresh_seats opened.0 0 (cpus + 1)) }
     ensures walker { IfOk result (λ opened. opened.2

@@ -1,7 +1,7 @@
 //! Whole captures, however their sources cut them. The expected values are those of pcap 2.4,
 //! written by hand.
 use capture_file::{CaptureError, CpuEnd};
-use capture_reading::{Reading, read_capture};
+use capture_reading::{Buffer, Reading, read_capture};
 use frame_view::{ByteList, Memory, MomentList};
 use std::alloc::Global;
 use std::test::Fail;
@@ -155,5 +155,17 @@ fn no_source_is_a_fault(rt: HostRuntime) -> Result<(), Fail> {
     let reading = read_capture::<MemSource>(rt.alloc(), 0, &mut None)?;
     assert_eq!(rt; reading.end, CpuEnd::Fault);
     assert_eq!(rt; (reading.given, reading.frames.len()), (0, 0));
+    Ok(())
+}
+
+#[test]
+fn a_piece_has_65536_bytes_where_the_source_has_more(rt: HostRuntime) -> Result<(), Fail> {
+    let bytes = ByteList::from_vec(vec![in rt.alloc(); 7; 70_000]?);
+    let mut source = MemSource::new(bytes, 1_000_000, MomentList::new(rt.alloc()));
+    let mut buffer = Buffer::new(rt.alloc())?;
+    for count in [65_536, 4_464, 0] {
+        buffer.read(&mut source)?;
+        assert_eq!(rt; buffer.piece().len(), count);
+    }
     Ok(())
 }

@@ -19,7 +19,7 @@ const REFUSED: Row<'static> = Row {
 };
 
 /// The words, the texts, the status and the line.
-static ROWS: [Row<'static>; 21] = [
+static ROWS: [Row<'static>; 22] = [
     Row {
         name: "no word",
         words: &[],
@@ -44,6 +44,13 @@ static ROWS: [Row<'static>; 21] = [
     Row {
         name: "check with a schedule",
         words: &["check", "conf", "sched"],
+        status: "1 Usage",
+        printed: USAGE,
+        ..REFUSED
+    },
+    Row {
+        name: "capture, which runs on threads",
+        words: &["capture", "conf"],
         status: "1 Usage",
         printed: USAGE,
         ..REFUSED

@@ -4,17 +4,22 @@
 mod arguments;
 
 use arguments::words;
+use cpu_feeders::NoGate;
 use std::env::Env;
 use std::mem;
 use std::process::ExitCode;
 use std::rt::Files;
-use tap_engine::{Status, run_plain};
+use std::sync::Wait;
+use std::thread::Threads;
+use tap_engine::{Status, run};
 use tap_outside::{DiskStore, StdSink};
 
 /// Carries out the command that the program's arguments say, over real files and standard output,
-/// and returns the status with which the program ends.
-pub fn run_program<R: Env + Files + Print + AllocGlobal>(rt: &R) -> ExitCode
+/// and returns the status with which the program ends. A `capture` starts threads and may wait for
+/// them.
+pub fn run_program<R>(rt: &R) -> ExitCode
 where
+    R: Env + Files + Print + AllocGlobal + Threads + Wait + Sync,
     R::File: Send,
 {
     let Ok(words) = words(rt, rt.alloc()) else {
@@ -22,7 +27,8 @@ where
     };
     let mut store = DiskStore::new(rt);
     let mut out = StdSink::new(rt);
-    let outcome = run_plain(rt.alloc(), words.as_slice(), &mut store, &mut out);
+    let (store, out) = (&mut store, &mut out);
+    let outcome = run(rt, rt.alloc(), words.as_slice(), store, out, &NoGate);
     let code = ExitCode::from(outcome.status.number());
     // The process ends here, and its memory with it: freeing each frame of the report first would
     // serve nobody.

@@ -19,7 +19,7 @@ pub struct Answer {
 }
 
 /// The words of a command.
-fn words_of(alloc: Global, texts: &[&str]) -> Result<Vec<Word>, Memory> {
+pub(crate) fn words_of(alloc: Global, texts: &[&str]) -> Result<Vec<Word>, Memory> {
     let mut words = Vec::new(alloc);
     for text in texts {
         words.push(Word::from_bytes(alloc, text.as_bytes())?)?;
@@ -40,6 +40,14 @@ fn reported(alloc: Global, outcome: &Outcome) -> Result<String, Memory> {
     }
 }
 
+/// What a command answered, as texts.
+pub(crate) fn answer_of(alloc: Global, outcome: &Outcome) -> Result<Answer, Memory> {
+    Ok(Answer {
+        status: status_text(alloc, &outcome.status)?,
+        report: reported(alloc, outcome)?,
+    })
+}
+
 /// Carries out a command over a store that means every name.
 #[tactic(auto, using(crate::proofs::Meant::every_read, crate::proofs::Meant::every_save))]
 pub fn answer_on<S: Store, O: Sink>(
@@ -53,20 +61,17 @@ pub fn answer_on<S: Store, O: Sink>(
 {
     let words = words_of(alloc, texts)?;
     let outcome = run_plain(alloc, words.as_slice(), store, out);
-    Ok(Answer {
-        status: status_text(alloc, &outcome.status)?,
-        report: reported(alloc, &outcome)?,
-    })
+    answer_of(alloc, &outcome)
 }
 
 /// What was printed.
-fn text_of(alloc: Global, bytes: &[u8]) -> Result<String, Memory> {
+pub(crate) fn text_of(alloc: Global, bytes: &[u8]) -> Result<String, Memory> {
     let text = str::from_utf8(bytes).unwrap_or("no text");
     Ok(String::from_str(alloc, text)?)
 }
 
 /// What a row's command answers, what it prints, and the files after it.
-pub(crate) type Ran = (Answer, String, MemStore);
+pub type Ran = (Answer, String, MemStore);
 
 /// Carries out a row over a store and a sink in memory.
 fn run_in_memory(alloc: Global, row: &Row<'_>) -> Result<Ran, Memory> {
@@ -77,7 +82,7 @@ fn run_in_memory(alloc: Global, row: &Row<'_>) -> Result<Ran, Memory> {
 }
 
 /// The sink of a row that has a fault of its own.
-fn faulty_sink(alloc: Global, row: &Row<'_>) -> PieceSink {
+pub(crate) fn faulty_sink(alloc: Global, row: &Row<'_>) -> PieceSink {
     match row.faults.poor_write {
         0 => PieceSink::new(alloc, row.faults.write, OutError::Failed),
         write => PieceSink::new(alloc, write, OutError::Memory),
@@ -97,13 +102,18 @@ fn run_faulty(alloc: Global, row: &Row<'_>) -> Result<Ran, Memory> {
     Ok((answer, text_of(alloc, out.bytes.as_slice())?, store.files))
 }
 
+/// Whether a row has a sink that fails, or a call that is out of memory.
+pub(crate) fn is_faulty(row: &Row<'_>) -> bool {
+    let faults = &row.faults;
+    faults.write != 0 || faults.poor_write != 0 || faults.poor_call != 0
+}
+
 /// Carries out a row.
 pub(crate) fn run(alloc: Global, row: &Row<'_>) -> Result<Ran, Memory> {
-    let faults = &row.faults;
-    if faults.write == 0 && faults.poor_write == 0 && faults.poor_call == 0 {
-        run_in_memory(alloc, row)
-    } else {
+    if is_faulty(row) {
         run_faulty(alloc, row)
+    } else {
+        run_in_memory(alloc, row)
     }
 }
 

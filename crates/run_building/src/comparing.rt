@@ -5,7 +5,7 @@ use row_building::{Row, report_of, wrong_files};
 use std::alloc::Global;
 
 /// What of an answer is wrong, with what was found; empty where nothing is.
-fn wrong_answer(
+pub(crate) fn wrong_answer(
     alloc: Global,
     row: &Row<'_>,
     answer: &Answer,

@@ -210,6 +210,7 @@ fn reads_made_frames_and_skip_bad(rt: HostRuntime) -> Result<(), Memory> {
     for command in [
         Command::Check,
         Command::Replay,
+        Command::Capture,
         Command::Send,
         Command::Make,
     ] {

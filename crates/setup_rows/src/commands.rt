@@ -4,9 +4,10 @@ use frame_view::Memory;
 use setup_text::Command;
 
 /// A command, lines after the five that are needed, and what it finds of the lines together.
-static TOGETHER: [(Command, &str, &str); 20] = [
+static TOGETHER: [(Command, &str, &str); 24] = [
     (Command::Check, "", ""),
     (Command::Replay, "", ""),
+    (Command::Capture, "", ""),
     (Command::Send, "", ""),
     // only `Make` needs its line, before a fault of the ring or of the group
     (Command::Make, "", "setup line 0: missing make\n"),
@@ -66,6 +67,17 @@ static TOGETHER: [(Command, &str, &str); 20] = [
     ),
     (Command::Check, "tov 8\npriv 16\nfeatures 1\n", ""),
     (Command::Replay, "tov 8\npriv 16\nfeatures 1\n", ""),
+    (Command::Capture, "tov 8\npriv 16\nfeatures 1\n", ""),
+    (
+        Command::Capture,
+        "features 2\n",
+        "setup line 0: request feature\n",
+    ),
+    (
+        Command::Capture,
+        "members 0\n",
+        "setup line 0: group no_member\n",
+    ),
     (Command::Make, "tov 8\npriv 16\nfeatures 1\nmake 1 5\n", ""),
 ];
 
@@ -86,6 +98,7 @@ fn misses_a_cpu_for_each_command(rt: HostRuntime) -> Result<(), Memory> {
     for command in [
         Command::Check,
         Command::Replay,
+        Command::Capture,
         Command::Send,
         Command::Make,
     ] {

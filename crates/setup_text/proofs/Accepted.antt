@@ -34,6 +34,7 @@ receive_none : (given : Command) (request : RingRequest) → request_fault given
 unfolding transmit_fault
 receive_none command.Check request h = h
 receive_none command.Replay request h = h
+receive_none command.Capture request h = h
 receive_none command.Send request h = (or_none (receive_fault request) _ h).0
 receive_none command.Make request h = h
 
@@ -65,9 +66,13 @@ time_out_small : (tov : Option ℕ) → IsTimeOut tov → unwrap_or tov 0 ≤ 60
 time_out_small None p = omega arith
 time_out_small (Some tov) p = p
 
+prefix_named : (out : Option (List ℕ)) → IsName out → 0 < length (unwrap_or out (codes "out"))
+prefix_named None p = omega arith
+prefix_named (Some out) p = p.0
+
 prefix_small : (out : Option (List ℕ)) → IsName out → length (unwrap_or out (codes "out")) ≤ 255
 prefix_small None p = omega arith
-prefix_small (Some out) p = p
+prefix_small (Some out) p = p.1
 
 not_missing : (given : Command) (draft : Draft) → missing given draft ≡ None
     → (0 < length draft.cpus) × ((makes_frames given && is_none draft.made) ≡ false)
@@ -91,6 +96,7 @@ made_known : (given : Command) (draft : Draft) → IsDraft draft → (makes_fram
     → given ≡ command.Make → 1 ≤ count_of draft
 made_known command.Check draft p h e = cc
 made_known command.Replay draft p h e = cc
+made_known command.Capture draft p h e = cc
 made_known command.Send draft p h e = cc
 made_known command.Make draft p h e = some_made draft.made p.made h
 
@@ -113,6 +119,7 @@ after_sound given draft setup p h =
         group = map_none _ (group_fault draft) behind.1;
         filter = p.filter;
         ticks = p.ticks;
+        prefixed = prefix_named draft.out p.out;
         prefix = prefix_small draft.out p.out;
         count = few_made draft.made p.made;
       };

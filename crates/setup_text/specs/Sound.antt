@@ -8,18 +8,19 @@ use Rattle.tp_layout.specs.Requests.{receive_fault}
 use Rattle.setup_text.specs.declared.cpu_setups.CpuSetup.{CpuSetup}
 use Rattle.setup_text.specs.declared.setups.Setup.{Setup}
 
--- a CPU has a name of at most 255 bytes and a queue of 16 bits
+-- a CPU has a name of 1 to 255 bytes and a queue of 16 bits
 pub record IsCpu (cpu : CpuSetup) : Type 0 where
+  pub named : 0 < length cpu.file
   pub name : length cpu.file ≤ 255
   pub queue : cpu.queue ≤ 65535
 
--- a name, where there is one, has at most 255 bytes
+-- a name, where there is one, has 1 to 255 bytes
 abbrev pub IsName : Option (List ℕ) → Type 0
 IsName None = Unit {0}
-IsName (Some name) = length name ≤ 255
+IsName (Some name) = (0 < length name) × (length name ≤ 255)
 
 -- a setup has 1 to 8 CPUs, a valid ring with a time-out of at most a minute, a valid group, names
--- of at most 255 bytes, and at most 20,000 made frames
+-- of 1 to 255 bytes, and at most 20,000 made frames
 pub record IsSetup (setup : Setup) : Type 0 where
   pub some : 0 < length setup.cpus
   pub few : length setup.cpus ≤ 8
@@ -30,6 +31,7 @@ pub record IsSetup (setup : Setup) : Type 0 where
   pub group : fault_of setup.plan.members setup.plan.mode setup.plan.flags (is_some setup.key) ≡ None
   pub filter : IsName setup.filter
   pub ticks : IsName setup.ticks
+  pub prefixed : 0 < length setup.prefix
   pub prefix : length setup.prefix ≤ 255
   pub count : setup.count ≤ 20000
 

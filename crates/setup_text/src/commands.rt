@@ -7,6 +7,8 @@ pub enum Command {
     Check,
     /// The captures are replayed as a schedule says.
     Replay,
+    /// The captures are fed on threads.
+    Capture,
     /// The first CPU's capture is sent through a transmit ring.
     Send,
     /// Frames made from a number are replayed.

@@ -3,7 +3,6 @@ use Rattle.std.proofs.Common.{◌≡◌, ◌≢◌, ℕ, ◌+◌, ◌<◌, ◌�
 use Rattle.std.proofs.Common.{length, inl, inr, Option, None, Some, refl, sym, ap, subst, ◌∙◌}
 use Rattle.std.proofs.Common.{arith}
 use Rattle.std.specs.Prelude.{◌⊎◌, if◌then◌else◌, map, nat_lt, Ok, Err}
-use Rattle.std.specs.List.{AllByRecursion}
 use Rattle.std.specs.Option.{option_or}
 use Rattle.std.proofs.lemmas.Bool.{cases_lt}
 use Rattle.capture_file.specs.Capture.{cut_of, damage_of, end_of, stop_of}
@@ -16,7 +15,7 @@ use Rattle.fanout_group.specs.declared.runs.CpuLog.{CpuLog}
 use Rattle.setup_text.specs.Filters.{filter_of}
 use Rattle.setup_text.specs.Moments.{moments_of}
 use Rattle.setup_text.specs.declared.commands.Command.{Command}
-use Rattle.setup_text.specs.declared.commands.Command.TheVariants.{Check, Make, Replay, Send}
+use Rattle.setup_text.specs.declared.commands.Command.TheVariants.{Capture, Check, Make, Replay, Send}
 use Rattle.setup_text.specs.declared.cpu_setups.CpuSetup.{CpuSetup}
 use Rattle.setup_text.specs.declared.jobs.Job.{Job}
 use Rattle.setup_text.specs.declared.reports.RunReport.{RunReport}
@@ -31,7 +30,7 @@ use Rattle.tap_saving.specs.Saving.{marked}
 use Rattle.tap_engine.specs.Commands.{Named}
 use Rattle.tap_engine.specs.Complete.{AreSoundLast, AreSoundTicks, AreWhole, IsComplete, IsSound}
 use Rattle.tap_engine.specs.Complete.{IsSoundFilter, NothingFails, text_in}
-use Rattle.tap_engine.specs.Conclusions.{Concludes, IsDone, IsFailed, IsPrinted, Tells}
+use Rattle.tap_engine.specs.Conclusions.{IsDone, IsFailed, IsPrinted, Tells}
 use Rattle.tap_engine.specs.Findings.{IsFound, fault_at, faults_in, lines_of, report_in}
 use Rattle.tap_engine.specs.Findings.{status_by_end, status_of, status_of_logs}
 use Rattle.tap_engine.specs.Headline.{AreCaptures, CapturesFor, IsHeadline, IsWorth}
@@ -281,6 +280,9 @@ fine_captures files named setup bytes ends logs Make sound is has captures are n
 fine_captures files named setup bytes ends logs Replay sound is has captures are none =
     fine_logs files setup.cpus 0 bytes ends logs captures are
     (last_of files named sound Replay setup is has).1 none
+fine_captures files named setup bytes ends logs Capture sound is has captures are none =
+    fine_logs files setup.cpus 0 bytes ends logs captures are
+    (last_of files named sound Capture setup is has) none
 fine_captures files named setup bytes ends logs Send sound is has captures are none = absurd
     captures
 

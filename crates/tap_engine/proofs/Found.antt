@@ -1,17 +1,13 @@
 -- What is found, and what a text that stops a command comes to, also where more was read before.
-use Rattle.std.proofs.Common.{◌≡◌, ◌≢◌, ℕ, ◌+◌, ◌<◌, ◌≤◌, Bool, List, [], ◌∷◌, length, inl, inr}
-use Rattle.std.proofs.Common.{refl, sym, ap, ◌∙◌, Option, None, Some, subst, arith}
-use Rattle.std.specs.Prelude.{◌⊎◌, IsTrue, IfOk, IfErr, OnErr, Result, Ok, Err}
-use Rattle.std.specs.List.{AllByRecursion}
+use Rattle.std.proofs.Common.{◌≡◌, ℕ, Bool, List, length, inl, inr}
+use Rattle.std.proofs.Common.{refl, sym, ap, ◌∙◌, Option, None, Some, subst}
+use Rattle.std.specs.Prelude.{◌⊎◌, IfOk, IfErr, OnErr, Result, Ok, Err}
 use Rattle.capture_file.specs.declared.cpu_end.CpuEnd.{CpuEnd}
-use Rattle.capture_file.specs.declared.cpu_end.CpuEnd.TheVariants.{Whole, Fault, Damaged}
-use Rattle.fanout_group.specs.declared.runs.CpuLog.{CpuLog}
 use Rattle.frame_view.specs.declared.want.Memory.{Memory}
-use Rattle.made_captures.specs.Made.{made_lines}
 use Rattle.setup_text.specs.Filters.{filter_of}
 use Rattle.setup_text.specs.Moments.{moments_of}
 use Rattle.setup_text.specs.declared.commands.Command.{Command}
-use Rattle.setup_text.specs.declared.commands.Command.TheVariants.{Check, Make, Replay, Send}
+use Rattle.setup_text.specs.declared.commands.Command.TheVariants.{Capture, Check, Make, Replay, Send}
 use Rattle.setup_text.specs.declared.jobs.Job.{Job}
 use Rattle.setup_text.specs.declared.reports.MemberReport.{MemberReport}
 use Rattle.setup_text.specs.declared.reports.RunReport.{RunReport}
@@ -21,17 +17,17 @@ use Rattle.tap_outside.specs.Seen.{OnlyReads, StoreSeen}
 use Rattle.tap_reading.specs.Readers.{StopsAtSetup, StopsAtText}
 use Rattle.tap_reading.specs.declared.stops.Stop.{Stop}
 use Rattle.tap_reading.specs.declared.stops.Stop.TheVariants as stops
-use Rattle.tap_saving.specs.Files.{names_from, sent_name}
+use Rattle.tap_saving.specs.Files.{names_from}
 use Rattle.tap_engine.specs.Commands.{Named}
 use Rattle.tap_engine.specs.Findings.{IsFound, IsReady, IsReported, finding_of, names_of}
 use Rattle.tap_engine.specs.Headline.{CapturesFor, IsHeadline}
 use Rattle.tap_engine.specs.Jobs.{HasJob, HasSetup, IsAsked, Stops, lines_for}
-use Rattle.tap_engine.specs.Sendings.{IsSent}
-use Rattle.tap_engine.specs.Conclusions.{IsCut}
+use Rattle.tap_engine.specs.Conclusions.{IsCut, IsSearched}
 use Rattle.tap_engine.specs.declared.findings.Finding.{Finding}
 use Rattle.tap_engine.specs.declared.findings.Finding.TheVariants as finding
 use Rattle.std.proofs.lemmas.List.{length-map}
 use Rattle.tap_engine.specs.Names.{AreMeantToSave, filter_for, saved_for, ticks_for}
+use Rattle.tap_engine.proofs.Fetched.{to_save_same}
 use Rattle.tap_engine.proofs.Meant.{AllMeant, Untold, outputs_meant}
 
 pub if_ok : {A E : Type 0} (P Q : A → Type 0) (result : Result A E) → ((x : A) → P x → Q x)
@@ -52,6 +48,10 @@ on_err P Q (Err e) f p = f p
 pub err_with : {A E : Type 0} (P : Type 0) (result : Result A E) → P → OnErr result P
 err_with P (Ok x) p = tt
 err_with P (Err e) p = p
+
+pub of_ok : {A E : Type 0} (P : A → Type 0) (result : Result A E) (x : A) → result ≡ Ok x
+    → IfOk result P → P x
+of_ok {A} {E} P result x is p = subst (λ (r : Result A E). IfOk r P) is p
 
 -- ---- why a text stops a command
 
@@ -148,6 +148,7 @@ run_saves : (command : Command) (held : Option Contents) (setup : Setup) (bytes 
 run_saves Check held setup bytes ends h = absurd h
 run_saves Make held setup bytes ends h = refl
 run_saves Replay held setup bytes ends h = refl
+run_saves Capture held setup bytes ends h = refl
 run_saves Send held setup bytes ends h = absurd h
 
 report_names : (held : Option Contents) (named : Named) (setup : Setup) (report : RunReport)
@@ -185,3 +186,27 @@ saves_meant old new (Some named) (finding.Sent setup sending) untold all h =
     subst (λ (s : Setup). AllMeant old.to_save (saved_for Send s)) sent.setup_is
     (subst (λ (c : Command). AllMeant old.to_save (saved_for c sent.job.setup)) sent.command
     (outputs_meant old.held old.to_save named sent.job.setup untold all sent.job_is.setup))
+
+-- ---- where it was searched for
+
+-- what stopped a command or was found is what the search found
+pub searched : (command : Option Named) (old new : StoreSeen) (named : Named)
+    (answer : Result Finding Stop) → command ≡ Some named → OnlyReads old new
+    → IfOk answer (IsFound (Some named) old new) → IfErr answer (Stops old new named)
+    → IsSearched command old new (finding_of answer)
+searched command old new named answer is reads found stops = record {
+  reads = reads;
+  found = subst (λ (c : Option Named). IfOk (finding_of answer) (IsFound c old new)) (sym is)
+      (found_of old new named answer found stops);
+  cut = cut_of command old new named answer is reads stops;
+}
+
+-- and what is saved of it is meant for saving
+pub searched_meant : (old new : StoreSeen) (command : Option Named)
+    (answer : Result Finding Memory) → Untold old.held old.to_save → AreMeantToSave command old
+    → IsSearched command old new answer
+    → IfOk answer (λ found. AllMeant new.to_save (names_of found))
+searched_meant old new command (Err error) untold all h = tt
+searched_meant old new command (Ok found) untold all h =
+    subst (λ (meant : List ℕ → Bool). AllMeant meant (names_of found))
+    (sym (to_save_same old new h.reads)) (saves_meant old new command found untold all h.found)

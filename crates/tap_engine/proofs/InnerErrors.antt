@@ -12,7 +12,7 @@ use Rattle.capture_file.proofs.Damage.{end_not_memory}
 use Rattle.capture_reading.specs.Sources.{UnlessFault, end_by}
 use Rattle.fanout_group.specs.declared.runs.CpuLog.{CpuLog}
 use Rattle.setup_text.specs.declared.commands.Command.{Command}
-use Rattle.setup_text.specs.declared.commands.Command.TheVariants.{Check, Make, Replay, Send}
+use Rattle.setup_text.specs.declared.commands.Command.TheVariants.{Capture, Check, Make, Replay, Send}
 use Rattle.setup_text.specs.declared.cpu_setups.CpuSetup.{CpuSetup}
 use Rattle.setup_text.specs.declared.reports.RunReport.{RunReport}
 use Rattle.setup_text.specs.declared.setups.Setup.{Setup}
@@ -71,6 +71,8 @@ run_ends Check held setup bytes ends logs captures are = absurd captures
 run_ends Make held setup bytes ends logs captures are =
     whole_ends bytes logs (subst (λ (es : List CpuEnd). AreEnds logs es) captures.whole are)
 run_ends Replay held setup bytes ends logs captures are = ends_of held setup.cpus bytes ends logs
+    captures are
+run_ends Capture held setup bytes ends logs captures are = ends_of held setup.cpus bytes ends logs
     captures are
 run_ends Send held setup bytes ends logs captures are = absurd captures
 

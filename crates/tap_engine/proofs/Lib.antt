@@ -10,3 +10,4 @@ pub mod Made
 pub mod MadeRuns
 pub mod InnerErrors
 pub mod Worked
+pub mod Answered

@@ -1,15 +1,18 @@
 -- A job that was replayed: what its report is worth.
-use Rattle.std.proofs.Common.{◌≡◌, ℕ, ◌+◌, ◌≤◌, Bool, true, false, List, [], ◌∷◌, length, refl, sym}
-use Rattle.std.proofs.Common.{ap, subst, ◌∙◌, arith, Option, None, Some}
+use Rattle.std.proofs.Common.{◌≡◌, ℕ, ◌+◌, ◌≤◌, Bool, true, false, List, length, refl, sym}
+use Rattle.std.proofs.Common.{subst, ◌∙◌, arith, Option, None, Some}
 use Rattle.std.specs.Prelude.{if◌then◌else◌, nat_lt}
 use Rattle.std.proofs.lemmas.Bool.{ltb-false}
 use Rattle.std.proofs.lemmas.List.{length-map}
 use Rattle.fanout_group.specs.declared.plan_error.PlanError.{PlanError}
 use Rattle.capture_file.specs.declared.cpu_end.CpuEnd.{CpuEnd}
+use Rattle.capture_reading.specs.Sources.{AllGave}
+use Rattle.cpu_feeders.specs.Runs.{IsCaptureRun}
+use Rattle.run_reports.specs.Reports.{IsRunReport}
 use Rattle.schedule_lines.specs.declared.lines.Line.{Line}
 use Rattle.setup_text.specs.Sound.{IsSetup}
 use Rattle.setup_text.specs.declared.commands.Command.{Command}
-use Rattle.setup_text.specs.declared.commands.Command.TheVariants.{Make, Replay}
+use Rattle.setup_text.specs.declared.commands.Command.TheVariants.{Capture, Make, Replay}
 use Rattle.setup_text.specs.declared.jobs.Job.{Job}
 use Rattle.setup_text.specs.declared.reports.MemberReport.{MemberReport}
 use Rattle.setup_text.specs.declared.reports.RunReport.{RunReport}
@@ -20,8 +23,8 @@ use Rattle.tap_outside.specs.Seen.{SourceSeen}
 use Rattle.tap_replay.specs.Runs.{IsReplayed}
 use Rattle.tap_engine.specs.Commands.{Named}
 use Rattle.tap_engine.specs.Findings.{IsReported, IsSmall, faults_in}
-use Rattle.tap_engine.specs.Headline.{CapturesFor, IsReplayOf, IsRunOf}
-use Rattle.tap_engine.specs.Jobs.{HasJob, HasLines}
+use Rattle.tap_engine.specs.Headline.{CapturesFor, IsRunOf}
+use Rattle.tap_engine.specs.Jobs.{HasJob, HasLines, HasTicks}
 use Rattle.tap_engine.specs.Sources.{AreFetched, faulty_in, missing_in}
 use Rattle.tap_engine.proofs.Ends.{as_many_logs, report_ends}
 use Rattle.tap_engine.proofs.Fetched.{bytes_as_many, captures_are, faults_are, rose_less, rose_then}
@@ -42,50 +45,58 @@ few_in_group : (setup : Setup) → IsSetup setup → setup.plan.members ≤ 8
 few_in_group setup sound = ltb-false 8 setup.plan.members
     (second_test _ (nat_lt 8 setup.plan.members) _ _ _ sound.group)
 
+-- a report is small: at most eight CPUs and members, and short packets
+pub small_run : (job : Job) (old new : List (Option SourceSeen)) (bytes : List (List ℕ))
+    (ends : List CpuEnd) (report : RunReport)
+    → IsSetup job.setup → length old ≡ length job.setup.cpus → AllGave old new bytes ends
+    → IsRunReport job bytes ends report → IsSmall report
+small_run job old new bytes ends report sound count gave run =
+    let ends_are = (bytes_as_many old new bytes ends gave).1 in
+    let logs = as_many_logs report.cpus ends (report_ends job bytes ends report run) in
+    let members : length report.members ≡ job.setup.plan.members =
+    sym (length-map report.members (λ (member : MemberReport). member.notes)) ∙ run.group.count in
+    record {
+      cpus = let most = sound.few in omega (arith, logs, ends_are, count, most);
+      members = let most = few_in_group job.setup sound in omega (arith, members, most);
+      packets = run.short;
+    }
+
 pub replays : (job : Job) (lines : List Line) (old new : List (Option SourceSeen))
     (report : RunReport)
     → IsSetup job.setup → length old ≡ length job.setup.cpus → IsReplayed job lines old new report
     → Replays job lines old new report
 replays job lines old new report sound count r =
-    let ends = (bytes_as_many old new r.bytes r.ends r.gave).1 in
-    let logs = as_many_logs report.cpus r.ends (report_ends job r.bytes r.ends report r.run) in
-    let members : length report.members ≡ job.setup.plan.members =
-    sym (length-map report.members (λ (member : MemberReport). member.notes)) ∙ r.run.group.count in
     record {
       replayed = r;
-      small = record {
-        cpus = let most = sound.few in omega (arith, logs, ends, count, most);
-        members = let most = few_in_group job.setup sound in omega (arith, members, most);
-        packets = r.run.short;
-      };
+      small = small_run job old new r.bytes r.ends report sound count r.gave r.run;
     }
 
 -- no more CPUs ended with a fault than reading failed
-pub faults_rose : (held : Option Contents) (job : Job) (lines : List Line)
-    (old new : List (Option SourceSeen)) (report : RunReport) (a b c : ℕ)
-    → AreFetched held job.setup.cpus old → IsReplayed job lines old new report
+pub faults_rose : (held : Option Contents) (job : Job) (old new : List (Option SourceSeen))
+    (bytes : List (List ℕ)) (ends : List CpuEnd) (report : RunReport) (a b c : ℕ)
+    → AreFetched held job.setup.cpus old → AllGave old new bytes ends
+    → IsRunReport job bytes ends report
     → RoseBy (missing_in old) a b → RoseBy (faulty_in new) b c → RoseBy (faults_in report.cpus) a c
-faults_rose held job lines old new report a b c fetched r missing faulty =
-    let most = faults_are held job.setup.cpus old new r.bytes r.ends report.cpus fetched r.gave
-    (report_ends job r.bytes r.ends report r.run) in
+faults_rose held job old new bytes ends report a b c fetched gave run missing faulty =
+    let most = faults_are held job.setup.cpus old new bytes ends report.cpus fetched gave
+    (report_ends job bytes ends report run) in
     rose_less (faults_in report.cpus) (missing_in old + faulty_in new) a c most
     (rose_then (missing_in old) (faulty_in new) a b c missing faulty)
 
-reported : (held : Option Contents) (named : Named) (job : Job) (lines : List Line)
-    (old new : List (Option SourceSeen)) (report : RunReport)
-    → (r : Replays job lines old new report) → HasJob held named job
-    → CapturesFor named.command held job.setup r.replayed.bytes r.replayed.ends
-    → IsRunOf named.command held named job r.replayed.bytes r.replayed.ends report
+reported : (held : Option Contents) (named : Named) (job : Job) (bytes : List (List ℕ))
+    (ends : List CpuEnd) (report : RunReport) → IsRunReport job bytes ends report
+    → HasJob held named job → CapturesFor named.command held job.setup bytes ends
+    → IsRunOf named.command held named job bytes ends report
     → IsReported held named job.setup report
-reported held named job lines old new report r has captures run = record {
+reported held named job bytes ends report run has captures adds = record {
   headline = record {
     job = job;
     job_is = has;
-    bytes = r.replayed.bytes;
-    ends = r.replayed.ends;
+    bytes = bytes;
+    ends = ends;
     captures = captures;
-    report_is = r.replayed.run;
-    run = run;
+    report_is = run;
+    run = adds;
   };
   setup_is = refl;
 }
@@ -96,7 +107,7 @@ pub replay_reported : (held : Option Contents) (named : Named) (job : Job) (line
     → Replays job lines old new report → AreFetched held job.setup.cpus old → named.command ≡ Replay
     → HasJob held named job → HasLines held named job lines → IsReported held named job.setup report
 replay_reported held named job lines old new report r fetched is has lines_are =
-    reported held named job lines old new report r has
+    reported held named job r.replayed.bytes r.replayed.ends report r.replayed.run has
     (subst (λ (c : Command). CapturesFor c held job.setup r.replayed.bytes r.replayed.ends) (sym is)
     (captures_are held job.setup.cpus old new r.replayed.bytes r.replayed.ends fetched
     r.replayed.gave))
@@ -111,9 +122,22 @@ pub make_reported : (held : Option Contents) (named : Named) (job : Job) (lines 
     → CapturesFor Make held job.setup r.replayed.bytes r.replayed.ends
     → HasJob held named job → HasLines held named job lines → IsReported held named job.setup report
 make_reported held named job lines old new report r is captures has lines_are =
-    reported held named job lines old new report r has
+    reported held named job r.replayed.bytes r.replayed.ends report r.replayed.run has
     (subst (λ (c : Command). CapturesFor c held job.setup r.replayed.bytes r.replayed.ends) (sym is)
     captures)
     (subst (λ (c : Command). IsRunOf c held named job r.replayed.bytes r.replayed.ends report)
     (sym is)
     (record { lines = lines; lines_are = lines_are; replay = r.replayed.report_is }))
+
+-- and that of a `capture`
+pub capture_reported : (held : Option Contents) (named : Named) (job : Job) (moments : List ℕ)
+    (old new : List (Option SourceSeen)) (report : RunReport)
+    → IsCaptureRun job moments old new report → AreFetched held job.setup.cpus old
+    → named.command ≡ Capture → HasJob held named job → HasTicks held job.setup.ticks moments
+    → IsReported held named job.setup report
+capture_reported held named job moments old new report r fetched is has ticks =
+    reported held named job r.bytes r.ends report r.run has
+    (subst (λ (c : Command). CapturesFor c held job.setup r.bytes r.ends) (sym is)
+    (captures_are held job.setup.cpus old new r.bytes r.ends fetched r.gave))
+    (subst (λ (c : Command). IsRunOf c held named job r.bytes r.ends report) (sym is)
+    (record { moments = moments; moments_are = ticks; captured = r.captured }))

@@ -1,17 +1,17 @@
 -- What the work of a command comes to, where its job is accepted.
-use Rattle.std.proofs.Common.{◌≡◌, ℕ, ◌≤◌, Bool, List, length, refl, sym, ap, subst, inr, arith}
+use Rattle.std.proofs.Common.{◌≡◌, ℕ, Bool, List, refl, sym, ap, subst, arith}
 use Rattle.std.proofs.Common.{Option, None, Some}
 use Rattle.std.specs.Prelude.{IfSome, IsTrue, All, Ok}
 use Rattle.schedule_lines.specs.declared.lines.Line.{Line}
 use Rattle.setup_text.specs.Setups.{request_fault}
 use Rattle.setup_text.specs.declared.commands.Command.{Command}
-use Rattle.setup_text.specs.declared.commands.Command.TheVariants.{Check, Make, Replay, Send}
+use Rattle.setup_text.specs.declared.commands.Command.TheVariants.{Capture, Check, Make, Replay, Send}
 use Rattle.setup_text.specs.declared.jobs.Job.{Job}
 use Rattle.setup_text.specs.declared.reports.RunReport.{RunReport}
 use Rattle.setup_text.specs.declared.setups.Setup.{Setup}
 use Rattle.tap_outside.specs.Contents.{Contents}
 use Rattle.tap_outside.specs.Counts.{RoseBy}
-use Rattle.tap_outside.specs.Seen.{OnlyReads, StoreSeen}
+use Rattle.tap_outside.specs.Seen.{StoreSeen}
 use Rattle.tp_layout.specs.Requests.{transmit_fault}
 use Rattle.tap_engine.specs.Commands.{Named}
 use Rattle.tap_reading.specs.Readers.{Says}
@@ -32,10 +32,11 @@ last_meant : (meant : List ℕ → Bool) (named : Named) (setup : Setup) (comman
 last_meant meant named setup command is all =
     subst (λ (c : Command). AllMeant meant (read_last c named.schedule setup)) is all.last
 
-pub ticks_meant : (meant : List ℕ → Bool) (named : Named) (setup : Setup) → named.command ≡ Check
+pub ticks_meant : (meant : List ℕ → Bool) (named : Named) (setup : Setup)
+    → ticks_for named.command setup ≡ setup.ticks
     → AfterMeant meant named setup → IfSome setup.ticks (λ name. IsTrue (meant name))
-ticks_meant meant named setup is all =
-    subst (λ (c : Command). IfSome (ticks_for c setup) (λ name. IsTrue (meant name))) is all.ticks
+ticks_meant meant named setup are all =
+    subst (λ (ticks : Option (List ℕ)). IfSome ticks (λ name. IsTrue (meant name))) are all.ticks
 
 pub schedule_meant : (meant : List ℕ → Bool) (named : Named) (setup : Setup)
     → named.command ≡ Replay
@@ -46,6 +47,12 @@ pub run_meant : (meant : List ℕ → Bool) (named : Named) (setup : Setup) → 
     → AfterMeant meant named setup → All (λ cpu. IsTrue (meant cpu.file)) setup.cpus
 run_meant meant named setup is all = captures_meant meant setup.cpus
     (last_meant meant named setup Replay is all).1
+
+pub capture_meant : (meant : List ℕ → Bool) (named : Named) (setup : Setup)
+    → named.command ≡ Capture
+    → AfterMeant meant named setup → All (λ cpu. IsTrue (meant cpu.file)) setup.cpus
+capture_meant meant named setup is all = captures_meant meant setup.cpus
+    (last_meant meant named setup Capture is all)
 
 pub first_meant : (meant : List ℕ → Bool) (named : Named) (setup : Setup) → named.command ≡ Send
     → AfterMeant meant named setup → IsTrue (meant (first_file setup.cpus))
@@ -61,19 +68,25 @@ transmits command setup is ring = subst (λ (c : Command). request_fault c setup
 
 -- ---- what is found
 
-pub checks : (old new : StoreSeen) (named : Named) (job : Job) → named.command ≡ Check
-    → HasJob old.held named job
-    → HasTicks old.held job.setup.ticks → IsFound (Some named) old new finding.Checked
-checks old new named job is has ticks = record {
-  command = is;
-  job = job;
-  job_is = has;
-  ticks = subst (λ (c : Command). HasTicks old.held (ticks_for c job.setup)) (sym is) ticks;
-}
-
 pub ticks_are : (named : Named) (setup : Setup) → named.command ≡ Check
     → ticks_for named.command setup ≡ setup.ticks
 ticks_are named setup is = ap (λ (c : Command). ticks_for c setup) is
+
+pub capture_ticks : (named : Named) (setup : Setup) → named.command ≡ Capture
+    → ticks_for named.command setup ≡ setup.ticks
+capture_ticks named setup is = ap (λ (c : Command). ticks_for c setup) is
+
+pub checks : (old new : StoreSeen) (named : Named) (job : Job) (moments : List ℕ)
+    → named.command ≡ Check → HasJob old.held named job
+    → HasTicks old.held job.setup.ticks moments → IsFound (Some named) old new finding.Checked
+checks old new named job moments is has ticks = record {
+  command = is;
+  job = job;
+  job_is = has;
+  moments = moments;
+  ticks = subst (λ (name : Option (List ℕ)). HasTicks old.held name moments)
+      (sym (ticks_are named job.setup is)) ticks;
+}
 
 pub sends : (old new : StoreSeen) (named : Named) (job : Job) (sending : Sending)
     → named.command ≡ Send → HasJob old.held named job
@@ -106,6 +119,17 @@ send_asked held named job is has =
       job_is = has;
       last = subst (λ (c : Command). HasLast c held named job)
           (sym is) tt;
+    }
+
+pub capture_asked : (held : Option Contents) (named : Named) (job : Job) (moments : List ℕ)
+    → named.command ≡ Capture → HasJob held named job
+    → HasTicks held job.setup.ticks moments → IsAsked held named
+capture_asked held named job moments is has ticks =
+    record {
+      job = job;
+      job_is = has;
+      last = subst (λ (c : Command). HasLast c held named job)
+          (sym is) (moments, ticks);
     }
 
 pub replay_asked : (held : Option Contents) (named : Named) (job : Job) (lines : List Line)
@@ -150,3 +174,19 @@ scheduled old mid job name lines report same says worth named is called has =
     report) same worth in
     here named is has (subst (λ (c : Command). LinesFor c old.held named job lines) (sym is)
     (schedule_by old.held named job name lines called says))
+
+-- and whatever `capture` asks for it
+abbrev pub IsWorthTimed : StoreSeen → Job → List ℕ → RunReport → Type 0
+IsWorthTimed store job moments report =
+    (named : Named) → named.command ≡ Capture → HasJob store.held named job
+    → HasTicks store.held job.setup.ticks moments
+    → IsReported store.held named job.setup report
+
+pub timed : (old mid : StoreSeen) (job : Job) (moments : List ℕ) (report : RunReport) → mid ≡ old
+    → HasTicks old.held job.setup.ticks moments → IsWorthTimed mid job moments report
+    → (named : Named) → named.command ≡ Capture → HasJob old.held named job
+    → IsReported old.held named job.setup report
+timed old mid job moments report same ticks worth named is has =
+    let here : IsWorthTimed old job moments report = subst (λ (s : StoreSeen). IsWorthTimed s job
+    moments report) same worth in
+    here named is has ticks

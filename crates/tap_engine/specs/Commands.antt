@@ -1,8 +1,8 @@
 -- What the words of a command say.
-use Rattle.std.specs.Prelude.{ℕ, Bool, ◌&&◌, not, List, [], ◌∷◌, length, codes, bytes_eq, ◌==◌}
-use Rattle.std.specs.Prelude.{if◌then◌else◌, Option, None, Some, option_map}
+use Rattle.std.specs.Prelude.{ℕ, Bool, false, true, ◌&&◌, not, List, [], ◌∷◌, length, codes}
+use Rattle.std.specs.Prelude.{bytes_eq, ◌==◌, if◌then◌else◌, Option, None, Some, option_map}
 use Rattle.setup_text.specs.declared.commands.Command.{Command}
-use Rattle.setup_text.specs.declared.commands.Command.TheVariants.{Check, Make, Replay, Send}
+use Rattle.setup_text.specs.declared.commands.Command.TheVariants.{Capture, Check, Make, Replay, Send}
 
 -- a command with the names of its texts; where it has no schedule that name is empty
 pub record Named : Type 0 where
@@ -20,12 +20,13 @@ is_name word = not (length word == 0)
 unfoldable pub lone_command : List ℕ → Option Command
 lone_command word =
     if bytes_eq word (codes "check") then Some Check
+    else if bytes_eq word (codes "capture") then Some Capture
     else if bytes_eq word (codes "send") then Some Send
     else if bytes_eq word (codes "make") then Some Make
     else None
 
--- exactly the words `check CONF`, `send CONF`, `make CONF` and `replay CONF SCHED`, where no name
--- is empty
+-- exactly the words `check CONF`, `capture CONF`, `send CONF`, `make CONF` and `replay CONF SCHED`,
+-- where no name is empty
 abbrev pub command_of : List (List ℕ) → Option Named
 command_of (word ∷ setup ∷ []) =
     if is_name setup
@@ -35,6 +36,15 @@ command_of (word ∷ setup ∷ schedule ∷ []) =
     then Some (named_by Replay setup schedule) else None
 command_of words = None
 
--- the command that is carried out on one thread: so far each of these
+-- whether a command runs on threads
+abbrev pub is_threaded : Command → Bool
+is_threaded Capture = true
+is_threaded command = false
+
+-- the command that is carried out on one thread: each of these but `capture`
+abbrev pub plain_of : Option Named → Option Named
+plain_of None = None
+plain_of (Some named) = if is_threaded named.command then None else Some named
+
 abbrev pub plain_command : List (List ℕ) → Option Named
-plain_command words = command_of words
+plain_command words = plain_of (command_of words)

@@ -1,6 +1,8 @@
 -- What a call answers, prints and saves, by what it found.
 use Rattle.std.specs.Prelude.{◌≡◌, ◌⊎◌, ◌<◌, ℕ, Bool, true, false, List, Option, None, Some}
+use Rattle.std.specs.Prelude.{IfOk, OnErr, Result}
 use Rattle.std.specs.Io.KnownBytes.{Appends}
+use Rattle.frame_view.specs.declared.want.Memory.{Memory}
 use Rattle.tap_outside.specs.Counts.{Rose, RoseBy}
 use Rattle.tap_outside.specs.Seen.{OnlyReads, SinkSeen, StoreSeen}
 use Rattle.tap_outside.specs.Sinks.{AppendsFront}
@@ -11,7 +13,7 @@ use Rattle.tap_engine.specs.Jobs.{IsAsked}
 use Rattle.tap_engine.specs.declared.findings.Finding.{Finding}
 use Rattle.tap_engine.specs.declared.outcomes.Outcome.{Outcome}
 use Rattle.tap_engine.specs.declared.outcomes.Status.{Status}
-use Rattle.tap_engine.specs.declared.outcomes.Status.TheVariants.{Memory, WriteFault}
+use Rattle.tap_engine.specs.declared.outcomes.Status.TheVariants.{WriteFault}
 
 -- the lines were printed, or a prefix of them where printing failed
 abbrev pub IsPrinted : SinkSeen → SinkSeen → List ℕ → Bool → Type 0
@@ -61,6 +63,13 @@ pub record IsCut (command : Option Named) (old new : StoreSeen) : Type 0 where
   pub reads : OnlyReads old new
   pub cause :
       (new ≡ old) ⊎ ((named : Named) × (command ≡ Some named) × IsAsked old.held named)
+
+-- what a call found, the store being read alone, or that memory ran out
+pub record IsSearched (command : Option Named) (old new : StoreSeen)
+    (answer : Result Finding Memory) : Type 0 where
+  pub reads : OnlyReads old new
+  pub found : IfOk answer (IsFound command old new)
+  pub cut : OnErr answer (IsCut command old new)
 
 -- memory ran out after this was found: each name of its files holds what it held, or the file's
 -- bytes, but for as many as saving failed

@@ -4,10 +4,11 @@ use Rattle.std.specs.Prelude.{IfSome}
 use Rattle.capture_file.specs.Capture.{damage_of, end_of}
 use Rattle.capture_file.specs.declared.cpu_end.CpuEnd.{CpuEnd}
 use Rattle.capture_file.specs.declared.cpu_end.CpuEnd.TheVariants.{Whole}
+use Rattle.capture_reports.specs.Reported.{IsCaptured}
 use Rattle.made_captures.specs.Made.{made_captures}
 use Rattle.schedule_lines.specs.declared.lines.Line.{Line}
 use Rattle.setup_text.specs.declared.commands.Command.{Command}
-use Rattle.setup_text.specs.declared.commands.Command.TheVariants.{Check, Make, Replay, Send}
+use Rattle.setup_text.specs.declared.commands.Command.TheVariants.{Capture, Check, Make, Replay, Send}
 use Rattle.setup_text.specs.declared.cpu_setups.CpuSetup.{CpuSetup}
 use Rattle.setup_text.specs.declared.jobs.Job.{Job}
 use Rattle.setup_text.specs.declared.reports.RunReport.{RunReport}
@@ -18,7 +19,7 @@ use Rattle.run_reports.specs.Reports.{IsRunReport}
 use Rattle.tap_replay.specs.Runs.{report_of}
 use Rattle.capture_reading.specs.Sources.{EndsAtDamage, UnlessFault, WhereEnded, WhereFault, end_by}
 use Rattle.tap_engine.specs.Commands.{Named}
-use Rattle.tap_engine.specs.Jobs.{HasJob, HasLines}
+use Rattle.tap_engine.specs.Jobs.{HasJob, HasLines, HasTicks}
 
 -- the capture under a name gave these bytes, from its start, and ended so
 pub record IsCapture (held : Option Contents) (name bytes : List ℕ) (end : CpuEnd) : Type 0 where
@@ -50,6 +51,7 @@ abbrev pub CapturesFor :
 CapturesFor Check held setup bytes ends = ⊥
 CapturesFor Make held setup bytes ends = AreMade setup bytes ends
 CapturesFor Replay held setup bytes ends = AreCaptures held setup.cpus bytes ends
+CapturesFor Capture held setup bytes ends = AreCaptures held setup.cpus bytes ends
 CapturesFor Send held setup bytes ends = ⊥
 
 -- the report is the replay report of the command's lines, and of what the captures gave
@@ -59,12 +61,21 @@ pub record IsReplayOf (held : Option Contents) (named : Named) (job : Job) (byte
   pub lines_are : HasLines held named job lines
   pub replay : report ≡ report_of job lines bytes ends
 
--- what a command adds to what holds of every report: `replay` and `make` replay their lines
+-- the members were told the moments that the setup names, each once and in order, and the report
+-- holds their rings, finished
+pub record IsCaptureOf (held : Option Contents) (job : Job) (report : RunReport) : Type 0 where
+  pub moments : List ℕ
+  pub moments_are : HasTicks held job.setup.ticks moments
+  pub captured : IsCaptured job.setup.shape moments report
+
+-- what a command adds to what holds of every report: `replay` and `make` replay their lines, and
+-- `capture` tells its moments
 abbrev pub IsRunOf :
     Command → Option Contents → Named → Job → List (List ℕ) → List CpuEnd → RunReport → Type 0
 IsRunOf Check held named job bytes ends report = ⊥
 IsRunOf Make held named job bytes ends report = IsReplayOf held named job bytes ends report
 IsRunOf Replay held named job bytes ends report = IsReplayOf held named job bytes ends report
+IsRunOf Capture held named job bytes ends report = IsCaptureOf held job report
 IsRunOf Send held named job bytes ends report = ⊥
 
 -- A report is that of the setup, the filter and the captures under their names.

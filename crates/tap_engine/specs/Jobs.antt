@@ -1,6 +1,6 @@
 -- What a command asks for, by the texts under its names: setup, filter, and then the moments or the
 -- schedule.
-use Rattle.std.specs.Prelude.{◌≡◌, ◌⊎◌, ℕ, List, length, ⊤, Option, None, Some, Result, Ok}
+use Rattle.std.specs.Prelude.{◌≡◌, ◌⊎◌, ℕ, List, [], length, ⊤, Option, None, Some, Result, Ok}
 use Rattle.bpf_filter.specs.declared.insn.Insn.{Insn}
 use Rattle.schedule_lines.specs.declared.lines.Line.{Line}
 use Rattle.setup_text.specs.Answers.{is_setup_want, is_text_want}
@@ -8,7 +8,7 @@ use Rattle.setup_text.specs.Filters.{filter_of}
 use Rattle.setup_text.specs.Moments.{moments_of}
 use Rattle.made_captures.specs.Made.{made_lines}
 use Rattle.setup_text.specs.declared.commands.Command.{Command}
-use Rattle.setup_text.specs.declared.commands.Command.TheVariants.{Check, Make, Replay, Send}
+use Rattle.setup_text.specs.declared.commands.Command.TheVariants.{Capture, Check, Make, Replay, Send}
 use Rattle.setup_text.specs.declared.jobs.Job.{Job}
 use Rattle.setup_text.specs.declared.setup_error.SetupError.{SetupError}
 use Rattle.setup_text.specs.declared.setups.Setup.{Setup}
@@ -38,10 +38,10 @@ pub record HasJob (held : Option Contents) (named : Named) (job : Job) : Type 0 
   pub setup : HasSetup held named job.setup
   pub program : HasProgram held (filter_for named.command job.setup) job.program
 
--- so were the moments, where some are read
-abbrev pub HasTicks : Option Contents → Option (List ℕ) → Type 0
-HasTicks held None = ⊤
-HasTicks held (Some name) = (moments : List ℕ) × Says moments_of held name (Ok moments)
+-- so were the moments; where none are read there is none
+abbrev pub HasTicks : Option Contents → Option (List ℕ) → List ℕ → Type 0
+HasTicks held None moments = moments ≡ []
+HasTicks held (Some name) moments = Says moments_of held name (Ok moments)
 
 -- the reader of schedules for the CPUs and the members of a job
 abbrev pub lines_for : Job → List ℕ → Result (List Line) TextError
@@ -58,6 +58,7 @@ LinesFor Replay held named job lines = HasSchedule held named job lines
 LinesFor Make held named job lines =
     lines ≡ made_lines job.setup.count (length job.setup.cpus) job.setup.plan.members
 LinesFor Check held named job lines = ⊥
+LinesFor Capture held named job lines = ⊥
 LinesFor Send held named job lines = ⊥
 
 abbrev pub HasLines : Option Contents → Named → Job → List Line → Type 0
@@ -68,7 +69,8 @@ pub record IsChecked (held : Option Contents) (named : Named) : Type 0 where
   pub command : named.command ≡ Check
   pub job : Job
   pub job_is : HasJob held named job
-  pub ticks : HasTicks held (ticks_for named.command job.setup)
+  pub moments : List ℕ
+  pub ticks : HasTicks held (ticks_for named.command job.setup) moments
 
 -- ---- what is refused, all texts before it being accepted and no read having failed
 
@@ -108,6 +110,7 @@ abbrev pub HasLast : Command → Option Contents → Named → Job → Type 0
 HasLast Check held named job = ⊥
 HasLast Make held named job = ⊤
 HasLast Replay held named job = (lines : List Line) × HasSchedule held named job lines
+HasLast Capture held named job = (moments : List ℕ) × HasTicks held job.setup.ticks moments
 HasLast Send held named job = ⊤
 
 -- so were all its texts

@@ -9,3 +9,4 @@ pub mod Sources
 pub mod Complete
 pub mod Numbers
 pub mod InnerErrors
+pub mod Answers

@@ -3,7 +3,7 @@ use Rattle.std.specs.Prelude.{ℕ, Bool, List, [], ◌∷◌, ◌++◌, map, opt
 use Rattle.std.specs.Prelude.{unwrap_or, IsTrue, ⊤, Result, Ok, Err}
 use Rattle.std.specs.List.{AllByRecursion}
 use Rattle.setup_text.specs.declared.commands.Command.{Command}
-use Rattle.setup_text.specs.declared.commands.Command.TheVariants.{Check, Make, Replay, Send}
+use Rattle.setup_text.specs.declared.commands.Command.TheVariants.{Capture, Check, Make, Replay, Send}
 use Rattle.setup_text.specs.declared.cpu_setups.CpuSetup.{CpuSetup}
 use Rattle.setup_text.specs.declared.setup_error.SetupError.{SetupError}
 use Rattle.setup_text.specs.declared.setups.Setup.{Setup}
@@ -19,10 +19,12 @@ filter_for Send setup = None
 filter_for Check setup = setup.filter
 filter_for Make setup = setup.filter
 filter_for Replay setup = setup.filter
+filter_for Capture setup = setup.filter
 
 -- the moments that it reads: those of a setup that is checked or of a capture
 abbrev pub ticks_for : Command → Setup → Option (List ℕ)
 ticks_for Check setup = setup.ticks
+ticks_for Capture setup = setup.ticks
 ticks_for Make setup = None
 ticks_for Replay setup = None
 ticks_for Send setup = None
@@ -38,6 +40,7 @@ abbrev pub read_last : Command → List ℕ → Setup → List (List ℕ)
 read_last Check schedule setup = []
 read_last Make schedule setup = []
 read_last Replay schedule setup = schedule ∷ map (λ cpu. cpu.file) setup.cpus
+read_last Capture schedule setup = map (λ cpu. cpu.file) setup.cpus
 read_last Send schedule setup = first_file setup.cpus ∷ []
 
 -- what a command reads after its setup
@@ -57,6 +60,7 @@ abbrev pub saved_for : Command → Setup → List (List ℕ)
 saved_for Check setup = []
 saved_for Make setup = names_from setup 0 setup.plan.members
 saved_for Replay setup = names_from setup 0 setup.plan.members
+saved_for Capture setup = names_from setup 0 setup.plan.members
 saved_for Send setup = sent_name setup ∷ []
 
 abbrev pub saved_by : Command → Result Setup SetupError → List (List ℕ)

@@ -1,6 +1,7 @@
 //! The words of a command.
-ghost use Rattle.std.specs.Prelude.{◌≡◌, [], ◌∷◌, option_map};
-ghost use Rattle.tap_engine.specs.Commands.{command_of, lone_command, named_by};
+ghost use Rattle.std.specs.Prelude.{◌≡◌, [], ◌∷◌, false, option_map, IfSome};
+ghost use Rattle.tap_engine.specs.Commands.{command_of, is_threaded, lone_command, named_by};
+ghost use Rattle.tap_engine.specs.Commands.{plain_command};
 
 use setup_text::Command;
 use text_lines::Word;
@@ -28,7 +29,21 @@ pub(crate) fn command_of(words: &[Word]) -> Option<Asked<'_>>
     }
 }
 
-/// The commands `check CONF`, `send CONF` and `make CONF`.
+/// The command that the words are, if they are one that runs on one thread.
+pub(crate) fn plain_command(words: &[Word]) -> Option<Asked<'_>>
+    ensures command { option_map
+        (λ asked. named_by asked.command asked.setup.now asked.schedule.now) result
+        ≡ plain_command words.now }
+    ensures plain { IfSome result (λ asked. is_threaded asked.command ≡ false) }
+{
+    let asked = command_of(words)?;
+    match asked.command {
+        Command::Capture => None,
+        Command::Check | Command::Replay | Command::Send | Command::Make => Some(asked),
+    }
+}
+
+/// The commands `check CONF`, `capture CONF`, `send CONF` and `make CONF`.
 fn lone_of<'a>(word: &Word, setup: &'a Word) -> Option<Asked<'a>>
     ensures { option_map (λ asked. named_by asked.command asked.setup.now asked.schedule.now) result
         ≡ command_of (word.now ∷ setup.now ∷ []) }
@@ -52,6 +67,8 @@ fn lone_command(word: &[u8]) -> Option<Command>
 {
     if word == b"check".as_slice() {
         Some(Command::Check)
+    } else if word == b"capture".as_slice() {
+        Some(Command::Capture)
     } else if word == b"send".as_slice() {
         Some(Command::Send)
     } else if word == b"make".as_slice() {

@@ -3,7 +3,7 @@ ghost use Rattle.std.specs.Prelude.{◌≡◌, ◌≤◌, None, Ok, IfErr, IfOk,
 ghost use Rattle.std.specs.Prelude.{option_map};
 ghost use Rattle.schedule_lines.specs.Ascending.{IsSchedule};
 ghost use Rattle.setup_text.specs.Setups.{request_fault};
-ghost use Rattle.setup_text.specs.Sound.{IsSetup};
+ghost use Rattle.setup_text.specs.Sound.{AreMoments, IsSetup};
 ghost use Rattle.setup_text.specs.declared.jobs.Job.{Job};
 ghost use Rattle.setup_text.specs.declared.setups.Setup.{Setup};
 ghost use Rattle.tap_outside.specs.Seen.{OnlyReads};
@@ -14,6 +14,7 @@ ghost use Rattle.tap_engine.specs.Names.{AreMeantToRead, filter_for, ticks_for};
 
 use crate::commands::Asked;
 use bpf_filter::Program;
+use frame_view::MomentList;
 use schedule_lines::Schedule;
 use setup_text::{Command, Job, Setup};
 use std::alloc::Global;
@@ -50,7 +51,9 @@ fn filter_for(command: Command, setup: &Setup) -> Option<&Word>
 {
     match command {
         Command::Send => None,
-        Command::Check | Command::Make | Command::Replay => { setup.filter.as_ref() }
+        Command::Check | Command::Make | Command::Replay | Command::Capture => {
+            setup.filter.as_ref()
+        }
     }
 }
 
@@ -79,14 +82,15 @@ fn load_program<S: Store>(
     }
 }
 
-/// Reads the moments that a setup names, if it names some, and lets them go: they must be accepted.
-pub(crate) fn check_ticks<S: Store>(
+/// Reads the moments that a setup names. Where it names none there is none.
+pub(crate) fn load_moments<S: Store>(
     alloc: Global,
     store: &mut S,
     ticks: &Option<Word>,
-) -> Result<(), Stop>
+) -> Result<MomentList, Stop>
     requires { IfSome ticks.now (λ name. IsTrue ((S.seen store.old).to_read name)) }
-    ensures ticks { OnOk result (HasTicks (S.seen store.old).held ticks.now) }
+    ensures ticks { IfOk result (HasTicks (S.seen store.old).held ticks.now) }
+    ensures sound { IfOk result AreMoments }
     ensures stop { IfErr result (λ stop. (named : Named) (job : Job)
         → HasJob (S.seen store.old).held named job
         → ticks_for named.command job.setup ≡ ticks.now
@@ -94,10 +98,10 @@ pub(crate) fn check_ticks<S: Store>(
     ensures store { OnlyReads (S.seen store.old) (S.seen store.new) }
     ensures faultless { OnOk result (S.seen store.new ≡ S.seen store.old) }
 {
-    if let Some(name) = ticks {
-        load_ticks(alloc, store, name.bytes())?;
+    match ticks {
+        None => Ok(MomentList::new(alloc)),
+        Some(name) => load_ticks(alloc, store, name.bytes()),
     }
-    Ok(())
 }
 
 /// Reads a schedule for the CPUs and the members of a setup.
@@ -113,6 +117,7 @@ pub(crate) fn load_lines<S: Store>(
         Says (schedule_for (length setup.now.cpus) setup.now.plan.members)
         (S.seen store.old).held name.now (Ok lines)) }
     ensures ascending { IfOk result IsSchedule }
+    ensures few { IfOk result (λ lines. length lines ≤ 1048576) }
     ensures stop { IfErr result
         (StopsAtText (schedule_for (length setup.now.cpus) setup.now.plan.members)
         (S.seen store.old) (S.seen store.new) name.now) }

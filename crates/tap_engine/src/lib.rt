@@ -1,6 +1,8 @@
-//! The top call: words, texts, a run, its files and its lines.
+//! The top calls: words, texts, a run, its files and its lines.
 #![tactic(auto)]
 
+mod calls;
+mod capturing;
 mod commands;
 mod concluding;
 mod findings;
@@ -12,6 +14,6 @@ mod running;
 mod sending;
 mod sources;
 
+pub use calls::{run, run_plain};
 pub use laws::each_frame_of_a_run_stands_exactly_once;
 pub use outcomes::{Outcome, Status};
-pub use running::run_plain;

@@ -57,6 +57,7 @@ fn replay_captures<S: Store>(
 ) -> Result<RunReport, Memory>
     requires setup { IsSetup job.now.setup }
     requires schedule { IsSchedule schedule.now }
+    requires few { length schedule.now ≤ 1048576 }
     requires captures { All (λ cpu. IsTrue ((S.seen store.old).to_read cpu.file))
         job.now.setup.cpus }
     ensures reported { IfOk result (λ report. (named : Named) → named.command ≡ Replay

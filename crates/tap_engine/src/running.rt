@@ -1,119 +1,66 @@
-//! The top call.
-ghost use Rattle.std.specs.Prelude.{◌≡◌, ◌≢◌, ◌⊎◌, None, Some, IfErr, IfOk, IsTrue, OnErr};
+//! What a command finds: its texts, its captures and its run.
+ghost use Rattle.std.specs.Prelude.{◌≡◌, false, Some, IfErr, IfOk};
 ghost use Rattle.setup_text.specs.Setups.{request_fault};
 ghost use Rattle.setup_text.specs.Sound.{IsSetup};
 ghost use Rattle.tap_outside.specs.Seen.{OnlyReads};
-ghost use Rattle.tap_engine.specs.Commands.{named_by, plain_command};
-ghost use Rattle.tap_engine.specs.Complete.{IsComplete};
-ghost use Rattle.tap_engine.specs.Conclusions.{GivesUp, IsCut, IsCutShort, Tells};
+ghost use Rattle.tap_engine.specs.Commands.{command_of, is_threaded, named_by, plain_command};
+ghost use Rattle.tap_engine.specs.Conclusions.{IsSearched};
 ghost use Rattle.tap_engine.specs.Findings.{IsFound, IsReady, finding_of};
-ghost use Rattle.tap_engine.specs.Headline.{IsWorth};
-ghost use Rattle.tap_engine.specs.InnerErrors.{HoldsNoMemory};
 ghost use Rattle.tap_engine.specs.Jobs.{HasJob, Stops};
-ghost use Rattle.tap_engine.specs.Names.{AreMeantToRead, AreMeantToSave};
+ghost use Rattle.tap_engine.specs.Names.{AreMeantToRead};
 
-use crate::commands::{Asked, command_of};
-use crate::concluding::conclude;
+use crate::capturing::capture_timed;
+use crate::commands::{Asked, command_of, plain_command};
 use crate::findings::Finding;
-use crate::jobs::{check_ticks, load_job};
+use crate::jobs::{load_job, load_moments};
 use crate::making::{replay_made, replay_scheduled};
 use crate::sending::send_capture;
-use crate::{Outcome, Status};
+use cpu_feeders::Gate;
 use frame_view::Memory;
 use setup_text::{Command, Job};
 use std::alloc::Global;
-use tap_outside::{Sink, Store, write_whole};
+use std::sync::Wait;
+use std::thread::Threads;
+use tap_outside::Store;
 use tap_reading::Stop;
 use text_lines::Word;
 
-/// Carries out a command over a store and a sink, on one thread.
-///
-/// - `check CONF` reads the setup, and the filter and the moments that it names, and prints `ok`.
-/// - `replay CONF SCHED` replays the captures of the setup as the schedule says.
-/// - `make CONF` replays frames that are made from the setup's number, by a schedule of its own,
-///   and reads no capture.
-/// - `send CONF` sends the capture of CPU 0 through a transmit ring, and gives no report.
-///
-/// Any other words are no command here. The commands, the texts and the printed lines are this
-/// project's own choice; docs/using.md lists them.
-pub fn run_plain<S: Store, O: Sink>(
+/// Finds what the words ask for, on threads where they are `capture CONF`. The store is read alone.
+pub(crate) fn find<S: Store, G: Gate + Sync, R: Threads + Wait + Sync>(
+    rt: &R,
     alloc: Global,
     words: &[Word],
     store: &mut S,
-    out: &mut O,
-) -> Outcome
-    // Each file that the command reads is meant for reading, and each that it saves is meant for
-    // saving.
-    requires reads { AreMeantToRead (plain_command words.now) (S.seen store.old) }
-    requires saves { AreMeantToSave (plain_command words.now) (S.seen store.old) }
-
-    // A report holds each frame that was read and passes the filter once: kept or dropped.
-    ensures headline { IsWorth (plain_command words.now) (S.seen store.old).held result.report }
-
-    // Unless memory ran out: what the command found by what the outside gave, and the status, the
-    // report, the lines and the files of that.
-    ensures told { result.status ≢ Status.Memory → Tells (plain_command words.now) result
-        (S.seen store.old) (S.seen store.new) (O.seen out.old) (O.seen out.new) }
-
-    // Where memory ran out: no report, and no file but those of what was found has changed.
-    ensures gave_up { result.status ≡ Status.Memory → GivesUp (plain_command words.now) result
-        (S.seen store.old) (S.seen store.new) }
-
-    // No error within the status or the report says that memory ran out.
-    ensures no_memory { HoldsNoMemory result }
-
-    // Where the store holds a sound command and no count of faults rose, the status is 0, or 7.
-    ensures complete { IsComplete (plain_command words.now)
-        (S.seen store.old) (S.seen store.new) (O.seen out.old) (O.seen out.new) result.status }
-{
-    match attempt(alloc, words, store, out) {
-        Ok(outcome) => outcome,
-        Err(_) => give_up(out),
-    }
-}
-
-/// Carries out a command, as far as there is memory.
-fn attempt<S: Store, O: Sink>(
-    alloc: Global,
-    words: &[Word],
-    store: &mut S,
-    out: &mut O,
-) -> Result<Outcome, Memory>
-    requires reads { AreMeantToRead (plain_command words.now) (S.seen store.old) }
-    requires saves { AreMeantToSave (plain_command words.now) (S.seen store.old) }
-    ensures told { IfOk result (λ outcome. Tells (plain_command words.now) outcome
-        (S.seen store.old) (S.seen store.new) (O.seen out.old) (O.seen out.new)) }
-    ensures cut { OnErr result
-        (IsCut (plain_command words.now) (S.seen store.old) (S.seen store.new)
-        ⊎ IsCutShort (plain_command words.now) (S.seen store.old) (S.seen store.new)) }
-{
-    let finding = find(alloc, words, store)?;
-    conclude(alloc, finding, store, out)
-}
-
-/// Says that memory ran out, once, if the sink takes it.
-fn give_up<O: Sink>(out: &mut O) -> Outcome
-    ensures status { result.status ≡ Status.Memory }
-    ensures report { result.report ≡ None }
-{
-    let _ = write_whole(out, b"out of memory\n");
-    Outcome {
-        status: Status::Memory,
-        report: None,
-    }
-}
-
-/// Finds what the words ask for. The store is read alone.
-fn find<S: Store>(alloc: Global, words: &[Word], store: &mut S) -> Result<Finding, Memory>
-    requires reads { AreMeantToRead (plain_command words.now) (S.seen store.old) }
-    ensures found { IfOk result
-        (IsFound (plain_command words.now) (S.seen store.old) (S.seen store.new)) }
+    gate: &G,
+) -> Result<Finding, Memory>
+    requires reads { AreMeantToRead (command_of words.now) (S.seen store.old) }
+    ensures found { IsSearched (command_of words.now) (S.seen store.old) (S.seen store.new)
+        result }
     ensures ready { IfOk result IsReady }
-    ensures cut { OnErr result
-        (IsCut (plain_command words.now) (S.seen store.old) (S.seen store.new)) }
-    ensures store { OnlyReads (S.seen store.old) (S.seen store.new) }
 {
     let Some(asked) = command_of(words) else {
+        return Ok(Finding::NoCommand);
+    };
+    match asked.command {
+        Command::Capture => finding_of(capture(rt, alloc, asked, store, gate)),
+        Command::Check | Command::Replay | Command::Send | Command::Make => {
+            finding_of(carry_out(alloc, asked, store))
+        }
+    }
+}
+
+/// Finds what the words ask for on one thread. The store is read alone.
+pub(crate) fn find_plain<S: Store>(
+    alloc: Global,
+    words: &[Word],
+    store: &mut S,
+) -> Result<Finding, Memory>
+    requires reads { AreMeantToRead (plain_command words.now) (S.seen store.old) }
+    ensures found { IsSearched (plain_command words.now) (S.seen store.old) (S.seen store.new)
+        result }
+    ensures ready { IfOk result IsReady }
+{
+    let Some(asked) = plain_command(words) else {
         return Ok(Finding::NoCommand);
     };
     finding_of(carry_out(alloc, asked, store))
@@ -132,8 +79,9 @@ fn finding_of(answer: Result<Finding, Stop>) -> Result<Finding, Memory>
     }
 }
 
-/// Reads the texts and the captures of a command, and does its run.
+/// Reads the texts and the captures of a command, and does its run on one thread.
 fn carry_out<S: Store>(alloc: Global, asked: Asked<'_>, store: &mut S) -> Result<Finding, Stop>
+    requires plain { is_threaded asked.command ≡ false }
     requires reads { AreMeantToRead
         (Some (named_by asked.command asked.setup.now asked.schedule.now)) (S.seen store.old) }
     ensures found { IfOk result (IsFound
@@ -148,8 +96,9 @@ fn carry_out<S: Store>(alloc: Global, asked: Asked<'_>, store: &mut S) -> Result
     work(alloc, asked, job, store)
 }
 
-/// Does what a command asks for, behind its setup and its filter.
+/// Does what a command asks for on one thread, behind its setup and its filter.
 fn work<S: Store>(alloc: Global, asked: Asked<'_>, job: Job, store: &mut S) -> Result<Finding, Stop>
+    requires plain { is_threaded asked.command ≡ false }
     requires job { HasJob (S.seen store.old).held
         (named_by asked.command asked.setup.now asked.schedule.now) job }
     requires setup { IsSetup job.setup }
@@ -166,7 +115,7 @@ fn work<S: Store>(alloc: Global, asked: Asked<'_>, job: Job, store: &mut S) -> R
 {
     match asked.command {
         Command::Check => {
-            check_ticks(alloc, store, &job.setup.ticks)?;
+            load_moments(alloc, store, &job.setup.ticks)?;
             Ok(Finding::Checked)
         }
         Command::Make => {
@@ -181,5 +130,30 @@ fn work<S: Store>(alloc: Global, asked: Asked<'_>, job: Job, store: &mut S) -> R
             let sending = send_capture(alloc, &job.setup, store)?;
             Ok(Finding::Sent(job.setup, sending))
         }
+        Command::Capture => unreachable!(),
     }
+}
+
+/// Reads the texts and the captures of a `capture`, and does its run on threads.
+fn capture<S: Store, G: Gate + Sync, R: Threads + Wait + Sync>(
+    rt: &R,
+    alloc: Global,
+    asked: Asked<'_>,
+    store: &mut S,
+    gate: &G,
+) -> Result<Finding, Stop>
+    requires command { asked.command ≡ Command.Capture }
+    requires reads { AreMeantToRead
+        (Some (named_by asked.command asked.setup.now asked.schedule.now)) (S.seen store.old) }
+    ensures found { IfOk result (IsFound
+        (Some (named_by asked.entry.command asked.entry.setup.now asked.entry.schedule.now))
+        (S.seen store.old) (S.seen store.new)) }
+    ensures stop { IfErr result (Stops (S.seen store.old) (S.seen store.new)
+        (named_by asked.entry.command asked.entry.setup.now asked.entry.schedule.now)) }
+    ensures ready { IfOk result IsReady }
+    ensures store { OnlyReads (S.seen store.old) (S.seen store.new) }
+{
+    let job = load_job(alloc, asked, store)?;
+    let report = capture_timed(rt, alloc, &job, store, gate)?;
+    Ok(Finding::Ran(job.setup, report))
 }

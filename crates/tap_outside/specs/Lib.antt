@@ -5,3 +5,4 @@ pub mod Seen
 pub mod Sources
 pub mod Sinks
 pub mod Stores
+pub mod Words

@@ -1,7 +1,8 @@
 //! Why a call to the outside fails.
-ghost use Rattle.std.specs.Prelude.{◌≡◌, ◌↔◌};
+ghost use Rattle.std.specs.Prelude.{◌≡◌, ◌↔◌, codes, Some};
 ghost use Rattle.std.specs.IoError.{error_kind};
 ghost use Rattle.std.specs.declared.io.ErrorKind.TheVariants.{OutOfMemory};
+ghost use Rattle.tap_outside.specs.Words.{cause_words};
 ghost use Rattle.tap_outside.specs.declared.causes.OutError.TheVariants.{Failed, Memory};
 
 use std::alloc::{AllocError, AllocFailed};
@@ -23,18 +24,22 @@ pub enum OutError {
 }
 
 impl fmt::Display for Failed {
+    ghost output = { λ _. Some (codes "input or output failed") };
+
     fn fmt<W: fmt::Write>(&self, f: &mut fmt::Formatter<W>) -> fmt::Result {
-        write!(f, "input or output failed")
+        f.write_str("input or output failed")
     }
 }
 
 impl Error for Failed {}
 
 impl fmt::Display for OutError {
+    ghost output = { λ error. Some (cause_words error) };
+
     fn fmt<W: fmt::Write>(&self, f: &mut fmt::Formatter<W>) -> fmt::Result {
         match self {
-            OutError::Failed => write!(f, "input or output failed"),
-            OutError::Memory => write!(f, "out of memory"),
+            OutError::Failed => f.write_str("input or output failed"),
+            OutError::Memory => f.write_str("out of memory"),
         }
     }
 }

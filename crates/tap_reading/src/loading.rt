@@ -3,7 +3,7 @@ ghost use Rattle.std.specs.Prelude.{◌≡◌, None, Ok, IfErr, IfOk, IsTrue, On
 ghost use Rattle.setup_text.specs.Filters.{filter_of};
 ghost use Rattle.setup_text.specs.Moments.{moments_of};
 ghost use Rattle.setup_text.specs.Setups.{request_fault};
-ghost use Rattle.setup_text.specs.Sound.{IsScheduleFor, IsSetup};
+ghost use Rattle.setup_text.specs.Sound.{AreMoments, IsScheduleFor, IsSetup};
 ghost use Rattle.tap_outside.specs.Seen.{OnlyReads};
 ghost use Rattle.tap_reading.specs.Readers.{Says, StopsAtSetup, StopsAtText, schedule_for, setup_for};
 
@@ -56,6 +56,7 @@ pub fn load_ticks<S: Store>(alloc: Global, store: &mut S, name: &[u8]) -> Result
     requires { IsTrue ((S.seen store.old).to_read name.now) }
     ensures moments { IfOk result
         (λ moments. Says moments_of (S.seen store.old).held name.now (Ok moments)) }
+    ensures sound { IfOk result AreMoments }
     ensures stop { IfErr result
         (StopsAtText moments_of (S.seen store.old) (S.seen store.new) name.now) }
     ensures store { OnlyReads (S.seen store.old) (S.seen store.new) }

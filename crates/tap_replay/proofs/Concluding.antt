@@ -1,41 +1,38 @@
 -- A run from its sources to its report is the replay of all frames that they gave.
-use Rattle.std.proofs.Common.{◌≡◌, ℕ, zero, suc, ◌+◌, ◌<◌, ◌≤◌, Bool, List, [], ◌∷◌, ◌++◌, length, drop, get_or, append-nil, append_assoc, Option, inl, inr, refl, sym, ap, ◌∙◌, subst, arith}
-use Rattle.std.specs.Prelude.{All, IfOk, IsSome, Result, Ok, Err, map, replicate}
-use Rattle.std.specs.List.{AllByRecursion}
+use Rattle.std.proofs.Common.{◌≡◌, ℕ, zero, suc, ◌+◌, ◌<◌, ◌≤◌, Bool, List, [], ◌∷◌, length, drop, get_or, append-nil, Option, refl, sym, ap, ◌∙◌, subst, arith}
+use Rattle.std.specs.Prelude.{All, IfOk, Result, Ok, Err, map, replicate}
 use Rattle.std.proofs.lemmas.List.{length-map, length-replicate}
-use Rattle.std.proofs.lemmas.List.Elements.{All-get_or, All-map, All-replicate, All-set}
+use Rattle.std.proofs.lemmas.List.Elements.{All-replicate}
 use Rattle.capture_file.specs.Capture.{frames_of}
 use Rattle.fanout_group.specs.Arrivals.{arrivals_at}
 use Rattle.fanout_group.specs.Plans.{Shape, has_defrag}
 use Rattle.fanout_group.specs.Rules.{Rules}
-use Rattle.fanout_group.specs.declared.logs.Try.{Try}
 use Rattle.capture_file.specs.declared.cpu_end.CpuEnd.{CpuEnd}
 use Rattle.fanout_group.specs.declared.runs.CpuLog.{CpuLog}
 use Rattle.frame_view.specs.declared.frames.Frame.{Frame}
-use Rattle.replay_model.specs.Replay.{Cpu, Replay, closed, done_line, done_lines, feed_from, finished_ring, no_ring, replayed, started}
+use Rattle.replay_model.specs.Replay.{Cpu, Replay, closed, done_line, done_lines, feed_from, finished_ring, replayed, started}
 use Rattle.schedule_lines.specs.Ascending.{IsSchedule}
 use Rattle.schedule_lines.specs.declared.lines.Line.{Line}
-use Rattle.schedule_lines.specs.declared.lines.Line.TheVariants.{Feed, Read, Tick, Stats}
+use Rattle.schedule_lines.specs.declared.lines.Line.TheVariants.{Feed}
 use Rattle.tap_replay.proofs.Timed.{IsTimed, drop_line, timed-started, timed_after}
-use Rattle.ring_model.specs.Ring.{Size}
-use Rattle.ring_model.specs.Rings.{Ring, fresh, noted, note_of_tick, read_once}
-use Rattle.ring_model.specs.declared.notes.Note.{Note}
-use Rattle.ring_model.specs.declared.notes.Offer.{Offer}
+use Rattle.ring_model.specs.Rings.{Ring, fresh}
 use Rattle.setup_text.specs.declared.jobs.Job.{Job}
 use Rattle.setup_text.specs.declared.reports.MemberReport.{MemberReport}
 use Rattle.setup_text.specs.declared.reports.RunReport.{RunReport}
 use Rattle.tp_layout.specs.Requests.{room_of, size_of}
 use Rattle.tp_layout.specs.declared.requests.RingRequest.{RingRequest}
-use Rattle.tap_replay.specs.Deliveries.{AreTried, ChangedByTries, IsNoteOf, IsTried}
+use Rattle.cpu_feed.specs.Closing.{AllClose}
 use Rattle.cpu_feed.specs.Feeding.{Closes, Feeding, frames_in}
+use Rattle.cpu_feed.proofs.ClosedOnes.{all_gave, closed_many}
 use Rattle.tap_replay.specs.Reported.{member_of}
-use Rattle.tap_replay.specs.Running.{AreAllOf, AreCpus, IsRun, RunValue, cpus_of, firsts_of, whole, cpu_of}
+use Rattle.tap_replay.specs.Running.{AreAllOf, AreCpus, IsCounted, IsRun, RunValue, cpus_of, firsts_of, whole, cpu_of}
 use Rattle.run_reports.specs.Reports.{IsRunReport}
 use Rattle.run_reports.specs.Jobs.{captures_from, rules_of}
 use Rattle.tap_replay.specs.Runs.{IsReplayed, log_of, logs_from, replay_of, report_of}
 use Rattle.capture_reading.specs.Sources.{AllGave}
 use Rattle.tap_outside.specs.Seen.{SourceSeen}
-use Rattle.tap_replay.specs.Turning.{AllClose, FedRest, Finishes, LineDone, MembersAfter, Starts, starting_from}
+use Rattle.tap_replay.specs.Turning.{FedRest, Finishes, LineDone, Starts, starting_from}
+use Rattle.tap_replay.proofs.Counting.{starts_counted}
 use Rattle.tap_replay.proofs.Whole.{as-many}
 
 abbrev first : Feeding → Option SourceSeen
@@ -109,13 +106,16 @@ pub record Did (job : Job) (lines : List Line) (at : ℕ) (start now : RunValue)
   pub does : (all : List (List Frame)) → AreAllOf all now.cpus → AreAllOf all start.cpus
       × (done_lines (rules_of job) (room_of job.setup.shape) (drop at lines) (whole all now) ≡ done_lines (rules_of job) (room_of job.setup.shape) lines (whole all start))
   pub firsts : firsts_of now ≡ firsts_of start
+  pub counted : IsCounted at now
 
-pub did_first : (job : Job) (lines : List Line) (firsts : List (Option SourceSeen)) (run : RunValue) → Starts job firsts run → IsSchedule lines → Did job lines 0 run run
-did_first job lines firsts run s schedule = record {
+pub did_first : (job : Job) (lines : List Line) (firsts : List (Option SourceSeen)) (run : RunValue) → length firsts ≤ 8 → Starts job firsts run → IsSchedule lines
+    → Did job lines 0 run run
+did_first job lines firsts run few s schedule = record {
   run = starts_run job firsts run s;
   timed = starts_timed job firsts run lines s schedule;
   does = λ all g. (g, refl);
   firsts = refl;
+  counted = starts_counted job firsts run few s;
 }
 
 pub did_more : (job : Job) (lines : List Line) (at : ℕ) (start now new : RunValue) → at < length lines → Did job lines at start now
@@ -129,6 +129,7 @@ did_more job lines at start now new within h f = record {
       let i = h.does all b.0 in
       (i.0, lines-more (rules_of job) (room_of job.setup.shape) at lines (Feed 0) (whole all now) (whole all new) within b.1 ∙ i.1);
   firsts = f.firsts ∙ h.firsts;
+  counted = f.counted at h.counted;
 }
 
 lines_past : (at : ℕ) (lines : List Line) → length lines ≤ at → drop at lines ≡ []
@@ -162,23 +163,6 @@ logs_are plan number (c ∷ cpus) (now ∷ nows) (log ∷ logs) h k =
     one.log_is ∙ ap (λ (n : ℕ). record { frames = length (frames_of n c.bytes); given = length c.bytes; end = log.end; arrivals = c.path.log }) h.0 in
     ap (λ (l : CpuLog). l ∷ logs) log_is
     ∙ ap (λ (ls : List CpuLog). log_of number c.bytes log.end (cpu_of (frames_in c) c) ∷ ls) (logs_are plan (number + 1) cpus nows logs h.2 k.1)
-
-closed_many : (cpus : List Feeding) (nows : List (Option SourceSeen)) (logs : List CpuLog) → AllClose cpus nows logs → length logs ≡ length cpus
-closed_many [] [] [] k = refl
-closed_many [] [] (log ∷ logs) k = absurd k
-closed_many [] (now ∷ nows) logs k = absurd k
-closed_many (c ∷ cpus) [] logs k = absurd k
-closed_many (c ∷ cpus) (now ∷ nows) [] k = absurd k
-closed_many (c ∷ cpus) (now ∷ nows) (log ∷ logs) k = let rest = closed_many cpus nows logs k.1 in omega (arith, rest)
-
-all_gave : (cpus : List Feeding) (nows : List (Option SourceSeen)) (logs : List CpuLog) → AllClose cpus nows logs
-    → AllGave (map first cpus) nows (map bytes_in cpus) (map end_in logs)
-all_gave [] [] [] k = tt
-all_gave [] [] (log ∷ logs) k = absurd k
-all_gave [] (now ∷ nows) logs k = absurd k
-all_gave (c ∷ cpus) [] logs k = absurd k
-all_gave (c ∷ cpus) (now ∷ nows) [] k = absurd k
-all_gave (c ∷ cpus) (now ∷ nows) (log ∷ logs) k = let one : Closes c now log = k.0 in (one.gave, all_gave cpus nows logs k.1)
 
 -- the replay of all frames
 replayed_whole : (job : Job) (lines : List Line) (arriving : List (List (Option Frame))) (last : Replay) (count : ℕ) (end : Replay)
@@ -256,43 +240,3 @@ module _ (job : Job) (lines : List Line) (firsts : List (Option SourceSeen)) (st
       → IfOk result (λ ran. IsReplayed job lines firsts (nows ran) (report ran))
   told reports (Ok ran) nows report shape asked shape_is asked_is e = is_replayed reports shape asked (nows ran) (report ran) shape_is asked_is e
   told reports (Err error) nows report shape asked shape_is asked_is e = tt
-
--- ---- closing CPU by CPU
-
-pub close_none : {X : Type 0} (f : X → Option SourceSeen) (xs : List X) (logs : List CpuLog) → xs ≡ [] → logs ≡ [] → AllClose [] (map f xs) logs
-close_none {X = X} f xs logs e k =
-    subst (λ (ys : List X). AllClose [] (map f ys) logs) (sym e) (subst (λ (ls : List CpuLog). AllClose [] [] ls) (sym k) tt)
-
-close_one : {X : Type 0} (f : X → Option SourceSeen) (done : List Feeding) (cpu : Feeding) (xs : List X) (x : X) (logs : List CpuLog) (log : CpuLog)
-    → AllClose done (map f xs) logs → Closes cpu (f x) log → AllClose (done ++ cpu ∷ []) (map f (xs ++ x ∷ [])) (logs ++ log ∷ [])
-close_one f [] cpu [] x [] log h one = (one, tt)
-close_one f [] cpu [] x (l ∷ logs) log h one = absurd h
-close_one f [] cpu (y ∷ xs) x logs log h one = absurd h
-close_one f (c ∷ done) cpu [] x logs log h one = absurd h
-close_one f (c ∷ done) cpu (y ∷ xs) x [] log h one = absurd h
-close_one f (c ∷ done) cpu (y ∷ xs) x (l ∷ logs) log h one = (h.0, close_one f done cpu xs x logs log h.1 one)
-
-pub close_more : {X : Type 0} (f : X → Option SourceSeen) (all done before after : List Feeding) (cpu : Feeding) (xs more : List X) (x : X) (logs grown : List CpuLog) (log : CpuLog)
-    → before ≡ cpu ∷ after → all ≡ done ++ before → AllClose done (map f xs) logs → Closes cpu (f x) log → more ≡ xs ++ x ∷ [] → grown ≡ logs ++ log ∷ []
-    → (front : List Feeding) × (all ≡ front ++ after) × AllClose front (map f more) grown
-close_more {X = X} f all done before after cpu xs more x logs grown log next parts h one more_is grown_is = (
-  done ++ cpu ∷ [],
-  parts ∙ ap (λ (cs : List Feeding). done ++ cs) next ∙ sym (append_assoc done (cpu ∷ []) after),
-  subst (λ (ys : List X). AllClose (done ++ cpu ∷ []) (map f ys) grown) (sym more_is)
-      (subst (λ (ls : List CpuLog). AllClose (done ++ cpu ∷ []) (map f (xs ++ x ∷ [])) ls) (sym grown_is) (close_one f done cpu xs x logs log h one)),
-)
-
-pub no_cpus : (cpus : List Feeding) → length cpus ≡ 0 → cpus ≡ []
-no_cpus [] e = refl
-no_cpus (c ∷ cpus) e = absurd (omega (arith, e))
-
-pub close_all : {X : Type 0} (f : X → Option SourceSeen) (all done rest : List Feeding) (xs : List X) (logs : List CpuLog) → rest ≡ [] → all ≡ done ++ rest
-    → AllClose done (map f xs) logs → AllClose all (map f xs) logs
-close_all f all done rest xs logs none parts h =
-    subst (λ (cs : List Feeding). AllClose cs (map f xs) logs) (sym (parts ∙ ap (λ (cs : List Feeding). done ++ cs) none ∙ append-nil done)) h
-
-pub ended_rest : (cpus rest : List Feeding) (cpu : Feeding) → cpus ≡ cpu ∷ rest → AllByRecursion (λ (c : Feeding). IsSome c.ended) cpus
-    → AllByRecursion (λ (c : Feeding). IsSome c.ended) rest
-ended_rest cpus rest cpu e h =
-    let all : AllByRecursion (λ (c : Feeding). IsSome c.ended) (cpu ∷ rest) = subst (λ (cs : List Feeding). AllByRecursion (λ (c : Feeding). IsSome c.ended) cs) e h in
-    all.1

@@ -1,6 +1,6 @@
 -- A member's fields stand for its ring after each call.
 use Rattle.std.proofs.Common.{◌≡◌, ℕ, ◌+◌, ◌^◌, ◌<◌, ◌≤◌, Bool, true, false, List, [], ◌∷◌, ◌++◌, length, take, drop, zero, suc, Some, refl, sym, ap, ◌∙◌, subst, arith, length-append}
-use Rattle.std.specs.Prelude.{is_some, if◌then◌else◌, replicate}
+use Rattle.std.specs.Prelude.{IfErr, IfOk, Result, Ok, Err, is_some, if◌then◌else◌, replicate}
 use Rattle.std.specs.List.{AllByRecursion}
 use Rattle.std.proofs.lemmas.List.{length-take}
 use Rattle.std.proofs.lemmas.Bool.{le-ltb, lt-ltb}
@@ -77,15 +77,14 @@ read_on shape asked before now ring after reader h more texts keeps =
     }
 
 abbrev noted_with : Parts → Producing PlainState → Parts
-noted_with m after = record { producer = after; reader = m.reader; noted = m.noted + 1; stuck = m.stuck }
+noted_with m after = record { producer = after; reader = m.reader; stuck = m.stuck }
 
 -- a note more
-pub noted_member : (shape : RingRequest) (asked : Bool) (m : Parts) (after : Producing PlainState) (note : Note) → IsMember shape asked m → m.noted < 2 ^ 39
+pub noted_member : (shape : RingRequest) (asked : Bool) (m : Parts) (after : Producing PlainState) (note : Note) → IsMember shape asked m → length m.producer.notes < 2 ^ 39
     → Adds feed_of m.producer after note → IsMember shape asked (noted_with m after)
 noted_member shape asked m after note h few adds =
     let same : after.shape ≡ shape = adds.shape ∙ h.shape_is in
     let count : length after.notes ≡ length m.producer.notes + 1 = ap (λ (ns : List Note). length ns) adds.notes ∙ length-append m.producer.notes (note ∷ []) in
-    let noted_is = h.noted_is in
     let P : RingRequest → Type 0 = λ s. StandsForTexts s (state_of (size_of s) after.notes).done (feed_of after.end) in
     let texts : StandsForTexts shape (state_of (size_of shape) after.notes).done (feed_of after.end) = subst P same adds.texts in
     let Q : List Note → Type 0 = λ ns. Grows (state_of (size_of shape) m.producer.notes).done (state_of (size_of shape) ns).done in
@@ -93,8 +92,7 @@ noted_member shape asked m after note h few adds =
     record {
       shape_is = same;
       small = h.small;
-      noted_is = omega (arith, count, noted_is);
-      few = omega (arith, few);
+      few = omega (arith, count, few);
       read = λ e. read_on shape asked _ _ m.producer.end after.end m.reader (h.read e) more texts adds.end;
     }
 
@@ -107,7 +105,7 @@ noted_ring before after note adds =
     ring_by before after adds.shape (before.notes ++ note ∷ []) adds.notes before.end.released (some_same after.end.released before.end.released adds.end.freed)
 
 abbrev with_producer : Parts → Producing PlainState → Parts
-with_producer m after = record { producer = after; reader = m.reader; noted = m.noted; stuck = m.stuck }
+with_producer m after = record { producer = after; reader = m.reader; stuck = m.stuck }
 
 -- nothing happened
 pub stays_member : (shape : RingRequest) (asked : Bool) (m : Parts) (after : Producing PlainState) → IsMember shape asked m → Stays m.producer after
@@ -115,8 +113,14 @@ pub stays_member : (shape : RingRequest) (asked : Bool) (m : Parts) (after : Pro
 stays_member shape asked m after h stays =
     let P : Producing PlainState → Type 0 = λ p. IsMember shape asked (with_producer m p) in
     let same : IsMember shape asked (with_producer m (record m.producer { spare = after.spare })) =
-    record { shape_is = h.shape_is; small = h.small; noted_is = h.noted_is; few = h.few; read = h.read } in
+    record { shape_is = h.shape_is; small = h.small; few = h.few; read = h.read } in
     subst P (sym stays) same
+
+-- what a call did, or that it did nothing
+pub either : {A E : Type 0} (result : Result A E) (Q : A → Type 0) (R : E → Type 0) (P : Type 0) → IfOk result Q → IfErr result R
+    → ((a : A) → Q a → P) → ((e : E) → R e → P) → P
+either (Ok a) Q R P q r done failed = done a q
+either (Err e) Q R P q r done failed = failed e r
 
 -- a ring whose blocks are all free
 pub fresh_end : (shape : RingRequest) (count : ℕ) (marks : List ℕ) (ring : PlainState) → ring ≡ plain.fresh count ring.kind marks
@@ -133,7 +137,7 @@ fresh_end shape count marks ring e kind all = record {
 -- a new member
 pub new_member : (shape : RingRequest) (asked : Bool) (count : ℕ) (marks : List ℕ) (ring : PlainState) (producer : Producing PlainState) (reader : ReaderValue)
     → shape.block_size ≤ 1048576 → ring ≡ plain.fresh count ring.kind marks → ring.kind ≡ numbers_of shape → Opens feed_of shape ring producer
-    → reader ≡ new_reader shape asked → IsMember shape asked (record { producer = producer; reader = reader; noted = 0; stuck = false })
+    → reader ≡ new_reader shape asked → IsMember shape asked (record { producer = producer; reader = reader; stuck = false })
 new_member shape asked count marks ring producer reader small e kind opens is =
     let freed : (feed_of producer.end).freed ≡ Some ring.released = ap (λ (f : words.Feed). f.freed) opens.end in
     let fetched : (feed_of producer.end).fetched ≡ Some ring.taken = ap (λ (f : words.Feed). f.fetched) opens.end in
@@ -141,6 +145,7 @@ new_member shape asked count marks ring producer reader small e kind opens is =
     let taken : producer.end.taken ≡ 0 = some_same producer.end.taken ring.taken fetched ∙ ap (λ (r : PlainState). r.taken) e in
     let retired : (feed_of producer.end).retired ≡ 0 = ap (λ (f : words.Feed). f.retired) opens.end ∙ ap (λ (r : PlainState). r.retired) e in
     let shown : (feed_of producer.end).shown ≡ [] = ap (λ (f : words.Feed). f.shown) opens.end ∙ ap (λ (r : PlainState). r.shown) e in
+    let none_noted : length producer.notes ≡ 0 = ap (λ (ns : List Note). length ns) opens.notes in
     let none : StandsForTexts shape [] (feed_of producer.end) =
     ([], record { count = sym retired; front = omega (arith, taken); rest = none_left producer.end.taken ∙ sym shown }, tt) in
     let done : (state_of (size_of shape) producer.notes).done ≡ [] = ap (λ (ns : List Note). (state_of (size_of shape) ns).done) opens.notes in
@@ -148,8 +153,7 @@ new_member shape asked count marks ring producer reader small e kind opens is =
     record {
       shape_is = opens.shape;
       small = small;
-      noted_is = sym (ap (λ (ns : List Note). length ns) opens.notes);
-      few = omega arith;
+      few = omega (arith, none_noted);
       read = λ free. record {
         shape_is = ap (λ (r : ReaderValue). r.shape) is;
         asked_is = ap (λ (r : ReaderValue). r.dumps) is;
@@ -177,18 +181,17 @@ one_kind shape (suc n) = (refl, one_kind shape n)
 
 -- a read
 pub record ReadMember (shape : RingRequest) (asked : Bool) (m : Parts) (after : Producing PlainState) (next : ReaderValue) : Type 0 where
-  pub is : IsMember shape asked (record { producer = after; reader = next; noted = m.noted; stuck = m.stuck })
+  pub is : IsMember shape asked (record { producer = after; reader = next; stuck = m.stuck })
   pub once : ring_of after ≡ read_once (ring_of m.producer)
 
 -- the ring's end changed, and nothing else
 with_end : (shape : RingRequest) (asked : Bool) (m : Parts) (after : Producing PlainState) (next : ReaderValue) → IsMember shape asked m
     → after ≡ record m.producer { end = after.end } → HasRead shape asked (state_of (size_of shape) m.producer.notes).done after.end next
-    → IsMember shape asked (record { producer = after; reader = next; noted = m.noted; stuck = m.stuck })
+    → IsMember shape asked (record { producer = after; reader = next; stuck = m.stuck })
 with_end shape asked m after next h e has = record {
   shape_is = ap (λ (p : Producing PlainState). p.shape) e ∙ h.shape_is;
   small = h.small;
-  noted_is = h.noted_is ∙ sym (ap (λ (p : Producing PlainState). length p.notes) e);
-  few = h.few;
+  few = subst (λ (ns : List Note). length ns ≤ 2 ^ 39) (sym (ap (λ (p : Producing PlainState). p.notes) e)) h.few;
   read = λ stuck. subst (λ (ns : List Note). HasRead shape asked (state_of (size_of shape) ns).done after.end next) (sym (ap (λ (p : Producing PlainState). p.notes) e)) has;
 }
 
@@ -259,9 +262,8 @@ few_read shape asked done ring reader h few =
 pub few_taken : (shape : RingRequest) (asked : Bool) (m : Parts) → IsMember shape asked m → m.stuck ≡ false → length m.reader.taken < 2 ^ 55
 few_taken shape asked m h free =
     let done = few_done (size_of shape) m.producer.notes in
-    let noted = h.noted_is in
     let few = h.few in
-    few_read shape asked (state_of (size_of shape) m.producer.notes).done m.producer.end m.reader (h.read free) (omega (arith, done, noted, few))
+    few_read shape asked (state_of (size_of shape) m.producer.notes).done m.producer.end m.reader (h.read free) (omega (arith, done, few))
 
 -- the close retires the open block
 pub closing_read : (shape : RingRequest) (asked : Bool) (m : Parts) (notes : List Note) (after : PlainState) (ring : Ring) → IsMember shape asked m
@@ -282,6 +284,5 @@ few_closed shape asked m ring h view =
     let count = length-append ring.notes (Finished ∷ []) in
     let same = ap (λ (r : Ring). length r.notes) view in
     let done = few_done (size_of shape) (ring.notes ++ Finished ∷ []) in
-    let noted = h.noted_is in
     let few = h.few in
-    omega (arith, count, same, done, noted, few)
+    omega (arith, count, same, done, few)

@@ -6,7 +6,9 @@ mod Timed
 mod Routing
 mod Stepping
 mod Whole
+mod Desks
 mod Arriving
+mod Counting
 mod RunSteps
 mod Lines
 mod Concluding

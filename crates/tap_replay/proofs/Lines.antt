@@ -1,6 +1,6 @@
 -- The lines of a schedule, and what follows the last one.
-use Rattle.std.proofs.Common.{◌≡◌, ℕ, zero, suc, ◌+◌, ◌-◌, ◌<◌, ◌≤◌, Bool, false, List, [], ◌∷◌, ◌++◌, length, take, drop, get_or, append-nil, Option, None, Some, inl, inr, refl, sym, ap, ◌∙◌, subst, arith, length-set}
-use Rattle.std.specs.Prelude.{IsSome, MatchBool, OnOk, Result, Ok, Err, map, slice_set}
+use Rattle.std.proofs.Common.{◌≡◌, ℕ, zero, suc, ◌+◌, ◌-◌, ◌<◌, ◌≤◌, Bool, true, false, cond, List, [], ◌∷◌, ◌++◌, length, take, drop, get_or, append-nil, Option, None, Some, inl, inr, refl, sym, ap, ◌∙◌, subst, arith, length-set}
+use Rattle.std.specs.Prelude.{IsSome, MatchBool, OnOk, Result, Ok, Err, map, nat_lt, slice_index_or, slice_set}
 use Rattle.std.specs.List.{AllByRecursion}
 use Rattle.std.proofs.lemmas.Bool.{cases_eq}
 use Rattle.std.proofs.lemmas.List.{drop_all, get_or-set_other, get_or-set_same, get_or_past, length-map, set-set}
@@ -9,19 +9,22 @@ use Rattle.fanout_group.specs.Arrivals.{arrivals_from}
 use Rattle.fanout_group.specs.Plans.{has_defrag}
 use Rattle.fanout_group.specs.Rules.{Rules}
 use Rattle.frame_view.specs.declared.frames.Frame.{Frame}
-use Rattle.replay_model.specs.Replay.{Cpu, Replay, cpu_at, fed_by, feed, feed_from, feed_times, no_cpu}
+use Rattle.replay_model.specs.Replay.{Cpu, Replay, cpu_at, fed_by, feed, feed_from, feed_times, no_cpu, no_ring, noted_at}
 use Rattle.schedule_lines.specs.declared.lines.Line.{Line}
-use Rattle.schedule_lines.specs.declared.lines.Line.TheVariants.{Feed, Tick}
+use Rattle.schedule_lines.specs.declared.lines.Line.TheVariants.{Feed, Read, Tick, Stats}
 use Rattle.replay_model.proofs.Arriving.{arrived_is}
-use Rattle.ring_model.specs.Rings.{Ring, noted, note_of_tick}
+use Rattle.ring_model.specs.Rings.{Ring, noted, note_of_tick, read_once, state}
+use Rattle.ring_model.specs.declared.notes.Note.TheVariants.{Counted}
 use Rattle.setup_text.specs.declared.jobs.Job.{Job}
 use Rattle.tp_layout.specs.Requests.{room_of, size_of}
 use Rattle.cpu_feed.specs.Fed.{FedOne, IsAtItsEnd}
 use Rattle.cpu_feed.specs.Feeding.{Feeding, IsAllOfCpu, frames_in}
-use Rattle.tap_replay.specs.Running.{AreAllOf, Feeds, IsRun, RunValue, cpu_in, cpus_of, firsts_of, no_feeding, whole, cpu_of}
+use Rattle.tap_replay.specs.Running.{AreAllOf, Feeds, HasCount, IsCounted, IsRun, RunValue, cpu_in, cpus_of, firsts_of, no_feeding, whole, cpu_of}
 use Rattle.run_reports.specs.Jobs.{rules_of}
 use Rattle.tap_replay.specs.Turning.{FedRest, FedWhole, LineDone, fed_whole}
+use Rattle.tap_replay.proofs.Counting.{keeps_count, more_lines, read_counted, stats_counted, tick_counted}
 use Rattle.tap_replay.proofs.Stepping.{run_with}
+use Rattle.tap_replay.proofs.Timed.{set_one}
 use Rattle.tap_replay.proofs.Whole.{all-set, as-many, cpus-at, no_frames, set_same}
 
 has-cpu : (cpus : List Cpu) (cpu : ℕ) (arrival : Option Frame) (rest : List (Option Frame))
@@ -78,6 +81,7 @@ tick_done (Ok a) job line ms old new h is new_is =
       };
       firsts = refl;
       members = refl;
+      counted = λ lines counted. tick_counted lines ms old _ refl counted;
     } in
     subst (λ (l : Line). LineDone job l old new) (sym is) (subst (λ (run : RunValue). LineDone job (Tick ms) old run) (sym new_is) done)
 
@@ -93,6 +97,62 @@ no_such_cpu job cpu run h past = record {
   run = h;
   firsts = refl;
   members = inl refl;
+  counted = λ lines counted. more_lines lines (lines + 1) run (omega arith) counted;
+}
+
+-- ---- one line of a CPU or a member
+
+one_set : (job : Job) (run : RunValue) (member : ℕ) (ring : Ring) → IsRun job run
+    → ((get_or run.members member no_ring).size ≡ size_of job.setup.shape → ring.size ≡ size_of job.setup.shape)
+    → IsRun job (record run { members = slice_set run.members member ring })
+one_set job run member ring h keeps = record {
+  count = length-set run.members member ring ∙ h.count;
+  sizes = set_one (λ (r : Ring). r.size ≡ size_of job.setup.shape) run.members member ring h.sizes keeps;
+  cpus = h.cpus;
+}
+
+same_size : (goes : Bool) (x y : Ring) → x.size ≡ y.size → (cond goes x y).size ≡ y.size
+same_size true x y e = e
+same_size false x y e = refl
+
+read_size : (ring : Ring) → (read_once ring).size ≡ ring.size
+read_size ring = same_size (nat_lt ring.released (length (state ring).done)) (record ring { released = ring.released + 1 }) ring refl
+
+pub read_done : {A E : Type 0} (result : Result A E) (job : Job) (line : Line) (member : ℕ) (old new : RunValue) → IsRun job old → line ≡ Read member
+    → OnOk result (new ≡ record old { members = slice_set old.members member (read_once (slice_index_or old.members member no_ring)) })
+    → OnOk result (LineDone job line old new)
+read_done (Err e) job line member old new h is new_is = tt
+read_done (Ok a) job line member old new h is new_is =
+    let here = get_or old.members member no_ring in
+    let done : LineDone job (Read member) old (record old { members = slice_set old.members member (read_once here) }) = record {
+      does = λ all g. (g, refl);
+      run = one_set job old member (read_once here) h (λ e. read_size here ∙ e);
+      firsts = refl;
+      members = refl;
+      counted = λ lines counted. read_counted lines member old _ refl counted;
+    } in
+    subst (λ (l : Line). LineDone job l old new) (sym is) (subst (λ (run : RunValue). LineDone job (Read member) old run) (sym new_is) done)
+
+pub stats_done : {A E : Type 0} (result : Result A E) (job : Job) (line : Line) (member : ℕ) (old new : RunValue) → IsRun job old → line ≡ Stats member
+    → OnOk result (new ≡ record old { members = noted_at member Counted old.members }) → OnOk result (LineDone job line old new)
+stats_done (Err e) job line member old new h is new_is = tt
+stats_done (Ok a) job line member old new h is new_is =
+    let done : LineDone job (Stats member) old (record old { members = noted_at member Counted old.members }) = record {
+      does = λ all g. (g, refl);
+      run = one_set job old member (noted (get_or old.members member no_ring) Counted) h (λ e. e);
+      firsts = refl;
+      members = refl;
+      counted = λ lines counted. stats_counted lines member old _ refl counted;
+    } in
+    subst (λ (l : Line). LineDone job l old new) (sym is) (subst (λ (run : RunValue). LineDone job (Stats member) old run) (sym new_is) done)
+
+pub fed_line : (job : Job) (cpu : ℕ) (more : Bool) (old new : RunValue) → Feeds job cpu more old new → LineDone job (Feed cpu) old new
+fed_line job cpu more old new f = record {
+  does = f.does;
+  run = f.run;
+  firsts = f.firsts;
+  members = f.changed;
+  counted = λ lines counted. more_lines lines (lines + 1) new (omega arith) (f.counted lines counted);
 }
 
 -- ---- a CPU to its end
@@ -144,10 +204,11 @@ pub record Goes (job : Job) (cpu : ℕ) (first now : RunValue) : Type 0 where
   pub does : (all : List (List Frame)) → AreAllOf all now.cpus → AreAllOf all first.cpus × (fed_whole job cpu (whole all now) ≡ fed_whole job cpu (whole all first))
   pub firsts : firsts_of now ≡ firsts_of first
   pub cpus : (one : Feeding) × (now.cpus ≡ slice_set first.cpus cpu one)
+  pub counted : (lines : ℕ) → IsCounted lines first → IsCounted lines now
 
 pub goes_first : (job : Job) (cpu : ℕ) (run : RunValue) → IsRun job run → Goes job cpu run run
 goes_first job cpu run h =
-    record { run = h; does = λ all g. (g, refl); firsts = refl; cpus = (cpu_in run cpu, sym (set_same run.cpus cpu no_feeding)) }
+    record { run = h; does = λ all g. (g, refl); firsts = refl; cpus = (cpu_in run cpu, sym (set_same run.cpus cpu no_feeding)); counted = λ lines counted. counted }
 
 goes_cpus : (job : Job) (cpu : ℕ) (more : Bool) (first now new : RunValue) → Goes job cpu first now → (f : Feeds job cpu more now new)
     → new.cpus ≡ slice_set first.cpus cpu f.goes.one
@@ -163,6 +224,7 @@ goes_on job cpu more first now new h f = record {
       (i.0, ap (λ (r : Replay). fed_whole job cpu r) b.1 ∙ fed_more job cpu (whole all now) ∙ i.1);
   firsts = f.firsts ∙ h.firsts;
   cpus = (f.goes.one, goes_cpus job cpu more first now new h f);
+  counted = λ lines counted. f.counted lines (h.counted lines counted);
 }
 
 pub goes_to_end : (job : Job) (cpu : ℕ) (more : Bool) (first now new : RunValue) → cpu < length first.cpus → Goes job cpu first now → Feeds job cpu more now new
@@ -179,6 +241,7 @@ goes_to_end job cpu more first now new within h f last =
       one = f.goes.one;
       cpus_are = goes_cpus job cpu more first now new h f;
       ended = end;
+      counted = next.counted;
     }
 
 -- ---- all CPUs
@@ -190,6 +253,7 @@ pub record Rest (job : Job) (many cpu : ℕ) (first now : RunValue) : Type 0 whe
       × (feed_from (rules_of job) (room_of job.setup.shape) cpu (many - cpu) (whole all now)
       ≡ feed_from (rules_of job) (room_of job.setup.shape) 0 many (whole all first))
   pub firsts : firsts_of now ≡ firsts_of first
+  pub counted : HasCount now
   pub ended : (k : ℕ) → k < cpu → IsAtItsEnd (cpu_in now k)
 
 ended_more : (cpu k : ℕ) (cpus : List Feeding) (one : Feeding) → cpu < length cpus → IsAtItsEnd one → ((k : ℕ) → k < cpu → IsAtItsEnd (get_or cpus k no_feeding))
@@ -213,6 +277,7 @@ rest_on job count cpu first now new within h f =
           let i = h.does all b.0 in
           (i.0, fed_cpu (rules_of job) (room_of job.setup.shape) count cpu (whole all now) (whole all new) within b.1 ∙ i.1);
       firsts = f.firsts ∙ h.firsts;
+      counted = keeps_count now new f.counted h.counted;
       ended = λ k less. subst (λ (cs : List Feeding). IsAtItsEnd (get_or cs k no_feeding)) (sym f.cpus_are)
           (ended_more cpu k now.cpus f.one inside f.ended h.ended less);
     }

@@ -1,5 +1,5 @@
 -- A run is fed a frame, and stays one of its job.
-use Rattle.std.proofs.Common.{◌≡◌, ℕ, zero, suc, ◌%◌, ◌<◌, ◌≤◌, true, false, List, [], ◌∷◌, length, get_or, Option, None, inl, refl, sym, ap, ◌∙◌, subst, arith}
+use Rattle.std.proofs.Common.{◌≡◌, ℕ, zero, suc, ◌+◌, ◌%◌, ◌<◌, ◌≤◌, true, false, List, [], ◌∷◌, length, get_or, Option, None, inl, refl, sym, ap, ◌∙◌, subst, arith, length-set}
 use Rattle.std.specs.Prelude.{All, IfSome, map, slice_set}
 use Rattle.std.proofs.lemmas.List.{set-set}
 use Rattle.fanout_group.specs.Judging.{AgreesAt, IsJudged, Lens, first_entry, offer_by}
@@ -19,11 +19,12 @@ use Rattle.tap_replay.specs.Deliveries.{ChangedByTries}
 use Rattle.cpu_feed.specs.Fed.{GoesOn, arrival_of}
 use Rattle.cpu_feed.specs.Feeding.{Feeding}
 use Rattle.run_reports.specs.Jobs.{lens_of, rules_of}
-use Rattle.tap_replay.specs.Running.{AreCpus, Arrives, Does, Feeds, IsLogged, IsRun, Nexts, RunValue, cpu_in, firsts_of, no_feeding, whole}
+use Rattle.tap_replay.specs.Running.{AreCpus, Arrives, Does, Feeds, HasCount, HasRoom, IsLogged, IsRun, Nexts, RunValue, cpu_in, firsts_of, no_feeding, whole}
 use Rattle.tap_outside.specs.Seen.{SourceSeen}
 use Rattle.cpu_feed.specs.declared.fed.Fed.{Fed}
 use Rattle.cpu_feed.specs.declared.fed.Fed.TheVariants.{Arrival, Nothing, End}
 use Rattle.tap_replay.proofs.Arriving.{Looked, all_take, arrives, as_changed, as_count, as_keep, cpus_are, made_tries}
+use Rattle.tap_replay.proofs.Counting.{drawn_most, has_arrived, made_most, none_fed, nothing_arrived, one_fed, room_for_one}
 use Rattle.tap_replay.proofs.Whole.{cpus-keep, cpus-number, cpus-shape, feeds_frame, feeds_nothing, next_does}
 
 pub shape_at : (job : Job) (run : RunValue) (cpu : ℕ) → IsRun job run → cpu < length run.cpus → (cpu_in run cpu).path.shape ≡ job.setup.plan
@@ -53,6 +54,7 @@ all_take_it job run room made h sound even is =
 -- what the code has of it
 pub record Looks (job : Job) (cpu : ℕ) (frame : Frame) (lens : Lens) (room queue : ℕ) (entry : ArrivalLog) (made : Option Offer) (mode : Mode) (old mid new : RunValue) : Type 0 where
   pub run : IsRun job old
+  pub few : job.setup.plan.members ≤ 8
   pub within : cpu < length old.cpus
   pub place : frame.cpu ≡ cpu
   pub mode_is : mode ≡ job.setup.plan.mode
@@ -103,6 +105,8 @@ module _ (job : Job) (cpu : ℕ) (frame : Frame) (lens : Lens) (room queue : ℕ
         path = _;
         cpus_are = cpus_are plan (lens_of job) (room_of job.setup.shape) cpu frame entry made queue old mid new looked s.within;
         changed = as_changed plan (cpu_in old cpu).path.present ((lens_of job).queue frame.cpu) (ticket_of plan.mode old.ticket) looked.logged_is.tries old.members new.members (offer_by (lens_of job) (room_of job.setup.shape) frame) made_so;
+        ticket = subst (λ (ticket : ℕ). ticket ≤ old.ticket + 1) (sym looked.ticket_is) (drawn_most plan.mode old.ticket);
+        notes = λ most all. made_most plan (cpu_in old cpu).path.present ((lens_of job).queue frame.cpu) (ticket_of plan.mode old.ticket) (offer_by (lens_of job) (room_of job.setup.shape) frame) looked.logged_is.tries old.members new.members most s.few made_so all;
       }
 
 -- ---- a frame is fed
@@ -137,6 +141,12 @@ next_cpus : (cpu : ℕ) (fed : Fed) (old new : RunValue) → Nexts cpu fed old n
 next_cpus cpu fed old new n = ap (λ (run : RunValue). run.cpus) n.new_is
 
 module _ (job : Job) (cpu : ℕ) (old mid : RunValue) (h : IsRun job old) (within : cpu < length old.cpus) where
+  many_cpus : (fed : Fed) → Nexts cpu fed old mid → cpu < length mid.cpus
+  many_cpus fed n =
+      let same = ap (λ (run : RunValue). length run.cpus) n.new_is in
+      let set = length-set old.cpus cpu (cpu_in mid cpu) in
+      omega (arith, same, set, within)
+
   -- where nothing arrives
   does_nothing : (fed : Fed) → Nexts cpu fed old mid → arrival_of fed ≡ None
       → Does (λ replay. feed (rules_of job) (room_of job.setup.shape) cpu replay) old mid
@@ -153,6 +163,7 @@ module _ (job : Job) (cpu : ℕ) (old mid : RunValue) (h : IsRun job old) (withi
         goes = record { one = cpu_in mid cpu; cpus_are = next_cpus cpu fed old mid n; goes = goes };
         firsts = next_firsts cpu fed old mid n;
         changed = next_changed cpu fed old mid n;
+        counted = λ lines h. nothing_arrived lines mid (one_fed lines cpu fed old mid within n h goes);
       }
 
   pub feeds_end : (fed : Fed) → fed ≡ End → Nexts cpu fed old mid → Feeds job cpu false old mid
@@ -164,6 +175,7 @@ module _ (job : Job) (cpu : ℕ) (old mid : RunValue) (h : IsRun job old) (withi
         goes = record { one = cpu_in mid cpu; cpus_are = next_cpus cpu fed old mid n; goes = goes };
         firsts = next_firsts cpu fed old mid n;
         changed = next_changed cpu fed old mid n;
+        counted = λ lines h. none_fed lines cpu fed old mid within n h (n.idle is);
       }
 
   pub feeds_arrival : (fed : Fed) (frame : Frame) (new : RunValue) → fed ≡ Arrival frame → Nexts cpu fed old mid → Arrives job cpu frame mid new
@@ -190,4 +202,12 @@ module _ (job : Job) (cpu : ℕ) (old mid : RunValue) (h : IsRun job old) (withi
         firsts = ap (λ (cs : List Feeding). map first cs) a.cpus_are
             ∙ firsts_set mid.cpus cpu (record (cpu_in mid cpu) { path = a.path }) refl ∙ next_firsts cpu fed old mid n;
         changed = subst (λ (rs : List Ring). ChangedByTries rs new.members) members a.changed;
+        counted = λ lines h. has_arrived job lines cpu frame mid new (many_cpus fed n) a (one_fed lines cpu fed old mid within n h goes);
       }
+
+-- what arrives at it has room
+pub room_for_arrival : (cpu : ℕ) (fed : Fed) (frame : Frame) (old mid : RunValue) → cpu < length old.cpus → HasCount old → fed ≡ Arrival frame
+    → Nexts cpu fed old mid → HasRoom mid
+room_for_arrival cpu fed frame old mid within h is n =
+    let goes : GoesOn (cpu_in old cpu) (Arrival frame) (cpu_in mid cpu) = subst (λ (f : Fed). GoesOn (cpu_in old cpu) f (cpu_in mid cpu)) is n.goes in
+    room_for_one h.0 mid h.1 (one_fed h.0 cpu fed old mid within n h.2 goes)

@@ -18,6 +18,7 @@ use Rattle.cpu_feed.specs.Fed.{GoesOn, arrival_of}
 use Rattle.cpu_feed.specs.Feeding.{Feeding, IsAllOfCpu, IsSameCpu, Takes}
 use Rattle.tap_replay.specs.Running.{IsLogged, IsTriedAs, Nexts, RunValue, no_feeding}
 use Rattle.cpu_feed.specs.declared.fed.Fed.{Fed}
+use Rattle.cpu_feed.specs.declared.fed.Fed.TheVariants.{End}
 
 pub got_same : {X : Type 0} (xs : List X) (at : ℕ) (d e : X) → at < length xs → get_or xs at d ≡ get_or xs at e
 got_same [] at d e h = absurd (omega (arith, h))
@@ -39,20 +40,21 @@ module _ (cpu : ℕ) (cpus : List Feeding) (members : List Ring) (ticket : ℕ) 
   both P p = subst (λ (c : Feeding). P c (get_or (slice_set cpus cpu x) cpu no_feeding)) was (subst (λ (c : Feeding). P old c) there p)
 
   next_is : (fed : Fed) → IsSameCpu old x → ((all : List Frame) → IsAllOfCpu all x → Takes all old (arrival_of fed) x) → GoesOn old fed x
-      → Nexts cpu fed now (run_with (slice_set cpus cpu x) members ticket)
-  next_is fed same takes goes =
+      → (fed ≡ End → x.fed ≡ old.fed) → Nexts cpu fed now (run_with (slice_set cpus cpu x) members ticket)
+  next_is fed same takes goes idle =
       subst (λ (run : RunValue). Nexts cpu fed run (run_with (slice_set cpus cpu x) members ticket)) is (record {
         new_is = ap (λ (c : Feeding). run_with (slice_set cpus cpu c) members ticket) there;
         same = both (λ a b. IsSameCpu a b) same;
         takes = both (λ a b. (all : List Frame) → IsAllOfCpu all b → Takes all a (arrival_of fed) b) takes;
         goes = both (λ a b. GoesOn a fed b) goes;
+        idle = both (λ a b. fed ≡ End → b.fed ≡ a.fed) idle;
       })
 
   pub next_told : {E : Type 0} (result : Result Fed E) → OnOk result (IsSameCpu old x)
       → IfOk result (λ fed. (all : List Frame) → IsAllOfCpu all x → Takes all old (arrival_of fed) x) → IfOk result (λ fed. GoesOn old fed x)
-      → IfOk result (λ fed. Nexts cpu fed now (run_with (slice_set cpus cpu x) members ticket))
-  next_told (Ok fed) same takes goes = next_is fed same takes goes
-  next_told (Err e) same takes goes = tt
+      → IfOk result (λ fed. fed ≡ End → x.fed ≡ old.fed) → IfOk result (λ fed. Nexts cpu fed now (run_with (slice_set cpus cpu x) members ticket))
+  next_told (Ok fed) same takes goes idle = next_is fed same takes goes idle
+  next_told (Err e) same takes goes idle = tt
 
   delivered : (queue : ℕ) (entry : ArrivalLog) (offer : Offer) (desk after : DeskValue) → desk.offer ≡ offer → desk.members ≡ members → desk.tries ≡ []
       → x ≡ record old { path = logged (record entry { tries = after.tries }) old.path }

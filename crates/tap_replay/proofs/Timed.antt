@@ -1,6 +1,6 @@
 -- A schedule never leads a ring's clock back.
-use Rattle.std.proofs.Common.{◌≡◌, ℕ, suc, ◌+◌, ◌<◌, List, [], ◌∷◌, length, drop, drop-cons, get_or, inl, inr, refl, sym, ap, ◌∙◌, subst, arith}
-use Rattle.std.specs.Prelude.{All, map, replicate, slice_set}
+use Rattle.std.proofs.Common.{◌≡◌, ℕ, suc, ◌+◌, ◌<◌, List, [], ◌∷◌, length, drop, drop-cons, get_or, inl, inr, sym, ap, ◌∙◌, subst, arith}
+use Rattle.std.specs.Prelude.{All, replicate, slice_set}
 use Rattle.std.proofs.lemmas.Bool.{cases_lt}
 use Rattle.std.proofs.lemmas.List.{set_past}
 use Rattle.std.proofs.lemmas.List.Elements.{All-get_or, All-map, All-replicate, All-set}
@@ -51,7 +51,7 @@ may-next size at lines none rings h timed =
 -- ---- a line is done
 
 -- one ring changes, if it is there
-set_one : (P : Ring → Type 0) (rings : List Ring) (at : ℕ) (ring : Ring) → All P rings → (P (get_or rings at no_ring) → P ring) → All P (slice_set rings at ring)
+pub set_one : (P : Ring → Type 0) (rings : List Ring) (at : ℕ) (ring : Ring) → All P rings → (P (get_or rings at no_ring) → P ring) → All P (slice_set rings at ring)
 set_one P rings at ring all stays = elim (cases_lt at (length rings)) [
   | inl h ↦ All-set P rings at ring (stays (All-get_or P rings at no_ring h all)) all
   | inr h ↦ subst (λ (rs : List Ring). All P rs) (sym (set_past rings at ring h)) all

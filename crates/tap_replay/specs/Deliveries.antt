@@ -1,5 +1,5 @@
 -- What the tries of one offer leave of the rings of a group.
-use Rattle.std.specs.Prelude.{◌≡◌, ◌⊎◌, ℕ, ◌<◌, List, [], ◌∷◌, ◌++◌, length, slice_index_or}
+use Rattle.std.specs.Prelude.{◌≡◌, ◌⊎◌, ℕ, ◌+◌, ◌^◌, ◌<◌, ◌≤◌, List, [], ◌∷◌, ◌++◌, length, slice_index_or, All}
 use Rattle.fanout_group.specs.declared.logs.Try.{Try}
 use Rattle.replay_model.specs.Replay.{fate_of, no_ring, noted_at}
 use Rattle.replay_model.specs.Taking.{Takes}
@@ -45,6 +45,10 @@ pub record DeskValue : Type 0 where
 
 abbrev pub desk_with : Offer → List Ring → List Try → DeskValue
 desk_with offer members tries = record { offer = offer; members = members; tries = tries }
+
+-- each ring has room for the notes of a delivery's 9 tries, of which these are made
+abbrev pub HasRoomFor : List Try → List Ring → Type 0
+HasRoomFor tries members = All (λ ring. length ring.notes + 9 ≤ 2 ^ 39 + length tries) members
 
 -- the same desk after some tries more
 pub record Follows (old new : DeskValue) : Type 0 where

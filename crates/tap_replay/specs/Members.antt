@@ -1,5 +1,5 @@
 -- What the fields of a member stand for.
-use Rattle.std.specs.Prelude.{◌≡◌, ℕ, ◌^◌, ◌≤◌, Bool, false, length}
+use Rattle.std.specs.Prelude.{◌≡◌, ◌^◌, ◌≤◌, Bool, false, length}
 use Rattle.block_ring.specs.Producing.{Producing}
 use Rattle.reader_walk.specs.Readers.{ReaderValue}
 use Rattle.ring_model.specs.Ring.{state_of}
@@ -13,7 +13,6 @@ use Rattle.tap_replay.specs.Blocks.{HasRead}
 pub record Parts : Type 0 where
   pub producer : Producing PlainState
   pub reader : ReaderValue
-  pub noted : ℕ
   pub stuck : Bool
 
 -- the ring that contracts see
@@ -28,8 +27,7 @@ ring_of producer = record {
 pub record IsMember (shape : RingRequest) (asked : Bool) (member : Parts) : Type 0 where
   pub shape_is : member.producer.shape ≡ shape
   pub small : shape.block_size ≤ 1048576
-  pub noted_is : member.noted ≡ length member.producer.notes
-  pub few : member.noted ≤ 2 ^ 39
+  pub few : length member.producer.notes ≤ 2 ^ 39
   pub read : member.stuck ≡ false
       → HasRead shape asked (state_of (size_of shape) member.producer.notes).done
       member.producer.end member.reader

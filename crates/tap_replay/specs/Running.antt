@@ -1,6 +1,7 @@
 -- A replay on its way whose sources are read a piece at a time, and the replay of all their frames
 -- that it stands for.
-use Rattle.std.specs.Prelude.{◌≡◌, ℕ, ◌+◌, Bool, List, [], ◌∷◌, length, slice_index_or, slice_set, map, ⊤, Option, None, Some, All, MatchBool, unwrap_or}
+use Rattle.std.specs.Prelude.{◌≡◌, ℕ, ◌+◌, ◌*◌, ◌^◌, ◌<◌, ◌≤◌, Bool, List, [], ◌∷◌, length, slice_index_or, slice_set, map, ⊤, Option, None, Some, All, MatchBool, unwrap_or}
+use Rattle.std.specs.List.{AllByRecursion}
 use Rattle.fanout_group.specs.Paths.{Path, first_path, logged}
 use Rattle.fanout_group.specs.Plans.{Shape, rolls_over}
 use Rattle.fanout_group.specs.Routes.{IsRoute}
@@ -20,6 +21,7 @@ use Rattle.cpu_feed.specs.Feeding.{Feeding, IsAllOfCpu, IsSameCpu, Takes, waitin
 use Rattle.run_reports.specs.Jobs.{rules_of}
 use Rattle.tap_outside.specs.Seen.{SourceSeen}
 use Rattle.cpu_feed.specs.declared.fed.Fed.{Fed}
+use Rattle.cpu_feed.specs.declared.fed.Fed.TheVariants.{End}
 
 pub record RunValue : Type 0 where
   pub cpus : List Feeding
@@ -82,6 +84,32 @@ pub record IsRun (job : Job) (run : RunValue) : Type 0 where
   pub sizes : All (λ ring. ring.size ≡ size_of job.setup.shape) run.members
   pub cpus : AreCpus job.setup.plan 0 run.cpus
 
+-- how many frames these CPUs were fed
+abbrev pub fed_of : List Feeding → ℕ
+fed_of [] = 0
+fed_of (cpu ∷ cpus) = cpu.fed + fed_of cpus
+
+-- each ring has at most so many notes
+abbrev pub HaveAtMost : ℕ → List Ring → Type 0
+HaveAtMost most members = All (λ ring. length ring.notes ≤ most) members
+
+-- so many lines were done: each frame that was fed drew at most one ticket and made at most 9 notes
+-- at a ring, each line at most one note more; a capture has at most 2,097,150 frames
+pub record IsCounted (lines : ℕ) (run : RunValue) : Type 0 where
+  pub few : length run.cpus ≤ 8
+  pub fed : AllByRecursion (λ cpu. cpu.fed ≤ 2097150) run.cpus
+  pub tickets : run.ticket ≤ fed_of run.cpus
+  pub notes : HaveAtMost (9 * fed_of run.cpus + lines) run.members
+
+-- fewer lines were done than a schedule may have
+abbrev pub HasCount : RunValue → Type 0
+HasCount run = (lines : ℕ) × (lines < 2 ^ 32) × IsCounted lines run
+
+-- an arrival may draw a ticket and make its notes
+pub record HasRoom (run : RunValue) : Type 0 where
+  pub ticket : run.ticket + 1 < 2 ^ 64
+  pub notes : All (λ ring. length ring.notes + 9 ≤ 2 ^ 39) run.members
+
 -- a CPU is fed its next frame, if it has one
 pub record Nexts (cpu : ℕ) (fed : Fed) (old new : RunValue) : Type 0 where
   pub new_is : new ≡ record old { cpus = slice_set old.cpus cpu (cpu_in new cpu) }
@@ -89,6 +117,7 @@ pub record Nexts (cpu : ℕ) (fed : Fed) (old new : RunValue) : Type 0 where
   pub takes : (all : List Frame) → IsAllOfCpu all (cpu_in new cpu)
       → Takes all (cpu_in old cpu) (arrival_of fed) (cpu_in new cpu)
   pub goes : GoesOn (cpu_in old cpu) fed (cpu_in new cpu)
+  pub idle : fed ≡ End → (cpu_in new cpu).fed ≡ (cpu_in old cpu).fed
 
 -- the tries of an arrival that offers this: none, or a route, each with its note
 abbrev pub IsTriedAs : Shape → ℕ → ℕ → Option ℕ → Option Offer → List Try → List Ring → List Ring
@@ -126,6 +155,8 @@ pub record Arrives (job : Job) (cpu : ℕ) (frame : Frame) (old new : RunValue) 
   pub path : Path
   pub cpus_are : new.cpus ≡ slice_set old.cpus cpu (record (cpu_in old cpu) { path = path })
   pub changed : ChangedByTries old.members new.members
+  pub ticket : new.ticket ≤ old.ticket + 1
+  pub notes : (most : ℕ) → HaveAtMost most old.members → HaveAtMost (most + 9) new.members
 
 -- a CPU is fed its next frame, if it has one
 pub record Feeds (job : Job) (cpu : ℕ) (more : Bool) (old new : RunValue) : Type 0 where
@@ -134,3 +165,4 @@ pub record Feeds (job : Job) (cpu : ℕ) (more : Bool) (old new : RunValue) : Ty
   pub goes : FeedsOn cpu more old new
   pub firsts : firsts_of new ≡ firsts_of old
   pub changed : ChangedByTries old.members new.members
+  pub counted : (lines : ℕ) → IsCounted lines old → IsCounted lines new

@@ -1,9 +1,8 @@
 -- A run from its first line to its close.
-use Rattle.std.specs.Prelude.{◌≡◌, ℕ, ◌+◌, Bool, List, [], ◌∷◌, length, map, replicate, slice_index_or, slice_set, ⊤, Option, None, IsSome}
+use Rattle.std.specs.Prelude.{◌≡◌, ℕ, ◌+◌, Bool, List, [], ◌∷◌, length, map, replicate, slice_index_or, slice_set, Option, None, IsSome}
 use Rattle.std.specs.List.{AllByRecursion}
 use Rattle.fanout_group.specs.Paths.{first_path}
 use Rattle.fanout_group.specs.Plans.{Shape}
-use Rattle.fanout_group.specs.declared.runs.CpuLog.{CpuLog}
 use Rattle.replay_model.specs.Replay.{Replay, cpu_at, done_line, feed_from, feed_times, no_ring, noted_at}
 use Rattle.schedule_lines.specs.declared.lines.Line.{Line}
 use Rattle.schedule_lines.specs.declared.lines.Line.TheVariants as line
@@ -17,8 +16,9 @@ use Rattle.replay_model.specs.Replay.{finished_ring}
 use Rattle.tap_replay.specs.Reported.{member_of}
 use Rattle.tap_replay.specs.Deliveries.{ChangedByTries}
 use Rattle.cpu_feed.specs.Fed.{IsAtItsEnd}
-use Rattle.cpu_feed.specs.Feeding.{Closes, Feeding}
-use Rattle.tap_replay.specs.Running.{Does, IsRun, RunValue, firsts_of}
+use Rattle.cpu_feed.specs.Closing.{AllClose}
+use Rattle.cpu_feed.specs.Feeding.{Feeding}
+use Rattle.tap_replay.specs.Running.{Does, IsCounted, IsRun, RunValue, firsts_of}
 use Rattle.run_reports.specs.Jobs.{rules_of}
 use Rattle.tap_outside.specs.Seen.{SourceSeen}
 
@@ -60,6 +60,7 @@ pub record LineDone (job : Job) (line : Line) (old new : RunValue) : Type 0 wher
   pub run : IsRun job new
   pub firsts : firsts_of new ≡ firsts_of old
   pub members : MembersAfter line old.members new.members
+  pub counted : (lines : ℕ) → IsCounted lines old → IsCounted (lines + 1) new
 
 -- all frames of a CPU that still wait
 abbrev pub fed_whole : Job → ℕ → Replay → Replay
@@ -75,6 +76,7 @@ pub record FedWhole (job : Job) (cpu : ℕ) (old new : RunValue) : Type 0 where
   pub one : Feeding
   pub cpus_are : new.cpus ≡ slice_set old.cpus cpu one
   pub ended : IsAtItsEnd one
+  pub counted : (lines : ℕ) → IsCounted lines old → IsCounted lines new
 
 -- each CPU from 0 up is fed to its end
 pub record FedRest (job : Job) (old new : RunValue) : Type 0 where
@@ -83,12 +85,6 @@ pub record FedRest (job : Job) (old new : RunValue) : Type 0 where
   pub run : IsRun job new
   pub firsts : firsts_of new ≡ firsts_of old
   pub ended : AllByRecursion (λ cpu. IsSome cpu.ended) new.cpus
-
--- each CPU is closed
-abbrev pub AllClose : List Feeding → List (Option SourceSeen) → List CpuLog → Type 0
-AllClose [] [] [] = ⊤
-AllClose (cpu ∷ cpus) (now ∷ nows) (log ∷ logs) = Closes cpu now log × AllClose cpus nows logs
-AllClose cpus nows logs = ⊥
 
 -- the run is closed: what its CPUs and its members report
 pub record Finishes (shape : RingRequest) (asked : Bool) (run : RunValue)

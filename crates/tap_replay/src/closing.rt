@@ -3,46 +3,16 @@ ghost use Rattle.std.specs.Prelude.{◌≡◌, map, option_map, IfOk, IsSome};
 ghost use Rattle.std.specs.List.{AllByRecursion};
 ghost use Rattle.replay_model.specs.Replay.{finished_ring};
 ghost use Rattle.tap_replay.specs.Reported.{member_of};
-ghost use Rattle.tap_replay.specs.Turning.{AllClose, Finishes};
+ghost use Rattle.tap_replay.specs.Turning.{Finishes};
 
 use crate::member::Member;
 use crate::replay_run::ReplayRun;
 use crate::setting::Setting;
-use cpu_feed::CpuFeed;
-use fanout_group::CpuLogList;
+use cpu_feed::close_cpus;
 use frame_view::Memory;
 use setup_text::{MemberList, Ran, RunReport};
 use std::alloc::Global;
 use tap_outside::Source;
-
-/// What is left of the CPUs of a replay.
-#[derive(Drop)]
-pub(crate) struct ClosedCpus<S: Source> {
-    /// The source of each CPU, from 0 up.
-    pub(crate) sources: Vec<Option<S>>,
-    /// What is logged of each CPU, from 0 up.
-    pub(crate) logs: CpuLogList,
-}
-
-/// Closes each CPU; all of their sources have ended.
-pub(crate) fn close_cpus<S: Source>(
-    alloc: Global,
-    cpus: Vec<CpuFeed<S>>,
-) -> Result<ClosedCpus<S>, Memory>
-    requires { AllByRecursion (λ cpu. IsSome cpu.ended) cpus.items }
-    ensures { IfOk result (λ closed. AllClose cpus.items
-        (map (option_map S.seen) closed.sources.items)
-        closed.logs) }
-{
-    let mut sources = Vec::with_capacity(alloc, cpus.len())?;
-    let mut logs = CpuLogList::new(alloc);
-    for cpu in cpus {
-        let (source, log) = cpu.close()?;
-        sources.push(source)?;
-        logs.push(log)?;
-    }
-    Ok(ClosedCpus { sources, logs })
-}
 
 /// Closes each member's ring.
 pub(crate) fn close_members<K: Setting>(

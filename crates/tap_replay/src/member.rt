@@ -3,7 +3,7 @@
 //! Frames go into the ring's open block, and a full block is retired. A read takes the oldest
 //! retired block, copies its packets and gives it back. The close retires the open block, and then
 //! reads until no block waits.
-ghost use Rattle.std.specs.Prelude.{◌≡◌, ◌^◌, ◌≤◌, IfErr, IfOk, OnErr, OnOk};
+ghost use Rattle.std.specs.Prelude.{◌≡◌, ◌^◌, ◌<◌, ◌≤◌, length, IfErr, IfOk, OnErr, OnOk};
 ghost use Rattle.replay_model.specs.Replay.{finished_ring};
 ghost use Rattle.replay_model.specs.Taking.{Takes};
 ghost use Rattle.ring_model.specs.Rings.{fresh, note_of_put, note_of_tick, note_of_try, noted, read_once, state};
@@ -23,9 +23,6 @@ use std::alloc::Global;
 use std::marker::{Model, PhantomData};
 use tp_layout::{Block, Shape, blocks};
 
-/// So many notes a ring takes. No run has memory for as many.
-const MOST_NOTES: u64 = 1 << 39;
-
 /// A member. Contracts see its ring: its size, its notes, and how many blocks its reader has
 /// released.
 #[derive(Drop)]
@@ -34,8 +31,6 @@ pub(crate) struct Member<K: Setting> {
     producer: Producer<PlainRing<Block>>,
     /// Its reader.
     reader: Reader,
-    /// The number of notes.
-    noted: u64,
     /// Whether a read wanted memory: the reader then holds a block, and no more is read.
     stuck: bool,
     /// The shape of the blocks, and whether their texts are kept, stand in the type.
@@ -54,7 +49,6 @@ impl<K: Setting> Model for Member<K> {
     ghost invariant = { λ member. IsMember K.shape K.dumps (record {
       producer = member.producer;
       reader = member.reader;
-      noted = member.noted;
       stuck = member.stuck;
     }) };
 }
@@ -71,7 +65,6 @@ impl<K: Setting> Member<K> {
         Ok(Member {
             producer: Producer::new(alloc, *shape, ring)?,
             reader: Reader::new(alloc, *shape, dump),
-            noted: 0,
             stuck: false,
             of: PhantomData,
         })
@@ -80,35 +73,27 @@ impl<K: Setting> Member<K> {
     /// Keeps a packet, or drops it where it finds no room and no free block; the open block is then
     /// retired. After `Unput` the ring is as before, and the offer comes back.
     pub(crate) fn put(&mut self, offer: Offer) -> Result<Put, Unput>
-        requires { Takes offer self.old }
+        requires takes { Takes offer self.old }
+        requires few { length self.old.notes < 2 ^ 39 }
         ensures ok { OnOk result (self.new ≡ noted self.old (note_of_put self.old offer)) }
         ensures put { IfOk result (λ put. put ≡ put_told (note_of_put self.old offer)) }
         ensures unput { IfErr result (λ unput. unput.offer ≡ offer) }
         ensures err { OnErr result (self.new ≡ self.old) }
     {
-        if self.noted >= MOST_NOTES {
-            return Err(Unput { offer });
-        }
-        let put = self.producer.put(offer)?;
-        self.noted += 1;
-        Ok(put)
+        self.producer.put(offer)
     }
 
     /// Keeps a packet, or hands it back where it finds no room and no free block. After `Unput` the
     /// ring is as before, and the offer comes back.
     pub(crate) fn try_put(&mut self, offer: Offer) -> Result<Tried, Unput>
-        requires { Takes offer self.old }
+        requires takes { Takes offer self.old }
+        requires few { length self.old.notes < 2 ^ 39 }
         ensures ok { OnOk result (self.new ≡ noted self.old (note_of_try self.old offer)) }
         ensures tried { IfOk result (λ tried. tried ≡ try_told offer (note_of_try self.old offer)) }
         ensures unput { IfErr result (λ unput. unput.offer ≡ offer) }
         ensures err { OnErr result (self.new ≡ self.old) }
     {
-        if self.noted >= MOST_NOTES {
-            return Err(Unput { offer });
-        }
-        let tried = self.producer.try_put(offer)?;
-        self.noted += 1;
-        Ok(tried)
+        self.producer.try_put(offer)
     }
 
     /// The clock goes on to a moment, in milliseconds. Where the deadline is reached an open block
@@ -116,16 +101,11 @@ impl<K: Setting> Member<K> {
     pub(crate) fn tick(&mut self, ms: u64) -> Result<(), Memory>
         requires later { (state self.old).clock ≤ ms }
         requires small { ms ≤ 2 ^ 63 }
+        requires few { length self.old.notes < 2 ^ 39 }
         ensures { OnOk result (self.new ≡ noted self.old (note_of_tick self.old ms)) }
     {
-        if self.noted >= MOST_NOTES {
-            return Err(Memory);
-        }
         match self.producer.tick(ms) {
-            Ok(()) => {
-                self.noted += 1;
-                Ok(())
-            }
+            Ok(()) => Ok(()),
             Err(TickError::Memory) => Err(Memory),
             Err(TickError::Backwards(_)) => unreachable!(),
         }
@@ -133,13 +113,10 @@ impl<K: Setting> Member<K> {
 
     /// Takes the statistics, which start anew.
     pub(crate) fn take_stats(&mut self) -> Result<(), Memory>
+        requires few { length self.old.notes < 2 ^ 39 }
         ensures { OnOk result (self.new ≡ noted self.old Counted) }
     {
-        if self.noted >= MOST_NOTES {
-            return Err(Memory);
-        }
         self.producer.take_stats()?;
-        self.noted += 1;
         Ok(())
     }
 

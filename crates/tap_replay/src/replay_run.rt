@@ -2,7 +2,7 @@
 //! does to them.
 //!
 //! An arrival draws its ticket first, then its hash and verdict are found, then its tries are made.
-ghost use Rattle.std.specs.Prelude.{◌≡◌, ◌<◌, ◌≤◌, ◌^◌, [], Some, length, map, slice_index_or, slice_set, All, IfOk, IfSome, OnOk};
+ghost use Rattle.std.specs.Prelude.{◌≡◌, ◌+◌, ◌<◌, ◌≤◌, ◌^◌, [], Some, length, map, slice_index_or, slice_set, All, IfOk, IfSome, OnOk};
 ghost use Rattle.fanout_group.specs.Arrivals.{IsArrival};
 ghost use Rattle.fanout_group.specs.Rules.{HasTicket};
 ghost use Rattle.replay_model.specs.Replay.{no_ring, noted_at};
@@ -12,7 +12,7 @@ ghost use Rattle.ring_model.specs.Rings.{noted, note_of_tick, read_once, state};
 ghost use Rattle.ring_model.specs.declared.notes.Note.TheVariants.{Counted};
 ghost use Rattle.setup_text.specs.Sound.{IsSetup};
 ghost use Rattle.cpu_feed.specs.Fed.{arrival_of};
-ghost use Rattle.tap_replay.specs.Running.{Arrives, Feeds, IsLogged, IsRun, Nexts, cpu_in};
+ghost use Rattle.tap_replay.specs.Running.{Arrives, Feeds, HasCount, HasRoom, IsLogged, IsRun, Nexts, cpu_in};
 ghost use Rattle.tap_replay.specs.Turning.{FedRest, FedWhole, LineDone};
 
 use crate::member::Member;
@@ -79,6 +79,7 @@ impl<S: Source, K: Setting> ReplayRun<S, K> {
         requires none { entry.tries ≡ [] }
         requires members { (cpu_in self.old cpu).path.shape.members ≤ length self.old.members }
         requires takes { All (Takes offer) self.old.members }
+        requires few { All (λ ring. length ring.notes + 9 ≤ 2 ^ 39) self.old.members }
         ensures { OnOk result (IsLogged queue cpu entry (Some offer) self.old self.new) }
     {
         let members = mem::replace(&mut self.members, Vec::new(alloc));
@@ -102,6 +103,7 @@ impl<S: Source, K: Setting> ReplayRun<S, K> {
         requires none { entry.tries ≡ [] }
         requires members { (cpu_in self.old cpu).path.shape.members ≤ length self.old.members }
         requires takes { IfSome offer (λ offer. All (Takes offer) self.old.members) }
+        requires few { All (λ ring. length ring.notes + 9 ≤ 2 ^ 39) self.old.members }
         ensures { OnOk result (IsLogged queue cpu entry offer self.old self.new) }
     {
         match offer {
@@ -115,6 +117,7 @@ impl<S: Source, K: Setting> ReplayRun<S, K> {
         requires setup { IsSetup job.now.setup }
         requires run { IsRun job.now self.old }
         requires cpu { cpu < length self.old.cpus }
+        requires room { HasRoom self.old }
         requires arrival { IsArrival arrival }
         requires place { arrival.cpu ≡ cpu }
         ensures { OnOk result (Arrives job.now cpu arrival self.old self.new) }
@@ -124,7 +127,7 @@ impl<S: Source, K: Setting> ReplayRun<S, K> {
         let rules = rules_at(job, cpu);
         let judged = rules.judge(alloc, arrival, ticket);
         self.log(alloc, rules.queue, cpu, judged.entry, judged.offer)?;
-        self.ticket = next_ticket(mode, self.ticket)?;
+        self.ticket = next_ticket(mode, self.ticket);
         Ok(())
     }
 
@@ -132,6 +135,7 @@ impl<S: Source, K: Setting> ReplayRun<S, K> {
     fn feed(&mut self, alloc: Global, job: &Job, cpu: usize) -> Result<bool, Memory>
         requires setup { IsSetup job.now.setup }
         requires run { IsRun job.now self.old }
+        requires counted { HasCount self.old }
         requires cpu { cpu < length self.old.cpus }
         ensures { IfOk result (λ more. Feeds job.now cpu more self.old self.new) }
     {
@@ -149,6 +153,7 @@ impl<S: Source, K: Setting> ReplayRun<S, K> {
     pub(crate) fn line(&mut self, alloc: Global, job: &Job, line: Line) -> Result<(), Memory>
         requires setup { IsSetup job.now.setup }
         requires run { IsRun job.now self.old }
+        requires counted { HasCount self.old }
         requires later { MayCome line self.old.members }
         ensures { OnOk result (LineDone job.now line self.old self.new) }
     {
@@ -164,6 +169,7 @@ impl<S: Source, K: Setting> ReplayRun<S, K> {
     fn feed_line(&mut self, alloc: Global, job: &Job, cpu: u32) -> Result<(), Memory>
         requires setup { IsSetup job.now.setup }
         requires run { IsRun job.now self.old }
+        requires counted { HasCount self.old }
         ensures { OnOk result (LineDone job.now (Feed cpu) self.old self.new) }
     {
         let cpu = cpu as usize;
@@ -190,6 +196,7 @@ impl<S: Source, K: Setting> ReplayRun<S, K> {
     fn tick(&mut self, ms: u64) -> Result<(), Memory>
         requires later { All (λ ring. (state ring).clock ≤ ms) self.old.members }
         requires small { ms ≤ 2 ^ 63 }
+        requires few { All (λ ring. length ring.notes < 2 ^ 39) self.old.members }
         ensures { OnOk result (self.new ≡ record self.old {
           members = map (λ ring. noted ring (note_of_tick ring ms)) self.old.members;
         }) }
@@ -202,6 +209,7 @@ impl<S: Source, K: Setting> ReplayRun<S, K> {
 
     /// Takes the statistics of a member.
     fn take_stats(&mut self, member: usize) -> Result<(), Memory>
+        requires few { All (λ ring. length ring.notes < 2 ^ 39) self.old.members }
         ensures { OnOk result (self.new ≡ record self.old {
           members = noted_at member Counted self.old.members;
         }) }
@@ -216,6 +224,7 @@ impl<S: Source, K: Setting> ReplayRun<S, K> {
     pub(crate) fn feed_rest(&mut self, alloc: Global, job: &Job) -> Result<(), Memory>
         requires setup { IsSetup job.now.setup }
         requires run { IsRun job.now self.old }
+        requires counted { HasCount self.old }
         ensures { OnOk result (FedRest job.now self.old self.new) }
     {
         for cpu in 0..self.cpus.len() {
@@ -228,6 +237,7 @@ impl<S: Source, K: Setting> ReplayRun<S, K> {
     fn feed_all(&mut self, alloc: Global, job: &Job, cpu: usize) -> Result<(), Memory>
         requires setup { IsSetup job.now.setup }
         requires run { IsRun job.now self.old }
+        requires counted { HasCount self.old }
         requires cpu { cpu < length self.old.cpus }
         ensures { OnOk result (FedWhole job.now cpu self.old self.new) }
     {

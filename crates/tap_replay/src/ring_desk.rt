@@ -1,5 +1,5 @@
 //! The members of a group, as the delivery of one packet meets them.
-ghost use Rattle.std.specs.Prelude.{◌≡◌, ◌<◌, ◌∷◌, ◌++◌, [], vec_capacity, vec_len};
+ghost use Rattle.std.specs.Prelude.{◌≡◌, ◌^◌, ◌+◌, ◌<◌, ◌≤◌, ◌∷◌, ◌++◌, [], length, vec_capacity, vec_len, All};
 ghost use Rattle.fanout_group.specs.Desks.{fate_of_put, fate_of_try};
 ghost use Rattle.fanout_group.specs.Routes.{a_try};
 ghost use Rattle.tap_replay.specs.Deliveries.{Follows, TakesAt, desk_with};
@@ -10,9 +10,11 @@ use crate::setting::Setting;
 use fanout_group::{Desk, Fate, Try};
 use ring_model::{Offer, Put, Tried, Unput};
 use std::alloc::Global;
+use std::marker::Model;
 use std::snapshot::Snapshot;
 
-/// A desk over the members of a group. It is made for one delivery.
+/// A desk over the members of a group. It is made for one delivery. Contracts see the offer, the
+/// rings of the members and the tries.
 #[derive(Drop)]
 pub(crate) struct RingDesk<K: Setting> {
     /// The members, from 0 up.
@@ -23,12 +25,21 @@ pub(crate) struct RingDesk<K: Setting> {
     pub(crate) offer: Snapshot<Offer>,
 }
 
+impl<K: Setting> Model for RingDesk<K> {
+    ghost use Rattle.tap_replay.specs.Deliveries.{DeskValue, HasRoomFor, desk_with};
+
+    ghost Value = { DeskValue };
+
+    ghost view = { λ desk. desk_with desk.offer.value desk.members.items desk.tries.items };
+
+    ghost invariant = { λ desk. HasRoomFor desk.tries.items desk.members.items };
+}
+
 impl<K: Setting> RingDesk<K> {
     /// A desk for this offer. It takes no memory.
     pub(crate) fn new(alloc: Global, members: Vec<Member<K>>, offer: &Offer) -> RingDesk<K>
-        ensures members { result.members.items ≡ members.items }
-        ensures tries { result.tries.items ≡ [] }
-        ensures offer { result.offer.value ≡ offer.now }
+        requires few { All (λ ring. length ring.notes + 9 ≤ 2 ^ 39) members.items }
+        ensures { result ≡ desk_with offer.now members.items [] }
     {
         RingDesk {
             members,
@@ -67,13 +78,11 @@ fn fate_of_put(put: &Put) -> Fate
 }
 
 impl<K: Setting> Desk for RingDesk<K> {
-    ghost tried = { λ desk. desk.tries.items };
+    ghost tried = { λ desk. desk.tries };
 
-    ghost takes = { λ desk member offer. TakesAt desk.offer.value desk.members.items member offer };
+    ghost takes = { λ desk member offer. TakesAt desk.offer desk.members member offer };
 
-    ghost follows = { λ old new. Follows
-        (desk_with old.offer.value old.members.items old.tries.items)
-        (desk_with new.offer.value new.members.items new.tries.items) };
+    ghost follows = { λ old new. Follows old new };
 
     fn try_put(&mut self, member: u32, offer: Offer) -> Result<Tried, Unput> {
         let Ok(()) = self.tries.reserve(1) else {
@@ -93,12 +102,7 @@ impl<K: Setting> Desk for RingDesk<K> {
         Ok(put)
     }
 
-    ghost stays = { λ desk.
-        follows_itself (desk_with desk.offer.value desk.members.items desk.tries.items) };
+    ghost stays = { λ desk. follows_itself desk };
 
-    ghost goes_on = { λ first next last one two. follows_on
-        (desk_with first.offer.value first.members.items first.tries.items)
-        (desk_with next.offer.value next.members.items next.tries.items)
-        (desk_with last.offer.value last.members.items last.tries.items)
-        one two };
+    ghost goes_on = { λ first next last one two. follows_on first next last one two };
 }

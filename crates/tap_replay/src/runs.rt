@@ -1,5 +1,5 @@
 //! The replay of a job: its sources are read as its schedule asks for their frames.
-ghost use Rattle.std.specs.Prelude.{◌≡◌, ℕ, List, length, map, option_map, All, IfOk};
+ghost use Rattle.std.specs.Prelude.{◌≡◌, ◌^◌, ◌<◌, ℕ, List, length, map, option_map, All, IfOk};
 ghost use Rattle.capture_file.specs.declared.cpu_end.CpuEnd.{CpuEnd};
 ghost use Rattle.schedule_lines.specs.declared.lines.Line.{Line};
 ghost use Rattle.schedule_lines.specs.Ascending.{IsSchedule};
@@ -34,6 +34,7 @@ pub fn replay<S: Source>(
     requires setup { IsSetup job.now.setup }
     requires sources { length sources.items ≡ length job.now.setup.cpus }
     requires schedule { IsSchedule schedule.now }
+    requires few { length schedule.now < 2 ^ 32 }
     ensures ran { IfOk result (λ ran. IsReplayed job.now schedule.now
         (map (option_map S.seen) sources.items)
         (map (option_map S.seen) ran.sources.items)
@@ -54,6 +55,7 @@ fn replay_as<S: Source, K: Setting>(
     requires setup { IsSetup job.now.setup }
     requires sources { length sources.items ≡ length job.now.setup.cpus }
     requires schedule { IsSchedule schedule.now }
+    requires few { length schedule.now < 2 ^ 32 }
     ensures ran { IfOk result (λ ran. IsReplayed job.now schedule.now
         (map (option_map S.seen) sources.items)
         (map (option_map S.seen) ran.sources.items)

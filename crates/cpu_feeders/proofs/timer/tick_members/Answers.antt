@@ -1,4 +1,4 @@
-use Rattle.std.proofs.Common.{◌≡◌, ◌<◌, ◌≤◌, ◌∙◌, ℕ, length, get_or, subst, sym, arith}
+use Rattle.std.proofs.Common.{◌≡◌, ◌≤◌, ◌∙◌, get_or, subst, sym, arith}
 use Rattle.member_turns.specs.Seats.{Lock, Seat, moment_of, own_of}
 use Rattle.cpu_feeders.proofs.timer.tick_members.Goals as goal
 

@@ -1,4 +1,4 @@
-use Rattle.std.proofs.Common.{◌≡◌, ◌+◌, ◌∙◌, length, subst}
+use Rattle.std.proofs.Common.{◌∙◌, subst}
 use Rattle.reader_walk.specs.Takers.{IsRetired}
 use Rattle.tp_layout.specs.declared.requests.RingRequest.{RingRequest}
 use Rattle.cpu_feeders.proofs.Shapes.{one_shape}

@@ -27,9 +27,10 @@ returns-clause-reported g c = λ named is has lines.
 
 pub returns-clause-faults : goal.returns-clause-faults
 returns-clause-faults g c =
-    faults_rose (g.S.Store.seen c.args.store.now).held c.args.job.now c.args.schedule.now _ _
+    let ran = c.in_ok-report.ensures.ran in
+    faults_rose (g.S.Store.seen c.args.store.now).held c.args.job.now _ _ ran.bytes ran.ends
     c.in_ok-report.field-0.report _ _ _
-    c.in_ok-sources.ensures.fetched c.in_ok-report.ensures.ran c.in_ok-sources.ensures.faults
+    c.in_ok-sources.ensures.fetched ran.gave ran.run c.in_ok-sources.ensures.faults
     c.close_captures.ensures.faults
 
 pub returns-clause-small : goal.returns-clause-small

@@ -1,5 +1,5 @@
-use Rattle.std.proofs.Common.{List, sym, subst}
-use Rattle.made_captures.proofs.Scheduled.{made_lines_ascend}
+use Rattle.std.proofs.Common.{◌<◌, ◌^◌, List, arith, length, sym, subst}
+use Rattle.made_captures.proofs.Scheduled.{made_lines_ascend, made_lines_few}
 use Rattle.schedule_lines.specs.Ascending.{IsSchedule}
 use Rattle.schedule_lines.specs.declared.lines.Line.{Line}
 use Rattle.tap_engine.proofs.MadeRuns.{made_run}
@@ -36,3 +36,10 @@ pub replay-requires-clause-schedule : goal.replay-requires-clause-schedule
 replay-requires-clause-schedule c =
     subst (λ (lines : List Line). IsSchedule lines) (sym c.in_ok-schedule.ensures.lines)
     (made_lines_ascend _ _ _)
+
+pub replay-requires-clause-few : goal.replay-requires-clause-few
+replay-requires-clause-few c =
+    let few = made_lines_few c.args.job.now.setup.count c.len-cpus.result c.members.result
+    c.requires.setup.count c.members.ensures.few in
+    subst (λ (lines : List Line). length lines < 2 ^ 32) (sym c.in_ok-schedule.ensures.lines)
+    (omega (arith, few))

@@ -1,4 +1,4 @@
-use Rattle.std.proofs.Common.{inr, sym, subst}
+use Rattle.std.proofs.Common.{inr}
 use Rattle.std.proofs.lemmas.Result.{err_from_is_err_and}
 use Rattle.tap_engine.proofs.Worked.{asked_by_name, scheduled}
 use Rattle.tap_engine.proofs.making.replay_scheduled.Goals as goal

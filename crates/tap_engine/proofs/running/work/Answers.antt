@@ -5,24 +5,24 @@ use Rattle.tap_engine.proofs.Meant.{names_meant}
 use Rattle.tap_engine.proofs.Worked.{first_meant, run_meant, schedule_meant, ticks_are, ticks_meant}
 use Rattle.tap_engine.proofs.running.work.Goals as goal
 
-pub check_ticks-requires-after_bounds : goal.check_ticks-requires-after_bounds
-check_ticks-requires-after_bounds g c κs within =
+pub load_moments-requires-after_bounds : goal.load_moments-requires-after_bounds
+load_moments-requires-after_bounds g c κs within =
     let store = g.S.Store.seen c.args.store.now in
     let named : Named = named_by c.args.asked.command c.args.asked.setup.now
     c.args.asked.schedule.now in
     let setup = c.args.job.setup in
-    ticks_meant store.to_read named setup c.in-Check.is
+    ticks_meant store.to_read named setup (ticks_are named setup c.in-Check.is)
     (names_meant store.held store.to_read named setup (g.met.S.Store.untold_reads c.args.store.now)
     c.requires.reads c.requires.job.setup)
 
-pub returns-in_err-check_ticks-in-Check-clause-stop :
-    goal.returns-in_err-check_ticks-in-Check-clause-stop
-returns-in_err-check_ticks-in-Check-clause-stop g c =
+pub returns-in_err-load_moments-in-Check-clause-stop :
+    goal.returns-in_err-load_moments-in-Check-clause-stop
+returns-in_err-load_moments-in-Check-clause-stop g c =
     let named : Named = named_by c.args.asked.command c.args.asked.setup.now
     c.args.asked.schedule.now in
     let p = err_from_is_err_and c.from_residual.result
     c.from_residual.ensures.1 in
-    rw (p.1, p.2) (c.in_err-check_ticks-in-Check.ensures.stop named c.args.job c.requires.job
+    rw (p.1, p.2) (c.in_err-load_moments-in-Check.ensures.stop named c.args.job c.requires.job
     (ticks_are named c.args.job.setup c.in-Check.is))
 
 pub replay_scheduled-requires-clause-schedule : goal.replay_scheduled-requires-clause-schedule

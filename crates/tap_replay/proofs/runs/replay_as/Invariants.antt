@@ -3,7 +3,7 @@ use Rattle.frame_view.specs.declared.frames.Frame.{Frame}
 use Rattle.replay_model.specs.Replay.{done_lines}
 use Rattle.tap_replay.proofs.Timed.{IsTimed}
 use Rattle.tp_layout.specs.Requests.{room_of, size_of}
-use Rattle.tap_replay.specs.Running.{AreAllOf, IsRun, firsts_of, whole}
+use Rattle.tap_replay.specs.Running.{AreAllOf, IsCounted, IsRun, firsts_of, whole}
 use Rattle.run_reports.specs.Jobs.{rules_of}
 use Rattle.tap_replay.proofs.runs.replay_as.Given as goal
 
@@ -15,4 +15,5 @@ invariant-loop-line g l = record {
       × (done_lines (rules_of l.job) (room_of l.job.setup.shape) (drop l.line-index l.schedule) (whole all l.run)
       ≡ done_lines (rules_of l.job) (room_of l.job.setup.shape) l.schedule (whole all l.initial.run));
   firsts : firsts_of l.run ≡ firsts_of l.initial.run;
+  counted : IsCounted l.line-index l.run;
 }

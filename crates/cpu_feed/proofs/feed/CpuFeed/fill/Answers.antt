@@ -2,9 +2,10 @@ use Rattle.cpu_feed.proofs.Piecewise.{reads_none, reads_on}
 use Rattle.cpu_feed.proofs.feed.CpuFeed.fill.Goals as goal
 
 pub reading-init : goal.reading-init
-reading-init g c = record { read = reads_none c.args.self.now }
+reading-init g c = record { read = reads_none c.args.self.now; failed = λ before failed. absurd (before failed) }
 
 pub reading-preserved : goal.reading-preserved
 reading-preserved g c = record {
   read = reads_on c.args.self.now c.reading.self c.read_piece.new.self c.reading.invariant.read c.in_ok-read_piece.ensures.read;
+  failed = λ before. c.in_ok-read_piece.ensures.failed;
 }

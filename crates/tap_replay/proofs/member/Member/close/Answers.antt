@@ -11,7 +11,7 @@ use Rattle.tap_replay.proofs.member.Member.close.Goals as goal
 pub waiting-init : goal.waiting-init
 waiting-init g c =
     closing_read g.K.Setting.shape g.K.Setting.dumps
-    (record { producer = c.self.inside.producer; reader = c.self.inside.reader; noted = c.self.inside.noted; stuck = c.self.inside.stuck })
+    (record { producer = c.self.inside.producer; reader = c.self.inside.reader; stuck = c.self.inside.stuck })
     c.finish-ring.result.1 c.finish-ring.result.0 c.args.self c.self.invariant c.if-self.false c.self.view_is
     c.finish-ring.ensures.notes c.finish-ring.ensures.texts c.finish-ring.ensures.end
 
@@ -26,7 +26,7 @@ pub step-requires-clause-few : goal.step-requires-clause-few
 step-requires-clause-few g c =
     few_read g.K.Setting.shape g.K.Setting.dumps (state_of (size_of g.K.Setting.shape) (c.args.self.notes ++ Finished ∷ [])).done c.waiting.ring c.waiting.reader c.waiting.invariant
     (few_closed g.K.Setting.shape g.K.Setting.dumps
-    (record { producer = c.self.inside.producer; reader = c.self.inside.reader; noted = c.self.inside.noted; stuck = c.self.inside.stuck })
+    (record { producer = c.self.inside.producer; reader = c.self.inside.reader; stuck = c.self.inside.stuck })
     c.args.self c.self.invariant c.self.view_is)
 
 pub waiting-smaller : goal.waiting-smaller

@@ -3,6 +3,7 @@ use Rattle.fanout_group.specs.Lenses.{lens_of}
 use Rattle.fanout_group.specs.declared.logs.ArrivalLog.{ArrivalLog}
 use Rattle.replay_model.specs.Replay.{next_ticket, ticket_of}
 use Rattle.tap_replay.specs.Running.{RunValue}
+use Rattle.tap_replay.proofs.Counting.{few_members}
 use Rattle.tap_replay.proofs.RunSteps.{all_take_it, arrives_as, members_there, shape_at, ticket_fits}
 use Rattle.tap_replay.proofs.replay_run.ReplayRun.arrive.Goals as goal
 
@@ -24,6 +25,7 @@ returns g c =
     arrives_as c.args.job.now c.args.cpu c.args.arrival (lens_of c.rules_at-rules.result) c.rules_at-rules.result.room c.rules_at-rules.result.queue
     c.judge-judged.result.entry c.judge-judged.result.offer c.mode-mode.result c.args.self.now c.log.new.self _ (record {
       run = c.requires.run;
+      few = few_members c.args.job.now c.requires.setup;
       within = c.requires.cpu;
       place = c.requires.place;
       mode_is = c.mode-mode.ensures;
@@ -34,6 +36,6 @@ returns g c =
       ticket_is = ap (λ (entry : ArrivalLog). entry.ticket) c.judge-judged.ensures.entry ∙ c.ticket_of-ticket.ensures.ticket
           ∙ ap (λ (run : RunValue). ticket_of c.mode-mode.result run.ticket) c.self.view_is;
       logged_is = c.in_ok-log.ensures;
-      new_is = ap (λ (run : RunValue). record run { ticket = c.in_ok-self-inside.field-0 }) c.self-2.view_is;
-      next_is = c.in_ok-self-inside.ensures ∙ ap (λ (run : RunValue). next_ticket c.mode-mode.result run.ticket) c.self-2.view_is;
+      new_is = ap (λ (run : RunValue). record run { ticket = c.next_ticket-self-inside.result }) c.self-2.view_is;
+      next_is = c.next_ticket-self-inside.ensures ∙ ap (λ (run : RunValue). next_ticket c.mode-mode.result run.ticket) c.self-2.view_is;
     })

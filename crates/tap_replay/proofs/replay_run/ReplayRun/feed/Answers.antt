@@ -3,11 +3,16 @@ use Rattle.std.specs.Prelude.{IfSome}
 use Rattle.cpu_feed.specs.Fed.{arrival_of}
 use Rattle.tap_replay.specs.Running.{cpu_in}
 use Rattle.cpu_feed.specs.declared.fed.Fed.{Fed}
-use Rattle.tap_replay.proofs.RunSteps.{feeds_arrival, feeds_end, feeds_none, next_run, number_at}
+use Rattle.tap_replay.proofs.RunSteps.{feeds_arrival, feeds_end, feeds_none, next_run, number_at, room_for_arrival}
 use Rattle.tap_replay.proofs.replay_run.ReplayRun.feed.Goals as goal
 
 pub arrive-requires-clause-run : goal.arrive-requires-clause-run
 arrive-requires-clause-run g c = next_run c.args.job.now c.args.cpu c.in_ok-arrival.field-0 c.args.self.now c.next.new.self c.in_ok-arrival.ensures.next c.requires.run
+
+pub arrive-requires-clause-room : goal.arrive-requires-clause-room
+arrive-requires-clause-room g c =
+    room_for_arrival c.args.cpu c.in_ok-arrival.field-0 c.in-Arrival.arrival c.args.self.now c.next.new.self c.requires.cpu c.requires.counted c.in-Arrival.is
+    c.in_ok-arrival.ensures.next
 
 pub arrive-requires-clause-place : goal.arrive-requires-clause-place
 arrive-requires-clause-place g c =

@@ -1,8 +1,8 @@
-use Rattle.std.proofs.Common.{◌≡◌, ◌-◌, List}
+use Rattle.std.proofs.Common.{◌≡◌, ◌-◌, ℕ, List}
 use Rattle.std.specs.Prelude.{slice_set}
 use Rattle.frame_view.specs.declared.frames.Frame.{Frame}
 use Rattle.cpu_feed.specs.Feeding.{Feeding}
-use Rattle.tap_replay.specs.Running.{AreAllOf, IsRun, cpu_in, firsts_of, whole}
+use Rattle.tap_replay.specs.Running.{AreAllOf, IsCounted, IsRun, cpu_in, firsts_of, whole}
 use Rattle.tap_replay.specs.Turning.{fed_whole}
 use Rattle.tap_replay.proofs.replay_run.ReplayRun.feed_all.Given as goal
 
@@ -13,6 +13,7 @@ invariant-feeding g l = record {
       × (fed_whole l.job l.cpu (whole all l.self) ≡ fed_whole l.job l.cpu (whole all l.initial.self));
   firsts : firsts_of l.self ≡ firsts_of l.initial.self;
   cpus : (one : Feeding) × (l.self.cpus ≡ slice_set l.initial.self.cpus l.cpu one);
+  counted : (lines : ℕ) → IsCounted lines l.initial.self → IsCounted lines l.self;
 }
 
 abbrev pub decreases-feeding : goal.decreases-feeding

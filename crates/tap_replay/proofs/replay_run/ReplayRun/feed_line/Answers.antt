@@ -1,6 +1,10 @@
 use Rattle.std.proofs.Common.{◌≤◌, length, rules}
-use Rattle.tap_replay.proofs.Lines.{no_such_cpu}
+use Rattle.tap_replay.proofs.Lines.{fed_line, no_such_cpu}
 use Rattle.tap_replay.proofs.replay_run.ReplayRun.feed_line.Goals as goal
+
+pub returns-in_ok-feed : goal.returns-in_ok-feed
+returns-in_ok-feed g c =
+    fed_line c.args.job.now c.args.cpu c.in_ok-feed.field-0 c.args.self.now c.feed.new.self c.in_ok-feed.ensures
 
 pub returns-else-cpu-len : goal.returns-else-cpu-len
 returns-else-cpu-len g c =

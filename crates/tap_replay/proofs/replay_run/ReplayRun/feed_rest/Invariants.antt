@@ -3,7 +3,7 @@ use Rattle.frame_view.specs.declared.frames.Frame.{Frame}
 use Rattle.replay_model.specs.Replay.{feed_from}
 use Rattle.tp_layout.specs.Requests.{room_of}
 use Rattle.cpu_feed.specs.Fed.{IsAtItsEnd}
-use Rattle.tap_replay.specs.Running.{AreAllOf, IsRun, cpu_in, firsts_of, whole}
+use Rattle.tap_replay.specs.Running.{AreAllOf, HasCount, IsRun, cpu_in, firsts_of, whole}
 use Rattle.run_reports.specs.Jobs.{rules_of}
 use Rattle.tap_replay.proofs.replay_run.ReplayRun.feed_rest.Given as goal
 
@@ -15,5 +15,6 @@ invariant-loop-cpu g l = record {
       × (feed_from (rules_of l.job) (room_of l.job.setup.shape) l.cpu (length l.initial.self.cpus - l.cpu) (whole all l.self)
       ≡ feed_from (rules_of l.job) (room_of l.job.setup.shape) 0 (length l.initial.self.cpus) (whole all l.initial.self));
   firsts : firsts_of l.self ≡ firsts_of l.initial.self;
+  counted : HasCount l.self;
   ended : (k : ℕ) → k < l.cpu → IsAtItsEnd (cpu_in l.self k);
 }

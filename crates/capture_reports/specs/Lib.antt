@@ -1,0 +1,5 @@
+pub mod Timing
+pub mod Feeders
+pub mod Closed
+pub mod Left
+pub mod Reported

@@ -1,0 +1,10 @@
+//! What the threads of a run leave, as lists, and how the run's report follows from it. There is no
+//! code here but laws.
+#![tactic(auto)]
+
+mod laws;
+
+pub use laws::{
+    blocks_are_read_as_they_were_noted, threads_leave_a_group, threads_leave_what_sources_gave,
+    threads_report_a_capture, threads_report_a_run,
+};

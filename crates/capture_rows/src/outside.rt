@@ -1,0 +1,138 @@
+//! The outside fails under threads: a read, and each call that is out of memory.
+use cpu_feeders::NoGate;
+use frame_view::Memory;
+use run_building::{
+    Capture, Faults, Kept, NO_FAULT, NO_FRAME, NOTHING, Row, Shape, carry_out_on_threads,
+    difference_on_threads,
+};
+use std::alloc::Global;
+use std::sync::Wait;
+use std::test::Fail;
+use std::thread::Threads;
+
+/// A frame of 60 bytes, which needs 144 in a block.
+const SMALL: Shape<'static> = (b"", 60);
+
+/// Two captures of two frames each, of which the second fails at its second read.
+const TWO_CAPTURES: Row<'static> = Row {
+    words: &["capture", "conf"],
+    lines: "cpu b.pcap\nmembers 2\n",
+    captures: &[
+        Capture {
+            frames: &[SMALL; 2],
+            ..NO_FRAME
+        },
+        Capture {
+            name: "b.pcap",
+            frames: &[SMALL; 2],
+            ..NO_FRAME
+        },
+    ],
+    faults: Faults {
+        file: "b.pcap",
+        piece: 124,
+        reads: &[2],
+        ..NO_FAULT
+    },
+    status: "5 ReadFault",
+    printed: "cpu 0 frames 2 arrivals 2 end ok\n\
+              cpu 1 frames 1 arrivals 1 end fault\n\
+              member 0 packets 2 drops 0 freezes 0 blocks 1\n\
+              member 1 packets 1 drops 0 freezes 0 blocks 1\n\
+              total arrivals 3 filtered 0 kept 3 drops 0\n",
+    cpus: &["k0.k0.", "k1."],
+    given: &[176, 124],
+    members: &[
+        Kept {
+            frames: &[(0, 60), (1, 60)],
+            blocks: &[(1, 336)],
+            notes: "kk.",
+        },
+        Kept {
+            frames: &[(0, 60)],
+            blocks: &[(1, 192)],
+            notes: "k.",
+        },
+    ],
+    ..NOTHING
+};
+
+#[test]
+fn of_two_captures_one_cannot_be_read(rt: HostRuntime) -> Result<(), Fail> {
+    let found = difference_on_threads(&rt, rt.alloc(), &TWO_CAPTURES, &NoGate)?;
+    assert_eq!(rt; found.as_str(), "");
+    Ok(())
+}
+
+/// Three frames of 60 bytes with a dump and a moment: three fetches, two saves and three writes.
+const THREE_FRAMES: Row<'static> = Row {
+    words: &["capture", "conf"],
+    lines: "ticks t.txt\n",
+    dump: true,
+    ticks: Some("1\n"),
+    captures: &[Capture {
+        frames: &[SMALL; 3],
+        ..NO_FRAME
+    }],
+    printed: "cpu 0 frames 3 arrivals 3 end ok\n\
+              member 0 packets 3 drops 0 freezes 0 blocks 1\n\
+              total arrivals 3 filtered 0 kept 3 drops 0\n",
+    cpus: &["k0.k0.k0."],
+    members: &[Kept {
+        frames: &[(0, 60), (1, 60), (2, 60)],
+        blocks: &[(1, 480)],
+        notes: "kkk.",
+    }],
+    ..NOTHING
+};
+
+/// The calls of the store that are out of memory, and the writes; the last of each isn't reached.
+static POOR: [(u64, u64); 10] = [
+    (1, 0),
+    (2, 0),
+    (3, 0),
+    (4, 0),
+    (5, 0),
+    (0, 1),
+    (0, 2),
+    (0, 3),
+    (6, 4),
+    (0, 0),
+];
+
+/// What the capture differs in where a call of the store or a write is out of memory: it ends with
+/// status 7, no report and its line, and where none of them is reached it is as ever.
+fn poor_difference<R: Threads + Wait + Sync>(
+    rt: &R,
+    alloc: Global,
+    poor_call: u64,
+    poor_write: u64,
+) -> Result<String, Memory> {
+    let faults = Faults {
+        poor_call,
+        poor_write,
+        ..NO_FAULT
+    };
+    let row = Row {
+        faults,
+        ..THREE_FRAMES
+    };
+    if poor_call > 5 || poor_call == 0 && poor_write == 0 {
+        return difference_on_threads(rt, alloc, &row, &NoGate);
+    }
+    let (answer, printed, _) = carry_out_on_threads(rt, alloc, &row, &NoGate)?;
+    let ends = printed.as_str().ends_with("out of memory\n");
+    if ends && answer.status.as_str() == "7 Memory" && answer.report.is_empty() {
+        return Ok(String::new(alloc));
+    }
+    Ok(format!(in alloc; "{} and {}", answer.status.as_str(), printed.as_str())?)
+}
+
+#[test]
+fn a_call_that_is_out_of_memory_ends_the_capture(rt: HostRuntime) -> Result<(), Fail> {
+    for (call, write) in &POOR {
+        let found = poor_difference(&rt, rt.alloc(), *call, *write)?;
+        assert_eq!(rt; found.as_str(), "", "call {call} write {write}");
+    }
+    Ok(())
+}

@@ -1,0 +1,75 @@
+-- Lists that loops make an item at a time.
+use Rattle.std.proofs.Common.{◌≡◌, ◌<◌, ℕ, zero, suc, ◌+◌, List, [], ◌∷◌, ◌++◌, length, append_assoc, append-nil, refl, sym, ap, ◌∙◌, subst, arith}
+use Rattle.std.specs.Prelude.{map}
+use Rattle.std.specs.List.{AllByRecursion, AllZip}
+use Rattle.std.proofs.lemmas.List.{map-append}
+use Rattle.std.proofs.lemmas.Slice.Zip.{all_zipped_more}
+use Rattle.member_turns.specs.Seats.{Lock, Seat}
+use Rattle.turn_lock.specs.Seats.{fresh_seats}
+use Rattle.cpu_feeders.specs.Stands.{fresh_users, with_all, with_each}
+use Rattle.cpu_feeders.proofs.StandLists.{one_member}
+
+-- ---- items that are handed on from one list to another
+
+pub empty : {A : Type 0} (xs : List A) → length xs ≡ 0 → xs ≡ []
+empty [] none = refl
+empty (x ∷ xs) none = absurd (omega (arith, none))
+
+pub next_items : {A B : Type 0} (f : A → B) (done now all : List B) (rest after : List A) (x : A) → rest ≡ x ∷ after → now ≡ done ++ f x ∷ []
+    → done ++ map f rest ≡ all → now ++ map f after ≡ all
+next_items {A = A} {B = B} f done now all rest after x next now_is h =
+    ap (λ (ys : List B). ys ++ map f after) now_is ∙ append_assoc done (f x ∷ []) (map f after)
+    ∙ ap (λ (xs : List A). done ++ map f xs) (sym next) ∙ h
+
+pub last_items : {A B : Type 0} (f : A → B) (done all : List B) (rest : List A) → rest ≡ [] → done ++ map f rest ≡ all → done ≡ all
+last_items {A = A} f done all rest none h = sym (append-nil done) ∙ ap (λ (xs : List A). done ++ map f xs) (sym none) ∙ h
+
+pub next_all : {A : Type 0} (P : A → Type 0) (rest after : List A) (x : A) → rest ≡ x ∷ after → AllByRecursion P rest → P x × AllByRecursion P after
+next_all {A = A} P rest after x next all =
+    let both : AllByRecursion P (x ∷ after) = subst (λ (xs : List A). AllByRecursion P xs) next all in
+    (both.0, both.1)
+
+grows : {A : Type 0} (P : A → Type 0) (xs : List A) (x : A) → AllByRecursion P xs → P x → AllByRecursion P (xs ++ x ∷ [])
+grows P [] x all one = (one, tt)
+grows P (y ∷ xs) x all one = (all.0, grows P xs x all.1 one)
+
+pub all_more : {A : Type 0} (P : A → Type 0) (xs now : List A) (x : A) → now ≡ xs ++ x ∷ [] → AllByRecursion P xs → P x → AllByRecursion P now
+all_more {A = A} P xs now x is all one = subst (λ (ys : List A). AllByRecursion P ys) (sym is) (grows P xs x all one)
+
+pub zip_more : {A B : Type 0} (R : A → B → Type 0) (xs now : List A) (ys later : List B) (x : A) (y : B) → now ≡ xs ++ x ∷ [] → later ≡ ys ++ y ∷ []
+    → AllZip R xs ys → R x y → AllZip R now later
+zip_more {A = A} {B = B} R xs now ys later x y xs_is ys_is all one =
+    subst (λ (zs : List A). AllZip R zs later) (sym xs_is)
+    (subst (λ (ws : List B). AllZip R (xs ++ x ∷ []) ws) (sym ys_is) (all_zipped_more R xs ys x y all one))
+
+-- ---- stands
+
+pub grown_users : (locks more : List Lock) (lock : Lock) (count : ℕ) (users now : List (List Seat)) (stands : List Seat) → users ≡ fresh_users locks 0 count
+    → stands ≡ fresh_seats lock 0 count → now ≡ with_each users stands → more ≡ locks ++ lock ∷ [] → now ≡ fresh_users more 0 count
+grown_users locks more lock count users now stands users_are stands_are now_is more_is =
+    now_is ∙ ap (λ (us : List (List Seat)). with_each us stands) users_are ∙ ap (with_each (fresh_users locks 0 count)) stands_are
+    ∙ one_member locks lock 0 count ∙ ap (λ (ls : List Lock). fresh_users ls 0 count) (sym more_is)
+
+pub next_rows : {A : Type 0} (column_of : A → List Seat) (all rows now : List (List Seat)) (rest after : List A) (x : A) → rest ≡ x ∷ after
+    → now ≡ with_each rows (column_of x) → with_all rows (map column_of rest) ≡ all → with_all now (map column_of after) ≡ all
+next_rows {A = A} column_of all rows now rest after x next now_is h =
+    ap (λ (rs : List (List Seat)). with_all rs (map column_of after)) now_is
+    ∙ ap (λ (xs : List A). with_all rows (map column_of xs)) (sym next) ∙ h
+
+with_both : (rows : List (List Seat)) (first second : List (List Seat)) → with_all rows (first ++ second) ≡ with_all (with_all rows first) second
+with_both rows [] second = refl
+with_both rows (column ∷ first) second = with_both (with_each rows column) first second
+
+-- the first columns are added, the second ones follow
+pub then_rows : {A : Type 0} (column_of : A → List Seat) (rows now first second : List (List Seat)) (rest : List A) → rest ≡ []
+    → with_all now (map column_of rest) ≡ with_all rows first → with_all now second ≡ with_all rows (first ++ second)
+then_rows {A = A} column_of rows now first second rest none h =
+    let same : now ≡ with_all rows first = ap (λ (xs : List A). with_all now (map column_of xs)) (sym none) ∙ h in
+    ap (λ (rs : List (List Seat)). with_all rs second) same ∙ sym (with_both rows first second)
+
+-- a made item has the next of what was handed in
+pub next_item : {A B : Type 0} (f : A → B) (made now : List A) (rest after all : List B) (x : A) (y : B) → rest ≡ y ∷ after → now ≡ made ++ x ∷ []
+    → f x ≡ y → map f made ++ rest ≡ all → map f now ++ after ≡ all
+next_item {A = A} {B = B} f made now rest after all x y next now_is is h =
+    ap (λ (xs : List A). map f xs ++ after) now_is ∙ ap (λ (ys : List B). ys ++ after) (map-append f made (x ∷ []))
+    ∙ append_assoc (map f made) (f x ∷ []) after ∙ ap (λ (b : B). map f made ++ b ∷ after) is ∙ ap (λ (ys : List B). map f made ++ ys) (sym next) ∙ h

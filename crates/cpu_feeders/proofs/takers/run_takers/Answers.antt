@@ -1,0 +1,34 @@
+use Rattle.std.proofs.Common.{◌≡◌, ◌<◌, ℕ, List}
+use Rattle.std.proofs.lemmas.Result.{IfOk-weaker}
+use Rattle.std.specs.Prelude.{map, option_map}
+use Rattle.tap_outside.specs.Seen.{SourceSeen}
+use Rattle.cpu_feeders.specs.Working.{IsReadyWorker}
+use Rattle.cpu_feeders.specs.declared.worker.Worker.{Worker}
+use Rattle.cpu_feeders.proofs.AtEnd.{at_place}
+use Rattle.cpu_feeders.proofs.Hired.{hired_ready}
+use Rattle.cpu_feeders.proofs.WorkedCrew.{have_worked}
+use Rattle.cpu_feeders.proofs.takers.run_takers.Goals as goal
+
+pub run_all-requires-clause-ready : goal.run_all-requires-clause-ready
+run_all-requires-clause-ready g c κs within =
+    let ready = hired_ready g.T.Taker.base g.T.Taker.taken c.args.job.now _ _ _ _ _ _ c.in_ok-crew.ensures in
+    let P : Worker g.row.S.Denot g.row.T.Denot → Type 0 =
+    IsReadyWorker g.T.Taker.base g.T.Taker.taken c.args.job.now c.in_ok-crew.crew.members.items c.in_ok-crew.crew.dealer in
+    rw (c.deref_mut.ensures.value, c.deref.ensures.value) (λ k d below. at_place P c.in_ok-crew.crew.workers.items k d ready below)
+
+pub dismiss-requires-clause-worked : goal.dismiss-requires-clause-worked
+dismiss-requires-clause-worked g c =
+    let firsts = map (option_map {T = g.row.S.Denot} {U = SourceSeen} g.S.Source.seen) c.args.sources.items in (
+      c.args.ticks.now,
+      firsts,
+      c.args.takers.items,
+      have_worked g.T.Taker.base g.T.Taker.taken c.args.job.now c.args.ticks.now _ firsts c.args.takers.items _ _ _ _ _ _ _ _ c.in_ok-crew.ensures
+          c.as_slice.ensures c.deref.ensures.value c.deref_mut.ensures.value c.deref_mut.ensures.len c.run_all.ensures.count c.run_all.ensures.done,
+    )
+
+pub returns : goal.returns
+returns g c =
+    let firsts = map (option_map {T = g.row.S.Denot} {U = SourceSeen} g.S.Source.seen) c.args.sources.items in
+    let worked = have_worked g.T.Taker.base g.T.Taker.taken c.args.job.now c.args.ticks.now _ firsts c.args.takers.items _ _ _ _ _ _ _ _ c.in_ok-crew.ensures
+    c.as_slice.ensures c.deref.ensures.value c.deref_mut.ensures.value c.deref_mut.ensures.len c.run_all.ensures.count c.run_all.ensures.done in
+    record { ran = IfOk-weaker c.dismiss.result _ _ (λ workers left. left c.args.ticks.now firsts c.args.takers.items worked) c.dismiss.ensures }

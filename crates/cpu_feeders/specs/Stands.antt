@@ -1,0 +1,24 @@
+-- The stands of a run: each member has one for each user, and each user has one at each member.
+use Rattle.std.specs.Prelude.{ℕ, zero, suc, ◌+◌, List, [], ◌∷◌, ◌++◌, map}
+use Rattle.member_turns.specs.Seats.{Lock, Seat}
+use Rattle.turn_lock.specs.Seats.{fresh_seat}
+
+-- each list with one item more at its end, as far as there are items
+abbrev pub with_each : {A : Type 0} → List (List A) → List A → List (List A)
+with_each [] items = []
+with_each (list ∷ lists) [] = list ∷ lists
+with_each (list ∷ lists) (item ∷ items) = (list ++ item ∷ []) ∷ with_each lists items
+
+-- and so for one column of items after the other
+abbrev pub with_all : {A : Type 0} → List (List A) → List (List A) → List (List A)
+with_all lists [] = lists
+with_all lists (column ∷ columns) = with_all (with_each lists column) columns
+
+-- the fresh stands of a user at members with these locks
+abbrev pub fresh_stands : List Lock → ℕ → List Seat
+fresh_stands locks number = map (λ lock. fresh_seat lock number) locks
+
+-- those of so many users, the first of this number
+abbrev pub fresh_users : List Lock → ℕ → ℕ → List (List Seat)
+fresh_users locks number zero = []
+fresh_users locks number (suc more) = fresh_stands locks number ∷ fresh_users locks (number + 1) more

@@ -1,0 +1,102 @@
+//! The members of a run and their readers after the joins.
+ghost use Rattle.std.specs.Prelude.{◌≡◌, ◌+◌, ◌≤◌, ◌<◌, ◌^◌, ◌++◌, length, map, IfOk, OnOk};
+ghost use Rattle.cpu_feeders.specs.Closings.{AllAtEnd, AllClosedWith, AreAtEnd, IsClosedWith};
+ghost use Rattle.cpu_feeders.specs.Walks.{taken_of};
+ghost use Rattle.member_turns.specs.Closings.{contents_of};
+ghost use Rattle.tp_layout.specs.Requests.{numbers_of};
+
+use crate::Walker;
+use crate::stands::StandList;
+use fanout_group::DealerSeat;
+use frame_view::Memory;
+use member_turns::{Member, Stand, close_member};
+use reader_walk::Taker;
+use ring_model::Notes;
+use ring_words::Pending;
+use std::alloc::Global;
+use std::collections::VecDeque;
+use tp_layout::Block;
+
+/// So many blocks a taker reads at most. No run has memory for as many.
+const MOST_BLOCKS: u64 = 1 << 40;
+
+/// What is left of a member and of its reader.
+#[derive(Drop)]
+pub(crate) struct Closed<T: Taker + Drop> {
+    /// The notes of its ring.
+    pub(crate) notes: Notes,
+    /// Its taker, which has read all blocks that were retired.
+    pub(crate) taker: T,
+    /// Its ring, as it was finished.
+    pub(crate) ring: Pending<Block>,
+    /// The reader's seat at the dealer.
+    pub(crate) seat: DealerSeat,
+}
+
+/// Hands a taker, which has read so many blocks, those that its reader left, by number.
+fn read_pending<T: Taker>(taker: &mut T, read: u64, pending: &Pending<Block>) -> Result<(), Memory>
+    requires kind { pending.now.kind ≡ numbers_of (T.base taker.old).shape }
+    requires count { length (T.taken taker.old) ≡ read }
+    ensures base { T.base taker.new ≡ T.base taker.old }
+    ensures read { OnOk result (T.taken taker.new ≡ T.taken taker.old
+        ++ taken_of (T.base taker.old) (contents_of pending.now.blocks)) }
+{
+    if pending.len() as u64 > MOST_BLOCKS.saturating_sub(read) {
+        return Err(Memory);
+    }
+    for at in 0..pending.len() {
+        match pending.get(at) {
+            Some((block, _)) => taker.block(block)?,
+            None => unreachable!(),
+        }
+    }
+    Ok(())
+}
+
+/// Closes a member, and hands its taker the blocks that are left.
+fn close_one<T: Taker + Drop>(
+    alloc: Global,
+    member: Member,
+    stands: Vec<Stand>,
+    walker: Walker<T>,
+) -> Result<Closed<T>, Memory>
+    requires { AreAtEnd T.base T.taken member stands.items walker }
+    ensures { IfOk result (λ closed.
+        IsClosedWith T.base T.taken member stands.items walker closed) }
+{
+    let mut taker = walker.taker;
+    let closed = close_member(alloc, member, stands, walker.end)?;
+    read_pending(&mut taker, walker.released, &closed.pending)?;
+    Ok(Closed {
+        notes: closed.notes,
+        taker,
+        ring: closed.pending,
+        seat: walker.seat,
+    })
+}
+
+/// Closes all members.
+pub(crate) fn close_group<T: Taker + Drop>(
+    alloc: Global,
+    members: Vec<Member>,
+    stands: Vec<StandList>,
+    walkers: Vec<Walker<T>>,
+) -> Result<Vec<Closed<T>>, Memory>
+    requires { AllAtEnd T.base T.taken members.items stands.items walkers.items }
+    ensures { IfOk result (λ closed.
+        AllClosedWith T.base T.taken members.items stands.items walkers.items closed.items) }
+{
+    let mut members = VecDeque::from(members);
+    let mut stands = VecDeque::from(stands);
+    let mut all = Vec::with_capacity(alloc, walkers.len())?;
+    for walker in walkers {
+        let Some(member) = members.pop_front() else {
+            unreachable!()
+        };
+        let Some(list) = stands.pop_front() else {
+            unreachable!()
+        };
+        all.push(close_one(alloc, member, list.into_vec(), walker)?)?;
+    }
+    Ok(all)
+}

@@ -1,0 +1,209 @@
+//! A run on threads with takers of the caller's.
+ghost use Rattle.std.specs.Prelude.{◌≡◌, ◌++◌, ℕ, List, Option, length, map, option_map, IfOk};
+ghost use Rattle.std.specs.List.{AllByRecursion};
+ghost use Rattle.cpu_feeders.specs.Crews.{HaveWorked};
+ghost use Rattle.cpu_feeders.specs.Hiring.{AreHired};
+ghost use Rattle.cpu_feeders.specs.Runs.{IsFreshTaker, IsTakerRun};
+ghost use Rattle.setup_text.specs.Sound.{AreMoments, IsSetup};
+ghost use Rattle.tap_outside.specs.Seen.{SourceSeen};
+
+use crate::closing::{Closed, close_group};
+use crate::gathering::gather;
+use crate::hiring::{feeders_of, walkers_of, workers_of};
+use crate::opening::open_group;
+use crate::parting::part;
+use crate::worker::{Shared, Worker, run_all};
+use crate::{Gate, Timer};
+use capture_reports::{
+    blocks_are_read_as_they_were_noted, threads_leave_a_group, threads_leave_what_sources_gave,
+};
+use cpu_feed::{ClosedCpus, close_cpus};
+use fanout_group::{CpuLogList, Dealer, DealerSeat};
+use frame_view::{Memory, MomentList};
+use member_turns::Member;
+use reader_walk::Taker;
+use ring_model::Notes;
+use ring_words::Pending;
+use setup_text::Job;
+use std::alloc::Global;
+use std::sync::Wait;
+use std::thread::Threads;
+use tap_outside::Source;
+use tp_layout::Block;
+
+/// What a run on threads leaves.
+#[derive(Drop)]
+pub struct Workers<S: Source, T: Taker + Drop> {
+    /// What is logged of each CPU, from 0 up.
+    pub cpus: CpuLogList,
+    /// The notes of each member, from 0 up.
+    pub notes: Vec<Notes>,
+    /// The taker of each member. It has read all blocks that the member's ring retired.
+    pub takers: Vec<T>,
+    /// The source of each CPU, less the bytes that it gave.
+    pub sources: Vec<Option<S>>,
+    /// The ring of each member, as it was finished.
+    pub rings: Vec<Pending<Block>>,
+}
+
+/// A run before its threads start, and after the joins.
+#[derive(Drop)]
+struct Crew<S: Source, T: Taker + Drop> {
+    /// The members, from 0 up.
+    members: Vec<Member>,
+    /// Deals tickets, and knows how many feeders go on.
+    dealer: Dealer,
+    /// The seats of the dealer that no worker has.
+    spare: Vec<DealerSeat>,
+    /// The workers: readers, the timer, feeders.
+    workers: Vec<Worker<S, T>>,
+}
+
+/// Opens the group of a job, and makes its workers.
+fn hire<S: Source, T: Taker + Drop>(
+    alloc: Global,
+    job: &Job,
+    sources: Vec<Option<S>>,
+    takers: Vec<T>,
+) -> Result<Crew<S, T>, Memory>
+    requires setup { IsSetup job.now.setup }
+    requires sources { length sources.items ≡ length job.now.setup.cpus }
+    requires takers { length takers.items ≡ job.now.setup.plan.members }
+    requires fresh { AllByRecursion (IsFreshTaker T.base T.taken job.now.setup.shape) takers.items }
+    ensures { IfOk result (λ crew. AreHired T.base T.taken job.now
+        (map (option_map S.seen) sources.items) takers.items
+        crew.members.items crew.dealer crew.spare.items crew.workers.items) }
+{
+    let plan = job.setup.plan;
+    let cpus = sources.len();
+    let mut group = open_group(alloc, &job.setup.shape, plan.members(), cpus as u32)?;
+    let (dealer, mut seats) = Dealer::new(alloc, cpus as u32)?;
+    let mut spare = seats.split_off(cpus)?;
+    let Some(stands) = group.users.pop() else {
+        unreachable!()
+    };
+    let timer = Timer {
+        stands: stands.into_vec(),
+        full: false,
+    };
+    let walkers = walkers_of(alloc, takers, group.ends, &mut spare)?;
+    let feeders = feeders_of(alloc, plan, sources, group.users, seats)?;
+    Ok(Crew {
+        members: group.members,
+        dealer,
+        spare,
+        workers: workers_of(alloc, walkers, timer, feeders)?,
+    })
+}
+
+/// Puts what closed CPUs and closed members leave together, each kind in a list of its own.
+fn assemble<S: Source, T: Taker + Drop>(
+    alloc: Global,
+    cpus: ClosedCpus<S>,
+    members: Vec<Closed<T>>,
+    seats: &mut Vec<DealerSeat>,
+) -> Result<Workers<S, T>, Memory>
+    ensures cpus { IfOk result (λ workers. workers.cpus ≡ cpus.logs) }
+    ensures sources { IfOk result (λ workers. workers.sources.items ≡ cpus.sources.items) }
+    ensures notes { IfOk result (λ workers.
+        workers.notes.items ≡ map (λ closed. closed.notes) members.items) }
+    ensures takers { IfOk result (λ workers.
+        workers.takers.items ≡ map (λ closed. closed.taker) members.items) }
+    ensures rings { IfOk result (λ workers.
+        workers.rings.items ≡ map (λ closed. closed.ring) members.items) }
+    ensures seats { IfOk result (λ workers.
+        seats.new.items ≡ seats.old.items ++ map (λ closed. closed.seat) members.items) }
+{
+    let mut workers = Workers {
+        cpus: cpus.logs,
+        notes: Vec::with_capacity(alloc, members.len())?,
+        takers: Vec::with_capacity(alloc, members.len())?,
+        sources: cpus.sources,
+        rings: Vec::with_capacity(alloc, members.len())?,
+    };
+    for closed in members {
+        workers.notes.push(closed.notes)?;
+        workers.takers.push(closed.taker)?;
+        workers.rings.push(closed.ring)?;
+        seats.push(closed.seat)?;
+    }
+    Ok(workers)
+}
+
+/// Takes a crew apart, and closes what it used.
+fn dismiss<S: Source, T: Taker + Drop>(
+    alloc: Global,
+    job: &Job,
+    crew: Crew<S, T>,
+) -> Result<Workers<S, T>, Memory>
+    requires setup { IsSetup job.now.setup }
+    requires worked { (moments : List ℕ) × (firsts : List (Option SourceSeen)) × (takers : List _)
+        × HaveWorked T.base T.taken job.now moments firsts takers
+        crew.members.items crew.dealer crew.spare.items crew.workers.items }
+    ensures { IfOk result (λ workers.
+        (moments : List ℕ) (firsts : List (Option SourceSeen)) (takers : List _)
+        → HaveWorked T.base T.taken job.now moments firsts takers
+        crew.members.items crew.dealer crew.spare.items crew.workers.items
+        → IsTakerRun T.base T.taken job.now moments firsts takers
+        (map (option_map S.seen) workers.sources.items) workers.takers.items
+        workers.cpus workers.notes.items workers.rings.items) }
+{
+    threads_leave_a_group();
+    threads_leave_what_sources_gave();
+    blocks_are_read_as_they_were_noted();
+    let parted = part(alloc, crew.workers)?;
+    let members = job.setup.plan.members() as usize;
+    let left = gather(alloc, members, parted.feeders, parted.timers)?;
+    let closed = close_group(alloc, crew.members, left.stands, parted.walkers)?;
+    let cpus = close_cpus(alloc, left.cpus)?;
+    let mut seats = left.seats;
+    let workers = assemble(alloc, cpus, closed, &mut seats)?;
+    let mut spare = crew.spare;
+    seats.append(&mut spare)?;
+    crew.dealer.close(seats);
+    Ok(workers)
+}
+
+/// Runs a job on threads, with a taker of the caller's for each member: a reader for each of them,
+/// a timer that tells the moments, and a feeder for each CPU. Each reader hands the blocks of its
+/// member to the member's taker, in order.
+///
+/// The sources are one for each CPU, and come back less the bytes that they gave; a CPU without one
+/// ends with a fault. The only error is that an allocation fails, here or in a taker; the sources
+/// and the takers are dropped then.
+pub fn run_takers<
+    S: Source + Send,
+    G: Gate + Sync,
+    T: Taker + Drop + Send,
+    R: Threads + Wait + Sync,
+>(
+    rt: &R,
+    alloc: Global,
+    job: &Job,
+    sources: Vec<Option<S>>,
+    ticks: &MomentList,
+    gate: &G,
+    takers: Vec<T>,
+) -> Result<Workers<S, T>, Memory>
+    requires setup { IsSetup job.now.setup }
+    requires sources { length sources.items ≡ length job.now.setup.cpus }
+    requires moments { AreMoments ticks.now }
+    requires takers { length takers.items ≡ job.now.setup.plan.members }
+    requires fresh { AllByRecursion (IsFreshTaker T.base T.taken job.now.setup.shape) takers.items }
+    ensures ran { IfOk result (λ workers. IsTakerRun T.base T.taken job.now ticks.now
+        (map (option_map S.seen) sources.items) takers.items
+        (map (option_map S.seen) workers.sources.items) workers.takers.items
+        workers.cpus workers.notes.items workers.rings.items) }
+{
+    let mut crew = hire(alloc, job, sources, takers)?;
+    let shared = Shared {
+        alloc,
+        job,
+        moments: ticks.as_slice(),
+        members: &crew.members[..],
+        dealer: &crew.dealer,
+        gate,
+    };
+    run_all(rt, &shared, &mut crew.workers[..]);
+    dismiss(alloc, job, crew)
+}

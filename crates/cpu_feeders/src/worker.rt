@@ -1,0 +1,112 @@
+//! The workers of a run: readers, a timer and feeders, each on a thread of its own.
+ghost use Rattle.std.specs.Prelude.{◌≡◌, ◌<◌, ℕ, length, slice_index_or, All};
+ghost use Rattle.cpu_feeders.specs.Working.{IsDoneWorker, IsReadyWorker};
+ghost use Rattle.setup_text.specs.Sound.{AreMoments, IsSetup};
+
+use crate::feeder::{Feeder, run_feeder};
+use crate::{Gate, Timer, Walker, run_timer, run_walker};
+use fanout_group::Dealer;
+use member_turns::Member;
+use reader_walk::Taker;
+use setup_text::Job;
+use std::alloc::Global;
+use std::sync::Wait;
+use std::thread;
+use std::thread::Threads;
+use tap_outside::Source;
+
+/// What one thread of a run does.
+#[derive(Drop)]
+pub(crate) enum Worker<S: Source, T: Taker + Drop> {
+    /// It reads a member's blocks.
+    Walks(Walker<T>),
+    /// It tells the moments.
+    Ticks(Timer),
+    /// It feeds a CPU.
+    Feeds(Feeder<S>),
+}
+
+/// What all threads of a run share.
+#[derive(Drop)]
+pub(crate) struct Shared<'a, G> {
+    /// Gives the memory for what the feeders make.
+    pub(crate) alloc: Global,
+    /// What is run.
+    pub(crate) job: &'a Job,
+    /// The moments, in milliseconds.
+    pub(crate) moments: &'a [u64],
+    /// The members, from 0 up.
+    pub(crate) members: &'a [Member],
+    /// Deals tickets, and knows how many feeders go on.
+    pub(crate) dealer: &'a Dealer,
+    /// Where a test may hold a thread.
+    pub(crate) gate: &'a G,
+}
+
+/// Does what one worker has to do.
+fn work<S: Source, T: Taker + Drop, G: Gate, R: Wait>(
+    rt: &R,
+    shared: &Shared<G>,
+    worker: &mut Worker<S, T>,
+)
+    requires setup { IsSetup shared.now.job.now.setup }
+    requires moments { AreMoments shared.now.moments.now }
+    requires ready { IsReadyWorker T.base T.taken
+        shared.now.job.now shared.now.members.now shared.now.dealer.now worker.old }
+    ensures { IsDoneWorker T.base T.taken
+        shared.now.job.now shared.now.members.now shared.now.dealer.now
+        shared.now.moments.now worker.old worker.new }
+{
+    match worker {
+        Worker::Walks(walker) => run_walker(rt, shared.dealer, shared.gate, walker),
+        Worker::Ticks(timer) => {
+            run_timer(rt, shared.members, shared.moments, shared.gate, timer);
+        }
+        Worker::Feeds(feeder) => run_feeder(
+            rt,
+            shared.alloc,
+            shared.job,
+            shared.members,
+            shared.dealer,
+            shared.gate,
+            feeder,
+        ),
+    }
+}
+
+/// Runs all workers, each on a thread of its own where one can be made, and joins them.
+///
+/// Where no thread can be made, the list is run from its end. So the readers come first in it and
+/// the feeders last: a feeder waits for nobody that has to end before it, and a reader waits until
+/// the feeders have ended.
+pub(crate) fn run_all<
+    S: Source + Send,
+    T: Taker + Drop + Send,
+    G: Gate + Sync,
+    R: Threads + Wait + Sync,
+>(rt: &R, shared: &Shared<G>, workers: &mut [Worker<S, T>])
+    requires setup { IsSetup shared.now.job.now.setup }
+    requires moments { AreMoments shared.now.moments.now }
+    requires some { 0 < length workers.old }
+    requires ready { All (IsReadyWorker T.base T.taken
+        shared.now.job.now shared.now.members.now shared.now.dealer.now) workers.old }
+    ensures count { length workers.new ≡ length workers.old }
+    ensures done { (i : ℕ) (d : _) → i < length workers.old → IsDoneWorker T.base T.taken
+        shared.now.job.now shared.now.members.now shared.now.dealer.now
+        shared.now.moments.now (slice_index_or workers.old i d) (slice_index_or workers.new i d) }
+{
+    let count = workers.len();
+    thread::for_each_mut(
+        rt,
+        workers,
+        count,
+        &|_, worker|
+            requires { IsSetup shared.now.job.now.setup × AreMoments shared.now.moments.now
+                × IsReadyWorker T.base T.taken
+                shared.now.job.now shared.now.members.now shared.now.dealer.now worker.now }
+            ensures { IsDoneWorker T.base T.taken
+                shared.entry.now.job.now shared.entry.now.members.now shared.entry.now.dealer.now
+                shared.entry.now.moments.now worker.entry.now worker.exit.now }
+        { work(rt, shared, worker) },
+    );
+}

@@ -1,0 +1,28 @@
+use Rattle.std.proofs.Common.{inr}
+use Rattle.tap_engine.proofs.Found.{if_ok, of_ok, on_err}
+use Rattle.tap_engine.proofs.calls.attempt.Goals as goal
+
+pub returns-clause-told : goal.returns-clause-told
+returns-clause-told g c =
+    if_ok _ _ c.conclude.result
+    (λ outcome concludes command old searched. record {
+      read = g.S.Store.seen c.args.store.now;
+      reads = searched.reads;
+      finding = c.in_ok-finding.finding;
+      found = of_ok _ c.args.found c.in_ok-finding.finding c.in_ok-finding.was searched.found;
+      concludes = concludes;
+    })
+    c.conclude.ensures.concludes
+
+pub returns-clause-cut : goal.returns-clause-cut
+returns-clause-cut g c =
+    on_err _ _ c.conclude.result
+    (λ early command old searched. inr (record {
+      read = g.S.Store.seen c.args.store.now;
+      reads = searched.reads;
+      finding = c.in_ok-finding.finding;
+      found = of_ok _ c.args.found c.in_ok-finding.finding c.in_ok-finding.was searched.found;
+      touches = c.conclude.ensures.touches;
+      saved = early;
+    }))
+    c.conclude.ensures.early

@@ -1,0 +1,61 @@
+use Rattle.std.proofs.Common.{sym, subst}
+use Rattle.std.specs.Prelude.{All, IfSome, IsTrue}
+use Rattle.std.proofs.lemmas.Result.{err_from_is_err_and}
+use Rattle.setup_text.specs.declared.setups.Setup.{Setup}
+use Rattle.tap_outside.specs.Counts.{RoseBy}
+use Rattle.tap_outside.specs.Seen.{StoreSeen}
+use Rattle.tap_engine.specs.Commands.{Named, named_by}
+use Rattle.tap_engine.specs.Findings.{IsReported, faults_in}
+use Rattle.tap_engine.specs.Jobs.{HasJob}
+use Rattle.tap_engine.proofs.Found.{stops_same}
+use Rattle.tap_engine.proofs.Meant.{names_meant}
+use Rattle.tap_engine.proofs.Worked.{capture_meant, capture_ticks, ticks_meant}
+use Rattle.tap_engine.proofs.running.capture.Goals as goal
+
+pub capture_timed-requires-clause-ticks : goal.capture_timed-requires-clause-ticks
+capture_timed-requires-clause-ticks g c κs within =
+    let store = g.S.Store.seen c.args.store.now in
+    let named : Named = named_by c.args.asked.command c.args.asked.setup.now
+    c.args.asked.schedule.now in
+    let setup : Setup = c.in_ok-job.job.setup in
+    subst (λ (s : StoreSeen). IfSome setup.ticks (λ name. IsTrue (s.to_read name)))
+    (sym c.in_ok-job.ensures.faultless)
+    (ticks_meant store.to_read named setup (capture_ticks named setup c.requires.command)
+    (names_meant store.held store.to_read named setup (g.met.S.Store.untold_reads c.args.store.now)
+    c.requires.reads c.in_ok-job.ensures.job.setup))
+
+pub capture_timed-requires-clause-captures : goal.capture_timed-requires-clause-captures
+capture_timed-requires-clause-captures g c κs within =
+    let store = g.S.Store.seen c.args.store.now in
+    let named : Named = named_by c.args.asked.command c.args.asked.setup.now
+    c.args.asked.schedule.now in
+    let setup : Setup = c.in_ok-job.job.setup in
+    subst (λ (s : StoreSeen). All (λ cpu. IsTrue (s.to_read cpu.file)) setup.cpus)
+    (sym c.in_ok-job.ensures.faultless)
+    (capture_meant store.to_read named setup c.requires.command
+    (names_meant store.held store.to_read named setup (g.met.S.Store.untold_reads c.args.store.now)
+    c.requires.reads c.in_ok-job.ensures.job.setup))
+
+pub returns-in_err-report-clause-stop : goal.returns-in_err-report-clause-stop
+returns-in_err-report-clause-stop g c =
+    let named : Named = named_by c.args.asked.command c.args.asked.setup.now
+    c.args.asked.schedule.now in
+    let has = subst (λ (s : StoreSeen). HasJob s.held named c.in_ok-job.job)
+    (sym c.in_ok-job.ensures.faultless) c.in_ok-job.ensures.job in
+    let p = err_from_is_err_and c.from_residual-in_err-report.result
+    c.from_residual-in_err-report.ensures.1 in
+    rw (p.1, p.2) (stops_same _ _ _ named _ c.in_ok-job.ensures.faultless
+    (c.in_err-report.ensures.stop named c.requires.command has))
+
+pub returns-clause-found : goal.returns-clause-found
+returns-clause-found g c =
+    let named : Named = named_by c.args.asked.command c.args.asked.setup.now
+    c.args.asked.schedule.now in
+    let job = c.in_ok-job.job in
+    let report = c.in_ok-report.report in
+    let new = g.S.Store.seen c.capture_timed.new.store in
+    let has = subst (λ (s : StoreSeen). HasJob s.held named job)
+    (sym c.in_ok-job.ensures.faultless) c.in_ok-job.ensures.job in
+    subst (λ (s : StoreSeen). IsReported s.held named job.setup report
+    × RoseBy (faults_in report.cpus) s.read_faults new.read_faults) c.in_ok-job.ensures.faultless
+    (c.in_ok-report.ensures.reported named c.requires.command has, c.in_ok-report.ensures.faults)

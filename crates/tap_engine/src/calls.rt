@@ -1,0 +1,168 @@
+//! The top calls.
+ghost use Rattle.std.specs.Prelude.{◌≡◌, ◌≢◌, ◌⊎◌, None, Option, IfOk, IsTrue, OnErr};
+ghost use Rattle.std.specs.List.{AllByRecursion};
+ghost use Rattle.tap_outside.specs.Seen.{StoreSeen};
+ghost use Rattle.tap_engine.specs.Answers.{IsAnswer};
+ghost use Rattle.tap_engine.specs.Commands.{Named, command_of, plain_command};
+ghost use Rattle.tap_engine.specs.Complete.{IsComplete};
+ghost use Rattle.tap_engine.specs.Conclusions.{GivesUp, IsCut, IsCutShort, IsSearched, Tells};
+ghost use Rattle.tap_engine.specs.Findings.{IsReady, names_of};
+ghost use Rattle.tap_engine.specs.Headline.{IsWorth};
+ghost use Rattle.tap_engine.specs.InnerErrors.{HoldsNoMemory};
+ghost use Rattle.tap_engine.specs.Names.{AreMeantToRead, AreMeantToSave};
+
+use crate::concluding::conclude;
+use crate::findings::Finding;
+use crate::running::{find, find_plain};
+use crate::{Outcome, Status};
+use cpu_feeders::Gate;
+use frame_view::Memory;
+use std::alloc::Global;
+use std::sync::Wait;
+use std::thread::Threads;
+use tap_outside::{Sink, Store, write_whole};
+use text_lines::Word;
+
+/// Carries out a command over a store and a sink.
+///
+/// - `capture CONF` reads the setup, and the filter and the moments that it names, and feeds the
+///   captures of the setup on threads: a feeder for each capture, a reader for each member, and a
+///   timer that tells the members the moments. The threads pass the gate at the points that it
+///   names. The call may wait, and what it promises holds where it returns.
+/// - Every other command is carried out as `run_plain` does.
+///
+/// Any other words are no command. The commands, the texts and the printed lines are this project's
+/// own choice; docs/using.md lists them.
+pub fn run<S: Store, O: Sink, G: Gate + Sync, R: Threads + Wait + Sync>(
+    rt: &R,
+    alloc: Global,
+    words: &[Word],
+    store: &mut S,
+    out: &mut O,
+    gate: &G,
+) -> Outcome
+    // Each file that the command reads is meant for reading, and each that it saves is meant for
+    // saving.
+    requires reads { AreMeantToRead (command_of words.now) (S.seen store.old) }
+    requires saves { AreMeantToSave (command_of words.now) (S.seen store.old) }
+
+    // A report holds each frame that was read and passes the filter once: kept or dropped.
+    ensures headline { IsWorth (command_of words.now) (S.seen store.old).held result.report }
+
+    // Unless memory ran out: what the command found by what the outside gave, and the status, the
+    // report, the lines and the files of that.
+    ensures told { result.status ≢ Status.Memory → Tells (command_of words.now) result
+        (S.seen store.old) (S.seen store.new) (O.seen out.old) (O.seen out.new) }
+
+    // Where memory ran out: no report, and no file but those of what was found has changed.
+    ensures gave_up { result.status ≡ Status.Memory → GivesUp (command_of words.now) result
+        (S.seen store.old) (S.seen store.new) }
+
+    // No error within the status or the report says that memory ran out.
+    ensures no_memory { HoldsNoMemory result }
+
+    // Where the store holds a sound command and no count of faults rose, the status is 0, or 7.
+    ensures complete { IsComplete (command_of words.now)
+        (S.seen store.old) (S.seen store.new) (O.seen out.old) (O.seen out.new) result.status }
+{
+    let found = find(rt, alloc, words, store, gate);
+    finish(alloc, found, store, out)
+}
+
+/// Carries out a command over a store and a sink, on one thread.
+///
+/// - `check CONF` reads the setup, and the filter and the moments that it names, and prints `ok`.
+/// - `replay CONF SCHED` replays the captures of the setup as the schedule says.
+/// - `make CONF` replays frames that are made from the setup's number, by a schedule of its own,
+///   and reads no capture.
+/// - `send CONF` sends the capture of CPU 0 through a transmit ring, and gives no report.
+///
+/// Any other words are no command here, `capture CONF` among them: it runs on threads. The
+/// commands, the texts and the printed lines are this project's own choice; docs/using.md lists
+/// them.
+pub fn run_plain<S: Store, O: Sink>(
+    alloc: Global,
+    words: &[Word],
+    store: &mut S,
+    out: &mut O,
+) -> Outcome
+    // Each file that the command reads is meant for reading, and each that it saves is meant for
+    // saving.
+    requires reads { AreMeantToRead (plain_command words.now) (S.seen store.old) }
+    requires saves { AreMeantToSave (plain_command words.now) (S.seen store.old) }
+
+    // A report holds each frame that was read and passes the filter once: kept or dropped.
+    ensures headline { IsWorth (plain_command words.now) (S.seen store.old).held result.report }
+
+    // Unless memory ran out: what the command found by what the outside gave, and the status, the
+    // report, the lines and the files of that.
+    ensures told { result.status ≢ Status.Memory → Tells (plain_command words.now) result
+        (S.seen store.old) (S.seen store.new) (O.seen out.old) (O.seen out.new) }
+
+    // Where memory ran out: no report, and no file but those of what was found has changed.
+    ensures gave_up { result.status ≡ Status.Memory → GivesUp (plain_command words.now) result
+        (S.seen store.old) (S.seen store.new) }
+
+    // No error within the status or the report says that memory ran out.
+    ensures no_memory { HoldsNoMemory result }
+
+    // Where the store holds a sound command and no count of faults rose, the status is 0, or 7.
+    ensures complete { IsComplete (plain_command words.now)
+        (S.seen store.old) (S.seen store.new) (O.seen out.old) (O.seen out.new) result.status }
+{
+    let found = find_plain(alloc, words, store);
+    finish(alloc, found, store, out)
+}
+
+/// Ends a command: saves and prints what was found, or says that memory ran out.
+fn finish<S: Store, O: Sink>(
+    alloc: Global,
+    found: Result<Finding, Memory>,
+    store: &mut S,
+    out: &mut O,
+) -> Outcome
+    requires ready { IfOk found IsReady }
+    requires meant { IfOk found (λ finding.
+        AllByRecursion (λ name. IsTrue ((S.seen store.old).to_save name)) (names_of finding)) }
+    ensures { (command : Option Named) (old : StoreSeen)
+        → IsSearched command old (S.seen store.old) found
+        → IsAnswer command result old (S.seen store.new) (O.seen out.old) (O.seen out.new) }
+{
+    match attempt(alloc, found, store, out) {
+        Ok(outcome) => outcome,
+        Err(_) => give_up(out),
+    }
+}
+
+/// Saves and prints what was found, as far as there is memory.
+fn attempt<S: Store, O: Sink>(
+    alloc: Global,
+    found: Result<Finding, Memory>,
+    store: &mut S,
+    out: &mut O,
+) -> Result<Outcome, Memory>
+    requires ready { IfOk found IsReady }
+    requires meant { IfOk found (λ finding.
+        AllByRecursion (λ name. IsTrue ((S.seen store.old).to_save name)) (names_of finding)) }
+    ensures told { IfOk result (λ outcome. (command : Option Named) (old : StoreSeen)
+        → IsSearched command old (S.seen store.old) found
+        → Tells command outcome old (S.seen store.new) (O.seen out.old) (O.seen out.new)) }
+    ensures cut { OnErr result ((command : Option Named) (old : StoreSeen)
+        → IsSearched command old (S.seen store.old) found
+        → IsCut command old (S.seen store.new) ⊎ IsCutShort command old (S.seen store.new)) }
+{
+    let finding = found?;
+    conclude(alloc, finding, store, out)
+}
+
+/// Says that memory ran out, once, if the sink takes it.
+fn give_up<O: Sink>(out: &mut O) -> Outcome
+    ensures status { result.status ≡ Status.Memory }
+    ensures report { result.report ≡ None }
+{
+    let _ = write_whole(out, b"out of memory\n");
+    Outcome {
+        status: Status::Memory,
+        report: None,
+    }
+}
