@@ -1,13 +1,19 @@
 #!/usr/bin/env python3
 """Times `ringtap replay` on captures of 4 to 32 MiB, beside `tcpdump -r IN -w OUT` of the same file in the same run; then
-groups of several members and CPUs, with a filter, and with reassembly; then `ringtap make` and `ringtap send`.
+groups of several members and CPUs, with a filter, and with reassembly; then `ringtap make` and `ringtap send`; then `ringtap capture`
+beside `replay` of the same captures.
 
-    bench/run.py [--sizes 4,8,16,32] [--runs 5] [--beside OTHER] [PROGRAM]
+    bench/run.py [--sizes 4,8,16,32] [--runs 5] [--beside OTHER | --threads] [PROGRAM]
 
 PROGRAM is crates/ringtap/out/ringtap where none is named; it is built where it isn't there. The captures have frames of 60
 bytes, of 1514 bytes, or of 60, 590 and 1514 bytes by turns. Each is replayed with a ring that keeps every frame and with one
 that drops. Those of 60 and of 1514 bytes are sent through a ring of 2048 slots. Files are written below bench/work. With
---beside the replays alone are run, by turns with those of another program, as an earlier one; both must print the same.
+--beside the replays alone are run, by turns with those of another program, as an earlier one; both must print the same. With
+--threads the captures on threads alone are run.
+
+The captures on threads have 1, 2, 4 and 8 CPUs with 4 MiB each. Of each row all times are taken by turns with a replay whose schedule is
+empty; the least and the middle one are printed, since with threads they lie apart, and the fewest and the most drops. Only rings that
+keep all frames can be compared in time: a frame that is dropped costs less than one that is kept.
 
 Where there is a C compiler, seven replays of 32 MiB are run by turns with bench/plain_ring.c, which does the same with arrays and keeps no
 notes. Both must save the same files. Page faults are those of one run; instructions are those that valgrind counts of a capture
@@ -17,11 +23,13 @@ Time is that from start to end, CPU that of the processor for user and system, e
 largest resident size; the system counts no less than this script's own, about 14 MiB.
 
 It ends with status 1 where a run fails, where CPU time or memory grows by more than 2.2 times from 16 to 32 MiB or from 10,000
-to 20,000 made frames, or where memory grows by more than 256 bytes for each frame that a filter refuses.
+to 20,000 made frames, where memory grows by more than 256 bytes for each frame that a filter refuses, or where a capture on threads that
+keeps all frames, with a member for each CPU, takes more than 2.5 times the CPU time of the replay.
 """
 import argparse
 import os
 import shutil
+import statistics
 import struct
 import subprocess
 import sys
@@ -239,6 +247,7 @@ def main():
     words.add_argument("--sizes", default="4,8,16,32")
     words.add_argument("--runs", type=int, default=5)
     words.add_argument("--beside")
+    words.add_argument("--threads", action="store_true")
     words.add_argument("program", nargs="?", default=PROGRAM)
     asked = words.parse_args()
     program = os.path.abspath(asked.program)
@@ -253,6 +262,10 @@ def main():
         times_beside(program, other, asked)
         shutil.rmtree(WORK)
         return
+    if asked.threads:
+        too_much = times_of_threads(program, asked)
+        shutil.rmtree(WORK)
+        sys.exit(1 if too_much else 0)
     dump = shutil.which("tcpdump")
     if not dump:
         print("no tcpdump, so there is no ratio to it")
@@ -278,10 +291,11 @@ def main():
     found.update(times_of_groups(program, asked))
     found.update(times_of_made(program, asked))
     found.update(times_of_sent(program, asked))
+    too_much = times_of_threads(program, asked)
     times_of_plain(program, asked)
     is_large = memory_of_refused(program, asked)
     shutil.rmtree(WORK)
-    sys.exit(1 if grows(found) or is_large else 0)
+    sys.exit(1 if grows(found) or is_large or too_much else 0)
 
 
 def times_beside(program, other, asked):
@@ -387,6 +401,63 @@ def memory_of_refused(program, asked):
     each = (large - small) / (many - few)
     print(f"\nfilter that refuses all, from 8 to 32 MiB: {small / MIB:.1f} to {large / MIB:.1f} MiB, {each:.0f} bytes a frame")
     return each > 256
+
+
+# The groups of captures on threads, by the number of CPUs.
+SHARED = {
+    "hash of four": lambda cpus: f"members 4\nmode hash\nkey {KEY}\n",
+    "lb of four": lambda cpus: "members 4\nmode lb\n",
+    "a member each": lambda cpus: f"members {cpus}\nmode cpu\n",
+}
+MOST_CPU = 2.5
+
+
+def one_run(words):
+    """Time and CPU time of one run in seconds, and what it printed."""
+    taken, cpu, _, printed = measure(words, 1)
+    return taken, cpu, printed
+
+
+def times_of_row(program, count, ring, asked):
+    """Of the setup that is there, run by turns as a replay and on threads: the times and CPU times of each, and the drops on threads."""
+    times, drops = {"replay": [], "capture": []}, []
+    for _ in range(asked.runs):
+        for command, words in (("replay", ["replay", "conf", "sched"]), ("capture", ["capture", "conf"])):
+            taken, cpu, printed = one_run([program, *words])
+            kept, lost = total_of(printed)
+            if kept + lost != count or lost and ring == "keeps":
+                sys.exit(f"{command}: {count} frames, {kept} kept, {lost} dropped")
+            times[command].append((taken, cpu))
+            if command == "capture":
+                drops.append(lost)
+    return times["replay"], times["capture"], drops
+
+
+def times_of_threads(program, asked):
+    """Prints the tables of captures on threads, and gives whether one of them takes too much CPU time."""
+    cores = len(os.sched_getaffinity(0)) if hasattr(os, "sched_getaffinity") else os.cpu_count()
+    print(f"\n{cores} processors, load {os.getloadavg()[0]:.1f} before the captures on threads; a run has a thread for each CPU and each")
+    print("member and one for the timer, so more than there are processors where CPUs and members together are as many or more.")
+    print("\n| Group | Frames of | CPUs | Ring | Frames | Replay, s | middle | CPU | Capture, s | middle | CPU | Times | CPU times | Drops |")
+    print("|---|---|---|---|---|---|---|---|---|---|---|---|---|---|")
+    too_much = False
+    makers = {"60": lambda: make_small_flows("in.pcap", 4 * MIB), "1042": lambda: make_flows("in.pcap", 4 * MIB, "hash")}
+    for kind, maker in makers.items():
+        each = maker()
+        for ring, (group, of) in ((ring, item) for ring in RINGS for item in SHARED.items()):
+            for cpus in (1, 2, 4, 8):
+                write_setup("conf", RINGS[ring], cpus, of(cpus))
+                old, new, drops = times_of_row(program, each * cpus, ring, asked)
+                (least, cpu), (least_new, cpu_new) = (map(min, zip(*times)) for times in (old, new))
+                middle, middle_new = (statistics.median(taken for taken, _ in times) for times in (old, new))
+                too_much = too_much or ring == "keeps" and group == "a member each" and cpu_new > MOST_CPU * cpu
+                times = f"{middle_new / middle:.2f} | {cpu_new / cpu:.2f}" if ring == "keeps" else "- | -"
+                print(
+                    f"| {group} | {kind} | {cpus} | {ring} | {each * cpus:,} | {least:.3f} | {middle:.3f} | {cpu:.3f} | {least_new:.3f}"
+                    f" | {middle_new:.3f} | {cpu_new:.3f} | {times} | {min(drops):,} to {max(drops):,} |",
+                    flush=True,
+                )
+    return too_much
 
 
 def grows(found):

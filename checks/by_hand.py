@@ -2,10 +2,14 @@
 """What ringtap's runs have to print and to save, worked out a second time and apart from its code.
 
     by_hand.py replay SETUP SCHEDULE [FOLDER]   prints the lines, and writes the files that are saved below a folder
+    by_hand.py capture SETUP [FOLDER]           the same of a run on threads of which nothing hangs on them
     by_hand.py make SETUP [FOLDER]              the same of frames that are made from the setup's number
     by_hand.py send SETUP [FOLDER]              the same of a capture that is sent through a transmit ring
     by_hand.py --frames CAPTURE                 prints a line for each frame: its time, both lengths and its bytes
     by_hand.py --demo                           writes demo/expected anew
+
+Nothing of a run on threads hangs on them where it tells no moment, and each ring has the packets of one CPU and room for all of
+them: it then gives what a replay with an empty schedule gives. captures.py tests all others.
 
 It follows docs/formats.md, docs/setup.md and docs/definitions.md with lists and slices, for texts that are accepted. Paths
 in a setup count from the folder in which this is run, as they do for ringtap.
@@ -343,8 +347,11 @@ class Replay:
         if verdict == 0:
             return
         offer = Offer(frame, min(len(frame.bytes), verdict, setup.room - HEADER), hashed, pkttype)
-        homes = {"hash": hashed, "lb": ticket, "cpu": cpu, "qm": queue}
-        home = self.present[cpu] if setup.mode == "rollover" else homes[setup.mode] % setup.members
+        homes = {"hash": hashed, "lb": ticket, "cpu": cpu, "qm": queue, "rollover": self.present[cpu]}
+        self.deliver(cpu, offer, homes[setup.mode] % setup.members)
+
+    def deliver(self, cpu, offer, home):
+        setup = self.setup
         if setup.mode == "rollover" or "rollover" in setup.flags:
             for step in range(setup.members):
                 member = (home + step) % setup.members
@@ -493,7 +500,8 @@ def run(command, setup_path, schedule_path=None):
     program = filter_verdicts.program(text_of(setup.filter)) if setup.filter else None
     if command == "make":
         return make(setup, program)
-    return replay(setup, text_of(schedule_path), [bytes_of(file) for file, _ in setup.cpus], program)
+    schedule = text_of(schedule_path) if schedule_path else ""
+    return replay(setup, schedule, [bytes_of(file) for file, _ in setup.cpus], program)
 
 
 def save(folder, files):
@@ -508,6 +516,7 @@ DEMO = {
     "group": ["replay", "demo/group.txt", "demo/group.sched"],
     "make": ["make", "demo/make.txt"],
     "send": ["send", "demo/send.txt"],
+    "capture": ["capture", "demo/capture.txt"],
 }
 
 
@@ -521,7 +530,7 @@ def make_demo():
 
 
 def main(words):
-    texts = {"replay": 2, "make": 1, "send": 1}.get(words[0] if words else None, 0)
+    texts = {"replay": 2, "make": 1, "send": 1, "capture": 1}.get(words[0] if words else None, 0)
     if words == ["--demo"]:
         make_demo()
     elif len(words) == 2 and words[0] == "--frames":

@@ -17,13 +17,13 @@ same() {
 # The words of a demo: its command and its texts.
 words_of() {
     case $1 in
-    make | send) words=("$1" "demo/$1.txt") ;;
+    make | send | capture) words=("$1" "demo/$1.txt") ;;
     group) words=(replay demo/group.txt demo/group.sched) ;;
     *) words=(replay "demo/$1.txt" demo/schedule.txt) ;;
     esac
 }
 
-for name in setup small group make send; do
+for name in setup small group make send capture; do
     words_of "$name"
     for program in "${programs[@]}"; do
         rm -rf made && mkdir made

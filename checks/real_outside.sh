@@ -236,19 +236,58 @@ making() {
     grep -q '^total arrivals 10 ' "$said" || wrong "a folder as the output of a make: printed '$(cat "$said")'"
 }
 
+# A setup whose ring holds the whole demo, so that nothing hangs on which thread goes first.
+roomy() {
+    printf 'block_size 65536\nblock_nr 4\nframe_size 2048\nframe_nr 128\ncpu %s\n' "$1" >conf
+}
+
+capturing() {
+    local expected=$top/demo/expected/setup name lines
+    lines=$(cat "$expected/lines.txt")
+    fresh
+    roomy in.pcap
+    expect 'a capture on threads' 0 "$lines" capture conf
+    cmp -s out.0.pcap "$expected/out.0.pcap" || wrong 'a capture on threads: another output'
+    for name in none . conf/; do
+        expect "'$name' as the setup of a capture on threads" 5 'read fault' capture "$name"
+        fresh
+        roomy "$name"
+        expect "'$name', captured on threads" 5 "$fault" capture conf
+        [ "$(wc -c <out.0.pcap)" -eq 24 ] || wrong "'$name', captured on threads: the output isn't a header alone"
+        fresh
+        roomy in.pcap && printf 'ticks %s\n' "$name" >>conf
+        expect "'$name' as the moments" 5 'read fault' capture conf
+        [ ! -e out.0.pcap ] || wrong "'$name' as the moments: a run was made"
+    done
+    fresh
+    roomy in.pcap && printf 'ticks moments\n' >>conf
+    printf '2\n1\n' >moments
+    expect 'moments that go back' 3 'ticks line 2: not_ascending' capture conf
+    printf '1\n2\n' >moments
+    expect 'moments' 0 "$lines" capture conf
+    fresh
+    roomy in.pcap && mkdir out.0.pcap
+    expect 'a folder as the output of a capture on threads' 6 "$lines" capture conf
+    fresh
+    roomy in.pcap
+    timeout 60 "${as_nobody[@]}" "$room/ringtap" capture conf >/dev/full 2>"$room/complained"
+    check 'a capture on threads, standard output full' 6 $?
+    cmp -s out.0.pcap "$expected/out.0.pcap" || wrong 'a capture on threads, standard output full: another output'
+}
+
 words() {
     fresh
     expect 'no word' 1 "$usage"
     expect 'no schedule' 1 "$usage" replay conf
     expect 'a word too many' 1 "$usage" replay conf sched sched
-    for command in check send make; do
+    for command in check send make capture; do
         expect "$command without a setup" 1 "$usage" "$command"
         expect "$command with a schedule" 1 "$usage" "$command" conf sched
         expect "$command with an empty setup" 1 "$usage" "$command" ''
     done
     expect 'an empty setup' 1 "$usage" replay '' sched
     expect 'an empty schedule' 1 "$usage" replay conf ''
-    expect 'a command that is not built' 1 "$usage" capture conf
+    expect 'a command that there is not' 1 "$usage" record conf
     expect 'no command' 1 "$usage" --help
     for name in $'\xff' $'conf\xff' $'\xed\xa0\x80' $'\xc0\xaf'; do
         expect 'a setup that is not UTF-8' 1 "$usage" replay "$name" sched
@@ -263,6 +302,19 @@ words() {
 # A capture without end, as a pipe that somebody keeps writing to: 127 records of 262,144 bytes fit into what counts.
 endless() {
     command -v python3 >/dev/null || return
+    keep_writing
+    expect 'a capture without end' 4 'cpu 0 frames 127 arrivals 127 end too_large 33554432
+member 0 packets 127 drops 125 freezes 1 blocks 2
+total arrivals 127 filtered 0 kept 2 drops 125' replay conf sched
+    stop_writing
+    keep_writing
+    expect 'a capture without end on threads' 4 - capture conf
+    grep -q '^cpu 0 frames 127 arrivals 127 end too_large 33554432$' "$said" || wrong 'a capture without end on threads: another end'
+    stop_writing
+}
+
+# Begins to write into the pipe of a fresh folder.
+keep_writing() {
     fresh
     mkfifo pipe
     give pipe
@@ -275,10 +327,10 @@ with open("pipe", "wb") as pipe:
     while True:
         pipe.write(record)
 PYTHON
-    local writer=$!
-    expect 'a capture without end' 4 'cpu 0 frames 127 arrivals 127 end too_large 33554432
-member 0 packets 127 drops 125 freezes 1 blocks 2
-total arrivals 127 filtered 0 kept 2 drops 125' replay conf sched
+    writer=$!
+}
+
+stop_writing() {
     kill "$writer" 2>/dev/null
     wait "$writer" 2>/dev/null
 }
@@ -292,6 +344,7 @@ for program in "${programs[@]}"; do
     saving_and_printing
     sending
     making
+    capturing
     words
 done
 cd "$top" || exit 1

@@ -1,17 +1,18 @@
-/* Loaded before a program, refuses its request for memory of the number in REFUSED, counted from 1, and tells in
-   the file named by TOLD when it did. */
+/* Loaded before a program, refuses its request for memory of the number in REFUSED, counted from 1 over all its threads, and tells
+   in the file named by TOLD when it did. */
 #define _GNU_SOURCE
 #include <dlfcn.h>
 #include <fcntl.h>
+#include <stdatomic.h>
 #include <stdlib.h>
 #include <unistd.h>
 
-static long requests;
+static atomic_long requests;
 
 static int refused(void)
 {
     const char *number = getenv("REFUSED");
-    if (number == NULL || ++requests != atol(number))
+    if (number == NULL || atomic_fetch_add(&requests, 1) + 1 != atol(number))
         return 0;
     int told = open(getenv("TOLD"), O_WRONLY | O_CREAT, 0644);
     if (told >= 0)

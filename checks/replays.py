@@ -302,8 +302,9 @@ def worked_out(case):
     return by_hand.replay(setup, case.schedule, case.captures, code)
 
 
-def differs(program, case):
-    """What is wrong with a run in the present folder, if something is. No more files are there than the command reads."""
+def differs(program, case, seconds=None):
+    """What is wrong with a run in the present folder, if something is. No more files are there than the command reads. A run that
+    takes more than so many seconds ends the check."""
     for old in os.listdir("."):
         os.remove(old)
     inputs = {"conf": case.setup.encode()}
@@ -318,7 +319,8 @@ def differs(program, case):
     lines, files = worked_out(case)
     ends = [line.split(" end ")[1] for line in lines.splitlines() if line.startswith("cpu")]
     status = 0 if set(ends) == {"ok"} else 4
-    ran = subprocess.run([program, *words], stdout=subprocess.PIPE, stderr=subprocess.PIPE, check=False)
+    pipe = subprocess.PIPE
+    ran = subprocess.run([program, *words], stdout=pipe, stderr=pipe, check=False, timeout=seconds)
     if ran.returncode != status:
         return f"status {ran.returncode} in place of {status}"
     if ran.stderr:

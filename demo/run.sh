@@ -1,8 +1,8 @@
 #!/bin/sh
 # sh demo/run.sh [NAME]: builds ringtap, runs it on a setup of this folder, and shows what came out.
 # NAME is setup, a replay whose ring keeps every frame; small, one whose ring is too small for them; group, one with two CPUs
-# and three members, a filter and a dump; make, whose frames are made from a number; or send, a capture that is sent through a
-# transmit ring.
+# and three members, a filter and a dump; make, whose frames are made from a number; send, a capture that is sent through a
+# transmit ring; or capture, two CPUs that are fed on threads.
 set -eu
 cd "$(dirname "$0")/.."
 name=${1:-setup}
@@ -23,6 +23,11 @@ send)
     command="send"
     schedule=
     output=lo.tx.pcap
+    ;;
+capture)
+    command="capture"
+    schedule=
+    output=two.0.pcap
     ;;
 esac
 sh demo/build.sh

@@ -1,0 +1,448 @@
+#!/usr/bin/env python3
+"""Runs captures on threads with a program, by `capture`, and tests from outside what holds whichever thread goes first.
+
+    captures.py PROGRAM [RUNS]
+
+What is tested of a run, with by_hand.py for what doesn't hang on the threads (frames, arrivals, verdicts, homes, bytes):
+
+- The status, and the lines of the CPUs, are those of a `replay`, and so are the arrivals and the refused ones in the total.
+- Each frame that passes is in one output at most; what is in none is what the members dropped. Each record has the frame's
+  time, bytes and lengths, and stands in its CPU's order, at a member that the mode allows.
+- A member's packets are those of its output and its drops. It drops and freezes only where all blocks of its ring were retired,
+  and not at all where its ring has room for whatever comes.
+- A dump has blocks with numbers from 1, each with the bytes that its packets give, and these are the packets of the output.
+- Where nothing hangs on the threads, lines and files are those of a replay with an empty schedule.
+
+Runs of by_hand.py with random schedules stand in front: each is an outcome that threads might have, so it has to pass. Then they
+are made wrong in one thing each, and have to be refused.
+"""
+import os
+import random
+import struct
+import subprocess
+import sys
+import tempfile
+import threading
+from collections import namedtuple
+
+import by_hand
+import filter_verdicts
+from replays import FILTERS, KEY, SIZES, datagram, frame, header, record, setup_text
+
+# A run: its setup, the captures of the CPUs from 0 up (None for one that isn't there), and the texts of its filter and moments.
+Case = namedtuple("Case", "setup captures listing moments")
+# A packet of an output or of the frames that pass: its CPU, its number there, its home where the mode fixes it, and its offer.
+Passing = namedtuple("Passing", "cpu index home offer")
+
+LARGE = [(65536, 16, 2048, 512), (8192, 256, 2048, 1024)]
+TIMES = 8  # the seconds of CPU C's frames are C more than a multiple of this
+LIMIT = 60  # the seconds after which a run counts as one that doesn't end
+
+
+class Arriving(by_hand.Replay):
+    """The arrivals of a run, CPU after CPU: the packets that pass, each with its home where that doesn't hang on the threads."""
+
+    def __init__(self, case):
+        self.passing = [[] for _ in case.captures]
+        setup = by_hand.Setup(case.setup)
+        code = filter_verdicts.program(case.listing) if case.listing else None
+        super().__init__(setup, [capture or b"" for capture in case.captures], code)
+        self.ends = ["fault" if capture is None else end for capture, end in zip(case.captures, self.ends)]
+        for cpu, waiting in enumerate(self.waiting):
+            while waiting:
+                self.feed(cpu)
+
+    def deliver(self, cpu, offer, home):
+        mode, cpus = self.setup.mode, len(self.passing)
+        fixed = home if mode in ("hash", "cpu", "qm") or mode == "lb" and cpus == 1 else None
+        self.passing[cpu].append(Passing(cpu, len(self.passing[cpu]), fixed, offer))
+
+    def rolls_over(self):
+        return self.setup.mode == "rollover" or "rollover" in self.setup.flags
+
+    def all(self):
+        return [packet for passing in self.passing for packet in passing]
+
+    def cpu_lines(self):
+        for cpu, verdicts in enumerate(self.verdicts):
+            yield f"cpu {cpu} frames {len(self.frames[cpu])} arrivals {len(verdicts)} end {self.ends[cpu]}"
+
+    def status(self):
+        return 5 if "fault" in self.ends else 4 if set(self.ends) != {"ok"} else 0
+
+
+Numbers = namedtuple("Numbers", "packets drops freezes blocks")
+
+
+def numbers_of(lines, run):
+    """The members' numbers, where the lines are of the right form."""
+    cpus, members = len(run.passing), run.setup.members
+    found, words = lines.split("\n"), []
+    if found[:cpus] != list(run.cpu_lines()) or len(found) != cpus + members + 2 or found[-1]:
+        return None
+    for member, line in enumerate(found[cpus:-2]):
+        values = line.split(" ")
+        if values[:2] != ["member", str(member)] or values[2::2] != ["packets", "drops", "freezes", "blocks"]:
+            return None
+        words.append(Numbers(*map(int, values[3::2])))
+    verdicts = [verdict for cpu in run.verdicts for verdict in cpu]
+    drops = sum(member.drops for member in words)
+    kept = sum(member.packets for member in words) - drops
+    total = f"total arrivals {len(verdicts)} filtered {verdicts.count(0)} kept {kept} drops {drops}"
+    return words if found[-2] == total and kept + drops == len(run.all()) else None
+
+
+def key_of(sec, nsec):
+    """What tells a frame of a run from all others: its CPU and its number there."""
+    return sec % TIMES, nsec // 1000
+
+
+def record_of(packet):
+    """The record of an output that holds a packet."""
+    return by_hand.output_of([packet.offer.frame._replace(bytes=packet.offer.frame.bytes[: packet.offer.snap])])[24:]
+
+
+def output_packets(data, known):
+    """The packets of an output, in order, or None where it isn't one of known packets."""
+    if data[:24] != by_hand.output_of([]):
+        return None
+    packets, place = [], 24
+    while place < len(data):
+        if place + 16 > len(data):
+            return None
+        sec, nsec, size, _ = struct.unpack("<IIII", data[place : place + 16])
+        packet = known.get(key_of(sec, nsec))
+        if packet is None or data[place : place + 16 + size] != record_of(packet):
+            return None
+        packets.append(packet)
+        place += 16 + size
+    return packets
+
+
+def output_faults(run, outputs):
+    """What is wrong with the packets of the outputs: twice, out of order, or at a member that the mode doesn't allow."""
+    seen = set()
+    for member, packets in enumerate(outputs):
+        last = {}
+        for packet in packets:
+            name = packet.cpu, packet.index
+            if name in seen:
+                yield f"packet {name} is there twice"
+            if last.get(packet.cpu, -1) >= packet.index:
+                yield f"packet {name} stands behind a later one at member {member}"
+            if not run.rolls_over() and packet.home not in (None, member):
+                yield f"packet {name} of member {packet.home} is at member {member}"
+            seen.add(name)
+            last[packet.cpu] = packet.index
+
+
+def dropped_homes(run, outputs):
+    """The home of each packet that is in no output, None where it hangs on the threads. In mode rollover it is the member that kept
+    the packet of its CPU before it, at first 0."""
+    holders = {(packet.cpu, packet.index): member for member, packets in enumerate(outputs) for packet in packets}
+    for passing in run.passing:
+        present = 0
+        for packet in passing:
+            holder = holders.get((packet.cpu, packet.index))
+            if holder is not None:
+                present = holder
+            else:
+                yield present if run.setup.mode == "rollover" else packet.home
+
+
+def count_faults(run, outputs, numbers, moments):
+    """What is wrong with the members' numbers."""
+    homes = list(dropped_homes(run, outputs))
+    if len(homes) != sum(member.drops for member in numbers):
+        yield f"{len(homes)} packets are in no output"
+    for member, (packets, found) in enumerate(zip(outputs, numbers)):
+        if found.packets != len(packets) + found.drops:
+            yield f"member {member} has {len(packets)} packets in its output"
+        if None not in homes and homes.count(member) != found.drops:
+            yield f"{homes.count(member)} packets of member {member} are in no output"
+        if found.drops and (not found.freezes or found.blocks < run.setup.block_nr):
+            yield f"member {member} drops while its ring has room"
+        if found.freezes > found.blocks or found.freezes and not found.drops and not moments:
+            yield f"member {member} freezes without a drop"
+        if holds_all(run, member, moments) and (found.drops or found.freezes):
+            yield f"member {member} drops though its ring has room for all"
+
+
+def lb_faults(run, numbers):
+    """What is wrong with the packets of members that the arrivals of all CPUs are dealt out to."""
+    arrivals = sum(map(len, run.verdicts))
+    if run.setup.mode != "lb" or run.rolls_over():
+        return
+    for member, found in enumerate(numbers):
+        share = len(range(member, arrivals, run.setup.members))
+        if found.packets > share or not run.program and found.packets != share:
+            yield f"member {member} has {found.packets} of the {share} tickets that are its own"
+
+
+def holds_all(run, member, moments):
+    """Whether a member's ring has room for all packets that may come to it, with no block ever given back: two blocks, one after the
+    other, hold more than one block has room for, and each moment may close one early."""
+    fixed = not run.rolls_over()
+    mine = [p for p in run.all() if not fixed or p.home in (None, member)]
+    needs = sum(by_hand.need_of(packet.offer.snap) for packet in mine)
+    return min(len(mine), 2 * needs // run.setup.room + 1) + len(moments) + 1 <= run.setup.block_nr
+
+
+def plain_ring(run, packets):
+    """A ring that kept these packets and never lacked a block."""
+    ring = by_hand.Ring(run.setup)
+    ring.count = len(packets) + 2
+    for packet in packets:
+        ring.put(packet.offer)
+    ring.close()
+    return ring
+
+
+def block_faults(run, packets, found, moments, dump):
+    """What is wrong with the blocks of a member, and with its dump, if there is one."""
+    if not moments and not found.drops and found.blocks != len(plain_ring(run, packets).done):
+        yield f"{found.blocks} blocks"
+    if dump is None:
+        return
+    ring, place, left, lost = plain_ring(run, []), 0, list(packets), False
+    while place < len(dump):
+        if place + 48 > len(dump) or len(ring.done) == found.blocks:
+            yield f"no block at {place}"
+            return
+        status, count = struct.unpack("<II", dump[place + 8 : place + 16])
+        offers, left = [packet.offer for packet in left[:count]], left[count:]
+        may = {1, 5} if not moments else {1, 5, 33, 37}
+        if status not in may or lost and not status & 4 or not 0 < count == len(offers):
+            yield f"block {len(ring.done) + 1} has status {status} and {count} packets"
+            return
+        ring.done.append((status, offers))
+        text, lost = ring.text(len(ring.done), status, offers), bool(status & 4)
+        if len(text) > run.setup.block_size or dump[place : place + len(text)] != text:
+            yield f"block {len(ring.done)} has other bytes"
+            return
+        place += len(text)
+    if left or len(ring.done) != found.blocks or lost and not found.drops:
+        yield f"{len(ring.done)} blocks of {found.blocks}, and {len(left)} packets in none"
+
+
+def is_fixed(run, moments):
+    """Whether nothing of a run hangs on the threads: each ring has room for all, and has the packets of one CPU."""
+    fixed = not run.rolls_over() and run.setup.mode in ("hash", "cpu", "qm")
+    owners = [{p.cpu for p in run.all() if p.home == member} for member in range(run.setup.members)]
+    alone = len(run.passing) == 1 or fixed and all(len(cpus) < 2 for cpus in owners)
+    return alone and not moments and all(holds_all(run, member, moments) for member in range(run.setup.members))
+
+
+def faults(case, lines, files, status):
+    """What is wrong with a run: its status, its lines and the files that it saved."""
+    run = Arriving(case)
+    if status != run.status():
+        yield f"status {status} in place of {run.status()}"
+        return
+    setup, numbers = run.setup, numbers_of(lines, run)
+    names = [f"{setup.prefix}.{member}.pcap" for member in range(setup.members)]
+    dumps = [f"{setup.prefix}.{member}.blk" for member in range(setup.members)] if setup.dump else []
+    if numbers is None or sorted(files) != sorted(names + dumps):
+        yield f"printed {lines!r}, with the files {sorted(files)}"
+        return
+    known = {key_of(p.offer.frame.sec, p.offer.frame.nsec): p for p in run.all()}
+    outputs = [output_packets(files[name], known) for name in names]
+    if None in outputs:
+        yield f"{names[outputs.index(None)]} has a record that is no packet of the run"
+        return
+    yield from output_faults(run, outputs)
+    yield from count_faults(run, outputs, numbers, case.moments)
+    yield from lb_faults(run, numbers)
+    for member, (packets, found) in enumerate(zip(outputs, numbers)):
+        dump = files[dumps[member]] if dumps else None
+        for why in block_faults(run, packets, found, case.moments, dump):
+            yield f"member {member}: {why}"
+    if is_fixed(run, case.moments) and run.status() < 5:
+        if (lines, files) != by_hand.replay(setup, "", case.captures, run.program):
+            yield "it isn't what a replay gives, though nothing hangs on the threads"
+
+
+def capture_of(numbers, cpu, most):
+    """A capture whose frames are told apart by their times."""
+    frames, step, size = [], numbers.choice([0, 0, 1, 4]), numbers.randrange(most)
+    while len(frames) < size:
+        if numbers.random() < 0.6:
+            frames += datagram(numbers)
+        else:
+            kind = numbers.choice([b"\x08\x06", b"\x86\xdd", b"\x81\x00\x00\x01\x08\x00", b"\x88\xa8\x00\x01\x08\x00"])
+            frames.append(frame(numbers.choice([13, 14, 18, 60, 590, 1514, 5000]), kind, numbers.randrange(256)))
+    data = header() + b"".join(
+        record(data, sec=TIMES * step * at + cpu, fraction=at) for at, data in enumerate(frames)
+    )
+    return data[: numbers.randrange(len(data))] if numbers.random() < 0.05 else data
+
+
+def random_case(numbers):
+    """A setup of up to eight CPUs and members, with its captures, filter and moments."""
+    cpus, members = numbers.choice([1, 1, 2, 2, 3, 4, 8]), numbers.choice([1, 1, 2, 3, 4, 8])
+    text = setup_text(numbers.choice([*SIZES, *LARGE]), cpus)
+    mode = numbers.choice(["hash", "lb", "cpu", "rollover", "qm"])
+    text += f"members {members}\nmode {mode}\nkey {KEY}\n"
+    for line in ("dump yes", "flag defrag", "features 1", "priv 13", "tov 5", "mac 020000000002"):
+        if numbers.random() < 0.5:
+            text += line + "\n"
+    if mode != "rollover" and numbers.random() < 0.4:
+        text += "flag rollover\n"
+    listing = numbers.choice([None, None, *FILTERS])
+    if listing:
+        text += "filter filter.ddd\n"
+    moments = numbers.choice([[], sorted(numbers.randrange(200) for _ in range(numbers.randrange(20)))])
+    if moments:
+        text += "ticks ticks.txt\n"
+    most = numbers.choice([3, 40, 200])
+    captures = [capture_of(numbers, cpu, most) for cpu in range(cpus)]
+    if numbers.random() < 0.05:
+        captures[numbers.randrange(cpus)] = None
+    return Case(text, captures, listing, moments)
+
+
+def sum_cases():
+    """The largest made frames, written to two captures, for four members: 20,000 packets in all, kept or dropped."""
+    frames = list(by_hand.made_frames(1, 20_000))
+    head = struct.pack("<IHHiIII", 0xA1B23C4D, 2, 4, 0, 0, 65535, 1)
+    captures = []
+    for cpu in range(2):
+        data = [frame.bytes for frame in frames[cpu::2]]
+        times = ((TIMES * (at // 1000) + cpu, 1000 * at) for at in range(len(data)))
+        captures.append(head + b"".join(record(one, sec=s, fraction=n) for one, (s, n) in zip(data, times)))
+    group = f"priv 16\nmembers 4\nmode hash\nkey {KEY}\nflag defrag\n"
+    for size in ((65536, 64, 2048, 2048), (65536, 4, 2048, 128)):
+        yield Case(setup_text(size, 2) + group, captures, None, [])
+
+
+def inputs_of(case):
+    """The files that a run reads."""
+    inputs = {"conf": case.setup.encode()}
+    inputs.update((f"in{cpu}.pcap", data) for cpu, data in enumerate(case.captures) if data is not None)
+    if case.listing:
+        inputs["filter.ddd"] = case.listing.encode()
+    if case.moments:
+        inputs["ticks.txt"] = "".join(f"{ms}\n" for ms in case.moments).encode()
+    return inputs
+
+
+def pour(name, data, numbers):
+    """Writes a capture into a pipe, a piece at a time, as long as somebody reads it."""
+    try:
+        with open(name, "wb", buffering=0) as pipe:
+            while data:
+                data = data[pipe.write(data[: numbers.choice([1, 40, 1000, 65536])]) :]
+    except BrokenPipeError:
+        pass
+
+
+def make_pipes(inputs, numbers):
+    """Makes pipes of the captures, which threads of their own write to."""
+    for name in [name for name in inputs if name.endswith(".pcap")]:
+        os.remove(name)
+        os.mkfifo(name)
+        threading.Thread(target=pour, args=(name, inputs[name], numbers), daemon=True).start()
+
+
+def run_of(program, case, numbers):
+    """What a run in the present folder gives: lines, files and status; or what is wrong with how it ends. Some have one processor,
+    and some read their captures from pipes."""
+    for old in os.listdir("."):
+        os.remove(old)
+    inputs = inputs_of(case)
+    by_hand.save(".", inputs)
+    words, chance = [program, "capture", "conf"], numbers.random()
+    if chance < 0.2:
+        make_pipes(inputs, random.Random(numbers.random()))
+    one = chance > 0.8 and hasattr(os, "sched_setaffinity")
+    limit = (lambda: os.sched_setaffinity(0, [min(os.sched_getaffinity(0))])) if one else None
+    try:
+        ran = subprocess.run(words, capture_output=True, check=False, timeout=LIMIT, preexec_fn=limit)
+    except subprocess.TimeoutExpired:
+        return None, f"it doesn't end within {LIMIT} seconds"
+    if ran.stderr:
+        return None, f"standard error: {ran.stderr!r}"
+    files = {name: by_hand.bytes_of(name) for name in os.listdir(".") if name not in inputs}
+    return (ran.stdout.decode(errors="replace"), files, ran.returncode), None
+
+
+def some_outcome(case, numbers):
+    """An outcome that threads might have: that of a replay with some schedule, with the moments among its lines."""
+    cpus, members = len(case.captures), by_hand.Setup(case.setup).members
+    lines = [f"feed {numbers.randrange(cpus)}\n" for _ in range(sum(map(len, case.captures)) // 200)]
+    reads = numbers.choice([0, 0.2, 1])
+    lines += [f"read {numbers.randrange(members)}\n" for _ in range(int(reads * len(lines)))]
+    numbers.shuffle(lines)
+    places = sorted(numbers.randrange(len(lines) + 1) for _ in case.moments)
+    for back, (place, ms) in enumerate(zip(places, case.moments)):
+        lines.insert(place + back, f"tick {ms}\n")
+    code = filter_verdicts.program(case.listing) if case.listing else None
+    return by_hand.replay(by_hand.Setup(case.setup), "".join(lines), case.captures, code)
+
+
+def made_wrong(case, lines, files):
+    """The outcome, wrong in one thing each."""
+    name, other = "out.0.pcap", "out.1.pcap"
+    data = files[name]
+    size = 16 + struct.unpack("<I", data[32:36])[0]
+    first, rest = data[24 : 24 + size], data[24 + size :]
+    yield "status", lines, files, 4
+    yield "a record lost", lines, {**files, name: data[:24] + rest}, 0
+    yield "a record twice", lines, {**files, name: data + first}, 0
+    yield "a record behind the others", lines, {**files, name: data[:24] + rest + first}, 0
+    yield "another byte", lines, {**files, name: data[:-1] + bytes([data[-1] ^ 1])}, 0
+    yield "another length", lines, {**files, name: data[:36] + bytes([data[36] ^ 1]) + data[37:]}, 0
+    yield "a record at another member", lines, {**files, name: data[:24] + rest, other: files[other] + first}, 0
+    yield "a dump less its last block", lines, {**files, "out.0.blk": files["out.0.blk"][:-48]}, 0
+    yield "a status of a block", lines, {**files, "out.0.blk": files["out.0.blk"][:8] + b"\x21" + files["out.0.blk"][9:]}, 0
+    yield "the dumps exchanged", lines, {**files, "out.0.blk": files["out.1.blk"], "out.1.blk": files["out.0.blk"]}, 0
+    yield "no dump", lines, {key: value for key, value in files.items() if key != "out.1.blk"}, 0
+    yield "a drop more", lines.replace(" drops 0", " drops 1", 1), files, 0
+    yield "a freeze more", lines.replace(" freezes 0", " freezes 1", 1), files, 0
+    yield "a block less", lines.replace(" blocks ", " blocks 1", 1), files, 0
+    yield "another end", lines.replace("end ok", "end fault", 1), files, 0
+    yield "another total", lines.replace("filtered 0", "filtered 1"), files, 0
+    yield "a line more", lines + "\n", files, 0
+
+
+def tests_differ():
+    """How many outcomes of by_hand.py are refused, and how many that were made wrong aren't."""
+    numbers, wrong = random.Random(5), 0
+    for _ in range(60):
+        case = random_case(numbers)
+        if None in case.captures:
+            continue
+        lines, files = some_outcome(case, numbers)
+        for why in faults(case, lines, files, Arriving(case).status()):
+            wrong += 1
+            print(f"an outcome of by_hand.py is refused: {why}; setup {case.setup!r}")
+    text = setup_text(SIZES[0], 2) + "members 2\nmode cpu\ndump yes\n"
+    data = [header() + b"".join(record(frame(60, fill=at), sec=cpu, fraction=at) for at in range(9)) for cpu in range(2)]
+    case = Case(text, data, None, [])
+    lines, files = by_hand.replay(by_hand.Setup(text), "", data)
+    for what, *outcome in made_wrong(case, lines, files):
+        if not list(faults(case, *outcome)):
+            wrong += 1
+            print(f"a wrong outcome passes: {what}")
+    return wrong
+
+
+def main():
+    program, runs = os.path.abspath(sys.argv[1]), int(sys.argv[2]) if len(sys.argv) > 2 else 300
+    numbers, wrong, count = random.Random(4), tests_differ(), 0
+    with tempfile.TemporaryDirectory() as room:
+        os.chdir(room)
+        for count, case in enumerate([*sum_cases(), *(random_case(numbers) for _ in range(runs))], 1):
+            outcome, why = run_of(program, case, numbers)
+            found = list(faults(case, *outcome)) if outcome else [why]
+            if found:
+                wrong += 1
+                sizes = [capture and len(capture) for capture in case.captures]
+                print(f"run {count}, setup {case.setup!r}, captures of {sizes} bytes: {'; '.join(found[:3])}")
+        os.chdir("/")
+    print(f"captures.py: {count} runs on threads, {wrong} of them wrong")
+    sys.exit(1 if wrong else 0)
+
+
+if __name__ == "__main__":
+    main()
