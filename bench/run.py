@@ -1,7 +1,7 @@
 #!/usr/bin/env python3
 """Times `ringtap replay` on captures of 4 to 32 MiB, beside `tcpdump -r IN -w OUT` of the same file in the same run; then
 groups of several members and CPUs, with a filter, and with reassembly; then `ringtap make` and `ringtap send`; then `ringtap capture`
-beside `replay` of the same captures.
+beside `replay` of the same captures, and `ringtap forward` beside `capture`.
 
     bench/run.py [--sizes 4,8,16,32] [--runs 5] [--beside OTHER | --threads] [PROGRAM]
 
@@ -9,7 +9,7 @@ PROGRAM is crates/ringtap/out/ringtap where none is named; it is built where it 
 bytes, of 1514 bytes, or of 60, 590 and 1514 bytes by turns. Each is replayed with a ring that keeps every frame and with one
 that drops. Those of 60 and of 1514 bytes are sent through a ring of 2048 slots. Files are written below bench/work. With
 --beside the replays alone are run, by turns with those of another program, as an earlier one; both must print the same. With
---threads the captures on threads alone are run.
+--threads the captures on threads and the forwards alone are run.
 
 The captures on threads have 1, 2, 4 and 8 CPUs with 4 MiB each. Of each row all times are taken by turns with a replay whose schedule is
 empty; the least and the middle one are printed, since with threads they lie apart, and the fewest and the most drops. Only rings that
@@ -264,6 +264,7 @@ def main():
         return
     if asked.threads:
         too_much = times_of_threads(program, asked)
+        times_of_forwards(program, asked)
         shutil.rmtree(WORK)
         sys.exit(1 if too_much else 0)
     dump = shutil.which("tcpdump")
@@ -292,6 +293,7 @@ def main():
     found.update(times_of_made(program, asked))
     found.update(times_of_sent(program, asked))
     too_much = times_of_threads(program, asked)
+    times_of_forwards(program, asked)
     times_of_plain(program, asked)
     is_large = memory_of_refused(program, asked)
     shutil.rmtree(WORK)
@@ -410,6 +412,8 @@ SHARED = {
     "a member each": lambda cpus: f"members {cpus}\nmode cpu\n",
 }
 MOST_CPU = 2.5
+# The words of each command that runs the captures of a setup.
+COMMANDS = {"replay": ["replay", "conf", "sched"], "capture": ["capture", "conf"], "forward": ["forward", "conf"]}
 
 
 def one_run(words):
@@ -418,19 +422,19 @@ def one_run(words):
     return taken, cpu, printed
 
 
-def times_of_row(program, count, ring, asked):
-    """Of the setup that is there, run by turns as a replay and on threads: the times and CPU times of each, and the drops on threads."""
-    times, drops = {"replay": [], "capture": []}, []
+def times_of_row(program, count, ring, asked, first, second):
+    """Of the setup that is there, run by turns by two commands: the times and CPU times of each, and the drops of the second."""
+    times, drops = {first: [], second: []}, []
     for _ in range(asked.runs):
-        for command, words in (("replay", ["replay", "conf", "sched"]), ("capture", ["capture", "conf"])):
-            taken, cpu, printed = one_run([program, *words])
+        for command in (first, second):
+            taken, cpu, printed = one_run([program, *COMMANDS[command]])
             kept, lost = total_of(printed)
             if kept + lost != count or lost and ring == "keeps":
                 sys.exit(f"{command}: {count} frames, {kept} kept, {lost} dropped")
             times[command].append((taken, cpu))
-            if command == "capture":
+            if command == second:
                 drops.append(lost)
-    return times["replay"], times["capture"], drops
+    return times[first], times[second], drops
 
 
 def times_of_threads(program, asked):
@@ -447,7 +451,7 @@ def times_of_threads(program, asked):
         for ring, (group, of) in ((ring, item) for ring in RINGS for item in SHARED.items()):
             for cpus in (1, 2, 4, 8):
                 write_setup("conf", RINGS[ring], cpus, of(cpus))
-                old, new, drops = times_of_row(program, each * cpus, ring, asked)
+                old, new, drops = times_of_row(program, each * cpus, ring, asked, "replay", "capture")
                 (least, cpu), (least_new, cpu_new) = (map(min, zip(*times)) for times in (old, new))
                 middle, middle_new = (statistics.median(taken for taken, _ in times) for times in (old, new))
                 too_much = too_much or ring == "keeps" and group == "a member each" and cpu_new > MOST_CPU * cpu
@@ -458,6 +462,25 @@ def times_of_threads(program, asked):
                     flush=True,
                 )
     return too_much
+
+
+def times_of_forwards(program, asked):
+    """Prints the table of captures whose readers send, beside those whose readers keep; each ring keeps all frames."""
+    print("\n| Frames of | CPUs | Frames | Capture, s | middle | CPU | Forward, s | middle | CPU | Times | CPU times |")
+    print("|---|---|---|---|---|---|---|---|---|---|---|")
+    makers = {"60": lambda: make_small_flows("in.pcap", 4 * MIB), "1042": lambda: make_flows("in.pcap", 4 * MIB, "hash")}
+    for kind, maker in makers.items():
+        each = maker()
+        for cpus in (1, 2, 4):
+            write_setup("conf", RINGS["keeps"], cpus, SHARED["a member each"](cpus))
+            old, new, _ = times_of_row(program, each * cpus, "keeps", asked, "capture", "forward")
+            (least, cpu), (least_new, cpu_new) = (map(min, zip(*times)) for times in (old, new))
+            middle, middle_new = (statistics.median(taken for taken, _ in times) for times in (old, new))
+            print(
+                f"| {kind} | {cpus} | {each * cpus:,} | {least:.3f} | {middle:.3f} | {cpu:.3f} | {least_new:.3f} | {middle_new:.3f}"
+                f" | {cpu_new:.3f} | {middle_new / middle:.2f} | {cpu_new / cpu:.2f} |",
+                flush=True,
+            )
 
 
 def grows(found):

@@ -11,8 +11,8 @@
 Nothing of a run on threads hangs on them where it tells no moment, and each ring has the packets of one CPU and room for all of
 them: it then gives what a replay with an empty schedule gives. captures.py tests all others.
 
-It follows docs/formats.md, docs/setup.md and docs/definitions.md with lists and slices, for texts that are accepted. Paths
-in a setup count from the folder in which this is run, as they do for ringtap.
+It follows docs/reference.md and the definitions of the crates' specs/ with lists and slices, for texts that are accepted.
+Paths in a setup count from the folder in which this is run, as they do for ringtap.
 """
 import os
 import struct

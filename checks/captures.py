@@ -344,14 +344,14 @@ def make_pipes(inputs, numbers):
         threading.Thread(target=pour, args=(name, inputs[name], numbers), daemon=True).start()
 
 
-def run_of(program, case, numbers):
+def run_of(program, case, numbers, command="capture"):
     """What a run in the present folder gives: lines, files and status; or what is wrong with how it ends. Some have one processor,
     and some read their captures from pipes."""
     for old in os.listdir("."):
         os.remove(old)
     inputs = inputs_of(case)
     by_hand.save(".", inputs)
-    words, chance = [program, "capture", "conf"], numbers.random()
+    words, chance = [program, command, "conf"], numbers.random()
     if chance < 0.2:
         make_pipes(inputs, random.Random(numbers.random()))
     one = chance > 0.8 and hasattr(os, "sched_setaffinity")

@@ -7,6 +7,7 @@ wants python3
 find_programs
 for program in "${programs[@]}"; do
     python3 -B checks/captures.py "$program" || wrong "$program gives what no run on threads gives"
+    python3 -B checks/forwards.py "$program" || wrong "$program sends what no run on threads sends"
     python3 -B checks/no_threads.py "$program" || wrong "$program doesn't run without threads"
 done
 exit "$failed"

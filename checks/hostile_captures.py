@@ -4,12 +4,19 @@ and within a time that the bytes allow.
 
     hostile_captures.py PROGRAM [COUNT]
 
-Each length field of each record is put to its extremes, each header of the file and of a record is cut at each byte, and COUNT
-captures (10,000 if it isn't said) have some bytes changed at random. Each is replayed or sent.
+Each length field of each record is put to its extremes, and each header of the file and of a record is cut at each byte; each of
+these captures is replayed, sent and captured on threads. COUNT captures (10,000 if it isn't said) have some bytes changed at random,
+and are replayed, sent or captured by turns. Then captures of the forms that ask most of each byte (records without a byte,
+fragments that are never put together, and others) are replayed and sent at one size and at twice that size: the processor's time for
+the second is at most GROWTH times that for the first. On threads they have to end.
+
+A run on threads has a ring that holds everything, with the frames of one CPU for each member, so it gives what a replay gives.
 """
+import multiprocessing
 import os
 import random
 import struct
+import subprocess
 import sys
 import tempfile
 
@@ -21,6 +28,15 @@ EXTREMES = [0, 1, 13, 14, 17, 18, 262_143, 262_144, 262_145, 2**31 - 1, 2**31, 2
 
 # The time that a run may take: its captures have less than 10,000 bytes, of which it needs milliseconds.
 SECONDS = 20
+
+COMMANDS = ["replay", "send", "capture"]
+
+# A ring that holds all frames of a capture of less than 10,000 bytes.
+ROOMY = (65536, 16, 2048, 512)
+
+# The larger of the two sizes whose times are compared; the most that the time may grow by, where it is more than some seconds; and how
+# often each is run. A thread that waits takes time too, so of a run on threads only the end is tested, within so many seconds.
+LARGE, GROWTH, LEAST, RUNS, ENDS = 16_777_216, 3, 0.3, 2, 120
 
 
 def base(order):
@@ -79,33 +95,154 @@ def changed(count):
         yield bytes(capture)
 
 
+def case_of(command, capture, numbers):
+    """A run of a command over a capture, with a setup that is drawn."""
+    if command == "send":
+        text = setup_text(numbers.choice(SIZES)) + numbers.choice(["", "skip_bad yes\n"])
+        return Case("send", text, captures=[capture])
+    if command == "replay":
+        flags = numbers.choice(["", "members 2\nflag rollover\n", "flag defrag\n", "dump yes\n"])
+        return Case("replay", setup_text(numbers.choice(SIZES)) + flags, "feed 0\nread 0\n", [capture])
+    cpus = numbers.choice([1, 1, 2])
+    flags = f"members {cpus}\n" + numbers.choice(["", "flag defrag\n", "dump yes\n"])
+    return Case("capture", setup_text(ROOMY, cpus) + flags, captures=[capture, base("<")][:cpus])
+
+
 def cases(count):
     numbers = random.Random(5)
-    for capture in [*extremes(), *cuts(), *changed(count)]:
-        size = numbers.choice(SIZES)
-        if numbers.randrange(3):
-            flags = numbers.choice(["", "members 2\nflag rollover\n", "flag defrag\n", "dump yes\n"])
-            yield Case("replay", setup_text(size) + flags, "feed 0\nread 0\n", [capture])
-        else:
-            yield Case("send", setup_text(size) + numbers.choice(["", "skip_bad yes\n"]), captures=[capture])
+    for capture in [*extremes(), *cuts()]:
+        for command in COMMANDS:
+            yield case_of(command, capture, numbers)
+    for at, capture in enumerate(changed(count)):
+        yield case_of(COMMANDS[at % 3], capture, numbers)
+
+
+def run_share(program, share, number):
+    """Runs the cases whose number leaves this rest, in a folder of its own: how many, how their first captures end, and what is wrong."""
+    runs, ends, wrong = 0, {}, []
+    with tempfile.TemporaryDirectory() as room:
+        os.chdir(room)
+        for case in share[number::WORKERS]:
+            why = replays.differs(program, case, SECONDS)
+            end = by_hand.frames_of(case.captures[0])[1].split()[0]
+            ends[end] = ends.get(end, 0) + 1
+            runs += 1
+            if why:
+                wrong.append(f"{case.command}, setup {case.setup!r}, capture {case.captures[0].hex()}: {why}")
+        os.chdir("/")
+    return runs, ends, wrong
+
+
+WORKERS = min(4, os.cpu_count() or 1)
+
+
+def run_all(program, count):
+    """Runs all cases, and says how many are wrong."""
+    share = list(cases(count))
+    with multiprocessing.Pool(WORKERS) as pool:
+        answers = pool.starmap(run_share, [(program, share, number) for number in range(WORKERS)])
+    ends = {}
+    for _, shares, wrong in answers:
+        for end, number in shares.items():
+            ends[end] = ends.get(end, 0) + number
+        for line in wrong:
+            print(line)
+    wrong = sum(len(lines) for _, _, lines in answers)
+    told = ", ".join(f"{number} {end}" for end, number in sorted(ends.items()))
+    print(f"hostile_captures.py: {sum(runs for runs, _, _ in answers)} runs ({told}), {wrong} of them wrong")
+    return wrong
+
+
+def fragment(ident, offset, more, data):
+    """A fragment of an IPv4 datagram: its offset in units of eight bytes, and whether more follow."""
+    head = struct.pack(">BBHHHBBH", 0x45, 0, 20 + len(data), ident % 65536, offset + 0x2000 * more, 64, 17, 0)
+    return frame(14) + head + bytes.fromhex("0a0000010a000002") + data
+
+
+# The forms that ask most of each byte of a capture: the frame of a number, and the lines of the setup.
+FORMS = {
+    "records without a byte": (lambda at: b"", ""),
+    "runts": (lambda at: frame(13), ""),
+    "frames of 14 bytes for members that are full": (lambda at: frame(14), "members 8\nmode rollover\n"),
+    "tagged frames": (lambda at: frame(18, b"\x81\x00\x00\x64\x08\x00"), "members 8\nmode lb\nflag rollover\n"),
+    "fragments of datagrams that never end": (lambda at: fragment(at, 1, True, bytes(8)), "flag defrag\n"),
+    "fragments that overlap": (lambda at: fragment(at // 3, at % 3, True, bytes(16)), "flag defrag\n"),
+    "datagrams of 500 fragments of which the first is lost": (
+        lambda at: fragment(at // 500, 1 + at % 500, at % 500 < 499, bytes(8)), "flag defrag\n"
+    ),
+}
+
+
+def write_form(data_of):
+    """Writes a capture of at most LARGE bytes, and one of the records in its first half."""
+    parts, place, half, at = [header()], 24, 0, 0
+    while True:
+        parts.append(record(data_of(at), fraction=at % 1_000_000))
+        if place + len(parts[-1]) > LARGE:
+            break
+        place, at = place + len(parts[-1]), at + 1
+        if place <= LARGE // 2:
+            half = place
+    whole = b"".join(parts[:-1])
+    by_hand.save(".", {"half.pcap": whole[:half], "whole.pcap": whole})
+
+
+def processor_time(words):
+    """The seconds that a run takes of the processor, and its status."""
+    child = os.posix_spawn(words[0], words, os.environ, file_actions=[(os.POSIX_SPAWN_OPEN, 1, os.devnull, os.O_WRONLY, 0)])
+    _, status, usage = os.wait4(child, 0)
+    return usage.ru_utime + usage.ru_stime, os.waitstatus_to_exitcode(status)
+
+
+def write_texts(capture, lines):
+    text = setup_text(SIZES[0]).replace("in0.pcap", capture) + lines
+    by_hand.save(".", {"conf": text.encode(), "sched": b""})
+
+
+def grows(program, command, name, lines):
+    """What is wrong with the times of a form, if something is."""
+    times = []
+    for capture in ("half.pcap", "whole.pcap"):
+        write_texts(capture, lines)
+        words = [program, command, "conf"] + ["sched"] * (command == "replay")
+        found = [processor_time(words) for _ in range(RUNS)]
+        if {status for _, status in found} != {0}:
+            return f"{name}, {command}: statuses {[status for _, status in found]}"
+        times.append(min(seconds for seconds, _ in found))
+    print(f"hostile_captures.py: {name}, {command}: {times[0]:.2f} s of {LARGE >> 21} MiB, {times[1]:.2f} s of {LARGE >> 20}", flush=True)
+    if times[1] > max(GROWTH * times[0], LEAST):
+        return f"{name}, {command}: the time grows by {times[1] / times[0]:.1f}"
+    return None
+
+
+def ends_on_threads(program, name, lines):
+    """What is wrong with a form on threads, if something is."""
+    write_texts("whole.pcap", lines)
+    status = subprocess.run([program, "capture", "conf"], stdout=subprocess.DEVNULL, check=False, timeout=ENDS).returncode
+    return f"{name}, capture: status {status}" if status else None
+
+
+def growing(program):
+    """How many forms take a time that grows faster than their bytes."""
+    wrong = 0
+    with tempfile.TemporaryDirectory() as room:
+        os.chdir(room)
+        for name, (data_of, lines) in FORMS.items():
+            write_form(data_of)
+            # A `send` reads no line of a group.
+            whys = [grows(program, command, name, lines) for command in ["replay", *["send"] * (not lines)]]
+            for why in [*whys, ends_on_threads(program, name, lines)]:
+                if why:
+                    wrong += 1
+                    print(f"hostile_captures.py: {why}")
+        os.chdir("/")
+    return wrong
 
 
 def main():
     program = os.path.abspath(sys.argv[1])
     count = int(sys.argv[2]) if len(sys.argv) > 2 else 10_000
-    wrong, runs, ends = 0, 0, {}
-    with tempfile.TemporaryDirectory() as room:
-        os.chdir(room)
-        for runs, case in enumerate(cases(count), 1):
-            why = replays.differs(program, case, SECONDS)
-            end = by_hand.frames_of(case.captures[0])[1].split()[0]
-            ends[end] = ends.get(end, 0) + 1
-            if why:
-                wrong += 1
-                print(f"run {runs}, {case.command}, setup {case.setup!r}, capture {case.captures[0].hex()}: {why}")
-        os.chdir("/")
-    told = ", ".join(f"{number} {end}" for end, number in sorted(ends.items()))
-    print(f"hostile_captures.py: {runs} runs ({told}), {wrong} of them wrong")
+    wrong = run_all(program, count) + growing(program)
     sys.exit(1 if wrong else 0)
 
 

@@ -66,7 +66,7 @@ sent() {
     fi
 }
 
-usage='usage: ringtap check|replay|capture|send|make CONF [SCHED]'
+usage='usage: ringtap check|replay|capture|send|make|forward CONF [SCHED]'
 fault='cpu 0 frames 0 arrivals 0 end fault
 member 0 packets 0 drops 0 freezes 0 blocks 0
 total arrivals 0 filtered 0 kept 0 drops 0'
@@ -130,8 +130,9 @@ rights() {
     chmod 000 in.pcap
     expect 'no right to read the capture' 5 "$fault" replay conf sched
     fresh
-    touch out.0.pcap && give out.0.pcap && chmod 444 out.0.pcap
+    echo before >out.0.pcap && give out.0.pcap && chmod 444 out.0.pcap
     expect 'no right to write the output' 6 "$(cat "$room/whole.txt")" replay conf sched
+    [ "$(cat out.0.pcap)" = before ] || wrong 'no right to write the output: it has changed'
     fresh
     chmod 555 .
     expect 'no right to make the output' 6 "$(cat "$room/whole.txt")" replay conf sched
@@ -168,6 +169,170 @@ saving_and_printing() {
         check "$line, standard output closed" 6 $?
         [ "$line" != 'replay conf sched' ] || saved 'standard output closed'
     done
+}
+
+# The file has the first bytes of the demo's output, fewer than all.
+cut_off() {
+    local size
+    size=$(stat -c %s "$2")
+    [ "$size" -lt "$(stat -c %s "$room/whole.pcap")" ] || wrong "$1: $2 is whole"
+    cmp -s -n "$size" "$2" "$room/whole.pcap" || wrong "$1: $2 has other bytes than the first ones of the output"
+}
+
+# Disks that fill up in the middle of a file: by a limit for files, and by a file system of one page.
+filling() {
+    fresh
+    head -c 100000 /dev/zero >out.0.pcap && give out.0.pcap
+    (
+        trap '' XFSZ
+        ulimit -f 1
+        exec timeout 60 "${as_nobody[@]}" "$room/ringtap" replay conf sched >"$said" 2>"$room/complained"
+    )
+    check 'a limit of 1024 bytes for a file' 6 $?
+    cmp -s "$said" "$room/whole.txt" || wrong "a limit for files: printed '$(cat "$said")'"
+    [ "$(stat -c %s out.0.pcap)" -eq 1024 ] || wrong "a limit of 1024 bytes for a file: there are $(stat -c %s out.0.pcap)"
+    cut_off 'a limit for files' out.0.pcap
+    fresh
+    mkdir small
+    if mount -t tmpfs -o size=4k,mode=777 none small 2>/dev/null; then
+        printf 'out small/out\ndump yes\n' >>conf
+        expect 'a small file system' 6 "$(cat "$room/whole.txt")" replay conf sched
+        cut_off 'a small file system' small/out.0.pcap
+        [ ! -s small/out.0.blk ] || wrong 'a small file system: the dump has bytes where nothing was left'
+        umount small
+    else
+        echo "skipped: ${0##*/} can't mount a small file system here"
+    fi
+}
+
+# Of the statuses 6, 5 and 4 the first that applies comes.
+two_faults() {
+    local cut='cpu 0 frames 2 arrivals 2 end truncated 252
+cpu 1 frames 0 arrivals 0 end fault'
+    for command in 'replay conf sched' 'capture conf'; do
+        fresh
+        head -c 300 in.pcap >cut.pcap
+        roomy cut.pcap && printf 'cpu none\nmembers 2\n' >>conf
+        # shellcheck disable=SC2086
+        expect "$command: a cut capture, and one that is not there" 5 - $command
+        [ "$(head -n 2 "$said")" = "$cut" ] || wrong "$command: two faults: printed '$(cat "$said")'"
+        rm out.* && mkdir out.1.pcap
+        # shellcheck disable=SC2086
+        expect "$command: a cut capture, one that is not there, and a folder as an output" 6 - $command
+        [ "$(head -n 2 "$said")" = "$cut" ] || wrong "$command: three faults: printed '$(cat "$said")'"
+        [ -s out.0.pcap ] || wrong "$command: three faults: the other output isn't saved"
+        # shellcheck disable=SC2086
+        timeout 60 "${as_nobody[@]}" "$room/ringtap" $command >/dev/full 2>"$room/complained"
+        check "$command: four faults" 6 $?
+    done
+}
+
+# Outputs that are inputs of the same run: the run is right, and the input is gone.
+links() {
+    local link
+    for link in 'ln -s' ln; do
+        fresh
+        $link in.pcap out.0.pcap
+        expect "an output that is the capture, by $link" 0 "$(cat "$room/whole.txt")" replay conf sched
+        saved "an output that is the capture, by $link"
+        cmp -s in.pcap out.0.pcap || wrong "an output that is the capture, by $link: both stand"
+        fresh
+        $link conf out.0.pcap
+        expect "an output that is the setup, by $link" 0 "$(cat "$room/whole.txt")" replay conf sched
+        saved "an output that is the setup, by $link"
+        fresh
+        $link sched out.0.pcap
+        expect "an output that is the schedule, by $link" 0 "$(cat "$room/whole.txt")" replay conf sched
+        saved "an output that is the schedule, by $link"
+        fresh
+        $link in.pcap out.tx.pcap
+        expect "a sent file that is the capture, by $link" 0 "$whole_send" send conf
+        cmp -s in.pcap out.tx.pcap || wrong "a sent file that is the capture, by $link: both stand"
+        fresh
+        roomy in.pcap
+        $link in.pcap out.0.pcap
+        expect "an output of threads that is the capture, by $link" 0 "$(cat "$top/demo/expected/setup/lines.txt")" capture conf
+        cmp -s in.pcap "$top/demo/expected/setup/out.0.pcap" || wrong "an output of threads that is the capture, by $link: another output"
+    done
+    fresh
+    mv in.pcap out.0.pcap && setup out.0.pcap >conf
+    expect 'an output that has the name of the capture' 0 "$(cat "$room/whole.txt")" replay conf sched
+    saved 'an output that has the name of the capture'
+    keeping_inputs
+}
+
+# demo/keep_inputs.sh refuses such setups, and others not.
+keeping_inputs() {
+    fresh
+    printf 'filter pass\nticks moments\n' >>conf
+    touch pass moments out.0.pcap
+    sh "$top/demo/keep_inputs.sh" conf sched || wrong 'keep_inputs.sh refuses a setup that loses nothing'
+    local input
+    for input in conf sched in.pcap pass moments; do
+        ln -sf "$input" out.3.blk
+        ! sh "$top/demo/keep_inputs.sh" conf sched >"$said" || wrong "keep_inputs.sh lets $input be lost"
+        grep -q "$input" "$said" || wrong "keep_inputs.sh doesn't name $input"
+    done
+    rm out.3.blk
+    printf 'out ./in\n' >>conf
+    mv in.pcap in.0.pcap && setup in.0.pcap >>conf
+    ! sh "$top/demo/keep_inputs.sh" conf >"$said" || wrong 'keep_inputs.sh lets a capture be lost that has the name of an output'
+}
+
+# Names of 255 bytes, the most that a file may have here, and a prefix to which no output's name can be made.
+long_names() {
+    local long
+    long=$(printf '%0255d' 0)
+    fresh
+    mv in.pcap "$long" && setup "$long" >conf
+    expect 'a capture with a name of 255 bytes' 0 "$(cat "$room/whole.txt")" replay conf sched
+    saved 'a capture with a name of 255 bytes'
+    fresh
+    printf 'out %s\n' "${long:7}" >>conf
+    expect 'an output with a name of 255 bytes' 0 "$(cat "$room/whole.txt")" replay conf sched
+    cmp -s "${long:7}.0.pcap" "$room/whole.pcap" || wrong 'an output with a name of 255 bytes: another output'
+    fresh
+    printf 'out %s\n' "$long" >>conf
+    expect 'an output with a name of 262 bytes' 6 "$(cat "$room/whole.txt")" replay conf sched
+    fresh
+    setup "0$long" >conf
+    expect 'a name of 256 bytes in the setup' 2 'setup line 5: bad_number' replay conf sched
+}
+
+# Files that open and then can't be read, and one that is gone.
+unreadable() {
+    fresh
+    expect 'a setup that fails when it is read' 5 'read fault' replay /proc/self/mem sched
+    expect 'a schedule that fails when it is read' 5 'read fault' replay conf /proc/self/mem
+    setup /proc/self/mem >conf
+    expect 'a capture that fails when it is read' 5 "$fault" replay conf sched
+    expect 'a sent capture that fails when it is read' 5 "$failed_send" send conf
+    roomy /proc/self/mem
+    expect 'a capture on threads that fails when it is read' 5 "$fault" capture conf
+    fresh
+    ln -s gone lost && setup lost >conf
+    expect 'a link to a capture that is gone' 5 "$fault" replay conf sched
+}
+
+# Texts and captures that come one byte at a time.
+slow_pipes() {
+    command -v python3 >/dev/null || return
+    fresh
+    mkfifo slow_conf slow_sched slow_in
+    setup slow_in >conf
+    give slow_conf slow_sched slow_in
+    python3 - <<'PYTHON' &
+import os
+for name, source in (("slow_conf", "conf"), ("slow_sched", "sched"), ("slow_in", "in.pcap")):
+    data = open(source, "rb").read()
+    with open(name, "wb", buffering=0) as pipe:
+        for at in range(len(data)):
+            pipe.write(data[at : at + 1])
+PYTHON
+    writer=$!
+    expect 'files that come one byte at a time' 0 "$(cat "$room/whole.txt")" replay slow_conf slow_sched
+    saved 'files that come one byte at a time'
+    stop_writing
 }
 
 sending() {
@@ -308,6 +473,10 @@ member 0 packets 127 drops 125 freezes 1 blocks 2
 total arrivals 127 filtered 0 kept 2 drops 125' replay conf sched
     stop_writing
     keep_writing
+    expect 'a capture without end, sent' 4 'cpu 0 frames 127 end too_large 33554432
+send sent 0 skipped 0 stop 0' send conf
+    stop_writing
+    keep_writing
     expect 'a capture without end on threads' 4 - capture conf
     grep -q '^cpu 0 frames 127 arrivals 127 end too_large 33554432$' "$said" || wrong 'a capture without end on threads: another end'
     stop_writing
@@ -342,6 +511,12 @@ for program in "${programs[@]}"; do
     captures
     [ "$has_rights" = no ] || rights
     saving_and_printing
+    filling
+    two_faults
+    links
+    long_names
+    unreadable
+    slow_pipes
     sending
     making
     capturing

@@ -1,22 +1,32 @@
-/* Loaded before a program, refuses its request for memory of the number in REFUSED, counted from 1 over all its threads, and tells
-   in the file named by TOLD when it did. */
+/* Loaded before a program, refuses one of its requests: that for memory of the number in REFUSED, or that for a thread of the number
+   in NO_THREAD, each counted from 1 over all threads. It tells in the file named by TOLD when it did, and in the file named by LEFT
+   where the program ends while a thread that it started goes on, or wasn't joined. */
 #define _GNU_SOURCE
 #include <dlfcn.h>
+#include <errno.h>
 #include <fcntl.h>
+#include <pthread.h>
 #include <stdatomic.h>
 #include <stdlib.h>
 #include <unistd.h>
 
-static atomic_long requests;
+static atomic_long requests, threads, started, joined;
 
-static int refused(void)
+static void tell(const char *variable)
 {
-    const char *number = getenv("REFUSED");
-    if (number == NULL || atomic_fetch_add(&requests, 1) + 1 != atol(number))
-        return 0;
-    int told = open(getenv("TOLD"), O_WRONLY | O_CREAT, 0644);
+    const char *name = getenv(variable);
+    int told = name == NULL ? -1 : open(name, O_WRONLY | O_CREAT, 0644);
     if (told >= 0)
         close(told);
+}
+
+/* Counts a request, and says whether it is the one whose number the variable has. */
+static int is_refused(const char *variable, atomic_long *count)
+{
+    const char *number = getenv(variable);
+    if (number == NULL || atomic_fetch_add(count, 1) + 1 != atol(number))
+        return 0;
+    tell("TOLD");
     return 1;
 }
 
@@ -25,7 +35,7 @@ void *malloc(size_t size)
     static void *(*next)(size_t);
     if (next == NULL)
         next = (void *(*)(size_t))dlsym(RTLD_NEXT, "malloc");
-    return refused() ? NULL : next(size);
+    return is_refused("REFUSED", &requests) ? NULL : next(size);
 }
 
 void *realloc(void *old, size_t size)
@@ -33,7 +43,7 @@ void *realloc(void *old, size_t size)
     static void *(*next)(void *, size_t);
     if (next == NULL)
         next = (void *(*)(void *, size_t))dlsym(RTLD_NEXT, "realloc");
-    return refused() ? NULL : next(old, size);
+    return is_refused("REFUSED", &requests) ? NULL : next(old, size);
 }
 
 void *aligned_alloc(size_t align, size_t size)
@@ -41,7 +51,7 @@ void *aligned_alloc(size_t align, size_t size)
     static void *(*next)(size_t, size_t);
     if (next == NULL)
         next = (void *(*)(size_t, size_t))dlsym(RTLD_NEXT, "aligned_alloc");
-    return refused() ? NULL : next(align, size);
+    return is_refused("REFUSED", &requests) ? NULL : next(align, size);
 }
 
 int posix_memalign(void **made, size_t align, size_t size)
@@ -49,5 +59,35 @@ int posix_memalign(void **made, size_t align, size_t size)
     static int (*next)(void **, size_t, size_t);
     if (next == NULL)
         next = (int (*)(void **, size_t, size_t))dlsym(RTLD_NEXT, "posix_memalign");
-    return refused() ? 12 : next(made, align, size);
+    return is_refused("REFUSED", &requests) ? ENOMEM : next(made, align, size);
+}
+
+int pthread_create(pthread_t *thread, const pthread_attr_t *attributes, void *(*start)(void *), void *argument)
+{
+    static int (*next)(pthread_t *, const pthread_attr_t *, void *(*)(void *), void *);
+    if (next == NULL)
+        next = (int (*)(pthread_t *, const pthread_attr_t *, void *(*)(void *), void *))dlsym(RTLD_NEXT, "pthread_create");
+    if (is_refused("NO_THREAD", &threads))
+        return EAGAIN;
+    int failed = next(thread, attributes, start, argument);
+    if (!failed)
+        atomic_fetch_add(&started, 1);
+    return failed;
+}
+
+int pthread_join(pthread_t thread, void **result)
+{
+    static int (*next)(pthread_t, void **);
+    if (next == NULL)
+        next = (int (*)(pthread_t, void **))dlsym(RTLD_NEXT, "pthread_join");
+    int failed = next(thread, result);
+    if (!failed)
+        atomic_fetch_add(&joined, 1);
+    return failed;
+}
+
+__attribute__((destructor)) static void end(void)
+{
+    if (atomic_load(&started) != atomic_load(&joined))
+        tell("LEFT");
 }

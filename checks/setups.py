@@ -1,4 +1,4 @@
-"""Reads the tables of docs/setup.md, has a program answer each text that stands there, and compares what it prints."""
+"""Reads the tables of docs/reference.md, has a program answer each text that stands there, and compares what it prints."""
 import re
 import subprocess
 import sys
@@ -9,6 +9,7 @@ program, document, room = sys.argv[1:]
 SHOWN = {"an empty line": "", "a line of blanks": " \t"}
 WORDS_HEAD = "| Line | Its value | Without it |"
 LINES_HEAD = "| Lines | Answer |"
+RINGS_HEAD = "| Ring | Answer |"
 COMMANDS_HEAD = "| Command | Lines | Answer |"
 TEXTS_HEAD = "| Text | Answer |"
 NEEDED = ["block_size", "block_nr", "frame_size", "frame_nr", "cpu"]
@@ -107,6 +108,12 @@ def refused(needed, rows):
         check(cell, 2, line_of("setup", answer), needed + lines_of(cell))
 
 
+def refused_rings(needed, rows):
+    """The rings that are refused, each before the line of a CPU."""
+    for cell, answer in rows:
+        check(cell, 2, line_of("setup", answer), lines_of(cell) + needed[-1:])
+
+
 def refused_by_commands(needed, rows):
     """The lines that a command refuses behind what is needed."""
     for command, cell, answer in rows:
@@ -121,12 +128,15 @@ def number_in(cell, word):
     return {"two": 2, "three": 3}[found[1]] if found else 1
 
 
-def moments_and_schedules(needed, rows):
+def other_texts(needed, rows):
     """The texts beside the setup that are refused."""
     for cell, answer in rows:
         text = "".join(line + "\n" for line in lines_of(cell)).encode()
         if cell.startswith("moments"):
             check(cell, 3, line_of("ticks", answer), needed + ["ticks t.txt"], t=text)
+            continue
+        if cell.startswith("filter"):
+            check(cell, 3, line_of("filter", answer), needed + ["filter f.txt"], f=text)
             continue
         setup = needed + ["cpu b.pcap"] * (number_in(cell, "CPUs") - 1)
         setup += [f"members {number_in(cell, 'members')}"]
@@ -143,7 +153,8 @@ answer([], {"tcp.ddd": b"1\n6 0 0 262144\n", "t.txt": b"1\n8\n8\n"})
 accepted(words)
 measured(needed)
 refused(needed, rows_below(text, LINES_HEAD))
+refused_rings(needed, rows_below(text, RINGS_HEAD))
 refused_by_commands(needed, rows_below(text, COMMANDS_HEAD))
-moments_and_schedules(needed, rows_below(text, TEXTS_HEAD))
+other_texts(needed, rows_below(text, TEXTS_HEAD))
 print(f"{answers} answers, {failures} wrong")
 sys.exit(failures > 0)

@@ -1,5 +1,5 @@
 #!/usr/bin/env bash
-# Each setup that docs/setup.md shows is accepted by `check`, and each text that it refuses is refused by the line that
+# Each setup that docs/reference.md shows is accepted by `check`, and each text that it refuses is refused by the line that
 # it names.
 set -u
 . "$(dirname "${BASH_SOURCE[0]}")/common.bash"
@@ -7,6 +7,6 @@ wants python3
 find_programs
 make_room
 for program in "${programs[@]}"; do
-    python3 -B checks/setups.py "$program" docs/setup.md "$room" || wrong "$program doesn't answer as docs/setup.md says"
+    python3 -B checks/setups.py "$program" docs/reference.md "$room" || wrong "$program doesn't answer as docs/reference.md says"
 done
 exit "$failed"

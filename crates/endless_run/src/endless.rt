@@ -2,10 +2,14 @@
 ghost use Rattle.std.specs.Prelude.{◌≤◌, ◌<◌, length, refl, None};
 ghost use Rattle.tap_outside.specs.Seen.{meant_store};
 
+use cpu_feeders::NoGate;
 use frame_view::{Memory, MomentList};
-use run_building::{Answer, PAGES, answer_on, push_fields};
+use run_building::{Answer, PAGES, answer_on, answer_on_threads, push_fields};
 use std::alloc::Global;
+use std::str;
+use std::sync::Wait;
 use std::test::Fail;
+use std::thread::Threads;
 use tap_outside::{Failed, MemSink, OutError, Source, Store};
 
 /// Bytes that are read to their end, and then again from a place on; without end, where that lies
@@ -37,8 +41,8 @@ impl Source for EndlessSource {
     }
 }
 
-/// A store with the setup that each run needs, an empty schedule and a capture without end. It
-/// takes what is saved and forgets it.
+/// A store with the setup that each run needs, one that skips what is too long to be sent, an empty
+/// schedule and a capture without end. It takes what is saved and forgets it.
 #[derive(Drop)]
 struct EndlessStore {
     /// What gives memory for the sources.
@@ -55,10 +59,18 @@ fn header_and_record(alloc: Global) -> Result<Vec<u8>, Memory> {
     Ok(bytes)
 }
 
+/// The setup with the line by which `send` skips frames that are too long.
+fn skipping_setup(alloc: Global) -> Result<Vec<u8>, Memory> {
+    let mut bytes = PAGES.as_bytes().to_vec(alloc)?;
+    bytes.extend_from_slice(b"skip_bad yes\n")?;
+    Ok(bytes)
+}
+
 /// The bytes of a file, and the place from which they are read again.
 fn file(alloc: Global, name: &[u8]) -> Result<(Vec<u8>, usize), Memory> {
     match name {
         b"conf" => Ok((PAGES.as_bytes().to_vec(alloc)?, usize::MAX)),
+        b"skip" => Ok((skipping_setup(alloc)?, usize::MAX)),
         b"a.pcap" => Ok((header_and_record(alloc)?, 24)),
         _ => Ok((Vec::new(alloc), usize::MAX)),
     }
@@ -89,28 +101,79 @@ impl Store for EndlessStore {
     ghost untold_saves = { λ store name untold. refl };
 }
 
-const LINES: &[u8] = b"cpu 0 frames 127 arrivals 127 end too_large 33554432
+/// A command over that store: its words, what it prints, and the end of its report.
+type Run = (&'static [&'static str], &'static [u8], &'static str);
+
+/// Of frames of 262,144 bytes a block of 4,096 keeps 3,966, and a slot of 2,048 takes none.
+static RUNS: [Run; 3] = [
+    (
+        &["replay", "conf", "sched"],
+        b"cpu 0 frames 127 arrivals 127 end too_large 33554432
 member 0 packets 127 drops 125 freezes 1 blocks 2
 total arrivals 127 filtered 0 kept 2 drops 125
-";
+",
+        " 2 2\n",
+    ),
+    (
+        &["send", "conf"],
+        b"cpu 0 frames 127 end too_large 33554432
+send sent 0 skipped 0 stop 0
+",
+        "",
+    ),
+    (
+        &["send", "skip"],
+        b"cpu 0 frames 127 end too_large 33554432
+send sent 0 skipped 127 stop none
+",
+        "",
+    ),
+];
 
-/// The run over that store, and what it prints.
-fn run_endless(alloc: Global) -> Result<(Answer, Vec<u8>), Memory> {
+/// The status of a capture that has no end.
+const TOO_LARGE: &str = "4 Damaged { cpu: 0, fault: TooLarge }";
+
+/// A command over that store, and what it prints.
+fn run_endless(alloc: Global, words: &[&str]) -> Result<(Answer, Vec<u8>), Memory> {
     let mut files = EndlessStore { alloc };
     let mut out = MemSink::new(alloc, MomentList::new(alloc));
-    let answer = answer_on(alloc, &["replay", "conf", "sched"], &mut files, &mut out)?;
+    let answer = answer_on(alloc, words, &mut files, &mut out)?;
     let printed = out.written().to_vec(alloc)?;
     Ok((answer, printed))
 }
 
 #[test]
 fn a_capture_without_end_is_too_large(rt: HostRuntime) -> Result<(), Fail> {
-    let (answer, printed) = run_endless(rt.alloc())?;
-    assert_eq!(rt;
-        answer.status.as_str(),
-        "4 Damaged { cpu: 0, fault: TooLarge }"
-    );
-    assert!(rt; answer.report.as_str().ends_with(" 2 2\n"));
-    assert_eq!(rt; printed.as_slice(), LINES);
+    for (words, lines, ends) in &RUNS {
+        let (answer, printed) = run_endless(rt.alloc(), words)?;
+        assert_eq!(rt; answer.status.as_str(), TOO_LARGE);
+        assert!(rt; answer.report.as_str().ends_with(ends));
+        assert_eq!(rt; printed.as_slice(), *lines);
+    }
+    Ok(())
+}
+
+/// The capture on threads over that store, and what it prints.
+fn capture_endless<R: Threads + Wait + Sync>(
+    rt: &R,
+    alloc: Global,
+) -> Result<(Answer, Vec<u8>), Memory> {
+    let mut files = EndlessStore { alloc };
+    let mut out = MemSink::new(alloc, MomentList::new(alloc));
+    let words = ["capture", "conf"];
+    let answer = answer_on_threads(rt, alloc, &words, &mut files, &mut out, &NoGate)?;
+    let printed = out.written().to_vec(alloc)?;
+    Ok((answer, printed))
+}
+
+/// How many of the frames are dropped hangs on the threads.
+#[test]
+fn on_threads_it_is_too_large(rt: HostRuntime) -> Result<(), Fail> {
+    let (answer, printed) = capture_endless(&rt, rt.alloc())?;
+    assert_eq!(rt; answer.status.as_str(), TOO_LARGE);
+    let text = str::from_utf8(printed.as_slice()).unwrap_or("no text");
+    let first = "cpu 0 frames 127 arrivals 127 end too_large 33554432\nmember 0 packets 127 drops ";
+    assert!(rt; text.starts_with(first));
+    assert!(rt; text.contains("\ntotal arrivals 127 filtered 0 kept "));
     Ok(())
 }

@@ -55,5 +55,44 @@ fn tagged_fragments_arrive_as_one_datagram(rt: HostRuntime) -> Result<(), Fail> 
     assert_eq!(rt; (whole.index, whole.wire, whole.tag), (2, 54, Some(tag)));
     let header = [0x45, 0, 0, 40, 0x12, 0x34, 0, 0, 64, 17, 0x54, 0x8f];
     assert_eq!(rt; whole.bytes.as_slice().get(14..26), Some(&header[..]));
+    let late = path.arrive(fragment(alloc, 3, 0x2001, &[2; 8])?)?;
+    assert!(rt; late.is_none());
+    Ok(())
+}
+
+/// The first bytes of a tagged frame, as a frame of their own.
+fn cut(alloc: Global, length: usize) -> Result<Frame, Memory>
+    ensures bare { IfOk result (λ frame. frame.tag ≡ None) }
+    ensures captured { IfOk result IsCaptured }
+{
+    let bytes = TAGGED.get(..length).unwrap_or(&[]).to_vec(alloc)?;
+    Ok(Frame {
+        cpu: 0,
+        index: 0,
+        sec: 0,
+        nsec: 0,
+        wire: bytes.len() as u32,
+        bytes: ByteList::from_vec(bytes),
+        tag: None,
+    })
+}
+
+#[test]
+fn a_runt_is_no_arrival_and_a_short_tag_stays(rt: HostRuntime) -> Result<(), Fail> {
+    for (defrag, length, want) in [
+        (false, 13, None),
+        (false, 14, Some((14, false))),
+        (false, 17, Some((17, false))),
+        (false, 18, Some((14, true))),
+        (true, 13, None),
+        (true, 18, Some((14, true))),
+    ] {
+        let flags = if defrag { 0x8000 } else { 0 };
+        let plan = Plan::check(1, Mode::Cpu, flags, false)?;
+        let mut path = ReceivePath::new(rt.alloc(), plan);
+        let arrival = path.arrive(cut(rt.alloc(), length)?)?;
+        let shape = arrival.map(|frame| (frame.bytes.len(), frame.tag.is_some()));
+        assert_eq!(rt; shape, want, "defrag {defrag}, {length} bytes");
+    }
     Ok(())
 }

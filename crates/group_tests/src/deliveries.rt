@@ -12,11 +12,11 @@ use std::alloc::Global;
 use std::test::Fail;
 
 /// The usual key of receive side scaling.
-const DIGITS: &[u8] =
+pub(crate) const DIGITS: &[u8] =
     b"6d5a56da255b0ec24167253d43a38fb0d0ca2bcbae7b30b477cb2da38030f20c6a42b73bbeac01fa";
 
 /// Neither a key nor a filter, and large blocks.
-const OPEN: ArrivalRules<'static> = ArrivalRules {
+pub(crate) const OPEN: ArrivalRules<'static> = ArrivalRules {
     key: None,
     filter: None,
     own: None,
@@ -24,8 +24,8 @@ const OPEN: ArrivalRules<'static> = ArrivalRules {
     room: 4048,
 };
 
-/// An arrival of CPU 0: these bytes, and zeros up to 60.
-fn arrival(alloc: Global, index: u32, bytes: &[u8]) -> Result<Frame, Memory>
+/// An arrival of a CPU: these bytes, and zeros up to 60.
+pub(crate) fn arrival(alloc: Global, cpu: u32, index: u32, bytes: &[u8]) -> Result<Frame, Memory>
     ensures { IfOk result IsArrival }
 {
     let mut all = vec![in alloc; 0; 60]?;
@@ -33,7 +33,7 @@ fn arrival(alloc: Global, index: u32, bytes: &[u8]) -> Result<Frame, Memory>
         *to = *from;
     }
     Ok(Frame {
-        cpu: 0,
+        cpu,
         index,
         sec: 0,
         nsec: 0,
@@ -44,7 +44,7 @@ fn arrival(alloc: Global, index: u32, bytes: &[u8]) -> Result<Frame, Memory>
 }
 
 /// Judges an arrival, delivers what it offers, and logs it.
-fn take(
+pub(crate) fn take(
     alloc: Global,
     path: &mut ReceivePath,
     rules: &ArrivalRules<'_>,
@@ -101,7 +101,7 @@ fn log_of(
             &mut path,
             rules,
             &mut desk,
-            arrival(alloc, index, bytes)?,
+            arrival(alloc, 0, index, bytes)?,
             ticket,
         )?;
     }
@@ -230,6 +230,14 @@ fn the_flow_hash_chooses_the_member(rt: HostRuntime) -> Result<(), Fail> {
             );
         }
     }
+    Ok(())
+}
+
+#[test]
+fn without_a_key_the_hash_is_zero(rt: HostRuntime) -> Result<(), Fail> {
+    let judged = OPEN.judge(rt.alloc(), arrival(rt.alloc(), 0, 0, THERE)?, None);
+    assert_eq!(rt; judged.entry.hash, 0);
+    assert_eq!(rt; judged.offer.map(|offer| offer.hash), Some(0));
     Ok(())
 }
 

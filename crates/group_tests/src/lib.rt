@@ -7,4 +7,6 @@ mod arrivals;
 #[cfg(test)]
 mod deliveries;
 #[cfg(test)]
+mod homes;
+#[cfg(test)]
 mod list_desk;

@@ -1,5 +1,5 @@
 //! The lines that runs print.
-use crate::reports::{Cpu, Member, printed};
+use crate::reports::{Cpu, Member, printed, printed_forward};
 use capture_file::CpuEnd;
 use frame_view::Memory;
 
@@ -93,5 +93,24 @@ fn prints_the_lines_of_runs(rt: HostRuntime) -> Result<(), Memory> {
         let text = printed(rt.alloc(), *tov, cpus, members)?;
         assert_eq!(rt; text.as_slice(), lines.as_bytes(), "{name}");
     }
+    Ok(())
+}
+
+#[test]
+fn prints_what_members_sent(rt: HostRuntime) -> Result<(), Memory> {
+    let text = printed_forward(
+        rt.alloc(),
+        &[(12, &[PASS; 12], CpuEnd::Whole)],
+        &[("kk.", &[], 1), ("kkkkkkkkkk.", &[], 1)],
+        &[(2, 0), (3, 7)],
+    )?;
+    let lines = "cpu 0 frames 12 arrivals 12 end ok
+member 0 packets 2 drops 0 freezes 0 blocks 1
+forward 0 sent 2 skipped 0
+member 1 packets 10 drops 0 freezes 0 blocks 1
+forward 1 sent 3 skipped 7
+total arrivals 12 filtered 0 kept 12 drops 0
+";
+    assert_eq!(rt; text.as_slice(), lines.as_bytes());
     Ok(())
 }

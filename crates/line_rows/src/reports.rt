@@ -1,9 +1,9 @@
 //! Reports of runs, made from letters, and the lines that are printed of them.
 use capture_file::CpuEnd;
 use fanout_group::{ArrivalList, ArrivalLog, CpuLog, CpuLogList, TryList};
-use frame_view::{ByteList, Frame, Memory, Packets};
+use frame_view::{ByteList, Frame, ItemList, Memory, Packet, Packets};
 use ring_model::{Found, Note, Notes, Offer};
-use setup_text::{MemberList, MemberReport, RunReport};
+use setup_text::{Forwards, MemberList, MemberReport, RunReport};
 use std::alloc::Global;
 use tap_printing::summary;
 
@@ -151,6 +151,13 @@ fn members_of(alloc: Global, members: &[Member<'_>]) -> Result<MemberList, Memor
     Ok(reports)
 }
 
+fn report_of(alloc: Global, cpus: &[Cpu<'_>], members: &[Member<'_>]) -> Result<RunReport, Memory> {
+    Ok(RunReport {
+        cpus: logs_of(alloc, cpus)?,
+        members: members_of(alloc, members)?,
+    })
+}
+
 /// The lines of a run with a time-out in milliseconds.
 pub(crate) fn printed(
     alloc: Global,
@@ -158,9 +165,35 @@ pub(crate) fn printed(
     cpus: &[Cpu<'_>],
     members: &[Member<'_>],
 ) -> Result<ByteList, Memory> {
-    let report = RunReport {
-        cpus: logs_of(alloc, cpus)?,
-        members: members_of(alloc, members)?,
+    let report = report_of(alloc, cpus, members)?;
+    summary(alloc, tov, &report, None)
+}
+
+/// So many packets of 14 bytes.
+fn packets(alloc: Global, count: usize) -> Result<Packets, Memory> {
+    let mut packets = Packets::new(alloc);
+    for _packet in 0..count {
+        let bytes = vec![in alloc; 0; 14]?;
+        packets.push(Packet::plain(ByteList::from_vec(bytes)))?;
+    }
+    Ok(packets)
+}
+
+/// The lines of a run whose members send, with the numbers of packets that each sent and skipped.
+pub(crate) fn printed_forward(
+    alloc: Global,
+    cpus: &[Cpu<'_>],
+    members: &[Member<'_>],
+    numbers: &[(usize, u64)],
+) -> Result<ByteList, Memory> {
+    let report = report_of(alloc, cpus, members)?;
+    let mut forwards = Forwards {
+        sent: ItemList::new(alloc),
+        skipped: ItemList::new(alloc),
     };
-    summary(alloc, tov, &report)
+    for (sent, skipped) in numbers {
+        forwards.sent.push(packets(alloc, *sent)?)?;
+        forwards.skipped.push(*skipped)?;
+    }
+    summary(alloc, 0, &report, Some(&forwards))
 }

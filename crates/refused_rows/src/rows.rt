@@ -4,7 +4,7 @@ use run_building::{Faults, NO_FAULT, NO_FRAME, NOTHING, Row, difference};
 use std::alloc::Global;
 use std::test::Fail;
 
-const USAGE: &str = "usage: ringtap check|replay|capture|send|make CONF [SCHED]\n";
+const USAGE: &str = "usage: ringtap check|replay|capture|send|make|forward CONF [SCHED]\n";
 
 const CHECK: &[&str] = &["check", "conf"];
 
@@ -19,7 +19,7 @@ const REFUSED: Row<'static> = Row {
 };
 
 /// The words, the texts, the status and the line.
-static ROWS: [Row<'static>; 22] = [
+static ROWS: [Row<'static>; 24] = [
     Row {
         name: "no word",
         words: &[],
@@ -51,6 +51,20 @@ static ROWS: [Row<'static>; 22] = [
     Row {
         name: "capture, which runs on threads",
         words: &["capture", "conf"],
+        status: "1 Usage",
+        printed: USAGE,
+        ..REFUSED
+    },
+    Row {
+        name: "forward, which runs on threads",
+        words: &["forward", "conf"],
+        status: "1 Usage",
+        printed: USAGE,
+        ..REFUSED
+    },
+    Row {
+        name: "forward with a schedule",
+        words: &["forward", "conf", "sched"],
         status: "1 Usage",
         printed: USAGE,
         ..REFUSED

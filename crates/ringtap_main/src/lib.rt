@@ -12,7 +12,7 @@ use std::rt::Files;
 use std::sync::Wait;
 use std::thread::Threads;
 use tap_engine::{Status, run};
-use tap_outside::{DiskStore, StdSink};
+use tap_outside::{DiskStore, StdSink, write_whole};
 
 /// Carries out the command that the program's arguments say, over real files and standard output,
 /// and returns the status with which the program ends. A `capture` starts threads and may wait for
@@ -23,6 +23,8 @@ where
     R::File: Send,
 {
     let Ok(words) = words(rt, rt.alloc()) else {
+        // Printed as `run` prints it: once, if standard output takes it.
+        let _ = write_whole(&mut StdSink::new(rt), b"out of memory\n");
         return ExitCode::from(Status::Memory.number());
     };
     let mut store = DiskStore::new(rt);

@@ -213,6 +213,7 @@ fn reads_made_frames_and_skip_bad(rt: HostRuntime) -> Result<(), Memory> {
         Command::Capture,
         Command::Send,
         Command::Make,
+        Command::Forward,
     ] {
         let text = shown(rt.alloc(), MADE, command)?;
         let end = "dump false skip true\nmake 1 20000\n";

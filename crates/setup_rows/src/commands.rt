@@ -4,11 +4,12 @@ use frame_view::Memory;
 use setup_text::Command;
 
 /// A command, lines after the five that are needed, and what it finds of the lines together.
-static TOGETHER: [(Command, &str, &str); 24] = [
+static TOGETHER: [(Command, &str, &str); 28] = [
     (Command::Check, "", ""),
     (Command::Replay, "", ""),
     (Command::Capture, "", ""),
     (Command::Send, "", ""),
+    (Command::Forward, "", ""),
     // only `Make` needs its line, before a fault of the ring or of the group
     (Command::Make, "", "setup line 0: missing make\n"),
     (
@@ -79,6 +80,18 @@ static TOGETHER: [(Command, &str, &str); 24] = [
         "setup line 0: group no_member\n",
     ),
     (Command::Make, "tov 8\npriv 16\nfeatures 1\nmake 1 5\n", ""),
+    // `Forward` asks for the ring of captured frames: its transmit ring has no such lines
+    (Command::Forward, "tov 8\npriv 16\nfeatures 1\n", ""),
+    (
+        Command::Forward,
+        "features 2\n",
+        "setup line 0: request feature\n",
+    ),
+    (
+        Command::Forward,
+        "members 0\n",
+        "setup line 0: group no_member\n",
+    ),
 ];
 
 #[test]
@@ -101,6 +114,7 @@ fn misses_a_cpu_for_each_command(rt: HostRuntime) -> Result<(), Memory> {
         Command::Capture,
         Command::Send,
         Command::Make,
+        Command::Forward,
     ] {
         let answer = setup_answer(rt.alloc(), WITHOUT_CPU.as_bytes(), command)?;
         assert_eq!(rt;

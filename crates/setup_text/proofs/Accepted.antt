@@ -37,6 +37,7 @@ receive_none command.Replay request h = h
 receive_none command.Capture request h = h
 receive_none command.Send request h = (or_none (receive_fault request) _ h).0
 receive_none command.Make request h = h
+receive_none command.Forward request h = h
 
 missing_none : (a b c d e f : Bool)
     → (if a then Some needed.BlockSize else if b then Some needed.BlockNr else if c then Some needed.FrameSize else if d then Some needed.FrameNr
@@ -99,6 +100,7 @@ made_known command.Replay draft p h e = cc
 made_known command.Capture draft p h e = cc
 made_known command.Send draft p h e = cc
 made_known command.Make draft p h e = some_made draft.made p.made h
+made_known command.Forward draft p h e = cc
 
 after_sound : (given : Command) (draft : Draft) (setup : Setup) → IsDraft draft → setup_after given draft ≡ Ok setup → IsAccepted given setup
 unfolding setup_after

@@ -13,4 +13,6 @@ pub enum Command {
     Send,
     /// Frames made from a number are replayed.
     Make,
+    /// The captures are fed on threads, and what each member reads is sent through a transmit ring.
+    Forward,
 }

@@ -23,7 +23,7 @@ pub use filters::read_filter;
 pub use jobs::Job;
 pub use laws::{a_written_setup_is_read_back, lines_may_change_places, the_first_fault_answers};
 pub use moments::read_ticks;
-pub use reports::{MemberList, MemberReport, Ran, RunReport};
+pub use reports::{Forwards, MemberList, MemberReport, Ran, RunReport};
 pub use schedules::read_schedule;
 pub use setup_error::{Needed, SetupError, SetupKind};
 pub use setups::{Setup, read_setup};

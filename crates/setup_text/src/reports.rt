@@ -33,6 +33,15 @@ pub struct MemberReport {
 /// The members, from 0 up.
 pub type MemberList = ItemList<MemberReport>;
 
+/// What the members of a run sent of the packets that their readers took out.
+#[derive(Debug, Drop)]
+pub struct Forwards {
+    /// What each member sent, from member 0 up.
+    pub sent: ItemList<Packets>,
+    /// How many packets each member skipped, since no slot of its transmit ring holds them.
+    pub skipped: ItemList<u64>,
+}
+
 /// What a run gives back.
 #[derive(Drop)]
 pub struct Ran<S: Drop> {

@@ -157,7 +157,9 @@ fn shape_of(request: &RingRequest, command: Command) -> Result<Shape, RequestErr
 {
     match command {
         Command::Send => request.check_tx(),
-        Command::Check | Command::Replay | Command::Capture | Command::Make => request.check(),
+        Command::Check | Command::Replay | Command::Capture | Command::Make | Command::Forward => {
+            request.check()
+        }
     }
 }
 

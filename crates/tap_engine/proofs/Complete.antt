@@ -15,7 +15,7 @@ use Rattle.fanout_group.specs.declared.runs.CpuLog.{CpuLog}
 use Rattle.setup_text.specs.Filters.{filter_of}
 use Rattle.setup_text.specs.Moments.{moments_of}
 use Rattle.setup_text.specs.declared.commands.Command.{Command}
-use Rattle.setup_text.specs.declared.commands.Command.TheVariants.{Capture, Check, Make, Replay, Send}
+use Rattle.setup_text.specs.declared.commands.Command.TheVariants.{Capture, Check, Forward, Make, Replay, Send}
 use Rattle.setup_text.specs.declared.cpu_setups.CpuSetup.{CpuSetup}
 use Rattle.setup_text.specs.declared.jobs.Job.{Job}
 use Rattle.setup_text.specs.declared.reports.RunReport.{RunReport}
@@ -57,14 +57,14 @@ worth_in old new None finding.Unread h = absurd h
 worth_in old new None (finding.BadSetup error) h = absurd h
 worth_in old new None (finding.BadText error) h = absurd h
 worth_in old new None finding.Checked h = absurd h
-worth_in old new None (finding.Ran setup report) h = absurd h
+worth_in old new None (finding.Ran setup report forwards) h = absurd h
 worth_in old new None (finding.Sent setup sending) h = absurd h
 worth_in old new (Some named) finding.NoCommand h = absurd h
 worth_in old new (Some named) finding.Unread h = tt
 worth_in old new (Some named) (finding.BadSetup error) h = tt
 worth_in old new (Some named) (finding.BadText error) h = tt
 worth_in old new (Some named) finding.Checked h = tt
-worth_in old new (Some named) (finding.Ran setup report) h = (named, refl, h.0.headline)
+worth_in old new (Some named) (finding.Ran setup report forwards) h = (named, refl, h.0.headline)
 worth_in old new (Some named) (finding.Sent setup sending) h = tt
 
 pub worth_of : (command : Option Named) (outcome : Outcome) (old new : StoreSeen)
@@ -283,6 +283,9 @@ fine_captures files named setup bytes ends logs Replay sound is has captures are
 fine_captures files named setup bytes ends logs Capture sound is has captures are none =
     fine_logs files setup.cpus 0 bytes ends logs captures are
     (last_of files named sound Capture setup is has) none
+fine_captures files named setup bytes ends logs Forward sound is has captures are none =
+    fine_logs files setup.cpus 0 bytes ends logs captures are
+    (last_of files named sound Forward setup is has) none
 fine_captures files named setup bytes ends logs Send sound is has captures are none = absurd
     captures
 
@@ -336,7 +339,7 @@ fine_found files named old new (finding.BadSetup error) is sound sane h =
 fine_found files named old new (finding.BadText error) is sound sane h =
     absurd (no_text files old new named error is sound h)
 fine_found files named old new finding.Checked is sound sane h = refl
-fine_found files named old new (finding.Ran setup report) is sound sane h =
+fine_found files named old new (finding.Ran setup report forwards) is sound sane h =
     fine_report files named report sound (subst (λ (o : Option Contents). IsHeadline o named report)
     is h.0.headline)
     (none_rose (faults_in report.cpus) old.read_faults new.read_faults sane h.1)

@@ -1,14 +1,15 @@
 -- What is found, and what a text that stops a command comes to, also where more was read before.
-use Rattle.std.proofs.Common.{◌≡◌, ℕ, Bool, List, length, inl, inr}
+use Rattle.std.proofs.Common.{◌≡◌, ℕ, Bool, false, true, List, length, inl, inr}
 use Rattle.std.proofs.Common.{refl, sym, ap, ◌∙◌, Option, None, Some, subst}
-use Rattle.std.specs.Prelude.{◌⊎◌, IfOk, IfErr, OnErr, Result, Ok, Err}
+use Rattle.std.specs.Prelude.{◌⊎◌, is_some, IfOk, IfErr, OnErr, Result, Ok, Err}
 use Rattle.capture_file.specs.declared.cpu_end.CpuEnd.{CpuEnd}
 use Rattle.frame_view.specs.declared.want.Memory.{Memory}
 use Rattle.setup_text.specs.Filters.{filter_of}
 use Rattle.setup_text.specs.Moments.{moments_of}
 use Rattle.setup_text.specs.declared.commands.Command.{Command}
-use Rattle.setup_text.specs.declared.commands.Command.TheVariants.{Capture, Check, Make, Replay, Send}
+use Rattle.setup_text.specs.declared.commands.Command.TheVariants.{Capture, Check, Forward, Make, Replay, Send}
 use Rattle.setup_text.specs.declared.jobs.Job.{Job}
+use Rattle.setup_text.specs.declared.reports.Forwards.{Forwards}
 use Rattle.setup_text.specs.declared.reports.MemberReport.{MemberReport}
 use Rattle.setup_text.specs.declared.reports.RunReport.{RunReport}
 use Rattle.setup_text.specs.declared.setups.Setup.{Setup}
@@ -18,8 +19,8 @@ use Rattle.tap_reading.specs.Readers.{StopsAtSetup, StopsAtText}
 use Rattle.tap_reading.specs.declared.stops.Stop.{Stop}
 use Rattle.tap_reading.specs.declared.stops.Stop.TheVariants as stops
 use Rattle.tap_saving.specs.Files.{names_from}
-use Rattle.tap_engine.specs.Commands.{Named}
-use Rattle.tap_engine.specs.Findings.{IsFound, IsReady, IsReported, finding_of, names_of}
+use Rattle.tap_engine.specs.Commands.{Named, sends}
+use Rattle.tap_engine.specs.Findings.{IsFound, IsReady, IsReported, IsSentBy, finding_of, names_of}
 use Rattle.tap_engine.specs.Headline.{CapturesFor, IsHeadline}
 use Rattle.tap_engine.specs.Jobs.{HasJob, HasSetup, IsAsked, Stops, lines_for}
 use Rattle.tap_engine.specs.Conclusions.{IsCut, IsSearched}
@@ -144,21 +145,35 @@ members_count held named report h =
 run_saves : (command : Command) (held : Option Contents) (setup : Setup) (bytes : List (List ℕ))
     (ends : List CpuEnd)
     → CapturesFor command held setup bytes ends
-    → saved_for command setup ≡ names_from setup 0 setup.plan.members
+    → saved_for command setup ≡ names_from setup (sends command) 0 setup.plan.members
 run_saves Check held setup bytes ends h = absurd h
 run_saves Make held setup bytes ends h = refl
 run_saves Replay held setup bytes ends h = refl
 run_saves Capture held setup bytes ends h = refl
+run_saves Forward held setup bytes ends h = refl
 run_saves Send held setup bytes ends h = absurd h
 
+-- something was sent where the command sends
+sent_where : (sent : Bool) (setup : Setup) (report : RunReport) (forwards : Option Forwards)
+    → IsSentBy sent setup report forwards → sent ≡ is_some forwards
+sent_where true setup report None h = absurd h
+sent_where true setup report (Some forwards) h = refl
+sent_where false setup report None h = refl
+sent_where false setup report (Some forwards) h = absurd h
+
 report_names : (held : Option Contents) (named : Named) (setup : Setup) (report : RunReport)
-    → (h : IsReported held named setup report)
-    → saved_for named.command h.headline.job.setup ≡ names_from setup 0 (length report.members)
-report_names held named setup report h =
+    (forwards : Option Forwards) → (h : IsReported held named setup report)
+    → IsSentBy (sends named.command) setup report forwards
+    → saved_for named.command h.headline.job.setup
+    ≡ names_from setup (is_some forwards) 0 (length report.members)
+report_names held named setup report forwards h sent =
     let head = h.headline in
     run_saves named.command held head.job.setup head.bytes head.ends head.captures
-    ∙ ap (λ count. names_from head.job.setup 0 count) (sym (members_count held named report head))
-    ∙ ap (λ (s : Setup). names_from s 0 (length report.members)) h.setup_is
+    ∙ ap (λ count. names_from head.job.setup (sends named.command) 0 count)
+    (sym (members_count held named report head))
+    ∙ ap (λ (s : Setup). names_from s (sends named.command) 0 (length report.members)) h.setup_is
+    ∙ ap (λ (sent : Bool). names_from setup sent 0 (length report.members))
+    (sent_where (sends named.command) setup report forwards sent)
 
 pub saves_meant : (old new : StoreSeen) (command : Option Named) (found : Finding)
     → Untold old.held old.to_save
@@ -169,17 +184,17 @@ saves_meant old new None finding.Unread untold all h = absurd h
 saves_meant old new None (finding.BadSetup error) untold all h = absurd h
 saves_meant old new None (finding.BadText error) untold all h = absurd h
 saves_meant old new None finding.Checked untold all h = absurd h
-saves_meant old new None (finding.Ran setup report) untold all h = absurd h
+saves_meant old new None (finding.Ran setup report forwards) untold all h = absurd h
 saves_meant old new None (finding.Sent setup sending) untold all h = absurd h
 saves_meant old new (Some named) finding.NoCommand untold all h = absurd h
 saves_meant old new (Some named) finding.Unread untold all h = tt
 saves_meant old new (Some named) (finding.BadSetup error) untold all h = tt
 saves_meant old new (Some named) (finding.BadText error) untold all h = tt
 saves_meant old new (Some named) finding.Checked untold all h = tt
-saves_meant old new (Some named) (finding.Ran setup report) untold all h =
+saves_meant old new (Some named) (finding.Ran setup report forwards) untold all h =
     let head = h.0.headline in
     subst (λ (names : List (List ℕ)). AllMeant old.to_save names)
-    (report_names old.held named setup report h.0)
+    (report_names old.held named setup report forwards h.0 h.2)
     (outputs_meant old.held old.to_save named head.job.setup untold all head.job_is.setup)
 saves_meant old new (Some named) (finding.Sent setup sending) untold all h =
     let sent = h.0 in

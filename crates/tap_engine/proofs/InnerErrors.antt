@@ -12,7 +12,7 @@ use Rattle.capture_file.proofs.Damage.{end_not_memory}
 use Rattle.capture_reading.specs.Sources.{UnlessFault, end_by}
 use Rattle.fanout_group.specs.declared.runs.CpuLog.{CpuLog}
 use Rattle.setup_text.specs.declared.commands.Command.{Command}
-use Rattle.setup_text.specs.declared.commands.Command.TheVariants.{Capture, Check, Make, Replay, Send}
+use Rattle.setup_text.specs.declared.commands.Command.TheVariants.{Capture, Check, Forward, Make, Replay, Send}
 use Rattle.setup_text.specs.declared.cpu_setups.CpuSetup.{CpuSetup}
 use Rattle.setup_text.specs.declared.reports.RunReport.{RunReport}
 use Rattle.setup_text.specs.declared.setups.Setup.{Setup}
@@ -74,6 +74,8 @@ run_ends Replay held setup bytes ends logs captures are = ends_of held setup.cpu
     captures are
 run_ends Capture held setup bytes ends logs captures are = ends_of held setup.cpus bytes ends logs
     captures are
+run_ends Forward held setup bytes ends logs captures are = ends_of held setup.cpus bytes ends logs
+    captures are
 run_ends Send held setup bytes ends logs captures are = absurd captures
 
 report_of_texts : (held : Option Contents) (named : Named) (report : RunReport)
@@ -111,7 +113,7 @@ found_of_texts old new None finding.Unread h = absurd h
 found_of_texts old new None (finding.BadSetup error) h = absurd h
 found_of_texts old new None (finding.BadText error) h = absurd h
 found_of_texts old new None finding.Checked h = absurd h
-found_of_texts old new None (finding.Ran setup report) h = absurd h
+found_of_texts old new None (finding.Ran setup report forwards) h = absurd h
 found_of_texts old new None (finding.Sent setup sending) h = absurd h
 found_of_texts old new (Some named) finding.NoCommand h = absurd h
 found_of_texts old new (Some named) finding.Unread h = tt
@@ -122,7 +124,7 @@ found_of_texts old new (Some named) (finding.BadText error) (inr (inl ticks)) =
 found_of_texts old new (Some named) (finding.BadText error) (inr (inr schedule)) =
     schedule.refused.not_memory
 found_of_texts old new (Some named) finding.Checked h = tt
-found_of_texts old new (Some named) (finding.Ran setup report) h =
+found_of_texts old new (Some named) (finding.Ran setup report forwards) h =
     by_logs 0 report.cpus (report_of_texts old.held named report h.0.headline)
 found_of_texts old new (Some named) (finding.Sent setup sending) h =
     by_end 0 sending.end statuses.Fine (end_of_capture h.0.sending_is.bytes sending.end
@@ -136,14 +138,14 @@ found_ends old new None finding.Unread h = tt
 found_ends old new None (finding.BadSetup error) h = tt
 found_ends old new None (finding.BadText error) h = tt
 found_ends old new None finding.Checked h = tt
-found_ends old new None (finding.Ran setup report) h = absurd h
+found_ends old new None (finding.Ran setup report forwards) h = absurd h
 found_ends old new None (finding.Sent setup sending) h = tt
 found_ends old new (Some named) finding.NoCommand h = tt
 found_ends old new (Some named) finding.Unread h = tt
 found_ends old new (Some named) (finding.BadSetup error) h = tt
 found_ends old new (Some named) (finding.BadText error) h = tt
 found_ends old new (Some named) finding.Checked h = tt
-found_ends old new (Some named) (finding.Ran setup report) h = report_of_texts old.held named report
+found_ends old new (Some named) (finding.Ran setup report forwards) h = report_of_texts old.held named report
     h.0.headline
 found_ends old new (Some named) (finding.Sent setup sending) h = tt
 

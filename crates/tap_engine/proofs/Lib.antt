@@ -11,3 +11,4 @@ pub mod MadeRuns
 pub mod InnerErrors
 pub mod Worked
 pub mod Answered
+pub mod Forwarded

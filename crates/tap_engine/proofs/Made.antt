@@ -12,7 +12,7 @@ use Rattle.run_reports.specs.Reports.{IsRunReport}
 use Rattle.schedule_lines.specs.declared.lines.Line.{Line}
 use Rattle.setup_text.specs.Sound.{IsSetup}
 use Rattle.setup_text.specs.declared.commands.Command.{Command}
-use Rattle.setup_text.specs.declared.commands.Command.TheVariants.{Capture, Make, Replay}
+use Rattle.setup_text.specs.declared.commands.Command.TheVariants.{Capture, Check, Forward, Make, Replay, Send}
 use Rattle.setup_text.specs.declared.jobs.Job.{Job}
 use Rattle.setup_text.specs.declared.reports.MemberReport.{MemberReport}
 use Rattle.setup_text.specs.declared.reports.RunReport.{RunReport}
@@ -21,9 +21,9 @@ use Rattle.tap_outside.specs.Contents.{Contents}
 use Rattle.tap_outside.specs.Counts.{RoseBy}
 use Rattle.tap_outside.specs.Seen.{SourceSeen}
 use Rattle.tap_replay.specs.Runs.{IsReplayed}
-use Rattle.tap_engine.specs.Commands.{Named}
+use Rattle.tap_engine.specs.Commands.{Named, is_threaded}
 use Rattle.tap_engine.specs.Findings.{IsReported, IsSmall, faults_in}
-use Rattle.tap_engine.specs.Headline.{CapturesFor, IsRunOf}
+use Rattle.tap_engine.specs.Headline.{AreCaptures, CapturesFor, IsCaptureOf, IsRunOf}
 use Rattle.tap_engine.specs.Jobs.{HasJob, HasLines, HasTicks}
 use Rattle.tap_engine.specs.Sources.{AreFetched, faulty_in, missing_in}
 use Rattle.tap_engine.proofs.Ends.{as_many_logs, report_ends}
@@ -129,15 +129,36 @@ make_reported held named job lines old new report r is captures has lines_are =
     (sym is)
     (record { lines = lines; lines_are = lines_are; replay = r.replayed.report_is }))
 
--- and that of a `capture`
-pub capture_reported : (held : Option Contents) (named : Named) (job : Job) (moments : List ℕ)
+-- and that of a `capture` or a `forward`
+threaded_captures : (held : Option Contents) (setup : Setup) (bytes : List (List ℕ))
+    (ends : List CpuEnd) (command : Command) → is_threaded command ≡ true
+    → AreCaptures held setup.cpus bytes ends → CapturesFor command held setup bytes ends
+threaded_captures held setup bytes ends Capture is are = are
+threaded_captures held setup bytes ends Forward is are = are
+threaded_captures held setup bytes ends Check is are = cc
+threaded_captures held setup bytes ends Replay is are = cc
+threaded_captures held setup bytes ends Send is are = cc
+threaded_captures held setup bytes ends Make is are = cc
+
+threaded_run : (held : Option Contents) (named : Named) (job : Job) (bytes : List (List ℕ))
+    (ends : List CpuEnd) (report : RunReport) (command : Command) → is_threaded command ≡ true
+    → IsCaptureOf held job report → IsRunOf command held named job bytes ends report
+threaded_run held named job bytes ends report Capture is run = run
+threaded_run held named job bytes ends report Forward is run = run
+threaded_run held named job bytes ends report Check is run = cc
+threaded_run held named job bytes ends report Replay is run = cc
+threaded_run held named job bytes ends report Send is run = cc
+threaded_run held named job bytes ends report Make is run = cc
+
+pub threaded_reported : (held : Option Contents) (named : Named) (job : Job) (moments : List ℕ)
     (old new : List (Option SourceSeen)) (report : RunReport)
     → IsCaptureRun job moments old new report → AreFetched held job.setup.cpus old
-    → named.command ≡ Capture → HasJob held named job → HasTicks held job.setup.ticks moments
+    → is_threaded named.command ≡ true → HasJob held named job
+    → HasTicks held job.setup.ticks moments
     → IsReported held named job.setup report
-capture_reported held named job moments old new report r fetched is has ticks =
+threaded_reported held named job moments old new report r fetched is has ticks =
     reported held named job r.bytes r.ends report r.run has
-    (subst (λ (c : Command). CapturesFor c held job.setup r.bytes r.ends) (sym is)
+    (threaded_captures held job.setup r.bytes r.ends named.command is
     (captures_are held job.setup.cpus old new r.bytes r.ends fetched r.gave))
-    (subst (λ (c : Command). IsRunOf c held named job r.bytes r.ends report) (sym is)
+    (threaded_run held named job r.bytes r.ends report named.command is
     (record { moments = moments; moments_are = ticks; captured = r.captured }))

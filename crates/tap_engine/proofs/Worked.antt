@@ -1,11 +1,11 @@
 -- What the work of a command comes to, where its job is accepted.
-use Rattle.std.proofs.Common.{◌≡◌, ℕ, Bool, List, refl, sym, ap, subst, arith}
+use Rattle.std.proofs.Common.{◌≡◌, ℕ, Bool, true, List, refl, sym, ap, subst, arith}
 use Rattle.std.proofs.Common.{Option, None, Some}
 use Rattle.std.specs.Prelude.{IfSome, IsTrue, All, Ok}
 use Rattle.schedule_lines.specs.declared.lines.Line.{Line}
 use Rattle.setup_text.specs.Setups.{request_fault}
 use Rattle.setup_text.specs.declared.commands.Command.{Command}
-use Rattle.setup_text.specs.declared.commands.Command.TheVariants.{Capture, Check, Make, Replay, Send}
+use Rattle.setup_text.specs.declared.commands.Command.TheVariants.{Capture, Check, Forward, Make, Replay, Send}
 use Rattle.setup_text.specs.declared.jobs.Job.{Job}
 use Rattle.setup_text.specs.declared.reports.RunReport.{RunReport}
 use Rattle.setup_text.specs.declared.setups.Setup.{Setup}
@@ -13,7 +13,7 @@ use Rattle.tap_outside.specs.Contents.{Contents}
 use Rattle.tap_outside.specs.Counts.{RoseBy}
 use Rattle.tap_outside.specs.Seen.{StoreSeen}
 use Rattle.tp_layout.specs.Requests.{transmit_fault}
-use Rattle.tap_engine.specs.Commands.{Named}
+use Rattle.tap_engine.specs.Commands.{Named, is_threaded}
 use Rattle.tap_reading.specs.Readers.{Says}
 use Rattle.tap_engine.specs.Findings.{IsFound, IsReported, fault_at}
 use Rattle.tap_engine.specs.Jobs.{HasJob, HasLast, HasLines, HasSchedule, HasTicks, IsAsked}
@@ -48,11 +48,21 @@ pub run_meant : (meant : List ℕ → Bool) (named : Named) (setup : Setup) → 
 run_meant meant named setup is all = captures_meant meant setup.cpus
     (last_meant meant named setup Replay is all).1
 
-pub capture_meant : (meant : List ℕ → Bool) (named : Named) (setup : Setup)
-    → named.command ≡ Capture
+threaded_last : (meant : List ℕ → Bool) (schedule : List ℕ) (setup : Setup) (command : Command)
+    → is_threaded command ≡ true → AllMeant meant (read_last command schedule setup)
+    → All (λ cpu. IsTrue (meant cpu.file)) setup.cpus
+threaded_last meant schedule setup Capture is all = captures_meant meant setup.cpus all
+threaded_last meant schedule setup Forward is all = captures_meant meant setup.cpus all
+threaded_last meant schedule setup Check is all = cc
+threaded_last meant schedule setup Replay is all = cc
+threaded_last meant schedule setup Send is all = cc
+threaded_last meant schedule setup Make is all = cc
+
+pub threaded_meant : (meant : List ℕ → Bool) (named : Named) (setup : Setup)
+    → is_threaded named.command ≡ true
     → AfterMeant meant named setup → All (λ cpu. IsTrue (meant cpu.file)) setup.cpus
-capture_meant meant named setup is all = captures_meant meant setup.cpus
-    (last_meant meant named setup Capture is all)
+threaded_meant meant named setup is all =
+    threaded_last meant named.schedule setup named.command is all.last
 
 pub first_meant : (meant : List ℕ → Bool) (named : Named) (setup : Setup) → named.command ≡ Send
     → AfterMeant meant named setup → IsTrue (meant (first_file setup.cpus))
@@ -72,9 +82,18 @@ pub ticks_are : (named : Named) (setup : Setup) → named.command ≡ Check
     → ticks_for named.command setup ≡ setup.ticks
 ticks_are named setup is = ap (λ (c : Command). ticks_for c setup) is
 
-pub capture_ticks : (named : Named) (setup : Setup) → named.command ≡ Capture
+threaded_moments : (command : Command) (setup : Setup) → is_threaded command ≡ true
+    → ticks_for command setup ≡ setup.ticks
+threaded_moments Capture setup is = refl
+threaded_moments Forward setup is = refl
+threaded_moments Check setup is = cc
+threaded_moments Replay setup is = cc
+threaded_moments Send setup is = cc
+threaded_moments Make setup is = cc
+
+pub threaded_ticks : (named : Named) (setup : Setup) → is_threaded named.command ≡ true
     → ticks_for named.command setup ≡ setup.ticks
-capture_ticks named setup is = ap (λ (c : Command). ticks_for c setup) is
+threaded_ticks named setup is = threaded_moments named.command setup is
 
 pub checks : (old new : StoreSeen) (named : Named) (job : Job) (moments : List ℕ)
     → named.command ≡ Check → HasJob old.held named job
@@ -88,12 +107,12 @@ checks old new named job moments is has ticks = record {
       (sym (ticks_are named job.setup is)) ticks;
 }
 
-pub sends : (old new : StoreSeen) (named : Named) (job : Job) (sending : Sending)
+pub sent_found : (old new : StoreSeen) (named : Named) (job : Job) (sending : Sending)
     → named.command ≡ Send → HasJob old.held named job
     → IsSending old.held job.setup sending
     → RoseBy (fault_at sending.end) old.read_faults new.read_faults
     → IsFound (Some named) old new (finding.Sent job.setup sending)
-sends old new named job sending is has sent faults =
+sent_found old new named job sending is has sent faults =
     (record { command = is; job = job; job_is = has; setup_is = refl; sending_is = sent }, faults)
 
 pub none_rose : (n a : ℕ) → n ≡ 0 → RoseBy n a a
@@ -121,15 +140,24 @@ send_asked held named job is has =
           (sym is) tt;
     }
 
-pub capture_asked : (held : Option Contents) (named : Named) (job : Job) (moments : List ℕ)
-    → named.command ≡ Capture → HasJob held named job
+threaded_texts : (held : Option Contents) (named : Named) (job : Job) (moments : List ℕ)
+    (command : Command) → is_threaded command ≡ true
+    → HasTicks held job.setup.ticks moments → HasLast command held named job
+threaded_texts held named job moments Capture is ticks = (moments, ticks)
+threaded_texts held named job moments Forward is ticks = (moments, ticks)
+threaded_texts held named job moments Check is ticks = cc
+threaded_texts held named job moments Replay is ticks = cc
+threaded_texts held named job moments Send is ticks = cc
+threaded_texts held named job moments Make is ticks = cc
+
+pub threaded_asked : (held : Option Contents) (named : Named) (job : Job) (moments : List ℕ)
+    → is_threaded named.command ≡ true → HasJob held named job
     → HasTicks held job.setup.ticks moments → IsAsked held named
-capture_asked held named job moments is has ticks =
+threaded_asked held named job moments is has ticks =
     record {
       job = job;
       job_is = has;
-      last = subst (λ (c : Command). HasLast c held named job)
-          (sym is) (moments, ticks);
+      last = threaded_texts held named job moments named.command is ticks;
     }
 
 pub replay_asked : (held : Option Contents) (named : Named) (job : Job) (lines : List Line)
@@ -175,16 +203,16 @@ scheduled old mid job name lines report same says worth named is called has =
     here named is has (subst (λ (c : Command). LinesFor c old.held named job lines) (sym is)
     (schedule_by old.held named job name lines called says))
 
--- and whatever `capture` asks for it
+-- and whatever a command on threads asks for it
 abbrev pub IsWorthTimed : StoreSeen → Job → List ℕ → RunReport → Type 0
 IsWorthTimed store job moments report =
-    (named : Named) → named.command ≡ Capture → HasJob store.held named job
+    (named : Named) → is_threaded named.command ≡ true → HasJob store.held named job
     → HasTicks store.held job.setup.ticks moments
     → IsReported store.held named job.setup report
 
 pub timed : (old mid : StoreSeen) (job : Job) (moments : List ℕ) (report : RunReport) → mid ≡ old
     → HasTicks old.held job.setup.ticks moments → IsWorthTimed mid job moments report
-    → (named : Named) → named.command ≡ Capture → HasJob old.held named job
+    → (named : Named) → is_threaded named.command ≡ true → HasJob old.held named job
     → IsReported old.held named job.setup report
 timed old mid job moments report same ticks worth named is has =
     let here : IsWorthTimed old job moments report = subst (λ (s : StoreSeen). IsWorthTimed s job

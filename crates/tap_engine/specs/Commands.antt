@@ -2,7 +2,7 @@
 use Rattle.std.specs.Prelude.{ℕ, Bool, false, true, ◌&&◌, not, List, [], ◌∷◌, length, codes}
 use Rattle.std.specs.Prelude.{bytes_eq, ◌==◌, if◌then◌else◌, Option, None, Some, option_map}
 use Rattle.setup_text.specs.declared.commands.Command.{Command}
-use Rattle.setup_text.specs.declared.commands.Command.TheVariants.{Capture, Check, Make, Replay, Send}
+use Rattle.setup_text.specs.declared.commands.Command.TheVariants.{Capture, Check, Forward, Make, Replay, Send}
 
 -- a command with the names of its texts; where it has no schedule that name is empty
 pub record Named : Type 0 where
@@ -23,10 +23,11 @@ lone_command word =
     else if bytes_eq word (codes "capture") then Some Capture
     else if bytes_eq word (codes "send") then Some Send
     else if bytes_eq word (codes "make") then Some Make
+    else if bytes_eq word (codes "forward") then Some Forward
     else None
 
--- exactly the words `check CONF`, `capture CONF`, `send CONF`, `make CONF` and `replay CONF SCHED`,
--- where no name is empty
+-- exactly the words `check CONF`, `capture CONF`, `send CONF`, `make CONF`, `forward CONF` and
+-- `replay CONF SCHED`, where no name is empty
 abbrev pub command_of : List (List ℕ) → Option Named
 command_of (word ∷ setup ∷ []) =
     if is_name setup
@@ -39,9 +40,15 @@ command_of words = None
 -- whether a command runs on threads
 abbrev pub is_threaded : Command → Bool
 is_threaded Capture = true
+is_threaded Forward = true
 is_threaded command = false
 
--- the command that is carried out on one thread: each of these but `capture`
+-- whether the members of a command's run send what they read
+abbrev pub sends : Command → Bool
+sends Forward = true
+sends command = false
+
+-- the command that is carried out on one thread: each of these but `capture` and `forward`
 abbrev pub plain_of : Option Named → Option Named
 plain_of None = None
 plain_of (Some named) = if is_threaded named.command then None else Some named

@@ -8,7 +8,7 @@ use Rattle.setup_text.specs.Filters.{filter_of}
 use Rattle.setup_text.specs.Moments.{moments_of}
 use Rattle.setup_text.specs.Schedules.{schedule_of}
 use Rattle.setup_text.specs.declared.commands.Command.{Command}
-use Rattle.setup_text.specs.declared.commands.Command.TheVariants.{Capture, Check, Make, Replay, Send}
+use Rattle.setup_text.specs.declared.commands.Command.TheVariants.{Capture, Check, Forward, Make, Replay, Send}
 use Rattle.setup_text.specs.declared.cpu_setups.CpuSetup.{CpuSetup}
 use Rattle.setup_text.specs.declared.setups.Setup.{Setup}
 use Rattle.tap_outside.specs.Contents.{Contents}
@@ -52,6 +52,7 @@ AreSoundLast Make files schedule setup = ⊤
 AreSoundLast Replay files schedule setup =
     IsSoundSchedule files schedule setup × AreWhole files setup.cpus
 AreSoundLast Capture files schedule setup = AreWhole files setup.cpus
+AreSoundLast Forward files schedule setup = AreWhole files setup.cpus
 AreSoundLast Send files schedule setup =
     end_of (text_in files (first_file setup.cpus)) ≡ None
 

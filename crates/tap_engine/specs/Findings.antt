@@ -1,12 +1,15 @@
 -- What a command finds, by what the outside gives, and what it answers, prints and saves by that.
-use Rattle.std.specs.Prelude.{◌≡◌, ◌≤◌, ℕ, ◌+◌, List, [], ◌∷◌, codes, length, All, Option, None}
-use Rattle.std.specs.Prelude.{Some, ⊤, Result, Ok, Err}
+use Rattle.std.specs.Prelude.{◌≡◌, ◌≤◌, ℕ, ◌+◌, Bool, false, true, List, [], ◌∷◌, codes, length, map}
+use Rattle.std.specs.Prelude.{All, Option, None, Some, is_some, IfSome, ⊤, Result, Ok, Err}
 use Rattle.capture_file.specs.declared.cpu_end.CpuEnd.{CpuEnd}
 use Rattle.capture_file.specs.declared.cpu_end.CpuEnd.TheVariants.{Whole, Fault, Damaged}
 use Rattle.fanout_group.specs.declared.runs.CpuLog.{CpuLog}
 use Rattle.frame_view.specs.declared.want.Memory.{Memory}
+use Rattle.setup_text.specs.declared.reports.Forwards.{Forwards}
+use Rattle.setup_text.specs.declared.reports.MemberReport.{MemberReport}
 use Rattle.setup_text.specs.declared.reports.RunReport.{RunReport}
 use Rattle.setup_text.specs.declared.setups.Setup.{Setup}
+use Rattle.tap_forward.specs.Bridging.{sent_for, skipped_for}
 use Rattle.tap_outside.specs.Contents.{Contents}
 use Rattle.tap_outside.specs.Counts.{Rose, RoseBy}
 use Rattle.tap_outside.specs.Seen.{StoreSeen}
@@ -15,9 +18,10 @@ use Rattle.tap_printing.specs.Refusals.{setup_refusal, text_refusal}
 use Rattle.tap_reading.specs.declared.stops.Stop.{Stop}
 use Rattle.tap_reading.specs.declared.stops.Stop.TheVariants as stops
 use Rattle.run_reports.specs.Members.{AreShort}
-use Rattle.tap_saving.specs.Files.{File, files_from, names_from, sent_file, sent_name}
+use Rattle.tap_saving.specs.Files.{CanBeOutput, File, files_from, names_from, sent_file, sent_name}
 use Rattle.tp_layout.specs.Requests.{size_of}
-use Rattle.tap_engine.specs.Commands.{Named}
+use Rattle.tx_ring.specs.Rings.{room_of}
+use Rattle.tap_engine.specs.Commands.{Named, sends}
 use Rattle.tap_engine.specs.Headline.{IsHeadline}
 use Rattle.tap_engine.specs.Jobs.{HasBadSetup, HasBadText, IsChecked}
 use Rattle.tap_engine.specs.Sendings.{IsSent}
@@ -33,6 +37,21 @@ pub record IsReported (held : Option Contents) (named : Named) (setup : Setup) (
     : Type 0 where
   pub headline : IsHeadline held named report
   pub setup_is : headline.job.setup ≡ setup
+
+-- what members sent and skipped is what is forwarded of the packets that each read, through slots
+-- of so many bytes
+pub record IsForwarded (room : ℕ) (members : List MemberReport) (forwards : Forwards)
+    : Type 0 where
+  pub sent : forwards.sent ≡ map (sent_for room) members
+  pub skipped : forwards.skipped ≡ map (skipped_for room) members
+
+-- members send under a command that sends, and under no other
+abbrev pub IsSentBy : Bool → Setup → RunReport → Option Forwards → Type 0
+IsSentBy true setup report (Some forwards) =
+    IsForwarded (room_of setup.shape) report.members forwards
+IsSentBy true setup report None = ⊥
+IsSentBy false setup report (Some forwards) = ⊥
+IsSentBy false setup report None = ⊤
 
 -- how many CPUs ended with a fault
 abbrev pub fault_at : CpuEnd → ℕ
@@ -54,9 +73,10 @@ IsFound (Some named) old new finding.Unread = Rose old.read_faults new.read_faul
 IsFound (Some named) old new (finding.BadSetup error) = HasBadSetup old new named error
 IsFound (Some named) old new (finding.BadText error) = HasBadText old new named error
 IsFound (Some named) old new finding.Checked = IsChecked old.held named
-IsFound (Some named) old new (finding.Ran setup report) =
+IsFound (Some named) old new (finding.Ran setup report forwards) =
     IsReported old.held named setup report
     × RoseBy (faults_in report.cpus) old.read_faults new.read_faults
+    × IsSentBy (sends named.command) setup report forwards
 IsFound (Some named) old new (finding.Sent setup sending) =
     IsSent old.held named setup sending
     × RoseBy (fault_at sending.end) old.read_faults new.read_faults
@@ -89,32 +109,34 @@ status_of finding.Unread = statuses.ReadFault
 status_of (finding.BadSetup error) = statuses.Setup error
 status_of (finding.BadText error) = statuses.Text error
 status_of finding.Checked = statuses.Fine
-status_of (finding.Ran setup report) = status_of_logs 0 report.cpus
+status_of (finding.Ran setup report forwards) = status_of_logs 0 report.cpus
 status_of (finding.Sent setup sending) = status_by_end 0 sending.end statuses.Fine
 
 -- the report
 abbrev pub report_in : Finding → Option RunReport
-report_in (finding.Ran setup report) = Some report
+report_in (finding.Ran setup report forwards) = Some report
 report_in found = None
 
 -- the printed lines
 abbrev pub lines_of : Finding → List ℕ
-lines_of finding.NoCommand = codes "usage: ringtap check|replay|capture|send|make CONF [SCHED]\n"
+lines_of finding.NoCommand =
+    codes "usage: ringtap check|replay|capture|send|make|forward CONF [SCHED]\n"
 lines_of finding.Unread = codes "read fault\n"
 lines_of (finding.BadSetup error) = setup_refusal error
 lines_of (finding.BadText error) = text_refusal error
 lines_of finding.Checked = codes "ok\n"
-lines_of (finding.Ran setup report) = summary_of (size_of setup.shape) report
+lines_of (finding.Ran setup report forwards) = summary_of (size_of setup.shape) forwards report
 lines_of (finding.Sent setup sending) = send_lines sending.frames sending.end sending.sent
 
 -- the files, and their names
 abbrev pub files_of : Finding → List File
-files_of (finding.Ran setup report) = files_from setup 0 report.members
+files_of (finding.Ran setup report forwards) = files_from setup forwards 0 report.members
 files_of (finding.Sent setup sending) = sent_file setup sending.sent.packets ∷ []
 files_of found = []
 
 abbrev pub names_of : Finding → List (List ℕ)
-names_of (finding.Ran setup report) = names_from setup 0 (length report.members)
+names_of (finding.Ran setup report forwards) =
+    names_from setup (is_some forwards) 0 (length report.members)
 names_of (finding.Sent setup sending) = sent_name setup ∷ []
 names_of found = []
 
@@ -127,7 +149,7 @@ pub record IsSmall (report : RunReport) : Type 0 where
   pub packets : AreShort report.members
 
 abbrev pub IsReady : Finding → Type 0
-IsReady (finding.Ran setup report) = IsSmall report
-IsReady (finding.Sent setup sending) =
-    All (λ packet. length packet.bytes ≤ 4294967291) sending.sent.packets
+IsReady (finding.Ran setup report forwards) =
+    IsSmall report × IfSome forwards (λ forwards. All CanBeOutput forwards.sent)
+IsReady (finding.Sent setup sending) = CanBeOutput sending.sent.packets
 IsReady found = ⊤

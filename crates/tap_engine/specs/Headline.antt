@@ -8,7 +8,7 @@ use Rattle.capture_reports.specs.Reported.{IsCaptured}
 use Rattle.made_captures.specs.Made.{made_captures}
 use Rattle.schedule_lines.specs.declared.lines.Line.{Line}
 use Rattle.setup_text.specs.declared.commands.Command.{Command}
-use Rattle.setup_text.specs.declared.commands.Command.TheVariants.{Capture, Check, Make, Replay, Send}
+use Rattle.setup_text.specs.declared.commands.Command.TheVariants.{Capture, Check, Forward, Make, Replay, Send}
 use Rattle.setup_text.specs.declared.cpu_setups.CpuSetup.{CpuSetup}
 use Rattle.setup_text.specs.declared.jobs.Job.{Job}
 use Rattle.setup_text.specs.declared.reports.RunReport.{RunReport}
@@ -52,6 +52,7 @@ CapturesFor Check held setup bytes ends = ⊥
 CapturesFor Make held setup bytes ends = AreMade setup bytes ends
 CapturesFor Replay held setup bytes ends = AreCaptures held setup.cpus bytes ends
 CapturesFor Capture held setup bytes ends = AreCaptures held setup.cpus bytes ends
+CapturesFor Forward held setup bytes ends = AreCaptures held setup.cpus bytes ends
 CapturesFor Send held setup bytes ends = ⊥
 
 -- the report is the replay report of the command's lines, and of what the captures gave
@@ -69,13 +70,14 @@ pub record IsCaptureOf (held : Option Contents) (job : Job) (report : RunReport)
   pub captured : IsCaptured job.setup.shape moments report
 
 -- what a command adds to what holds of every report: `replay` and `make` replay their lines, and
--- `capture` tells its moments
+-- `capture` and `forward` tell their moments
 abbrev pub IsRunOf :
     Command → Option Contents → Named → Job → List (List ℕ) → List CpuEnd → RunReport → Type 0
 IsRunOf Check held named job bytes ends report = ⊥
 IsRunOf Make held named job bytes ends report = IsReplayOf held named job bytes ends report
 IsRunOf Replay held named job bytes ends report = IsReplayOf held named job bytes ends report
 IsRunOf Capture held named job bytes ends report = IsCaptureOf held job report
+IsRunOf Forward held named job bytes ends report = IsCaptureOf held job report
 IsRunOf Send held named job bytes ends report = ⊥
 
 -- A report is that of the setup, the filter and the captures under their names.

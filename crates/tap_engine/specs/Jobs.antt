@@ -8,7 +8,7 @@ use Rattle.setup_text.specs.Filters.{filter_of}
 use Rattle.setup_text.specs.Moments.{moments_of}
 use Rattle.made_captures.specs.Made.{made_lines}
 use Rattle.setup_text.specs.declared.commands.Command.{Command}
-use Rattle.setup_text.specs.declared.commands.Command.TheVariants.{Capture, Check, Make, Replay, Send}
+use Rattle.setup_text.specs.declared.commands.Command.TheVariants.{Capture, Check, Forward, Make, Replay, Send}
 use Rattle.setup_text.specs.declared.jobs.Job.{Job}
 use Rattle.setup_text.specs.declared.setup_error.SetupError.{SetupError}
 use Rattle.setup_text.specs.declared.setups.Setup.{Setup}
@@ -59,6 +59,7 @@ LinesFor Make held named job lines =
     lines ≡ made_lines job.setup.count (length job.setup.cpus) job.setup.plan.members
 LinesFor Check held named job lines = ⊥
 LinesFor Capture held named job lines = ⊥
+LinesFor Forward held named job lines = ⊥
 LinesFor Send held named job lines = ⊥
 
 abbrev pub HasLines : Option Contents → Named → Job → List Line → Type 0
@@ -111,6 +112,7 @@ HasLast Check held named job = ⊥
 HasLast Make held named job = ⊤
 HasLast Replay held named job = (lines : List Line) × HasSchedule held named job lines
 HasLast Capture held named job = (moments : List ℕ) × HasTicks held job.setup.ticks moments
+HasLast Forward held named job = (moments : List ℕ) × HasTicks held job.setup.ticks moments
 HasLast Send held named job = ⊤
 
 -- so were all its texts

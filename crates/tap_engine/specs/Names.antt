@@ -1,9 +1,9 @@
 -- Which files a command reads and which it saves.
-use Rattle.std.specs.Prelude.{ℕ, Bool, List, [], ◌∷◌, ◌++◌, map, option_to_list, Option, None, Some}
+use Rattle.std.specs.Prelude.{ℕ, Bool, false, true, List, [], ◌∷◌, ◌++◌, map, option_to_list, Option, None, Some}
 use Rattle.std.specs.Prelude.{unwrap_or, IsTrue, ⊤, Result, Ok, Err}
 use Rattle.std.specs.List.{AllByRecursion}
 use Rattle.setup_text.specs.declared.commands.Command.{Command}
-use Rattle.setup_text.specs.declared.commands.Command.TheVariants.{Capture, Check, Make, Replay, Send}
+use Rattle.setup_text.specs.declared.commands.Command.TheVariants.{Capture, Check, Forward, Make, Replay, Send}
 use Rattle.setup_text.specs.declared.cpu_setups.CpuSetup.{CpuSetup}
 use Rattle.setup_text.specs.declared.setup_error.SetupError.{SetupError}
 use Rattle.setup_text.specs.declared.setups.Setup.{Setup}
@@ -20,11 +20,13 @@ filter_for Check setup = setup.filter
 filter_for Make setup = setup.filter
 filter_for Replay setup = setup.filter
 filter_for Capture setup = setup.filter
+filter_for Forward setup = setup.filter
 
--- the moments that it reads: those of a setup that is checked or of a capture
+-- the moments that it reads: those of a setup that is checked or runs on threads
 abbrev pub ticks_for : Command → Setup → Option (List ℕ)
 ticks_for Check setup = setup.ticks
 ticks_for Capture setup = setup.ticks
+ticks_for Forward setup = setup.ticks
 ticks_for Make setup = None
 ticks_for Replay setup = None
 ticks_for Send setup = None
@@ -34,13 +36,14 @@ abbrev pub first_file : List CpuSetup → List ℕ
 first_file [] = []
 first_file (cpu ∷ cpus) = cpu.file
 
--- after these `replay` reads the schedule and the captures, `capture` the captures, and `send` the
--- first capture
+-- after these `replay` reads the schedule and the captures, `capture` and `forward` the captures,
+-- and `send` the first capture
 abbrev pub read_last : Command → List ℕ → Setup → List (List ℕ)
 read_last Check schedule setup = []
 read_last Make schedule setup = []
 read_last Replay schedule setup = schedule ∷ map (λ cpu. cpu.file) setup.cpus
 read_last Capture schedule setup = map (λ cpu. cpu.file) setup.cpus
+read_last Forward schedule setup = map (λ cpu. cpu.file) setup.cpus
 read_last Send schedule setup = first_file setup.cpus ∷ []
 
 -- what a command reads after its setup
@@ -55,12 +58,14 @@ abbrev pub read_by : Named → Result Setup SetupError → List (List ℕ)
 read_by named (Err error) = named.setup ∷ []
 read_by named (Ok setup) = named.setup ∷ read_after named setup
 
--- a run saves the files of its members, and `send` what it sent
+-- a run saves the files of its members, those of what they sent under `forward`, and `send` what it
+-- sent
 abbrev pub saved_for : Command → Setup → List (List ℕ)
 saved_for Check setup = []
-saved_for Make setup = names_from setup 0 setup.plan.members
-saved_for Replay setup = names_from setup 0 setup.plan.members
-saved_for Capture setup = names_from setup 0 setup.plan.members
+saved_for Make setup = names_from setup false 0 setup.plan.members
+saved_for Replay setup = names_from setup false 0 setup.plan.members
+saved_for Capture setup = names_from setup false 0 setup.plan.members
+saved_for Forward setup = names_from setup true 0 setup.plan.members
 saved_for Send setup = sent_name setup ∷ []
 
 abbrev pub saved_by : Command → Result Setup SetupError → List (List ℕ)

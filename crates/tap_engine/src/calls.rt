@@ -29,6 +29,9 @@ use text_lines::Word;
 ///   captures of the setup on threads: a feeder for each capture, a reader for each member, and a
 ///   timer that tells the members the moments. The threads pass the gate at the points that it
 ///   names. The call may wait, and what it promises holds where it returns.
+/// - `forward CONF` does the same, and each reader sends the packets that it reads through a
+///   transmit ring of its own. After a member's other files what it sent is saved as a capture
+///   file, and after its line the numbers of packets that it sent and skipped are printed.
 /// - Every other command is carried out as `run_plain` does.
 ///
 /// Any other words are no command. The commands, the texts and the printed lines are this project's
@@ -77,9 +80,9 @@ pub fn run<S: Store, O: Sink, G: Gate + Sync, R: Threads + Wait + Sync>(
 ///   and reads no capture.
 /// - `send CONF` sends the capture of CPU 0 through a transmit ring, and gives no report.
 ///
-/// Any other words are no command here, `capture CONF` among them: it runs on threads. The
-/// commands, the texts and the printed lines are this project's own choice; docs/using.md lists
-/// them.
+/// Any other words are no command here, `capture CONF` and `forward CONF` among them: they run on
+/// threads. The commands, the texts and the printed lines are this project's own choice;
+/// docs/using.md lists them.
 pub fn run_plain<S: Store, O: Sink>(
     alloc: Global,
     words: &[Word],

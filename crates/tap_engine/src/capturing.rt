@@ -1,51 +1,67 @@
 //! Runs on threads, from their jobs to their reports, over the captures of a store.
-ghost use Rattle.std.specs.Prelude.{◌≡◌, All, IfErr, IfOk, IfSome, IsTrue};
+ghost use Rattle.std.specs.Prelude.{◌≡◌, true, length, map, option_map};
+ghost use Rattle.std.specs.Prelude.{All, IfErr, IfOk, IfSome, IsTrue};
+ghost use Rattle.cpu_feeders.specs.Runs.{IsCaptureRun};
 ghost use Rattle.setup_text.specs.Sound.{AreMoments, IsSetup};
-ghost use Rattle.setup_text.specs.declared.commands.Command.TheVariants.{Capture};
 ghost use Rattle.tap_outside.specs.Counts.{RoseBy};
 ghost use Rattle.tap_outside.specs.Seen.{OnlyReads};
-ghost use Rattle.tap_engine.specs.Commands.{Named};
-ghost use Rattle.tap_engine.specs.Findings.{IsReported, IsSmall, faults_in};
+ghost use Rattle.tap_saving.specs.Files.{CanBeOutput};
+ghost use Rattle.tap_engine.specs.Commands.{Named, is_threaded};
+ghost use Rattle.tap_engine.specs.Findings.{IsReported, IsSentBy, IsSmall, faults_in};
 ghost use Rattle.tap_engine.specs.Jobs.{HasJob, HasTicks, Stops};
 
 use crate::jobs::load_moments;
 use crate::sources::{close_captures, fetch_captures};
 use cpu_feeders::{Gate, run_workers};
-use frame_view::{Memory, MomentList};
-use setup_text::{Job, Ran, RunReport};
+use frame_view::{ItemList, Memory, MomentList};
+use setup_text::{Forwards, Job, Ran, RunReport};
 use std::alloc::Global;
 use std::sync::Wait;
 use std::thread::Threads;
-use tap_outside::Store;
+use tap_forward::{ForwardRan, forward_workers};
+use tap_outside::{Source, Store};
 use tap_reading::Stop;
 
+/// What becomes of a run on threads.
+#[derive(Drop)]
+pub(crate) struct ThreadedRun {
+    /// What it reports.
+    pub report: RunReport,
+    /// What its members sent, where they send.
+    pub forwards: Option<Forwards>,
+}
+
 /// Runs a job on threads over the captures that a store holds, and tells its members the moments
-/// that its setup names.
-pub(crate) fn capture_timed<S: Store, G: Gate + Sync, R: Threads + Wait + Sync>(
+/// that its setup names. The members send what they read, or don't.
+pub(crate) fn run_timed<S: Store, G: Gate + Sync, R: Threads + Wait + Sync>(
     rt: &R,
     alloc: Global,
     job: &Job,
+    sends: bool,
     store: &mut S,
     gate: &G,
-) -> Result<RunReport, Stop>
+) -> Result<ThreadedRun, Stop>
     requires setup { IsSetup job.now.setup }
     requires ticks { IfSome job.now.setup.ticks
         (λ name. IsTrue ((S.seen store.old).to_read name)) }
     requires captures { All (λ cpu. IsTrue ((S.seen store.old).to_read cpu.file))
         job.now.setup.cpus }
-    ensures reported { IfOk result (λ report. (named : Named) → named.command ≡ Capture
+    ensures reported { IfOk result (λ run. (named : Named) → is_threaded named.command ≡ true
         → HasJob (S.seen store.old).held named job.now
-        → IsReported (S.seen store.old).held named job.now.setup report) }
-    ensures stop { IfErr result (λ stop. (named : Named) → named.command ≡ Capture
+        → IsReported (S.seen store.old).held named job.now.setup run.report) }
+    ensures sent { IfOk result (λ run. IsSentBy sends job.now.setup run.report run.forwards) }
+    ensures stop { IfErr result (λ stop. (named : Named) → is_threaded named.command ≡ true
         → HasJob (S.seen store.old).held named job.now
         → Stops (S.seen store.old) (S.seen store.new) named stop) }
-    ensures faults { IfOk result (λ report. RoseBy (faults_in report.cpus)
+    ensures faults { IfOk result (λ run. RoseBy (faults_in run.report.cpus)
         (S.seen store.old).read_faults (S.seen store.new).read_faults) }
-    ensures small { IfOk result IsSmall }
+    ensures small { IfOk result (λ run. IsSmall run.report) }
+    ensures short { IfOk result (λ run.
+        IfSome run.forwards (λ forwards. All CanBeOutput forwards.sent)) }
     ensures store { OnlyReads (S.seen store.old) (S.seen store.new) }
 {
     let moments = load_moments(alloc, store, &job.setup.ticks)?;
-    Ok(run_captures(rt, alloc, job, &moments, store, gate)?)
+    Ok(run_captures(rt, alloc, job, sends, &moments, store, gate)?)
 }
 
 /// Runs a job on threads over the captures that a store holds, with these moments.
@@ -53,25 +69,67 @@ fn run_captures<S: Store, G: Gate + Sync, R: Threads + Wait + Sync>(
     rt: &R,
     alloc: Global,
     job: &Job,
+    sends: bool,
     moments: &MomentList,
     store: &mut S,
     gate: &G,
-) -> Result<RunReport, Memory>
+) -> Result<ThreadedRun, Memory>
     requires setup { IsSetup job.now.setup }
     requires moments { AreMoments moments.now }
     requires captures { All (λ cpu. IsTrue ((S.seen store.old).to_read cpu.file))
         job.now.setup.cpus }
-    ensures reported { IfOk result (λ report. (named : Named) → named.command ≡ Capture
+    ensures reported { IfOk result (λ run. (named : Named) → is_threaded named.command ≡ true
         → HasJob (S.seen store.old).held named job.now
         → HasTicks (S.seen store.old).held job.now.setup.ticks moments.now
-        → IsReported (S.seen store.old).held named job.now.setup report) }
-    ensures faults { IfOk result (λ report. RoseBy (faults_in report.cpus)
+        → IsReported (S.seen store.old).held named job.now.setup run.report) }
+    ensures sent { IfOk result (λ run. IsSentBy sends job.now.setup run.report run.forwards) }
+    ensures faults { IfOk result (λ run. RoseBy (faults_in run.report.cpus)
         (S.seen store.old).read_faults (S.seen store.new).read_faults) }
-    ensures small { IfOk result IsSmall }
+    ensures small { IfOk result (λ run. IsSmall run.report) }
+    ensures short { IfOk result (λ run.
+        IfSome run.forwards (λ forwards. All CanBeOutput forwards.sent)) }
     ensures store { OnlyReads (S.seen store.old) (S.seen store.new) }
 {
     let sources = fetch_captures(alloc, store, &job.setup.cpus)?;
-    let Ran { report, sources } = run_workers(rt, alloc, job, sources, moments, gate)?;
+    let (ran, forwards) = run_sources(rt, alloc, job, sends, sources, moments, gate)?;
+    let Ran { report, sources } = ran;
     close_captures(store, sources);
-    Ok(report)
+    Ok(ThreadedRun { report, forwards })
+}
+
+/// Runs a job on threads over the sources of its captures, with these moments.
+fn run_sources<S: Source + Send, G: Gate + Sync, R: Threads + Wait + Sync>(
+    rt: &R,
+    alloc: Global,
+    job: &Job,
+    sends: bool,
+    sources: Vec<Option<S>>,
+    moments: &MomentList,
+    gate: &G,
+) -> Result<(Ran<S>, Option<Forwards>), Memory>
+    requires setup { IsSetup job.now.setup }
+    requires sources { length sources.items ≡ length job.now.setup.cpus }
+    requires moments { AreMoments moments.now }
+    ensures ran { IfOk result (λ run. IsCaptureRun job.now moments.now
+        (map (option_map S.seen) sources.items)
+        (map (option_map S.seen) run.0.sources.items)
+        run.0.report) }
+    ensures sent { IfOk result (λ run. IsSentBy sends job.now.setup run.0.report run.1) }
+{
+    if !sends {
+        let ran = run_workers(rt, alloc, job, sources, moments, gate)?;
+        return Ok((ran, None));
+    }
+    let ran = forward_workers(rt, alloc, job, sources, moments, gate)?;
+    let ForwardRan {
+        report,
+        sent,
+        skipped,
+        sources,
+    } = ran;
+    let forwards = Forwards {
+        sent: ItemList::from_vec(sent),
+        skipped: ItemList::from_vec(skipped),
+    };
+    Ok((Ran { report, sources }, Some(forwards)))
 }

@@ -1,7 +1,7 @@
 //! The words of a command.
 ghost use Rattle.std.specs.Prelude.{◌≡◌, [], ◌∷◌, false, option_map, IfSome};
 ghost use Rattle.tap_engine.specs.Commands.{command_of, is_threaded, lone_command, named_by};
-ghost use Rattle.tap_engine.specs.Commands.{plain_command};
+ghost use Rattle.tap_engine.specs.Commands.{plain_command, sends};
 
 use setup_text::Command;
 use text_lines::Word;
@@ -38,12 +38,24 @@ pub(crate) fn plain_command(words: &[Word]) -> Option<Asked<'_>>
 {
     let asked = command_of(words)?;
     match asked.command {
-        Command::Capture => None,
+        Command::Capture | Command::Forward => None,
         Command::Check | Command::Replay | Command::Send | Command::Make => Some(asked),
     }
 }
 
-/// The commands `check CONF`, `capture CONF`, `send CONF` and `make CONF`.
+/// Whether the members of a command's run send what they read.
+pub(crate) fn sends(command: Command) -> bool
+    ensures { result ≡ sends command }
+{
+    match command {
+        Command::Forward => true,
+        Command::Check | Command::Replay | Command::Capture | Command::Send | Command::Make => {
+            false
+        }
+    }
+}
+
+/// The commands `check CONF`, `capture CONF`, `send CONF`, `make CONF` and `forward CONF`.
 fn lone_of<'a>(word: &Word, setup: &'a Word) -> Option<Asked<'a>>
     ensures { option_map (λ asked. named_by asked.command asked.setup.now asked.schedule.now) result
         ≡ command_of (word.now ∷ setup.now ∷ []) }
@@ -73,6 +85,8 @@ fn lone_command(word: &[u8]) -> Option<Command>
         Some(Command::Send)
     } else if word == b"make".as_slice() {
         Some(Command::Make)
+    } else if word == b"forward".as_slice() {
+        Some(Command::Forward)
     } else {
         None
     }

@@ -49,8 +49,9 @@ fn save<S: Store>(alloc: Global, finding: &Finding, store: &mut S) -> Result<boo
         (SavedSome (S.seen store.old) (S.seen store.new) (files_of finding.now)) }
 {
     match finding {
-        Finding::Ran(setup, report) => {
-            save_members(alloc, setup, report.members.as_slice(), store)
+        Finding::Ran(setup, report, forwards) => {
+            let members = report.members.as_slice();
+            save_members(alloc, setup, members, forwards.as_ref(), store)
         }
         Finding::Sent(setup, sending) => save_sent(alloc, setup, &sending.sent.packets, store),
         _ => Ok(true),

@@ -51,7 +51,7 @@ fn filter_for(command: Command, setup: &Setup) -> Option<&Word>
 {
     match command {
         Command::Send => None,
-        Command::Check | Command::Make | Command::Replay | Command::Capture => {
+        Command::Check | Command::Make | Command::Replay | Command::Capture | Command::Forward => {
             setup.filter.as_ref()
         }
     }

@@ -1,5 +1,5 @@
 //! What a command finds: its texts, its captures and its run.
-ghost use Rattle.std.specs.Prelude.{◌≡◌, false, Some, IfErr, IfOk};
+ghost use Rattle.std.specs.Prelude.{◌≡◌, false, true, Some, IfErr, IfOk};
 ghost use Rattle.setup_text.specs.Setups.{request_fault};
 ghost use Rattle.setup_text.specs.Sound.{IsSetup};
 ghost use Rattle.tap_outside.specs.Seen.{OnlyReads};
@@ -9,8 +9,8 @@ ghost use Rattle.tap_engine.specs.Findings.{IsFound, IsReady, finding_of};
 ghost use Rattle.tap_engine.specs.Jobs.{HasJob, Stops};
 ghost use Rattle.tap_engine.specs.Names.{AreMeantToRead};
 
-use crate::capturing::capture_timed;
-use crate::commands::{Asked, command_of, plain_command};
+use crate::capturing::{ThreadedRun, run_timed};
+use crate::commands::{Asked, command_of, plain_command, sends};
 use crate::findings::Finding;
 use crate::jobs::{load_job, load_moments};
 use crate::making::{replay_made, replay_scheduled};
@@ -25,7 +25,8 @@ use tap_outside::Store;
 use tap_reading::Stop;
 use text_lines::Word;
 
-/// Finds what the words ask for, on threads where they are `capture CONF`. The store is read alone.
+/// Finds what the words ask for, on threads where they are `capture CONF` or `forward CONF`. The
+/// store is read alone.
 pub(crate) fn find<S: Store, G: Gate + Sync, R: Threads + Wait + Sync>(
     rt: &R,
     alloc: Global,
@@ -42,7 +43,9 @@ pub(crate) fn find<S: Store, G: Gate + Sync, R: Threads + Wait + Sync>(
         return Ok(Finding::NoCommand);
     };
     match asked.command {
-        Command::Capture => finding_of(capture(rt, alloc, asked, store, gate)),
+        Command::Capture | Command::Forward => {
+            finding_of(run_threads(rt, alloc, asked, store, gate))
+        }
         Command::Check | Command::Replay | Command::Send | Command::Make => {
             finding_of(carry_out(alloc, asked, store))
         }
@@ -120,29 +123,29 @@ fn work<S: Store>(alloc: Global, asked: Asked<'_>, job: Job, store: &mut S) -> R
         }
         Command::Make => {
             let report = replay_made(alloc, &job)?;
-            Ok(Finding::Ran(job.setup, report))
+            Ok(Finding::Ran(job.setup, report, None))
         }
         Command::Replay => {
             let report = replay_scheduled(alloc, &job, asked.schedule, store)?;
-            Ok(Finding::Ran(job.setup, report))
+            Ok(Finding::Ran(job.setup, report, None))
         }
         Command::Send => {
             let sending = send_capture(alloc, &job.setup, store)?;
             Ok(Finding::Sent(job.setup, sending))
         }
-        Command::Capture => unreachable!(),
+        Command::Capture | Command::Forward => unreachable!(),
     }
 }
 
-/// Reads the texts and the captures of a `capture`, and does its run on threads.
-fn capture<S: Store, G: Gate + Sync, R: Threads + Wait + Sync>(
+/// Reads the texts and the captures of a `capture` or a `forward`, and does its run on threads.
+fn run_threads<S: Store, G: Gate + Sync, R: Threads + Wait + Sync>(
     rt: &R,
     alloc: Global,
     asked: Asked<'_>,
     store: &mut S,
     gate: &G,
 ) -> Result<Finding, Stop>
-    requires command { asked.command ≡ Command.Capture }
+    requires threaded { is_threaded asked.command ≡ true }
     requires reads { AreMeantToRead
         (Some (named_by asked.command asked.setup.now asked.schedule.now)) (S.seen store.old) }
     ensures found { IfOk result (IsFound
@@ -154,6 +157,7 @@ fn capture<S: Store, G: Gate + Sync, R: Threads + Wait + Sync>(
     ensures store { OnlyReads (S.seen store.old) (S.seen store.new) }
 {
     let job = load_job(alloc, asked, store)?;
-    let report = capture_timed(rt, alloc, &job, store, gate)?;
-    Ok(Finding::Ran(job.setup, report))
+    let sends = sends(asked.command);
+    let ThreadedRun { report, forwards } = run_timed(rt, alloc, &job, sends, store, gate)?;
+    Ok(Finding::Ran(job.setup, report, forwards))
 }

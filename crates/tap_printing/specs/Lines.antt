@@ -1,6 +1,6 @@
 -- The printed lines of a run and of what was sent, as bytes. Numbers are decimal, and a line feed
 -- ends each line.
-use Rattle.std.specs.Prelude.{ℕ, ◌+◌, List, [], ◌∷◌, ◌++◌, length, flat_map, codes, decimal, Option, None, Some}
+use Rattle.std.specs.Prelude.{ℕ, ◌+◌, List, [], ◌∷◌, ◌++◌, length, flat_map, codes, decimal, slice_get, Option, None, Some}
 use Rattle.capture_file.specs.declared.error.CaptureError.{CaptureError}
 use Rattle.capture_file.specs.declared.error.CaptureError.TheVariants.{BadMagic, BadVersion, BadLink, BadLength, Truncated, TooLarge, Memory, BadInterface}
 use Rattle.tx_ring.specs.declared.transmitting.Transmitted.{Transmitted}
@@ -10,6 +10,8 @@ use Rattle.ring_model.specs.declared.notes.Stats.{Stats}
 use Rattle.capture_file.specs.declared.cpu_end.CpuEnd.{CpuEnd}
 use Rattle.capture_file.specs.declared.cpu_end.CpuEnd.TheVariants.{Whole, Fault, Damaged}
 use Rattle.fanout_group.specs.declared.runs.CpuLog.{CpuLog}
+use Rattle.frame_view.specs.declared.frames.Packet.{Packet}
+use Rattle.setup_text.specs.declared.reports.Forwards.{Forwards}
 use Rattle.setup_text.specs.declared.reports.MemberReport.{MemberReport}
 use Rattle.setup_text.specs.declared.reports.RunReport.{RunReport}
 -- the sums are those that add up by a law of reports
@@ -67,10 +69,32 @@ member_text size member report =
     member_line member (totals_of size report.notes) report.blocks
     ++ flat_map (count_line member) (counts_of size report.notes)
 
+-- the line of how many packets a member sent, and how many it skipped
+unfoldable pub forward_line : ℕ → ℕ → ℕ → List ℕ
+forward_line member sent skipped =
+    codes "forward " ++ (decimal member ++ (codes " sent " ++ (decimal sent
+    ++ (codes " skipped " ++ (decimal skipped ++ codes "\n")))))
+
+abbrev pub forward_by : ℕ → Option (List Packet) → Option ℕ → List ℕ
+forward_by member (Some sent) (Some skipped) = forward_line member (length sent) skipped
+forward_by member sent skipped = []
+
+-- that line, where members send
+unfoldable pub forward_text : Option Forwards → ℕ → List ℕ
+forward_text None member = []
+forward_text (Some forwards) member =
+    forward_by member (slice_get forwards.sent member) (slice_get forwards.skipped member)
+
+-- the lines of a member, and then that of what it sent
+unfoldable pub lines_at : Size → Option Forwards → ℕ → MemberReport → List ℕ
+lines_at size forwards member report =
+    member_text size member report ++ forward_text forwards member
+
 -- the lines of members that have the numbers from this one up
-abbrev pub member_lines : Size → ℕ → List MemberReport → List ℕ
-member_lines size member [] = []
-member_lines size member (report ∷ reports) = member_text size member report ++ member_lines size (member + 1) reports
+abbrev pub member_lines : Size → Option Forwards → ℕ → List MemberReport → List ℕ
+member_lines size forwards member [] = []
+member_lines size forwards member (report ∷ reports) =
+    lines_at size forwards member report ++ member_lines size forwards (member + 1) reports
 
 -- the line of a run's sums
 unfoldable pub total_line : ℕ → ℕ → ℕ → ℕ → List ℕ
@@ -78,10 +102,11 @@ total_line arrivals filtered kept drops =
     codes "total arrivals " ++ (decimal arrivals ++ (codes " filtered " ++ (decimal filtered
     ++ (codes " kept " ++ (decimal kept ++ (codes " drops " ++ (decimal drops ++ codes "\n")))))))
 
--- the lines of a run: the CPUs', the members' and the sums
-unfoldable pub summary_of : Size → RunReport → List ℕ
-summary_of size report =
-    cpu_lines 0 report.cpus ++ (member_lines size 0 report.members
+-- the lines of a run: the CPUs', the members' and the sums; after a member's lines that of what it
+-- sent, where members send
+unfoldable pub summary_of : Size → Option Forwards → RunReport → List ℕ
+summary_of size forwards report =
+    cpu_lines 0 report.cpus ++ (member_lines size forwards 0 report.members
     ++ total_line (arrivals_in report.cpus) (filtered_in report.cpus) (kept_in size report.members) (drops_in size report.members))
 
 -- the frame at which a transmit ring stopped

@@ -1,12 +1,14 @@
 //! The lines of members, and the sums over them.
-ghost use Rattle.std.specs.Prelude.{◌≡◌, ◌++◌, ◌≤◌, IfOk, OnOk, flat_map, string_bytes};
+ghost use Rattle.std.specs.Prelude.{◌≡◌, ◌++◌, ◌≤◌, IfOk, OnOk, flat_map, option_copied, string_bytes};
 ghost use Rattle.ring_model.specs.Fates.{totals_of};
 ghost use Rattle.ring_model.specs.Ring.{AtEachSize};
-ghost use Rattle.tap_printing.specs.Lines.{count_line, drops_in, kept_in, member_line, member_lines, member_text, stats_text};
+ghost use Rattle.tap_printing.specs.Lines.{count_line, drops_in, forward_line, forward_text};
+ghost use Rattle.tap_printing.specs.Lines.{kept_in, lines_at, member_line, member_lines};
+ghost use Rattle.tap_printing.specs.Lines.{member_text, stats_text};
 
 use frame_view::Memory;
 use ring_model::{Stats, Tally, tally_notes};
-use setup_text::MemberReport;
+use setup_text::{Forwards, MemberReport};
 use std::alloc::Global;
 
 /// Numbers of packets over several members.
@@ -16,15 +18,18 @@ pub(crate) struct Passed {
     pub(crate) drops: u128,
 }
 
-/// Appends the lines of members, from 0 up, and says how many packets they kept and dropped.
+/// Appends the lines of members, from 0 up, and says how many packets they kept and dropped. Where
+/// members send, the line of what a member sent comes after its own.
 pub(crate) fn push_members(
     alloc: Global,
     text: &mut Vec<u8>,
     tov: u64,
     members: &[MemberReport],
+    forwards: Option<&Forwards>,
 ) -> Result<Passed, Memory>
-    ensures lines { OnOk result (AtEachSize tov
-        (λ size. text.new.items ≡ text.old.items ++ member_lines size 0 members.now)) }
+    ensures lines { OnOk result (AtEachSize tov (λ size. text.new.items
+        ≡ text.old.items
+        ++ member_lines size (option_copied forwards.entry) 0 members.now)) }
     ensures kept { IfOk result
         (λ passed. AtEachSize tov (λ size. passed.kept ≡ kept_in size members.now)) }
     ensures drops { IfOk result
@@ -32,11 +37,33 @@ pub(crate) fn push_members(
 {
     let mut passed = Passed { kept: 0, drops: 0 };
     for (member, report) in members.iter().enumerate() {
-        let stats = push_member(alloc, text, tov, member, report)?;
+        let stats = push_lines(alloc, text, tov, member, report, forwards)?;
         passed.kept += u128::from(stats.packets - stats.drops);
         passed.drops += u128::from(stats.drops);
     }
     Ok(passed)
+}
+
+/// Appends the lines of a member and that of what it sent, and gives its statistics over the whole
+/// run.
+#[tactic(auto, unfolding(crate::specs::Lines::lines_at))]
+fn push_lines(
+    alloc: Global,
+    text: &mut Vec<u8>,
+    tov: u64,
+    member: usize,
+    report: &MemberReport,
+    forwards: Option<&Forwards>,
+) -> Result<Stats, Memory>
+    ensures lines { OnOk result (AtEachSize tov (λ size. text.new.items
+        ≡ text.old.items ++ lines_at size (option_copied forwards.entry) member report.now)) }
+    ensures stats { IfOk result
+        (λ stats. AtEachSize tov (λ size. stats ≡ totals_of size report.now.notes)) }
+    ensures fewer { IfOk result (λ stats. stats.drops ≤ stats.packets) }
+{
+    let stats = push_member(alloc, text, tov, member, report)?;
+    push_forward(alloc, text, member, forwards)?;
+    Ok(stats)
 }
 
 /// Appends the lines of a member, and gives its statistics over the whole run.
@@ -59,6 +86,36 @@ fn push_member(
     text.extend_from_slice(line.as_bytes())?;
     push_counts(alloc, text, member, tally.counts.as_slice())?;
     Ok(tally.totals)
+}
+
+/// Appends the line of what a member sent, where members send.
+#[tactic(auto, unfolding(crate::specs::Lines::forward_text))]
+fn push_forward(
+    alloc: Global,
+    text: &mut Vec<u8>,
+    member: usize,
+    forwards: Option<&Forwards>,
+) -> Result<(), Memory>
+    ensures { OnOk result (text.new.items
+        ≡ text.old.items ++ forward_text (option_copied forwards.entry) member) }
+{
+    let Some(forwards) = forwards else {
+        return Ok(());
+    };
+    let (sent, skipped) = (forwards.sent.get(member), forwards.skipped.get(member));
+    if let (Some(sent), Some(skipped)) = (sent, skipped) {
+        let line = forward_line(alloc, member, sent.len(), *skipped)?;
+        text.extend_from_slice(line.as_bytes())?;
+    }
+    Ok(())
+}
+
+/// The line of how many packets a member sent, and how many it skipped.
+#[tactic(auto, unfolding(crate::specs::Lines::forward_line))]
+fn forward_line(alloc: Global, member: usize, sent: usize, skipped: u64) -> Result<String, Memory>
+    ensures { IfOk result (λ line. string_bytes line ≡ forward_line member sent skipped) }
+{
+    Ok(format!(in alloc; "forward {member} sent {sent} skipped {skipped}\n")?)
 }
 
 /// Appends the lines of the statistics that a member's notes took.

@@ -3,7 +3,9 @@ use Rattle.std.proofs.Common.{◌≡◌, ◌≢◌, ◌<◌, ◌≤◌, ◌+◌,
 use Rattle.std.proofs.Common.{inl, inr}
 use Rattle.std.proofs.Math.Seq.{take-suc}
 use Rattle.std.proofs.lemmas.List.{take-append-drop}
-use Rattle.std.specs.Prelude.{◌&&◌, ◌⊎◌, MatchBool, if◌then◌else◌, Option, None, Some, min}
+use Rattle.std.specs.Prelude.{◌&&◌, MatchBool, if◌then◌else◌, Option, None, Some, is_some}
+use Rattle.frame_view.specs.declared.frames.Packet.{Packet}
+use Rattle.setup_text.specs.declared.reports.Forwards.{Forwards}
 use Rattle.setup_text.specs.declared.reports.MemberReport.{MemberReport}
 use Rattle.setup_text.specs.declared.setups.Setup.{Setup}
 use Rattle.tap_outside.specs.Contents.{Contents, HoldsFile}
@@ -12,10 +14,10 @@ use Rattle.tap_outside.specs.Outcomes.{IfFailed}
 use Rattle.tap_outside.specs.Seen.{OnlySaves, StoreSeen}
 use Rattle.tap_outside.specs.declared.causes.OutError.{OutError}
 use Rattle.tap_outside.specs.declared.causes.OutError.TheVariants.{Failed, Memory}
-use Rattle.tap_saving.specs.Files.{File, files_at, files_from, names_at, names_from}
-use Rattle.tap_saving.specs.Saving.{AllUnless, HoldUnless, HoldsNow, HoldsOldOrNew, IsApart, KeepsAllBut, Saved, SavedSome, Touches, marked}
-use Rattle.tap_saving.proofs.Naming.{AreApart, apart_fewer, apart_none, apart_of, are_apart_from, files_apart, files_append, files_more, member_apart}
-use Rattle.tap_saving.proofs.Stores.{touches_more, touches_none, touches_one, touches_then}
+use Rattle.tap_saving.specs.Files.{File, files_at, files_from, forward_file, forward_name, names_at, names_from, output_files, output_names, sent_by}
+use Rattle.tap_saving.specs.Saving.{AllUnless, HoldsNow, HoldsOldOrNew, IsApart, KeepsAllBut, Saved, SavedSome, Touches, marked}
+use Rattle.tap_saving.proofs.Naming.{AreApart, apart_back, apart_fewer, apart_front, apart_none, apart_of, apart_sent, are_apart_from, files_apart, files_append, files_more, member_apart, name_apart, sent_apart}
+use Rattle.tap_saving.proofs.Stores.{touches_more, touches_none, touches_then}
 
 -- ---- files and marks
 
@@ -276,82 +278,140 @@ none_saved a b files same =
     subst (λ (s : StoreSeen). SavedSome a s files) (sym same)
     (some_untouched a a files [] (touches_none a []) (apart_none files))
 
+-- ---- what a member sent
+
+-- what it read, and then what it sent
+pub both_touched : (setup : Setup) (a b c : StoreSeen) (member : ℕ)
+    → Touches a b (output_names setup member) → Touches b c (forward_name setup member ∷ [])
+    → Touches a c (names_at setup true member)
+both_touched setup a b c member t u =
+    touches_then a b c (names_at setup true member)
+    (touches_more a b (output_names setup member) (names_at setup true member)
+    (λ name. apart_front name (output_names setup member) (forward_name setup member ∷ [])) t)
+    (touches_more b c (forward_name setup member ∷ []) (names_at setup true member)
+    (λ name. apart_back name (output_names setup member) (forward_name setup member ∷ [])) u)
+
+pub both_saved : (setup : Setup) (a b c : StoreSeen) (member : ℕ) (report : MemberReport)
+    (packets : List Packet) (saved sent result : Bool) → member < 10 → result ≡ (saved && sent)
+    → Touches a b (output_names setup member) → Saved a b (output_files setup member report) saved
+    → Touches b c (forward_name setup member ∷ [])
+    → Saved b c (forward_file setup member packets ∷ []) sent
+    → Saved a c (files_at setup member report (Some packets)) result
+both_saved setup a b c member report packets saved sent result small is first h second k =
+    subst (λ x. Saved a c (files_at setup member report (Some packets)) x) (sym is)
+    (saved_then a b c (output_files setup member report) (forward_file setup member packets ∷ [])
+    saved sent (output_names setup member) (forward_name setup member ∷ []) first h second k
+    (sent_apart setup member report small))
+
+-- what it read, where memory ran out before what it sent
+pub outputs_early : (setup : Setup) (a b : StoreSeen) (member : ℕ) (report : MemberReport)
+    (sent : Option (List Packet)) → member < 10
+    → Touches a b (output_names setup member) → SavedSome a b (output_files setup member report)
+    → SavedSome a b (files_at setup member report sent)
+outputs_early setup a b member report None small t h = h
+outputs_early setup a b member report (Some packets) small t h =
+    some_then a b b (output_files setup member report) (forward_file setup member packets ∷ [])
+    (output_names setup member) [] t h (touches_none b [])
+    (some_untouched b b (forward_file setup member packets ∷ []) [] (touches_none b [])
+    (apart_none (forward_file setup member packets ∷ [])))
+    (apart_none (output_files setup member report)) (name_apart setup member small, tt)
+
+pub outputs_alone : (setup : Setup) (a b c : StoreSeen) (member : ℕ) (report : MemberReport)
+    (packets : List Packet) (saved : Bool) → member < 10
+    → Touches a b (output_names setup member) → Saved a b (output_files setup member report) saved
+    → c ≡ b → SavedSome a c (files_at setup member report (Some packets))
+outputs_alone setup a b c member report packets saved small t h same =
+    subst (λ (s : StoreSeen). SavedSome a s (files_at setup member report (Some packets)))
+    (sym same)
+    (outputs_early setup a b member report (Some packets) small t
+    (some_of a b (output_files setup member report) saved (output_names setup member) t h))
+
+-- the names of a member that sent something or nothing are among those of its number
+pub touches_sent : (setup : Setup) (b c : StoreSeen) (at : ℕ) (forwards : Option Forwards)
+    (sent : Option (List Packet)) → sent ≡ sent_by forwards at
+    → Touches b c (names_at setup (is_some sent) at)
+    → Touches b c (names_at setup (is_some forwards) at)
+touches_sent setup b c at forwards sent is t =
+    touches_more b c (names_at setup (is_some sent) at) (names_at setup (is_some forwards) at)
+    (λ name apart. subst (λ (s : Option (List Packet)). IsApart name
+    (names_at setup (is_some s) at)) (sym is) (apart_sent setup at name forwards apart)) t
+
 -- ---- the files of several members
 
 -- the names of one member more
-pub touches_on : (setup : Setup) (a b c : StoreSeen) (at : ℕ)
-    → Touches a b (names_from setup 0 at) → Touches b c (names_at setup at)
-    → Touches a c (names_from setup 0 (at + 1))
-touches_on setup a b c at t u =
-    touches_then a b c (names_from setup 0 (at + 1))
-    (touches_more a b (names_from setup 0 at) (names_from setup 0 (at + 1))
-    (λ name. apart_fewer setup name at (at + 1) (omega arith)) t)
-    (touches_more b c (names_at setup at) (names_from setup 0 (at + 1))
-    (λ name. apart_of setup name at 0 (at + 1) (omega arith) (omega arith)) u)
+pub touches_on : (setup : Setup) (sends : Bool) (a b c : StoreSeen) (at : ℕ)
+    → Touches a b (names_from setup sends 0 at) → Touches b c (names_at setup sends at)
+    → Touches a c (names_from setup sends 0 (at + 1))
+touches_on setup sends a b c at t u =
+    touches_then a b c (names_from setup sends 0 (at + 1))
+    (touches_more a b (names_from setup sends 0 at) (names_from setup sends 0 (at + 1))
+    (λ name. apart_fewer setup sends name at (at + 1) (omega arith)) t)
+    (touches_more b c (names_at setup sends at) (names_from setup sends 0 (at + 1))
+    (λ name. apart_of setup sends name at 0 (at + 1) (omega arith) (omega arith)) u)
 
 -- the names of all of them
-pub touches_all : (setup : Setup) (a b : StoreSeen) (few many : ℕ) → few ≤ many
-    → Touches a b (names_from setup 0 few) → Touches a b (names_from setup 0 many)
-touches_all setup a b few many less t =
-    touches_more a b (names_from setup 0 few) (names_from setup 0 many)
-    (λ name. apart_fewer setup name few many less) t
+pub touches_all : (setup : Setup) (sends : Bool) (a b : StoreSeen) (few many : ℕ) → few ≤ many
+    → Touches a b (names_from setup sends 0 few) → Touches a b (names_from setup sends 0 many)
+touches_all setup sends a b few many less t =
+    touches_more a b (names_from setup sends 0 few) (names_from setup sends 0 many)
+    (λ name. apart_fewer setup sends name few many less) t
 
 zero_and : (x y : ℕ) → x ≡ y → 0 + x ≡ y
 zero_and x y e = omega (arith, e)
 
 -- one member more
-pub goes_on : (setup : Setup) (a b c : StoreSeen) (reports : List MemberReport)
+pub goes_on : (setup : Setup) (sends : Bool) (forwards : Option Forwards) (a b c : StoreSeen) (reports : List MemberReport)
     (report : MemberReport)
     (at : ℕ) (all saved : Bool)
     → length (take at reports) ≡ at → take (at + 1) reports ≡ take at reports ++ report ∷ []
     → at < 8
-    → Touches a b (names_from setup 0 at) → Saved a b (files_from setup 0 (take at reports)) all
-    → Touches b c (names_at setup at) → Saved b c (files_at setup at report) saved
-    → Saved a c (files_from setup 0 (take (at + 1) reports)) (all && saved)
-goes_on setup a b c reports report at all saved long more few t s u v =
+    → Touches a b (names_from setup sends 0 at) → Saved a b (files_from setup forwards 0 (take at reports)) all
+    → Touches b c (names_at setup sends at) → Saved b c (files_at setup at report (sent_by forwards at)) saved
+    → Saved a c (files_from setup forwards 0 (take (at + 1) reports)) (all && saved)
+goes_on setup sends forwards a b c reports report at all saved long more few t s u v =
     subst (λ (files : List File). Saved a c files (all && saved))
-    (sym (ap (λ (rs : List MemberReport). files_from setup 0 rs) more
-    ∙ files_more setup 0 (take at reports) report
-    ∙ ap (λ m. files_from setup 0 (take at reports) ++ files_at setup m report)
+    (sym (ap (λ (rs : List MemberReport). files_from setup forwards 0 rs) more
+    ∙ files_more setup forwards 0 (take at reports) report
+    ∙ ap (λ m. files_from setup forwards 0 (take at reports) ++ files_at setup m report (sent_by forwards m))
     (zero_and (length (take at reports)) at long)))
-    (saved_then a b c (files_from setup 0 (take at reports)) (files_at setup at report) all saved
-    (names_from setup 0 at) (names_at setup at) t s u v
-    (files_apart setup 0 at (take at reports) (λ k least most. before k most)
+    (saved_then a b c (files_from setup forwards 0 (take at reports)) (files_at setup at report (sent_by forwards at)) all saved
+    (names_from setup sends 0 at) (names_at setup sends at) t s u v
+    (files_apart setup sends forwards 0 at (take at reports) (λ k least most. before k most)
     (omega (arith, long, few)) (omega (arith, few))))
   where
     before : (k : ℕ) → k < 0 + length (take at reports) → k ≢ at
     before k most = omega (arith, most, long)
 
 -- all of them, where memory ran out at one
-pub ends_early : (setup : Setup) (a b c : StoreSeen) (reports rest : List MemberReport)
+pub ends_early : (setup : Setup) (sends : Bool) (forwards : Option Forwards) (a b c : StoreSeen) (reports rest : List MemberReport)
     (report : MemberReport) (at : ℕ) (all : Bool)
     → length (take at reports) ≡ at → reports ≡ take at reports ++ report ∷ rest
     → length reports ≤ 8
-    → Touches a b (names_from setup 0 at) → Saved a b (files_from setup 0 (take at reports)) all
-    → Touches b c (names_at setup at) → SavedSome b c (files_at setup at report)
-    → SavedSome a c (files_from setup 0 reports)
-ends_early setup a b c reports rest report at all long parts few t s u v =
+    → Touches a b (names_from setup sends 0 at) → Saved a b (files_from setup forwards 0 (take at reports)) all
+    → Touches b c (names_at setup sends at) → SavedSome b c (files_at setup at report (sent_by forwards at))
+    → SavedSome a c (files_from setup forwards 0 reports)
+ends_early setup sends forwards a b c reports rest report at all long parts few t s u v =
     subst (λ (files : List File). SavedSome a c files) (sym split)
-    (some_then a c c (front ++ files_at setup at report) back
-    (names_from setup 0 (at + 1)) [] (touches_on setup a b c at t u)
-    (some_then a b c front (files_at setup at report) (names_from setup 0 at) (names_at setup at) t
-    (some_of a b front all (names_from setup 0 at) t s) u v
-    (files_apart setup 0 at (take at reports) (λ k least most. before k most)
+    (some_then a c c (front ++ files_at setup at report (sent_by forwards at)) back
+    (names_from setup sends 0 (at + 1)) [] (touches_on setup sends a b c at t u)
+    (some_then a b c front (files_at setup at report (sent_by forwards at)) (names_from setup sends 0 at) (names_at setup sends at) t
+    (some_of a b front all (names_from setup sends 0 at) t s) u v
+    (files_apart setup sends forwards 0 at (take at reports) (λ k least most. before k most)
     (omega (arith, long, within)) (omega (arith, within)))
-    (are_apart_from setup (files_at setup at report) 0 at
-    (λ m least most. member_apart setup at m report (others m most)
+    (are_apart_from setup sends (files_at setup at report (sent_by forwards at)) 0 at
+    (λ m least most. member_apart setup sends at m report (sent_by forwards at) (others m most)
     (omega (arith, within)) (omega (arith, most, within)))))
     (touches_none c []) (some_untouched c c back [] (touches_none c []) (apart_none back))
-    (apart_none (front ++ files_at setup at report))
-    (are_apart_from setup back 0 (at + 1)
-    (λ m least most. files_apart setup (at + 1) m rest (λ k low high. behind m most k low)
+    (apart_none (front ++ files_at setup at report (sent_by forwards at)))
+    (are_apart_from setup sends back 0 (at + 1)
+    (λ m least most. files_apart setup sends forwards (at + 1) m rest (λ k low high. behind m most k low)
     (omega (arith, within)) (omega (arith, most, within)))))
   where
     front : List File
-    front = files_from setup 0 (take at reports)
+    front = files_from setup forwards 0 (take at reports)
 
     back : List File
-    back = files_from setup (at + 1) rest
+    back = files_from setup forwards (at + 1) rest
 
     within : at + 1 + length rest ≤ 8
     within =
@@ -367,13 +427,13 @@ ends_early setup a b c reports rest report at all long parts few t s u v =
     behind : (m : ℕ) → m < 0 + (at + 1) → (k : ℕ) → at + 1 ≤ k → k ≢ m
     behind m most k low = omega (arith, most, low)
 
-    split : files_from setup 0 reports ≡ (front ++ files_at setup at report) ++ back
+    split : files_from setup forwards 0 reports ≡ (front ++ files_at setup at report (sent_by forwards at)) ++ back
     split =
-        ap (λ (rs : List MemberReport). files_from setup 0 rs) parts
-        ∙ files_append setup 0 (take at reports) (report ∷ rest)
-        ∙ ap (λ m. front ++ (files_at setup m report ++ files_from setup (m + 1) rest))
+        ap (λ (rs : List MemberReport). files_from setup forwards 0 rs) parts
+        ∙ files_append setup forwards 0 (take at reports) (report ∷ rest)
+        ∙ ap (λ m. front ++ (files_at setup m report (sent_by forwards m) ++ files_from setup forwards (m + 1) rest))
         (zero_and (length (take at reports)) at long)
-        ∙ sym (append_assoc front (files_at setup at report) back)
+        ∙ sym (append_assoc front (files_at setup at report (sent_by forwards at)) back)
 
 pub one_more : (reports : List MemberReport) (at : ℕ) (report : MemberReport)
     → get_or reports at report ≡ report → at < length reports

@@ -1,13 +1,15 @@
 -- The names of the files of a run differ.
 use Rattle.std.proofs.Common.{◌≡◌, ◌≢◌, ℕ, zero, suc, ◌+◌, ◌<◌, ◌≤◌, Bool, true, false, List, [], ◌∷◌, ◌++◌, length, drop, refl, sym, ap, ◌∙◌, subst, arith, append_assoc, inl, inr}
-use Rattle.std.specs.Prelude.{codes, if◌then◌else◌, ◌⊎◌, IsTrue}
+use Rattle.std.specs.Prelude.{codes, if◌then◌else◌, ◌⊎◌, IsTrue, Option, None, Some, is_some, slice_get, All, IfSome}
 use Rattle.std.specs.List.{AllByRecursion}
-use Rattle.std.specs.Fmt.{decimal}
 use Rattle.std.proofs.lemmas.Fmt.{decimal_digit}
+use Rattle.std.proofs.lemmas.Option.{get_or_from_slice_get, slice_get_within}
 use Rattle.capture_file.specs.Output.{output_of}
+use Rattle.frame_view.specs.declared.frames.Packet.{Packet}
+use Rattle.setup_text.specs.declared.reports.Forwards.{Forwards}
 use Rattle.setup_text.specs.declared.reports.MemberReport.{MemberReport}
 use Rattle.setup_text.specs.declared.setups.Setup.{Setup}
-use Rattle.tap_saving.specs.Files.{File, file_name, files_at, files_from, names_at, names_from}
+use Rattle.tap_saving.specs.Files.{CanBeOutput, File, file_name, files_at, files_from, forward_file, forward_name, names_at, names_from, output_files, output_names, sent_by}
 use Rattle.tap_saving.specs.Saving.{IsApart}
 
 cancel : (front xs ys : List ℕ) → front ++ xs ≡ front ++ ys → xs ≡ ys
@@ -42,13 +44,35 @@ members_differ prefix a b x y differ small_a small_b e =
     same_digit : (a b : ℕ) → 48 + a ≡ 48 + b → a ≡ b
     same_digit a b e = omega (arith, e)
 
--- and those of two files of a member
-pub endings_differ : (prefix : List ℕ) (member : ℕ) → member < 10
+-- and those of two files of a member, whose endings differ in their second byte
+endings_differ : (prefix : List ℕ) (member : ℕ) (x y : List ℕ) → member < 10
+    → first_of (drop 1 x) ≢ first_of (drop 1 y)
+    → file_name prefix member x ≢ file_name prefix member y
+endings_differ prefix member x y small differ e =
+    differ (ap (λ (zs : List ℕ). first_of (drop 3 zs)) (tails_are prefix member member x y small
+    small e))
+
+pub packets_and_blocks_differ : (prefix : List ℕ) (member : ℕ) → member < 10
     → file_name prefix member (codes ".pcap") ≢ file_name prefix member (codes ".blk")
-endings_differ prefix member small e =
-    let tails = tails_are prefix member member (codes ".pcap") (codes ".blk") small small e in
-    let third : 112 ≡ 98 = ap (λ (zs : List ℕ). first_of (drop 3 zs)) tails in
-    omega (arith, third)
+packets_and_blocks_differ prefix member small =
+    endings_differ prefix member (codes ".pcap") (codes ".blk") small other where
+      other : ◌≢◌ {A = ℕ} 112 98
+      other e = omega (arith, e)
+
+-- that of what a member sent is none of its other names
+packets_and_sent_differ : (prefix : List ℕ) (member : ℕ) → member < 10
+    → file_name prefix member (codes ".pcap") ≢ file_name prefix member (codes ".tx.pcap")
+packets_and_sent_differ prefix member small =
+    endings_differ prefix member (codes ".pcap") (codes ".tx.pcap") small other where
+      other : ◌≢◌ {A = ℕ} 112 116
+      other e = omega (arith, e)
+
+blocks_and_sent_differ : (prefix : List ℕ) (member : ℕ) → member < 10
+    → file_name prefix member (codes ".blk") ≢ file_name prefix member (codes ".tx.pcap")
+blocks_and_sent_differ prefix member small =
+    endings_differ prefix member (codes ".blk") (codes ".tx.pcap") small other where
+      other : ◌≢◌ {A = ℕ} 98 116
+      other e = omega (arith, e)
 
 -- ---- names that are apart
 
@@ -79,106 +103,159 @@ are_apart_both (file ∷ files) xs ys a b =
     (apart_both file.name xs ys a.0 b.0, are_apart_both files xs ys a.1 b.1)
 
 -- a name of one member is none of another's
-apart_at : (setup : Setup) (a b : ℕ) (x : List ℕ) (dump : Bool) → a ≢ b → a < 10 → b < 10
+apart_outputs : (setup : Setup) (a b : ℕ) (x : List ℕ) (dump : Bool) → a ≢ b → a < 10 → b < 10
     → IsApart (file_name setup.prefix a x)
     (file_name setup.prefix b (codes ".pcap")
     ∷ (if dump then file_name setup.prefix b (codes ".blk") ∷ [] else []))
-apart_at setup a b x true differ small_a small_b = (
+apart_outputs setup a b x true differ small_a small_b = (
   members_differ setup.prefix a b x (codes ".pcap") differ small_a small_b,
   (members_differ setup.prefix a b x (codes ".blk") differ small_a small_b, tt),
 )
-apart_at setup a b x false differ small_a small_b =
+apart_outputs setup a b x false differ small_a small_b =
     (members_differ setup.prefix a b x (codes ".pcap") differ small_a small_b, tt)
 
-files_apart_at : (setup : Setup) (a b : ℕ) (output dumped : List ℕ) (dump : Bool)
+apart_at : (setup : Setup) (sends : Bool) (a b : ℕ) (x : List ℕ) → a ≢ b → a < 10 → b < 10
+    → IsApart (file_name setup.prefix a x) (names_at setup sends b)
+apart_at setup false a b x differ small_a small_b =
+    apart_outputs setup a b x setup.dump differ small_a small_b
+apart_at setup true a b x differ small_a small_b =
+    apart_both (file_name setup.prefix a x) (output_names setup b) (forward_name setup b ∷ [])
+    (apart_outputs setup a b x setup.dump differ small_a small_b)
+    (members_differ setup.prefix a b x (codes ".tx.pcap") differ small_a small_b, tt)
+
+files_apart_at : (setup : Setup) (sends : Bool) (a b : ℕ) (output dumped : List ℕ) (dump : Bool)
     → a ≢ b → a < 10 → b < 10
     → AreApart
     (record { name = file_name setup.prefix a (codes ".pcap"); bytes = output }
     ∷ (if dump
     then record { name = file_name setup.prefix a (codes ".blk"); bytes = dumped } ∷ []
     else []))
-    (names_at setup b)
-files_apart_at setup a b output dumped true differ small_a small_b = (
-  apart_at setup a b (codes ".pcap") setup.dump differ small_a small_b,
-  (apart_at setup a b (codes ".blk") setup.dump differ small_a small_b, tt),
+    (names_at setup sends b)
+files_apart_at setup sends a b output dumped true differ small_a small_b = (
+  apart_at setup sends a b (codes ".pcap") differ small_a small_b,
+  (apart_at setup sends a b (codes ".blk") differ small_a small_b, tt),
 )
-files_apart_at setup a b output dumped false differ small_a small_b =
-    (apart_at setup a b (codes ".pcap") setup.dump differ small_a small_b, tt)
+files_apart_at setup sends a b output dumped false differ small_a small_b =
+    (apart_at setup sends a b (codes ".pcap") differ small_a small_b, tt)
 
 -- the files of a member have other names than those of another
-pub member_apart : (setup : Setup) (a b : ℕ) (report : MemberReport) → a ≢ b → a < 10 → b < 10
-    → AreApart (files_at setup a report) (names_at setup b)
-member_apart setup a b report differ small_a small_b =
-    files_apart_at setup a b (output_of report.walked) report.dump setup.dump differ small_a small_b
+pub member_apart : (setup : Setup) (sends : Bool) (a b : ℕ) (report : MemberReport)
+    (sent : Option (List Packet)) → a ≢ b → a < 10 → b < 10
+    → AreApart (files_at setup a report sent) (names_at setup sends b)
+member_apart setup sends a b report None differ small_a small_b =
+    files_apart_at setup sends a b (output_of report.walked) report.dump setup.dump differ small_a
+    small_b
+member_apart setup sends a b report (Some sent) differ small_a small_b =
+    apart_append (output_files setup a report) (forward_file setup a sent ∷ [])
+    (names_at setup sends b)
+    (files_apart_at setup sends a b (output_of report.walked) report.dump setup.dump differ small_a
+    small_b)
+    (apart_at setup sends a b (codes ".tx.pcap") differ small_a small_b, tt)
+
+sent_apart_in : (setup : Setup) (member : ℕ) (output dumped : List ℕ) (dump : Bool) → member < 10
+    → AreApart
+    (record { name = file_name setup.prefix member (codes ".pcap"); bytes = output }
+    ∷ (if dump
+    then record { name = file_name setup.prefix member (codes ".blk"); bytes = dumped } ∷ []
+    else []))
+    (forward_name setup member ∷ [])
+sent_apart_in setup member output dumped true small = (
+  (packets_and_sent_differ setup.prefix member small, tt),
+  ((blocks_and_sent_differ setup.prefix member small, tt), tt),
+)
+sent_apart_in setup member output dumped false small =
+    ((packets_and_sent_differ setup.prefix member small, tt), tt)
+
+-- and no file of a member's packets or blocks has the name of what it sent
+pub sent_apart : (setup : Setup) (member : ℕ) (report : MemberReport) → member < 10
+    → AreApart (output_files setup member report) (forward_name setup member ∷ [])
+sent_apart setup member report small =
+    sent_apart_in setup member (output_of report.walked) report.dump setup.dump small
+
+name_apart_in : (setup : Setup) (member : ℕ) (dump : Bool) → member < 10
+    → IsApart (forward_name setup member)
+    (file_name setup.prefix member (codes ".pcap")
+    ∷ (if dump then file_name setup.prefix member (codes ".blk") ∷ [] else []))
+name_apart_in setup member true small = (
+  (λ e. packets_and_sent_differ setup.prefix member small (sym e)),
+  ((λ e. blocks_and_sent_differ setup.prefix member small (sym e)), tt),
+)
+name_apart_in setup member false small =
+    ((λ e. packets_and_sent_differ setup.prefix member small (sym e)), tt)
+
+pub name_apart : (setup : Setup) (member : ℕ) → member < 10
+    → IsApart (forward_name setup member) (output_names setup member)
+name_apart setup member small = name_apart_in setup member setup.dump small
 
 -- so have those of several members
-pub files_apart : (setup : Setup) (member other : ℕ) (reports : List MemberReport)
+pub files_apart : (setup : Setup) (sends : Bool) (forwards : Option Forwards) (member other : ℕ) (reports : List MemberReport)
     → ((k : ℕ) → member ≤ k → k < member + length reports → k ≢ other)
     → member + length reports ≤ 10 → other < 10
-    → AreApart (files_from setup member reports) (names_at setup other)
-files_apart setup member other [] differ few small = tt
-files_apart setup member other (report ∷ reports) differ few small =
-    apart_append (files_at setup member report) (files_from setup (member + 1) reports)
-    (names_at setup other)
-    (member_apart setup member other report
+    → AreApart (files_from setup forwards member reports) (names_at setup sends other)
+files_apart setup sends forwards member other [] differ few small = tt
+files_apart setup sends forwards member other (report ∷ reports) differ few small =
+    apart_append (files_at setup member report (sent_by forwards member)) (files_from setup forwards (member + 1) reports)
+    (names_at setup sends other)
+    (member_apart setup sends member other report (sent_by forwards member)
     (differ member (omega arith) (omega arith)) (omega (arith, few)) small)
-    (files_apart setup (member + 1) other reports
+    (files_apart setup sends forwards (member + 1) other reports
     (λ k least most. differ k (omega (arith, least)) (omega (arith, most)))
     (omega (arith, few)) small)
 
 -- what is apart from the names of each of some members is apart from all of theirs
-pub are_apart_from : (setup : Setup) (files : List File) (first count : ℕ)
-    → ((m : ℕ) → first ≤ m → m < first + count → AreApart files (names_at setup m))
-    → AreApart files (names_from setup first count)
-are_apart_from setup files first zero apart = apart_none files
-are_apart_from setup files first (suc count) apart =
-    are_apart_both files (names_at setup first) (names_from setup (first + 1) count)
+pub are_apart_from : (setup : Setup) (sends : Bool) (files : List File) (first count : ℕ)
+    → ((m : ℕ) → first ≤ m → m < first + count → AreApart files (names_at setup sends m))
+    → AreApart files (names_from setup sends first count)
+are_apart_from setup sends files first zero apart = apart_none files
+are_apart_from setup sends files first (suc count) apart =
+    are_apart_both files (names_at setup sends first) (names_from setup sends (first + 1) count)
     (apart first (omega arith) (omega arith))
-    (are_apart_from setup files (first + 1) count
+    (are_apart_from setup sends files (first + 1) count
     (λ m least most. apart m (omega (arith, least)) (omega (arith, most))))
 
-apart_from : (setup : Setup) (name : List ℕ) (first count : ℕ)
-    → ((m : ℕ) → first ≤ m → m < first + count → IsApart name (names_at setup m))
-    → IsApart name (names_from setup first count)
-apart_from setup name first zero apart = tt
-apart_from setup name first (suc count) apart =
-    apart_both name (names_at setup first) (names_from setup (first + 1) count)
+apart_from : (setup : Setup) (sends : Bool) (name : List ℕ) (first count : ℕ)
+    → ((m : ℕ) → first ≤ m → m < first + count → IsApart name (names_at setup sends m))
+    → IsApart name (names_from setup sends first count)
+apart_from setup sends name first zero apart = tt
+apart_from setup sends name first (suc count) apart =
+    apart_both name (names_at setup sends first) (names_from setup sends (first + 1) count)
     (apart first (omega arith) (omega arith))
-    (apart_from setup name (first + 1) count
+    (apart_from setup sends name (first + 1) count
     (λ m least most. apart m (omega (arith, least)) (omega (arith, most))))
 
 -- ---- the files of several members
 
 -- those of some members, and then of others
-pub files_append : (setup : Setup) (member : ℕ) (some more : List MemberReport)
-    → files_from setup member (some ++ more)
-    ≡ files_from setup member some ++ files_from setup (member + length some) more
-files_append setup member [] more = ap (λ m. files_from setup m more) (omega arith)
-files_append setup member (first ∷ some) more =
-    ap (λ (xs : List File). files_at setup member first ++ xs)
-    (files_append setup (member + 1) some more
-    ∙ ap (λ m. files_from setup (member + 1) some ++ files_from setup m more) (omega arith))
-    ∙ sym (append_assoc (files_at setup member first) (files_from setup (member + 1) some)
-    (files_from setup (member + suc (length some)) more))
+pub files_append : (setup : Setup) (forwards : Option Forwards) (member : ℕ) (some more : List MemberReport)
+    → files_from setup forwards member (some ++ more)
+    ≡ files_from setup forwards member some ++ files_from setup forwards (member + length some) more
+files_append setup forwards member [] more = ap (λ m. files_from setup forwards m more) (omega arith)
+files_append setup forwards member (first ∷ some) more =
+    ap (λ (xs : List File). files_at setup member first (sent_by forwards member) ++ xs)
+    (files_append setup forwards (member + 1) some more
+    ∙ ap (λ m. files_from setup forwards (member + 1) some ++ files_from setup forwards m more) (omega arith))
+    ∙ sym (append_assoc (files_at setup member first (sent_by forwards member)) (files_from setup forwards (member + 1) some)
+    (files_from setup forwards (member + suc (length some)) more))
 
 append_nil_files : (xs : List File) → xs ++ [] ≡ xs
 append_nil_files [] = refl
 append_nil_files (x ∷ xs) = ap (λ (ys : List File). x ∷ ys) (append_nil_files xs)
 
 -- one member more
-pub files_more : (setup : Setup) (member : ℕ) (reports : List MemberReport) (report : MemberReport)
-    → files_from setup member (reports ++ report ∷ [])
-    ≡ files_from setup member reports ++ files_at setup (member + length reports) report
-files_more setup member reports report =
-    files_append setup member reports (report ∷ [])
-    ∙ ap (λ (xs : List File). files_from setup member reports ++ xs)
-    (append_nil_files (files_at setup (member + length reports) report))
+pub files_more : (setup : Setup) (forwards : Option Forwards) (member : ℕ) (reports : List MemberReport) (report : MemberReport)
+    → files_from setup forwards member (reports ++ report ∷ [])
+    ≡ files_from setup forwards member reports
+    ++ files_at setup (member + length reports) report (sent_by forwards (member + length reports))
+files_more setup forwards member reports report =
+    files_append setup forwards member reports (report ∷ [])
+    ∙ ap (λ (xs : List File). files_from setup forwards member reports ++ xs)
+    (append_nil_files (files_at setup (member + length reports) report (sent_by forwards (member + length reports))))
 
-apart_front : (name : List ℕ) (xs ys : List (List ℕ)) → IsApart name (xs ++ ys) → IsApart name xs
+pub apart_front : (name : List ℕ) (xs ys : List (List ℕ)) → IsApart name (xs ++ ys) → IsApart name xs
 apart_front name [] ys a = tt
 apart_front name (x ∷ xs) ys a = (a.0, apart_front name xs ys a.1)
 
-apart_back : (name : List ℕ) (xs ys : List (List ℕ)) → IsApart name (xs ++ ys) → IsApart name ys
+pub apart_back : (name : List ℕ) (xs ys : List (List ℕ)) → IsApart name (xs ++ ys) → IsApart name ys
 apart_back name [] ys a = a
 apart_back name (x ∷ xs) ys a = apart_back name xs ys a.1
 
@@ -192,28 +269,28 @@ nat_cases (suc a) (suc b) h = by (nat_cases a b (omega (arith, h))) where
   by (inr less) = inr (omega (arith, less))
 
 -- what is none of all names is none of a member's
-pub apart_of : (setup : Setup) (name : List ℕ) (member first count : ℕ) → first ≤ member
-    → member < first + count → IsApart name (names_from setup first count)
-    → IsApart name (names_at setup member)
-apart_of setup name member first zero least most a = absurd (omega (arith, least, most))
-apart_of setup name member first (suc count) least most a =
+pub apart_of : (setup : Setup) (sends : Bool) (name : List ℕ) (member first count : ℕ) → first ≤ member
+    → member < first + count → IsApart name (names_from setup sends first count)
+    → IsApart name (names_at setup sends member)
+apart_of setup sends name member first zero least most a = absurd (omega (arith, least, most))
+apart_of setup sends name member first (suc count) least most a =
     by (nat_cases first member least)
-    (λ later. apart_of setup name member (first + 1) count later (omega (arith, most))
-    (apart_back name (names_at setup first) (names_from setup (first + 1) count) a)) where
+    (λ later. apart_of setup sends name member (first + 1) count later (omega (arith, most))
+    (apart_back name (names_at setup sends first) (names_from setup sends (first + 1) count) a)) where
       by : (first ≡ member) ⊎ (first + 1 ≤ member)
-          → (first + 1 ≤ member → IsApart name (names_at setup member))
-          → IsApart name (names_at setup member)
+          → (first + 1 ≤ member → IsApart name (names_at setup sends member))
+          → IsApart name (names_at setup sends member)
       by (inl same) rest =
-          subst (λ m. IsApart name (names_at setup m)) same
-          (apart_front name (names_at setup first) (names_from setup (first + 1) count) a)
+          subst (λ m. IsApart name (names_at setup sends m)) same
+          (apart_front name (names_at setup sends first) (names_from setup sends (first + 1) count) a)
       by (inr later) rest = rest later
 
 -- and none of those of fewer members
-pub apart_fewer : (setup : Setup) (name : List ℕ) (few many : ℕ) → few ≤ many
-    → IsApart name (names_from setup 0 many) → IsApart name (names_from setup 0 few)
-apart_fewer setup name few many less a =
-    apart_from setup name 0 few
-    (λ m least most. apart_of setup name m 0 many (omega arith) (omega (arith, most, less)) a)
+pub apart_fewer : (setup : Setup) (sends : Bool) (name : List ℕ) (few many : ℕ) → few ≤ many
+    → IsApart name (names_from setup sends 0 many) → IsApart name (names_from setup sends 0 few)
+apart_fewer setup sends name few many less a =
+    apart_from setup sends name 0 few
+    (λ m least most. apart_of setup sends name m 0 many (omega arith) (omega (arith, most, less)) a)
 
 all_front : (P : List ℕ → Type 0) (xs ys : List (List ℕ)) → AllByRecursion P (xs ++ ys)
     → AllByRecursion P xs
@@ -226,28 +303,98 @@ all_back P [] ys a = a
 all_back P (x ∷ xs) ys a = all_back P xs ys a.1
 
 -- what holds of all names holds of a member's
-pub names_of_one : (setup : Setup) (P : List ℕ → Type 0) (member first count : ℕ) → first ≤ member
-    → member < first + count → AllByRecursion P (names_from setup first count)
-    → AllByRecursion P (names_at setup member)
-names_of_one setup P member first zero least most a = absurd (omega (arith, least, most))
-names_of_one setup P member first (suc count) least most a =
+pub names_of_one : (setup : Setup) (sends : Bool) (P : List ℕ → Type 0) (member first count : ℕ) → first ≤ member
+    → member < first + count → AllByRecursion P (names_from setup sends first count)
+    → AllByRecursion P (names_at setup sends member)
+names_of_one setup sends P member first zero least most a = absurd (omega (arith, least, most))
+names_of_one setup sends P member first (suc count) least most a =
     by (nat_cases first member least)
-    (λ later. names_of_one setup P member (first + 1) count later (omega (arith, most))
-    (all_back P (names_at setup first) (names_from setup (first + 1) count) a)) where
+    (λ later. names_of_one setup sends P member (first + 1) count later (omega (arith, most))
+    (all_back P (names_at setup sends first) (names_from setup sends (first + 1) count) a)) where
       by : (first ≡ member) ⊎ (first + 1 ≤ member)
-          → (first + 1 ≤ member → AllByRecursion P (names_at setup member))
-          → AllByRecursion P (names_at setup member)
+          → (first + 1 ≤ member → AllByRecursion P (names_at setup sends member))
+          → AllByRecursion P (names_at setup sends member)
       by (inl same) rest =
-          subst (λ m. AllByRecursion P (names_at setup m)) same
-          (all_front P (names_at setup first) (names_from setup (first + 1) count) a)
+          subst (λ m. AllByRecursion P (names_at setup sends m)) same
+          (all_front P (names_at setup sends first) (names_from setup sends (first + 1) count) a)
       by (inr later) rest = rest later
 
 -- so a member's names are meant, also where another store means the same
-pub meant_at : (setup : Setup) (meant now : List ℕ → Bool) (member count : ℕ) → now ≡ meant
-    → member < count → AllByRecursion (λ name. IsTrue (meant name)) (names_from setup 0 count)
-    → AllByRecursion (λ name. IsTrue (now name)) (names_at setup member)
-meant_at setup meant now member count same less all =
-    subst (λ (m : List ℕ → Bool). AllByRecursion (λ name. IsTrue (m name)) (names_at setup member))
+pub meant_at : (setup : Setup) (sends : Bool) (meant now : List ℕ → Bool) (member count : ℕ) → now ≡ meant
+    → member < count → AllByRecursion (λ name. IsTrue (meant name)) (names_from setup sends 0 count)
+    → AllByRecursion (λ name. IsTrue (now name)) (names_at setup sends member)
+meant_at setup sends meant now member count same less all =
+    subst (λ (m : List ℕ → Bool). AllByRecursion (λ name. IsTrue (m name)) (names_at setup sends member))
     (sym same)
-    (names_of_one setup (λ name. IsTrue (meant name)) member 0 count (omega arith)
+    (names_of_one setup sends (λ name. IsTrue (meant name)) member 0 count (omega arith)
     (omega (arith, less)) all)
+
+-- ---- a member that sent something, or nothing
+
+names_of_sender : (setup : Setup) (member : ℕ) (name : List ℕ) (sent : Option (List Packet))
+    → IsApart name (names_at setup true member) → IsApart name (names_at setup (is_some sent) member)
+names_of_sender setup member name None a =
+    apart_front name (output_names setup member) (forward_name setup member ∷ []) a
+names_of_sender setup member name (Some sent) a = a
+
+-- its names are among those of a member of its number
+pub apart_sent : (setup : Setup) (member : ℕ) (name : List ℕ) (forwards : Option Forwards)
+    → IsApart name (names_at setup (is_some forwards) member)
+    → IsApart name (names_at setup (is_some (sent_by forwards member)) member)
+apart_sent setup member name None a = a
+apart_sent setup member name (Some forwards) a =
+    names_of_sender setup member name (slice_get forwards.sent member) a
+
+all_of_sender : (setup : Setup) (P : List ℕ → Type 0) (member : ℕ) (sent : Option (List Packet))
+    → AllByRecursion P (names_at setup true member)
+    → AllByRecursion P (names_at setup (is_some sent) member)
+all_of_sender setup P member None a =
+    all_front P (output_names setup member) (forward_name setup member ∷ []) a
+all_of_sender setup P member (Some sent) a = a
+
+all_sent_by : (setup : Setup) (P : List ℕ → Type 0) (member : ℕ) (forwards : Option Forwards)
+    → AllByRecursion P (names_at setup (is_some forwards) member)
+    → AllByRecursion P (names_at setup (is_some (sent_by forwards member)) member)
+all_sent_by setup P member None a = a
+all_sent_by setup P member (Some forwards) a =
+    all_of_sender setup P member (slice_get forwards.sent member) a
+
+-- so what holds of all names of its number holds of its own
+pub all_sent : (setup : Setup) (P : List ℕ → Type 0) (member : ℕ) (forwards : Option Forwards)
+    (sent : Option (List Packet)) → sent ≡ sent_by forwards member
+    → AllByRecursion P (names_at setup (is_some forwards) member)
+    → AllByRecursion P (names_at setup (is_some sent) member)
+all_sent setup P member forwards sent is a =
+    subst (λ (s : Option (List Packet)). AllByRecursion P (names_at setup (is_some s) member))
+    (sym is) (all_sent_by setup P member forwards a)
+
+-- what holds of all names of a member holds of those of what it read, and of that of what it sent
+pub all_outputs : (setup : Setup) (P : List ℕ → Type 0) (member : ℕ) (sends : Bool)
+    → AllByRecursion P (names_at setup sends member)
+    → AllByRecursion P (output_names setup member)
+all_outputs setup P member false a = a
+all_outputs setup P member true a =
+    all_front P (output_names setup member) (forward_name setup member ∷ []) a
+
+pub of_forward : (setup : Setup) (P : List ℕ → Type 0) (member : ℕ) (sent : Option (List Packet))
+    (packets : List Packet) → sent ≡ Some packets
+    → AllByRecursion P (names_at setup (is_some sent) member) → P (forward_name setup member)
+of_forward setup P member None packets is a = cc
+of_forward setup P member (Some sent) packets is a =
+    (all_back P (output_names setup member) (forward_name setup member ∷ []) a).0
+
+-- ---- what a member sent can be output
+
+some_of_all : {X : Type 0} (P : X → Type 0) (xs : List X) (i : ℕ) (found : Option X)
+    → slice_get xs i ≡ found → All P xs → IfSome found P
+some_of_all P xs i None is all = tt
+some_of_all P xs i (Some x) is all =
+    subst P (get_or_from_slice_get xs i x x is) (all i x (slice_get_within xs i x is))
+
+pub sent_short : (forwards : Option Forwards) (member : ℕ) (sent : Option (List Packet))
+    → sent ≡ sent_by forwards member
+    → IfSome forwards (λ forwards. All CanBeOutput forwards.sent) → IfSome sent CanBeOutput
+sent_short None member sent is all =
+    subst (λ (s : Option (List Packet)). IfSome s CanBeOutput) (sym is) tt
+sent_short (Some forwards) member sent is all =
+    some_of_all CanBeOutput forwards.sent member sent (sym is) all

@@ -1,5 +1,5 @@
 -- What savings one after the other do to a store.
-use Rattle.std.proofs.Common.{◌≡◌, ℕ, ◌≤◌, Bool, List, [], ◌∷◌, refl, sym, ap, ◌∙◌, subst, arith}
+use Rattle.std.proofs.Common.{◌≡◌, ℕ, List, [], ◌∷◌, refl, ap, ◌∙◌, arith}
 use Rattle.std.specs.Prelude.{Option, None, Some}
 use Rattle.tap_outside.specs.Contents.{Contents, KeepsOthers}
 use Rattle.tap_outside.specs.Seen.{OnlySaves, StoreSeen}

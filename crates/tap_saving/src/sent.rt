@@ -1,6 +1,6 @@
 //! The file of what was sent.
-ghost use Rattle.std.specs.Prelude.{◌≡◌, ◌≤◌, [], ◌∷◌, length, All, IfOk, IsTrue, OnErr};
-ghost use Rattle.tap_saving.specs.Files.{sent_file, sent_name};
+ghost use Rattle.std.specs.Prelude.{◌≡◌, [], ◌∷◌, IfOk, IsTrue, OnErr};
+ghost use Rattle.tap_saving.specs.Files.{CanBeOutput, sent_file, sent_name};
 ghost use Rattle.tap_saving.specs.Saving.{Saved, Touches};
 
 use crate::names::sent_name;
@@ -21,7 +21,7 @@ pub fn save_sent<S: Store>(
     store: &mut S,
 ) -> Result<bool, Memory>
     requires meant { IsTrue ((S.seen store.old).to_save (sent_name setup.now)) }
-    requires short { All (λ packet. length packet.bytes ≤ 4294967291) packets.now }
+    requires short { CanBeOutput packets.now }
     ensures touches { Touches (S.seen store.old) (S.seen store.new) (sent_name setup.now ∷ []) }
     ensures saved { IfOk result (λ all. Saved (S.seen store.old) (S.seen store.new)
         (sent_file setup.now packets.now ∷ []) all) }

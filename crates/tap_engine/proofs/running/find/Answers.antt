@@ -4,8 +4,8 @@ use Rattle.tap_engine.specs.Commands.{Named}
 use Rattle.tap_engine.specs.Names.{AreMeantToRead}
 use Rattle.tap_engine.proofs.running.find.Goals as goal
 
-pub capture-requires-clause-reads : goal.capture-requires-clause-reads
-capture-requires-clause-reads g c κs within =
+pub run_threads-requires-clause-reads : goal.run_threads-requires-clause-reads
+run_threads-requires-clause-reads g c κs within =
     subst (λ (command : Option Named). AreMeantToRead command (g.S.Store.seen c.args.store.now))
     (sym c.in-Some.ensures) c.requires.reads
 

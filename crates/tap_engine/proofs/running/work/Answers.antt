@@ -1,6 +1,8 @@
-use Rattle.std.proofs.Common.{refl}
+use Rattle.std.proofs.Common.{refl, sym, subst, None}
 use Rattle.std.proofs.lemmas.Result.{err_from_is_err_and}
-use Rattle.tap_engine.specs.Commands.{Named, named_by}
+use Rattle.setup_text.specs.declared.commands.Command.{Command}
+use Rattle.tap_engine.specs.Commands.{Named, named_by, sends}
+use Rattle.tap_engine.specs.Findings.{IsSentBy}
 use Rattle.tap_engine.proofs.Meant.{names_meant}
 use Rattle.tap_engine.proofs.Worked.{first_meant, run_meant, schedule_meant, ticks_are, ticks_meant}
 use Rattle.tap_engine.proofs.running.work.Goals as goal
@@ -62,3 +64,14 @@ send_capture-requires-clause-meant g c κs within =
     first_meant store.to_read named setup c.in-Send.is
     (names_meant store.held store.to_read named setup (g.met.S.Store.untold_reads c.args.store.now)
     c.requires.reads c.requires.job.setup)
+
+pub returns-in_ok-report-in-Replay-clause-found : goal.returns-in_ok-report-in-Replay-clause-found
+returns-in_ok-report-in-Replay-clause-found g c =
+    let named : Named = named_by c.args.asked.command c.args.asked.setup.now
+    c.args.asked.schedule.now in
+    let report = c.in_ok-report-in-Replay.report in (
+      c.in_ok-report-in-Replay.ensures.reported named c.in-Replay.is refl c.requires.job,
+      c.in_ok-report-in-Replay.ensures.faults,
+      subst (λ (command : Command). IsSentBy (sends command) c.args.job.setup report None)
+          (sym c.in-Replay.is) tt,
+    )

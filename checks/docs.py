@@ -1,0 +1,258 @@
+#!/usr/bin/env python3
+"""Whether the documents say what the program does.
+
+    docs.py words                        each word, status and line that the sources can print stands in docs/reference.md
+    docs.py links                        each link of a document leads somewhere, and README.md has no line that is too long
+    docs.py names                        each name of code that README, guarantees or a crate's README cites is in the sources
+    docs.py commands PROGRAM ROOM FILE   each command of a document prints what stands below it, run by PROGRAM in ROOM
+
+It runs in the top folder of the repository.
+"""
+import os
+import pathlib
+import re
+import shutil
+import subprocess
+import sys
+
+TOP = pathlib.Path.cwd()
+REFERENCE = TOP / "docs/reference.md"
+COLUMNS = 110  # of a line of README.md
+SECONDS = 300  # that a command of a document may take
+
+# Where the program's words come from: a file, and what finds them there, each group a word or a line.
+WORDS = [
+    ("setup_text/src/setup_error.rt", r'=> "(\w+)"', {"memory"}),
+    ("setup_text/src/text_error.rt", r'=> "(\w+)"', {"memory"}),
+    ("setup_text/src/setup_words.rt", r'=> "(\w+)"', set()),
+    ("setup_text/src/values.rt", r'== b"(\w+)"', set()),
+    ("setup_text/src/drafts.rt", r'[!=]= b"(\w+)"', set()),
+    ("setup_text/src/schedules.rt", r'== b"(\w+)"', set()),
+    ("bpf_filter/src/error.rt", r'=> "(\w+)"', {"memory"}),
+    ("tp_layout/src/error.rt", r'=> "(\w+)"', set()),
+    ("fanout_group/src/plan_error.rt", r'=> "(\w+)"', set()),
+    ("tap_engine/src/commands.rt", r'[!=]= b"(\w+)"', set()),
+]
+# Lines and phrases, with a place `{..}` for each number or word in them.
+LINES = [
+    ("tap_printing/src/cpu_lines.rt", r'"( ?[a-z][^"]*)"'),
+    ("tap_printing/src/member_lines.rt", r'"( ?[a-z][^"]*)"'),
+    ("tap_printing/src/sent_lines.rt", r'"( ?[a-z][^"]*)"'),
+    ("tap_printing/src/summaries.rt", r'"( ?[a-z][^"]*)"'),
+    ("tap_printing/src/refusals.rt", r'"( ?[a-z][^"]*)"'),
+    ("tap_engine/src/findings.rt", r'b?"([a-z][^"]*)"'),
+    ("tap_engine/src/calls.rt", r'b"([a-z][^"]*)"'),
+    ("tx_ring/src/error.rt", r'"( ?[a-z][^"]*)"'),
+]
+STATUSES = "tap_engine/src/outcomes.rt"
+ENDINGS = ["tap_saving/src/members.rt", "tap_saving/src/names.rt"]
+
+
+def source(name):
+    """The text of a file of a crate, without its comments."""
+    text = (TOP / "crates" / name).read_text(encoding="utf-8")
+    return re.sub(r"//.*", "", text)
+
+
+def shown(text):
+    """What a document shows as code: in backticks, in indented lines and in fenced blocks."""
+    blocks = re.findall(r"^```.*?\n(.*?)^```", text, re.M | re.S) + re.findall(r"^    .*$", text, re.M)
+    return "\n".join(re.findall(r"`([^`\n]+)`", text) + blocks).replace("\\|", "|")
+
+
+def stands(phrase, document):
+    """Whether a document shows a line of the program, with something in each place."""
+    parts = [re.escape(part) for part in re.split(r"\{[^}]*\}", phrase.removesuffix("\\n"))]
+    return re.search(r".+?".join(parts), document) is not None
+
+
+def words():
+    """The words, lines, statuses and files of the sources that the reference lacks."""
+    text = REFERENCE.read_text(encoding="utf-8")
+    document = shown(text)
+    missing = []
+    found = 0
+    for name, pattern, never in WORDS:
+        all_words = set(re.findall(pattern, source(name))) - never
+        found += len(all_words)
+        missing += [f"the word {word} of {name}" for word in sorted(all_words) if not re.search(rf"\b{word}\b", document)]
+    for name, pattern in LINES:
+        phrases = set(re.findall(pattern, source(name)))
+        found += len(phrases)
+        missing += [f"the line '{phrase}' of {name}" for phrase in sorted(phrases) if not stands(phrase, document)]
+    for number in re.findall(r"Status::\w+(?:\([^)]*\)| \{[^}]*\})? => (\d+)", source(STATUSES)):
+        found += 1
+        if not re.search(rf"^\| {number} \| ", text, re.M):
+            missing.append(f"the status {number}")
+    for name in ENDINGS:
+        for ending in re.findall(r'"(\.[a-z.]+)"', source(name)):
+            found += 1
+            if ending not in document:
+                missing.append(f"the file {ending} of {name}")
+    return found, [f"docs/reference.md lacks {what}" for what in missing]
+
+
+def documents():
+    """All documents of the repository."""
+    return [
+        TOP / "README.md",
+        TOP / "CONTRIBUTING.md",
+        TOP / "CHANGELOG.md",
+        *sorted((TOP / "docs").glob("*.md")),
+        *sorted((TOP / "crates").glob("*/README.md")),
+    ]
+
+
+def anchors(path):
+    """The places of a document that a link can name."""
+    headings = re.findall(r"^#+ (.*)$", path.read_text(encoding="utf-8"), re.M)
+    return {re.sub(r"[^\w\- ]", "", heading.lower()).replace(" ", "-") for heading in headings}
+
+
+def links():
+    """The links that lead nowhere, and the lines of README.md that are too long."""
+    wrong = []
+    found = 0
+    for path in documents():
+        here = path.relative_to(TOP)
+        text = path.read_text(encoding="utf-8")
+        for link in re.findall(r"\]\(([^)\s]+)\)", text):
+            found += 1
+            name, _, anchor = link.partition("#")
+            if re.match(r"\w+:", name):
+                continue
+            target = (path.parent / name).resolve() if name else path
+            if not target.exists():
+                wrong.append(f"{here}: {link} leads nowhere")
+            elif anchor and anchor not in anchors(target):
+                wrong.append(f"{here}: {link} names no heading")
+        for name in re.findall(r"\b[a-z]+_(?:tests|rows)\b", text):
+            found += 1
+            if not (TOP / "crates" / name).exists():
+                wrong.append(f"{here}: there is no crate {name}")
+        for name in re.findall(r"\b(?:docs|checks|bench|demo)/[\w.]+\.\w+", text):
+            found += 1
+            if not (TOP / name).exists():
+                wrong.append(f"{here}: {name} isn't there")
+    for number, line in enumerate((TOP / "README.md").read_text(encoding="utf-8").split("\n"), 1):
+        if len(line) > COLUMNS:
+            wrong.append(f"README.md: line {number} has {len(line)} columns")
+    return found, wrong
+
+
+def known_names():
+    """Each name that stands in the sources, the scripts, the list of crates, or as a kernel's in the reference."""
+    names = set()
+    for pattern in ("crates/*/src/**/*.rt", "crates/*/specs/**/*.antt", "crates/*/must-fail/*", "checks/*", "bench/*", "demo/*", "crates.txt", "docs/reference.md"):
+        for path in TOP.glob(pattern):
+            names.add(path.stem)
+            if path.suffix in {".rt", ".antt", ".py", ".sh", ".txt", ".bash", ".c", ".md"}:
+                names |= set(re.findall(r"\w+", path.read_text(encoding="utf-8")))
+    return names
+
+
+def names():
+    """The names in backticks of which no source knows anything."""
+    known = known_names()
+    wrong = []
+    found = 0
+    for path in [TOP / "README.md", TOP / "docs/guarantees.md", *sorted((TOP / "crates").glob("*/README.md"))]:
+        text = path.read_text(encoding="utf-8")
+        for block in re.findall(r"^```rust\n(.*?)^```", text, re.M | re.S):
+            for name in re.findall(r"\b(\w+)(?=\(|::)|\b([A-Z]\w*[a-z]\w*)", re.sub(r"//.*", "", block)):
+                found += 1
+                if (name[0] or name[1]) not in known:
+                    wrong.append(f"{path.relative_to(TOP)}: {name[0] or name[1]}, in an example, is no name of the sources")
+        text = re.sub(r"^```.*?^```", "", text, flags=re.M | re.S)
+        for cited in re.findall(r"`([A-Za-z_][\w:.]*)`", text):
+            if re.search(r"\.(md|rt|antt|py|sh|txt|edit|pcap|blk|sched|ddd)$", cited):
+                continue
+            for name in re.findall(r"\w+", cited):
+                found += 1
+                if name not in known:
+                    wrong.append(f"{path.relative_to(TOP)}: `{cited}` is no name of the sources")
+    return found, wrong
+
+
+# ---- the commands of a document
+
+
+def steps(text):
+    """The commands of a document, by its sections: each with the lines that are shown below it."""
+    section = []
+    for heading, body in re.findall(r"(?:^|^(## .*)$)(.*?)(?=^## |\Z)", text, re.M | re.S):
+        section.append((heading, [step for block in re.findall(r"^```console\n(.*?)^```", body, re.M | re.S) for step in steps_of(block)]))
+    return [(heading, found) for heading, found in section if found]
+
+
+def steps_of(block):
+    """The commands of one block. A here-document goes on up to its last word."""
+    found = []
+    end = None
+    for line in block.rstrip("\n").split("\n"):
+        if end is not None:
+            found[-1][0].append(line)
+            end = None if line == end else end
+        elif line.startswith("$ "):
+            found.append(([line[2:]], []))
+            here = re.search(r"<<'(\w+)'", line)
+            end = here[1] if here else None
+        elif line.startswith("> ") and found and not found[-1][1]:
+            found[-1][0].append(line[2:])
+        elif found:
+            found[-1][1].append(line)
+    return [("\n".join(command), lines) for command, lines in found]
+
+
+def agrees(printed, expected):
+    """Whether lines are those that are expected; `...` stands for any lines."""
+    pattern = "".join(r"(?:.*\n)*?" if line == "..." else re.escape(line) + "\n" for line in expected)
+    return re.fullmatch(pattern, printed) is not None
+
+
+def lacks(command):
+    """A tool that a command uses and that isn't there."""
+    for tool in ("tcpdump", "python3", "awk", "gzip"):
+        if re.search(rf"\b{tool}\b", command) and not shutil.which(tool):
+            return tool
+    return None
+
+
+def run(command, room, program):
+    """What a command prints on standard output."""
+    path = f"{pathlib.Path(program).resolve().parent}:{os.environ['PATH']}"
+    environment = {**os.environ, "PATH": path, "LC_ALL": "C.UTF-8", "TZ": "UTC"}
+    done = subprocess.run(
+        ["bash", "-c", command], cwd=room, env=environment, stdout=subprocess.PIPE, stderr=subprocess.PIPE, stdin=subprocess.DEVNULL, timeout=SECONDS
+    )
+    return done.stdout.decode("utf-8", "replace"), done.stderr.decode("utf-8", "replace")
+
+
+def commands(program, room, name):
+    """The commands of a document that print something else. Where a tool is missing the rest of its section is left out."""
+    wrong = []
+    found = 0
+    for heading, section in steps((TOP / name).read_text(encoding="utf-8")):
+        for command, expected in section:
+            tool = lacks(command)
+            if tool:
+                print(f"skipped: the rest of '{heading.strip('# ')}' of {name} needs {tool}")
+                break
+            found += 1
+            printed, complained = run(command, room, program)
+            if not agrees(printed, expected):
+                wrong.append(f"{name}: '{command}' printed\n{printed}{complained}in place of\n" + "\n".join(expected))
+    return found, wrong
+
+
+def main():
+    what, *rest = sys.argv[1:]
+    found, wrong = {"words": words, "links": links, "names": names, "commands": commands}[what](*rest)
+    for line in wrong:
+        print(line)
+    print(f"{what}{' of ' + rest[-1] if rest else ''}: {found}, {len(wrong)} wrong")
+    sys.exit(found == 0 or len(wrong) > 0)
+
+
+if __name__ == "__main__":
+    main()

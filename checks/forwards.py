@@ -1,0 +1,152 @@
+#!/usr/bin/env python3
+"""Runs captures on threads whose readers send, by `forward`, and tests from outside what was sent.
+
+    forwards.py PROGRAM [RUNS]
+
+Without its own lines and files a run has to be one of `capture`, which captures.py tests. Beyond that, of each member:
+
+- The frames of its output, each with its tag put back, that have from 14 bytes to as many as fit behind the header of a slot
+  are the records of `PREFIX.M.tx.pcap`, in order, each with time 0 and its own length as the length on the wire.
+- Its line `forward M sent N skipped K` stands after its `member` line, N of it are the sent ones and K all others.
+
+Before the runs outcomes of by_hand.py are tested, which have to pass, and then are made wrong in one thing each.
+"""
+import os
+import random
+import struct
+import sys
+import tempfile
+
+import by_hand
+import captures
+from replays import SIZES, frame, header, record, setup_text
+
+
+def frames_in(output):
+    """The frames of an output, in order."""
+    frames, place = [], 24
+    while place + 16 <= len(output):
+        size = struct.unpack("<I", output[place + 8 : place + 12])[0]
+        frames.append(output[place + 16 : place + 16 + size])
+        place += 16 + size
+    return frames
+
+
+def sent_of(setup, output):
+    """The file that a member's sender gives for an output, and the line's two numbers."""
+    frames = frames_in(output)
+    sent = [data for data in frames if 14 <= len(data) <= setup.slot_room]
+    records = (struct.pack("<IIII", 0, 0, len(data), len(data)) + data for data in sent)
+    return by_hand.output_of([]) + b"".join(records), len(sent), len(frames) - len(sent)
+
+
+def parted(setup, lines, files):
+    """The lines and files of `capture`, and those of `forward` alone, each line with the one before it."""
+    sent = {f"{setup.prefix}.{member}.tx.pcap" for member in range(setup.members)}
+    plain, own, last = [], [], None
+    for line in lines.split("\n"):
+        if line.startswith("forward "):
+            own.append((last, line))
+        else:
+            plain.append(line)
+        last = line
+    rest = {name: data for name, data in files.items() if name not in sent}
+    return "\n".join(plain), rest, own, {name: data for name, data in files.items() if name in sent}
+
+
+def faults(case, lines, files, status):
+    """What is wrong with a run."""
+    setup = by_hand.Setup(case.setup)
+    plain, rest, own, sent = parted(setup, lines, files)
+    yield from captures.faults(case, plain, rest, status)
+    if len(own) != setup.members or len(sent) != setup.members:
+        yield f"{len(own)} lines and {len(sent)} files of {setup.members} members"
+        return
+    for member, (before, line) in enumerate(own):
+        wanted, count, skipped = sent_of(setup, files[f"{setup.prefix}.{member}.pcap"])
+        if line != f"forward {member} sent {count} skipped {skipped}":
+            yield f"member {member}: {line!r}, where {count} frames fit and {skipped} don't"
+        if not (before or "").startswith(f"member {member} "):
+            yield f"member {member}: its line stands after {before!r}"
+        if sent[f"{setup.prefix}.{member}.tx.pcap"] != wanted:
+            yield f"member {member}: what was sent isn't what fits of its output"
+
+
+def some_outcome(case, numbers):
+    """An outcome of `capture` by by_hand.py, with what is sent of it."""
+    setup = by_hand.Setup(case.setup)
+    lines, files = captures.some_outcome(case, numbers)
+    return with_sent(setup, lines, files)
+
+
+def with_sent(setup, lines, files):
+    """An outcome of `capture` with the lines and files of `forward`."""
+    found, files = [], dict(files)
+    for line in lines.split("\n"):
+        found.append(line)
+        if line.startswith("member "):
+            member = int(line.split()[1])
+            data, count, skipped = sent_of(setup, files[f"{setup.prefix}.{member}.pcap"])
+            files[f"{setup.prefix}.{member}.tx.pcap"] = data
+            found.append(f"forward {member} sent {count} skipped {skipped}")
+    return "\n".join(found), files
+
+
+def made_wrong(lines, files):
+    """The outcome, wrong in one thing each."""
+    name, other = "out.0.tx.pcap", "out.1.tx.pcap"
+    data, line = files[name], next(line for line in lines.split("\n") if line.startswith("forward 0 "))
+    size = 16 + struct.unpack("<I", data[32:36])[0]
+    yield "a sent record lost", lines, {**files, name: data[:24] + data[24 + size :]}
+    yield "a sent record twice", lines, {**files, name: data + data[24 : 24 + size]}
+    yield "a sent record behind the others", lines, {**files, name: data[:24] + data[24 + size :] + data[24 : 24 + size]}
+    yield "a time", lines, {**files, name: data[:24] + b"\1" + data[25:]}
+    yield "another length on the wire", lines, {**files, name: data[:36] + bytes([data[36] ^ 1]) + data[37:]}
+    yield "what another member sent", lines, {**files, name: files[other], other: data}
+    yield "no file of sent frames", lines, {key: value for key, value in files.items() if key != other}
+    yield "another count", lines.replace(" sent ", " sent 1", 1), files
+    yield "one skipped", lines.replace(" skipped 1", " skipped 0", 1), files
+    yield "no line", lines.replace(line + "\n", ""), files
+    yield "the line at the end", lines.replace(line + "\n", "") + line, files
+
+
+def tests_differ():
+    """How many outcomes of by_hand.py are refused, and how many that were made wrong aren't."""
+    numbers, wrong = random.Random(6), 0
+    for _ in range(40):
+        case = captures.random_case(numbers)
+        if None in case.captures:
+            continue
+        for why in faults(case, *some_outcome(case, numbers), captures.Arriving(case).status()):
+            wrong += 1
+            print(f"an outcome of by_hand.py is refused: {why}; setup {case.setup!r}")
+    text = setup_text(SIZES[0], 2) + "members 2\nmode cpu\ndump yes\n"
+    long = record(frame(5000), sec=0, fraction=20)
+    data = [header() + b"".join(record(frame(60, fill=at + 20 * cpu), sec=cpu, fraction=at) for at in range(9)) for cpu in range(2)]
+    case = captures.Case(text, [data[0] + long, data[1]], None, [])
+    lines, files = with_sent(by_hand.Setup(text), *by_hand.replay(by_hand.Setup(text), "", case.captures))
+    for what, *outcome in made_wrong(lines, files):
+        if not list(faults(case, *outcome, 0)):
+            wrong += 1
+            print(f"a wrong outcome passes: {what}")
+    return wrong
+
+
+def main():
+    program, runs = os.path.abspath(sys.argv[1]), int(sys.argv[2]) if len(sys.argv) > 2 else 200
+    numbers, wrong, count = random.Random(7), tests_differ(), 0
+    with tempfile.TemporaryDirectory() as room:
+        os.chdir(room)
+        for count, case in enumerate([*captures.sum_cases(), *(captures.random_case(numbers) for _ in range(runs))], 1):
+            outcome, why = captures.run_of(program, case, numbers, "forward")
+            found = list(faults(case, *outcome)) if outcome else [why]
+            if found:
+                wrong += 1
+                print(f"run {count}, setup {case.setup!r}: {'; '.join(found[:3])}")
+        os.chdir("/")
+    print(f"forwards.py: {count} runs on threads that send, {wrong} of them wrong")
+    sys.exit(1 if wrong else 0)
+
+
+if __name__ == "__main__":
+    main()

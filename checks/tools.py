@@ -1,0 +1,415 @@
+#!/usr/bin/env python3
+"""Runs the tools of tools/ with a program, in a folder, and compares what they print and write.
+
+    tools.py PROGRAM FOLDER
+
+Sums stand beside the tests: a frame of 60 bytes takes 144 bytes of a block, of which one of 4096 bytes has 4048 for packets, so 28 frames.
+"""
+import csv
+import os
+import re
+import socket
+import struct
+import subprocess
+import sys
+import xml.etree.ElementTree
+from pathlib import Path
+
+program, room = Path(sys.argv[1]).resolve(), Path(sys.argv[2]).resolve()
+TOP = Path(__file__).resolve().parent.parent
+TOOLS = ("schedule.py", "ring_size.py", "lost.py", "ring_of.py", "run.py", "make_man.py")
+BLOCK = "block_size 4096\nblock_nr 2\nframe_size 2048\nframe_nr 4\n"
+KEY = "key 6d5a56da255b0ec24167253d43a38fb0d0ca2bcbae7b30b477cb2da38030f20c6a42b73bbeac01fa\n"
+failures = tests = 0
+
+
+def expect(what, given, wanted):
+    global failures, tests
+    tests += 1
+    if given != wanted:
+        failures += 1
+        print(f"{what}: {given!r} in place of {wanted!r}")
+
+
+def tool(name, *words):
+    """What a tool prints, what it says on standard error, and its status."""
+    done = subprocess.run(
+        [sys.executable, "-B", TOP / "tools" / name, *map(str, words)], cwd=room, capture_output=True, text=True, timeout=300
+    )
+    return done.stdout, done.stderr, done.returncode
+
+
+def with_program(name, *words):
+    return tool(name, *words, "--program", program)
+
+
+def refuses(what, wanted, name, *words):
+    """A tool that ends with status 1 and this sentence."""
+    expect(what, tool(name, *words), ("", f"{name}: {wanted}\n", 1))
+
+
+def capture(name, frames, damage=b""):
+    """Writes a capture of frames, each with its time in microseconds."""
+    parts = [struct.pack("<IHHiIII", 0xA1B2C3D4, 2, 4, 0, 0, 65535, 1)]
+    for time, frame in frames:
+        parts += [struct.pack("<IIII", 1000 + time // 1_000_000, time % 1_000_000, len(frame), len(frame)), frame]
+    (room / name).write_bytes(b"".join(parts) + damage)
+
+
+def text(name, words):
+    (room / name).write_text(words)
+    return name
+
+
+def frame(number, size=60):
+    """A frame of its own number, of no known protocol."""
+    return (bytes(12) + b"\x88\xb5" + number.to_bytes(4, "big")).ljust(size, b"\0")
+
+
+def datagram(ident, offset, is_last, data):
+    """A fragment of a UDP datagram; its place is in bytes."""
+    flags = offset // 8 | (0 if is_last else 0x2000)
+    head = struct.pack(">BBHHHBBH", 0x45, 0, 20 + len(data), ident, flags, 64, 17, 0) + bytes([10, 0, 0, 1, 10, 0, 0, 2])
+    return bytes(12) + b"\x08\x00" + head + data
+
+
+def test_help():
+    for name in TOOLS:
+        printed, said, status = tool(name, "--help")
+        expect(f"{name} --help", (status, said, printed.startswith("usage: ")), (0, "", True))
+
+
+def test_schedule():
+    """Three frames of CPU 0 and two of CPU 1, in milliseconds: 0, 10, 20 and 5, 10. The time-out is 8 ms."""
+    capture("a.pcap", [(0, frame(0)), (10_000, frame(1)), (20_000, frame(2))])
+    capture("b.pcap", [(5_000, frame(3)), (10_000, frame(4))])
+    setup = text("two.txt", BLOCK + "cpu a.pcap\ncpu b.pcap\n")
+    lines = {
+        "no reader": ([], "feed 0,feed 1,tick 8,feed 0,feed 1,tick 16,feed 0"),
+        "100 blocks a second": (["--blocks", "100"], "feed 0,feed 1,tick 8,feed 0,feed 1,read 0,tick 16,feed 0,read 0"),
+        # A block of 4096 bytes is read each 10 ms.
+        "409600 bytes a second": (["--bytes", "409600", "--tick", "0"], "feed 0,feed 1,feed 0,feed 1,read 0,feed 0,read 0"),
+        "a pause of 15 ms": (["--pause", "15", "--tick", "0"], "feed 0,feed 1,feed 0,feed 1,read 0,read 0,feed 0"),
+        "a stall": (["--blocks", "100", "--tick", "0", "--stall", "5:6"], "feed 0,feed 1,feed 0,feed 1,feed 0,read 0"),
+        "twice as fast": (["--speed", "2"], "feed 0,feed 1,feed 0,feed 1,tick 8,feed 0"),
+        "half as fast": (["--speed", "0.5", "--tick", "15"], "feed 0,feed 1,tick 15,feed 0,feed 1,tick 30,feed 0"),
+        "statistics": (["--tick", "0", "--stats", "0.01"], "feed 0,feed 1,feed 0,feed 1,stats 0,feed 0,stats 0"),
+    }
+    for what, (words, wanted) in lines.items():
+        printed, said, status = tool("schedule.py", setup, *words)
+        expect(f"schedule, {what}", (printed.replace("\n", ",").rstrip(","), said, status), (wanted, "", 0))
+    members = text("members.txt", BLOCK + "members 2\nmode lb\ntov 20\ncpu a.pcap\n")
+    printed, _, _ = tool("schedule.py", members, "--blocks", "100", "--stats", "0.02")
+    expect("two members", printed.split("\n"), "feed 0;feed 0;read 0;read 1;tick 20;feed 0;read 0;read 1;stats 0;stats 1;".split(";"))
+    expect("to a file", tool("schedule.py", setup, "-o", "made.sched"), ("", "", 0))
+    done = subprocess.run([program, "replay", setup, "made.sched"], cwd=room, capture_output=True, text=True)
+    # Tick 8 retires the block of the first two frames and tick 16 that of the next two; nobody reads, so the last one is dropped.
+    expect("the program takes it", (done.returncode, done.stdout.split("\n")[-2]), (0, "total arrivals 5 filtered 0 kept 4 drops 1"))
+
+
+def test_old_frames():
+    """A frame that is older than the one before it comes right behind that one, and the order of a CPU stays."""
+    capture("old.pcap", [(10_000, frame(0)), (5_000, frame(1)), (20_000, frame(2))])
+    capture("new.pcap", [(12_000, frame(3))])
+    setup = text("old.txt", BLOCK + "cpu old.pcap\ncpu new.pcap\n")
+    printed, _, _ = tool("schedule.py", setup, "--tick", "0")
+    expect("older frames", printed, "feed 0\nfeed 0\nfeed 1\nfeed 0\n")
+
+
+def test_ring_size():
+    """100 frames at once, and nobody reads: n blocks keep 28 n of them."""
+    capture("many.pcap", [(number, frame(number)) for number in range(100)])
+    setup = text("many.txt", BLOCK + "cpu many.pcap\n")
+    printed, said, status = with_program("ring_size.py", setup, "--block-nr", "2,3,4", "--pictures", "made")
+    wanted = [
+        "cpu,1,0,4096,2,8192,56,44,1,2",
+        "cpu,1,0,4096,3,12288,84,16,1,3",
+        "cpu,1,0,4096,4,16384,100,0,0,4",
+    ]
+    rows = [",".join(line.split()) for line in printed.split("\n")[1:4]]
+    expect("the table", (rows, said, status), (wanted, "", 0))
+    least = "the least ring that loses nothing: 4 blocks of 4096 bytes, time-out 8 ms; 16 KiB in all"
+    expect("the least ring", printed.split("\n")[5], least)
+    with open(room / "made" / "table.csv", newline="") as file:
+        expect("table.csv", [",".join(row) for row in csv.reader(file)][1:], wanted)
+    expect("drops.svg", titles("made/drops.svg"), [
+        "2 blocks of 4096 bytes, time-out 8 ms: 44 dropped of 100",
+        "3 blocks of 4096 bytes, time-out 8 ms: 16 dropped of 100",
+        "4 blocks of 4096 bytes, time-out 8 ms: 0 dropped of 100",
+    ])
+    expect("packets.svg", titles("made/packets.svg"), ["cpu, 1 0: 100 kept"])
+    printed, _, _ = with_program("ring_size.py", setup, "--block-nr", "2")
+    expect("no least ring", printed.split("\n")[3], "every ring that was tried loses packets")
+
+
+def test_modes():
+    """Of 100 frames of one CPU, lb gives each of two members 50 and cpu the first all; 28 fit into a block, and a reader takes none."""
+    setup = text("modes.txt", BLOCK + "cpu many.pcap\n")
+    printed, _, _ = with_program(
+        "ring_size.py", setup, "--block-nr", "2", "--members", "2", "--mode", "lb,cpu,rollover", "--jobs", "2", "--pictures", "modes"
+    )
+    rows = [line.split() for line in printed.split("\n") if re.match("(lb|cpu|rollover) ", line)]
+    expect("modes", [row[0] + " " + " ".join(row[6:9]) for row in rows[:3]], ["lb 100 0 0", "cpu 56 44 1", "rollover 100 0 0"])
+    expect("members", [" ".join(row) for row in rows[3:]], [
+        "lb 2 0 50 0", "lb 2 1 50 0", "cpu 2 0 56 44", "cpu 2 1 0 0", "rollover 2 0 56 0", "rollover 2 1 44 0",
+    ])
+    expect("packets.svg of modes", titles("modes/packets.svg"), [
+        "lb, 2 0: 50 kept", "lb, 2 1: 50 kept", "cpu, 2 0: 56 kept", "cpu, 2 0: 44 dropped", "rollover, 2 0: 56 kept",
+        "rollover, 2 1: 44 kept",
+    ])
+
+
+def titles(name):
+    """What the marks of a picture stand for."""
+    tree = xml.etree.ElementTree.parse(room / name)
+    return [title.text for title in tree.iter("{http://www.w3.org/2000/svg}title")]
+
+
+def test_lost():
+    """Two blocks keep frames 0 to 55. In the demo frames 31 and 44 to 51 are lost, as docs/using.md goes through it."""
+    text("none.sched", "")
+    printed, said, status = with_program("lost.py", "many.txt", "none.sched", "--bins", "2", "--picture", "lost.svg")
+    lines = printed.split("\n")
+    expect("lost frames", [line.split()[:2] for line in lines[1:45]], [["0", str(number)] for number in range(56, 100)])
+    expect("its time", lines[1].split()[2:], ["1000.000056000", "0.000056000", "60"])
+    expect("sums", (" ".join(lines[47].split()), said, status), ("0 100 100 0 56 44", "", 0))
+    # 100 microseconds in two: 50 frames in each, of which 6 more are kept.
+    expect("bins", [" ".join(line.split()[1:]) for line in lines[50:52]], ["50 0", "6 44"])
+    expect("lost.svg", [title.split(": ")[1] for title in titles("lost.svg")], ["50 kept", "6 kept", "44 lost"])
+    demo = subprocess.run(
+        [sys.executable, "-B", "tools/lost.py", "demo/small.txt", "demo/schedule.txt", "--program", program], cwd=TOP,
+        capture_output=True, text=True,
+    )
+    lost = [line.split()[:2] for line in demo.stdout.split("\n")[1:10]]
+    expect("lost of the demo", lost, [["0", str(number)] for number in [31, *range(44, 52)]])
+
+
+def test_lost_of_earlier():
+    """The outputs of a run on its own, with two CPUs, a filter and frames alike."""
+    # Keeps what has an even number in its eighteenth byte.
+    text("even.ddd", "4\n48 0 0 17\n69 1 0 1\n6 0 0 65535\n6 0 0 0\n")
+    setup = text("even.txt", BLOCK + "cpu many.pcap\ncpu many.pcap\nfilter even.ddd\nout even\n")
+    refuses_run = with_program("lost.py", setup)
+    expect("no outputs", refuses_run[1], "lost.py: even.0.pcap: isn't there: run ringtap first, or name a schedule, and the run is made here\n")
+    subprocess.run([program, "replay", setup, "none.sched"], cwd=room, capture_output=True)
+    printed, said, status = with_program("lost.py", setup)
+    # CPU after CPU: the 50 even frames of CPU 0 and the first 6 of CPU 1 are kept, and none says of which CPU those six are.
+    lines = printed.split("\n")
+    expect("lost of two", [line.split()[:2] for line in lines[1:45]], [["1", str(number)] for number in range(12, 100, 2)])
+    expect("unsure", {line.split()[5:] == ["?"] for line in lines[1:45]}, {True})
+    expect("sums of two", [" ".join(line.split()) for line in lines[47:49]], ["0 100 100 50 50 0", "1 100 100 50 6 44"])
+    capture("even.0.pcap", [(7, frame(99))])
+    expect("another run's", with_program("lost.py", setup)[1],
+           "lost.py: even.0.pcap, packet 0 from 0: is no frame of the captures that passes: is it of another run?\n")
+
+
+def test_lost_datagram():
+    """Two datagrams of two fragments each; a ring of blocks that one datagram fills, of which nobody reads one, loses the third."""
+    frames = []
+    for ident in range(3):
+        frames.append((10 * ident, datagram(ident, 0, False, bytes(2000))))
+        frames.append((10 * ident, datagram(ident, 2000, True, bytes(1500))))
+    capture("parts.pcap", frames)
+    setup = text("parts.txt", BLOCK + "cpu parts.pcap\nflag defrag\n")
+    printed, said, status = with_program("lost.py", setup, "none.sched")
+    lines = printed.split("\n")
+    expect("a lost datagram", (lines[1].split(), said, status), (["0", "5", "1000.000020000", "0.000020000", "3534"], "", 0))
+    expect("its sums", " ".join(lines[4].split()), "0 6 3 0 2 1")
+
+
+def ring_of(*words):
+    return tool("ring_of.py", "x.pcap", "--from", TOP / "checks" / "packet_sockets.txt", *words)
+
+
+def test_ring_of():
+    """What ss of iproute2 6.1.0 printed of tcpdump and of sockets that a script opened, on a kernel 6.18."""
+    printed, said, status = ring_of("--name", "tcpdump", "--inode", "137704", "-o", "dump.txt")
+    wanted = ("# The ring of tcpdump (pid 12965) on lo, as ss shows it.\nblock_size 262144\nblock_nr 8\nframe_size 262144\nframe_nr 8\n"
+              "tov 1000\nfeatures 0\ncpu x.pcap\nfilter dump.txt.ddd\n")
+    expect("tcpdump's ring", (printed, said, status, (room / "dump.txt").read_text()), ("", "", 0, wanted))
+    filtered = (room / "dump.txt.ddd").read_text().split("\n")
+    # As `tcpdump -ddd 'udp port 53 and net 10.0.0.0/8'` begins, and ends with its 262144 bytes, and none.
+    expect("its filter", (filtered[:3], filtered[-3:]), (["20", "40 0 0 12", "21 17 0 34525"], ["6 0 0 262144", "6 0 0 0", ""]))
+    done = subprocess.run([program, "check", "dump.txt"], cwd=room, capture_output=True, text=True)
+    expect("the program takes it", (done.stdout, done.returncode), ("ok\n", 0))
+    expect("a group", ring_of("--inode", "137755")[0].split("\n")[5:11],
+           ["tov 60", "features 1", "cpu x.pcap", "members 3", "mode hash", KEY.strip()])
+    for inode, mode in {"137757": "cpu", "137758": "rollover", "139291": "qm", "139287": "lb"}.items():
+        expect(mode, f"mode {mode}" in ring_of("--inode", inode)[0].split("\n"), True)
+    said = {
+        "137706": "inode 137706: is a TPACKET_V2 ring of tcpdump (pid 12967) on lo, and ringtap has TPACKET_V3 rings",
+        "139288": "fanout group 84: has type random, which ringtap has not",
+        "139292": "the ring has blocks of 2097152 bytes in place of at most 1048576, which ringtap has not: --fit takes the nearest one",
+        "134820": "the ring has 512 blocks of 4096 bytes in place of 2 to 256, which ringtap has not: --fit takes the nearest one",
+    }
+    for inode, wanted in said.items():
+        expect(inode, ring_of("--inode", inode), ("", f"ring_of.py: {wanted}\n", 1))
+    expect("fitted", ring_of("--inode", "139292", "--fit")[0].split("\n")[2:6],
+           ["block_size 1048576", "block_nr 8", "frame_size 2048", "frame_nr 4096"])
+    expect("which one", ring_of()[1].split("\n")[0], "ring_of.py: more than one ring: choose by --pid, --name or --inode")
+
+
+def test_live_ring():
+    """A ring of this process, where it may open one and ss is there."""
+    try:
+        with socket.socket(socket.AF_PACKET, socket.SOCK_RAW, socket.htons(3)) as live:
+            live.setsockopt(263, 10, struct.pack("i", 2))  # SOL_PACKET, PACKET_VERSION, TPACKET_V3
+            live.setsockopt(263, 5, struct.pack("IIIIIII", 8192, 4, 2048, 16, 70, 0, 0))  # PACKET_RX_RING
+            printed, said, _ = tool("ring_of.py", "x.pcap", "--pid", os.getpid())
+    except OSError as error:
+        print(f"tools.py: no ring of a running program was looked at: {error}")
+        return
+    if "ss isn't here" in said:
+        print("tools.py: no ring of a running program was looked at: ss isn't here")
+        return
+    expect("a running ring", printed.split("\n")[1:7],
+           ["block_size 8192", "block_nr 4", "frame_size 2048", "frame_nr 16", "tov 70", "features 0"])
+
+
+def test_run():
+    """Lines and statuses are the program's, and files land in a new folder."""
+    plain = subprocess.run([program, "replay", "many.txt", "none.sched"], cwd=room, capture_output=True, text=True)
+    kept = (room / "out.0.pcap").read_bytes()
+    (room / "out.0.pcap").unlink()
+    said = "ringtap: status 0: done; outputs are in run-1\n"
+    expect("run", with_program("run.py", "replay", "many.txt", "none.sched"), (plain.stdout, said, 0))
+    expect("its files", sorted(path.name for path in (room / "run-1").iterdir()), ["lines.txt", "out.0.pcap", "setup.txt"])
+    expect("its output", (room / "run-1" / "out.0.pcap").read_bytes() == kept, True)
+    expect("its lines", (room / "run-1" / "lines.txt").read_text(), plain.stdout)
+    expect("nothing beside", (room / "out.0.pcap").exists(), False)
+    expect("the next", with_program("run.py", "replay", "many.txt", "none.sched")[1], "ringtap: status 0: done; outputs are in run-2\n")
+    expect("not twice", with_program("run.py", "replay", "many.txt", "none.sched", "--into", "run-1"),
+           ("", "run.py: run-1: is there already; outputs go into a new folder\n", 1))
+    expect("here", with_program("run.py", "replay", "many.txt", "none.sched", "--here"), (plain.stdout, "ringtap: status 0: done\n", 0))
+    expect("check", with_program("run.py", "check", "many.txt"), ("ok\n", "ringtap: status 0: done\n", 0))
+
+
+def test_statuses():
+    """A status and its words, of each that can be had, and the line that a fault has in the setup as it stands."""
+    capture("cut.pcap", [(0, frame(0))], b"\0\0")
+    text("wrong.txt", BLOCK + "out a\ncpu many.pcap\nblok 3\n")
+    text("cut.txt", BLOCK + "cpu cut.pcap\n")
+    text("gone.txt", BLOCK + "cpu gone.pcap\n")
+    text("wrong.sched", "feed 0\nfeed 1\n")
+    # A record of no frame at all is cut at its own begin, behind the header and one record of 16 and 60 bytes.
+    cases = [
+        (["play", "many.txt"], 1, "usage: ", "the words are no command"),
+        (["replay", "wrong.txt", "none.sched"], 2, "setup line 7: unknown_word\n", "the setup is refused"),
+        (["replay", "many.txt", "wrong.sched"], 3, "schedule line 2: no_such_cpu\n", "a filter, moments or a schedule is refused"),
+        (["replay", "cut.txt", "none.sched"], 4, "cpu 0 frames 1 arrivals 1 end truncated 100\n",
+         "a capture is damaged or cut; what precedes that was run and saved; outputs are in status-4"),
+        (["replay", "gone.txt", "none.sched"], 5, "cpu 0 frames 0 arrivals 0 end fault\n",
+         "a file couldn't be read; what was read before that was run and saved; outputs are in status-5"),
+    ]
+    for words, status, begin, said in cases:
+        given = with_program("run.py", *words, "--into", f"status-{status}")
+        expect(f"status {status}", (given[0][: len(begin)], given[1:]), (begin, (f"ringtap: status {status}: {said}\n", status)))
+        expect(f"folder of status {status}", (room / f"status-{status}").exists(), status in (4, 5))
+
+
+def test_clash():
+    """An output that is an input, by its name or by a link, is refused, and the input stays."""
+    capture("in.0.pcap", [(0, frame(0))])
+    before = (room / "in.0.pcap").read_bytes()
+    setup = text("clash.txt", BLOCK + "cpu in.0.pcap\nout in\n")
+    said = "run.py: clash.txt: the output in.0.pcap would take the place of the input in.0.pcap: choose another `out`\n"
+    expect("a clash", with_program("run.py", "replay", setup, "none.sched", "--here"), ("", said, 1))
+    (room / "alias.0.pcap").symlink_to("in.0.pcap")
+    setup = text("alias.txt", BLOCK + "cpu in.0.pcap\nout alias\n")
+    said = "run.py: alias.txt: the output alias.0.pcap would take the place of the input in.0.pcap: choose another `out`\n"
+    expect("a link", with_program("run.py", "replay", setup, "none.sched", "--here"), ("", said, 1))
+    expect("the input stays", (room / "in.0.pcap").read_bytes() == before, True)
+
+
+def test_sentences():
+    """What is wrong with an input is said with its file and its place."""
+    (room / "next.pcap").write_bytes(b"\x0a\x0d\x0d\x0a" + bytes(40))
+    (room / "link.pcap").write_bytes(struct.pack("<IHHiIII", 0xA1B2C3D4, 2, 4, 0, 0, 65535, 113))
+    (room / "short.pcap").write_bytes(bytes(10))
+    (room / "none.pcap").write_bytes(bytes(24))
+    sentences = {
+        "cpu next.pcap": "next.pcap: is pcapng, and this tool reads pcap: `editcap -F pcap next.pcap NEW.pcap` converts it",
+        "cpu link.pcap": "link.pcap, byte 20: has link type 113, and ringtap reads Ethernet, which is 1",
+        "cpu short.pcap": "short.pcap: has 10 bytes, and the header of a pcap file has 24",
+        "cpu none.pcap": "none.pcap, byte 0: isn't a pcap file",
+        "cpu absent.pcap": "absent.pcap: can't be read: No such file or directory",
+        "cpu": "bad.txt, line 5: `cpu` needs the name of a capture, and the number of a queue or nothing",
+        "cpu a.pcap x": "bad.txt, line 5: `cpu` needs the name of a capture, and the number of a queue or nothing",
+        "cpu a.pcap\ntov 1 2": "bad.txt, line 6: `tov` needs one number",
+        "tov 5": "bad.txt: has no line `cpu`",
+    }
+    for line, wanted in sentences.items():
+        text("bad.txt", f"{BLOCK}{line}\n")
+        refuses(line, wanted, "schedule.py", "bad.txt")
+    refuses("no setup", "no.txt: can't be read: No such file or directory", "schedule.py", "no.txt")
+    refuses("no program", f"{room}/gone: isn't a program", "lost.py", "many.txt", "--program", "gone")
+    text("bad.txt", BLOCK + "cpu many.pcap\nblok 3\n")
+    expect("a refused setup", with_program("ring_size.py", "bad.txt")[1],
+           "ring_size.py: bad.txt: the setup is refused (status 2): setup line 6: unknown_word\n")
+    text("bad.txt", BLOCK + "cpu many.pcap\nfilter bad.ddd\n")
+    text("bad.ddd", "1\n6 0 0 x\n")
+    expect("a refused filter", with_program("ring_size.py", "bad.txt")[1],
+           "ring_size.py: bad.ddd: a filter, moments or a schedule is refused (status 3): filter line 2: bad_line\n")
+    text("bad.sched", "feed 0\nfeed 7\n")
+    expect("a refused schedule", with_program("lost.py", "many.txt", "bad.sched")[1],
+           "lost.py: bad.sched: a filter, moments or a schedule is refused (status 3): schedule line 2: no_such_cpu\n")
+    expect("no key", with_program("ring_size.py", "many.txt", "--mode", "hash")[1],
+           "ring_size.py: many.txt: has no line `key`, and mode hash needs one\n")
+    expect("a size", with_program("ring_size.py", "many.txt", "--block-size", "5000")[2], 2)
+    capture("long.pcap", [(number, frame(number, 14)) for number in range(160_000)])
+    text("long.txt", BLOCK + "cpu long.pcap\n")
+    expect("too long", "has more than 1,048,576 bytes at" in tool("schedule.py", "long.txt")[1], True)
+
+
+def test_documents():
+    expect("man page and completion", tool("make_man.py", "--check"), ("", "", 0))
+
+
+def examples(document):
+    """The commands of a document, each with the lines that stand below it up to the next command or the end of the indented lines."""
+    found, lines = [], None
+    for line in document.read_text().split("\n"):
+        if line.startswith("    $ "):
+            lines = []
+            found.append((line[6:].split(), lines))
+        elif line.startswith("    ") and lines is not None:
+            lines.append(line[4:])
+        elif line.strip():
+            lines = None
+        elif lines is not None:
+            lines.append("")
+    return [(words, "\n".join(lines).rstrip("\n")) for words, lines in found]
+
+
+def test_examples():
+    """The commands of docs/tools.md print what stands below them; of a schedule its first lines."""
+    here = room / "examples"
+    here.mkdir()
+    (here / "demo").symlink_to(TOP / "demo")
+    (here / "checks").symlink_to(TOP / "checks")
+    (here / "in.0.pcap").write_bytes((TOP / "demo" / "lo.pcap").read_bytes())
+    (here / "clash.txt").write_text(BLOCK + "cpu in.0.pcap\nout in\n")
+    for words, wanted in examples(TOP / "docs" / "tools.md"):
+        what = " ".join(words)
+        if words[0] == "python3":
+            has_program = words[1] in ("tools/ring_size.py", "tools/lost.py", "tools/run.py")
+            words = [sys.executable, "-B", TOP / words[1], *words[2:], *["--program", program] * has_program]
+        done = subprocess.run(words, cwd=here, capture_output=True, text=True, timeout=300)
+        given = (done.stdout + done.stderr).rstrip("\n")
+        if "schedule.py" in what:
+            given = "\n".join(given.split("\n")[: wanted.count("\n") + 1])
+        expect(what, given, wanted)
+    expect("examples", len(examples(TOP / "docs" / "tools.md")), 8)
+
+
+def main():
+    for name, test in list(globals().items()):
+        if name.startswith("test_"):
+            test()
+    if failures:
+        print(f"tools.py: {failures} of {tests} comparisons fail")
+    sys.exit(failures > 0)
+
+
+if __name__ == "__main__":
+    main()

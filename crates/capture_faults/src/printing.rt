@@ -1,0 +1,47 @@
+//! Each write fails in turn.
+use crate::run::CAPTURE;
+use cpu_feeders::NoGate;
+use frame_view::Memory;
+use run_building::{Faults, NO_FAULT, Row, difference_on_threads};
+use std::alloc::Global;
+use std::str;
+use std::sync::Wait;
+use std::test::Fail;
+use std::thread::Threads;
+
+/// What one write takes of the lines.
+const TAKEN: usize = 50;
+
+/// The first bytes of the lines, as many as so many writes take.
+fn written(writes: usize) -> &'static str {
+    let count = writes.saturating_mul(TAKEN).min(CAPTURE.printed.len());
+    str::from_utf8(&CAPTURE.printed.as_bytes()[..count]).unwrap_or("")
+}
+
+/// What the capture differs in where a write fails after so many: it ends with status 6, its report
+/// and its files, and what was written before stays.
+fn unwritten_difference<R: Threads + Wait + Sync>(
+    rt: &R,
+    alloc: Global,
+    writes: usize,
+) -> Result<String, Memory> {
+    let row = Row {
+        faults: Faults {
+            write: (writes as u64).saturating_add(1),
+            ..NO_FAULT
+        },
+        status: "6 WriteFault",
+        printed: written(writes),
+        ..CAPTURE
+    };
+    difference_on_threads(rt, alloc, &row, &NoGate)
+}
+
+#[test]
+fn each_write_fails(rt: HostRuntime) -> Result<(), Fail> {
+    for writes in 0..CAPTURE.printed.len().div_ceil(TAKEN) {
+        let found = unwritten_difference(&rt, rt.alloc(), writes)?;
+        assert_eq!(rt; found.as_str(), "", "write {writes}");
+    }
+    Ok(())
+}

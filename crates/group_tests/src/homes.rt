@@ -1,0 +1,148 @@
+//! Which groups are valid, and the member that an arrival is for where each member has room.
+ghost use Rattle.std.specs.Prelude.{◌≡◌, ◌<◌, None, length, IfOk};
+ghost use Rattle.fanout_group.specs.Arrivals.{IsArrival};
+ghost use Rattle.fanout_group.specs.Rules.{HasTicket};
+
+use crate::deliveries::{DIGITS, OPEN, arrival, take};
+use crate::list_desk::ListDesk;
+use fanout_group::{ArrivalRules, Fate, Mode, Plan, PlanError, ReceivePath, Try};
+use flow_hash::Key;
+use frame_view::{ByteList, Frame, Memory, Parts, build};
+use std::alloc::Global;
+use std::test::Fail;
+
+const ROLLOVER: u32 = 0x1000;
+
+const DEFRAG: u32 = 0x8000;
+
+const BOTH: u32 = 0x9000;
+
+/// The members, the mode, the flags, whether there is a key, and what is wrong with it.
+type Group = (u32, Mode, u32, bool, Option<PlanError>);
+
+static GROUPS: [Group; 8] = [
+    (0, Mode::Hash, ROLLOVER, false, Some(PlanError::NoMember)),
+    (9, Mode::Hash, 0, false, Some(PlanError::TooMany)),
+    (9, Mode::Rollover, ROLLOVER, true, Some(PlanError::TooMany)),
+    (
+        8,
+        Mode::Rollover,
+        ROLLOVER,
+        true,
+        Some(PlanError::BackupOfRollover),
+    ),
+    (1, Mode::Hash, DEFRAG, false, Some(PlanError::NoKey)),
+    (8, Mode::Hash, BOTH, true, None),
+    (1, Mode::Rollover, DEFRAG, false, None),
+    (8, Mode::Qm, ROLLOVER, false, None),
+];
+
+#[test]
+fn the_first_fault_of_a_group(rt: HostRuntime) -> Result<(), Fail> {
+    for (members, mode, flags, has_key, want) in &GROUPS {
+        let flags = *flags;
+        assert!(rt; flags == 0 || flags == ROLLOVER || flags == DEFRAG || flags == BOTH);
+        let checked = Plan::check(*members, *mode, flags, *has_key);
+        assert_eq!(rt; checked.err(), *want, "{members} {mode:?} {flags}");
+    }
+    let plan = Plan::check(8, Mode::Lb, BOTH, false)?;
+    assert_eq!(rt;
+        (plan.members(), plan.mode(), plan.flags()),
+        (8, Mode::Lb, BOTH)
+    );
+    Ok(())
+}
+
+/// The member that keeps an arrival, where each member has room.
+fn member_of(
+    alloc: Global,
+    plan: Plan,
+    rules: &ArrivalRules<'_>,
+    arrival: Frame,
+) -> Result<Option<u32>, Memory>
+    requires arrival { IsArrival arrival }
+    requires room { 82 < rules.now.room }
+    requires mode { HasTicket plan.mode None }
+{
+    let mut desk = ListDesk {
+        rooms: vec![in alloc; 1; plan.members() as usize]?,
+        tries: Vec::new(alloc),
+    };
+    let mut path = ReceivePath::new(alloc, plan);
+    take(alloc, &mut path, rules, &mut desk, arrival, None)?;
+    match path.into_log().get(0) {
+        Some(entry) => Ok(keeper(entry.tries.as_slice())),
+        None => Ok(None),
+    }
+}
+
+/// The member of a single try that kept a packet.
+fn keeper(tries: &[Try]) -> Option<u32> {
+    match tries {
+        [
+            Try {
+                member,
+                fate: Fate::Kept,
+            },
+        ] => Some(*member),
+        _ => None,
+    }
+}
+
+#[test]
+fn homes_by_cpu_and_by_queue(rt: HostRuntime) -> Result<(), Fail> {
+    let alloc = rt.alloc();
+    for (members, cpu, queue, by_cpu, by_queue) in [
+        (3, 0, 5, 0, 2),
+        (3, 1, 6, 1, 0),
+        (3, 5, 1, 2, 1),
+        (1, 7, 7, 0, 0),
+        (8, 7, 4_294_967_295, 7, 7),
+    ] {
+        let rules = ArrivalRules { queue, ..OPEN };
+        let plan = Plan::check(members, Mode::Cpu, 0, false)?;
+        let member = member_of(alloc, plan, &rules, arrival(alloc, cpu, 0, &[])?)?;
+        assert_eq!(rt; member, Some(by_cpu), "by CPU: {members} {cpu}");
+        let plan = Plan::check(members, Mode::Qm, 0, false)?;
+        let member = member_of(alloc, plan, &rules, arrival(alloc, cpu, 0, &[])?)?;
+        assert_eq!(rt; member, Some(by_queue), "by queue: {members} {queue}");
+    }
+    Ok(())
+}
+
+/// A frame with a UDP datagram from one address and port to another.
+fn datagram(alloc: Global, source: (u32, u16), dest: (u32, u16)) -> Result<Frame, Memory>
+    ensures { IfOk result IsArrival }
+{
+    let parts = Parts {
+        to: [2, 0, 0, 0, 0, 2],
+        from: [2, 0, 0, 0, 0, 1],
+        ident: 0,
+        source: source.0,
+        dest: dest.0,
+        sport: source.1,
+        dport: dest.1,
+        payload: ByteList::new(alloc),
+    };
+    let bytes = build(alloc, &parts)?;
+    arrival(alloc, 0, 0, bytes.as_slice())
+}
+
+#[test]
+fn both_directions_of_a_flow_have_one_member(rt: HostRuntime) -> Result<(), Fail> {
+    let alloc = rt.alloc();
+    let key = Key::from_hex(alloc, DIGITS)?;
+    let rules = ArrivalRules {
+        key: Some(&key),
+        ..OPEN
+    };
+    let plan = Plan::check(4, Mode::Hash, 0, true)?;
+    for flow in 0..100_u16 {
+        let host = (0x0a00_0001 + u32::from(flow), 1000 + flow);
+        let port = (0x0a00_0032, 80);
+        let out = member_of(alloc, plan, &rules, datagram(alloc, host, port)?)?;
+        let back = member_of(alloc, plan, &rules, datagram(alloc, port, host)?)?;
+        assert!(rt; out.is_some() && out == back, "flow {flow}");
+    }
+    Ok(())
+}

@@ -1,0 +1,14 @@
+//! Tests of the commands that one thread carries out, where one call of the outside after another
+//! fails.
+#![tactic(auto)]
+
+#[cfg(test)]
+mod commands;
+#[cfg(test)]
+mod memory;
+#[cfg(test)]
+mod printing;
+#[cfg(test)]
+mod reading;
+#[cfg(test)]
+mod saving;

@@ -1,0 +1,92 @@
+-- The decoder that a feed leaves.
+use Rattle.std.proofs.Common.{◌≡◌, Bool, true, false, ℕ, ◌+◌, ◌-◌, ◌≤◌, List, [], ◌++◌, length, take, drop, refl, sym, ap, subst, ◌∙◌, arith}
+use Rattle.std.specs.Prelude.{min, nat_lt, Option, None}
+use Rattle.std.proofs.lemmas.List.{length-append, length-take, take_min}
+use Rattle.frame_view.specs.declared.frames.Frame.{Frame}
+use Rattle.pcapng_blocks.specs.declared.error.BlockError.{BlockError}
+use Rattle.pcapng_blocks.specs.declared.reading.Cursor.{Cursor}
+use Rattle.pcapng_blocks.specs.declared.reading.Held.{Held}
+use Rattle.pcapng_blocks.specs.declared.reading.Progress.{Progress}
+use Rattle.pcapng_blocks.specs.declared.stage.Stage.{Stage}
+use Rattle.pcapng_blocks.specs.declared.stage.Stage.TheVariants as stages
+use Rattle.pcapng_blocks.specs.Blocks.{Spot}
+use Rattle.pcapng_blocks.specs.Capture.{counted, damage_of}
+use Rattle.pcapng_blocks.specs.Reading.{spot_of, Feeds, IsKept, IsSoundAt}
+use Rattle.pcapng_blocks.specs.Decoding.{stage_with, error_of, stage_of, Stands, DecoderValue}
+use Rattle.pcapng_blocks.proofs.Settling.{Settles, settles, damage_is_error}
+
+-- what a feed leaves, by its steps: what was taken of the piece, and the stage with what is beyond
+pub settles_here : (number : ℕ) (fed piece taken : List ℕ) (now : DecoderValue) (cpu : ℕ) (cursor : Cursor) (stage : Stage) (count : ℕ) (old new : Held) (before after : List Frame)
+    (progress : Progress) (size : ℕ) (then_ : Stage)
+    → record { cpu = cpu; fed = count; stage = stage; spot = spot_of cursor old.interfaces.items; rest = old.kept.items } ≡ now → Stands number now fed
+    → size ≡ min (33554432 - count) (length piece) → taken ≡ take size piece
+    → then_ ≡ stage_with progress.stage (nat_lt (33554432 - count) (length piece))
+    → Feeds cpu stage cursor old taken before progress new after
+    → Settles number fed piece before after then_ (spot_of progress.cursor new.interfaces.items) (drop progress.cut new.kept.items)
+settles_here number fed piece taken now cpu cursor stage count old new before after progress size then_ view stands room part with feeds =
+    let s = subst (λ (v : DecoderValue). Stands number v fed) (sym view) stands in
+    let mine : Stands number (record { cpu = number; fed = count; stage = stage; spot = spot_of cursor old.interfaces.items; rest = old.kept.items }) fed =
+    record { cpu = refl; count = s.count; stage = s.stage; spot = s.spot; rest = s.rest } in
+    let all : taken ≡ take (33554432 - count) piece = part ∙ ap (λ (n : ℕ). take n piece) room ∙ take_min (33554432 - count) piece in
+    rw with (settles number fed piece taken cursor stage count old new before after progress (nat_lt (33554432 - count) (length piece)) mine all refl
+    (subst (λ (n : ℕ). Feeds n stage cursor old taken before progress new after) s.cpu feeds))
+
+-- the bytes that count, after a feed
+fed_on : (fed piece taken : List ℕ) (count size : ℕ) → count ≡ length (counted fed) → size ≡ min (33554432 - count) (length piece) → taken ≡ take size piece
+    → count + length taken ≡ length (counted (fed ++ piece))
+fed_on fed piece taken count size counts room part =
+    omega (arith, length-take 33554432 fed, length-take 33554432 (fed ++ piece), length-append fed piece, ap length part, length-take size piece)
+
+-- the decoder that is left stands for all bytes
+module _ (number : ℕ) (fed piece taken : List ℕ) (before after : List Frame) (old decoder : DecoderValue) (stage : Stage) (spot : Spot) (rest kept : List ℕ) (size : ℕ)
+    (view : decoder ≡ old) (stands : Stands number old fed) (room : size ≡ min (33554432 - decoder.fed) (length piece)) (part : taken ≡ take size piece)
+    (h : Settles number fed piece before after stage spot rest) where
+  was : Stands number decoder fed
+  was = subst (λ (v : DecoderValue). Stands number v fed) (sym view) stands
+
+  count : decoder.fed + length taken ≡ length (counted (fed ++ piece))
+  count = fed_on fed piece taken decoder.fed size was.count room part
+
+  pub stands_on : error_of stage ≡ None → kept ≡ rest
+      → Stands number (record { cpu = decoder.cpu; fed = decoder.fed + length taken; stage = stage; spot = spot; rest = kept }) (fed ++ piece)
+  stands_on none all = record { cpu = was.cpu; count = count; stage = h.at; spot = h.place; rest = all ∙ h.kept none }
+
+  pub stands_damaged : (error : BlockError) → stage ≡ stages.Damaged error → kept ≡ []
+      → Stands number (record { cpu = decoder.cpu; fed = decoder.fed + length taken; stage = stage; spot = spot; rest = kept }) (fed ++ piece)
+  stands_damaged error at none =
+      let told : stage_of (fed ++ piece) ≡ stages.Damaged error = sym h.at ∙ at in
+      record { cpu = was.cpu; count = count; stage = h.at; spot = h.place; rest = none ∙ rw told refl }
+
+-- the answer is the damage
+pub settles_damage : (number : ℕ) (fed piece : List ℕ) (before after : List Frame) (stage : Stage) (spot : Spot) (rest : List ℕ) (damage : Option BlockError)
+    → Settles number fed piece before after stage spot rest → error_of stage ≡ damage → damage ≡ damage_of (fed ++ piece)
+settles_damage number fed piece before after stage spot rest damage h e = sym e ∙ ap error_of h.at ∙ sym (damage_is_error (fed ++ piece))
+
+-- a stage that isn't damaged has no error
+pub no_error : (stage : Stage) → ((error : BlockError) → stage ≡ stages.Damaged error → ⊥) → error_of stage ≡ None
+no_error stages.Blocks not = refl
+no_error (stages.Skipping skip) not = refl
+no_error (stages.Damaged error) not = absurd (not error refl)
+
+-- ---- the decoder stays sound
+
+stop_within : (stage : Stage) (spot : Spot) (rest : List ℕ) (fed : ℕ) → IsKept stage spot rest fed → spot.stop ≤ fed
+stop_within stages.Blocks spot rest fed kept = omega (arith, kept.1)
+stop_within (stages.Skipping skip) spot rest fed kept = omega (arith, kept.0.within, kept.1)
+stop_within (stages.Damaged error) spot rest fed kept = kept.1
+
+pub damaged_sound : (stage then_ : Stage) (spot : Spot) (rest kept : List ℕ) (fed : ℕ) (error : BlockError) → IsSoundAt stage spot rest fed → then_ ≡ stages.Damaged error → kept ≡ []
+    → IsSoundAt then_ spot kept fed
+damaged_sound stage then_ spot rest kept fed error sound at none =
+    rw at (record { kept = (none, stop_within stage spot rest fed sound.kept); count = sound.count })
+
+with_same : (stage then_ : Stage) (beyond : Bool) → then_ ≡ stage_with stage beyond → error_of then_ ≡ None → then_ ≡ stage
+with_same stages.Blocks then_ true at none = let e = rw at at none in absurd cc
+with_same stages.Blocks then_ false at none = at
+with_same (stages.Skipping skip) then_ true at none = let e = rw at at none in absurd cc
+with_same (stages.Skipping skip) then_ false at none = at
+with_same (stages.Damaged error) then_ beyond at none = at
+
+pub sound_with : (stage then_ : Stage) (beyond : Bool) (spot : Spot) (rest kept : List ℕ) (fed : ℕ) → IsSoundAt stage spot rest fed → then_ ≡ stage_with stage beyond → error_of then_ ≡ None → kept ≡ rest
+    → IsSoundAt then_ spot kept fed
+sound_with stage then_ beyond spot rest kept fed sound at none all = rw (with_same stage then_ beyond at none, all) sound

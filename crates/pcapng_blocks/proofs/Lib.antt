@@ -1,0 +1,14 @@
+pub mod HeadLooks
+pub mod Told
+pub mod FrontBlocks
+pub mod Splits
+pub mod Steps
+pub mod Sounds
+pub mod Settling
+pub mod Ending
+pub mod Options
+pub mod Decoders
+pub mod Lawful
+pub mod Firsts
+pub mod Cuts
+pub mod Fitting

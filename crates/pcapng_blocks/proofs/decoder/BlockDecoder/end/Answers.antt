@@ -1,0 +1,13 @@
+use Rattle.std.proofs.Common.{ℕ, ◌∙◌, ap, eqb}
+use Rattle.pcapng_blocks.specs.Blocks.{Spot}
+use Rattle.pcapng_blocks.specs.Decoding.{DecoderValue}
+use Rattle.pcapng_blocks.proofs.Ending.{end_told}
+use Rattle.pcapng_blocks.proofs.decoder.BlockDecoder.end.Goals as goal
+
+pub returns : goal.returns
+returns c cpu fed stands =
+    let none = c.is_empty.ensures ∙ ap (λ (n : ℕ). eqb n 0) c.self.inside.held.kept.ok.0 in
+    let view = c.self.view_is in
+    c.end.ensures
+    ∙ end_told fed c.self.inside.cursor.stop c.self.inside.held.kept.items (ap (λ (v : DecoderValue). v.spot.stop) view ∙ ap (λ (s : Spot). s.stop) stands.spot)
+    c.self.inside.stage c.is_empty.result (ap (λ (v : DecoderValue). v.stage) view ∙ stands.stage) (ap (λ (v : DecoderValue). v.rest) view ∙ stands.rest) none

@@ -1,0 +1,9 @@
+pub mod Numbers
+pub mod Heads
+pub mod Interfaces
+pub mod Bodies
+pub mod Blocks
+pub mod Capture
+pub mod Reading
+pub mod Decoding
+pub mod Laws

@@ -1,0 +1,137 @@
+//! A pcapng capture that comes in pieces.
+//!
+//! A feed completes the block of which bytes are kept, reads the further whole blocks of the piece where they lie, and
+//! keeps what is after them. Of a block that is skipped no body is kept: its bytes are counted, and its tail is compared
+//! when it comes. A failed test ends it all.
+ghost use Rattle.std.specs.Prelude.{◌≡◌, ◌≤◌, [], IfOk, OnErr};
+
+use crate::BlockError;
+use crate::byte_order::Order;
+use crate::reading::{Cursor, Held, Reader, cut_front};
+use crate::stage::Stage;
+use frame_view::{Frames, Memory};
+use std::alloc::Global;
+use std::marker::Model;
+
+/// The number of bytes of a capture that count.
+const LARGEST_CAPTURE: usize = 33_554_432;
+
+/// Reads a pcapng capture that is fed piece by piece, however it is cut; its first bytes are those of a section header.
+/// That no more than the first 33,554,432 bytes count, no more than 262,144 bytes of a packet and no more than 524,288
+/// of a block that is read, is this project's own choice.
+#[derive(Debug, Drop)]
+pub struct BlockDecoder {
+    /// Gives the memory for the frames.
+    alloc: Global,
+    /// The number that its frames carry.
+    cpu: u32,
+    /// The number of bytes that were fed, of those that count.
+    fed: usize,
+    /// What comes next.
+    stage: Stage,
+    /// Where that is.
+    cursor: Cursor,
+    /// What is kept between feeds.
+    held: Held,
+}
+
+impl Model for BlockDecoder {
+    ghost use Rattle.pcapng_blocks.specs.Decoding.{DecoderValue, decoder_value, IsSound};
+
+    ghost Value = { DecoderValue };
+
+    ghost view = { decoder_value };
+
+    ghost invariant = { IsSound };
+}
+
+impl BlockDecoder {
+    ghost use Rattle.pcapng_blocks.specs.Decoding.{Stands, StandsOn, AppendsNew, IsDamage, IsEnd, CountsKept};
+
+    /// A decoder that nothing was fed to. It takes no memory.
+    pub fn new(alloc: Global, cpu: u32) -> BlockDecoder
+        ensures { Stands cpu result [] }
+    {
+        BlockDecoder {
+            alloc,
+            cpu,
+            fed: 0,
+            stage: Stage::Blocks,
+            cursor: Cursor {
+                stop: 0,
+                index: 0,
+                order: Order::Little,
+                first: 0,
+            },
+            held: Held {
+                kept: Vec::new(alloc),
+                interfaces: Vec::new(alloc),
+            },
+        }
+    }
+
+    /// Takes the next bytes of the capture, appends the frames that are whole now, and gives the capture's damage, if
+    /// there is any. After damage every call gives the same and appends nothing. After `Memory` the decoder and `into`
+    /// are as before the call.
+    pub fn feed(&mut self, piece: &[u8], into: &mut Frames) -> Result<Option<BlockError>, Memory>
+        // The decoder stands for all bytes that it was fed.
+        ensures stands { IfOk result (λ damage. StandsOn self.old self.new piece.now) }
+
+        // The frames that are new are appended, and no others.
+        ensures frames { IfOk result (λ damage. AppendsNew self.old piece.now into.old into.new) }
+
+        // The answer is the damage of all bytes that were fed.
+        ensures damage { IfOk result (λ damage. IsDamage self.old piece.now damage) }
+
+        // After want of memory all is as before.
+        ensures decoder { OnErr result (self.new ≡ self.old) }
+        ensures into { OnErr result (into.new ≡ into.old) }
+    {
+        let frames = into.len();
+        let kept = self.held.kept.len();
+        let interfaces = self.held.interfaces.len();
+        let room = LARGEST_CAPTURE - self.fed;
+        let (counted, _) = piece.split_at(room.min(piece.len()));
+        let reader = Reader {
+            alloc: self.alloc,
+            cpu: self.cpu,
+        };
+        let progress = reader.read_on(self.stage, self.cursor, counted, &mut self.held, into);
+        let Ok(progress) = progress else {
+            self.held.kept.truncate(kept);
+            self.held.interfaces.truncate(interfaces);
+            into.truncate(frames);
+            return Err(Memory);
+        };
+        self.fed += counted.len();
+        self.stage = progress.stage.with(piece.len() > room);
+        cut_front(&mut self.held.interfaces, progress.cursor.first);
+        self.cursor = Cursor {
+            first: 0,
+            ..progress.cursor
+        };
+        if let Stage::Damaged(damage) = self.stage {
+            self.held.kept.clear();
+            return Ok(Some(damage));
+        }
+        cut_front(&mut self.held.kept, progress.cut);
+        Ok(None)
+    }
+
+    /// How the capture ends where nothing more comes: its damage, or `Truncated` with the place of the block that isn't
+    /// whole. It takes no memory.
+    pub fn end(&self) -> Result<(), BlockError>
+        ensures { IsEnd self.now result }
+    {
+        self.stage.end(self.cursor.stop, self.held.kept.is_empty())
+    }
+
+    /// The number of bytes that are kept: those after the last whole block, at most 3 of a block that is skipped, none
+    /// after damage. It takes no memory.
+    pub fn rest(&self) -> u32
+        ensures kept { CountsKept self.now result }
+        ensures few { result ≤ 524287 }
+    {
+        self.held.kept.len() as u32
+    }
+}

@@ -1,0 +1,24 @@
+//! A decoder that is fed a capture in pieces.
+use frame_view::Frames;
+use pcapng_blocks::{BlockDecoder, BlockError};
+use std::alloc::Global;
+
+/// What the end answers, and the number of bytes that are kept there.
+pub(crate) type Ended = (Result<(), BlockError>, u32);
+
+/// Feeds a capture in pieces of a size. It gives the damage that the last feed named, and what the end answers.
+pub(crate) fn decode(
+    alloc: Global,
+    bytes: &[u8],
+    size: usize,
+    into: &mut Frames,
+) -> (Option<BlockError>, Ended) {
+    let mut decoder = BlockDecoder::new(alloc, 3);
+    let mut damage = None;
+    for piece in bytes.chunks(size.max(1)) {
+        if let Ok(named) = decoder.feed(piece, into) {
+            damage = named;
+        }
+    }
+    (damage, (decoder.end(), decoder.rest()))
+}

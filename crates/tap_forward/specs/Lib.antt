@@ -1,0 +1,5 @@
+pub mod Forwarding
+pub mod Sending
+pub mod Forwarders
+pub mod ForwardersInside
+pub mod Bridging

@@ -1,0 +1,164 @@
+//! The run of a job on threads whose readers send.
+ghost use Rattle.std.specs.Prelude.{◌≡◌, Bool, None, length, map, option_map, replicate, IfOk};
+ghost use Rattle.std.specs.List.{AllZip};
+ghost use Rattle.capture_reports.specs.Reported.{AreReported};
+ghost use Rattle.cpu_feeders.specs.Runs.{IsCaptureRun};
+ghost use Rattle.setup_text.specs.Sound.{AreMoments, IsSetup};
+ghost use Rattle.tap_forward.specs.Bridging.{IsForwarderOf, sent_for, skipped_for, tx_request};
+ghost use Rattle.tap_forward.specs.Forwarders.{new_forwarder};
+ghost use Rattle.tp_layout.specs.Requests.{receive_fault, transmit_fault};
+ghost use Rattle.tp_layout.specs.declared.requests.RingRequest.{RingRequest as Request};
+ghost use Rattle.tx_ring.specs.Rings.{room_of};
+
+use crate::Forwarder;
+use capture_reports::{threads_report_a_capture, threads_report_a_run};
+use cpu_feeders::{Gate, Workers, run_takers};
+use frame_view::{Memory, MomentList, Packets};
+use setup_text::{Job, MemberList, MemberReport, RunReport};
+use std::alloc::Global;
+use std::collections::VecDeque;
+use std::sync::Wait;
+use std::thread::Threads;
+use tap_outside::Source;
+use tp_layout::{RingRequest, Shape};
+
+/// What a run whose readers send gives back.
+#[derive(Drop)]
+pub struct ForwardRan<S: Drop> {
+    /// What it reports, as a run whose readers keep their packets.
+    pub report: RunReport,
+    /// The packets that were sent for each member, from 0 up.
+    pub sent: Vec<Packets>,
+    /// The number of packets that were skipped of each member, from 0 up.
+    pub skipped: Vec<u64>,
+    /// The source of each CPU, from 0 up, less the bytes that it gave; nothing where none was handed in.
+    pub sources: Vec<Option<S>>,
+}
+
+/// The shape of the transmit ring beside a receive ring: that of the same request without a time-out, a private area and
+/// features, which a transmit ring has not.
+fn tx_shape(request: &RingRequest) -> Shape
+    requires { receive_fault request.now ≡ None }
+    ensures shape { result ≡ tx_request request.now }
+    ensures transmit { transmit_fault result ≡ None }
+{
+    let plain = RingRequest {
+        tov: 0,
+        sizeof_priv: 0,
+        features: 0,
+        ..*request
+    };
+    match plain.check_tx() {
+        Ok(shape) => shape,
+        Err(_) => unreachable!(),
+    }
+}
+
+/// A forwarder for each member.
+fn forwarders_of(
+    alloc: Global,
+    members: u32,
+    shape: &Shape,
+    tx: &Shape,
+    dump: bool,
+) -> Result<Vec<Forwarder>, Memory>
+    requires { transmit_fault tx.now ≡ None }
+    ensures { IfOk result (λ forwarders.
+        forwarders.items ≡ replicate members (new_forwarder shape.now tx.now dump)) }
+{
+    let mut forwarders = Vec::with_capacity(alloc, members as usize)?;
+    for _forwarder in 0..members {
+        forwarders.push(Forwarder::new(alloc, *shape, *tx, dump)?)?;
+    }
+    Ok(forwarders)
+}
+
+/// Reports what a run with forwarders leaves.
+fn report<S: Source>(alloc: Global, workers: Workers<S, Forwarder>) -> Result<ForwardRan<S>, Memory>
+    requires forwarders { length workers.takers.items ≡ length workers.notes.items }
+    requires rings { length workers.rings.items ≡ length workers.notes.items }
+    ensures cpus { IfOk result (λ ran. ran.report.cpus ≡ workers.cpus) }
+    ensures sources { IfOk result (λ ran. ran.sources.items ≡ workers.sources.items) }
+    ensures members { IfOk result (λ ran. (shape tx : Request) (dump : Bool)
+        → AllZip (IsForwarderOf shape tx dump) workers.notes.items workers.takers.items
+        → AreReported shape dump workers.notes.items workers.rings.items ran.report.members) }
+    ensures sent { IfOk result (λ ran. (shape tx : Request) (dump : Bool)
+        → AllZip (IsForwarderOf shape tx dump) workers.notes.items workers.takers.items
+        → ran.sent.items ≡ map (sent_for (room_of tx)) ran.report.members) }
+    ensures skipped { IfOk result (λ ran. (shape tx : Request) (dump : Bool)
+        → AllZip (IsForwarderOf shape tx dump) workers.notes.items workers.takers.items
+        → ran.skipped.items ≡ map (skipped_for (room_of tx)) ran.report.members) }
+{
+    let mut members = MemberList::new(alloc);
+    let mut sent = Vec::new(alloc);
+    let mut skipped = Vec::new(alloc);
+    let mut rings = VecDeque::from(workers.rings);
+    let mut forwarders = VecDeque::from(workers.takers);
+    for notes in workers.notes {
+        let Some(forwarder) = forwarders.pop_front() else {
+            unreachable!()
+        };
+        let Some(ring) = rings.pop_front() else {
+            unreachable!()
+        };
+        let forwarded = forwarder.end()?;
+        let outputs = forwarded.outputs;
+        members.push(MemberReport {
+            notes,
+            walked: outputs.walked,
+            dump: outputs.dump,
+            blocks: outputs.blocks,
+            ring: Some(ring),
+        })?;
+        sent.push(forwarded.sent)?;
+        skipped.push(forwarded.skipped)?;
+    }
+    Ok(ForwardRan {
+        report: RunReport {
+            cpus: workers.cpus,
+            members,
+        },
+        sent,
+        skipped,
+        sources: workers.sources,
+    })
+}
+
+/// Runs a job on threads as `run_workers` does, with a reader for each member that also sends the packets that it reads
+/// through a transmit ring of its own: the ring of the setup's request without a time-out, a private area and features.
+///
+/// Of each packet the frame is sent, with its tag put back. A packet whose frame has fewer than 14 bytes, or more than
+/// fit behind the header of a slot (`frame_size - 48`), is skipped. No slot is refused. The only error is that an
+/// allocation fails, and the sources are dropped then. That anything is sent before the run ends is not promised.
+pub fn forward_workers<S: Source + Send, G: Gate + Sync, R: Threads + Wait + Sync>(
+    rt: &R,
+    alloc: Global,
+    job: &Job,
+    sources: Vec<Option<S>>,
+    ticks: &MomentList,
+    gate: &G,
+) -> Result<ForwardRan<S>, Memory>
+    requires setup { IsSetup job.now.setup }
+    requires sources { length sources.items ≡ length job.now.setup.cpus }
+    requires moments { AreMoments ticks.now }
+
+    // The report is that of a run with readers.
+    ensures ran { IfOk result (λ ran. IsCaptureRun job.now ticks.now
+        (map (option_map S.seen) sources.items)
+        (map (option_map S.seen) ran.sources.items)
+        ran.report) }
+
+    // Of each member's packets those that fit were sent, in order, and the others were counted.
+    ensures sent { IfOk result (λ ran. ran.sent.items
+        ≡ map (sent_for (room_of job.now.setup.shape)) ran.report.members) }
+    ensures skipped { IfOk result (λ ran. ran.skipped.items
+        ≡ map (skipped_for (room_of job.now.setup.shape)) ran.report.members) }
+{
+    threads_report_a_run();
+    threads_report_a_capture();
+    let setup = &job.setup;
+    let tx = tx_shape(&setup.request);
+    let forwarders = forwarders_of(alloc, setup.plan.members(), &setup.shape, &tx, setup.dump)?;
+    let workers = run_takers(rt, alloc, job, sources, ticks, gate, forwarders)?;
+    report(alloc, workers)
+}

@@ -1,0 +1,6 @@
+mod Totals
+mod Places
+mod Moves
+mod Splits
+pub mod Counts
+mod Fresh

@@ -1,0 +1,8 @@
+pub mod Works
+pub mod Histories
+pub mod Logs
+pub mod Happened
+pub mod Going
+pub mod Steps
+pub mod Passes
+pub mod PassesInside

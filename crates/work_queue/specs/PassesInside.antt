@@ -1,0 +1,29 @@
+-- What a pass of a queue of works is to its owner, by what it knows at the ruled queue.
+use Rattle.std.specs.Prelude.{◌≡◌, [], ◌∷◌, None, List}
+use Rattle.work_queue.specs.Logs.{fresh, log}
+use Rattle.work_queue.specs.Passes.{PassValue}
+use Rattle.work_queue.specs.declared.knowing.Part.{Part}
+use Rattle.work_queue.specs.declared.passes.WorkPass.TheInside.{Inside}
+
+-- the pass for which it stands
+abbrev pub one_of : List Part → Part
+one_of [] = fresh 0
+one_of (part ∷ parts) = part
+
+-- what its owner sees
+abbrev pub pass_value : Inside → PassValue
+pass_value p = record {
+  queue = p.pass.web;
+  of = p.pass.me.view.client.all;
+  name = (one_of p.pass.me.view.client.parts).name;
+  handed = (one_of p.pass.me.view.client.parts).handed;
+  fetched = (one_of p.pass.me.view.client.parts).fetched;
+  calls = p.calls;
+}
+
+-- it stands for one of the queue's passes, has taken nothing out, and has no block in its hands
+pub record IsPass (p : Inside) : Type 0 where
+  pub one : p.pass.me.view.client
+      ≡ log p.pass.me.view.client.all (one_of p.pass.me.view.client.parts ∷ []) []
+  pub no_slot : p.pass.me.hand ≡ None
+  pub no_block : p.pass.me.spare ≡ None

@@ -1,0 +1,17 @@
+//! A queue of works between threads: some passes hand works in, others fetch them, each work once and in order.
+#![tactic(auto)]
+
+mod closing;
+mod handing;
+mod knowing;
+mod laws;
+mod opening;
+mod passes;
+mod plays;
+mod queues;
+mod works;
+
+pub use laws::{all_that_was_handed_is_found, the_history_holds};
+pub use passes::WorkPass;
+pub use queues::WorkQueue;
+pub use works::{Unhanded, Work};

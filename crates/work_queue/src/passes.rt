@@ -1,0 +1,27 @@
+//! A pass of a queue.
+
+use crate::Work;
+use crate::knowing::Log;
+use crossbeam_queue::SegPass;
+use std::marker::Model;
+
+/// A pass of a queue of works. It crosses threads, and only its owner hands and fetches with it.
+#[derive(Drop)]
+pub struct WorkPass {
+    /// Its pass at the ruled queue.
+    pub(crate) pass: SegPass<Work, Log>,
+    /// How often `fetch` was called with it.
+    pub(crate) calls: u64,
+}
+
+impl Model for WorkPass {
+    ghost use Rattle.work_queue.specs.Passes.{PassValue};
+
+    ghost Value = { PassValue };
+
+    ghost use Rattle.work_queue.specs.PassesInside.{pass_value, IsPass};
+
+    ghost view = { pass_value };
+
+    ghost invariant = { IsPass };
+}
