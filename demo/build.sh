@@ -1,12 +1,75 @@
 #!/bin/sh
-# sh demo/build.sh: proves the crates and builds the program crates/ringtap/out/ringtap.
-# The first time proves them all; where nothing has changed since, it takes a few seconds.
+# sh demo/build.sh: proves the crates that the program stands on, builds it, and makes the link bin/ringtap to it.
+# The first time takes about 25 minutes on four processors; where nothing has changed since, it takes a few seconds.
 set -eu
-cd "$(dirname "$0")/../crates/ringtap"
-# `rt run` runs what it built, and here with names of files that aren't there: status 5 is the program's own.
-status=0
-rt run -- replay no-setup no-schedule >/dev/null || status=$?
-if [ "$status" -ne 5 ]; then
-    echo "ringtap wasn't built" >&2
+cd "$(dirname "$0")/.."
+if ! command -v rt >/dev/null; then
+    echo "demo/build.sh: rt, the command of the Rattle kit, isn't here" >&2
     exit 1
 fi
+folder=crates/ringtap
+log=$folder/out/build.log
+
+# The crates that the program stands on, lowest first, as crates.txt has them.
+needed() {
+    awk -F: '
+        function walk(name, i, count, names) {
+            if (seen[name]++) return
+            count = split(below[name], names, " ")
+            for (i = 1; i <= count; i++) if (names[i] in below) walk(names[i])
+            if (name != "ringtap") print name
+        }
+        !/^ *(#|$)/ { split($1, head, " "); below[head[1]] = $2 }
+        END { walk("ringtap") }
+    ' crates.txt
+}
+
+# One line of how far it is: libraries that are proved, what is being proved, and the minutes so far.
+progress() {
+    proved=0
+    now=
+    for crate in $crates; do
+        if [ -e "crates/$crate/out/rlib/stamp" ]; then
+            proved=$((proved + 1))
+        elif [ -d "crates/$crate/out/rlib" ]; then
+            now=", now $crate"
+        fi
+    done
+    [ "$proved" -lt "$count" ] || now=", now the program"
+    echo "$proved of $count libraries are proved$now; $((($(date +%s) - started) / 60)) min so far"
+}
+
+# On a terminal the line is written anew every two seconds, else where another crate begins.
+show_progress() {
+    last=
+    while kill -0 "$1" 2>/dev/null; do
+        line=$(progress)
+        if [ -t 2 ]; then
+            printf '\r\033[K%s' "$line" >&2
+        elif [ "${line%%;*}" != "$last" ]; then
+            echo "$line" >&2
+        fi
+        last=${line%%;*}
+        sleep 2
+    done
+    [ ! -t 2 ] || printf '\r\033[K' >&2
+}
+
+crates=$(needed)
+count=$(echo "$crates" | wc -l)
+started=$(date +%s)
+mkdir -p "$folder/out" bin
+# `rt run` runs what it built, and here with names of files that aren't there: status 5 is the program's own.
+(cd "$folder" && exec rt run -- replay no-setup no-schedule) >"$log" 2>&1 &
+building=$!
+trap 'kill "$building" 2>/dev/null; exit 130' INT TERM
+show_progress "$building"
+status=0
+wait "$building" || status=$?
+if [ "$status" -ne 5 ]; then
+    tail -n 20 "$log" >&2
+    echo "ringtap wasn't built: $log has the whole story" >&2
+    exit 1
+fi
+ln -sf "../$folder/out/ringtap" bin/ringtap
+echo "built: bin/ringtap" >&2

@@ -1,0 +1,239 @@
+"""What the tools read: captures, setups, and the texts of either.
+
+Formats and limits are those of docs/formats.md and docs/setup.md. The program alone decides what it accepts: here only what a tool
+itself needs is tested, and what is wrong becomes a `Fault`, a sentence that names the file and the line or byte.
+"""
+from __future__ import annotations
+
+import struct
+import sys
+from dataclasses import dataclass, field
+from pathlib import Path
+from typing import Callable, NamedTuple
+
+LARGEST_CAPTURE = 33_554_432  # bytes of a capture that count
+LARGEST_RECORD = 262_144  # captured bytes of a frame
+LARGEST_TEXT = 1_048_576  # bytes of a setup or a schedule
+LARGEST_NAME = 255  # bytes of a name in a setup
+LARGEST_NUMBER = 4_294_967_295
+PCAP_UNITS = {0xA1B2C3D4: 1000, 0xA1B23C4D: 1}  # nanoseconds of a fraction, by the magic
+PCAPNG_MAGIC = b"\x0a\x0d\x0d\x0a"
+MODES = ("hash", "lb", "cpu", "rollover", "qm")
+NANOSECONDS = 1_000_000_000
+
+
+class Fault(Exception):
+    """A sentence that says what is wrong, and where."""
+
+
+def run_main(main: Callable[[list[str]], int]) -> None:
+    """Runs a tool; a fault is printed on standard error, and the status is 1."""
+    try:
+        sys.exit(main(sys.argv[1:]))
+    except Fault as fault:
+        print(f"{Path(sys.argv[0]).name}: {fault}", file=sys.stderr)
+        sys.exit(1)
+    except BrokenPipeError:
+        sys.stderr.close()
+        sys.exit(1)
+    except KeyboardInterrupt:
+        sys.exit(130)
+
+
+def read_bytes(path: Path) -> bytes:
+    try:
+        return path.read_bytes()
+    except OSError as error:
+        raise Fault(f"{path}: can't be read: {error.strerror}") from None
+
+
+def write_text(path: Path, text: str) -> None:
+    try:
+        path.write_text(text, encoding="utf-8", newline="\n")
+    except OSError as error:
+        raise Fault(f"{path}: can't be written: {error.strerror}") from None
+
+
+class Frame(NamedTuple):
+    """One record of a capture."""
+
+    index: int  # from 0
+    time: int  # nanoseconds
+    wire: int  # length on the wire, bytes
+    data: bytes  # what was captured
+
+
+@dataclass
+class Capture:
+    """A capture: its frames before any damage, and the word for how it ends, as ringtap prints it."""
+
+    path: Path
+    frames: list[Frame]
+    end: str
+
+
+def read_capture(path: Path) -> Capture:
+    """Reads a pcap file of version 2.4. One whose header is refused has no frames, and is a fault here."""
+    data = read_bytes(path)
+    if data[:4] == PCAPNG_MAGIC:
+        raise Fault(f"{path}: is pcapng, and this tool reads pcap: `editcap -F pcap {path.name} NEW.pcap` converts it")
+    order, unit = header_of(path, data)
+    frames, end = records_of(data, order, unit)
+    return Capture(path, frames, end)
+
+
+def header_of(path: Path, data: bytes) -> tuple[str, int]:
+    """The byte order of a capture, and how many nanoseconds a fraction counts."""
+    if len(data) < 24:
+        raise Fault(f"{path}: has {len(data)} bytes, and the header of a pcap file has 24")
+    for order in "<>":
+        unit = PCAP_UNITS.get(struct.unpack_from(order + "I", data)[0])
+        if unit:
+            break
+    else:
+        raise Fault(f"{path}, byte 0: isn't a pcap file")
+    major, minor, _, _, _, link = struct.unpack_from(order + "HHiIII", data, 4)
+    if (major, minor) != (2, 4):
+        raise Fault(f"{path}, byte 4: is of version {major}.{minor}, and ringtap reads 2.4")
+    if link & 0xFFFF != 1:
+        raise Fault(f"{path}, byte 20: has link type {link & 0xFFFF}, and ringtap reads Ethernet, which is 1")
+    return order, unit
+
+
+def records_of(data: bytes, order: str, unit: int) -> tuple[list[Frame], str]:
+    """The frames behind the header, and how the capture ends."""
+    frames: list[Frame] = []
+    place, counted = 24, min(len(data), LARGEST_CAPTURE)
+    record = struct.Struct(order + "IIII")
+    while place + 16 <= counted:
+        seconds, fraction, captured, original = record.unpack_from(data, place)
+        if captured > LARGEST_RECORD:
+            return frames, f"bad_length {place}"
+        stop = place + 16 + captured
+        if stop > counted:
+            break
+        time = seconds * NANOSECONDS + min(fraction * unit, NANOSECONDS - 1)
+        frames.append(Frame(len(frames), time, max(captured, original), data[place + 16 : stop]))
+        place = stop
+    if len(data) > LARGEST_CAPTURE:
+        return frames, f"too_large {LARGEST_CAPTURE}"
+    return frames, "ok" if place == len(data) else f"truncated {place}"
+
+
+@dataclass(frozen=True)
+class CpuLine:
+    """A `cpu` line: the capture's name as it stands there, its queue, and the line's number."""
+
+    name: str
+    queue: int
+    line: int
+
+
+@dataclass
+class Setup:
+    """A setup: its lines as they stand, and what the tools want to know of them."""
+
+    path: Path
+    lines: list[str]
+    values: dict[str, list[str]] = field(default_factory=dict)  # the words behind each first word but `cpu` and `flag`
+    places: dict[str, int] = field(default_factory=dict)  # the number of each such line
+    cpus: list[CpuLine] = field(default_factory=list)
+    flags: set[str] = field(default_factory=set)
+
+    def number(self, word: str, default: int | None = None) -> int:
+        """The one number of a line."""
+        if word not in self.values:
+            if default is None:
+                raise Fault(f"{self.path}: has no line `{word}`")
+            return default
+        values = self.values[word]
+        number = number_of(values[0]) if len(values) == 1 else None
+        if number is None:
+            raise Fault(f"{self.path}, line {self.places[word]}: `{word}` needs one number")
+        return number
+
+    def word(self, word: str, default: str | None = None) -> str | None:
+        """The one word of a line."""
+        if word not in self.values:
+            return default
+        if len(self.values[word]) != 1:
+            raise Fault(f"{self.path}, line {self.places[word]}: `{word}` needs one value")
+        return self.values[word][0]
+
+    def capture_paths(self) -> list[Path]:
+        """Where the captures are; names count from the folder in which the tool runs, as they do for ringtap."""
+        if not self.cpus:
+            raise Fault(f"{self.path}: has no line `cpu`")
+        return [Path(cpu.name) for cpu in self.cpus]
+
+    def with_changes(self, changes: dict[str, str | None], captures: list[str] | None = None) -> str:
+        """The text of this setup with other values, and with other names of captures. A word with None is left out. Each line
+        keeps its number: one that is left out becomes a comment, and new lines stand at the end."""
+        left = dict(changes)
+        names = iter(captures or [])
+        made = []
+        for text in self.lines:
+            word, *values = text.split() or ["#"]
+            if word == "cpu" and captures:
+                text = " ".join(["cpu", next(names), *values[1:]])
+            elif word in changes:
+                value = left.pop(word, None)
+                text = f"# {text}" if value is None else f"{word} {value}"
+            made.append(text)
+        made += [f"{word} {value}" for word, value in left.items() if value is not None]
+        return "\n".join(made) + "\n"
+
+
+def number_of(text: str) -> int | None:
+    """A number as the texts have it, or None."""
+    if not (text.isascii() and text.isdigit() and len(text) <= 10):
+        return None
+    return int(text) if int(text) <= LARGEST_NUMBER else None
+
+
+def read_setup(path: Path) -> Setup:
+    """Reads a setup. What stands twice, and a line with a byte that isn't ASCII, is left for the program to refuse."""
+    data = read_bytes(path)
+    if len(data) > LARGEST_TEXT:
+        raise Fault(f"{path}: has {len(data)} bytes, and ringtap reads setups of at most {LARGEST_TEXT}")
+    lines = data.decode("latin-1").split("\n")
+    if lines[-1] == "":
+        lines.pop()
+    setup = Setup(path, [line.removesuffix("\r") for line in lines])
+    for number, line in enumerate(setup.lines, 1):
+        word, *values = line.split() or ["#"]
+        if word == "cpu":
+            setup.cpus.append(cpu_line(path, number, values, len(setup.cpus)))
+        elif word == "flag":
+            setup.flags.update(values)
+        elif not word.startswith("#"):
+            setup.values.setdefault(word, values)
+            setup.places.setdefault(word, number)
+    return setup
+
+
+def cpu_line(path: Path, line: int, values: list[str], cpu: int) -> CpuLine:
+    queue = number_of(values[1]) if len(values) == 2 else cpu
+    if len(values) not in (1, 2) or queue is None:
+        raise Fault(f"{path}, line {line}: `cpu` needs the name of a capture, and the number of a queue or nothing")
+    return CpuLine(values[0], queue, line)
+
+
+def read_captures(setup: Setup) -> list[Capture]:
+    """The captures of a setup. One that is damaged or cut is used up to there, as ringtap does, and that is said."""
+    captures = [read_capture(path) for path in setup.capture_paths()]
+    for cpu, capture in enumerate(captures):
+        if capture.end != "ok":
+            print(f"{capture.path}: ends {capture.end}; the {len(capture.frames)} frames before that are used", file=sys.stderr)
+    return captures
+
+
+def output_names(setup: Setup, command: str) -> list[str]:
+    """The names of the files that a command saves."""
+    prefix = setup.word("out", "out")
+    if command == "check":
+        return []
+    if command == "send":
+        return [f"{prefix}.tx.pcap"]
+    kinds = ["pcap"] + ["blk"] * ("dump" in setup.values) + ["tx.pcap"] * (command == "forward")
+    return [f"{prefix}.{member}.{kind}" for member in range(setup.number("members", 1)) for kind in kinds]

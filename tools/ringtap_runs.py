@@ -1,0 +1,196 @@
+"""How the tools run the program: where it is, what its statuses mean, its printed lines, and a folder for each tool's own runs."""
+from __future__ import annotations
+
+import argparse
+import os
+import re
+import subprocess
+import sys
+import tempfile
+from dataclasses import dataclass, field
+from pathlib import Path
+
+from ringtap_files import Fault, Setup, write_text
+
+LINK = Path(__file__).resolve().parent.parent / "bin" / "ringtap"  # demo/build.sh makes it
+
+STATUSES = {
+    0: "done",
+    1: "the words are no command",
+    2: "the setup is refused",
+    3: "a filter, moments or a schedule is refused",
+    4: "a capture is damaged or cut; what precedes that was run and saved",
+    5: "a file couldn't be read; what was read before that was run and saved",
+    6: "a file couldn't be saved, or the lines couldn't be printed",
+    7: "out of memory",
+}
+
+
+def add_program(parser: argparse.ArgumentParser) -> None:
+    parser.add_argument("--program", metavar="PATH", help="the ringtap to run (bin/ringtap, which demo/build.sh makes)")
+
+
+def program_of(path: str | None) -> Path:
+    """The program that was asked for, or the one that demo/build.sh made."""
+    program = Path(path).resolve() if path else LINK
+    if not os.access(program, os.X_OK) or program.is_dir():
+        hint = "" if path else ": `sh demo/build.sh` makes it, and --program names another"
+        raise Fault(f"{program}: isn't a program{hint}")
+    return program
+
+
+def status_words(status: int) -> str:
+    """What an exit status means. The program was stopped by a signal where it is negative."""
+    return f"stopped by signal {-status}" if status < 0 else STATUSES.get(status, "no status of ringtap's")
+
+
+@dataclass(frozen=True)
+class CpuReport:
+    frames: int
+    arrivals: int
+    end: str
+
+
+@dataclass(frozen=True)
+class MemberReport:
+    packets: int  # kept or dropped
+    drops: int
+    freezes: int
+    blocks: int
+    counts: tuple[tuple[int, int, int], ...]  # packets, drops and freezes of each `count` line
+
+    @property
+    def kept(self) -> int:
+        return self.packets - self.drops
+
+
+@dataclass
+class Report:
+    """What the lines of a run say."""
+
+    cpus: list[CpuReport] = field(default_factory=list)
+    members: list[MemberReport] = field(default_factory=list)
+    arrivals: int = 0
+    filtered: int = 0
+    kept: int = 0
+    drops: int = 0
+
+    @property
+    def freezes(self) -> int:
+        return sum(member.freezes for member in self.members)
+
+    @property
+    def blocks(self) -> int:
+        return sum(member.blocks for member in self.members)
+
+
+CPU_LINE = re.compile(r"cpu \d+ frames (\d+) arrivals (\d+) end (.+)")
+MEMBER_LINE = re.compile(r"member \d+ packets (\d+) drops (\d+) freezes (\d+) blocks (\d+)")
+COUNT_LINE = re.compile(r"count (\d+) packets (\d+) drops (\d+) freezes (\d+)")
+TOTAL_LINE = re.compile(r"total arrivals (\d+) filtered (\d+) kept (\d+) drops (\d+)")
+
+
+def report_of(printed: str) -> Report:
+    """Reads the lines of a `replay`, a `make` or a `capture`."""
+    report, counts, has_total = Report(), {}, False
+    for line in printed.splitlines():
+        if found := CPU_LINE.fullmatch(line):
+            report.cpus.append(CpuReport(int(found[1]), int(found[2]), found[3]))
+        elif found := MEMBER_LINE.fullmatch(line):
+            report.members.append(MemberReport(*map(int, found.groups()), ()))
+        elif found := COUNT_LINE.fullmatch(line):
+            member, *numbers = map(int, found.groups())
+            counts.setdefault(member, []).append(tuple(numbers))
+        elif found := TOTAL_LINE.fullmatch(line):
+            report.arrivals, report.filtered, report.kept, report.drops = map(int, found.groups())
+            has_total = True
+    if not has_total:
+        raise Fault(f"the program printed no total, but `{printed.strip()}`")
+    for member, numbers in counts.items():
+        old = report.members[member]
+        report.members[member] = MemberReport(old.packets, old.drops, old.freezes, old.blocks, tuple(numbers))
+    return report
+
+
+class Room:
+    """A folder of a tool's own, in which the captures and the filter of a setup have short names. So any run can be made of it
+    whatever the names are, and no output lands beside the user's files."""
+
+    def __init__(self, setup: Setup, program: Path) -> None:
+        self.setup, self.program = setup, program
+        self.holder = tempfile.TemporaryDirectory(prefix="ringtap-")
+        self.folder = Path(self.holder.name)
+        self.texts = {"setup": setup.path}  # where each text is from, by the word with which the program refuses it
+        self.captures = []
+        for cpu, path in enumerate(setup.capture_paths()):
+            where = f"{setup.path}, line {setup.cpus[cpu].line}"
+            self.captures.append(self.link(where, path, f"cpu{cpu}.pcap"))
+        if name := setup.word("filter"):
+            self.texts["filter"] = Path(name)
+            self.link(f"{setup.path}, line {setup.places['filter']}", Path(name), "filter.ddd")
+
+    def __enter__(self) -> Room:
+        return self
+
+    def __exit__(self, *_: object) -> None:
+        self.holder.cleanup()
+
+    def link(self, where: str, path: Path, name: str) -> str:
+        """Gives a file a short name here."""
+        if not path.is_file() or not os.access(path, os.R_OK):
+            raise Fault(f"{where}: {path} isn't a file that can be read")
+        (self.folder / name).symlink_to(path.resolve())
+        return name
+
+    def write_setup(self, name: str, changes: dict[str, str | None]) -> None:
+        """Writes the setup with other values, and with the names that stand here."""
+        names = {"filter": "filter.ddd"} if "filter" in self.setup.values else {}
+        text = self.setup.with_changes({"ticks": None, **names, **changes}, self.captures)
+        write_text(self.folder / name, text)
+
+    def replay(self, setup: str, schedule: str) -> Report:
+        """Makes a run, and returns what it printed. A capture with damage is no fault: it is run up to there."""
+        done = run_program(self.program, ["replay", setup, schedule], self.folder)
+        if done.returncode not in (0, 4):
+            said = done.stdout.strip() or "it printed nothing"
+            where = self.texts.get(said.split()[0], self.setup.path)
+            raise Fault(f"{where}: {status_words(done.returncode)} (status {done.returncode}): {said}")
+        return report_of(done.stdout)
+
+
+def run_program(program: Path, words: list[str], folder: Path | None = None) -> subprocess.CompletedProcess:
+    """Runs the program to its end, and keeps what it printed."""
+    try:
+        return subprocess.run([program, *words], cwd=folder, capture_output=True, text=True, errors="replace")
+    except OSError as error:
+        raise Fault(f"{program}: can't be started: {error.strerror}") from None
+
+
+class Progress:
+    """A bar on standard error, where that is a terminal."""
+
+    WIDTH = 30
+
+    def __init__(self, whole: int, what: str) -> None:
+        self.whole, self.what, self.done = whole, what, 0
+        self.shown = sys.stderr.isatty()
+
+    def step(self) -> None:
+        self.done += 1
+        if self.shown:
+            full = self.WIDTH * self.done // max(self.whole, 1)
+            bar = "#" * full + "." * (self.WIDTH - full)
+            end = "\n" if self.done == self.whole else ""
+            print(f"\r[{bar}] {self.done} of {self.whole} {self.what}", end=end, file=sys.stderr, flush=True)
+
+
+def table(heads: list[str], rows: list[list[object]]) -> str:
+    """Columns in which numbers stand to the right and words to the left."""
+    cells = [[str(cell) for cell in row] for row in rows]
+    widths = [max(len(row[at]) for row in [heads, *cells]) for at in range(len(heads))]
+    right = [bool(rows) and all(isinstance(row[at], int) for row in rows) for at in range(len(heads))]
+    lines = []
+    for row in [heads, *cells]:
+        padded = [cell.rjust(width) if is_right else cell.ljust(width) for cell, width, is_right in zip(row, widths, right)]
+        lines.append("  ".join(padded).rstrip())
+    return "\n".join(lines)
