@@ -1,0 +1,11 @@
+pub mod Texts
+pub mod Zips
+pub mod Members
+pub mod Placing
+pub mod Reading
+pub mod Pooled
+pub mod Lists
+pub mod Decoded
+pub mod Hired
+pub mod Joined
+pub mod Crossing

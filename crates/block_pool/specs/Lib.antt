@@ -1,0 +1,5 @@
+pub mod Pieces
+pub mod Takers
+pub mod Workers
+pub mod Shelves
+pub mod Reports

@@ -1,0 +1,55 @@
+-- The pieces of members, put to the places of their numbers.
+use Rattle.std.specs.Prelude.{◌≡◌, ℕ, zero, suc, ◌+◌, ◌-◌, ◌<◌, ◌≤◌, List, [], ◌∷◌, ◌++◌, length, map, replicate, slice_index, slice_index_or, slice_set, Option, None, Some, IsSome}
+use Rattle.std.specs.List.{AllByRecursion}
+use Rattle.block_pool.specs.declared.pieces.Piece.{Piece}
+use Rattle.frame_view.specs.declared.frames.Packet.{Packet}
+use Rattle.reader_walk.specs.declared.outputs.Outputs.{Outputs}
+
+-- places for so many pieces
+abbrev pub empty_shelf : ℕ → List (Option Piece)
+empty_shelf count = replicate count None
+
+-- how many places there are for each member
+abbrev pub counts_of : List (List (Option Piece)) → List ℕ
+counts_of shelves = map (λ shelf. length shelf) shelves
+
+-- there is a place for the piece
+pub record HasPlaceIn (counts : List ℕ) (piece : Piece) : Type 0 where
+  pub member : piece.member < length counts
+  pub number : 0 < piece.number
+  pub within : piece.number ≤ slice_index counts piece.member
+
+-- the shelf of its member, and all shelves, with the piece at the place of its number
+abbrev pub shelf_with : Piece → List (Option Piece) → List (Option Piece)
+shelf_with piece shelf = slice_set shelf (piece.number - 1) (Some piece)
+
+abbrev pub put_one : List (List (Option Piece)) → Piece → List (List (Option Piece))
+put_one shelves piece =
+    slice_set shelves piece.member (shelf_with piece (slice_index_or shelves piece.member []))
+
+-- all shelves after pieces were put, one after another
+abbrev pub put_each : List (List (Option Piece)) → List Piece → List (List (Option Piece))
+put_each shelves [] = shelves
+put_each shelves (piece ∷ pieces) = put_each (put_one shelves piece) pieces
+
+-- the packets of the pieces at places, and their texts, one after another
+abbrev pub packets_at : List (Option Piece) → List Packet
+packets_at [] = []
+packets_at (None ∷ places) = packets_at places
+packets_at (Some piece ∷ places) = piece.packets ++ packets_at places
+
+abbrev pub texts_at : List (Option Piece) → List ℕ
+texts_at [] = []
+texts_at (None ∷ places) = texts_at places
+texts_at (Some piece ∷ places) = piece.text ++ texts_at places
+
+-- each place of the shelf has a piece, and so each place of all shelves
+abbrev pub IsFull : List (Option Piece) → Type 0
+IsFull shelf = AllByRecursion (λ place. IsSome place) shelf
+
+abbrev pub AreFull : List (List (Option Piece)) → Type 0
+AreFull shelves = AllByRecursion IsFull shelves
+
+-- what is read out of a full shelf
+abbrev pub read_of : List (Option Piece) → Outputs
+read_of shelf = record { walked = packets_at shelf; dump = texts_at shelf; blocks = length shelf }

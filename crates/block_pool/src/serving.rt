@@ -1,0 +1,183 @@
+//! The two sides of a run: the pool's workers, and the run that hands works to them.
+ghost use Rattle.std.specs.Prelude.{◌≡◌, ◌<◌, ℕ, [], length, map, option_map, slice_index_or, All, IfOk};
+ghost use Rattle.std.specs.List.{AllByRecursion, AllZip};
+ghost use Rattle.block_pool.specs.Takers.{handing_base, handing_taken};
+ghost use Rattle.block_pool.specs.Workers.{HasDecoded, IsFreshDecoder};
+ghost use Rattle.cpu_feeders.specs.Feeds.{IsFreshSeat};
+ghost use Rattle.cpu_feeders.specs.Runs.{IsFreshTaker, IsTakerRun};
+ghost use Rattle.setup_text.specs.Sound.{AreMoments, IsSetup};
+
+use crate::takers::Handing;
+use crate::workers::{Decoder, run_decoder};
+use cpu_feeders::{Gate, Workers, run_takers};
+use fanout_group::{Dealer, DealerSeat};
+use frame_view::{Memory, MomentList};
+use setup_text::Job;
+use std::alloc::Global;
+use std::sync::Wait;
+use std::thread;
+use std::thread::Threads;
+use tap_outside::Source;
+use work_queue::WorkQueue;
+
+/// What all workers share.
+#[derive(Drop)]
+pub(crate) struct Pool<'a, G> {
+    /// Gives the memory for what is decoded.
+    pub(crate) alloc: Global,
+    /// Has the works.
+    pub(crate) queue: &'a WorkQueue,
+    /// Knows whether the takers go on.
+    pub(crate) dealer: &'a Dealer,
+    /// Where a test may hold a thread.
+    pub(crate) gate: &'a G,
+    /// Whether texts are kept.
+    pub(crate) dumps: bool,
+}
+
+/// Runs workers, each on a thread of its own where one can be made, and joins them.
+fn serve_slice<G: Gate + Sync, R: Threads + Wait + Sync>(
+    rt: &R,
+    pool: &Pool<G>,
+    decoders: &mut [Decoder],
+)
+    requires some { 0 < length decoders.old }
+    requires ready { All (IsFreshDecoder pool.now.queue.now pool.now.dealer.now) decoders.old }
+    ensures count { length decoders.new ≡ length decoders.old }
+    ensures done { (i : ℕ) (d : _) → i < length decoders.old
+        → HasDecoded pool.now.dumps pool.now.queue.now
+        (slice_index_or decoders.old i d) (slice_index_or decoders.new i d) }
+{
+    let count = decoders.len();
+    thread::for_each_mut(
+        rt,
+        decoders,
+        count,
+        &|_, decoder|
+            requires { IsFreshDecoder pool.now.queue.now pool.now.dealer.now decoder.now }
+            ensures { HasDecoded pool.entry.now.dumps pool.entry.now.queue.now
+                decoder.entry.now decoder.exit.now }
+        {
+            run_decoder(
+                rt,
+                pool.alloc,
+                pool.queue,
+                pool.dealer,
+                pool.gate,
+                pool.dumps,
+                decoder,
+            );
+        },
+    );
+}
+
+/// Runs workers, and gives them back.
+fn serve<G: Gate + Sync, R: Threads + Wait + Sync>(
+    rt: &R,
+    pool: &Pool<G>,
+    decoders: Vec<Decoder>,
+) -> Vec<Decoder>
+    requires some { 0 < length decoders.items }
+    requires ready { AllByRecursion (IsFreshDecoder pool.now.queue.now pool.now.dealer.now)
+        decoders.items }
+    ensures { AllZip (HasDecoded pool.now.dumps pool.now.queue.now) decoders.items result.items }
+{
+    let mut decoders = decoders;
+    serve_slice(rt, pool, &mut decoders[..]);
+    decoders
+}
+
+/// Runs a job with these takers. Whatever it answers, the dealer then has no live feeder: its one seat of a feeder
+/// stands for the takers.
+fn take_all<'a, S: Source + Send, G: Gate + Sync, R: Threads + Wait + Sync>(
+    rt: &R,
+    pool: &Pool<G>,
+    job: &Job,
+    sources: Vec<Option<S>>,
+    ticks: &MomentList,
+    takers: Vec<Handing<'a, R>>,
+    seat: DealerSeat,
+) -> Result<Workers<S, Handing<'a, R>>, Memory>
+    requires setup { IsSetup job.now.setup }
+    requires sources { length sources.items ≡ length job.now.setup.cpus }
+    requires moments { AreMoments ticks.now }
+    requires takers { length takers.items ≡ job.now.setup.plan.members }
+    requires fresh { AllByRecursion
+        (IsFreshTaker handing_base handing_taken job.now.setup.shape) takers.items }
+    requires seat { IsFreshSeat pool.now.dealer.now seat }
+    ensures ran { IfOk result (λ workers. IsTakerRun handing_base handing_taken
+        job.now ticks.now (map (option_map S.seen) sources.items) takers.entry.items
+        (map (option_map S.seen) workers.sources.items) workers.takers.items
+        workers.cpus workers.notes.items workers.rings.items) }
+{
+    let mut seat = seat;
+    let ran = run_takers(rt, pool.alloc, job, sources, ticks, pool.gate, takers);
+    pool.dealer.done(&mut seat);
+    ran
+}
+
+/// Runs the workers and the run that hands works to them side by side.
+///
+/// Where no thread can be made, the second of the two runs first. So the workers are the first: the takers wait for none
+/// of them, and a worker waits until the takers have ended.
+pub(crate) fn run_both<'a, S: Source + Send, G: Gate + Sync, R: Threads + Wait + Sync>(
+    rt: &R,
+    pool: &Pool<G>,
+    job: &Job,
+    sources: Vec<Option<S>>,
+    ticks: &MomentList,
+    takers: Vec<Handing<'a, R>>,
+    decoders: Vec<Decoder>,
+    seat: DealerSeat,
+) -> (Vec<Decoder>, Result<Workers<S, Handing<'a, R>>, Memory>)
+    requires setup { IsSetup job.now.setup }
+    requires sources { length sources.items ≡ length job.now.setup.cpus }
+    requires moments { AreMoments ticks.now }
+    requires takers { length takers.items ≡ job.now.setup.plan.members }
+    requires fresh { AllByRecursion
+        (IsFreshTaker handing_base handing_taken job.now.setup.shape) takers.items }
+    requires some { 0 < length decoders.items }
+    requires ready { AllByRecursion (IsFreshDecoder pool.now.queue.now pool.now.dealer.now)
+        decoders.items }
+    requires seat { IsFreshSeat pool.now.dealer.now seat }
+    ensures decoded { AllZip (HasDecoded pool.now.dumps pool.now.queue.now)
+        decoders.items result.0.items }
+    ensures ran { IfOk result.1 (λ workers. IsTakerRun handing_base handing_taken
+        job.now ticks.now (map (option_map S.seen) sources.items) takers.entry.items
+        (map (option_map S.seen) workers.sources.items) workers.takers.items
+        workers.cpus workers.notes.items workers.rings.items) }
+{
+    let (alloc, dumps) = (pool.alloc, pool.dumps);
+    let (queue, dealer, gate) = (pool.queue, pool.dealer, pool.gate);
+    thread::join(
+        rt,
+        move || -> Vec<Decoder>
+            requires { (0 < length decoders.items)
+                × AllByRecursion (IsFreshDecoder queue.now dealer.now) decoders.items }
+            ensures { AllZip (HasDecoded dumps queue.entry.now) decoders.items result.items }
+        {
+            let pool = Pool {
+                alloc,
+                queue,
+                dealer,
+                gate,
+                dumps,
+            };
+            serve(rt, &pool, decoders)
+        },
+        move || -> Result<Workers<S, Handing<R>>, Memory>
+            requires { IsSetup job.now.setup
+                × (length sources.items ≡ length job.now.setup.cpus)
+                × AreMoments ticks.now
+                × (length takers.items ≡ job.now.setup.plan.members)
+                × AllByRecursion
+                (IsFreshTaker handing_base handing_taken job.now.setup.shape) takers.items
+                × IsFreshSeat pool.now.dealer.now seat }
+            ensures { IfOk result (λ workers. IsTakerRun handing_base handing_taken
+                job.entry.now ticks.entry.now
+                (map (option_map S.seen) sources.items) takers.entry.items
+                (map (option_map S.seen) workers.sources.items) workers.takers.items
+                workers.cpus workers.notes.items workers.rings.items) }
+        { take_all(rt, pool, job, sources, ticks, takers, seat) },
+    )
+}
