@@ -32,7 +32,7 @@ def text_of(pid, name):
 
 
 def fields_of(pid):
-    """The numbers of a process's stat file that stand behind its name: its state is the first."""
+    """The numbers of a process's stat file that stand after its name: its state is the first."""
     return text_of(pid, "stat").rpartition(")")[2].split()
 
 

@@ -358,7 +358,7 @@ static void deliver(struct frame f, uint8_t *bytes)
     put(&rings[hash % members], &f, keep, hash);
 }
 
-/* The records of a piece behind what was left of the pieces before it; the number of bytes that are left. */
+/* The records of a piece after what was left of the pieces before it; the number of bytes that are left. */
 static size_t decode(uint8_t *bytes, size_t count)
 {
     size_t at = 0;

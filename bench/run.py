@@ -1,7 +1,8 @@
 #!/usr/bin/env python3
 """Times `ringtap replay` on captures of 4 to 32 MiB, beside `tcpdump -r IN -w OUT` of the same file in the same run; then
-groups of several members and CPUs, with a filter, and with reassembly; then `ringtap make` and `ringtap send`; then `ringtap capture`
-beside `replay` of the same captures, and `ringtap forward` beside `capture`.
+pcapng captures of the same frames; then groups of several members and CPUs, with a filter, and with reassembly; then `ringtap make`
+and `ringtap send`; then `ringtap capture` beside `replay` of the same captures, `ringtap forward` beside `capture`, and captures with
+pools of workers beside those without.
 
     bench/run.py [--sizes 4,8,16,32] [--runs 5] [--beside OTHER | --threads] [PROGRAM]
 
@@ -9,7 +10,7 @@ PROGRAM is crates/ringtap/out/ringtap where none is named; it is built where it 
 bytes, of 1514 bytes, or of 60, 590 and 1514 bytes by turns. Each is replayed with a ring that keeps every frame and with one
 that drops. Those of 60 and of 1514 bytes are sent through a ring of 2048 slots. Files are written below bench/work. With
 --beside the replays alone are run, by turns with those of another program, as an earlier one; both must print the same. With
---threads the captures on threads and the forwards alone are run.
+--threads the captures on threads, the forwards and the pools alone are run.
 
 The captures on threads have 1, 2, 4 and 8 CPUs with 4 MiB each. Of each row all times are taken by turns with a replay whose schedule is
 empty; the least and the middle one are printed, since with threads they lie apart, and the fewest and the most drops. Only rings that
@@ -66,6 +67,46 @@ def make_capture(path, size, lengths):
             left -= 8 + len(body)
             count += 1
     return count
+
+
+def block(kind, body):
+    """A block of a pcapng capture, little-endian."""
+    body += bytes(-len(body) % 4)
+    return struct.pack("<II", kind, 12 + len(body)) + body + struct.pack("<I", 12 + len(body))
+
+
+def make_blocks(path, size, lengths):
+    """Writes a pcapng capture of at most so many bytes, and gives the number of its frames."""
+    frames = [bytes.fromhex("020000000002" "020000000001" "0800") + bytes(i % 251 for i in range(length - 14)) for length in lengths]
+    start = block(0x0A0D0D0A, struct.pack("<IHHq", 0x1A2B3C4D, 1, 0, -1)) + block(1, struct.pack("<HHI", 1, 0, 262_144))
+    left, count = size - len(start), 0
+    with open(path, "wb") as file:
+        file.write(start)
+        while True:
+            frame = frames[count % len(frames)]
+            packet = block(6, struct.pack("<5I", 0, 0, count * 10, len(frame), len(frame)) + frame)
+            if len(packet) > left:
+                return count
+            file.write(packet)
+            left -= len(packet)
+            count += 1
+
+
+def times_of_blocks(program, asked):
+    """Prints how long replays of pcapng captures take, beside those of pcap captures of the same frames."""
+    print("| Frames | MiB | pcap frames | CPU, s | Memory, MiB | pcapng frames | CPU, s | Memory, MiB | CPU of a frame, times |")
+    print("|---|---|---|---|---|---|---|---|---|")
+    write_setup("conf", RINGS["keeps"])
+    for kind, lengths in FRAMES.items():
+        for size in map(int, asked.sizes.split(",")):
+            cells, each = [], []
+            for make in (make_capture, make_blocks):
+                count = make("in.pcap", size * MIB, lengths)
+                _, cpu, memory, printed = measure([program, "replay", "conf", "sched"], asked.runs)
+                kept, _ = tested(kind, "keeps", count, printed)
+                cells.append(f"{kept:,} | {cpu:.3f} | {memory / MIB:.0f}")
+                each.append(cpu / count)
+            print(f"| {kind} | {size} | {' | '.join(cells)} | {each[1] / each[0]:.2f} |", flush=True)
 
 
 def datagram(number, fragment=None):
@@ -265,6 +306,7 @@ def main():
     if asked.threads:
         too_much = times_of_threads(program, asked)
         times_of_forwards(program, asked)
+        times_of_pools(program, asked)
         shutil.rmtree(WORK)
         sys.exit(1 if too_much else 0)
     dump = shutil.which("tcpdump")
@@ -289,11 +331,13 @@ def main():
                     f" | {memory / MIB:.0f} | {ratio} |",
                     flush=True,
                 )
+    times_of_blocks(program, asked)
     found.update(times_of_groups(program, asked))
     found.update(times_of_made(program, asked))
     found.update(times_of_sent(program, asked))
     too_much = times_of_threads(program, asked)
     times_of_forwards(program, asked)
+    times_of_pools(program, asked)
     times_of_plain(program, asked)
     is_large = memory_of_refused(program, asked)
     shutil.rmtree(WORK)
@@ -411,6 +455,9 @@ SHARED = {
     "lb of four": lambda cpus: "members 4\nmode lb\n",
     "a member each": lambda cpus: f"members {cpus}\nmode cpu\n",
 }
+# The captures of 4 MiB on threads, by the bytes of a frame.
+MAKERS = {"60": lambda: make_small_flows("in.pcap", 4 * MIB), "1042": lambda: make_flows("in.pcap", 4 * MIB, "hash")}
+POOLS = (0, 1, 2, 4)
 MOST_CPU = 2.5
 # The words of each command that runs the captures of a setup.
 COMMANDS = {"replay": ["replay", "conf", "sched"], "capture": ["capture", "conf"], "forward": ["forward", "conf"]}
@@ -445,8 +492,7 @@ def times_of_threads(program, asked):
     print("\n| Group | Frames of | CPUs | Ring | Frames | Replay, s | middle | CPU | Capture, s | middle | CPU | Times | CPU times | Drops |")
     print("|---|---|---|---|---|---|---|---|---|---|---|---|---|---|")
     too_much = False
-    makers = {"60": lambda: make_small_flows("in.pcap", 4 * MIB), "1042": lambda: make_flows("in.pcap", 4 * MIB, "hash")}
-    for kind, maker in makers.items():
+    for kind, maker in MAKERS.items():
         each = maker()
         for ring, (group, of) in ((ring, item) for ring in RINGS for item in SHARED.items()):
             for cpus in (1, 2, 4, 8):
@@ -468,8 +514,7 @@ def times_of_forwards(program, asked):
     """Prints the table of captures whose readers send, beside those whose readers keep; each ring keeps all frames."""
     print("\n| Frames of | CPUs | Frames | Capture, s | middle | CPU | Forward, s | middle | CPU | Times | CPU times |")
     print("|---|---|---|---|---|---|---|---|---|---|---|")
-    makers = {"60": lambda: make_small_flows("in.pcap", 4 * MIB), "1042": lambda: make_flows("in.pcap", 4 * MIB, "hash")}
-    for kind, maker in makers.items():
+    for kind, maker in MAKERS.items():
         each = maker()
         for cpus in (1, 2, 4):
             write_setup("conf", RINGS["keeps"], cpus, SHARED["a member each"](cpus))
@@ -481,6 +526,36 @@ def times_of_forwards(program, asked):
                 f" | {cpu_new:.3f} | {middle_new / middle:.2f} | {cpu_new / cpu:.2f} |",
                 flush=True,
             )
+
+
+def runs_with_pools(program, count, ring, asked):
+    """Captures of two CPUs for a member each, by turns with pools of so many workers: the time, CPU time and drops of each run."""
+    runs = {workers: [] for workers in POOLS}
+    for _ in range(asked.runs):
+        for workers, found in runs.items():
+            write_setup("conf", RINGS[ring], 2, SHARED["a member each"](2) + f"workers {workers}\n")
+            taken, cpu, printed = one_run([program, *COMMANDS["capture"]])
+            kept, lost = total_of(printed)
+            if kept + lost != count or lost and ring == "keeps":
+                sys.exit(f"{workers} workers: {count} frames, {kept} kept, {lost} dropped")
+            found.append((taken, cpu, lost))
+    return runs
+
+
+def times_of_pools(program, asked):
+    """Prints the table of captures whose blocks a pool of workers decodes, and of those without one, over the same rings."""
+    print("\n| Frames of | Ring | Workers | Frames | Capture, s | middle | CPU | Drops |")
+    print("|---|---|---|---|---|---|---|---|")
+    for kind, maker in MAKERS.items():
+        count = 2 * maker()
+        for ring in RINGS:
+            for workers, found in runs_with_pools(program, count, ring, asked).items():
+                times, cpus, drops = zip(*found)
+                print(
+                    f"| {kind} | {ring} | {workers} | {count:,} | {min(times):.3f} | {statistics.median(times):.3f} | {min(cpus):.3f}"
+                    f" | {min(drops):,} to {max(drops):,} |",
+                    flush=True,
+                )
 
 
 def grows(found):

@@ -18,7 +18,7 @@ def main():
     waiting = frames(sys.argv[1])
     for number, (time, wire, data) in enumerate(frames(sys.argv[2])):
         if not any(time == at and wire == length and whole.startswith(data) for at, length, whole in waiting):
-            sys.exit(f"frame {number} of the output is no frame of the input behind the one before it")
+            sys.exit(f"frame {number} of the output is no frame of the input after the one before it")
 
 
 if __name__ == "__main__":

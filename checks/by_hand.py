@@ -23,16 +23,22 @@ import filter_verdicts
 
 LARGEST_CAPTURE = 33_554_432
 LARGEST_RECORD = 262_144
+SECTION, INTERFACE, SIMPLE, ENHANCED = 0x0A0D0D0A, 1, 3, 6  # the blocks of a pcapng capture that are read
+LEAST_BLOCK = {SECTION: 28, INTERFACE: 20, SIMPLE: 16, ENHANCED: 32}  # the least length of such a block; 12 of any other
+LARGEST_BLOCK = 524_288  # the largest
+SECTION_MAGICS = {b"\x4d\x3c\x2b\x1a": "<", b"\x1a\x2b\x3c\x4d": ">"}
 DESCRIPTOR = 48  # the bytes of a block that are for its descriptor
-HEADER = 82  # the bytes of a packet in front of its data
-SLOT_HEADER = 48  # the bytes of a transmit slot in front of its data
+HEADER = 82  # the bytes of a packet before its data
+SLOT_HEADER = 48  # the bytes of a transmit slot before its data
 
 Frame = namedtuple("Frame", "cpu index sec nsec wire bytes tag")
 Offer = namedtuple("Offer", "frame snap hash pkttype")
 
 
 def frames_of(data, cpu=0):
-    """The frames of a pcap capture, and the word for how it ends."""
+    """The frames of a capture, and the word for how it ends."""
+    if data[:4] == b"\x0a\x0d\x0d\x0a":
+        return frames_of_blocks(data, cpu)
     if len(data) < 24:
         return [], "truncated 0"
     for order in "<>":
@@ -56,6 +62,89 @@ def frames_of(data, cpu=0):
         kept = counted[place + 16 : place + 16 + captured]
         frames.append(Frame(cpu, len(frames), sec, min(fraction * unit, 999_999_999), max(captured, original), kept, None))
         place += 16 + captured
+    if len(data) > LARGEST_CAPTURE:
+        return frames, f"too_large {LARGEST_CAPTURE}"
+    return frames, "ok" if place == len(data) else f"truncated {place}"
+
+
+def resolution_of(order, options):
+    """The last time resolution of an interface's options; without one it is 6."""
+    found, place = 6, 0
+    while place + 4 <= len(options):
+        code, size = struct.unpack_from(order + "HH", options, place)
+        if code == 0 or place + 4 + size > len(options):
+            break
+        if code == 9 and size == 1:
+            found = options[place + 4]
+        place += 4 + -(-size // 4) * 4
+    return found
+
+
+def head_of(counted, place, order):
+    """The type, the byte order and the total length of the block at a place; a word where a test fails, none where it is cut."""
+    if place + 8 > len(counted):
+        return None
+    kind = struct.unpack_from(order + "I", counted, place)[0]
+    if kind == SECTION:
+        if place + 12 > len(counted):
+            return None
+        order = SECTION_MAGICS.get(counted[place + 8 : place + 12])
+        if not order:
+            return "bad_magic 0"
+    total = struct.unpack_from(order + "I", counted, place + 4)[0]
+    if total % 4 or total < LEAST_BLOCK.get(kind, 12) or (kind in LEAST_BLOCK and total > LARGEST_BLOCK):
+        return f"bad_length {place}"
+    return kind, order, total
+
+
+def packet_of(kind, order, block, interfaces):
+    """The nanoseconds, the original length and the captured bytes of a packet's block; a word where a test fails."""
+    name = struct.unpack_from(order + "I", block, 8)[0] if kind == ENHANCED else 0
+    if name >= len(interfaces):
+        return "bad_interface"
+    snap, resolution = interfaces[name]
+    if kind == SIMPLE:
+        original = struct.unpack_from(order + "I", block, 8)[0]
+        nanos, start, captured = 0, 12, min(original, snap) if snap else original
+    else:
+        high, low, captured, original = struct.unpack_from(order + "IIII", block, 12)
+        stamp, start = (high << 32 | low) * 1_000_000_000, 28
+        nanos = stamp // 10**resolution if resolution < 128 else stamp // 2 ** (resolution - 128)
+    if captured > LARGEST_RECORD or start + 4 + -(-captured // 4) * 4 > len(block):
+        return "bad_length"
+    return nanos, max(captured, original), block[start : start + captured]
+
+
+def frames_of_blocks(data, cpu):
+    """The frames of a pcapng capture, and the word for how it ends."""
+    counted = data[:LARGEST_CAPTURE]
+    frames, interfaces, order, place = [], [], "<", 0
+    while True:
+        head = head_of(counted, place, order)
+        if isinstance(head, str):
+            return frames, head
+        if head is None or place + head[2] > len(counted):
+            break
+        kind, order, total = head
+        block = counted[place : place + total]
+        if struct.unpack_from(order + "I", block, total - 4)[0] != total:
+            return frames, f"bad_length {place}"
+        if kind == SECTION:
+            if struct.unpack_from(order + "H", block, 12)[0] != 1:
+                return frames, "bad_version 0"
+            interfaces = []
+        elif kind == INTERFACE:
+            if struct.unpack_from(order + "H", block, 8)[0] != 1:
+                return frames, "bad_link 0"
+            interfaces.append((struct.unpack_from(order + "I", block, 12)[0], resolution_of(order, block[16:-4])))
+        elif kind in (ENHANCED, SIMPLE):
+            packet = packet_of(kind, order, block, interfaces)
+            if isinstance(packet, str):
+                return frames, f"{packet} {place}"
+            nanos, wire, kept = packet
+            sec = min(nanos // 1_000_000_000, 2**32 - 1)
+            frames.append(Frame(cpu, len(frames), sec, nanos % 1_000_000_000, wire, kept, None))
+        place += total
     if len(data) > LARGEST_CAPTURE:
         return frames, f"too_large {LARGEST_CAPTURE}"
     return frames, "ok" if place == len(data) else f"truncated {place}"
@@ -312,6 +401,7 @@ class Setup:
         self.key = bytes.fromhex(fields["key"]) if "key" in fields else None
         self.mac = bytes.fromhex(fields["mac"]) if "mac" in fields else None
         self.filter, self.prefix, self.dump = fields.get("filter"), fields.get("out", "out"), "dump" in fields
+        self.workers = int(fields.get("workers", 0))  # says who decodes, and nothing of what comes out
 
 
 class Replay:

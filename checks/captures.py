@@ -13,6 +13,8 @@ What is tested of a run, with by_hand.py for what doesn't hang on the threads (f
 - A dump has blocks with numbers from 1, each with the bytes that its packets give, and these are the packets of the output.
 - Where nothing hangs on the threads, lines and files are those of a replay with an empty schedule.
 
+Half of the setups have a pool of 1 to 8 workers, of which nothing of this may hang.
+
 Runs of by_hand.py with random schedules stand in front: each is an outcome that threads might have, so it has to pass. Then they
 are made wrong in one thing each, and have to be refused.
 """
@@ -129,7 +131,7 @@ def output_faults(run, outputs):
             if name in seen:
                 yield f"packet {name} is there twice"
             if last.get(packet.cpu, -1) >= packet.index:
-                yield f"packet {name} stands behind a later one at member {member}"
+                yield f"packet {name} stands after a later one at member {member}"
             if not run.rolls_over() and packet.home not in (None, member):
                 yield f"packet {name} of member {packet.home} is at member {member}"
             seen.add(name)
@@ -294,6 +296,8 @@ def random_case(numbers):
     moments = numbers.choice([[], sorted(numbers.randrange(200) for _ in range(numbers.randrange(20)))])
     if moments:
         text += "ticks ticks.txt\n"
+    workers = numbers.choice([0, numbers.randrange(9)])
+    text += f"workers {workers}\n" if workers or numbers.random() < 0.1 else ""
     most = numbers.choice([3, 40, 200])
     captures = [capture_of(numbers, cpu, most) for cpu in range(cpus)]
     if numbers.random() < 0.05:
@@ -312,7 +316,8 @@ def sum_cases():
         captures.append(head + b"".join(record(one, sec=s, fraction=n) for one, (s, n) in zip(data, times)))
     group = f"priv 16\nmembers 4\nmode hash\nkey {KEY}\nflag defrag\n"
     for size in ((65536, 64, 2048, 2048), (65536, 4, 2048, 128)):
-        yield Case(setup_text(size, 2) + group, captures, None, [])
+        for pool in ("", "workers 2\n", "workers 8\n"):
+            yield Case(setup_text(size, 2) + group + pool, captures, None, [])
 
 
 def inputs_of(case):
@@ -389,7 +394,7 @@ def made_wrong(case, lines, files):
     yield "status", lines, files, 4
     yield "a record lost", lines, {**files, name: data[:24] + rest}, 0
     yield "a record twice", lines, {**files, name: data + first}, 0
-    yield "a record behind the others", lines, {**files, name: data[:24] + rest + first}, 0
+    yield "a record after the others", lines, {**files, name: data[:24] + rest + first}, 0
     yield "another byte", lines, {**files, name: data[:-1] + bytes([data[-1] ^ 1])}, 0
     yield "another length", lines, {**files, name: data[:36] + bytes([data[36] ^ 1]) + data[37:]}, 0
     yield "a record at another member", lines, {**files, name: data[:24] + rest, other: files[other] + first}, 0

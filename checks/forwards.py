@@ -5,7 +5,7 @@
 
 Without its own lines and files a run has to be one of `capture`, which captures.py tests. Beyond that, of each member:
 
-- The frames of its output, each with its tag put back, that have from 14 bytes to as many as fit behind the header of a slot
+- The frames of its output, each with its tag put back, that have from 14 bytes to as many as fit after the header of a slot
   are the records of `PREFIX.M.tx.pcap`, in order, each with time 0 and its own length as the length on the wire.
 - Its line `forward M sent N skipped K` stands after its `member` line, N of it are the sent ones and K all others.
 
@@ -99,7 +99,7 @@ def made_wrong(lines, files):
     size = 16 + struct.unpack("<I", data[32:36])[0]
     yield "a sent record lost", lines, {**files, name: data[:24] + data[24 + size :]}
     yield "a sent record twice", lines, {**files, name: data + data[24 : 24 + size]}
-    yield "a sent record behind the others", lines, {**files, name: data[:24] + data[24 + size :] + data[24 : 24 + size]}
+    yield "a sent record after the others", lines, {**files, name: data[:24] + data[24 + size :] + data[24 : 24 + size]}
     yield "a time", lines, {**files, name: data[:24] + b"\1" + data[25:]}
     yield "another length on the wire", lines, {**files, name: data[:36] + bytes([data[36] ^ 1]) + data[37:]}
     yield "what another member sent", lines, {**files, name: files[other], other: data}

@@ -32,5 +32,5 @@ if __name__ == "__main__":
     say(TESTS, array(header(111, 0, 452, HERE, THERE, ttl=119, protocol=6)))
     # The reserved bit and don't-fragment stay.
     say(TESTS, array(header(0x1234, 0xC000, 12, HERE, THERE)))
-    # The longest datagram, behind a header with 40 bytes of no-operation options.
+    # The longest datagram, after a header with 40 bytes of no-operation options.
     say(TESTS, array(header(0x1234, 0, 65475, HERE, THERE, options=b"\x01" * 40)))

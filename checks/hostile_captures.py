@@ -46,6 +46,38 @@ def base(order):
     return header(order) + b"".join(record(data, order) for data in frames)
 
 
+def block(order, kind, body):
+    """A block of a pcapng capture."""
+    body += bytes(-len(body) % 4)
+    return struct.pack(order + "II", kind, 12 + len(body)) + body + struct.pack(order + "I", 12 + len(body))
+
+
+def section(order):
+    """A section with two interfaces, of microseconds and of nanoseconds, and packets of both, one of no interface, and another block."""
+    second = struct.pack(order + "HHI", 1, 0, 40) + struct.pack(order + "HHB3xHH", 9, 1, 9, 0, 0)
+    blocks = [block(order, by_hand.SECTION, struct.pack(order + "IHHq", 0x1A2B3C4D, 1, 0, -1))]
+    blocks += [block(order, by_hand.INTERFACE, struct.pack(order + "HHI", 1, 0, 0)), block(order, by_hand.INTERFACE, second)]
+    for name, data in [(0, frame(60)), (1, frame(64, b"\x81\x00\x00\x64\x08\x00")), (1, frame(13))]:
+        words = struct.pack(order + "5I", name, 1, 2_000_000_000, len(data), len(data))
+        blocks.append(block(order, by_hand.ENHANCED, words + data))
+    blocks.append(block(order, 0x0BAD, bytes(21)))
+    blocks.append(block(order, by_hand.SIMPLE, struct.pack(order + "I", 59) + frame(59)))
+    return b"".join(blocks)
+
+
+def pcapng(order):
+    """A pcapng capture of two sections, the second of the other byte order."""
+    return section(order) + section("<>"[order == "<"])
+
+
+def block_places(capture, order):
+    """Where each block of the first section begins."""
+    place = 0
+    while place < len(section(order)):
+        yield place
+        place += struct.unpack(order + "I", capture[place + 4 : place + 8])[0]
+
+
 def places(capture, order):
     """Where each record of a capture begins."""
     place = 24
@@ -69,10 +101,15 @@ def extremes():
             for place in range(start, start + 16, 4):
                 for number in EXTREMES:
                     yield with_field(capture, place, order, number)
+        capture = pcapng(order)
+        for start in block_places(capture, order):
+            for place in range(start, start + 32, 4):
+                for number in EXTREMES:
+                    yield with_field(capture, place, order, number)
 
 
 def cuts():
-    """A capture that ends at each byte of each header, and at the first and the last byte of the data behind it."""
+    """A capture that ends at each byte of each header, and at the first and the last byte of the data after it."""
     for order in "<>":
         capture = base(order)
         ends = set(range(25))
@@ -81,13 +118,15 @@ def cuts():
             ends.add(start - 1)
         for end in sorted(ends):
             yield capture[:end]
+        for end in range(len(section(order)) + 41):
+            yield pcapng(order)[:end]
 
 
 def changed(count):
     """Captures of which some bytes are others."""
     numbers = random.Random(4)
     for _ in range(count):
-        capture = bytearray(base(numbers.choice("<>")))
+        capture = bytearray(numbers.choice([base, base, pcapng])(numbers.choice("<>")))
         for _ in range(numbers.choice([1, 1, 2, 4, 16, 64])):
             capture[numbers.randrange(len(capture))] = numbers.randrange(256)
         if numbers.randrange(4) == 0:
@@ -104,7 +143,7 @@ def case_of(command, capture, numbers):
         flags = numbers.choice(["", "members 2\nflag rollover\n", "flag defrag\n", "dump yes\n"])
         return Case("replay", setup_text(numbers.choice(SIZES)) + flags, "feed 0\nread 0\n", [capture])
     cpus = numbers.choice([1, 1, 2])
-    flags = f"members {cpus}\n" + numbers.choice(["", "flag defrag\n", "dump yes\n"])
+    flags = f"members {cpus}\n" + numbers.choice(["", "flag defrag\n", "dump yes\n", "workers 2\n"])
     return Case("capture", setup_text(ROOMY, cpus) + flags, captures=[capture, base("<")][:cpus])
 
 

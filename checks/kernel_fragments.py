@@ -37,7 +37,7 @@ def fragments(ident, ttl, options, sizes):
 
 
 def received(socket_in, ident):
-    """The datagram of an identification; others that came before are passed over."""
+    """The datagram of an identification; others that came before are skipped."""
     while True:
         whole = socket_in.recv(65535)
         if struct.unpack(">H", whole[4:6])[0] == ident:

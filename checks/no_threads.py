@@ -29,6 +29,8 @@ GROUPS = [
     "members 2\nmode lb\ndump yes\n",
     f"members 4\nmode hash\nkey {KEY}\nflag defrag\nflag rollover\n",
     "members 3\nmode rollover\n",
+    "members 2\nmode lb\ndump yes\nworkers 2\n",
+    f"members 4\nmode hash\nkey {KEY}\nworkers 8\n",
 ]
 
 

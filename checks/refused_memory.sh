@@ -1,9 +1,9 @@
 #!/usr/bin/env bash
 # Refuses each request for memory of a run in turn: of a check, of a replay with a dump, of a few frames that are made, of a capture
-# that is sent, and of captures on threads. Every such run ends within a minute, with status 7, or with the status, the lines and the
-# files of a run with ample memory; what it saved before status 7 is what that run saves; and no thread is left. On threads the number
-# of a request may be another one at each run; what the runs here give is the same. Then each thread in turn can't be started: such a
-# run gives what every other gives.
+# that is sent, and of captures on threads, without a pool of workers and with one. Every such run ends within a minute, with status 7,
+# or with the status, the lines and the files of a run with ample memory; what it saved before status 7 is what that run saves; and no
+# thread is left. On threads the number of a request may be another one at each run; what the runs here give is the same. Then each
+# thread in turn can't be started: such a run gives what every other gives.
 set -u
 source "$(dirname "${BASH_SOURCE[0]}")/common.bash"
 wants cc
@@ -16,6 +16,7 @@ echo 'dump yes' >>setup.txt
 { cat setup.txt && echo 'make 1 3'; } >make.txt
 # Two CPUs, each with a member, a filter that passes all, and a timer whose moments close no block.
 { cat setup.txt && printf 'cpu a.pcap\nmembers 2\nfilter pass.ddd\nticks ticks.txt\n'; } >two.txt
+{ cat two.txt && echo 'workers 2'; } >pool.txt
 printf '1\n2\n' >ticks.txt
 printf '1\n6 0 0 262144\n' >pass.ddd
 
@@ -89,7 +90,9 @@ for program in "${programs[@]}"; do
     refuse_each send setup.txt
     refuse_each capture setup.txt
     refuse_each capture two.txt
+    refuse_each capture pool.txt
     refuse_threads capture setup.txt
     refuse_threads capture two.txt
+    refuse_threads capture pool.txt
 done
 exit "$failed"

@@ -4,7 +4,7 @@ with those of by_hand.py.
 
     replays.py PROGRAM
 
-Tables of runs that were worked out with pencil and paper stand in front of them, so that by_hand.py is compared too.
+Tables of runs that were worked out with pencil and paper stand before them, so that by_hand.py is compared too.
 """
 import os
 import random
@@ -189,8 +189,8 @@ SLOTS = [(4096, 2, 2048, 4), (4096, 3, 128, 96), (4096, 2, 4096, 2), (8192, 2, 8
 # Lines that say nothing to `send`, which reads none of these files.
 UNUSED = "members 3\nmode lb\nflag defrag\nfilter none.ddd\nticks none.txt\ndump yes\nout sent\ntov 0\npriv 0\n"
 
-# The lengths of the frames of a capture that is sent through slots of 2000 bytes of room, whether longer ones are passed over,
-# and what follows: how many are sent, how many are passed over, where the ring stops, and the lengths that are saved.
+# The lengths of the frames of a capture that is sent through slots of 2000 bytes of room, whether longer ones are skipped,
+# and what follows: how many are sent, how many are skipped, where the ring stops, and the lengths that are saved.
 SENT = [
     ([60, 3000, 60], False, (1, 0, 1), [60]),
     ([60, 3000, 60], True, (2, 1, "none"), [60, 60]),

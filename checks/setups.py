@@ -42,7 +42,7 @@ def rows_below(text, head):
 
 
 def lines_of(cell):
-    """The lines that a cell shows, one behind another."""
+    """The lines that a cell shows, one after another."""
     parts = re.findall(r"`([^`]*)`|(" + "|".join(SHOWN) + ")", cell)
     return [shown if not told else SHOWN[told] for shown, told in parts]
 
@@ -80,10 +80,10 @@ def check(what, status, printed, lines, end="\n", **texts):
 
 
 def accepted(words):
-    """The setups of the table of words: what is needed alone, and what may stand behind it."""
+    """The setups of the table of words: what is needed alone, and what may stand after it."""
     needed, further = words[: len(NEEDED)], words[len(NEEDED) :]
     for at in range(len(further) + 1):
-        # of what may stand, a line and all behind it, so that the key stands where a mode needs it
+        # of what may stand, a line and all after it, so that the key stands where a mode needs it
         check(f"the words from {at}", 0, "ok\n", needed + further[at:])
     check("the words backwards", 0, "ok\n", words[::-1])
     check("lines that end as another system writes them", 0, "ok\n", words, "\r\n")
@@ -103,7 +103,7 @@ def measured(needed):
 
 
 def refused(needed, rows):
-    """The lines that are refused behind what is needed."""
+    """The lines that are refused after what is needed."""
     for cell, answer in rows:
         check(cell, 2, line_of("setup", answer), needed + lines_of(cell))
 
@@ -115,7 +115,7 @@ def refused_rings(needed, rows):
 
 
 def refused_by_commands(needed, rows):
-    """The lines that a command refuses behind what is needed."""
+    """The lines that a command refuses after what is needed."""
     for command, cell, answer in rows:
         setup = ("\n".join(needed + lines_of(cell)) + "\n").encode()
         words = [lines_of(command)[0], "conf"]

@@ -12,7 +12,7 @@ cp -r demo "$room/demo"
 cd "$room" || exit 1
 chmod 777 .
 
-# The number behind a word in the line of the total.
+# The number after a word in the line of the total.
 total() {
     sed -n "s/^total .*\<$1 \([0-9]*\).*/\1/p" lines.txt
 }

@@ -108,7 +108,7 @@ def test_schedule():
 
 
 def test_old_frames():
-    """A frame that is older than the one before it comes right behind that one, and the order of a CPU stays."""
+    """A frame that is older than the one before it comes right after that one, and the order of a CPU stays."""
     capture("old.pcap", [(10_000, frame(0)), (5_000, frame(1)), (20_000, frame(2))])
     capture("new.pcap", [(12_000, frame(3))])
     setup = text("old.txt", BLOCK + "cpu old.pcap\ncpu new.pcap\n")
@@ -291,7 +291,7 @@ def test_statuses():
     text("cut.txt", BLOCK + "cpu cut.pcap\n")
     text("gone.txt", BLOCK + "cpu gone.pcap\n")
     text("wrong.sched", "feed 0\nfeed 1\n")
-    # A record of no frame at all is cut at its own begin, behind the header and one record of 16 and 60 bytes.
+    # A record of no frame at all is cut at its own begin, after the header and one record of 16 and 60 bytes.
     cases = [
         (["play", "many.txt"], 1, "usage: ", "the words are no command"),
         (["replay", "wrong.txt", "none.sched"], 2, "setup line 7: unknown_word\n", "the setup is refused"),

@@ -72,5 +72,5 @@ offered() {
 }
 [ "$(offered ringtap re)" = replay ] || wrong "bash offers '$(offered ringtap re)' for re"
 [ "$(offered ringtap replay demo/sm)" = demo/small.txt ] || wrong "bash offers '$(offered ringtap replay demo/sm)'"
-[ -z "$(offered ringtap check a demo/sm)" ] || wrong "bash offers '$(offered ringtap check a demo/sm)' behind check"
+[ -z "$(offered ringtap check a demo/sm)" ] || wrong "bash offers '$(offered ringtap check a demo/sm)' after check"
 exit "$failed"

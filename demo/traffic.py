@@ -17,7 +17,7 @@ REPLIES = (400, 1400, 4500)
 
 
 def encoded(name):
-    """A name as DNS writes it: each label behind its length."""
+    """A name as DNS writes it: each label after its length."""
     return b"".join(bytes([len(part)]) + part.encode() for part in name.split(".")) + b"\0"
 
 

@@ -181,7 +181,7 @@ def bins_of(arrivals: list[Arrival], first: int, count: int) -> list[Bin]:
 
 
 def seconds(time: int, digits: int = 9) -> str:
-    """Nanoseconds as seconds, with digits behind the point."""
+    """Nanoseconds as seconds, with digits after the point."""
     return f"{time // NANOSECONDS}.{time % NANOSECONDS:09}"[: digits - 9 or None].rstrip(".")
 
 

@@ -55,7 +55,7 @@ class Result:
 
 
 def numbers(least: int, most: int, step: int = 1) -> Callable[[str], list[int]]:
-    """Reads numbers between commas; K and M behind one count 1,024 and 1,048,576."""
+    """Reads numbers between commas; K and M after one count 1,024 and 1,048,576."""
 
     def read(text: str) -> list[int]:
         read_ones = []

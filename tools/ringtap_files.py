@@ -101,7 +101,7 @@ def header_of(path: Path, data: bytes) -> tuple[str, int]:
 
 
 def records_of(data: bytes, order: str, unit: int) -> tuple[list[Frame], str]:
-    """The frames behind the header, and how the capture ends."""
+    """The frames after the header, and how the capture ends."""
     frames: list[Frame] = []
     place, counted = 24, min(len(data), LARGEST_CAPTURE)
     record = struct.Struct(order + "IIII")
@@ -135,7 +135,7 @@ class Setup:
 
     path: Path
     lines: list[str]
-    values: dict[str, list[str]] = field(default_factory=dict)  # the words behind each first word but `cpu` and `flag`
+    values: dict[str, list[str]] = field(default_factory=dict)  # the words after each first word but `cpu` and `flag`
     places: dict[str, int] = field(default_factory=dict)  # the number of each such line
     cpus: list[CpuLine] = field(default_factory=list)
     flags: set[str] = field(default_factory=set)

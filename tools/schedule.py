@@ -56,7 +56,7 @@ def shape_of(setup: Setup) -> Shape:
 
 
 def feeds(captures: list[Capture], speed: Fraction) -> list[Event]:
-    """The frames of all CPUs by their times. A frame that is older than one before it in its capture comes right behind that."""
+    """The frames of all CPUs by their times. A frame that is older than one before it in its capture comes right after that."""
     starts = [capture.frames[0].time for capture in captures if capture.frames]
     first = min(starts, default=0)
     events = []

@@ -63,7 +63,7 @@ pub(crate) fn part_decoders(
     Ok(pieces)
 }
 
-/// Decodes the works that no worker fetched, and puts their pieces behind the others.
+/// Decodes the works that no worker fetched, and puts their pieces after the others.
 pub(crate) fn decode_left<G: Gate>(
     alloc: Global,
     gate: &G,

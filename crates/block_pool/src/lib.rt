@@ -2,8 +2,8 @@
 #![tactic(auto)]
 
 mod decoding;
+mod fresh_workers;
 mod gathering;
-mod hiring;
 mod pieces;
 mod pool;
 mod reporting;

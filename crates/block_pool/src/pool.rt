@@ -3,8 +3,8 @@ ghost use Rattle.std.specs.Prelude.{◌≡◌, ◌<◌, ◌≤◌, length, map, 
 ghost use Rattle.cpu_feeders.specs.Runs.{IsCaptureRun};
 ghost use Rattle.setup_text.specs.Sound.{AreMoments, IsSetup};
 
+use crate::fresh_workers::{decoders_of, takers_of};
 use crate::gathering::{decode_left, part_decoders, part_takers};
-use crate::hiring::{decoders_of, takers_of};
 use crate::reporting::report_run;
 use crate::serving::{Pool, run_both};
 use crate::shelves::{put_all, read_all};
@@ -19,7 +19,7 @@ use tap_outside::Source;
 use work_queue::WorkQueue;
 
 /// Runs a job on threads with a pool: a reader for each member, which copies the text of each block into a work and hands
-/// it in; so many workers, 1 to 8, which fetch the works and decode them; a timer that tells the moments, and a feeder
+/// it in; so many workers, 1 to 8, which fetch the works and decode them; a timer that reports the moments, and a feeder
 /// for each CPU. What was decoded is put together by number after the joins, so the report is that of a run whose
 /// readers decode.
 ///

@@ -33,7 +33,7 @@ pub struct Decoder {
     pub full: bool,
 }
 
-/// Decodes a work, and puts its piece behind the others.
+/// Decodes a work, and puts its piece after the others.
 pub(crate) fn keep<G: Gate>(
     alloc: Global,
     gate: &G,

@@ -59,7 +59,7 @@ last_time_push time (p ∷ packets) packet = last_time_push (p.sec, p.nsec) pack
 pub need_least : (offer : Offer) → IsWritable offer → 88 ≤ need_of offer.snap
 need_least offer w = let some = w.some in omega arith
 
--- the last packet stands behind the first place, and ends where the packets end
+-- the last packet follows the first place, and ends where the packets end
 pub last_place_within : (shape : RingRequest) (at : ℕ) (offers : List Offer) → AllByRecursion IsWritable offers → 0 < length offers
     → (at ≤ last_place at (packets_of_offers shape offers)) × (last_place at (packets_of_offers shape offers) + 88 ≤ at + used_by offers)
 last_place_within shape at [] all some = absurd (omega arith)

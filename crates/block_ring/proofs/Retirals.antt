@@ -28,7 +28,7 @@ texts_push shape number last (e ∷ entries) [] entry block all at text status =
 texts_push shape number last (e ∷ entries) (b ∷ done) entry block all at text status =
     (all.0, all.1, texts_push shape (number + 1) last entries done entry block all.2 (omega arith) text status)
 
--- the end's list with the entry behind it, where the end told that it retired it
+-- the end's list with the entry after it, where the end reported that it retired it
 pub stands_push : (shape : RingRequest) (done : List (List Offer × ℕ)) (before after : Feed) (entry : Entry) (block : List Offer × ℕ) (last : ℕ)
     → StandsForTexts shape done before → after.retired ≡ before.retired + 1 → after.passed ≡ before.passed
     → after.shown ≡ before.shown ++ entry ∷ [] → 1 + length done ≡ last

@@ -16,7 +16,7 @@ abbrev pub offers_of : Option (List Offer) → List Offer
 offers_of None = []
 offers_of (Some offers) = offers
 
--- what the open block is about, which has the number behind those of the retired ones
+-- what the open block is about, which has the number after those of the retired ones
 abbrev pub text_of : State → OpenText
 text_of state = record { number = length state.done + 1; offers = offers_of state.now }
 

@@ -54,8 +54,8 @@ pub record Adds {E : Type 0} (feed : E → Feed) (before after : Producing E) (n
   pub spare : before.spare ≤ after.spare + 1
   pub end : KeepsEnd (feed before.end) (feed after.end)
 
--- a put found this. Where the block was held one look of this call told its number, else no look found one held; where
--- the end tells how many blocks were released, what is found is exact
+-- a put found this. Where the block was held one look of this call reported its number, else no look found one held; where
+-- the end reports how many blocks were released, what is found is exact
 pub record Puts {E : Type 0} (feed : E → Feed) (before after : Producing E) (offer : Offer) (found : Found) (put : Put) : Type 0 where
   pub adds : Adds feed before after (put_by offer found)
   pub told : put ≡ put_told (put_by offer found)

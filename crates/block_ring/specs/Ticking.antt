@@ -3,7 +3,7 @@ use Rattle.std.specs.Prelude.{◌≡◌, ℕ, List, ◌++◌, codes, decimal}
 use Rattle.block_ring.specs.declared.error.TickError.{TickError}
 use Rattle.block_ring.specs.declared.error.TickError.TheVariants.{Backwards, Memory}
 
--- where it would lead back, this is the moment that the last tick told
+-- where it would lead back, this is the moment that the last tick reported
 abbrev pub IsBackwardsFrom : ℕ → TickError → Type 0
 IsBackwardsFrom clock (Backwards moment) = moment ≡ clock
 IsBackwardsFrom clock Memory = Unit {0}

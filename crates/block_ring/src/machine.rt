@@ -1,6 +1,6 @@
 //! The ring as a machine, in the manner of the kernel's `tpacket_rcv` with TPACKET_V3.
 //!
-//! It begins with block 1 open. A packet goes behind the others of the open block while it fits; one that ends exactly
+//! It begins with block 1 open. A packet goes after the others of the open block while it fits; one that ends exactly
 //! where the block ends still fits, which the kernel does otherwise. Where it doesn't fit the block is retired, which
 //! hands it to the reader, and the machine looks once at the place of the next block. Where that block is free it is
 //! opened and the packet is its first. Where the reader still has it the ring freezes: no block is open, and the packet
@@ -10,7 +10,7 @@
 //!
 //! A tick brings the clock forward. At the deadline the open block's time is over. If it has packets it is retired, and
 //! the next one is opened, or the ring freezes; if it has none it stays. A frozen ring looks again. Each opening, and
-//! each tick at the deadline, sets the deadline one time-out behind the clock: the kernel has a timer for that, which
+//! each tick at the deadline, sets the deadline one time-out after the clock: the kernel has a timer for that, which
 //! starts anew once more after a packet froze the ring.
 //!
 //! In the end an open block that has packets is retired. An empty one is given up.
@@ -45,7 +45,7 @@ pub(crate) struct Machine<E> {
     current: Option<OpenBlock>,
     /// The number of the last block that was opened.
     opened: u64,
-    /// The moment that the last tick told, in milliseconds.
+    /// The moment that the last tick reported, in milliseconds.
     clock: u64,
     /// The moment from which a tick is due, in milliseconds.
     deadline: u64,
@@ -90,7 +90,7 @@ impl<E: FeederEnd<Block> + Drop> Machine<E> {
         }
     }
 
-    /// Puts a packet: tells that no next block was needed, or what the look at it found. Where it was held the packet
+    /// Puts a packet: reports that no next block was needed, or what the look at it found. Where it was held the packet
     /// is dropped, and the ring is frozen.
     pub(crate) fn put(&mut self, offer: &Offer) -> Found
         ghost state: { State }
@@ -236,7 +236,7 @@ impl<E: FeederEnd<Block> + Drop> Machine<E> {
         }
     }
 
-    /// The moment that the last tick told, in milliseconds.
+    /// The moment that the last tick reported, in milliseconds.
     pub(crate) fn clock(&self) -> u64
         ensures { result ≡ self.now.clock }
     {

@@ -1,4 +1,4 @@
-//! The open block: packets are written one behind the other, and what its close will write is kept beside it.
+//! The open block: packets are written one after the other, and what its close will write is kept beside it.
 ghost use Rattle.std.specs.Prelude.{◌≡◌, ◌+◌, ◌^◌, ◌<◌, ◌≤◌, ◌++◌, ◌∷◌, ℕ, IsTrue, List, [], length, ◌↔◌};
 ghost use Rattle.ring_model.specs.Offers.{packet_of};
 ghost use Rattle.ring_model.specs.Sizes.{fits, need_of};
@@ -53,7 +53,7 @@ impl OpenBlock {
         self.closing.packets == 0
     }
 
-    /// Whether a packet that takes so many bytes has room behind the others.
+    /// Whether a packet that takes so many bytes has room after the others.
     pub(crate) fn has_room(&self, shape: &Shape, need: u32) -> bool
         ghost text: { OpenText }
         requires holds { Holds shape.now text self.now }
@@ -65,7 +65,7 @@ impl OpenBlock {
         self.closing.length + need <= size
     }
 
-    /// Writes the packet of an offer behind the others.
+    /// Writes the packet of an offer after the others.
     pub(crate) fn add(&mut self, shape: &Shape, offer: &Offer)
         ghost text: { OpenText }
         requires holds { Holds shape.now text self.old }
@@ -111,7 +111,7 @@ impl OpenBlock {
         block
     }
 
-    /// The time of the first packet, where an offer's comes behind those that are there.
+    /// The time of the first packet, where an offer's comes after those that are there.
     fn first_time(&self, offer: &Offer) -> (u32, u32)
         ghost text: { OpenText }
         requires { (shape : RingRequest) × Holds shape text self.now }

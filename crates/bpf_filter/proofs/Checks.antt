@@ -29,7 +29,7 @@ StandFor-push [] (j ∷ code) step i h g = absurd h
 StandFor-push (s ∷ steps) [] step i h g = absurd h
 StandFor-push (s ∷ steps) (j ∷ code) step i h g = (h.0, StandFor-push steps code step i h.1 g)
 
--- the fault of the instruction at the place, with the faults behind it
+-- the fault of the instruction at the place, with the faults after it
 fault_here : (code : List Insn) (at : ℕ) (d : Insn) → at < length code → first_fault at (drop at code) ≡ option_or (fault_of at (length code - at - 1) (get_or code at d)) (first_fault (at + 1) (drop (at + 1) code))
 fault_here code at d l =
     let here : drop at code ≡ get_or code at d ∷ drop (at + 1) code = rw add-one (drop-cons code at d l) in

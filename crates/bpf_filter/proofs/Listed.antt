@@ -13,7 +13,7 @@ use Rattle.bpf_filter.specs.Listings.{are_blank, has_no_word, instruction_of, wi
 
 -- ---- blank lines
 
--- a line without a word leaves the question to the lines behind it
+-- a line without a word leaves the question to the lines after it
 pub blank-without_word : (lines : List (List ℕ)) (line : List ℕ) (more : List (List ℕ)) → lines ≡ line ∷ more → words_of line ≡ [] → are_blank lines ≡ are_blank more
 blank-without_word lines line more h e = ap are_blank h ∙ ap (λ words. has_no_word words && are_blank more) e
 
@@ -22,7 +22,7 @@ not_blank-with_word lines line more word words h e = ap are_blank h ∙ ap (λ w
 
 -- ---- instructions
 
--- the lines with an instruction in front aren't at their end
+-- the lines with an instruction before them aren't at their end
 instruction_has_word : (words : List (List ℕ)) (i : Insn) → instruction_of words ≡ Some i → has_no_word words ≡ false
 instruction_has_word [] i h = absurd (none-some i h)
 instruction_has_word (word ∷ words) i h = refl

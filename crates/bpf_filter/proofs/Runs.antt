@@ -54,7 +54,7 @@ none_at steps given code at h e l =
     let past : length given ≤ at = grind arith in
     none_left steps code at h (subst (λ steps. length steps ≤ at) e past)
 
--- what is behind an instruction may be said in another way
+-- what is after an instruction may be said in another way
 follow-same : (next : Next) (behind other : ℕ → State → ℕ) → ((skip : ℕ) (s : State) → behind skip s ≡ other skip s) → follow next behind ≡ follow next other
 follow-same (Answers number) behind other h = refl
 follow-same (GoesOn skip s) behind other h = h skip s

@@ -56,7 +56,7 @@ unfoldable pub without_blank_end : List (List ℕ) → List (List ℕ)
 without_blank_end [] = []
 without_blank_end (line ∷ more) = if are_blank (line ∷ more) then [] else line ∷ without_blank_end more
 
--- what a line of that number gives, with what the lines behind it give
+-- what a line of that number gives, with what the lines after it give
 abbrev pub with_line : ℕ → Option Insn → Result (List Insn) FilterError → Result (List Insn) FilterError
 with_line number None more = Err (BadLine number)
 with_line number (Some i) (Ok code) = Ok (i ∷ code)
@@ -72,7 +72,7 @@ instructions_from number (line ∷ more) =
 abbrev pub is_count : ℕ → ℕ → Bool
 is_count count instructions = nat_le 1 count && nat_le count 4096 && (count == instructions)
 
--- what the count of the first line gives, with what the lines behind it give
+-- what the count of the first line gives, with what the lines after it give
 abbrev pub behind_count : Option ℕ → Result (List Insn) FilterError → Result (List Insn) FilterError
 behind_count None more = Err (BadLine 1)
 behind_count (Some count) (Err error) = Err error

@@ -25,14 +25,14 @@ abbrev pub has_bad_place : Insn → Bool
 has_bad_place i =
     is_among (0x20 ∷ 0x28 ∷ 0x30 ∷ []) i.code && nat_le 0x80000000 i.k && not (is_some (item_at ancillary i.k))
 
--- a jump past the last instruction, where that many instructions stand behind this one
+-- a jump past the last instruction, where that many instructions follow this one
 abbrev pub has_bad_jump : ℕ → Insn → Bool
 has_bad_jump behind i =
     ((i.code == 0x05) && nat_le behind i.k)
     || (is_among (0x15 ∷ 0x1d ∷ 0x25 ∷ 0x2d ∷ 0x35 ∷ 0x3d ∷ 0x45 ∷ 0x4d ∷ []) i.code
     && (nat_le behind i.jt || nat_le behind i.jf))
 
--- the first fault of the instruction of a number, behind which that many stand, where its code is known
+-- the first fault of the instruction of a number, after which that many stand, where its code is known
 abbrev pub fault_of_known : ℕ → ℕ → Insn → Option FilterError
 fault_of_known at behind i =
     if has_bad_constant i then Some (BadConstant at)

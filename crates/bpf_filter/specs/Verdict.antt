@@ -4,7 +4,7 @@ use Rattle.bpf_filter.specs.declared.insn.Insn.{Insn}
 use Rattle.bpf_filter.specs.Codes.{State, Next, Answers, GoesOn, effect}
 use Rattle.bpf_filter.specs.Sight.{Sight}
 
--- where an instruction leads, with what the instructions behind it give for a number of them to skip and a state
+-- where an instruction leads, with what the instructions after it give for a number of them to skip and a state
 abbrev pub follow : Next → (ℕ → State → ℕ) → ℕ
 follow (Answers number) behind = number
 follow (GoesOn skip s) behind = behind skip s

@@ -7,7 +7,7 @@ use std::alloc::{AllocError, AllocFailed};
 use std::error::Error;
 use std::fmt;
 
-/// Why a text or a program is refused. Of several faults the first one is told: all of the text's come before all of
+/// Why a text or a program is refused. Of several faults the first one is reported: all of the text's come before all of
 /// the program's.
 #[derive(Clone, Copy, Debug, PartialEq, Eq)]
 pub enum FilterError {
@@ -27,7 +27,7 @@ pub enum FilterError {
     NoReturn,
     /// A place in the packet that is neither one nor names an ancillary number, with the instruction's number from 0.
     BadAncillary(u32),
-    /// Want of memory.
+    /// Out of memory.
     Memory,
     /// A text of more than 1,048,576 bytes.
     TooLarge,

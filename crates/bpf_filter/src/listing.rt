@@ -47,7 +47,7 @@ fn is_count(count: usize, instructions: usize) -> bool
     1 <= count && count <= LARGEST_PROGRAM && count == instructions
 }
 
-/// The instructions of the lines behind the first one.
+/// The instructions of the lines after the first one.
 fn instructions(alloc: Global, text: &[u8]) -> Result<Vec<Insn>, FilterError>
     requires { length text.now ≤ 1048576 }
     ensures { Gives (λ code. code.items) result

@@ -110,7 +110,7 @@ fn steps_of(alloc: Global, code: &[Insn]) -> Result<Vec<Step>, FilterError>
     Ok(steps)
 }
 
-/// The meaning of the instruction of a number, behind which a number of instructions stand, or its first fault.
+/// The meaning of the instruction of a number, after which a number of instructions stand, or its first fault.
 fn step_of(insn: Insn, at: u32, behind: usize) -> Result<Step, FilterError>
     ensures { MatchResult result
         (λ step. (fault_of at behind insn ≡ None) × StandsFor step insn)

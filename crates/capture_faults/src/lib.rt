@@ -1,6 +1,9 @@
-//! Tests of captures on threads where one call of the outside after another fails.
+//! Tests of captures on threads where one call of the outside after another fails, and where a
+//! fault is counted at each call that succeeds.
 #![tactic(auto)]
 
+#[cfg(test)]
+mod counting;
 #[cfg(test)]
 mod printing;
 #[cfg(test)]

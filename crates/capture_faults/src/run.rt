@@ -1,7 +1,7 @@
 //! A capture on threads without a fault, of which nothing hangs on which thread goes first.
 use run_building::{Capture, Kept, NO_FRAME, NOTHING, Row, Shape};
 
-/// A frame of 60 bytes, which needs 144 in a block, behind the 48 of the block itself.
+/// A frame of 60 bytes, which needs 144 in a block, after the 48 of the block itself.
 pub(crate) const SMALL: Shape<'static> = (b"", 60);
 
 /// A member that nothing came to, and one that got the first frames of a capture.

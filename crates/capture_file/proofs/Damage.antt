@@ -1,74 +1,74 @@
 -- What the damage and the end of a capture may be.
-use Rattle.std.proofs.Common.{◌≡◌, ℕ, ◌≤◌, ◌<◌, List, length, drop, refl, inl, inr, arith}
-use Rattle.std.specs.Prelude.{◌≢◌, nat_lt, Option, None, Some, IsSome, Result, Ok, Err}
-use Rattle.std.specs.Option.{option_or}
-use Rattle.std.proofs.lemmas.Bool.{cases_Bool, cases_lt, le-ltb, lt-ltb, ltb-false}
+use Rattle.std.proofs.Common.{◌≡◌, ℕ, ◌<◌, Bool, true, false, List, length, refl, sym, ap, subst, ◌∙◌}
+use Rattle.std.specs.Prelude.{◌≢◌, Option, None, Some, IsSome, option_map}
+use Rattle.pcapng_blocks.specs.Capture as pcapng
+use Rattle.pcapng_blocks.specs.declared.error.BlockError.{BlockError}
+use Rattle.pcapng_blocks.specs.declared.error.BlockError.TheVariants as faults
+use Rattle.pcapng_blocks.proofs.Lawful as blocks
+use Rattle.pcapng_blocks.proofs.Cuts as cuts
 use Rattle.capture_file.specs.declared.error.CaptureError.{CaptureError}
-use Rattle.capture_file.specs.declared.error.CaptureError.TheVariants.{BadLength, TooLarge, Memory}
-use Rattle.capture_file.specs.declared.format.Format.{Format}
-use Rattle.capture_file.specs.Capture.{header_of, counted, begins_oversized, stop_of, damage_of, cut_of, end_of}
-use Rattle.capture_file.proofs.Steps.{header_not_memory}
-use Rattle.capture_file.proofs.Feeding.{short, refused, damage_oversized, damage_too_large, damage_none}
+use Rattle.capture_file.specs.declared.error.CaptureError.TheVariants.{Truncated, Memory}
+use Rattle.capture_file.specs.Capture.{is_pcapng, error_from, damage_of, end_of}
+use Rattle.capture_file.specs.Decoding.{damage_as, end_as}
+use Rattle.capture_file.proofs.PcapDamage as records
+use Rattle.capture_file.proofs.PcapUncut as whole
+use Rattle.capture_file.proofs.Formats.{damage_is, end_is}
 
--- the three ways of a capture behind a good header
-data Ways (bytes : List ℕ) : Type 0 where
-  oversized : damage_of bytes ≡ Some (BadLength (stop_of bytes)) → Ways bytes
-  large : damage_of bytes ≡ Some TooLarge → Ways bytes
-  sound : damage_of bytes ≡ None → length bytes ≤ 33554432 → Ways bytes
+-- no fault of blocks says that memory ran out
+pub fault_not_memory : (fault : Option BlockError) → option_map error_from fault ≢ Some Memory
+fault_not_memory None e = cc
+fault_not_memory (Some faults.BadMagic) e = cc
+fault_not_memory (Some faults.BadVersion) e = cc
+fault_not_memory (Some (faults.BadLink link)) e = cc
+fault_not_memory (Some (faults.BadLength place)) e = cc
+fault_not_memory (Some (faults.BadInterface place)) e = cc
+fault_not_memory (Some (faults.Truncated place)) e = cc
+fault_not_memory (Some faults.TooLarge) e = cc
 
-ways : (format : Format) (bytes : List ℕ) → 24 ≤ length bytes → header_of bytes ≡ Ok format → Ways bytes
-ways format bytes full passed =
-    elim (cases_Bool (begins_oversized format.order (drop (stop_of bytes) (counted bytes)))) [
-      | inl over ↦ oversized (damage_oversized format bytes full passed over)
-      | inr under ↦
-          elim (cases_Bool (nat_lt 33554432 (length bytes))) [
-            | inl more ↦ large (damage_too_large format bytes full passed under more)
-            | inr few ↦ sound (damage_none format bytes full passed under few) (ltb-false _ _ few)
-          ]
-    ]
-
-not_memory_by : (bytes : List ℕ) (header : Result Format CaptureError) → 24 ≤ length bytes → header_of bytes ≡ header → damage_of bytes ≢ Some Memory
-not_memory_by bytes (Ok format) full e m =
-    elim (ways format bytes full e) [
-      | oversized d ↦ absurd (cc (d, m))
-      | large d ↦ absurd (cc (d, m))
-      | sound d few ↦ absurd (cc (d, m))
-    ]
-not_memory_by bytes (Err damage) full e m =
-    let d = (refused 0 bytes damage full e).damage in
-    header_not_memory bytes damage e (cc (d, m))
+damage_as_not_memory : (kind : Bool) (bytes : List ℕ) → damage_as kind bytes ≢ Some Memory
+damage_as_not_memory true bytes = fault_not_memory (pcapng.damage_of bytes)
+damage_as_not_memory false bytes = records.damage_not_memory bytes
 
 pub damage_not_memory : (bytes : List ℕ) → damage_of bytes ≢ Some Memory
-damage_not_memory bytes m =
-    elim (cases_lt (length bytes) 24) [
-      | inl less ↦ let d = (short 0 bytes less).damage in absurd (cc (d, m))
-      | inr full ↦ not_memory_by bytes (header_of bytes) full refl m
-    ]
+damage_not_memory bytes m = damage_as_not_memory (is_pcapng bytes) bytes (sym (damage_is bytes) ∙ m)
 
-or_not_memory : (damage : Option CaptureError) (bytes : List ℕ) → damage ≢ Some Memory → option_or damage (cut_of bytes) ≢ Some Memory
-or_not_memory (Some damage) bytes not m = not m
-or_not_memory None bytes not m =
-    elim (cases_lt (length bytes) 24) [
-      | inl less ↦ let e = rw (lt-ltb _ _ less) at m in absurd cc
-      | inr full ↦
-          elim (cases_lt (stop_of bytes) (length bytes)) [
-            | inl cut ↦ let e = rw (le-ltb _ _ full, lt-ltb _ _ cut) at m in absurd cc
-            | inr whole ↦ let e = rw (le-ltb _ _ full, le-ltb _ _ whole) at m in absurd cc
-          ]
-    ]
+end_as_not_memory : (kind : Bool) (bytes : List ℕ) → end_as kind bytes ≢ Some Memory
+end_as_not_memory true bytes = fault_not_memory (pcapng.end_of bytes)
+end_as_not_memory false bytes = records.end_not_memory bytes
 
 pub end_not_memory : (bytes : List ℕ) → end_of bytes ≢ Some Memory
-unfolding end_of
-end_not_memory bytes = or_not_memory (damage_of bytes) bytes (damage_not_memory bytes)
+end_not_memory bytes m = end_as_not_memory (is_pcapng bytes) bytes (sym (end_is bytes) ∙ m)
 
-too_many_by : (bytes : List ℕ) (header : Result Format CaptureError) → 33554432 < length bytes → header_of bytes ≡ header → IsSome (damage_of bytes)
-too_many_by bytes (Ok format) many e =
-    elim (ways format bytes (omega arith) e) [
-      | oversized d ↦ rw d refl
-      | large d ↦ rw d refl
-      | sound d few ↦ absurd (omega arith)
-    ]
-too_many_by bytes (Err damage) many e = rw ((refused 0 bytes damage (omega arith) e).damage) refl
+-- ---- too many bytes
+
+some_fault : (fault : Option BlockError) → IsSome fault → IsSome (option_map error_from fault)
+some_fault None some = some
+some_fault (Some fault) some = refl
+
+too_many_as : (kind : Bool) (bytes : List ℕ) → 33554432 < length bytes → IsSome (damage_as kind bytes)
+too_many_as true bytes many = some_fault (pcapng.damage_of bytes) (blocks.too_many bytes many)
+too_many_as false bytes many = records.too_many bytes many
 
 pub too_many : (bytes : List ℕ) → 33554432 < length bytes → IsSome (damage_of bytes)
-too_many bytes many = too_many_by bytes (header_of bytes) many refl
+too_many bytes many = subst (λ (damage : Option CaptureError). IsSome damage) (sym (damage_is bytes)) (too_many_as (is_pcapng bytes) bytes many)
+
+-- ---- damage is no cut
+
+fault_uncut : (fault : Option BlockError) (place : ℕ) → fault ≢ Some (faults.Truncated place) → option_map error_from fault ≢ Some (Truncated place)
+fault_uncut None place uncut e = cc
+fault_uncut (Some faults.BadMagic) place uncut e = cc
+fault_uncut (Some faults.BadVersion) place uncut e = cc
+fault_uncut (Some (faults.BadLink link)) place uncut e = cc
+fault_uncut (Some (faults.BadLength other)) place uncut e = cc
+fault_uncut (Some (faults.BadInterface other)) place uncut e = cc
+fault_uncut (Some (faults.Truncated other)) place uncut e = uncut (ap (λ (p : ℕ). Some (faults.Truncated p)) (same_place e)) where
+  same_place : ◌≡◌ {A = Option CaptureError} (Some (Truncated other)) (Some (Truncated place)) → other ≡ place
+  same_place e = cc
+fault_uncut (Some faults.TooLarge) place uncut e = cc
+
+uncut_as : (kind : Bool) (bytes : List ℕ) (place : ℕ) → damage_as kind bytes ≢ Some (Truncated place)
+uncut_as true bytes place = fault_uncut (pcapng.damage_of bytes) place (cuts.damage_uncut bytes place)
+uncut_as false bytes place = whole.damage_uncut bytes place
+
+pub damage_uncut : (bytes : List ℕ) (place : ℕ) → damage_of bytes ≢ Some (Truncated place)
+damage_uncut bytes place e = uncut_as (is_pcapng bytes) bytes place (sym (damage_is bytes) ∙ e)

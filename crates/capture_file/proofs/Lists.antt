@@ -2,13 +2,13 @@
 use Rattle.std.proofs.Common.{◌≡◌, ◌≤◌, List, ◌++◌, length, take, refl, sym, ap, ◌∙◌, arith}
 use Rattle.std.proofs.lemmas.List.{take-append-le, take-take, take_at, length-take, length-append}
 
--- what stands in front stays there when more is appended
+-- what stands at the start stays there when more is appended
 pub front_more : {A : Type 0} (old new more : List A) → take (length old) new ≡ old → take (length old) (new ++ more) ≡ old
 front_more old new more h =
     let le : length old ≤ length new = omega (arith, length-take (length old) new, ap length h) in
     take-append-le (length old) new more le ∙ h
 
--- what stands in front of a front stands in front
+-- a prefix of a prefix is a prefix
 pub front_through : {A : Type 0} (old more mid new : List A) → mid ≡ old ++ more → take (length mid) new ≡ mid → take (length old) new ≡ old
 front_through old more mid new m h =
     let le : length old ≤ length mid = omega (arith, length-append old more, ap length m) in

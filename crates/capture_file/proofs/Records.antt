@@ -11,12 +11,12 @@ use Rattle.capture_file.specs.declared.format.Format.{Format}
 use Rattle.capture_file.specs.declared.format.Order.{Order}
 use Rattle.capture_file.specs.declared.format.Order.TheVariants.{Little, Big}
 use Rattle.capture_file.specs.declared.reading.Place.{Place}
-use Rattle.capture_file.specs.Capture.{number_at, format_in, checked, header_of, captured, record_size, begins_whole, begins_oversized, records_within, records_in, frame_of_record, frames_from}
+use Rattle.capture_file.specs.Pcap.{number_at, format_in, checked, header_of, captured, record_size, begins_whole, begins_oversized, records_within, records_in, frame_of_record, frames_from}
 use Rattle.capture_file.specs.Reading.{Reached, left_in, place_behind, read_from}
 
 -- ---- numbers
 
--- a number doesn't see what comes behind it
+-- a number doesn't see what comes after it
 pub number_at-append : (order : Order) (n at : ℕ) (xs ys : List ℕ) → at + n ≤ length xs → number_at order n at (xs ++ ys) ≡ number_at order n at xs
 unfolding number_at
 number_at-append Little n at xs ys h =
@@ -34,7 +34,7 @@ checked-append (Some format) xs ys h =
     let link = number_at-append format.order 4 20 xs ys (omega arith) in
     rw (major, minor, link) refl
 
--- a header doesn't see what comes behind it
+-- a header doesn't see what comes after it
 pub header_of-append : (xs ys : List ℕ) → 24 ≤ length xs → header_of (xs ++ ys) ≡ header_of xs
 unfolding header_of
 header_of-append xs ys h =
@@ -76,7 +76,7 @@ pub has_oversized : (order : Order) (bytes : List ℕ) → HasOversized order by
 unfolding begins_oversized
 has_oversized order bytes h = and_from _ _ (le-leb _ _ h.header) (lt-ltb _ _ h.large)
 
--- a whole record stays one, whatever comes behind it
+-- a whole record stays one, whatever comes after it
 pub whole-append : (order : Order) (xs ys : List ℕ) → begins_whole order xs ≡ true → begins_whole order (xs ++ ys) ≡ true
 whole-append order xs ys e =
     let h = whole_has order xs e in
@@ -170,7 +170,7 @@ left_in-step order bytes w =
 
 -- ---- reading on
 
--- the frames of two lists of records, one list behind the other
+-- the frames of two lists of records, one list after the other
 pub frames_from-append : (cpu : ℕ) (format : Format) (index : ℕ) (rs ss : List (List ℕ))
     → frames_from cpu format index (rs ++ ss) ≡ frames_from cpu format index rs ++ frames_from cpu format (index + length rs) ss
 frames_from-append cpu format index [] ss = rw add-zero refl
@@ -260,14 +260,14 @@ pub read_from-append : (cpu : ℕ) (format : Format) (next : Place) (frames : Li
     ≡ read_from cpu format (read_from cpu format next frames xs).next (read_from cpu format next frames xs).frames ((read_from cpu format next frames xs).left ++ ys)
 read_from-append cpu format next frames xs ys = append_within (length xs) cpu format next frames xs ys (omega arith)
 
--- the frames so far stay in front, whatever they are
+-- the frames so far stay at the start, whatever they are
 pub read_from-frames : (cpu : ℕ) (format : Format) (next : Place) (frames : List Frame) (bytes : List ℕ)
     → read_from cpu format next frames bytes
     ≡ record (read_from cpu format next [] bytes) { frames = frames ++ (read_from cpu format next [] bytes).frames }
 unfolding read_from
 read_from-frames cpu format next frames bytes = refl
 
--- a reading goes on behind its first record
+-- a reading goes on after its first record
 pub reads_on : (cpu : ℕ) (format : Format) (next : Place) (frames : List Frame) (bytes first behind : List ℕ) (reached : Reached)
     → begins_whole format.order bytes ≡ true → first ≡ take (record_size format.order bytes) bytes → behind ≡ drop (record_size format.order bytes) bytes
     → read_from cpu format next frames bytes ≡ reached

@@ -13,7 +13,7 @@ use Rattle.capture_file.specs.declared.reading.Place.{Place}
 use Rattle.capture_file.specs.declared.reading.Progress.{Progress}
 use Rattle.std.specs.Option.{option_or}
 use Rattle.capture_file.specs.declared.format.Order.TheVariants.{Little, Big}
-use Rattle.capture_file.specs.Capture.{number_at, format_in, checked, header_of, captured, record_size, begins_whole, begins_oversized, frame_of_record}
+use Rattle.capture_file.specs.Pcap.{number_at, format_in, checked, header_of, captured, record_size, begins_whole, begins_oversized, frame_of_record}
 use Rattle.capture_file.specs.Reading.{Reached, place_behind, read_from, stage_at, IsPart, Completes, IsRead, Comes, start, first_place, ComesBehind, Begins, kept_at, IsSoundAt}
 use Rattle.capture_file.proofs.Records.{number_at-append, header_of-append, whole_has, has_whole, has_oversized, oversized-append, oversized_not_whole, whole_not_oversized, read_from-none, read_from-step, read_from-append, accounts}
 
@@ -23,7 +23,7 @@ use Rattle.capture_file.proofs.Records.{number_at-append, header_of-append, whol
 topped : (n : ℕ) (old piece : List ℕ) → (old ++ take n piece) ++ drop n piece ≡ old ++ piece
 topped n old piece = append_assoc old (take n piece) (drop n piece) ∙ ap (λ (xs : List ℕ). old ++ xs) (take-append-drop n piece)
 
--- a list that another continues is its front
+-- a list that another continues is its prefix
 front_of : (new rest whole : List ℕ) → new ++ rest ≡ whole → new ++ drop (length new) whole ≡ whole
 front_of new rest whole e =
     let left : drop (length new) whole ≡ rest = ap (drop (length new)) (sym e) ∙ drop_at new rest (length new) refl in
@@ -158,7 +158,7 @@ comes_unread cpu format next frames bytes kept progress appended not at all cut 
       left = λ under. rw cut (same under);
     })
 
--- what was read behind the kept bytes is what all of them give
+-- what was read after the kept bytes is what all of them give
 module _ (cpu : ℕ) (format : Format) (next : Place) (frames : List Frame) (old piece new fresh : List ℕ) (progress : Progress) (kept : List ℕ) (appended : List Frame) where
   -- the piece was too short to complete a record
   comes_used : Completes format.order old new piece fresh → begins_whole format.order new ≡ false → fresh ≡ []
@@ -315,7 +315,7 @@ checked_not_memory (Some format) bytes damage e m =
       | inr version ↦ let f = rw version at e in absurd cc
     ]
 
--- a header is never refused for want of memory
+-- a header is never refused for lack of memory
 pub header_not_memory : (bytes : List ℕ) (damage : CaptureError) → header_of bytes ≡ Err damage → damage ≢ Memory
 unfolding header_of
 header_not_memory bytes damage e = checked_not_memory (option_or (format_in Little bytes) (format_in Big bytes)) bytes damage e

@@ -1,4 +1,4 @@
--- A whole capture, and what more bytes behind it change.
+-- A whole capture, and what more bytes after it change.
 use Rattle.std.proofs.Common.{◌≡◌, ℕ, suc, ◌+◌, ◌-◌, ◌≤◌, false, List, [], ◌∷◌, ◌++◌, length, take, drop, refl, sym, ap, subst, ◌∙◌, inl, inr, arith, zero-add}
 use Rattle.std.specs.Prelude.{nat_lt, Ok}
 use Rattle.std.specs.List.{concat}
@@ -6,7 +6,7 @@ use Rattle.std.proofs.Math.Seq.{take-append-add}
 use Rattle.std.proofs.lemmas.Bool.{cases_lt, le-ltb}
 use Rattle.std.proofs.lemmas.List.{append-nil, length-append, length-take, take-append-le, take_all, drop-drop, drop-append-le}
 use Rattle.capture_file.specs.declared.format.Format.{Format}
-use Rattle.capture_file.specs.Capture.{header_of, counted, records_in, frames_from, frames_of, stop_of}
+use Rattle.capture_file.specs.Pcap.{header_of, counted, records_in, frames_from, frames_of, stop_of}
 use Rattle.capture_file.specs.Reading.{Reached, left_in, read_from, first_place}
 use Rattle.capture_file.proofs.Records.{header_of-append, read_from-append, Accounts, accounts}
 
@@ -43,7 +43,7 @@ read_first : (number : ℕ) (format : Format) (body : List ℕ) → read_from nu
 unfolding read_from left_in
 read_first number format body = rw (zero-add (length (records_in format.order body))) refl
 
--- behind a header that passes its tests the records are read
+-- after a header that passes its tests the records are read
 module _ (number : ℕ) (format : Format) (bytes : List ℕ) (full : 24 ≤ length bytes) (passed : header_of bytes ≡ Ok format) where
   pub all_read_from : read_from number format first_place [] (drop 24 (counted bytes)) ≡ all_of number bytes
   unfolding frames_of stop_of

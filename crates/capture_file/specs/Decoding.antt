@@ -1,58 +1,93 @@
 -- What a decoder stands for: the bytes that it was fed.
 use Rattle.std.specs.Result.{result_err}
-use Rattle.std.specs.Prelude.{◌≡◌, ℕ, nat_lt, if◌then◌else◌, List, [], ◌++◌, length, drop, Option, None, Some, Result, Ok, Err, ⊤}
+use Rattle.std.specs.Prelude.{◌≡◌, ℕ, ◌≤◌, ◌<◌, Bool, true, false, if◌then◌else◌, List, [], ◌++◌, length, Option, None, Some, option_map, Result, Ok, Err, ⊤}
 use Rattle.frame_view.specs.declared.frames.Frame.{Frame}
+use Rattle.pcapng_blocks.specs.Capture as pcapng
+use Rattle.pcapng_blocks.specs.Decoding as blocks
 use Rattle.capture_file.specs.declared.error.CaptureError.{CaptureError}
 use Rattle.capture_file.specs.declared.error.CaptureError.TheVariants as errors
-use Rattle.capture_file.specs.declared.format.Format.{Format}
+use Rattle.capture_file.specs.declared.format_decoder.FormatDecoder.{FormatDecoder}
+use Rattle.capture_file.specs.declared.format_decoder.FormatDecoder.TheVariants.{Pcap, Pcapng}
 use Rattle.capture_file.specs.declared.decoder.Decoder.TheInside.{Inside}
-use Rattle.capture_file.specs.declared.stage.Stage.{Stage}
-use Rattle.capture_file.specs.declared.stage.Stage.TheVariants.{Header, Records, Damaged}
-use Rattle.capture_file.specs.Reading.{IsSoundAt}
-use Rattle.capture_file.specs.Capture.{frames_of, damage_of, end_of, stop_of, header_of}
+use Rattle.capture_file.specs.Pcap as pcap
+use Rattle.capture_file.specs.PcapDecoding as records
+use Rattle.capture_file.specs.Capture.{is_pcapng, error_from, frames_of, damage_of, end_of}
 
--- A decoder: its CPU, what comes next, the place where its kept bytes begin, the number of the next frame, and the kept bytes
+-- ---- bytes read in one of the formats, whatever they begin with: as pcapng, or as pcap
+
+abbrev pub frames_as : Bool → ℕ → List ℕ → List Frame
+frames_as is_blocks cpu bytes = if is_blocks then pcapng.frames_of cpu bytes else pcap.frames_of cpu bytes
+
+abbrev pub damage_as : Bool → List ℕ → Option CaptureError
+damage_as is_blocks bytes = if is_blocks then option_map error_from (pcapng.damage_of bytes) else pcap.damage_of bytes
+
+abbrev pub end_as : Bool → List ℕ → Option CaptureError
+end_as is_blocks bytes = if is_blocks then option_map error_from (pcapng.end_of bytes) else pcap.end_of bytes
+
+abbrev pub kept_as : Bool → List ℕ → List ℕ
+kept_as is_blocks bytes = if is_blocks then blocks.kept_of bytes else records.kept_of bytes
+
+-- ---- a decoder of one format
+
+abbrev pub reads_blocks : FormatDecoder → Bool
+reads_blocks (Pcap decoder) = false
+reads_blocks (Pcapng decoder) = true
+
+-- the decoder stands for the bytes that it was fed
+abbrev pub StandsAs : ℕ → FormatDecoder → List ℕ → Type 0
+StandsAs cpu (Pcap decoder) fed = records.Stands cpu decoder fed
+StandsAs cpu (Pcapng decoder) fed = blocks.Stands cpu decoder fed
+
+-- a feed of a decoder that stood for these bytes: it stands for the piece too, and its frames and its damage are told
+pub record FeedsAs (old : FormatDecoder) (piece : List ℕ) (damage : Option CaptureError) (new : FormatDecoder) (before after : List Frame) (cpu : ℕ) (fed : List ℕ) : Type 0 where
+  pub stands : StandsAs cpu new (fed ++ piece)
+  pub frames : (more : List Frame) × (after ≡ before ++ more) × (frames_as (reads_blocks old) cpu (fed ++ piece) ≡ frames_as (reads_blocks old) cpu fed ++ more)
+  pub damage_is : damage ≡ damage_as (reads_blocks old) (fed ++ piece)
+
+abbrev pub FeedsFrom : FormatDecoder → List ℕ → Option CaptureError → FormatDecoder → List Frame → List Frame → Type 0
+FeedsFrom old piece damage new before after =
+    (cpu : ℕ) (fed : List ℕ) → StandsAs cpu old fed → FeedsAs old piece damage new before after cpu fed
+
+abbrev pub EndsAs : FormatDecoder → Result Unit CaptureError → Type 0
+EndsAs decoder answer = (cpu : ℕ) (fed : List ℕ) → StandsAs cpu decoder fed → result_err answer ≡ end_as (reads_blocks decoder) fed
+
+abbrev pub CountsAs : FormatDecoder → ℕ → Type 0
+CountsAs decoder count = (cpu : ℕ) (fed : List ℕ) → StandsAs cpu decoder fed → count ≡ length (kept_as (reads_blocks decoder) fed)
+
+-- a decoder of the format that the first bytes say was fed them and those after them
+pub record IsBegun (cpu : ℕ) (first rest : List ℕ) (decoder : FormatDecoder) (damage : Option CaptureError) (before after : List Frame) : Type 0 where
+  pub format : reads_blocks decoder ≡ is_pcapng first
+  pub stands : StandsAs cpu decoder (first ++ rest)
+  pub frames : after ≡ before ++ frames_as (is_pcapng first) cpu (first ++ rest)
+  pub damage_is : damage ≡ damage_as (is_pcapng first) (first ++ rest)
+
+-- ---- a decoder of either format
+
+-- A decoder: its CPU, the first bytes while they don't say the format, and the decoder of the format
 pub record DecoderValue : Type 0 where
   pub cpu : ℕ
-  pub stage : Stage
-  pub stop : ℕ
-  pub index : ℕ
-  pub rest : List ℕ
+  pub start : List ℕ
+  pub format : Option FormatDecoder
 
 abbrev pub decoder_value : Inside → DecoderValue
-decoder_value d = record { cpu = d.cpu; stage = d.stage; stop = d.next.stop; index = d.next.index; rest = d.kept.items }
+decoder_value d = record { cpu = d.cpu; start = d.start.items; format = d.format }
 
-abbrev pub IsSound : Inside → Type 0
-IsSound d = IsSoundAt d.stage d.next d.kept.items
+pub record IsSound (d : Inside) : Type 0 where
+  pub few : length d.start.items < 4
 
--- what comes behind a header that is whole
-abbrev pub stage_behind : Result Format CaptureError → Stage
-stage_behind (Ok format) = Records format
-stage_behind (Err damage) = Damaged damage
-
-abbrev pub stage_by : Option CaptureError → List ℕ → Stage
-stage_by (Some damage) bytes = Damaged damage
-stage_by None bytes = if nat_lt (length bytes) 24 then Header else stage_behind (header_of bytes)
-
--- what comes next after these bytes
-abbrev pub stage_of : List ℕ → Stage
-stage_of bytes = stage_by (damage_of bytes) bytes
-
-abbrev pub kept_by : Option CaptureError → List ℕ → List ℕ
-kept_by (Some damage) bytes = []
-kept_by None bytes = drop (stop_of bytes) bytes
-
--- the bytes that are kept: those from the stop on, none after damage
-abbrev pub kept_of : List ℕ → List ℕ
-kept_of bytes = kept_by (damage_of bytes) bytes
+-- the bytes that were fed are the first ones, fewer than four, or the decoder of their format stands for them
+abbrev pub StandsBy : ℕ → List ℕ → Option FormatDecoder → List ℕ → Type 0
+StandsBy number start None fed = (start ≡ fed) × (length fed < 4)
+StandsBy number start (Some decoder) fed = (start ≡ []) × (4 ≤ length fed) × (reads_blocks decoder ≡ is_pcapng fed) × StandsAs number decoder fed
 
 -- the decoder stands for the bytes that it was fed
 pub record Stands (number : ℕ) (decoder : DecoderValue) (fed : List ℕ) : Type 0 where
   pub cpu : decoder.cpu ≡ number
-  pub stage : decoder.stage ≡ stage_of fed
-  pub stop : decoder.stop ≡ stop_of fed
-  pub index : decoder.index ≡ length (frames_of number fed)
-  pub rest : decoder.rest ≡ kept_of fed
+  pub told : StandsBy number decoder.start decoder.format fed
+
+-- the bytes that are kept of those that were fed
+abbrev pub kept_of : List ℕ → List ℕ
+kept_of bytes = kept_as (is_pcapng bytes) bytes
 
 abbrev pub UnlessWanted : CaptureError → Type 0 → Type 0
 UnlessWanted errors.Memory P = ⊤
@@ -64,7 +99,7 @@ UnlessWanted (errors.Truncated place) P = P
 UnlessWanted errors.TooLarge P = P
 UnlessWanted (errors.BadInterface place) P = P
 
--- the fact, unless the answer is want of memory
+-- the fact, unless the answer is `Memory`
 abbrev pub UnlessMemory : {X : Type 0} → Result X CaptureError → Type 0 → Type 0
 UnlessMemory (Ok x) P = P
 UnlessMemory (Err error) P = UnlessWanted error P
@@ -78,6 +113,10 @@ abbrev pub AppendsNew : DecoderValue → List ℕ → List Frame → List Frame 
 AppendsNew decoder piece before after =
     (cpu : ℕ) (fed : List ℕ) → Stands cpu decoder fed
     → (more : List Frame) × (after ≡ before ++ more) × (frames_of cpu (fed ++ piece) ≡ frames_of cpu fed ++ more)
+
+-- the damage is that of all bytes that were fed, the piece with them
+abbrev pub IsDamage : DecoderValue → List ℕ → Option CaptureError → Type 0
+IsDamage decoder piece damage = (cpu : ℕ) (fed : List ℕ) → Stands cpu decoder fed → damage ≡ damage_of (fed ++ piece)
 
 -- a feed answered the damage of all bytes that were fed, the piece with them
 abbrev pub AnswersDamage : {X : Type 0} → DecoderValue → List ℕ → Result X CaptureError → Type 0

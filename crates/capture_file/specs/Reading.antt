@@ -10,7 +10,7 @@ use Rattle.capture_file.specs.declared.reading.Place.{Place}
 use Rattle.capture_file.specs.declared.reading.Progress.{Progress}
 use Rattle.capture_file.specs.declared.stage.Stage.{Stage}
 use Rattle.capture_file.specs.declared.stage.Stage.TheVariants.{Header, Records, Damaged}
-use Rattle.capture_file.specs.Capture.{header_of, begins_whole, begins_oversized, record_size, records_in, frames_from}
+use Rattle.capture_file.specs.Pcap.{header_of, begins_whole, begins_oversized, record_size, records_in, frames_from}
 
 -- where reading came to: the place, the frames so far, and the bytes from that place on
 pub record Reached : Type 0 where
@@ -18,21 +18,21 @@ pub record Reached : Type 0 where
   pub frames : List Frame
   pub left : List ℕ
 
--- the bytes behind the whole records at the front
+-- the bytes after the whole records at the start
 unfoldable pub left_in : Order → List ℕ → List ℕ
 left_in order bytes = drop (length (concat (records_in order bytes))) bytes
 
--- the place behind a record
+-- the place after a record
 abbrev pub place_behind : Place → List ℕ → Place
 place_behind next bytes = record { stop = next.stop + length bytes; index = next.index + 1 }
 
--- the bytes are a whole record and what is behind it
+-- the bytes are a whole record and what is after it
 pub record BeginsWith (order : Order) (bytes first behind : List ℕ) : Type 0 where
   pub whole : begins_whole order bytes ≡ true
   pub first_is : first ≡ take (record_size order bytes) bytes
   pub behind_is : behind ≡ drop (record_size order bytes) bytes
 
--- the frames of the whole records at the front are appended
+-- the frames of the whole records at the start are appended
 unfoldable pub read_from : ℕ → Format → Place → List Frame → List ℕ → Reached
 read_from cpu format next frames bytes = record {
   next = record {
@@ -54,7 +54,7 @@ pub record IsPart (order : Order) (bytes : List ℕ) : Type 0 where
 
 -- the kept bytes were completed from the piece, of which `fresh` is left
 pub record Completes (order : Order) (old new piece fresh : List ℕ) : Type 0 where
-  -- they are the front of the old ones and the piece
+  -- they are the prefix of the old ones and the piece
   pub front : new ++ drop (length new) (old ++ piece) ≡ old ++ piece
   -- nothing is lost, unless an oversized record ends the reading
   pub rest : begins_oversized order new ≡ false → new ++ fresh ≡ old ++ piece
@@ -63,7 +63,7 @@ pub record Completes (order : Order) (old new piece fresh : List ℕ) : Type 0 w
   -- while there is a part of a record, the piece is used up
   pub part : begins_whole order new ≡ false → (fresh ≡ []) ⊎ (new ≡ [])
 
--- fresh bytes were read behind kept ones, of which the first `read` had been read before
+-- fresh bytes were read after kept ones, of which the first `read` had been read before
 pub record IsRead (format : Format) (reached : Reached) (read : ℕ) (old : List ℕ) (progress : Progress) (new : List ℕ) (appended : List Frame) : Type 0 where
   pub next : progress.next ≡ reached.next
   pub frames : appended ≡ reached.frames
@@ -79,7 +79,7 @@ pub record Comes (format : Format) (reached : Reached) (progress : Progress) (ke
   pub cut : progress.cut ≤ length kept
   pub left : begins_oversized format.order reached.left ≡ false → drop progress.cut kept ≡ reached.left
 
--- the place before all bytes, and the place behind a header
+-- the place before all bytes, and the place after a header
 abbrev pub start : Place
 start = record { stop = 0; index = 0 }
 
@@ -112,7 +112,7 @@ stage_with Header beyond = if beyond then Damaged TooLarge else Header
 stage_with (Records format) beyond = if beyond then Damaged TooLarge else Records format
 stage_with (Damaged damage) beyond = Damaged damage
 
--- how a capture ends at a stage, where its last whole record ends at `stop`, and no byte is behind it or some
+-- how a capture ends at a stage, where its last whole record ends at `stop`, and no byte is after it or some
 abbrev pub end_at : Stage → ℕ → Bool → Option CaptureError
 end_at Header stop none_behind = Some (Truncated stop)
 end_at (Records format) stop none_behind = if none_behind then None else Some (Truncated stop)
@@ -124,7 +124,7 @@ kept_at Header bytes = bytes
 kept_at (Records format) bytes = bytes
 kept_at (Damaged damage) bytes = []
 
--- the kept bytes are no whole header, or no whole record; the damage is not want of memory
+-- the kept bytes are no whole header, or no whole record; the damage is never `Memory`
 abbrev pub IsSoundStage : Stage → List ℕ → Type 0
 IsSoundStage Header bytes = length bytes < 24
 IsSoundStage (Records format) bytes = IsPart format.order bytes

@@ -1,33 +1,31 @@
 //! A capture that comes in pieces.
 //!
-//! The header is gathered first. Then each piece completes the record of which bytes are kept, its further whole
-//! records are read where they lie, and what is behind them is kept for the next piece. Damage ends it all.
-ghost use Rattle.std.specs.Prelude.{◌≡◌, ◌≢◌, ◌≤◌, [], IsErrOf, Err};
+//! The first four bytes are gathered: they say the format, whose decoder is fed them and all that comes after them.
+ghost use Rattle.std.specs.Prelude.{◌≡◌, ◌≢◌, ◌≤◌, [], length, take, None, Some, IfOk, OnErr, IsErrOf, Err};
+ghost use Rattle.capture_file.specs.Decoding.{IsBegun};
 
 use crate::CaptureError;
-use crate::reading::{Place, cut_front, read_on};
-use crate::stage::Stage;
+use crate::format_decoder::FormatDecoder;
+use crate::reading::top_up;
 use frame_view::{Frames, Memory};
 use std::alloc::Global;
 use std::marker::Model;
 
-/// The number of bytes of a capture that count.
-const LARGEST_CAPTURE: usize = 33_554_432;
+/// The number of bytes that say the format.
+const MAGIC_SIZE: usize = 4;
 
-/// Reads a pcap capture of version 2.4 that is fed piece by piece, however it is cut. That no more than the first
-/// 33,554,432 bytes count, and no more than 262,144 bytes of a record, is this project's own choice.
+/// Reads a capture, pcap of version 2.4 or pcapng, that is fed piece by piece, however it is cut. That no more than the
+/// first 33,554,432 bytes count, and no more than 262,144 bytes of a packet, is this project's own choice.
 #[derive(Debug, Drop)]
 pub struct Decoder {
     /// Gives the memory for the frames.
     alloc: Global,
     /// The number that its frames carry.
     cpu: u32,
-    /// What comes next.
-    stage: Stage,
-    /// Where the kept bytes begin, and the number of the next frame.
-    next: Place,
-    /// The bytes behind the last whole record; none after damage.
-    kept: Vec<u8>,
+    /// The first bytes, as long as there are fewer than four.
+    start: Vec<u8>,
+    /// The decoder of the format that the first four bytes said.
+    format: Option<FormatDecoder>,
 }
 
 impl Model for Decoder {
@@ -41,7 +39,7 @@ impl Model for Decoder {
 }
 
 impl Decoder {
-    ghost use Rattle.capture_file.specs.Decoding.{Stands, StandsOn, AppendsNew, AnswersDamage, AnswersEnd, CountsKept, UnlessMemory};
+    ghost use Rattle.capture_file.specs.Decoding.{Stands, StandsOn, AppendsNew, IsDamage, AnswersDamage, AnswersEnd, CountsKept, UnlessMemory};
 
     /// A decoder that nothing was fed to. It takes no memory.
     pub fn new(alloc: Global, cpu: u32) -> Decoder
@@ -50,9 +48,8 @@ impl Decoder {
         Decoder {
             alloc,
             cpu,
-            stage: Stage::Header,
-            next: Place { stop: 0, index: 0 },
-            kept: Vec::new(alloc),
+            start: Vec::new(alloc),
+            format: None,
         }
     }
 
@@ -69,52 +66,101 @@ impl Decoder {
         // The error is the damage of all bytes that were fed, and comes exactly where there is one.
         ensures damage { UnlessMemory result (AnswersDamage self.old piece.now result) }
 
-        // After want of memory all is as before.
+        // After `Memory` all is as before.
         ensures decoder { IsErrOf result CaptureError.Memory → self.new ≡ self.old }
         ensures into { IsErrOf result CaptureError.Memory → into.new ≡ into.old }
     {
-        let frames = into.len();
-        let kept = self.kept.len();
-        let room = LARGEST_CAPTURE - (self.next.stop + kept);
-        let (counted, _) = piece.split_at(room.min(piece.len()));
-        let progress = read_on(
-            self.alloc,
-            self.cpu,
-            self.stage,
-            self.next,
-            &mut self.kept,
-            counted,
-            into,
-        );
-        let Ok(progress) = progress else {
-            self.kept.truncate(kept);
-            into.truncate(frames);
-            return Err(CaptureError::Memory);
-        };
-        self.next = progress.next;
-        self.stage = progress.stage.with(piece.len() > room);
-        if let Stage::Damaged(damage) = self.stage {
-            self.kept.clear();
-            return Err(damage);
+        match self.read_on(piece, into)? {
+            None => Ok(()),
+            Some(damage) => Err(damage),
         }
-        cut_front(&mut self.kept, progress.cut);
-        Ok(())
     }
 
-    /// How the capture ends where nothing more comes: its damage, or `Truncated` with the place of the header or
-    /// record that isn't whole. It takes no memory and is never `Memory`.
+    /// Takes the next bytes, and gives the damage, if there is any.
+    fn read_on(&mut self, piece: &[u8], into: &mut Frames) -> Result<Option<CaptureError>, Memory>
+        ensures stands { IfOk result (λ damage. StandsOn self.old self.new piece.now) }
+        ensures frames { IfOk result (λ damage.
+            AppendsNew self.old piece.now into.old into.new) }
+        ensures damage { IfOk result (λ damage. IsDamage self.old piece.now damage) }
+        ensures told { IfOk result (λ damage. damage ≢ Some CaptureError.Memory) }
+        ensures decoder { OnErr result (self.new ≡ self.old) }
+        ensures into { OnErr result (into.new ≡ into.old) }
+    {
+        match &mut self.format {
+            Some(decoder) => decoder.feed(piece, into),
+            None => self.begin(piece, into),
+        }
+    }
+
+    /// Gathers the first four bytes, and reads on in the format that they say.
+    fn begin(&mut self, piece: &[u8], into: &mut Frames) -> Result<Option<CaptureError>, Memory>
+        requires { self.old.format ≡ None }
+        ensures stands { IfOk result (λ damage. StandsOn self.old self.new piece.now) }
+        ensures frames { IfOk result (λ damage.
+            AppendsNew self.old piece.now into.old into.new) }
+        ensures damage { IfOk result (λ damage. IsDamage self.old piece.now damage) }
+        ensures told { IfOk result (λ damage. damage ≢ Some CaptureError.Memory) }
+        ensures decoder { OnErr result (self.new ≡ self.old) }
+        ensures into { OnErr result (into.new ≡ into.old) }
+    {
+        let gathered = self.start.len();
+        let after = top_up(&mut self.start, MAGIC_SIZE, piece)?;
+        if self.start.len() < MAGIC_SIZE {
+            return Ok(None);
+        }
+        let frames = into.len();
+        let begun = read_first(self.alloc, self.cpu, self.start.as_slice(), after, into);
+        let Ok((decoder, damage)) = begun else {
+            self.start.truncate(gathered);
+            into.truncate(frames);
+            return Err(Memory);
+        };
+        self.start.clear();
+        self.format = Some(decoder);
+        Ok(damage)
+    }
+
+    /// How the capture ends where nothing more comes: its damage, or `Truncated` with the place of the header, record or
+    /// block that isn't whole. It takes no memory and is never `Memory`.
     pub fn end(&self) -> Result<(), CaptureError>
         ensures end { AnswersEnd self.now result }
         ensures memory { result ≢ Err CaptureError.Memory }
     {
-        self.stage.end(self.next.stop, self.kept.is_empty())
+        match &self.format {
+            Some(decoder) => decoder.end(),
+            None => Err(CaptureError::Truncated(0)),
+        }
     }
 
-    /// The number of bytes that are kept: those behind the last whole record, none after damage. It takes no memory.
+    /// The number of bytes that are kept: those after the last whole record or block, at most 3 of a block that is
+    /// skipped, none after damage. It takes no memory.
     pub fn rest(&self) -> u32
         ensures kept { CountsKept self.now result }
-        ensures few { result ≤ 262159 }
+        ensures few { result ≤ 524287 }
     {
-        self.kept.len() as u32
+        match &self.format {
+            Some(decoder) => decoder.rest(),
+            None => self.start.len() as u32,
+        }
     }
+}
+
+/// Reads the first four bytes of a capture and those after them, in the format that they say.
+fn read_first(
+    alloc: Global,
+    cpu: u32,
+    first: &[u8],
+    after: &[u8],
+    into: &mut Frames,
+) -> Result<(FormatDecoder, Option<CaptureError>), Memory>
+    requires { length first.now ≡ 4 }
+    ensures ok { IfOk result (λ begun.
+        IsBegun cpu first.now after.now begun.0 begun.1 into.old into.new) }
+    ensures told { IfOk result (λ begun. begun.1 ≢ Some CaptureError.Memory) }
+    ensures front { take (length into.old) into.new ≡ into.old }
+{
+    let mut decoder = FormatDecoder::new(alloc, cpu, first);
+    decoder.feed(first, into)?;
+    let damage = decoder.feed(after, into)?;
+    Ok((decoder, damage))
 }

@@ -3,26 +3,27 @@ ghost use Rattle.std.specs.Prelude.{◌≡◌};
 ghost use Rattle.capture_file.specs.declared.error.CaptureError.TheVariants.{Memory};
 
 use frame_view::Memory;
+use pcapng_blocks::BlockError;
 use std::alloc::{AllocError, AllocFailed};
 
-/// What is wrong with a capture, each place counted in bytes from its begin, or want of memory.
+/// What is wrong with a capture, each place counted in bytes from its start, or that memory ran out.
 #[derive(Clone, Copy, Debug, PartialEq, Eq)]
 pub enum CaptureError {
-    /// The magic is none of pcap's four.
+    /// The magic is none of pcap's four, or a pcapng section's byte-order magic is 0x1a2b3c4d in neither byte order.
     BadMagic,
-    /// The version isn't 2.4.
+    /// The version isn't pcap's 2.4, or a pcapng section's major version isn't 1.
     BadVersion,
-    /// The link type isn't Ethernet; the whole link field.
+    /// The link type isn't Ethernet; the whole link field of pcap, or an interface's link type.
     BadLink(u32),
-    /// A length that no record may have; the place of its record.
+    /// A length that a record or block may not have; the place of that record or block.
     BadLength(u64),
-    /// The capture ends within its header or a record; the place where that begins.
+    /// The capture ends within its header, a record or a block; the place where that begins.
     Truncated(u64),
     /// The capture has more than 33,554,432 bytes.
     TooLarge,
     /// A request for memory was refused. It says nothing of the capture.
     Memory,
-    /// A block names an interface that isn't there; the place of that block.
+    /// A packet names an interface that its section doesn't have; the place of its block.
     BadInterface(u64),
 }
 
@@ -47,5 +48,23 @@ impl<T: Drop> From<AllocFailed<T>> for CaptureError {
 
     fn from(_: AllocFailed<T>) -> CaptureError {
         CaptureError::Memory
+    }
+}
+
+impl From<BlockError> for CaptureError {
+    ghost use Rattle.capture_file.specs.Capture.{error_from};
+
+    ghost from_gives = { λ fault e. e ≡ error_from fault };
+
+    fn from(fault: BlockError) -> CaptureError {
+        match fault {
+            BlockError::BadMagic => CaptureError::BadMagic,
+            BlockError::BadVersion => CaptureError::BadVersion,
+            BlockError::BadLink(link) => CaptureError::BadLink(link),
+            BlockError::BadLength(place) => CaptureError::BadLength(place),
+            BlockError::BadInterface(place) => CaptureError::BadInterface(place),
+            BlockError::Truncated(place) => CaptureError::Truncated(place),
+            BlockError::TooLarge => CaptureError::TooLarge,
+        }
     }
 }

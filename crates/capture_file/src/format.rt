@@ -1,6 +1,6 @@
-//! The header of a capture, and how the numbers behind it are read (pcap 2.4).
+//! The header of a capture, and how the numbers after it are read (pcap 2.4).
 ghost use Rattle.std.specs.Prelude.{◌≡◌, ◌+◌, ◌≤◌, length};
-ghost use Rattle.capture_file.specs.Capture.{number_at, header_of, format_in, unit_of};
+ghost use Rattle.capture_file.specs.Pcap.{number_at, header_of, format_in, unit_of};
 
 use crate::CaptureError;
 use byteorder::{BigEndian, ByteOrder, LittleEndian};
@@ -28,7 +28,7 @@ pub(crate) enum Order {
 
 impl Order {
     /// The number in the four bytes from a place.
-    #[tactic(auto, unfolding(crate::specs::Capture::number_at))]
+    #[tactic(auto, unfolding(crate::specs::Pcap::number_at))]
     pub(crate) fn u32_at(self, bytes: &[u8], at: usize) -> u32
         requires { at + 4 ≤ length bytes.now }
         ensures { result ≡ number_at self 4 at bytes.now }
@@ -41,7 +41,7 @@ impl Order {
     }
 
     /// The number in the two bytes from a place.
-    #[tactic(auto, unfolding(crate::specs::Capture::number_at))]
+    #[tactic(auto, unfolding(crate::specs::Pcap::number_at))]
     fn u16_at(self, bytes: &[u8], at: usize) -> u16
         requires { at + 2 ≤ length bytes.now }
         ensures { result ≡ number_at self 2 at bytes.now }
@@ -64,7 +64,7 @@ pub(crate) struct Format {
 }
 
 /// What a header says, whose magic, version and link are tested in this order.
-#[tactic(auto, unfolding(crate::specs::Capture::header_of))]
+#[tactic(auto, unfolding(crate::specs::Pcap::header_of))]
 pub(crate) fn read_header(bytes: &[u8]) -> Result<Format, CaptureError>
     requires { 24 ≤ length bytes.now }
     ensures { result ≡ header_of bytes.now }

@@ -28,7 +28,7 @@ pub fn damage_stays()
         → frames_of cpu (fed ++ more) ≡ frames_of cpu fed }
 {}
 
-/// Damage and end are named by what is wrong with the capture, and never by want of memory.
+/// Damage and end are named by what is wrong with the capture, and never by `Memory`.
 pub fn damage_is_not_memory()
     ensures damage { (fed : List ℕ) → damage_of fed ≢ Some CaptureError.Memory }
     ensures end { (fed : List ℕ) → end_of fed ≢ Some CaptureError.Memory }

@@ -1,4 +1,4 @@
-//! Captures in the pcap format: a decoder that is fed piece by piece, and the output file of packets.
+//! Captures in the formats pcap and pcapng: a decoder that is fed piece by piece, and the output file of packets.
 #![tactic(auto)]
 
 mod cpu_end;
@@ -6,8 +6,10 @@ mod decoder;
 mod endings;
 mod error;
 mod format;
+mod format_decoder;
 mod laws;
 mod output;
+mod pcap_decoder;
 mod reading;
 mod stage;
 

@@ -63,7 +63,7 @@ fn original(packet: &Packet) -> u32
     }
 }
 
-/// Appends the frame of a packet: its bytes, with its tag put back behind the two addresses.
+/// Appends the frame of a packet: its bytes, with its tag put back after the two addresses.
 fn push_frame(text: &mut Vec<u8>, packet: &Packet) -> Result<(), Memory>
     ensures { OnOk result (text.new.items ≡ text.old.items ++ frame_of packet.now) }
 {

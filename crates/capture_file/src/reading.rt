@@ -1,6 +1,6 @@
 //! Records read from bytes, in one pass: each whole record's bytes are copied once, into its frame.
 ghost use Rattle.std.specs.Prelude.{◌≡◌, ◌+◌, ◌*◌, ◌-◌, ◌≤◌, ◌<◌, ◌⊎◌, [], ◌++◌, false, true, length, take, drop, IfOk, OnOk, OnErr, IfSome, MatchOption};
-ghost use Rattle.capture_file.specs.Capture.{begins_whole, begins_oversized, record_size, frame_of_record};
+ghost use Rattle.capture_file.specs.Pcap.{begins_whole, begins_oversized, record_size, frame_of_record};
 ghost use Rattle.capture_file.specs.Reading.{BeginsWith, place_behind, read_from, IsPart, Completes, IsRead, Comes, Begins, Feeds, IsSoundAt, kept_at};
 
 use crate::CaptureError;
@@ -49,7 +49,7 @@ pub(crate) struct Reader {
     pub format: Format,
 }
 
-/// Reads on in a capture at a stage, with kept bytes and a piece behind them. Frames and bytes are only appended, so
+/// Reads on in a capture at a stage, with kept bytes and a piece after them. Frames and bytes are only appended, so
 /// that what was there can be had back after `Memory`.
 pub(crate) fn read_on(
     alloc: Global,
@@ -86,7 +86,7 @@ pub(crate) fn read_on(
     }
 }
 
-/// Gathers a capture's header, and reads on behind it.
+/// Gathers a capture's header, and reads on after it.
 fn begin(
     alloc: Global,
     cpu: u32,
@@ -128,7 +128,7 @@ fn begin(
 }
 
 impl Reader {
-    /// Reads on behind the header: the record of which bytes are kept, and then those in the piece.
+    /// Reads on after the header: the record of which bytes are kept, and then those in the piece.
     fn go_on(
         self,
         next: Place,
@@ -152,7 +152,7 @@ impl Reader {
         self.read_fresh(next, cut, kept, fresh, into)
     }
 
-    /// Reads the whole records of fresh bytes, of which none is kept, and keeps what is behind them.
+    /// Reads the whole records of fresh bytes, of which none is kept, and keeps what is after them.
     #[tactic(auto, unfolding(crate::specs::Reading::stage_at))]
     fn read_fresh(
         self,
@@ -182,8 +182,8 @@ impl Reader {
         Ok(Progress { stage, next, cut })
     }
 
-    /// Appends the frames of the whole records at the front of the bytes, the first of which is at `next`. It gives
-    /// the place behind them, and the bytes from there on.
+    /// Appends the frames of the whole records at the start of the bytes, the first of which is at `next`. It gives
+    /// the place after them, and the bytes from there on.
     fn read_records<'a>(
         self,
         next: Place,
@@ -211,7 +211,7 @@ impl Reader {
     }
 
     /// The frame of a whole record.
-    #[tactic(auto, unfolding(crate::specs::Capture::frame_of_record))]
+    #[tactic(auto, unfolding(crate::specs::Pcap::frame_of_record))]
     fn frame(self, index: u32, bytes: &[u8]) -> Result<Frame, Memory>
         requires { 16 ≤ length bytes.now }
         ensures { IfOk result (λ frame.
@@ -233,7 +233,7 @@ impl Reader {
 }
 
 impl Place {
-    /// The place behind a record that begins here.
+    /// The place after a record that begins here.
     fn behind(self, bytes: &[u8]) -> Place
         requires size { 16 ≤ length bytes.now }
         requires count { 16 * self.index ≤ self.stop }
@@ -247,8 +247,8 @@ impl Place {
     }
 }
 
-/// The whole record at the front, and what is behind it. `None` where none is whole or it is oversized.
-#[tactic(auto, unfolding(crate::specs::Capture::begins_whole))]
+/// The whole record at the start, and what is after it. `None` where none is whole or it is oversized.
+#[tactic(auto, unfolding(crate::specs::Pcap::begins_whole))]
 fn first_record(order: Order, bytes: &[u8]) -> Option<(&[u8], &[u8])>
     ensures size { IfSome result (λ x. 16 ≤ length x.0.now) }
     ensures parts { IfSome result (λ x. length x.0.now + length x.1.now ≡ length bytes.now) }
@@ -270,7 +270,7 @@ fn first_record(order: Order, bytes: &[u8]) -> Option<(&[u8], &[u8])>
 }
 
 /// Whether the bytes begin with the header of an oversized record.
-#[tactic(auto, unfolding(crate::specs::Capture::begins_oversized))]
+#[tactic(auto, unfolding(crate::specs::Pcap::begins_oversized))]
 fn begins_oversized(order: Order, bytes: &[u8]) -> bool
     ensures { result ≡ begins_oversized order bytes.now }
 {
@@ -278,7 +278,7 @@ fn begins_oversized(order: Order, bytes: &[u8]) -> bool
 }
 
 /// Appends to the kept bytes of a record, where there are any, what completes it, and gives the bytes of the piece
-/// behind that; none where the record is oversized.
+/// after that; none where the record is oversized.
 fn complete<'a>(order: Order, kept: &mut Vec<u8>, piece: &'a [u8]) -> Result<&'a [u8], Memory>
     requires { IsPart order kept.old.items }
     ensures ok { IfOk result (λ fresh.
@@ -301,8 +301,12 @@ fn complete<'a>(order: Order, kept: &mut Vec<u8>, piece: &'a [u8]) -> Result<&'a
     top_up(kept, RECORD_HEADER_SIZE + captured as usize, behind)
 }
 
-/// Appends bytes of the piece to the kept ones until there are `size`, and gives the bytes behind those.
-fn top_up<'a>(kept: &mut Vec<u8>, size: usize, piece: &'a [u8]) -> Result<&'a [u8], Memory>
+/// Appends bytes of the piece to the kept ones until there are `size`, and gives the bytes after those.
+pub(crate) fn top_up<'a>(
+    kept: &mut Vec<u8>,
+    size: usize,
+    piece: &'a [u8],
+) -> Result<&'a [u8], Memory>
     ensures kept { OnOk result
         (kept.new.items ≡ kept.old.items ++ take (size - length kept.old.items) piece.now) }
     ensures behind { IfOk result (λ behind.
@@ -315,7 +319,7 @@ fn top_up<'a>(kept: &mut Vec<u8>, size: usize, piece: &'a [u8]) -> Result<&'a [u
     Ok(behind)
 }
 
-/// Takes bytes out at the front.
+/// Takes bytes out at the start.
 pub(crate) fn cut_front(kept: &mut Vec<u8>, cut: usize)
     requires { cut ≤ length kept.old.items }
     ensures { kept.new.items ≡ drop cut kept.old.items }

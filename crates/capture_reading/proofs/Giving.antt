@@ -15,7 +15,7 @@ use Rattle.tap_outside.specs.Seen.{SourceSeen}
 use Rattle.tap_outside.proofs.Consumed.{Consumes-more, Consumes-none}
 use Rattle.capture_reading.specs.Sources.{EndsAtDamage, FailedToGive, GavePiece, Giving, UnlessFault, WhereEnded, WhereFault, end_by}
 
--- the answer isn't want of memory
+-- the answer isn't `Memory`
 pub told : {P : Type 0} → (damage : CaptureError) → is_want damage ≡ false
     → UnlessMemory {X = Unit {0}} (Err damage) P → P
 told errors.Memory ne h = cc

@@ -21,7 +21,7 @@ use Rattle.ring_model.specs.Ring.{IsWholeRun}
 use Rattle.ring_model.specs.declared.notes.Note.{Note}
 use Rattle.run_reports.specs.Jobs.{arriving_of, rules_of}
 use Rattle.run_reports.specs.Reports.{logged}
-use Rattle.run_reports.proofs.Arriving.{AreNumbered, arrive, some_members}
+use Rattle.run_reports.proofs.ArrivalOrder.{AreNumbered, arrive, some_members}
 use Rattle.setup_text.specs.Sound.{IsSetup}
 use Rattle.setup_text.specs.declared.jobs.Job.{Job}
 use Rattle.tap_outside.specs.Seen.{SourceSeen}

@@ -28,7 +28,7 @@ seats_of cpus = map (λ cpu. cpu.seat) cpus
 abbrev pub stands_at : ℕ → Seat → List CpuLeft → List Seat
 stands_at member none cpus = map (λ cpu. slice_index_or cpu.stands member none) cpus
 
--- the stands of the CPUs at a member, and behind them the timer's
+-- the stands of the CPUs at a member, and after them the timer's
 abbrev pub all_stands_at : ℕ → Seat → List CpuLeft → List Seat → List Seat
 all_stands_at member none cpus timer =
     stands_at member none cpus ++ slice_index_or timer member none ∷ []

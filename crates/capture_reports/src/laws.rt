@@ -72,7 +72,7 @@ pub fn threads_report_a_run()
     a_group_s_report_is_that_of_a_run();
 }
 
-/// And it tells the moments of the ticks, and what each ring held.
+/// And it reports the moments of the ticks, and what each ring held.
 pub fn threads_report_a_capture()
     ensures { (job : Job) (moments : List ℕ) (bytes : List (List ℕ)) (ends : List CpuEnd)
         (notes : List (List Note)) (rings : List (Pends ShapedBytes)) (report : RunReport)

@@ -76,7 +76,7 @@ fn capture_made<R: Threads + Wait + Sync>(
     Ok((answer, String::from_str(alloc, printed)?))
 }
 
-/// The sum of the numbers behind a word, over the lines that begin with another one.
+/// The sum of the numbers after a word, over the lines that begin with another one.
 fn sum_of(text: &str, first: &str, name: &str) -> usize {
     let mut sum: usize = 0;
     for line in text.lines() {

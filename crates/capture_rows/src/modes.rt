@@ -19,7 +19,7 @@ const PING: Shape<'static> = (
 );
 
 /// A member that nothing came to, and one that one frame came to or eight: each needs 144 bytes,
-/// behind 48 of the block.
+/// after 48 of the block.
 const NONE: Kept<'static> = Kept {
     frames: &[],
     blocks: &[],

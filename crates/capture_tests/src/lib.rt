@@ -9,4 +9,6 @@ mod feeding;
 #[cfg(test)]
 mod output_files;
 #[cfg(test)]
+mod pcapng_pieces;
+#[cfg(test)]
 mod spellings;

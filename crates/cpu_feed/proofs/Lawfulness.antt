@@ -3,7 +3,7 @@ use Rattle.std.proofs.Common.{◌≡◌, ℕ, zero, suc, ◌+◌, List, [], ◌�
 use Rattle.std.specs.Prelude.{OnOk, Result, slice_get}
 use Rattle.std.proofs.lemmas.Result.{on_ok_weaker}
 use Rattle.frame_view.specs.declared.frames.Frame.{Frame}
-use Rattle.fanout_group.specs.Judging.{IsJudged, Lens, rules_by}
+use Rattle.fanout_group.specs.Judgements.{IsJudged, Lens, rules_by}
 use Rattle.fanout_group.specs.Paths.{IsPath, IsPathBehind, IsPathTo, Path}
 use Rattle.fanout_group.specs.Rules.{Rules}
 use Rattle.fanout_group.specs.declared.logs.ArrivalLog.{ArrivalLog}

@@ -2,4 +2,4 @@ mod Piecewise
 mod Totals
 mod Lawfulness
 pub mod ClosedOnes
-mod Knowing
+mod SourceFacts

@@ -1,6 +1,6 @@
 -- What holds of a CPU's source, its decoder and the frames that wait, from one piece to the next.
-use Rattle.std.proofs.Common.{◌≡◌, ℕ, append_assoc, subst, ◌+◌, ◌<◌, ◌≤◌, List, [], ◌∷◌, ◌++◌, length, drop, zero, suc, Option, None, Some, refl, sym, ap, ◌∙◌, arith, length-append}
-use Rattle.std.specs.Prelude.{IsSome, ◌==◌, true}
+use Rattle.std.proofs.Common.{◌≡◌, ℕ, append_assoc, subst, ◌+◌, ◌-◌, ◌<◌, ◌≤◌, List, [], ◌∷◌, ◌++◌, length, drop, zero, suc, Option, None, Some, refl, sym, ap, ◌∙◌, arith, length-append}
+use Rattle.std.specs.Prelude.{IsSome, ◌==◌, false, if◌then◌else◌, is_some, true}
 use Rattle.std.proofs.lemmas.Bool.{eqb-true}
 use Rattle.std.proofs.lemmas.List.{length-drop}
 use Rattle.frame_view.specs.declared.frames.Frame.{Frame}
@@ -13,7 +13,7 @@ use Rattle.capture_reading.specs.Pieces.{Decodes, ended_by}
 use Rattle.capture_reading.specs.Sources.{FailedToGive, GavePiece, Giving, end_by}
 use Rattle.tap_outside.specs.Seen.{SourceSeen}
 use Rattle.capture_reading.proofs.Giving.{IsTheEnd, IsUncut, end_gives, fault_gives, gave_nothing, is_small, none_gives, none_shown, piece_gives}
-use Rattle.cpu_feed.specs.Feeding.{Feeding, HasRead, IsAllOf, IsFed, frames_in}
+use Rattle.cpu_feed.specs.Feeding.{Feeding, HasRead, IsAllOf, IsFed, frames_in, unread}
 
 -- a capture of more bytes shows damage
 abbrev pub AreTooMany : Type 0
@@ -182,3 +182,24 @@ read_more cpu now grown after more is unended frames =
       rest_is = refl;
       all = λ all h. grows_all all (frames_in cpu) (frames_of cpu.number grown) more after cpu.ended unended frames h;
     })
+
+-- ---- what is still unread
+
+some_byte : (bytes : List ℕ) → false ≡ (length bytes == 0) → 1 ≤ length bytes
+some_byte [] e = cc
+some_byte (byte ∷ bytes) e = omega arith
+
+lower : (now before : Option CpuEnd) (many few : ℕ) → before ≡ None → few < many → few ≤ 33554432
+    → (if is_some now then 0 else 33554433 - many) < (if is_some before then 0 else 33554433 - few)
+lower now (Some end) many few e more small = some_none end _ e
+lower None None many few e more small = omega (arith, more, small)
+lower (Some end) None many few e more small = omega (arith, small)
+
+-- a piece of a byte or more leaves less
+pub reads_less : AreTooMany → (cpu now : Feeding) (grown took piece : List ℕ) (after : Option CpuEnd) → cpu ≡ now → cpu.ended ≡ None
+    → damage_of cpu.bytes ≡ None → piece ≡ took → false ≡ (length piece == 0) → grown ≡ cpu.bytes ++ took
+    → (if is_some after then 0 else 33554433 - length grown) < unread now
+reads_less many cpu now grown took piece after is unended sound same some grown_is =
+    let longer = ap (λ (b : List ℕ). length b) (grown_is ∙ ap (λ (p : List ℕ). cpu.bytes ++ p) (sym same)) ∙ length-append cpu.bytes piece in
+    subst (λ (old : Feeding). (if is_some after then 0 else 33554433 - length grown) < unread old) is
+    (lower after cpu.ended (length grown) (length cpu.bytes) unended (omega (arith, longer, some_byte piece some)) (is_small cpu.bytes sound (many cpu.bytes)))

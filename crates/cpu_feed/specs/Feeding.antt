@@ -85,7 +85,7 @@ pub record HasRead (old new : Feeding) : Type 0 where
 abbrev pub IsReady : Feeding → Type 0
 IsReady cpu = cpu.ended ≡ None → cpu.fed < length (frames_in cpu)
 
--- the CPU behind the frame that is fed next, if there is one
+-- the CPU after the frame that is fed next, if there is one
 abbrev pub behind : Option Frame → Feeding → Feeding
 behind None cpu = cpu
 behind (Some frame) cpu = record cpu { fed = cpu.fed + 1 }

@@ -1,7 +1,7 @@
 -- When the log of a CPU whose source is read a piece at a time is lawful: over the frames that were
 -- fed, of all frames of its source.
 use Rattle.std.specs.Prelude.{ℕ, List, take, Option}
-use Rattle.fanout_group.specs.Judging.{IsJudged, Lens, rules_by}
+use Rattle.fanout_group.specs.Judgements.{IsJudged, Lens, rules_by}
 use Rattle.fanout_group.specs.Paths.{IsPath, IsPathBehind, IsPathTo}
 use Rattle.fanout_group.specs.Rules.{Rules}
 use Rattle.fanout_group.specs.declared.logs.ArrivalLog.{ArrivalLog}

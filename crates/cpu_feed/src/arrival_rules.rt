@@ -1,6 +1,6 @@
 //! What the arrivals of a CPU are looked at with.
 ghost use Rattle.std.specs.Prelude.{◌≡◌, ◌%◌, ◌<◌};
-ghost use Rattle.fanout_group.specs.Judging.{AgreesAt};
+ghost use Rattle.fanout_group.specs.Judgements.{AgreesAt};
 ghost use Rattle.fanout_group.specs.Lenses.{lens_of};
 ghost use Rattle.setup_text.specs.Sound.{IsSetup};
 ghost use Rattle.run_reports.specs.Jobs.{lens_of as lens_of_job};

@@ -9,7 +9,7 @@ ghost use Rattle.std.specs.Prelude.{◌≡◌, ◌≢◌, ◌+◌, ◌<◌, ◌�
 ghost use Rattle.capture_file.specs.Laws.{IsCaptured};
 ghost use Rattle.capture_file.specs.declared.cpu_end.CpuEnd.TheVariants.{Fault};
 ghost use Rattle.fanout_group.specs.Arrivals.{HasPlaceOf, IsArrival, arrival_at, held_behind};
-ghost use Rattle.fanout_group.specs.Judging.{Lens};
+ghost use Rattle.fanout_group.specs.Judgements.{Lens};
 ghost use Rattle.fanout_group.specs.Paths.{IsPath, IsPathBehind, first_path, logged};
 ghost use Rattle.fanout_group.specs.Plans.{has_defrag, rolls_over};
 ghost use Rattle.fanout_group.specs.Routes.{IsRoute};

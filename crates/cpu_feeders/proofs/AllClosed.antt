@@ -15,11 +15,11 @@ use Rattle.ticket_dealer.specs.Seats.{DealerValue, IsFreshOf, IsSeatOf, SeatValu
 use Rattle.tp_layout.specs.Writing.{ShapedBytes}
 use Rattle.tp_layout.specs.declared.requests.RingRequest.{RingRequest}
 use Rattle.cpu_feeders.specs.Closings.{AllAtEnd, AllClosedWith, AreAtEnd, IsClosedWith}
-use Rattle.cpu_feeders.specs.Hiring.{IsFreshReader, IsMemberOf}
+use Rattle.cpu_feeders.specs.FreshWorkers.{IsFreshReader, IsMemberOf}
 use Rattle.cpu_feeders.specs.Runs.{AreTakersOf}
 use Rattle.cpu_feeders.specs.Walks.{taken_of}
-use Rattle.cpu_feeders.specs.Working.{IsWalkedOut}
-use Rattle.cpu_feeders.specs.declared.closing.Closed.{Closed}
+use Rattle.cpu_feeders.specs.WorkerEffects.{IsWalkedOut}
+use Rattle.cpu_feeders.specs.declared.closed_members.Closed.{Closed}
 use Rattle.cpu_feeders.specs.declared.walker.Walker.{Walker}
 
 module _ {T : Type 0} where

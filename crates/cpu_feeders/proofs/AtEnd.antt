@@ -11,10 +11,10 @@ use Rattle.setup_text.specs.declared.jobs.Job.{Job}
 use Rattle.ticket_dealer.specs.Seats.{DealerValue, IsFreshOf}
 use Rattle.turn_lock.specs.Seats.{IsIdleSeatOf}
 use Rattle.cpu_feeders.specs.Closings.{AllAtEnd, AreAtEnd}
-use Rattle.cpu_feeders.specs.Hiring.{IsFreshReader, IsMemberOf, IsReaderAt}
+use Rattle.cpu_feeders.specs.FreshWorkers.{IsFreshReader, IsMemberOf, IsReaderAt}
 use Rattle.cpu_feeders.specs.Stands.{with_all}
 use Rattle.cpu_feeders.specs.Walks.{Walks}
-use Rattle.cpu_feeders.specs.Working.{IsWalkedOut}
+use Rattle.cpu_feeders.specs.WorkerEffects.{IsWalkedOut}
 use Rattle.cpu_feeders.specs.declared.feeder.Feeder.{Feeder}
 use Rattle.cpu_feeders.specs.declared.walker.Walker.{Walker}
 use Rattle.cpu_feeders.proofs.FedFeeders.{Outs, idle_at, stands_in, stands_long}

@@ -39,7 +39,7 @@ pub note_send : IsSend Note.the_row
 note_send = search (sendable, crosses, frame_send) depth 40
 
 pub decoder_send : IsSend Decoder.the_row
-decoder_send = search (sendable, crosses) depth 40
+decoder_send = search (sendable, crosses) depth 60 fits 20000
 
 fragment_send : IsSend Fragment.the_row
 fragment_send = search (sendable, crosses, frame_send) depth 40

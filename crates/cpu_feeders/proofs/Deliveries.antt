@@ -6,7 +6,7 @@ use Rattle.capture_model.specs.Tried.{IsDelivered}
 use Rattle.cpu_feed.specs.Feeding.{Feeding, IsAllOfCpu}
 use Rattle.cpu_feed.specs.Lawful.{IsLawful}
 use Rattle.fanout_group.specs.Joined.{AreNotesOf, attempts_at, tickets_of}
-use Rattle.fanout_group.specs.Judging.{IsJudged, Lens, hash_by, rules_by, verdict_by}
+use Rattle.fanout_group.specs.Judgements.{IsJudged, Lens, hash_by, rules_by, verdict_by}
 use Rattle.fanout_group.specs.Paths.{IsPathTo, logged}
 use Rattle.fanout_group.specs.Plans.{Shape}
 use Rattle.fanout_group.specs.declared.logs.ArrivalLog.{ArrivalLog}

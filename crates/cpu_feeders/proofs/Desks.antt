@@ -3,7 +3,7 @@ use Rattle.std.proofs.Common.{◌≡◌, ◌<◌, ◌≤◌, ◌-◌, ◌^◌, �
 use Rattle.std.specs.Prelude.{IfSome, OnOk, Result, Ok, Err}
 use Rattle.cpu_feed.specs.Feeding.{Feeding}
 use Rattle.cpu_feed.specs.Lawful.{LogsLawfully}
-use Rattle.fanout_group.specs.Judging.{Lens}
+use Rattle.fanout_group.specs.Judgements.{Lens}
 use Rattle.fanout_group.specs.Paths.{logged}
 use Rattle.fanout_group.specs.Rules.{HasTicket}
 use Rattle.fanout_group.specs.declared.logs.ArrivalLog.{ArrivalLog}

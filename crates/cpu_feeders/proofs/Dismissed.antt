@@ -26,13 +26,13 @@ use Rattle.ticket_dealer.specs.Seats.{AreDealt, DealerValue, IsFreshOf, IsSeatOf
 use Rattle.tp_layout.specs.Writing.{ShapedBytes}
 use Rattle.cpu_feeders.specs.Closings.{AllAtEnd, AllClosedWith}
 use Rattle.cpu_feeders.specs.Crews.{HaveWorked}
-use Rattle.cpu_feeders.specs.Hiring.{IsFreshReader, IsMemberOf, first_feeds}
-use Rattle.cpu_feeders.specs.Parting.{feeders_in, is_full, timers_in, walkers_in}
+use Rattle.cpu_feeders.specs.FreshWorkers.{IsFreshReader, IsMemberOf, first_feeds}
+use Rattle.cpu_feeders.specs.WorkerKinds.{feeders_in, is_full, timers_in, walkers_in}
 use Rattle.cpu_feeders.specs.Runs.{AreTakersOf, IsTakerRun}
 use Rattle.cpu_feeders.specs.Stands.{with_all}
 use Rattle.cpu_feeders.specs.Timing.{TimesOut}
-use Rattle.cpu_feeders.specs.Working.{IsFedOut, IsWalkedOut}
-use Rattle.cpu_feeders.specs.declared.closing.Closed.{Closed}
+use Rattle.cpu_feeders.specs.WorkerEffects.{IsFedOut, IsWalkedOut}
+use Rattle.cpu_feeders.specs.declared.closed_members.Closed.{Closed}
 use Rattle.cpu_feeders.specs.declared.feeder.Feeder.{Feeder}
 use Rattle.cpu_feeders.specs.declared.timer.Timer.{Timer}
 use Rattle.cpu_feeders.specs.declared.walker.Walker.{Walker}

@@ -2,7 +2,7 @@
 use Rattle.std.proofs.Common.{◌≡◌, ◌<◌, ◌≤◌, ℕ, zero, suc, List, [], ◌∷◌, ◌++◌, length, take, refl, ap, ◌∙◌, subst, arith, get_or, length-append}
 use Rattle.capture_model.specs.Ticks.{ticks_of}
 use Rattle.member_turns.specs.Seats.{IsReady, Lock, Seat, moment_from, moment_of, own_of}
-use Rattle.member_turns.specs.Turning.{IsTickTurn}
+use Rattle.member_turns.specs.TurnEffects.{IsTickTurn}
 use Rattle.ring_model.specs.declared.notes.Found.{Found}
 use Rattle.ring_model.specs.declared.notes.Note.{Note}
 use Rattle.ring_model.specs.declared.notes.Note.TheVariants.{Kept, Refused, Dropped, Ticked, Counted, Finished}
@@ -38,7 +38,7 @@ rises before [] i d rising below = absurd (omega (arith, below))
 rises before (x ∷ moments) zero d rising below = rising.0
 rises before (x ∷ moments) (suc i) d rising below = rises x moments i d rising.2 (omega (arith, below))
 
--- so the next moment isn't before the last one that was told
+-- so the next moment isn't before the last one that was reported
 pub not_before : (moments : List ℕ) (i d : ℕ) (lock : Lock) (seat : Seat) → AreRising 0 moments → i < length moments
     → IsTimed (take i moments) lock seat → moment_of (own_of lock seat) ≤ get_or moments i d
 not_before moments i d lock seat rising below timed =

@@ -3,7 +3,7 @@ use Rattle.std.specs.Prelude.{◌≡◌, ℕ, false, List, [], ◌∷◌, length
 use Rattle.std.specs.List.{AllByRecursion}
 use Rattle.capture_reports.specs.Closed.{IsClosedOver}
 use Rattle.cpu_feeders.specs.Walks.{Walks, taken_of}
-use Rattle.cpu_feeders.specs.declared.closing.Closed.{Closed}
+use Rattle.cpu_feeders.specs.declared.closed_members.Closed.{Closed}
 use Rattle.cpu_feeders.specs.declared.walker.Walker.{Walker}
 use Rattle.member_turns.specs.Entries.{table_numbers}
 use Rattle.member_turns.specs.Seats.{Lock, Seat}

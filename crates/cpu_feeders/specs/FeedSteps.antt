@@ -5,7 +5,7 @@ use Rattle.cpu_feed.specs.Lawful.{IsLawful, LogsLawfully}
 use Rattle.capture_reports.specs.Feeders.{HasFed, IsFedAt}
 use Rattle.fanout_group.specs.Arrivals.{arrivals_of}
 use Rattle.fanout_group.specs.Joined.{tickets_of}
-use Rattle.fanout_group.specs.Judging.{Lens}
+use Rattle.fanout_group.specs.Judgements.{Lens}
 use Rattle.fanout_group.specs.Paths.{IsPathTo, logged}
 use Rattle.fanout_group.specs.Plans.{has_defrag}
 use Rattle.fanout_group.specs.declared.logs.ArrivalLog.{ArrivalLog}

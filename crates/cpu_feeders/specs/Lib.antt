@@ -3,9 +3,9 @@ pub mod Walks
 pub mod Stands
 pub mod Openings
 pub mod Feeds
-pub mod Working
-pub mod Hiring
-pub mod Parting
+pub mod WorkerEffects
+pub mod FreshWorkers
+pub mod WorkerKinds
 pub mod Closings
 pub mod Crews
 pub mod Readers

@@ -2,7 +2,7 @@
 use Rattle.std.specs.Prelude.{◌≡◌, ℕ, ◌<◌, false, List, length, slice_index_or}
 use Rattle.capture_reports.specs.Timing.{AreTimed}
 use Rattle.member_turns.specs.Seats.{IsReady, Lock, Seat}
-use Rattle.member_turns.specs.Turning.{IsTickTurn}
+use Rattle.member_turns.specs.TurnEffects.{IsTickTurn}
 use Rattle.cpu_feeders.specs.declared.timer.Timer.{Timer}
 
 -- a ready stand of the timer at each member

@@ -1,18 +1,18 @@
 //! A run with threads: feeders, a timer and readers.
 #![tactic(auto)]
 
-mod closing;
+mod closed_members;
+mod ended_workers;
 mod feeder;
+mod fresh_workers;
 mod gate;
-mod gathering;
-mod hiring;
-mod opening;
-mod parting;
+mod open_groups;
 mod stands;
 mod takers;
 mod timer;
 mod walker;
 mod worker;
+mod worker_kinds;
 mod workers;
 
 pub use feeder::{Feeder, run_feeder};

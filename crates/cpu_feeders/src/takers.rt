@@ -2,17 +2,17 @@
 ghost use Rattle.std.specs.Prelude.{◌≡◌, ◌++◌, ℕ, List, Option, length, map, option_map, IfOk};
 ghost use Rattle.std.specs.List.{AllByRecursion};
 ghost use Rattle.cpu_feeders.specs.Crews.{HaveWorked};
-ghost use Rattle.cpu_feeders.specs.Hiring.{AreHired};
+ghost use Rattle.cpu_feeders.specs.FreshWorkers.{AreHired};
 ghost use Rattle.cpu_feeders.specs.Runs.{IsFreshTaker, IsTakerRun};
 ghost use Rattle.setup_text.specs.Sound.{AreMoments, IsSetup};
 ghost use Rattle.tap_outside.specs.Seen.{SourceSeen};
 
-use crate::closing::{Closed, close_group};
-use crate::gathering::gather;
-use crate::hiring::{feeders_of, walkers_of, workers_of};
-use crate::opening::open_group;
-use crate::parting::part;
+use crate::closed_members::{Closed, close_group};
+use crate::ended_workers::gather;
+use crate::fresh_workers::{feeders_of, walkers_of, workers_of};
+use crate::open_groups::open_group;
 use crate::worker::{Shared, Worker, run_all};
+use crate::worker_kinds::part;
 use crate::{Gate, Timer};
 use capture_reports::{
     blocks_are_read_as_they_were_noted, threads_leave_a_group, threads_leave_what_sources_gave,
@@ -165,7 +165,7 @@ fn dismiss<S: Source, T: Taker + Drop>(
 }
 
 /// Runs a job on threads, with a taker of the caller's for each member: a reader for each of them,
-/// a timer that tells the moments, and a feeder for each CPU. Each reader hands the blocks of its
+/// a timer that reports the moments, and a feeder for each CPU. Each reader hands the blocks of its
 /// member to the member's taker, in order.
 ///
 /// The sources are one for each CPU, and come back less the bytes that they gave; a CPU without one

@@ -1,4 +1,4 @@
-//! The timer of a run: it tells each moment to each member.
+//! The timer of a run: it reports each moment to each member.
 ghost use Rattle.std.specs.Prelude.{◌≡◌, ◌^◌, ◌<◌, ◌≤◌, ℕ, [], length, slice_index_or, OnOk};
 ghost use Rattle.capture_reports.specs.Timing.{AreTimed};
 ghost use Rattle.cpu_feeders.specs.Timing.{AreTimers, HaveTicked, TimesOut};

@@ -1,6 +1,6 @@
 //! The workers of a run: readers, a timer and feeders, each on a thread of its own.
 ghost use Rattle.std.specs.Prelude.{◌≡◌, ◌<◌, ℕ, length, slice_index_or, All};
-ghost use Rattle.cpu_feeders.specs.Working.{IsDoneWorker, IsReadyWorker};
+ghost use Rattle.cpu_feeders.specs.WorkerEffects.{IsDoneWorker, IsReadyWorker};
 ghost use Rattle.setup_text.specs.Sound.{AreMoments, IsSetup};
 
 use crate::feeder::{Feeder, run_feeder};
@@ -20,7 +20,7 @@ use tap_outside::Source;
 pub(crate) enum Worker<S: Source, T: Taker + Drop> {
     /// It reads a member's blocks.
     Walks(Walker<T>),
-    /// It tells the moments.
+    /// It reports the moments.
     Ticks(Timer),
     /// It feeds a CPU.
     Feeds(Feeder<S>),

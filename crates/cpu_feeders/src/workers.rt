@@ -71,7 +71,7 @@ fn report<S: Source>(alloc: Global, workers: Workers<S, Reader>) -> Result<Ran<S
     })
 }
 
-/// Runs a job on threads: a reader for each member, a timer that tells the moments, and a feeder
+/// Runs a job on threads: a reader for each member, a timer that reports the moments, and a feeder
 /// for each CPU. The sources are one for each CPU, and come back less the bytes that they gave; a
 /// CPU without one ends with a fault. The only error is that an allocation fails, and the sources
 /// are dropped then.

@@ -11,7 +11,7 @@ use std::test::Fail;
 use std::thread;
 use std::thread::Threads;
 
-/// Tries to retire the next letter, and tells how many letters were retired.
+/// Tries to retire the next letter, and reports how many letters were retired.
 fn fill_next(feeder: &mut TableFeeder<Letter>, letters: &[u8], next: usize) -> usize
     requires within { next < length letters.now }
     requires few { length letters.now ≤ 1000 }

@@ -15,7 +15,7 @@ abbrev pub no_runt : Option Frame → Option Frame
 no_runt None = None
 no_runt (Some frame) = unless_runt frame
 
--- what reassembly, where it is asked for, leaves held behind an untagged frame, and what comes out
+-- what reassembly, where it is asked for, leaves held after an untagged frame, and what comes out
 -- of it
 abbrev pub held_after : Bool → List Frame → Frame → List Frame
 held_after false held frame = held
@@ -25,7 +25,7 @@ abbrev pub whole_at : Bool → List Frame → Frame → Option Frame
 whole_at false held frame = Some frame
 whole_at true held frame = (pass held frame).whole
 
--- what is held behind a frame, and what arrives at it
+-- what is held after a frame, and what arrives at it
 abbrev pub held_behind : Bool → List Frame → Frame → List Frame
 held_behind defrag held frame = held_after defrag held (untagged frame)
 
@@ -38,7 +38,7 @@ arrivals_from defrag held [] = []
 arrivals_from defrag held (frame ∷ frames) =
     arrival_at defrag held frame ∷ arrivals_from defrag (held_behind defrag held frame) frames
 
--- what is held behind some frames
+-- what is held after some frames
 abbrev pub held_from : Bool → List Frame → List Frame → List Frame
 held_from defrag held [] = held
 held_from defrag held (frame ∷ frames) = held_from defrag (held_behind defrag held frame) frames

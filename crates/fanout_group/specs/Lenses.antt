@@ -1,7 +1,7 @@
 -- What the code's rules for the arrivals of a CPU stand for.
 use Rattle.std.specs.Prelude.{option_copied}
-use Rattle.fanout_group.specs.Judging.{Lens}
-use Rattle.fanout_group.specs.declared.judging.ArrivalRules.{ArrivalRules}
+use Rattle.fanout_group.specs.Judgements.{Lens}
+use Rattle.fanout_group.specs.declared.judgements.ArrivalRules.{ArrivalRules}
 
 -- with the CPU's receive queue as that of every CPU
 abbrev pub lens_of : ArrivalRules → Lens

@@ -29,7 +29,7 @@ abbrev pub present_from : Mode → ℕ → List ArrivalLog → ℕ
 present_from mode present [] = present
 present_from mode present (entry ∷ log) = present_from mode (present_after mode present entry.tries) log
 
--- the path behind an arrival that is logged
+-- the path after an arrival that is logged
 abbrev pub logged : ArrivalLog → Path → Path
 logged entry path = record path {
   present = present_after path.shape.mode path.present entry.tries;

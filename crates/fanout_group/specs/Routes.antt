@@ -15,7 +15,7 @@ refused_from members at zero = []
 refused_from members at (suc count) =
     a_try at Refused ∷ refused_from members ((at + 1) % members) count
 
--- the member so many places behind another
+-- the member so many places after another
 abbrev pub behind : ℕ → ℕ → ℕ → ℕ
 behind members at zero = at
 behind members at (suc count) = behind members ((at + 1) % members) count

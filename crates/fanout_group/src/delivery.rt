@@ -13,7 +13,7 @@ use std::alloc::Global;
 use std::mem;
 
 /// Delivers a packet to a group by its mode: makes the tries of an arrival at a desk, in order, and
-/// tells them at the end of a list.
+/// reports them at the end of a list.
 ///
 /// The home is by the mode the offer's hash, the ticket, the frame's CPU or the receive queue
 /// modulo the number of members, or the CPU's present member (PACKET_FANOUT of packet(7); that it

@@ -4,7 +4,7 @@
 
 mod delivery;
 mod desk;
-mod judging;
+mod judgements;
 mod laws;
 mod logs;
 mod modes;
@@ -17,7 +17,7 @@ mod tries;
 pub use capture_file::CpuEnd;
 pub use delivery::deliver;
 pub use desk::Desk;
-pub use judging::{ArrivalRules, Judged};
+pub use judgements::{ArrivalRules, Judged};
 pub use laws::{arrivals_are_sound, arrivals_rise, each_frame_stands_exactly_once, tries_go_round};
 pub use logs::{ArrivalList, ArrivalLog, Fate, Try, TryList};
 pub use modes::Mode;

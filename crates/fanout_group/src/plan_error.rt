@@ -5,7 +5,7 @@ ghost use Rattle.fanout_group.specs.PlanWords.{word_of};
 use std::error::Error;
 use std::fmt;
 
-/// Why a group is refused. Of several faults the first one is told, in this order.
+/// Why a group is refused. Of several faults the first one is reported, in this order.
 #[derive(Clone, Copy, Debug, PartialEq, Eq)]
 pub enum PlanError {
     /// It has no member.

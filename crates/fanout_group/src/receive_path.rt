@@ -4,7 +4,7 @@ ghost use Rattle.std.specs.Prelude.{◌≡◌, ◌<◌, ◌≤◌, ℕ, List, []
 ghost use Rattle.capture_file.specs.Laws.{IsCaptured};
 ghost use Rattle.fanout_group.specs.Arrivals.{HasPlaceOf, IsArrival, IsUntagged, arrival_at, held_after, held_behind, no_runt, whole_at};
 ghost use Rattle.fanout_group.specs.Desks.{TakesTheSame};
-ghost use Rattle.fanout_group.specs.Judging.{IsJudged, Lens, rules_by};
+ghost use Rattle.fanout_group.specs.Judgements.{IsJudged, Lens, rules_by};
 ghost use Rattle.fanout_group.specs.Paths.{IsPath, IsPathBehind, IsPathTo, first_path, logged};
 ghost use Rattle.fanout_group.specs.Plans.{has_defrag, rolls_over};
 ghost use Rattle.fanout_group.specs.Routes.{IsBegun, IsRoute, present_after};

@@ -1,9 +1,9 @@
 //! One try at a desk, told in a list: room for it is asked for first, so that no try is made that
-//! isn't told.
+//! isn't reported.
 ghost use Rattle.std.specs.Prelude.{◌≡◌, ◌<◌, [], ◌∷◌, ◌++◌, length, vec_capacity, vec_len, IfOk, IfSome, OnErr};
 ghost use Rattle.fanout_group.specs.Desks.{TakesTheSame};
 ghost use Rattle.fanout_group.specs.Routes.{IsSettled, a_try};
-ghost use Rattle.fanout_group.specs.Telling.{Tells, SaysNothing, fate_by};
+ghost use Rattle.fanout_group.specs.TryEffects.{Tells, SaysNothing, fate_by};
 
 use crate::{Desk, Fate, Try};
 use frame_view::Memory;

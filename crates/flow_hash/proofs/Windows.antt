@@ -46,7 +46,7 @@ number_of-append (x ∷ xs) ys =
     let len : 2 ^ length (xs ++ ys) ≡ 2 ^ length xs * 2 ^ length ys = ap (λ (n : ℕ). 2 ^ n) (length-append xs ys) ∙ pow-add 2 (length xs) (length ys) in
     rw (len, rest) (omega arith)
 
--- some bits from a place on, with k behind them
+-- some bits from a place on, with k after them
 number_of_part : (j n k : ℕ) (xs : List ℕ) → IsBits xs → length xs ≡ j + (n + k) → number_of (take n (drop j xs)) ≡ number_of xs / 2 ^ k % 2 ^ n
 number_of_part j n k xs h len =
     let front : List ℕ = take j xs in

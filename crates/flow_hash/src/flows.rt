@@ -102,7 +102,7 @@ fn hash_pair(key: &Key, at: usize, first: bool, a: &[u8], b: &[u8]) -> u32
     }
 }
 
-/// The hash of two texts, one behind the other, that stand from a byte's place on.
+/// The hash of two texts, one after the other, that stand from a byte's place on.
 #[tactic(auto, using(crate::proofs::BitLists::pieces))]
 fn hash_both(key: &Key, at: usize, a: &[u8], b: &[u8]) -> u32
     requires { at + length a.now + length b.now ≤ 36 }

@@ -26,7 +26,7 @@ frame_nr 4
 cpu a.pcap
 ";
 
-/// The front of a frame with an IEEE 802.1Q tag: its addresses, the tag, and an IPv4 type.
+/// The start of a frame with an IEEE 802.1Q tag: its addresses, the tag, and an IPv4 type.
 const TAGGED: &[u8] = &[
     2, 0, 0, 0, 0, 1, 2, 0, 0, 0, 0, 2, 0x81, 0x00, 0x00, 0x64, 0x08, 0x00,
 ];

@@ -85,7 +85,7 @@ const OVER_IPV6: [Ipv6Row; 3] = [
     ),
 ];
 
-/// Two addresses, and the same with two ports behind them.
+/// Two addresses, and the same with two ports after them.
 fn inputs(
     alloc: Global,
     from: &[u8],

@@ -37,7 +37,7 @@ checked-ip_bytes p few =
     ∙ ap (λ (n : ℕ). 0xffff - folded (folded n)) (sum_of_words-ip_bytes p k (omega arith))
     ∙ ones_sum_whole s bounds.0 bounds.1
 
--- the IPv4 header of a built frame stands behind its first 14 bytes
+-- the IPv4 header of a built frame follows its first 14 bytes
 ip_bytes-built : (p : Parts) → length p.to ≡ 6 → length p.from ≡ 6 → take 20 (drop 14 (built p)) ≡ ip_bytes p (ip_checksum p)
 unfolding built link_bytes ip_bytes
 ip_bytes-built p to from = rw (← address_of_six p.to to, ← address_of_six p.from from) refl

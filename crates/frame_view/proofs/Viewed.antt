@@ -7,7 +7,7 @@ use Rattle.frame_view.proofs.Addresses.{address_of_six}
 use Rattle.frame_view.specs.declared.frame_building.Parts.{Parts}
 use Rattle.frame_view.specs.declared.header_reading.Headers.TheVariants.{V4}
 
--- behind a whole link header, an IPv4 header
+-- after a whole link header, an IPv4 header
 view_of_v4 : (bytes : List ℕ) → nat_lt (length bytes) 14 ≡ false → is_v4 bytes ≡ true → view_of bytes ≡ V4 (link_of bytes) (v4_of bytes)
 view_of_v4 bytes whole v4 = rw (whole, v4) refl
 

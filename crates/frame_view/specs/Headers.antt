@@ -13,7 +13,7 @@ address_of at bytes =
     slice_index bytes at ∷ slice_index bytes (at + 1) ∷ slice_index bytes (at + 2)
     ∷ slice_index bytes (at + 3) ∷ slice_index bytes (at + 4) ∷ slice_index bytes (at + 5) ∷ []
 
--- the type field; below 0x0600 it is a length, and two bytes of 0xff behind it tell raw IPX (1) from 802.2 (4)
+-- the type field; below 0x0600 it is a length, and two bytes of 0xff after it tell raw IPX (1) from 802.2 (4)
 abbrev pub protocol_of : List ℕ → ℕ
 protocol_of bytes =
     if nat_lt (u16_at 12 bytes) 0x0600
@@ -35,7 +35,7 @@ ports_at at next bytes =
 abbrev pub header_of : List ℕ → ℕ
 header_of bytes = 4 * (slice_index bytes 14 % 16)
 
--- whether a whole IPv4 header stands behind the link header, and its total length isn't below its own
+-- whether a whole IPv4 header follows the link header, and its total length isn't below its own
 abbrev pub is_v4 : List ℕ → Bool
 is_v4 bytes =
     if nat_lt (length bytes) 34 then false
@@ -70,13 +70,13 @@ v4_of bytes = record {
   ports = v4_ports bytes;
 }
 
--- whether a whole IPv6 header stands behind the link header
+-- whether a whole IPv6 header follows the link header
 abbrev pub is_v6 : List ℕ → Bool
 is_v6 bytes =
     if nat_lt (length bytes) 54 then false
     else (u16_at 12 bytes == 0x86dd) && (slice_index bytes 14 / 16 == 6)
 
--- the fields of the IPv6 header, and the ports behind it
+-- the fields of the IPv6 header, and the ports after it
 abbrev pub v6_of : List ℕ → V6Part
 v6_of bytes = record {
   next = slice_index bytes 20;
@@ -85,7 +85,7 @@ v6_of bytes = record {
   ports = ports_at 54 (slice_index bytes 20) bytes;
 }
 
--- a frame of fewer than 14 bytes is a runt; behind a whole link header may stand an IPv4 or an IPv6 header
+-- a frame of fewer than 14 bytes is a runt; after a whole link header may stand an IPv4 or an IPv6 header
 abbrev pub view_of : List ℕ → Headers
 view_of bytes =
     if nat_lt (length bytes) 14 then Runt

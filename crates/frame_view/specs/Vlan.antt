@@ -10,11 +10,11 @@ use Rattle.frame_view.specs.declared.frames.Tag.{Tag}
 abbrev pub is_tpid : ℕ → Bool
 is_tpid tpid = (tpid == 0x8100) || (tpid == 0x88a8)
 
--- whether the bytes have room for a tag and a type behind it, and begin with one
+-- whether the bytes have room for a tag and a type after it, and begin with one
 abbrev pub is_tagged : List ℕ → Bool
 is_tagged bytes = if nat_lt (length bytes) 18 then false else is_tpid (u16_at 12 bytes)
 
--- the tag that stands behind the addresses
+-- the tag that follows the addresses
 abbrev pub tag_of : List ℕ → Tag
 tag_of bytes = record { tpid = u16_at 12 bytes; tci = u16_at 14 bytes }
 
@@ -29,7 +29,7 @@ untagged frame =
     then record frame { wire = frame.wire - 4; bytes = without_tag frame.bytes; tag = Some (tag_of frame.bytes) }
     else frame
 
--- the bytes with a tag put back behind the addresses, where both addresses are there
+-- the bytes with a tag put back after the addresses, where both addresses are there
 abbrev pub with_tag : Option Tag → List ℕ → List ℕ
 with_tag None bytes = bytes
 with_tag (Some tag) bytes =

@@ -10,7 +10,7 @@ use crate::numbers::u16_at;
 pub enum Headers {
     /// Fewer than 14 bytes: no whole link header.
     Runt,
-    /// A whole link header, and no whole IPv4 or IPv6 header behind it.
+    /// A whole link header, and no whole IPv4 or IPv6 header after it.
     Plain(Link),
     /// A link header and an IPv4 header.
     V4(Link, V4Part),

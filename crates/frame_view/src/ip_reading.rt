@@ -1,4 +1,4 @@
-//! The IPv4 or the IPv6 header behind the link header of a frame, and the ports behind it.
+//! The IPv4 or the IPv6 header after the link header of a frame, and the ports after it.
 ghost use Rattle.std.specs.Prelude.{◌≡◌, ◌+◌, ◌≤◌, length, IsTrue};
 ghost use Rattle.frame_view.specs.Headers.{is_v4, v4_of, v4_ports, header_of, is_v6, v6_of, ports_at};
 
@@ -54,7 +54,7 @@ const TCP: u8 = 6;
 /// The protocol number of UDP.
 const UDP: u8 = 17;
 
-/// Whether a whole IPv4 header stands behind the link header.
+/// Whether a whole IPv4 header follows the link header.
 pub(crate) fn has_v4(bytes: &[u8]) -> bool
     ensures { result ≡ is_v4 bytes.now }
 {
@@ -108,7 +108,7 @@ fn ports_of_v4(bytes: &[u8]) -> Option<(u16, u16)>
     ports(bytes, 14 + v4_header(bytes), bytes[23])
 }
 
-/// Whether a whole IPv6 header stands behind the link header.
+/// Whether a whole IPv6 header follows the link header.
 pub(crate) fn has_v6(bytes: &[u8]) -> bool
     ensures { result ≡ is_v6 bytes.now }
 {
@@ -118,7 +118,7 @@ pub(crate) fn has_v6(bytes: &[u8]) -> bool
     u16_at(bytes, 12) == IPV6 && bytes[14] / 16 == 6
 }
 
-/// The fields of the IPv6 header, and the ports behind it.
+/// The fields of the IPv6 header, and the ports after it.
 pub(crate) fn read_v6(bytes: &[u8]) -> V6Part
     requires { 54 ≤ length bytes.now }
     ensures { result ≡ v6_of bytes.now }

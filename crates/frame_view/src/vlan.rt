@@ -42,7 +42,7 @@ fn begins_tagged(bytes: &[u8]) -> bool
     tpid == CUSTOMER_TAG || tpid == SERVICE_TAG
 }
 
-/// The frame of a packet: its bytes, with its tag put back behind the two addresses where it has one and
+/// The frame of a packet: its bytes, with its tag put back after the two addresses where it has one and
 /// at least 12 bytes.
 pub fn retag(alloc: Global, packet: &Packet) -> Result<ByteList, Memory>
     ensures { IfOk result (λ bytes. bytes ≡ frame_of packet.now) }

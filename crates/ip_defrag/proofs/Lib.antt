@@ -1,8 +1,8 @@
 pub mod Completed
 pub mod Covers
 pub mod Filled
-pub mod Grouping
-pub mod Holding
+pub mod Groups
+pub mod JoinedFrames
 pub mod Passed
 pub mod Places
 pub mod Pushed

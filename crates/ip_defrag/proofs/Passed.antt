@@ -19,7 +19,7 @@ use Rattle.ip_defrag.specs.Held.{filled}
 use Rattle.ip_defrag.specs.declared.names.Name.{Name}
 use Rattle.ip_defrag.proofs.Completed.{not_completed}
 use Rattle.ip_defrag.proofs.Covers.{has_data}
-use Rattle.ip_defrag.proofs.Grouping.{same_name_refl, same_name_is, differs, by_name, by_group, filter_twice, of_name_filter, groups_filter}
+use Rattle.ip_defrag.proofs.Groups.{same_name_refl, same_name_is, differs, by_name, by_group, filter_twice, of_name_filter, groups_filter}
 use Rattle.ip_defrag.proofs.Pushed.{none_filter, none_named, filter-map, any_groups, groups_push_old, groups_push_new, groups_distinct, groups-cons, remove_is, set_is}
 use Rattle.ip_defrag.proofs.Taken.{begins_later}
 

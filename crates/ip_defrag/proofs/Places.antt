@@ -1,4 +1,4 @@
--- Places one behind the other, and the places that two fragments share.
+-- Places one after the other, and the places that two fragments share.
 use Rattle.std.proofs.Common.{◌≡◌, ℕ, zero, suc, ◌+◌, ◌-◌, ◌<◌, min, max, Bool, ◌&&◌, ◌||◌, nat_lt, nat_le, arith, ap, ◌∙◌}
 use Rattle.std.specs.List.{list_any}
 use Rattle.std.proofs.lemmas.Bool.Decides.{nat_tests}

@@ -13,7 +13,7 @@ use Rattle.ip_defrag.specs.Fragments.{name_of}
 use Rattle.ip_defrag.specs.Fold.{same_name, is_named, of_name, without, names_of, opened_at}
 use Rattle.ip_defrag.specs.Grouped.{Group, group_of, groups, has_name, with_frame, updated, opened_by, total}
 use Rattle.ip_defrag.specs.declared.names.Name.{Name}
-use Rattle.ip_defrag.proofs.Grouping.{same_name_refl, same_name_is, same_name_sym, differs, by_group, groups_filter}
+use Rattle.ip_defrag.proofs.Groups.{same_name_refl, same_name_is, same_name_sym, differs, by_group, groups_filter}
 
 same_names : (a b : Name) → same_name a b ≡ false → same_name b a ≡ false
 same_names a b e = same_name_sym b a ∙ e

@@ -6,7 +6,7 @@ use Rattle.ip_defrag.specs.Fragments.{takes_part, name_of, from_of, to_of, is_la
 use Rattle.ip_defrag.specs.Datagrams.{shares, data_from, headers_from, datagram_from, covers_all, completed}
 use Rattle.ip_defrag.specs.Fold.{same_name, kept_for, is_copy, contradicts, conflicts, pass, passed}
 
--- a frame with the bytes of an IPv4 header up to its addresses behind its link header
+-- a frame with the bytes of an IPv4 header up to its addresses after its link header
 abbrev framed : ℕ → List ℕ → List ℕ → Frame
 framed index header bytes = record {
   cpu = 0;
@@ -24,7 +24,7 @@ abbrev eight : ℕ → ℕ → List ℕ → Frame
 eight index offset bytes =
     framed index (0x45 ∷ 0 ∷ 0 ∷ 28 ∷ 0x12 ∷ 0x34 ∷ 0x20 ∷ offset ∷ 64 ∷ 17 ∷ 0 ∷ 0 ∷ []) bytes
 
--- the last four bytes, behind sixteen
+-- the last four bytes, after sixteen
 abbrev four : ℕ → List ℕ → Frame
 four index bytes =
     framed index (0x45 ∷ 0 ∷ 0 ∷ 24 ∷ 0x12 ∷ 0x34 ∷ 0 ∷ 2 ∷ 64 ∷ 17 ∷ 0 ∷ 0 ∷ []) bytes

@@ -7,7 +7,7 @@ use Rattle.frame_view.specs.InternetChecksum.{checksum_of}
 use Rattle.frame_view.specs.declared.frames.Frame.{Frame}
 use Rattle.ip_defrag.specs.Fragments.{from_of, to_of, is_last, data_of, headers_length}
 
--- some places, one behind the other
+-- some places, one after the other
 abbrev pub places : ℕ → ℕ → List ℕ
 places from zero = []
 places from (suc count) = from ∷ places (from + 1) count

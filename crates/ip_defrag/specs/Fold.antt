@@ -110,7 +110,7 @@ pass held frame =
     then judge frame (kept_for frame held) (length held - length (kept_for frame held))
     else record { held = held; whole = Some frame; discarded = 0 }
 
--- what comes out of some frames, one behind the other
+-- what comes out of some frames, one after the other
 abbrev pub passed : List Frame → List Frame → List Frame
 passed held [] = []
 passed held (frame ∷ frames) = option_to_list (pass held frame).whole ++ passed (pass held frame).held frames

@@ -7,11 +7,11 @@ use Rattle.frame_view.specs.declared.header_reading.Headers.TheVariants.{Runt, P
 use Rattle.frame_view.specs.declared.ip_reading.V4Part.{V4Part}
 use Rattle.ip_defrag.specs.declared.names.Name.{Name}
 
--- the most data of a datagram: behind the longest header of 60 it makes a total length of 65535
+-- the most data of a datagram: after the longest header of 60 it makes a total length of 65535
 abbrev pub most_data : ℕ
 most_data = 65475
 
--- the length of a packet's data: it ends at the total length, whatever padding was captured behind it
+-- the length of a packet's data: it ends at the total length, whatever padding was captured after it
 abbrev pub data_length : V4Part → ℕ
 data_length ip = ip.total - ip.header
 
@@ -48,7 +48,7 @@ name_of frame = record {
 unfoldable pub from_of : Frame → ℕ
 from_of frame = 8 * (v4_of frame.bytes).offset
 
--- the place behind its data
+-- the place after its data
 unfoldable pub to_of : Frame → ℕ
 to_of frame = 8 * (v4_of frame.bytes).offset + data_length (v4_of frame.bytes)
 
@@ -60,6 +60,6 @@ is_last frame = not (v4_of frame.bytes).more
 unfoldable pub data_of : Frame → List ℕ
 data_of frame = take (data_length (v4_of frame.bytes)) (drop (14 + (v4_of frame.bytes).header) frame.bytes)
 
--- the length of the two headers in front of the data
+-- the length of the two headers before the data
 unfoldable pub headers_length : Frame → ℕ
 headers_length frame = 14 + (v4_of frame.bytes).header

@@ -123,7 +123,7 @@ impl Datagram {
     }
 }
 
-/// Adds a fragment behind others, and gives their datagram's frame where that completes it. After `NoPush`
+/// Adds a fragment after others, and gives their datagram's frame where that completes it. After `NoPush`
 /// nothing has changed, and the fragment's frame is handed back.
 fn add_to(
     alloc: Global,

@@ -15,7 +15,7 @@ pub(crate) struct Fragment {
     ip: V4Part,
 }
 
-/// The most data of a datagram in bytes: behind the longest header of 60 it makes a total length of 65,535.
+/// The most data of a datagram in bytes: after the longest header of 60 it makes a total length of 65,535.
 const MOST_DATA: usize = 65_475;
 
 impl Model for Fragment {
@@ -78,7 +78,7 @@ impl Fragment {
         8 * self.ip.offset as usize
     }
 
-    /// The place behind its data.
+    /// The place after its data.
     pub(crate) fn to(&self) -> usize
         ensures place { result ≡ to_of self.now }
         ensures most { result ≤ 65475 }
@@ -104,7 +104,7 @@ impl Fragment {
         data
     }
 
-    /// The two headers in front of its data.
+    /// The two headers before its data.
     pub(crate) fn headers(&self) -> &[u8]
         ensures bytes { result.now ≡ take (headers_length self.now) self.now.bytes }
         ensures len { length result.now ≡ headers_length self.now }

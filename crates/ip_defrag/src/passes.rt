@@ -133,7 +133,7 @@ fn hold(
     Ok(Answer { whole, used })
 }
 
-/// Passes a fragment over the datagrams. The trace tells which frames they hold. After `NoPush` nothing has
+/// Passes a fragment over the datagrams. The trace reports which frames they hold. After `NoPush` nothing has
 /// changed, and the fragment's frame is handed back.
 pub(crate) fn pass(
     alloc: Global,

@@ -1,4 +1,4 @@
-//! Transmit rings of four slots of 2048 bytes, which have room for 2000 bytes behind their headers.
+//! Transmit rings of four slots of 2048 bytes, which have room for 2000 bytes after their headers.
 ghost use Rattle.std.specs.Prelude.{◌≡◌, ◌+◌, ◌<◌, ◌≤◌, IfOk, length};
 
 use Act::{Place, Queue, Send, Status};
@@ -39,7 +39,7 @@ enum Said {
     TooLong,
     Stopped(u32),
     Full,
-    /// So many were sent and passed over.
+    /// So many were sent and skipped.
     Took(u32, u32),
     Bad(u32),
     Wanting,

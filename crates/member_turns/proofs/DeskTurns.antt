@@ -19,7 +19,7 @@ use Rattle.ring_model.specs.declared.notes.Tried as ring
 use Rattle.member_turns.specs.Desks.{AreForDesk, AreNotesOfTries, DeskValue, Follows, IsDesk, IsNoteOfTry, Tried, fates_at, fresh_desk, refused_turn, turns_at}
 use Rattle.member_turns.specs.DeskLaws.{tried_none}
 use Rattle.member_turns.specs.Seats.{IsReady, Lock, Seat}
-use Rattle.member_turns.specs.Turning.{Turned}
+use Rattle.member_turns.specs.TurnEffects.{Turned}
 
 -- a place within a list has one element
 one_place : {A : Type 0} (xs : List A) (i : ℕ) (d e : A) → i < length xs → get_or xs i d ≡ get_or xs i e

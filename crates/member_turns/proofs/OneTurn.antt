@@ -16,7 +16,7 @@ use Rattle.turn_lock.proofs.Lists.{own_stands, own_turn}
 use Rattle.member_turns.specs.Entries.{is_seat_of, may_note}
 use Rattle.member_turns.specs.EntryLaws.{one_seat}
 use Rattle.member_turns.specs.Seats.{IsReady, Lock, Seat, moment_of, own_of}
-use Rattle.member_turns.specs.Turning.{Turned}
+use Rattle.member_turns.specs.TurnEffects.{Turned}
 use Rattle.member_turns.specs.declared.ring_base.RingBase.{RingBase}
 use Rattle.member_turns.proofs.Moments.{clock_is, own_moment}
 

@@ -1,5 +1,5 @@
 -- Which notes of a member's ring a seat of its lock may add: the seat C of a CPU C those about
--- frames of C, and the seat behind those of all CPUs, which is the timer's, those of ticks.
+-- frames of C, and the seat after those of all CPUs, which is the timer's, those of ticks.
 use Rattle.std.specs.Prelude.{ℕ, Bool, false, ◌&&◌, nat_lt, ◌==◌, List, ◌∷◌}
 use Rattle.atomic_table.specs.Seated.{TableId}
 use Rattle.ring_model.specs.declared.notes.Note.{Note}

@@ -1,7 +1,7 @@
 pub mod Entries
 pub mod EntryLaws
 pub mod Seats
-pub mod Turning
+pub mod TurnEffects
 pub mod Closings
 pub mod Desks
 pub mod DeskLaws

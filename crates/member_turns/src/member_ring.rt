@@ -12,7 +12,7 @@ use tp_layout::Block;
 use turn_lock::Kept;
 
 /// The receive ring of a member, which the lock keeps. Its entries are the ring's notes; a seat may
-/// add the notes that are about frames of its CPU, and the seat behind those of the CPUs, which is
+/// add the notes that are about frames of its CPU, and the seat after those of the CPUs, which is
 /// the timer's, those of ticks.
 #[derive(Drop)]
 pub struct MemberRing {

@@ -2,7 +2,7 @@
 //! seat, and adds one note, or none where a request for memory was refused.
 ghost use Rattle.std.specs.Prelude.{◌≡◌, ◌+◌, ◌^◌, ◌<◌, ◌≤◌, [], ◌∷◌, IfErr, IfOk, OnErr, OnOk};
 ghost use Rattle.member_turns.specs.Seats.{IsReady, moment_of, own_of};
-ghost use Rattle.member_turns.specs.Turning.{IsPutTurn, IsTickTurn, IsTryTurn, Turned};
+ghost use Rattle.member_turns.specs.TurnEffects.{IsPutTurn, IsTickTurn, IsTryTurn, Turned};
 ghost use Rattle.tp_layout.specs.Requests.{room_of};
 ghost use Rattle.tp_layout.specs.Writing.{IsWritable};
 
@@ -81,7 +81,7 @@ pub fn put_turn<R: Wait>(
 }
 
 /// Brings a member's clock forward to a moment, in milliseconds, which isn't before the last one
-/// that this stand told. It waits for the turn of the stand, which is the timer's and has entered
+/// that this stand reported. It waits for the turn of the stand, which is the timer's and has entered
 /// fewer than 2^32 times.
 ///
 /// After `Memory` the turn added no note.

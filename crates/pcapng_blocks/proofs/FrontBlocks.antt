@@ -27,7 +27,7 @@ pub front_bad : (order : Order) (interfaces : List Interface) (place : ℕ) (byt
 unfolding front_of
 front_bad order interfaces place bytes error e = rw e refl
 
--- behind a head
+-- after a head
 module _ (order : Order) (interfaces : List Interface) (place : ℕ) (bytes : List ℕ) (head : Head) (e : look_at order place bytes ≡ Headed head) where
   pub front_headed : front_of order interfaces place bytes ≡ front_behind interfaces place head bytes
   unfolding front_of
@@ -69,7 +69,7 @@ front_append order interfaces place xs ys not = short_or_not order interfaces pl
 
 -- ---- a whole block
 
--- what is known of a block at the front
+-- what is known of a block at the start
 pub record HasFront (order : Order) (interfaces : List Interface) (place : ℕ) (bytes : List ℕ) (head : Head) (meaning : Meaning) : Type 0 where
   pub look : look_at order place bytes ≡ Headed head
   pub sound : IsHead head

@@ -21,7 +21,7 @@ split_on-same Part spot frames bytes f g h = refl
 split_on-same (Fault error) spot frames bytes f g h = refl
 split_on-same (Block head meaning) spot frames bytes f g h = h head meaning refl
 
--- the frames so far, with those of the block at the front
+-- the frames so far, with those of the block at the start
 abbrev pub frames_after : ℕ → Spot → List Frame → List ℕ → Head → Meaning → List Frame
 frames_after cpu spot frames bytes head meaning = frames ++ frames_in cpu spot.index meaning (take head.total bytes)
 
@@ -191,7 +191,7 @@ prepends cpu = by_blocks cpu (Prepends cpu)
     let all = append_assoc before frames (frames_in cpu spot.index meaning (take head.total bytes)) in
     first ∙ ap (λ (fs : List Frame). split_from cpu (spot_after spot head meaning) fs (drop head.total bytes)) all ∙ rest before)
 
--- the frames so far stay in front, whatever they are
+-- the frames so far stay at the start, whatever they are
 pub split_frames : (cpu : ℕ) (spot : Spot) (frames : List Frame) (bytes : List ℕ)
     → split_from cpu spot frames bytes ≡ record (split_from cpu spot [] bytes) { frames = frames ++ (split_from cpu spot [] bytes).frames }
 unfolding Prepends

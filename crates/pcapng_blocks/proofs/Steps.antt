@@ -49,7 +49,7 @@ drop-append n xs ys =
           drop-append-le n xs ys within ∙ rw none refl
     ]
 
--- a number is told by the bytes from its place on
+-- a number is given by the bytes from its place on
 number_by : (order : Order) (n at place : ℕ) (xs ys : List ℕ) → drop at xs ≡ drop place ys → number_at order n at xs ≡ number_at order n place ys
 unfolding number_at
 number_by Little n at place xs ys e = rw e refl
@@ -119,7 +119,7 @@ fresh_fault cursor interfaces frames left kept error cut reached e all =
 
 -- ---- a block that is skipped
 
--- its bytes so far, and a piece of which `behind` is after those before the tail
+-- its bytes so far, and a piece of which `after` is after those before the tail
 module _ (spot : Spot) (skip : Skip) (rest left piece behind : List ℕ) (is : IsSkipping spot skip rest left) (some : 12 ≤ skip.head.total)
     (passed : behind ≡ drop (min skip.left (length piece)) piece) where
   total : ℕ

@@ -1,4 +1,4 @@
--- The bytes of a capture split from the front into blocks.
+-- The bytes of a capture split from the start into blocks.
 use Rattle.std.specs.Prelude.{ℕ, zero, suc, ◌+◌, ◌≤◌, ⊤, nat_lt, if◌then◌else◌, List, [], ◌∷◌, ◌++◌, length, take, drop, Option, None, Some, Result, Ok, Err}
 use Rattle.frame_view.specs.declared.frames.Frame.{Frame}
 use Rattle.pcapng_blocks.specs.declared.byte_order.Order.{Order}
@@ -71,7 +71,7 @@ split_within (suc most) cpu spot frames bytes =
     split_within most cpu (spot_after spot head meaning)
     (frames ++ frames_in cpu spot.index meaning (take head.total bytes)) (drop head.total bytes))
 
--- the bytes split from the front into blocks, with frames so far
+-- the bytes split from the start into blocks, with frames so far
 unfoldable pub split_from : ℕ → Spot → List Frame → List ℕ → Reached
 split_from cpu spot frames bytes = split_within (length bytes) cpu spot frames bytes
 

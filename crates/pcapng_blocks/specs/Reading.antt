@@ -55,7 +55,7 @@ pub record IsSkipping (spot : Spot) (skip : Skip) (rest left : List ℕ) : Type 
   pub count : skip.left ≡ skip.head.total - 4 - length left
   pub tail : rest ≡ drop (skip.head.total - 4) left
 
--- the bytes from the stop on are those that are kept: they begin no block that is told, and none that is skipped
+-- the bytes from the stop on are those that are kept: they begin no block that is given, and none that is skipped
 pub record IsPart (spot : Spot) (rest : List ℕ) : Type 0 where
   pub part : front_of spot.order spot.interfaces spot.stop rest ≡ fronts.Part
   pub waits : waiting (look_at spot.order spot.stop rest) rest ≡ stages.Blocks

@@ -83,7 +83,7 @@ impl BlockDecoder {
         // The answer is the damage of all bytes that were fed.
         ensures damage { IfOk result (λ damage. IsDamage self.old piece.now damage) }
 
-        // After want of memory all is as before.
+        // After `Memory` all is as before.
         ensures decoder { OnErr result (self.new ≡ self.old) }
         ensures into { OnErr result (into.new ≡ into.old) }
     {

@@ -1,4 +1,4 @@
-//! The block at the front of bytes.
+//! The block at the start of bytes.
 ghost use Rattle.std.specs.Prelude.{◌≡◌, ◌≤◌, length};
 ghost use Rattle.pcapng_blocks.specs.Blocks.{front_of, front_behind, HasBlock};
 ghost use Rattle.pcapng_blocks.specs.Heads.{IsHead};

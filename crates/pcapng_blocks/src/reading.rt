@@ -300,7 +300,7 @@ impl Reader {
         Ok(Progress { stage, cursor, cut })
     }
 
-    /// Splits bytes from the front into blocks, and takes in what each says.
+    /// Splits bytes from the start into blocks, and takes in what each says.
     fn split_blocks<'a>(
         self,
         cursor: Cursor,
@@ -435,7 +435,7 @@ fn top_up<'a>(kept: &mut Vec<u8>, size: usize, piece: &'a [u8]) -> Result<&'a [u
     Ok(behind)
 }
 
-/// Takes items out at the front.
+/// Takes items out at the start.
 pub(crate) fn cut_front<T: Copy + Drop>(items: &mut Vec<T>, cut: usize)
     requires { cut ≤ length items.old.items }
     ensures { items.new.items ≡ drop cut items.old.items }

@@ -62,7 +62,7 @@ counted_more (first ∷ marks) mark packets more e m =
     let left = length_drop first.packets (packets_in marks) packets e in
     omega arith
 
--- its text stands behind the others
+-- its text follows the others
 pub text_more : (shape : RingRequest) (taken : List Taken) (block : Taken)
     → texts_of shape (taken ++ block ∷ []) ≡ texts_of shape taken ++ text_of_taken shape block
 unfolding texts_of

@@ -96,7 +96,7 @@ impl Reader {
         ensures waiting { IfOk result (λ stepped. stepped ≡ false
             → (blocks : ℕ) → (W.walk end.old).waiting ≡ Some blocks → blocks ≡ 0) }
 
-        // After want of memory the block is in the reader.
+        // After `Memory` the block is in the reader.
         ensures kept { OnErr result (Keeps (W.took end.old end.new) self.old self.new) }
 
         // Where it held that block before, the end is as before.

@@ -14,7 +14,7 @@ pub trait Taker {
     // The blocks that it has read, in order.
     ghost taken: { Self → List Taken };
 
-    /// Reads a block that was retired, whose text tells its number, its status and its packets. After `Memory` no more
+    /// Reads a block that was retired, whose text reports its number, its status and its packets. After `Memory` no more
     /// is known of what was read.
     fn block(&mut self, block: &Block) -> Result<(), Memory>
         requires readable { IsReadable (base self.old).shape block.now }

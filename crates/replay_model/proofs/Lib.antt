@@ -1,10 +1,10 @@
 pub mod Noted
 pub mod Places
 pub mod Rings
-pub mod Adding
+pub mod AddedNotes
 pub mod Tries
-pub mod Going
-pub mod Drawing
-pub mod Arriving
-pub mod Feeding
-pub mod Ending
+pub mod ReplayStates
+pub mod LogTickets
+pub mod KeptArrivals
+pub mod FedLines
+pub mod ReplayEnds

@@ -13,7 +13,7 @@ use Rattle.fanout_group.specs.Rules.{Rules, rolls_over}
 use Rattle.fanout_group.specs.declared.logs.Fate.TheVariants.{Kept, Refused}
 use Rattle.fanout_group.specs.declared.logs.Try.{Try}
 use Rattle.replay_model.specs.Replay.{Tried, and_then, fate_of, no_ring, noted_at, or_put_at, put_at, tries_of, try_round}
-use Rattle.replay_model.proofs.Adding.{Arrival, LeavesOpen, Spread, offered, put_tells, spread_none, spread_one, spread_then, try_tells}
+use Rattle.replay_model.proofs.AddedNotes.{Arrival, LeavesOpen, Spread, offered, put_tells, spread_none, spread_one, spread_then, try_tells}
 use Rattle.replay_model.proofs.Rings.{put_open, try_open}
 
 -- some members refuse from one on, and the next one keeps the packet

@@ -1,3 +1,3 @@
 pub mod Replay
 pub mod Reports
-pub mod Taking
+pub mod TakenOffers

@@ -32,7 +32,7 @@ pub record Sums (index : ℕ) (counts : List Stats) (totals : Stats) (ledger : L
   pub few_freezes : totals.freezes + ledger.freezes ≤ index
   pub fewer : totals.drops ≤ totals.packets
 
--- what a note takes stands before what the notes behind it take
+-- what a note takes stands before what the notes after it take
 counts_more : (size : Size) (state : State) (note : Note) (rest : List Note)
     → counts_from size state (note ∷ rest) ≡ taken_at note (stats_of state) ++ counts_from size (after size state note) rest
 counts_more size state (Kept offer found) rest = refl
@@ -180,7 +180,7 @@ sums_next index note counts later_counts stats totals later_totals ledger later 
       fewer = omega (arith, packets_are, drops_are, bound.fewer now.fewer);
     }
 
--- behind the last note
+-- after the last note
 pub ends_counts : (size : Size) (notes all : List Note) (index : ℕ) (counts : List Stats) (ledger : Ledger)
     → length notes ≤ index → notes ≡ all → Goes size notes (drop index notes) counts ledger → counts ≡ counts_of size all
 ends_counts size notes all index counts ledger behind same goes =

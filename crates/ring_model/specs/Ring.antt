@@ -24,7 +24,7 @@ pub record State : Type 0 where
   pub done : List (List Offer × ℕ)
   -- the packets of the open block, or none where the ring is frozen
   pub now : Option (List Offer)
-  -- the moment that the last tick told
+  -- the moment that the last tick reported
   pub clock : ℕ
   -- the moment from which a tick finds the open block's time over
   pub deadline : ℕ
@@ -52,7 +52,7 @@ abbrev pub status_of : Bool → State → ℕ
 status_of timed_out state =
     1 + (if timed_out then 32 else 0) + (if state.dropped == 0 then 0 else 4)
 
--- the retired blocks, and the open block of these packets behind them with this status
+-- the retired blocks, and the open block of these packets after them with this status
 abbrev pub retired : List (List Offer × ℕ) → ℕ → Option (List Offer) → List (List Offer × ℕ)
 retired done status None = done
 retired done status (Some offers) = done ++ (offers, status) ∷ []
@@ -163,7 +163,7 @@ MayStand size state (Ticked ms (Held number)) =
 MayStand size state Counted = Unit {0}
 MayStand size state Finished = Unit {0}
 
--- nothing stands behind the note that closes the ring
+-- nothing follows the note that closes the ring
 abbrev pub EndsThere : Note → List Note → Type 0
 EndsThere Finished notes = notes ≡ []
 EndsThere note notes = Unit {0}

@@ -15,6 +15,6 @@ snap_of room captured verdict = min (min captured verdict) (room - 82)
 abbrev pub used_by : List Offer → ℕ
 used_by offers = sum_by (λ offer. need_of offer.snap) offers
 
--- whether a packet of this need fits behind the packets of a block
+-- whether a packet of this need fits after the packets of a block
 abbrev pub fits : ℕ → List Offer → ℕ → Bool
 fits room offers need = nat_le (used_by offers + need) room

@@ -81,7 +81,7 @@ pub enum Put {
     Dropped(u64),
 }
 
-/// Want of memory for a note. The offer comes back, and the ring is as it was.
+/// Out of memory for a note. The offer comes back, and the ring is as it was.
 #[derive(Debug, Drop)]
 pub struct Unput {
     /// The offer that wasn't put.

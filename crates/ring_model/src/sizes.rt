@@ -2,7 +2,7 @@
 ghost use Rattle.std.specs.Prelude.{◌≡◌, ◌≤◌, ◌↔◌, IsTrue};
 ghost use Rattle.ring_model.specs.Sizes.{need_of};
 
-/// Where the data of a packet stands behind the packet's place: TPACKET3_HDRLEN (68 bytes of
+/// The distance of a packet's data from the packet's place: TPACKET3_HDRLEN (68 bytes of
 /// `linux/if_packet.h`) and a gap of 14. The place is this project's own choice.
 const HEADER: u32 = 82;
 

@@ -108,7 +108,7 @@ fn with_packet(block: Open) -> Open
 #[derive(Clone, Copy, Debug)]
 struct Ledger {
     open: Open,
-    /// The moment that the last tick told, in milliseconds.
+    /// The moment that the last tick reported, in milliseconds.
     clock: u64,
     /// The moment from which a tick finds the open block's time over. It may be later than any
     /// tick.

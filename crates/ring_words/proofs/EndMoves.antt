@@ -25,7 +25,7 @@ zeros zero i = refl
 zeros (suc count) zero = refl
 zeros (suc count) (suc i) = zeros count i
 
--- a list that is the front of a log is the front of a list that is the log
+-- a list that is the prefix of a log is the prefix of a list that is the log
 fronts : {n : ℕ} (now : List Entry) (retired log : List Entry) {longer : List Entry} → now ≡ longer → length longer ≡ n → retired ≡ log → longer ≡ take n log → now ≡ take (length now) retired
 fronts now retired log is long same front = is ∙ front ∙ ap (λ k. take k log) (sym long ∙ sym (ap length is)) ∙ ap (take (length now)) (sym same)
 
@@ -234,7 +234,7 @@ module _ {B : Type 0} (bytes kind_of : B → List ℕ) (ready : B → ℕ → �
       subst (λ m. Goes bytes kind_of ready kind s (k % m) id me (slice_index s.words (k % m)) (Drains bytes kind_of ready (step m (k % m) 0 0 none) me (slice_index s.words (k % m)))) wide
       (drains_at s r id me at feeds walks left)
 
--- the reader's seat knows the front of the log, and the feeder's seat knows the log
+-- the reader's seat knows the prefix of the log, and the feeder's seat knows the log
 pub takes_front : {B : Type 0} (bytes kind_of : B → List ℕ) (ready : B → ℕ → ℕ → Type 0) (kind : List ℕ) (s : State (Option B) Known) → IsRing bytes kind_of ready kind s → TakesFront s.views
 takes_front bytes kind_of ready kind s r feeder walker fed walked feeder_at walker_at feeds walks =
     let c = r.course in

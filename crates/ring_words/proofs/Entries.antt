@@ -1,4 +1,4 @@
--- Lists that are read by place: one more entry at the end, and one more at the front of what is known.
+-- Lists that are read by place: one more entry at the end, and one more at the start of what is known.
 use Rattle.std.proofs.Common.{◌≡◌, ◌≢◌, ◌⊎◌, ℕ, zero, suc, ◌+◌, ◌<◌, ◌≤◌, List, [], ◌∷◌, ◌++◌, length, take, slice_index, slice_set, refl, ap, sym, inl, inr, ⊎_elim, arith}
 use mathlib.Core.Option.{some, some-injective, some-ne-none}
 use lib.ListN.{get_elem?}
@@ -35,13 +35,13 @@ module _ {A : Type 0} where
   length-snoc [] a = refl
   length-snoc (x ∷ l) a = let h = length-snoc l a in omega arith
 
-  -- a front stays one when the list grows
+  -- a prefix stays one when the list grows
   pub take-longer : (l : List A) (a : A) (n : ℕ) → n ≤ length l → take n (l ++ a ∷ []) ≡ take n l
   take-longer l a zero h = refl
   take-longer [] a (suc n) h = absurd (omega arith)
   take-longer (x ∷ l) a (suc n) h = ap (λ t. x ∷ t) (take-longer l a n (omega arith))
 
-  -- the front with one entry more
+  -- the prefix with one entry more
   pub take-next : (l : List A) (n : ℕ) (a : A) → get_elem? l n ≡ some a → take (suc n) l ≡ take n l ++ a ∷ []
   take-next [] n a e = absurd (some-ne-none a (sym e))
   take-next (x ∷ l) zero a e = ap (λ t. t ∷ []) (some-injective x a e)

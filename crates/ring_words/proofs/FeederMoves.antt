@@ -322,7 +322,7 @@ module _ {B : Type 0} (bytes kind_of : B → List ℕ) (ready : B → ℕ → �
         record { hand = refl; known = ap (λ k. retired_one v (bytes block, k)) (sym (status_of_word (length v.retired + 1) status odd)) },
       )
 
-  -- the feeder stores number and status behind the block that it has put back
+  -- the feeder stores number and status after the block that it has put back
   pub stores : (n id : ℕ) (me : Holder B) (block : B) (status word : ℕ) → me.0.feeds ≡ true → length me.0.retired < me.0.given → IsStatus status
       → kind_of block ≡ me.0.kind → ready block (length me.0.retired + 1) status → me.1 ≡ (length me.0.retired % n, Some block) ∷ rest me.1
       → word ≡ (length me.0.retired + 1) * 256 + status

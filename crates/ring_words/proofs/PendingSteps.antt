@@ -56,7 +56,7 @@ module _ {B : Type 0} (bytes kind_of : B → List ℕ) (ready : B → ℕ → �
       let pushed : (blocks : List (B × ℕ)) → entries_of bytes (blocks ++ one ∷ []) ≡ entries_of bytes blocks ++ (bytes one.0, one.1) ∷ [] = λ l. map-append (λ (x : B × ℕ). (bytes x.0, x.1)) l (one ∷ []) in
       is ∙ append_assoc taken (entries_of bytes blocks) ((bytes one.0, one.1) ∷ []) ∙ ap (λ l. taken ++ l) (sym (pushed blocks))
 
--- behind what stands first is the rest
+-- after what stands first is the rest
 drop-front : {X : Type 0} (front rest all : List X) → front ++ rest ≡ all → drop (length front) all ≡ rest
 drop-front [] rest all e = sym e
 drop-front (x ∷ front) rest all e = ap (λ l. drop (suc (length front)) l) (sym e) ∙ drop-front front rest (front ++ rest) refl
@@ -86,7 +86,7 @@ slice_get-past [] at h = refl
 slice_get-past (x ∷ l) zero h = absurd (omega arith)
 slice_get-past (x ∷ l) (suc at) h = slice_get-past l at (omega arith)
 
--- the whole of a list is its longest front
+-- the whole of a list is its longest prefix
 pub take-whole : {X : Type 0} (l : List X) (n : ℕ) → length l ≡ n → take n l ≡ l
 take-whole [] zero e = refl
 take-whole [] (suc n) e = refl

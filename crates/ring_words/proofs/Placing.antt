@@ -41,7 +41,7 @@ module _ {B : Type 0} (bytes kind_of : B → List ℕ) (ready : B → ℕ → �
   }
 
 module _ (kind : List ℕ) (feeder walker : ℕ) where
-  -- after a step of the feeder's seat, if the front that was taken is the same
+  -- after a step of the feeder's seat, if the prefix that was taken is the same
   pub others_feed : (course : Course) (log : List Entry) (given : ℕ) (views : List Known) (id : ℕ) (now : Known)
       → ((j : ℕ) (v : Known) → get_elem? views j ≡ some v → Knows kind feeder walker course j v)
       → id ≡ feeder → take course.taken log ≡ take course.taken course.log

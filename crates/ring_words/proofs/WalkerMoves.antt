@@ -32,7 +32,7 @@ module _ {B : Type 0} (bytes kind_of : B → List ℕ) (ready : B → ℕ → �
   abbrev visited : Known → ℕ → Known
   visited v word = record v { visits = v.visits ++ word ∷ [] }
 
-  -- the front that was taken, with the next entry
+  -- the prefix that was taken, with the next entry
   pub front_next : (c : Course) (taken : List Entry) (entry : Entry) → length taken ≡ c.taken → taken ≡ take c.taken c.log → get_elem? c.log c.taken ≡ some entry
       → taken ++ entry ∷ [] ≡ take (length taken + 1) c.log
   front_next c taken entry count front at =
@@ -342,7 +342,7 @@ module _ {B : Type 0} (bytes kind_of : B → List ℕ) (ready : B → ℕ → �
         record { hand = refl; known = refl },
       )
 
-  -- the reader stores the mark behind the block that it has put back
+  -- the reader stores the mark after the block that it has put back
   pub frees : (n id : ℕ) (me : Holder B) (block : B) (mark : ℕ) → me.0.walks ≡ true → length me.0.marks < length me.0.taken → IsMark mark
       → kind_of block ≡ me.0.kind → me.1 ≡ (length me.0.marks % n, Some block) ∷ rest me.1
       → Allows Ring n id me (length me.0.marks % n) (λ _. mark) (λ _. Frees bytes kind_of ready me mark)

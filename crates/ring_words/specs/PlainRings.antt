@@ -71,7 +71,7 @@ feed_of state = record {
   shown = state.shown;
 }
 
--- what it tells as an end of the reader's side
+-- what it reports as an end of the reader's side
 abbrev pub walk_of : PlainState → Walk
 walk_of state = record {
   ring = ring_of state;

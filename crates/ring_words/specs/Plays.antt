@@ -36,7 +36,7 @@ module _ {B : Type 0} (bytes kind_of : B → List ℕ) (ready : B → ℕ → �
     pub free : word % 2 ≡ 0 → FoundFree step before word after
     pub held : word % 2 ≡ 1 → FoundHeld step before word after
 
-  -- the feeder stored number and status behind the block that it put back at its place
+  -- the feeder stored number and status after the block that it put back at its place
   pub record Stores (step : Step (Option B)) (before : Holder B) (word : ℕ) (after : Holder B) : Type 0 where
     pub hand : after.1 ≡ rest before.1
     pub known : after.0 ≡ record before.0 {
@@ -68,12 +68,12 @@ module _ {B : Type 0} (bytes kind_of : B → List ℕ) (ready : B → ℕ → �
     pub some : word % 2 ≡ 1 → FoundNext step before word after
     pub none : word % 2 ≡ 0 → FoundNone before word after
 
-  -- the reader stored the mark behind the block that it put back at its place
+  -- the reader stored the mark after the block that it put back at its place
   pub record Frees (before : Holder B) (word : ℕ) (after : Holder B) : Type 0 where
     pub hand : after.1 ≡ rest before.1
     pub known : after.0 ≡ record before.0 { marks = before.0.marks ++ word ∷ [] }
 
-  -- an end for both sides compared them: what was taken is the front of what was retired
+  -- an end for both sides compared them: what was taken is the prefix of what was retired
   pub record Compares (before after : Holder B) : Type 0 where
     pub same : after ≡ before
     pub count : length before.0.taken ≤ length before.0.retired

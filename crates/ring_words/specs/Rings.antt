@@ -36,10 +36,10 @@ pub record Feed : Type 0 where
   pub retired : ℕ
   -- how many of its looks found a word of the reader's side; it may stand still at the greatest u64
   pub holds : ℕ
-  -- how many blocks the reader released and how many it took, where the end tells that
+  -- how many blocks the reader released and how many it took, where the end reports that
   pub freed : Option ℕ
   pub fetched : Option ℕ
-  -- what it stands for: behind so many of the blocks retired so far are these
+  -- what it stands for: after so many of the blocks retired so far are these
   pub passed : ℕ
   pub shown : List Entry
 
@@ -67,5 +67,5 @@ pub record Walk : Type 0 where
   pub taken : ℕ
   -- how many of its looks found a word of the feeder's side; it may stand still at the greatest u64
   pub empties : ℕ
-  -- how many retired blocks wait to be taken, where the end tells that
+  -- how many retired blocks wait to be taken, where the end reports that
   pub waiting : Option ℕ

@@ -47,7 +47,7 @@ even_count (word ∷ words) = (1 - word % 2) + even_count words
 abbrev pub ring_at : TableId → ℕ → List ℕ → Ring
 ring_at table count common = record { id = table; places = count; bound = 2 ^ 40; kind = common }
 
--- the feeder's end stands for the blocks that it retired, and doesn't tell what the reader does
+-- the feeder's end stands for the blocks that it retired, and doesn't report what the reader does
 abbrev pub feed_of : Feeding → Feed
 feed_of feeder = record {
   ring = ring_at feeder.id feeder.places feeder.kind;
@@ -60,7 +60,7 @@ feed_of feeder = record {
   shown = feeder.retired;
 }
 
--- the reader's end doesn't tell what the feeder does
+-- the reader's end doesn't report what the feeder does
 abbrev pub walk_of : Walking → Walk
 walk_of walker = record {
   ring = ring_at walker.id walker.places walker.kind;

@@ -107,7 +107,7 @@ pub record IsFront (taken retired : List Entry) : Type 0 where
   pub count : length taken ≤ length retired
   pub front : taken ≡ take (length taken) retired
 
--- whatever the reader's end knows that it took is the front of what the feeder's end knows that it retired
+-- whatever the reader's end knows that it took is the prefix of what the feeder's end knows that it retired
 abbrev pub TakesFront : List Known → Type 0
 TakesFront views =
     (feeder walker : ℕ) (fed walked : Known) → get_elem? views feeder ≡ some fed → get_elem? views walker ≡ some walked

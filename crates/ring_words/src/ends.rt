@@ -51,7 +51,7 @@ pub trait FeederEnd<B: Content> {
         ensures once { OnHeld result ((feed self.new).holds ≤ (feed self.old).holds + 1) }
         ensures later { (feed self.old).holds ≤ (feed self.new).holds }
 
-        // Where the end tells how many blocks were released, each answer is exact.
+        // Where the end reports how many blocks were released, each answer is exact.
         ensures exact_free { (released : ℕ) → (feed self.old).freed ≡ Some released →
             OnFree result ((feed self.old).given + 1 ≤ released + (feed self.old).ring.places) }
         ensures exact_held { (released : ℕ) → (feed self.old).freed ≡ Some released →
@@ -111,7 +111,7 @@ pub trait WalkerEnd<B: Content> {
         ensures once { IfNone result ((walk self.new).empties ≤ (walk self.old).empties + 1) }
         ensures later { (walk self.old).empties ≤ (walk self.new).empties }
 
-        // Where the end tells how many blocks wait, each answer is exact.
+        // Where the end reports how many blocks wait, each answer is exact.
         ensures exact_some { (blocks : ℕ) → (walk self.old).waiting ≡ Some blocks →
             OnSome result (0 < blocks) }
         ensures exact_none { (blocks : ℕ) → (walk self.old).waiting ≡ Some blocks →

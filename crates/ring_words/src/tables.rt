@@ -1,9 +1,9 @@
 //! A ring between two threads: how it is made, and who owns which block of it.
 //!
 //! Each place of the ring has a status word and a slot, where its block stands. The feeder looks at the word of the next
-//! place. An even word is of its own side: it takes the block out of the slot, fills it, puts it back, and behind that
+//! place. An even word is of its own side: it takes the block out of the slot, fills it, puts it back, and after that
 //! stores the block's number and an odd status. From this store on the block is the reader's. The reader looks at the
-//! word of the next number. An odd word is of its side: it takes the block out, reads it, puts it back, and behind that
+//! word of the next number. An odd word is of its side: it takes the block out, reads it, puts it back, and after that
 //! stores an even mark. From this store on the block is the feeder's again.
 //!
 //! A look is one load of one word. Where it finds a word of the other side nothing changes, and the end may look again:
@@ -76,7 +76,7 @@ pub fn table_ownership_holds<B: Content + Drop>()
         × EachKnows (B.kind sample.value) course state.views }
 {}
 
-/// What the reader took is at each moment the front of what the feeder retired.
+/// What the reader took is at each moment the prefix of what the feeder retired.
 pub fn table_front_holds<B: Content + Drop>()
     ensures { (sample : Snapshot B) (state : State (Option B) Known) →
         ⟦<Handover as TableRule<Option<B>, Known, Snapshot<B>>>⟧.holds sample state →

@@ -4,12 +4,14 @@
 
 mod captures;
 mod comparing;
+mod counting;
 mod faulty;
 mod rows;
 mod stores;
 
 pub use captures::push_fields;
 pub use comparing::{report_of, wrong_files};
+pub use counting::CountingStore;
 pub use faulty::{PieceSink, PoorStore};
 pub use rows::{Capture, Faults, Kept, NO_FAULT, NO_FRAME, NOTHING, PAGES, Row, Shape};
 pub use stores::{store, sure_store};

@@ -65,7 +65,7 @@ pub struct Row<'a> {
     pub setup: &'a str,
     /// Its further lines.
     pub lines: &'a str,
-    /// Whether `dump yes` stands behind them.
+    /// Whether `dump yes` follows them.
     pub dump: bool,
     /// The filter `f.ddd`.
     pub filter: &'a str,

@@ -16,7 +16,7 @@ use Rattle.fanout_group.specs.declared.logs.Fate.{Fate}
 use Rattle.fanout_group.specs.declared.logs.Fate.TheVariants.{Kept, Refused, Dropped}
 use Rattle.fanout_group.specs.declared.logs.Try.{Try}
 use Rattle.fanout_group.proofs.Members.{one_if}
-use Rattle.fanout_group.proofs.Settling.{is_settled, settled_by_tries, settled_of, try_settles}
+use Rattle.fanout_group.proofs.SettledNotes.{is_settled, settled_by_tries, settled_of, try_settles}
 use Rattle.run_reports.specs.Once.{EachStandsAtItsLastTry, ends_at}
 
 -- this frame of this CPU

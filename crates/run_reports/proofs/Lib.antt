@@ -1,6 +1,6 @@
-pub mod Growing
-pub mod Keeping
-pub mod Arriving
+pub mod GrownBlocks
+pub mod KeptPackets
+pub mod ArrivalOrder
 mod KeptOffers
 mod Shorts
 mod Once

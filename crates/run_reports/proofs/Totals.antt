@@ -19,7 +19,7 @@ use Rattle.run_reports.specs.Jobs.{arriving_of, captures_from, rules_of}
 use Rattle.run_reports.specs.Logs.{AreLogsFrom}
 use Rattle.run_reports.specs.Reports.{IsRunReport, logged, notes_of}
 use Rattle.run_reports.specs.Totals.{arrivals_in, drops_in, filtered_in, kept_in}
-use Rattle.run_reports.proofs.Arriving.{count_from}
+use Rattle.run_reports.proofs.ArrivalOrder.{count_from}
 use Rattle.ring_model.specs.declared.notes.Note.{Note}
 use Rattle.ring_model.specs.declared.notes.Note.TheVariants.{Kept, Refused, Dropped, Ticked, Counted, Finished}
 use Rattle.fanout_group.specs.Joined.{Attempt, AreNotesOf, IsNoteOf, Logged, attempts_at, attempts_in, nothing_logged}
@@ -32,8 +32,8 @@ use Rattle.fanout_group.specs.declared.logs.Fate.{Fate}
 use Rattle.fanout_group.specs.declared.logs.Fate.TheVariants as fates
 use Rattle.fanout_group.specs.declared.logs.Try.{Try}
 use Rattle.fanout_group.proofs.Members.{one_if, sum_below, sum_below-add, sum_below-at, sum_below-same, sum_below-zero, sum_by-below}
-use Rattle.fanout_group.proofs.Routing.{present_is_member, settles_in, tries_end}
-use Rattle.fanout_group.proofs.Settling.{is_settled}
+use Rattle.fanout_group.proofs.RouteBounds.{present_is_member, settles_in, tries_end}
+use Rattle.fanout_group.proofs.SettledNotes.{is_settled}
 
 -- 1 where a note keeps or drops a packet
 abbrev pub settled : Note → ℕ

@@ -2,7 +2,7 @@
 use Rattle.std.specs.Prelude.{ℕ, ◌+◌, List, [], ◌∷◌, map, slice_get, Option, None, Some}
 use Rattle.capture_file.specs.Capture.{frames_of}
 use Rattle.fanout_group.specs.Arrivals.{arrivals_at}
-use Rattle.fanout_group.specs.Judging.{Lens, rules_by}
+use Rattle.fanout_group.specs.Judgements.{Lens, rules_by}
 use Rattle.fanout_group.specs.Plans.{has_defrag}
 use Rattle.fanout_group.specs.Rules.{Rules}
 use Rattle.frame_view.specs.declared.frames.Frame.{Frame}

@@ -2,7 +2,7 @@
 use run_building::{Capture, Faults, NO_FAULT, NO_FRAME, NOTHING, Row, Shape, difference};
 use std::test::Fail;
 
-/// A slot has 2,000 bytes behind its header, so that a frame of more is longer than fits.
+/// A slot has 2,000 bytes after its header, so that a frame of more is longer than fits.
 const SHORT: Shape<'static> = (b"", 60);
 
 const LONG: Shape<'static> = (b"", 3000);

@@ -94,12 +94,14 @@ fn push_address(text: &mut String, setup: &Setup) -> Result<(), Memory> {
     Ok(())
 }
 
-/// Appends what is chosen besides: a key, an address, a dump, frames that are skipped and made.
+/// Appends what is chosen besides: a key, an address, a dump, frames that are skipped and made, and
+/// workers.
 fn push_choices(text: &mut String, setup: &Setup) -> Result<(), Memory> {
     write!(text, "\nkey {} mac", setup.key.is_some())?;
     push_address(text, setup)?;
     write!(text, "\ndump {} skip {}\n", setup.dump, setup.skip_bad)?;
     write!(text, "make {} {}\n", setup.seed, setup.count)?;
+    write!(text, "workers {}\n", setup.workers)?;
     Ok(())
 }
 
@@ -133,6 +135,7 @@ out
 key false mac
 dump false skip false
 make 0 0
+workers 0
 ";
 
 #[test]
@@ -166,6 +169,7 @@ filter tcp.ddd
 ticks t.txt
 out run/1
 make\t4294967295 0000000001
+workers 8
 skip_bad yes
 dump yes";
 
@@ -186,6 +190,7 @@ run/1
 key true mac 2 0 0 0 0 171
 dump true skip true
 make 4294967295 1
+workers 8
 ";
 
 #[test]
@@ -216,7 +221,7 @@ fn reads_made_frames_and_skip_bad(rt: HostRuntime) -> Result<(), Memory> {
         Command::Forward,
     ] {
         let text = shown(rt.alloc(), MADE, command)?;
-        let end = "dump false skip true\nmake 1 20000\n";
+        let end = "dump false skip true\nmake 1 20000\nworkers 0\n";
         assert!(rt; text.as_str().ends_with(end), "{command:?} {text}");
     }
     Ok(())

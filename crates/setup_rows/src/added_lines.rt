@@ -4,7 +4,7 @@ use frame_view::Memory;
 use setup_text::Command;
 
 /// Lines after the five that are needed, and the first fault.
-static ADDED: [(&str, &str); 81] = [
+static ADDED: [(&str, &str); 85] = [
     // the byte test comes before the word, and a comment isn't tested
     ("blok\u{e9} 3\n", "setup line 6: bad_line\n"),
     ("tov \u{7f}\n", "setup line 6: bad_line\n"),
@@ -15,7 +15,6 @@ static ADDED: [(&str, &str); 81] = [
     // unknown words, and those of no command
     ("blok 3\n", "setup line 6: unknown_word\n"),
     ("Tov 8\n", "setup line 6: unknown_word\n"),
-    ("workers 2\n", "setup line 6: unknown_word\n"),
     // the number of values comes before a word that stood before
     ("block_size\n", "setup line 6: bad_line\n"),
     ("block_size 1 2\n", "setup line 6: bad_line\n"),
@@ -107,6 +106,12 @@ static ADDED: [(&str, &str); 81] = [
         "make 1 5\nskip_bad yes\nskip_bad yes\n",
         "setup line 8: twice\n",
     ),
+    // the workers of a pool
+    ("workers\n", "setup line 6: bad_line\n"),
+    ("workers 1 1\n", "setup line 6: bad_line\n"),
+    ("workers 9\n", "setup line 6: bad_number\n"),
+    ("workers two\n", "setup line 6: bad_number\n"),
+    ("workers 8\nworkers 9\n", "setup line 7: twice\n"),
     // of two faulty lines the first answers, and before what the lines say together
     ("blok 3\ntov x\n", "setup line 6: unknown_word\n"),
     ("members 0\ntov x\n", "setup line 7: bad_number\n"),

@@ -20,7 +20,7 @@ use Rattle.setup_text.specs.declared.setup_error.Needed.TheVariants as needed
 use Rattle.setup_text.specs.declared.setup_error.SetupKind.{SetupKind}
 use Rattle.setup_text.specs.declared.setups.Setup.{Setup}
 use Rattle.setup_text.proofs.Passing.{ok_same}
-use Rattle.setup_text.proofs.DraftLines.{AreFrames, IsDraft, IsTimeOut, line_keeps}
+use Rattle.setup_text.proofs.DraftLines.{AreFrames, AreWorkers, IsDraft, IsTimeOut, line_keeps}
 
 or_none : {A : Type 0} (a b : Option A) → option_or a b ≡ None → (a ≡ None) × (b ≡ None)
 or_none None b h = (refl, h)
@@ -66,6 +66,10 @@ few_made (Some made) p = p.1
 time_out_small : (tov : Option ℕ) → IsTimeOut tov → unwrap_or tov 0 ≤ 60000
 time_out_small None p = omega arith
 time_out_small (Some tov) p = p
+
+few_workers : (workers : Option ℕ) → AreWorkers workers → unwrap_or workers 0 ≤ 8
+few_workers None p = omega arith
+few_workers (Some workers) p = p
 
 prefix_named : (out : Option (List ℕ)) → IsName out → 0 < length (unwrap_or out (codes "out"))
 prefix_named None p = omega arith
@@ -124,6 +128,7 @@ after_sound given draft setup p h =
         prefixed = prefix_named draft.out p.out;
         prefix = prefix_small draft.out p.out;
         count = few_made draft.made p.made;
+        workers = few_workers draft.workers p.workers;
       };
       ring = ring;
       made = made_known given draft p there.1;
@@ -138,5 +143,5 @@ pub setup_accepted : (text : List ℕ) (given : Command) (draft : Draft) (setup 
 unfolding draft_of
 setup_accepted text given draft setup d h =
     after_sound given draft setup
-    (reads_keep line_after IsDraft line_keeps 1 nothing_said draft (lines_of text) (record { few = omega arith; cpus = All-nil IsCpu; made = tt; tov = tt; filter = tt; ticks = tt; out = tt })
+    (reads_keep line_after IsDraft line_keeps 1 nothing_said draft (lines_of text) (record { few = omega arith; cpus = All-nil IsCpu; made = tt; tov = tt; filter = tt; ticks = tt; out = tt; workers = tt })
     (line_ok (read_lines line_after 1 nothing_said (lines_of text)) draft d)) h

@@ -14,7 +14,7 @@ use Rattle.setup_text.specs.declared.setup_error.SetupKind.TheVariants.{BadLine,
 use Rattle.setup_text.specs.declared.setup_words.SetupWord.{SetupWord}
 use Rattle.setup_text.specs.declared.setup_words.SetupWord.TheVariants as word
 use Rattle.setup_text.proofs.Passing.{some_same}
-use Rattle.setup_text.proofs.Parts.{Fills, Held, Part, get, put, BlockSize, BlockNr, FrameSize, FrameNr, Tov, Priv, Features, Members, Mode, Key, Mac, Filter, Ticks, Out, Made, Rollover, Defrag, Dump, SkipBad, Cpus}
+use Rattle.setup_text.proofs.Parts.{Fills, Held, Part, get, put, BlockSize, BlockNr, FrameSize, FrameNr, Tov, Priv, Features, Members, Mode, Key, Mac, Filter, Ticks, Out, Made, Workers, Rollover, Defrag, Dump, SkipBad, Cpus}
 
 pub data Acts (cpu : Bool) (step : Draft → Result Draft SetupKind) : Type 0 where
   never : ((draft next : Draft) → step draft ≡ Ok next → ⊥) → Acts cpu step
@@ -119,6 +119,7 @@ value_acts word.Flag value = flag_acts false value
 value_acts word.Dump value = changes Dump (λ before. yes_once before value) (λ draft. refl) (yes_fills value)
 value_acts word.SkipBad value = changes SkipBad (λ before. yes_once before value) (λ draft. refl) (yes_fills value)
 value_acts word.Make value = never (λ draft next h. cc)
+value_acts word.Workers value = changes Workers (λ before. put_once before (number_to 8 value)) (λ draft. refl) (put_fills (number_to 8 value))
 
 pair_acts : (word : SetupWord) (value second : List ℕ) → Acts (is_cpu word) (λ draft. pair_after draft word value second)
 unfolding is_cpu
@@ -175,7 +176,7 @@ over_acts : (over plain : Bool) (words : List (List ℕ))
 over_acts true plain words = nothing (λ draft. refl)
 over_acts false plain words = plain_acts plain words
 
--- what a line leads to, where a line that is passed over changes nothing
+-- what a line leads to, where a line that is skipped changes nothing
 unfoldable pub step_of : List ℕ → Draft → Result Draft SetupKind
 step_of line draft = if is_passed_over (words_of line) then Ok draft else line_after draft line
 

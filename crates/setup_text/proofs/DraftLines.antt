@@ -29,6 +29,11 @@ abbrev pub IsTimeOut : Option ℕ → Type 0
 IsTimeOut None = Unit {0}
 IsTimeOut (Some tov) = tov ≤ 60000
 
+-- workers, where their number is said, are at most eight
+abbrev pub AreWorkers : Option ℕ → Type 0
+AreWorkers None = Unit {0}
+AreWorkers (Some workers) = workers ≤ 8
+
 -- words have a byte
 abbrev HasByte : List ℕ → Type 0
 HasByte word = 0 < length word
@@ -41,6 +46,7 @@ pub record IsDraft (draft : Draft) : Type 0 where
   pub filter : IsName draft.filter
   pub ticks : IsName draft.ticks
   pub out : IsName draft.out
+  pub workers : AreWorkers draft.workers
 
 said_keeps : {A : Type 0} (given : Result A SetupKind) (draft : A → Draft) (next : Draft) → ((value : A) → IsDraft (draft value))
     → said given draft ≡ Ok next → IsDraft next
@@ -59,6 +65,10 @@ number_small most (Some value) number h = passed (λ number. number ≤ most) (n
 time_out_small : (word : List ℕ) (tov : ℕ) → number_to 60000 word ≡ Ok tov → tov ≤ 60000
 unfolding number_to
 time_out_small word tov h = number_small 60000 (number_of word) tov h
+
+workers_few : (word : List ℕ) (workers : ℕ) → number_to 8 word ≡ Ok workers → workers ≤ 8
+unfolding number_to
+workers_few word workers h = number_small 8 (number_of word) workers h
 
 -- what stands once keeps what holds of its value
 once_keeps : {A : Type 0} (P : A → Type 0) (before : Option A) (given : Result A SetupKind) (draft : Option A → Draft) (next : Draft)
@@ -88,6 +98,7 @@ file_keeps draft (Ok file) (Ok queue) next few p n q h =
       filter = p.filter;
       ticks = p.ticks;
       out = p.out;
+      workers = p.workers;
     })
 
 cpu_keeps : (draft : Draft) (file : List ℕ) (queue : Option (List ℕ)) (next : Draft) → 0 < length file → IsDraft draft → cpu_after draft file queue ≡ Ok next → IsDraft next
@@ -108,38 +119,41 @@ flag_keeps : (draft : Draft) (value : List ℕ) (next : Draft) → IsDraft draft
 unfolding flag_after
 flag_keeps draft value next p h =
     flag_chosen (bytes_eq value (codes "rollover")) (bytes_eq value (codes "defrag")) _ _ _ next
-    (λ e. said_keeps (set_once draft.rollover) (λ set. record draft { rollover = set }) next (λ set. record { few = p.few; cpus = p.cpus; made = p.made; tov = p.tov; filter = p.filter; ticks = p.ticks; out = p.out }) e)
-    (λ e. said_keeps (set_once draft.defrag) (λ set. record draft { defrag = set }) next (λ set. record { few = p.few; cpus = p.cpus; made = p.made; tov = p.tov; filter = p.filter; ticks = p.ticks; out = p.out }) e) h
+    (λ e. said_keeps (set_once draft.rollover) (λ set. record draft { rollover = set }) next (λ set. record { few = p.few; cpus = p.cpus; made = p.made; tov = p.tov; filter = p.filter; ticks = p.ticks; out = p.out; workers = p.workers }) e)
+    (λ e. said_keeps (set_once draft.defrag) (λ set. record draft { defrag = set }) next (λ set. record { few = p.few; cpus = p.cpus; made = p.made; tov = p.tov; filter = p.filter; ticks = p.ticks; out = p.out; workers = p.workers }) e) h
 
 value_keeps : (draft : Draft) (word : SetupWord) (value : List ℕ) (next : Draft) → 0 < length value → IsDraft draft → value_after draft word value ≡ Ok next → IsDraft next
 unfolding value_after
-value_keeps draft word.BlockSize value next some p h = said_keeps _ (λ n. record draft { block_size = n }) next (λ n. record { few = p.few; cpus = p.cpus; made = p.made; tov = p.tov; filter = p.filter; ticks = p.ticks; out = p.out }) h
-value_keeps draft word.BlockNr value next some p h = said_keeps _ (λ n. record draft { block_nr = n }) next (λ n. record { few = p.few; cpus = p.cpus; made = p.made; tov = p.tov; filter = p.filter; ticks = p.ticks; out = p.out }) h
-value_keeps draft word.FrameSize value next some p h = said_keeps _ (λ n. record draft { frame_size = n }) next (λ n. record { few = p.few; cpus = p.cpus; made = p.made; tov = p.tov; filter = p.filter; ticks = p.ticks; out = p.out }) h
-value_keeps draft word.FrameNr value next some p h = said_keeps _ (λ n. record draft { frame_nr = n }) next (λ n. record { few = p.few; cpus = p.cpus; made = p.made; tov = p.tov; filter = p.filter; ticks = p.ticks; out = p.out }) h
+value_keeps draft word.BlockSize value next some p h = said_keeps _ (λ n. record draft { block_size = n }) next (λ n. record { few = p.few; cpus = p.cpus; made = p.made; tov = p.tov; filter = p.filter; ticks = p.ticks; out = p.out; workers = p.workers }) h
+value_keeps draft word.BlockNr value next some p h = said_keeps _ (λ n. record draft { block_nr = n }) next (λ n. record { few = p.few; cpus = p.cpus; made = p.made; tov = p.tov; filter = p.filter; ticks = p.ticks; out = p.out; workers = p.workers }) h
+value_keeps draft word.FrameSize value next some p h = said_keeps _ (λ n. record draft { frame_size = n }) next (λ n. record { few = p.few; cpus = p.cpus; made = p.made; tov = p.tov; filter = p.filter; ticks = p.ticks; out = p.out; workers = p.workers }) h
+value_keeps draft word.FrameNr value next some p h = said_keeps _ (λ n. record draft { frame_nr = n }) next (λ n. record { few = p.few; cpus = p.cpus; made = p.made; tov = p.tov; filter = p.filter; ticks = p.ticks; out = p.out; workers = p.workers }) h
 value_keeps draft word.Tov value next some p h =
     once_keeps (λ n. n ≤ 60000) draft.tov (number_to 60000 value) (λ n. record draft { tov = n }) next (time_out_small value)
-    (λ n small. record { few = p.few; cpus = p.cpus; made = p.made; tov = small; filter = p.filter; ticks = p.ticks; out = p.out }) h
-value_keeps draft word.Priv value next some p h = said_keeps _ (λ n. record draft { sizeof_priv = n }) next (λ n. record { few = p.few; cpus = p.cpus; made = p.made; tov = p.tov; filter = p.filter; ticks = p.ticks; out = p.out }) h
-value_keeps draft word.Features value next some p h = said_keeps _ (λ n. record draft { features = n }) next (λ n. record { few = p.few; cpus = p.cpus; made = p.made; tov = p.tov; filter = p.filter; ticks = p.ticks; out = p.out }) h
+    (λ n small. record { few = p.few; cpus = p.cpus; made = p.made; tov = small; filter = p.filter; ticks = p.ticks; out = p.out; workers = p.workers }) h
+value_keeps draft word.Priv value next some p h = said_keeps _ (λ n. record draft { sizeof_priv = n }) next (λ n. record { few = p.few; cpus = p.cpus; made = p.made; tov = p.tov; filter = p.filter; ticks = p.ticks; out = p.out; workers = p.workers }) h
+value_keeps draft word.Features value next some p h = said_keeps _ (λ n. record draft { features = n }) next (λ n. record { few = p.few; cpus = p.cpus; made = p.made; tov = p.tov; filter = p.filter; ticks = p.ticks; out = p.out; workers = p.workers }) h
 value_keeps draft word.Cpu value next some p h = cpu_keeps draft value None next some p h
-value_keeps draft word.Members value next some p h = said_keeps _ (λ n. record draft { members = n }) next (λ n. record { few = p.few; cpus = p.cpus; made = p.made; tov = p.tov; filter = p.filter; ticks = p.ticks; out = p.out }) h
-value_keeps draft word.Mode value next some p h = said_keeps _ (λ n. record draft { mode = n }) next (λ n. record { few = p.few; cpus = p.cpus; made = p.made; tov = p.tov; filter = p.filter; ticks = p.ticks; out = p.out }) h
+value_keeps draft word.Members value next some p h = said_keeps _ (λ n. record draft { members = n }) next (λ n. record { few = p.few; cpus = p.cpus; made = p.made; tov = p.tov; filter = p.filter; ticks = p.ticks; out = p.out; workers = p.workers }) h
+value_keeps draft word.Mode value next some p h = said_keeps _ (λ n. record draft { mode = n }) next (λ n. record { few = p.few; cpus = p.cpus; made = p.made; tov = p.tov; filter = p.filter; ticks = p.ticks; out = p.out; workers = p.workers }) h
 value_keeps draft word.Flag value next some p h = flag_keeps draft value next p h
-value_keeps draft word.Key value next some p h = said_keeps _ (λ n. record draft { key = n }) next (λ n. record { few = p.few; cpus = p.cpus; made = p.made; tov = p.tov; filter = p.filter; ticks = p.ticks; out = p.out }) h
-value_keeps draft word.Mac value next some p h = said_keeps _ (λ n. record draft { mac = n }) next (λ n. record { few = p.few; cpus = p.cpus; made = p.made; tov = p.tov; filter = p.filter; ticks = p.ticks; out = p.out }) h
+value_keeps draft word.Key value next some p h = said_keeps _ (λ n. record draft { key = n }) next (λ n. record { few = p.few; cpus = p.cpus; made = p.made; tov = p.tov; filter = p.filter; ticks = p.ticks; out = p.out; workers = p.workers }) h
+value_keeps draft word.Mac value next some p h = said_keeps _ (λ n. record draft { mac = n }) next (λ n. record { few = p.few; cpus = p.cpus; made = p.made; tov = p.tov; filter = p.filter; ticks = p.ticks; out = p.out; workers = p.workers }) h
 value_keeps draft word.Filter value next some p h =
     once_keeps (λ n. (0 < length n) × (length n ≤ 255)) draft.filter (name_in value) (λ n. record draft { filter = n }) next (λ name. name_small value name some)
-    (λ n small. record { few = p.few; cpus = p.cpus; made = p.made; tov = p.tov; filter = small; ticks = p.ticks; out = p.out }) h
+    (λ n small. record { few = p.few; cpus = p.cpus; made = p.made; tov = p.tov; filter = small; ticks = p.ticks; out = p.out; workers = p.workers }) h
 value_keeps draft word.Ticks value next some p h =
     once_keeps (λ n. (0 < length n) × (length n ≤ 255)) draft.ticks (name_in value) (λ n. record draft { ticks = n }) next (λ name. name_small value name some)
-    (λ n small. record { few = p.few; cpus = p.cpus; made = p.made; tov = p.tov; filter = p.filter; ticks = small; out = p.out }) h
+    (λ n small. record { few = p.few; cpus = p.cpus; made = p.made; tov = p.tov; filter = p.filter; ticks = small; out = p.out; workers = p.workers }) h
 value_keeps draft word.Out value next some p h =
     once_keeps (λ n. (0 < length n) × (length n ≤ 255)) draft.out (name_in value) (λ n. record draft { out = n }) next (λ name. name_small value name some)
-    (λ n small. record { few = p.few; cpus = p.cpus; made = p.made; tov = p.tov; filter = p.filter; ticks = p.ticks; out = small }) h
-value_keeps draft word.Dump value next some p h = said_keeps _ (λ set. record draft { dump = set }) next (λ set. record { few = p.few; cpus = p.cpus; made = p.made; tov = p.tov; filter = p.filter; ticks = p.ticks; out = p.out }) h
-value_keeps draft word.SkipBad value next some p h = said_keeps _ (λ set. record draft { skip_bad = set }) next (λ set. record { few = p.few; cpus = p.cpus; made = p.made; tov = p.tov; filter = p.filter; ticks = p.ticks; out = p.out }) h
+    (λ n small. record { few = p.few; cpus = p.cpus; made = p.made; tov = p.tov; filter = p.filter; ticks = p.ticks; out = small; workers = p.workers }) h
+value_keeps draft word.Dump value next some p h = said_keeps _ (λ set. record draft { dump = set }) next (λ set. record { few = p.few; cpus = p.cpus; made = p.made; tov = p.tov; filter = p.filter; ticks = p.ticks; out = p.out; workers = p.workers }) h
+value_keeps draft word.SkipBad value next some p h = said_keeps _ (λ set. record draft { skip_bad = set }) next (λ set. record { few = p.few; cpus = p.cpus; made = p.made; tov = p.tov; filter = p.filter; ticks = p.ticks; out = p.out; workers = p.workers }) h
 value_keeps draft word.Make value next some p h = cc
+value_keeps draft word.Workers value next some p h =
+    once_keeps (λ n. n ≤ 8) draft.workers (number_to 8 value) (λ n. record draft { workers = n }) next (workers_few value)
+    (λ n few. record { few = p.few; cpus = p.cpus; made = p.made; tov = p.tov; filter = p.filter; ticks = p.ticks; out = p.out; workers = few }) h
 
 is_positive : (number : ℕ) → (number == 0) ≡ false → 1 ≤ number
 is_positive zero h = cc
@@ -170,7 +184,7 @@ put_keeps : (draft : Draft) (before : Option MadeFrames) (given : Result MadeFra
 put_keeps draft (Some frames) given next p k h = cc
 put_keeps draft None (Err fault) next p k h = cc
 put_keeps draft None (Ok made) next p k h =
-    subst IsDraft (ok_same (record draft { made = Some made }) next h) (record { few = p.few; cpus = p.cpus; made = k made refl; tov = p.tov; filter = p.filter; ticks = p.ticks; out = p.out })
+    subst IsDraft (ok_same (record draft { made = Some made }) next h) (record { few = p.few; cpus = p.cpus; made = k made refl; tov = p.tov; filter = p.filter; ticks = p.ticks; out = p.out; workers = p.workers })
 
 pair_keeps : (draft : Draft) (word : SetupWord) (file queue : List ℕ) (next : Draft) → 0 < length file → IsDraft draft → pair_after draft word file queue ≡ Ok next → IsDraft next
 pair_keeps draft word.Cpu file queue next some p h = cpu_keeps draft file (Some queue) next some p h

@@ -26,7 +26,7 @@ text_place NoReturn h = refl
 text_place (BadAncillary at) h = cc
 text_place Memory h = refl
 
--- a fault is told where memory wasn't wanted
+-- a fault is reported where memory didn't run out
 pub refused_place : (fault : FilterError) (text : List ℕ) → Refuses fault (instructions_of text) → place_of fault ≡ 0
 refused_place Memory text h = refl
 refused_place (BadLine line) text h = refl

@@ -22,6 +22,7 @@ pub data Part : Type 0 where
   Ticks : Part
   Out : Part
   Made : Part
+  Workers : Part
   Rollover : Part
   Defrag : Part
   Dump : Part
@@ -45,6 +46,7 @@ Held Filter = Option (List ℕ)
 Held Ticks = Option (List ℕ)
 Held Out = Option (List ℕ)
 Held Made = Option MadeFrames
+Held Workers = Option ℕ
 Held Rollover = Bool
 Held Defrag = Bool
 Held Dump = Bool
@@ -67,6 +69,7 @@ get Filter draft = draft.filter
 get Ticks draft = draft.ticks
 get Out draft = draft.out
 get Made draft = draft.made
+get Workers draft = draft.workers
 get Rollover draft = draft.rollover
 get Defrag draft = draft.defrag
 get Dump draft = draft.dump
@@ -89,6 +92,7 @@ put Filter draft value = record draft { filter = value }
 put Ticks draft value = record draft { ticks = value }
 put Out draft value = record draft { out = value }
 put Made draft value = record draft { made = value }
+put Workers draft value = record draft { workers = value }
 put Rollover draft value = record draft { rollover = value }
 put Defrag draft value = record draft { defrag = value }
 put Dump draft value = record draft { dump = value }
@@ -112,6 +116,7 @@ is_full Filter value = is_some value
 is_full Ticks value = is_some value
 is_full Out value = is_some value
 is_full Made value = is_some value
+is_full Workers value = is_some value
 is_full Rollover value = value
 is_full Defrag value = value
 is_full Dump value = value
@@ -189,6 +194,10 @@ from_made : (b : Part) → (Made ≡ b) ⊎ Apart Made b
 from_made Made = inl refl
 from_made b = inr (record { first = λ draft value. refl; second = λ draft value. refl; both = λ draft value other. refl })
 
+from_workers : (b : Part) → (Workers ≡ b) ⊎ Apart Workers b
+from_workers Workers = inl refl
+from_workers b = inr (record { first = λ draft value. refl; second = λ draft value. refl; both = λ draft value other. refl })
+
 from_rollover : (b : Part) → (Rollover ≡ b) ⊎ Apart Rollover b
 from_rollover Rollover = inl refl
 from_rollover b = inr (record { first = λ draft value. refl; second = λ draft value. refl; both = λ draft value other. refl })
@@ -225,6 +234,7 @@ apart Filter b = from_filter b
 apart Ticks b = from_ticks b
 apart Out b = from_out b
 apart Made b = from_made b
+apart Workers b = from_workers b
 apart Rollover b = from_rollover b
 apart Defrag b = from_defrag b
 apart Dump b = from_dump b

@@ -17,7 +17,7 @@ use Rattle.setup_text.specs.declared.setup_words.SetupWord.TheVariants as word
 use Rattle.setup_text.specs.declared.setups.Setup.{Setup}
 use Rattle.setup_text.proofs.Texts.{when_small}
 use Rattle.setup_text.proofs.WrittenLines.{Leads, all_few, leads_append, leads_none, written_read, written_short}
-use Rattle.setup_text.proofs.WrittenValues.{cpu_lines_few, hexed_few, leads_block_size, leads_block_nr, leads_frame_size, leads_frame_nr, leads_tov, leads_sizeof_priv, leads_features, leads_cpus, leads_members, leads_mode, leads_rollover, leads_defrag, leads_key, leads_mac, leads_filter, leads_ticks, leads_out, leads_dump, leads_skip_bad, leads_made, made_few, made_for, named_few, noted_few}
+use Rattle.setup_text.proofs.WrittenValues.{cpu_lines_few, hexed_few, leads_block_size, leads_block_nr, leads_frame_size, leads_frame_nr, leads_tov, leads_sizeof_priv, leads_features, leads_cpus, leads_members, leads_mode, leads_rollover, leads_defrag, leads_key, leads_mac, leads_filter, leads_ticks, leads_out, leads_dump, leads_skip_bad, leads_made, leads_workers, made_few, made_for, named_few, noted_few}
 
 -- what the lines say of a setup
 abbrev pub draft_for : Setup → Draft
@@ -42,6 +42,7 @@ draft_for setup = record {
   dump = setup.dump;
   skip_bad = setup.skip_bad;
   made = made_for (setup.count == 0) setup.seed setup.count;
+  workers = Some setup.workers;
 }
 
 leads_next : (draft next last : Draft) (lines : List (List (List ℕ))) (more : List (List (List (List ℕ)))) → Leads draft lines next → Leads next (all_of more) last
@@ -77,7 +78,9 @@ lines_lead setup h =
     let d18 : Draft = record d17 { dump = setup.dump } in
     let d19 : Draft = record d18 { skip_bad = setup.skip_bad } in
     let d20 : Draft = record d19 { made = made_for (setup.count == 0) setup.seed setup.count } in
-    let m20 : List (List (List (List ℕ))) = [] in
+    let d21 : Draft = record d20 { workers = Some setup.workers } in
+    let m21 : List (List (List (List ℕ))) = [] in
+    let m20 : List (List (List (List ℕ))) = (counted word.Workers setup.workers) ∷ m21 in
     let m19 : List (List (List (List ℕ))) = (made_lines (setup.count == 0) setup.seed setup.count) ∷ m20 in
     let m18 : List (List (List (List ℕ))) = (noted setup.skip_bad word.SkipBad (codes "yes")) ∷ m19 in
     let m17 : List (List (List (List ℕ))) = (noted setup.dump word.Dump (codes "yes")) ∷ m18 in
@@ -117,7 +120,8 @@ lines_lead setup h =
     leads_next d17 d18 (draft_for setup) (noted setup.dump word.Dump (codes "yes")) m18 (leads_dump d17 setup.dump refl) (
     leads_next d18 d19 (draft_for setup) (noted setup.skip_bad word.SkipBad (codes "yes")) m19 (leads_skip_bad d18 setup.skip_bad refl) (
     leads_next d19 d20 (draft_for setup) (made_lines (setup.count == 0) setup.seed setup.count) m20 (leads_made d19 (setup.count == 0) setup.seed setup.count refl refl h.seed h.sound.count) (
-    leads_none d20))))))))))))))))))))
+    leads_next d20 d21 (draft_for setup) (counted word.Workers setup.workers) m21 (leads_workers d20 setup.workers refl h.sound.workers) (
+    leads_none d21)))))))))))))))))))))
 
 -- ---- what the lines say together
 
@@ -191,7 +195,7 @@ after_back : (given : Command) (setup : Setup) → CanBeWritten setup → reques
 unfolding setup_after
 after_back given setup h ring made = answered (fault_after given (draft_for setup)) (setup_from (draft_for setup)) setup (no_fault given setup h ring made) (setup_back setup h)
 
-few_lines : (setup : Setup) → CanBeWritten setup → length (lines_for setup) ≤ 160
+few_lines : (setup : Setup) → CanBeWritten setup → length (lines_for setup) ≤ 168
 unfolding lines_for
 few_lines setup h =
     all_few (
@@ -214,8 +218,9 @@ few_lines setup h =
     ∷ valued word.Out setup.prefix
     ∷ noted setup.dump word.Dump (codes "yes")
     ∷ noted setup.skip_bad word.SkipBad (codes "yes")
-    ∷ made_lines (setup.count == 0) setup.seed setup.count ∷ [])
-    (omega arith, (omega arith, (omega arith, (omega arith, (omega arith, (omega arith, (omega arith, (omega (arith, h.sound.few, cpu_lines_few setup.cpus), (omega arith, (omega arith, (noted_few (has_backup setup.plan.flags) word.Flag (codes "rollover"), (noted_few (has_defrag setup.plan.flags) word.Flag (codes "defrag"), (hexed_few word.Key setup.key, (hexed_few word.Mac setup.mac, (named_few word.Filter setup.filter, (named_few word.Ticks setup.ticks, (omega arith, (noted_few setup.dump word.Dump (codes "yes"), (noted_few setup.skip_bad word.SkipBad (codes "yes"), (made_few (setup.count == 0) setup.seed setup.count, tt))))))))))))))))))))
+    ∷ made_lines (setup.count == 0) setup.seed setup.count
+    ∷ counted word.Workers setup.workers ∷ [])
+    (omega arith, (omega arith, (omega arith, (omega arith, (omega arith, (omega arith, (omega arith, (omega (arith, h.sound.few, cpu_lines_few setup.cpus), (omega arith, (omega arith, (noted_few (has_backup setup.plan.flags) word.Flag (codes "rollover"), (noted_few (has_defrag setup.plan.flags) word.Flag (codes "defrag"), (hexed_few word.Key setup.key, (hexed_few word.Mac setup.mac, (named_few word.Filter setup.filter, (named_few word.Ticks setup.ticks, (omega arith, (noted_few setup.dump word.Dump (codes "yes"), (noted_few setup.skip_bad word.SkipBad (codes "yes"), (made_few (setup.count == 0) setup.seed setup.count, (omega arith, tt)))))))))))))))))))))
 
 text_short : (setup : Setup) → CanBeWritten setup → length (text_of setup) ≤ 1048576
 unfolding text_of

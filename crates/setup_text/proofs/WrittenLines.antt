@@ -193,7 +193,7 @@ pub written_read : (draft last : Draft) (lines : List (List (List ℕ))) → Are
     → read_lines line_after 1 draft (lines_of (written lines)) ≡ Ok last
 written_read draft last lines h e = ap (read_lines line_after 1 draft) (lines_written lines h) ∙ words_all_read 1 draft last lines h e
 
--- lines lead from what is said before them to what is said behind them
+-- lines lead from what is said before them to what is said after them
 pub record Leads (draft : Draft) (lines : List (List (List ℕ))) (last : Draft) : Type 0 where
   pub lines_are : AreLines lines
   pub all : all_words draft lines ≡ Ok last

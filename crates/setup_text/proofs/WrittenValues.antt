@@ -302,6 +302,12 @@ leads_made draft false seed count e t s c =
     (record { some = omega arith; short = omega arith; graphic = refl }, (decimal_writable seed s, (decimal_writable count (omega arith), tt))) refl (omega arith)
     (once_said draft.made (made_in (decimal seed) (decimal count)) (record { seed = seed; count = count }) (λ n. record draft { made = n }) e (made_in-decimal seed count t s c))
 
+pub leads_workers : (draft : Draft) (n : ℕ) → draft.workers ≡ None → n ≤ 8 → Leads draft (counted word.Workers n) (record draft { workers = Some n })
+unfolding word_named values_after value_after
+leads_workers draft n e h =
+    leads_one draft (record draft { workers = Some n }) (name_of word.Workers ∷ decimal n ∷ []) (record { some = omega arith; short = omega arith; graphic = refl }, (decimal_writable n (omega arith), tt)) refl (omega arith)
+    (once_said draft.workers (number_to 8 (decimal n)) n (λ n. record draft { workers = n }) e (number_to-decimal 8 n h (omega arith)))
+
 -- ---- the CPUs
 
 cpu_said : (draft : Draft) (cpu : CpuSetup) → length draft.cpus < 8 → IsCpu cpu → cpu_after draft cpu.file (Some (decimal cpu.queue)) ≡ Ok (record draft { cpus = draft.cpus ++ cpu ∷ [] })

@@ -32,6 +32,7 @@ nothing_said = record {
   dump = false;
   skip_bad = false;
   made = None;
+  workers = None;
 }
 
 abbrev pub said : {A : Type 0} → Result A SetupKind → (A → Draft) → Result Draft SetupKind
@@ -103,6 +104,7 @@ value_after draft word.Out value = once draft.out (name_in value) (λ name. reco
 value_after draft word.Dump value = said (yes_once draft.dump value) (λ set. record draft { dump = set })
 value_after draft word.SkipBad value = said (yes_once draft.skip_bad value) (λ set. record draft { skip_bad = set })
 value_after draft word.Make value = Err BadLine
+value_after draft word.Workers value = once draft.workers (number_to 8 value) (λ n. record draft { workers = n })
 
 -- a setup word with two values, which only a CPU and made frames have
 abbrev pub pair_after : Draft → SetupWord → List ℕ → List ℕ → Result Draft SetupKind

@@ -12,7 +12,7 @@ use Rattle.setup_text.specs.declared.text_error.TextKind.TheVariants as text
 use Rattle.setup_text.specs.declared.text_error.Which.{Which}
 use Rattle.setup_text.specs.declared.text_error.Which.TheVariants as which
 
--- a fault of a setup; behind `missing`, `request` and `group` a program prints what is missing or
+-- a fault of a setup; after `missing`, `request` and `group` a program prints what is missing or
 -- why
 abbrev pub kind_word : SetupKind → List ℕ
 kind_word setup.BadLine = codes "bad_line"

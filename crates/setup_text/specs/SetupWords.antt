@@ -2,7 +2,7 @@
 use Rattle.std.specs.Prelude.{ℕ, List, [], ◌∷◌, codes, bytes_eq, Option}
 use Rattle.std.specs.List.{find}
 use Rattle.setup_text.specs.declared.setup_words.SetupWord.{SetupWord}
-use Rattle.setup_text.specs.declared.setup_words.SetupWord.TheVariants.{BlockSize, BlockNr, FrameSize, FrameNr, Tov, Priv, Features, Cpu, Members, Mode, Flag, Key, Mac, Filter, Ticks, Out, Dump, SkipBad, Make}
+use Rattle.setup_text.specs.declared.setup_words.SetupWord.TheVariants.{BlockSize, BlockNr, FrameSize, FrameNr, Tov, Priv, Features, Cpu, Members, Mode, Flag, Key, Mac, Filter, Ticks, Out, Dump, SkipBad, Make, Workers}
 
 -- how a setup writes each of them
 abbrev pub name_of : SetupWord → List ℕ
@@ -25,12 +25,13 @@ name_of Out = codes "out"
 name_of Dump = codes "dump"
 name_of SkipBad = codes "skip_bad"
 name_of Make = codes "make"
+name_of Workers = codes "workers"
 
 -- all of them
 abbrev pub all_words : List SetupWord
 all_words =
     BlockSize ∷ BlockNr ∷ FrameSize ∷ FrameNr ∷ Tov ∷ Priv ∷ Features ∷ Cpu ∷ Members ∷ Mode ∷ Flag ∷ Key ∷ Mac ∷ Filter
-    ∷ Ticks ∷ Out ∷ Dump ∷ SkipBad ∷ Make ∷ []
+    ∷ Ticks ∷ Out ∷ Dump ∷ SkipBad ∷ Make ∷ Workers ∷ []
 
 -- the setup word that is written so
 unfoldable pub word_named : List ℕ → Option SetupWord

@@ -57,7 +57,7 @@ request_of draft = record {
   features = unwrap_or draft.features 0;
 }
 
--- why the ring can't be had, for the command: one of the commands sends
+-- why the ring is invalid, for the command: one of the commands sends
 abbrev pub request_fault : Command → RingRequest → Option RequestError
 request_fault command.Send request = transmit_fault request
 request_fault given request = receive_fault request
@@ -116,6 +116,7 @@ setup_from draft = record {
   skip_bad = draft.skip_bad;
   seed = seed_of draft;
   count = count_of draft;
+  workers = unwrap_or draft.workers 0;
 }
 
 abbrev pub answer : {A : Type 0} → Option SetupKind → A → Result A SetupKind

@@ -20,7 +20,7 @@ IsName None = Unit {0}
 IsName (Some name) = (0 < length name) × (length name ≤ 255)
 
 -- a setup has 1 to 8 CPUs, a valid ring with a time-out of at most a minute, a valid group, names
--- of 1 to 255 bytes, and at most 20,000 made frames
+-- of 1 to 255 bytes, at most 20,000 made frames, and at most 8 workers
 pub record IsSetup (setup : Setup) : Type 0 where
   pub some : 0 < length setup.cpus
   pub few : length setup.cpus ≤ 8
@@ -34,6 +34,7 @@ pub record IsSetup (setup : Setup) : Type 0 where
   pub prefixed : 0 < length setup.prefix
   pub prefix : length setup.prefix ≤ 255
   pub count : setup.count ≤ 20000
+  pub workers : setup.workers ≤ 8
 
 -- the moments rise or stand, in milliseconds, and each is a number of 32 bits
 abbrev pub AreRising : ℕ → List ℕ → Type 0

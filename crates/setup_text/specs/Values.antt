@@ -1,4 +1,4 @@
--- The values that stand behind a setup word: what each says, or why it is refused.
+-- The values that follow a setup word: what each says, or why it is refused.
 use Rattle.std.specs.Prelude.{ℕ, List, length, codes, bytes_eq, nat_le, ◌==◌, if◌then◌else◌, Option, None, Some, Result, Ok, Err}
 use Rattle.hex.specs.Hex.{decode_sized}
 use Rattle.hex.specs.declared.error.FromHexError.{FromHexError}

@@ -94,6 +94,7 @@ lines_for setup =
     ∷ noted setup.dump word.Dump (codes "yes")
     ∷ noted setup.skip_bad word.SkipBad (codes "yes")
     ∷ made_lines (setup.count == 0) setup.seed setup.count
+    ∷ counted word.Workers setup.workers
     ∷ [])
 
 unfoldable pub text_of : Setup → List ℕ

@@ -22,6 +22,9 @@ const LARGEST_QUEUE: u32 = 65_535;
 /// The longest time-out of a block in milliseconds, by this project's own choice.
 const LONGEST_TIME_OUT: u32 = 60_000;
 
+/// The most workers of a pool, by this project's own choice.
+const MOST_WORKERS: u32 = 8;
+
 /// What the lines of a setup say so far; `None` and `false` where no line says it.
 #[derive(Debug, Drop)]
 pub(crate) struct Draft {
@@ -61,10 +64,12 @@ pub(crate) struct Draft {
     pub(crate) out: Option<Word>,
     /// Whether the retired blocks are written too.
     pub(crate) dump: bool,
-    /// Whether a frame that is longer than a slot holds is passed over.
+    /// Whether a frame that is longer than a slot holds is skipped.
     pub(crate) skip_bad: bool,
     /// The frames that are made.
     pub(crate) made: Option<MadeFrames>,
+    /// The number of workers that decode the blocks of a capture.
+    pub(crate) workers: Option<u32>,
 }
 
 impl Draft {
@@ -93,6 +98,7 @@ impl Draft {
             dump: false,
             skip_bad: false,
             made: None,
+            workers: None,
         }
     }
 
@@ -156,6 +162,7 @@ impl Draft {
             SetupWord::Dump => yes(&mut self.dump, value),
             SetupWord::SkipBad => yes(&mut self.skip_bad, value),
             SetupWord::Make => Err(SetupKind::BadLine),
+            SetupWord::Workers => once(&mut self.workers, number_to(MOST_WORKERS, value)),
         }
     }
 

@@ -69,7 +69,7 @@ fn fault(line: u32, kind: TextKind) -> TextError
     }
 }
 
-/// Adds what a line says, and gives the clock behind it.
+/// Adds what a line says, and gives the clock after it.
 fn add_line(
     lines: &mut Schedule,
     clock: u64,

@@ -34,13 +34,13 @@ pub enum SetupKind {
     BadNumber,
     /// A line that is needed isn't there.
     Missing(Needed),
-    /// The ring that is asked for can't be had.
+    /// The ring that is asked for is invalid.
     Request(RequestError),
     /// There is no such group.
     Group(PlanError),
     /// A text of more than 1,048,576 bytes.
     TooLarge,
-    /// Want of memory.
+    /// Out of memory.
     Memory,
 }
 
@@ -62,7 +62,7 @@ pub enum Needed {
 }
 
 impl SetupKind {
-    /// The word for the fault, as a program prints it. Behind `missing`, `request` and `group` the
+    /// The word for the fault, as a program prints it. After `missing`, `request` and `group` the
     /// inner word follows.
     pub fn word(&self) -> &'static str
         ensures { result.now ≡ kind_word self.now }

@@ -39,14 +39,16 @@ pub(crate) enum SetupWord {
     Out,
     /// That the retired blocks are written too.
     Dump,
-    /// That a frame which a slot of a transmit ring can't hold is passed over.
+    /// That a frame which a slot of a transmit ring can't hold is skipped.
     SkipBad,
     /// The number that frames are made from, and how many are made, 1 to 20,000.
     Make,
+    /// The number of workers that decode the blocks of a capture, 0 to 8.
+    Workers,
 }
 
 /// All setup words.
-const ALL: [SetupWord; 19] = [
+const ALL: [SetupWord; 20] = [
     SetupWord::BlockSize,
     SetupWord::BlockNr,
     SetupWord::FrameSize,
@@ -66,6 +68,7 @@ const ALL: [SetupWord; 19] = [
     SetupWord::Dump,
     SetupWord::SkipBad,
     SetupWord::Make,
+    SetupWord::Workers,
 ];
 
 impl SetupWord {
@@ -93,6 +96,7 @@ impl SetupWord {
             SetupWord::Dump => "dump",
             SetupWord::SkipBad => "skip_bad",
             SetupWord::Make => "make",
+            SetupWord::Workers => "workers",
         }
     }
 

@@ -40,13 +40,15 @@ pub struct Setup {
     pub prefix: Word,
     /// Whether the retired blocks are written too.
     pub dump: bool,
-    /// Whether a frame that is longer than a slot of a transmit ring holds is passed over, in place
+    /// Whether a frame that is longer than a slot of a transmit ring holds is skipped, in place
     /// of stopping the ring.
     pub skip_bad: bool,
     /// The number that `make`'s frames are made from; 0 where no line says it.
     pub seed: u64,
     /// How many frames `make` makes, at most 20,000; 0 where no line says it.
     pub count: u32,
+    /// How many workers decode the blocks of `capture`, at most 8; with 0 the readers decode them.
+    pub workers: u32,
 }
 
 /// Reads a setup for a command. docs/setup.md says what its lines are.
@@ -54,7 +56,7 @@ pub struct Setup {
 /// `TooLarge` comes for more than 1,048,576 bytes, with line 0. Then the first line with a fault
 /// answers, with its number from 1. Where no line has one, `Missing` comes for the first line that
 /// isn't there, of which `Make` alone needs the line `make`. Then `Request` comes for a ring that
-/// can't be had, which is a transmit ring for `Send` and a ring of captured frames for every other
+/// is invalid, which is a transmit ring for `Send` and a ring of captured frames for every other
 /// command, and then `Group` for a group that there isn't. Each has line 0. `Memory`, an allocation
 /// that failed, has line 0 too.
 pub fn read_setup(alloc: Global, text: &[u8], command: Command) -> Result<Setup, SetupError>
@@ -123,6 +125,7 @@ fn complete(alloc: Global, draft: Draft, command: Command) -> Result<Setup, Setu
     let shape = shape_of(&request, command)?;
     let plan = draft.plan()?;
     let (seed, count) = (draft.seed(), draft.count());
+    let workers = draft.workers.unwrap_or(0);
     let prefix = prefix_of(alloc, draft.out)?;
     Ok(Setup {
         request,
@@ -138,6 +141,7 @@ fn complete(alloc: Global, draft: Draft, command: Command) -> Result<Setup, Setu
         skip_bad: draft.skip_bad,
         seed,
         count,
+        workers,
     })
 }
 

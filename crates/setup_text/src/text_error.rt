@@ -46,7 +46,7 @@ pub enum TextKind {
     TooLarge,
     /// A fault of the filter.
     Filter(FilterError),
-    /// Want of memory.
+    /// Out of memory.
     Memory,
 }
 

@@ -1,4 +1,4 @@
-//! The values that stand behind a setup word.
+//! The values that follow a setup word.
 ghost use Rattle.std.specs.Prelude.{◌≡◌};
 ghost use Rattle.setup_text.specs.Answers.{IsRight, is_want};
 ghost use Rattle.setup_text.specs.Values.{any_number, bytes_in, count_to, mode_in, name_in, number_to};

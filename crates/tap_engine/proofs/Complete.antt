@@ -5,7 +5,7 @@ use Rattle.std.proofs.Common.{arith}
 use Rattle.std.specs.Prelude.{◌⊎◌, if◌then◌else◌, map, nat_lt, Ok, Err}
 use Rattle.std.specs.Option.{option_or}
 use Rattle.std.proofs.lemmas.Bool.{cases_lt}
-use Rattle.capture_file.specs.Capture.{cut_of, damage_of, end_of, stop_of}
+use Rattle.capture_file.specs.Capture.{cut_of, damage_of, end_of, lacks_header, stop_of}
 use Rattle.capture_file.specs.declared.error.CaptureError.{CaptureError}
 use Rattle.capture_file.specs.declared.error.CaptureError.TheVariants.{Truncated}
 use Rattle.capture_file.proofs.Feeding.{stays}
@@ -185,7 +185,7 @@ damage_or_cut bytes damage e = by (damage_of bytes) refl e where
   by : (found : Option CaptureError) → damage_of bytes ≡ found
       → option_or found (cut_of bytes) ≡ Some damage → (damage_of bytes ≡ Some damage)
       ⊎ ((place : ℕ) × (damage ≡ Truncated place))
-  by None is e = inr (cut_place (nat_lt (length bytes) 24) (nat_lt (stop_of bytes) (length bytes))
+  by None is e = inr (cut_place (lacks_header bytes) (nat_lt (stop_of bytes) (length bytes))
       (stop_of bytes) damage e)
   by (Some x) is e = inl (is ∙ e)
 
@@ -198,7 +198,7 @@ damage_end : (bytes : List ℕ) (damage : CaptureError) → damage_of bytes ≡ 
 unfolding end_of
 damage_end bytes damage e = ap (λ d. option_or d (cut_of bytes)) e
 
--- a front of a whole capture that ends otherwise than whole is not all that was read
+-- a prefix of a whole capture that ends otherwise than whole is not all that was read
 pub whole_end : (content bytes rest : List ℕ) (end : CpuEnd) → content ≡ bytes ++ rest
     → end_of content ≡ None
     → UnlessFault end (end ≡ end_by (end_of bytes)) → WhereEnded end (bytes ≡ content) → end ≢ Fault

@@ -7,6 +7,7 @@ use Rattle.std.specs.Io.KnownBytes.{Consumes, IsAtEnd}
 use Rattle.std.proofs.lemmas.Bool.{eqb-true}
 use Rattle.std.proofs.Math.Seq.{take-suc}
 use Rattle.capture_file.specs.Capture.{damage_of, end_of}
+use Rattle.capture_file.proofs.Formats.{brief}
 use Rattle.capture_file.specs.declared.error.CaptureError.TheVariants as errors
 use Rattle.capture_file.specs.declared.cpu_end.CpuEnd.{CpuEnd}
 use Rattle.capture_file.specs.declared.cpu_end.CpuEnd.TheVariants.{Whole, Fault, Damaged}
@@ -17,7 +18,7 @@ use Rattle.tap_outside.specs.Counts.{Rose, RoseBy}
 use Rattle.tap_reading.specs.Fronts.{IsAllOf, IsFrontOf}
 use Rattle.capture_reading.specs.Sources.{AllGave, EndsAtDamage, Gave, UnlessFault, WhereEnded}
 use Rattle.capture_reading.specs.Sources.{WhereFault, end_by}
-use Rattle.tap_outside.specs.Seen.{OnlyReads, SourceSeen, StoreSeen}
+use Rattle.tap_outside.specs.Seen.{NoReadFailed, OnlyReads, SourceSeen, StoreSeen}
 use Rattle.tap_engine.specs.Findings.{fault_at, faults_in}
 use Rattle.tap_engine.specs.Headline.{AreCaptures, IsCapture}
 use Rattle.tap_engine.specs.Sources.{AreFetched, IsFresh, faulty_in, missing_in}
@@ -96,10 +97,9 @@ where_fault Fault P p = p
 where_fault (Damaged damage) P p = tt
 
 no_damage : damage_of [] ≡ None
-unfolding damage_of
-no_damage = refl
+no_damage = (brief 0 [] (omega arith)).damage
 
--- a capture that can't be had gave nothing
+-- a capture that can't be fetched gave nothing
 missing_capture : (held : Option Contents) (name bytes : List ℕ) (end : CpuEnd) → bytes ≡ []
     → end ≡ Fault → IsCapture held name bytes end
 missing_capture held name bytes end none fault = record {
@@ -251,7 +251,7 @@ faults_are held (s ∷ setups) (Some o ∷ old) (Some n ∷ new) (b ∷ bytes) (
     let one = fault_counts end o n fetched.0.faultless gave.0.fault in omega
     (arith, rest, one, same)
 
--- one CPU more in front of those that are done
+-- one CPU more before those that are done
 pub one_more : {A : Type 0} (xs : List A) (at : ℕ) (x : A) → x ≡ get_or xs at x → at < length xs
     → take (at + 1) xs ≡ take at xs ++ x ∷ []
 one_more xs at x is less = rw add-one (take-suc xs at x less)
@@ -312,6 +312,9 @@ reads_then a b c h k = record {
 pub held_same : (a b : StoreSeen) → OnlyReads a b → b.held ≡ a.held
 held_same a b h = ap (λ (s : StoreSeen). s.held) h.same
 
+pub exact_same : (a b : StoreSeen) → OnlyReads a b → b.exact ≡ a.exact
+exact_same a b h = ap (λ (s : StoreSeen). s.exact) h.same
+
 pub to_read_same : (a b : StoreSeen) → OnlyReads a b → b.to_read ≡ a.to_read
 to_read_same a b h = ap (λ (s : StoreSeen). s.to_read) h.same
 
@@ -320,3 +323,16 @@ to_save_same a b h = ap (λ (s : StoreSeen). s.to_save) h.same
 
 pub saves_same : (a b : StoreSeen) → OnlyReads a b → b.save_faults ≡ a.save_faults
 saves_same a b h = ap (λ (s : StoreSeen). s.save_faults) h.same
+
+-- a count that rose after a store was read has risen since before
+pub rose_earlier : (n : ℕ) (a b c : StoreSeen) → OnlyReads a b
+    → RoseBy n b.read_faults c.read_faults → RoseBy n a.read_faults c.read_faults
+rose_earlier n a b c h k = let later = h.later in omega (arith, later, k)
+
+-- ---- a store of which no read failed
+
+pub unfailed_then : (a b c : StoreSeen) → NoReadFailed a b → NoReadFailed b c → NoReadFailed a c
+unfailed_then a b c h k = record {
+  only = reads_then a b c h.only k.only;
+  exact = λ is. k.exact (exact_same a b h.only ∙ is) ∙ h.exact is;
+}

@@ -4,6 +4,7 @@ use Rattle.std.proofs.Common.{refl, sym, ap, ◌∙◌, Option, None, Some, subs
 use Rattle.std.specs.Prelude.{◌⊎◌, is_some, IfOk, IfErr, OnErr, Result, Ok, Err}
 use Rattle.capture_file.specs.declared.cpu_end.CpuEnd.{CpuEnd}
 use Rattle.frame_view.specs.declared.want.Memory.{Memory}
+use Rattle.setup_text.specs.Answers.{is_setup_want, is_text_want}
 use Rattle.setup_text.specs.Filters.{filter_of}
 use Rattle.setup_text.specs.Moments.{moments_of}
 use Rattle.setup_text.specs.declared.commands.Command.{Command}
@@ -13,22 +14,28 @@ use Rattle.setup_text.specs.declared.reports.Forwards.{Forwards}
 use Rattle.setup_text.specs.declared.reports.MemberReport.{MemberReport}
 use Rattle.setup_text.specs.declared.reports.RunReport.{RunReport}
 use Rattle.setup_text.specs.declared.setups.Setup.{Setup}
+use Rattle.setup_text.specs.declared.text_error.TextError.{TextError}
 use Rattle.tap_outside.specs.Contents.{Contents}
-use Rattle.tap_outside.specs.Seen.{OnlyReads, StoreSeen}
-use Rattle.tap_reading.specs.Readers.{StopsAtSetup, StopsAtText}
+use Rattle.tap_outside.specs.Seen.{NoReadFailed, OnlyReads, StoreSeen}
+use Rattle.tap_reading.specs.Readers.{Refuses, Says, StopsAtSetup, StopsAtText, setup_for}
 use Rattle.tap_reading.specs.declared.stops.Stop.{Stop}
 use Rattle.tap_reading.specs.declared.stops.Stop.TheVariants as stops
 use Rattle.tap_saving.specs.Files.{names_from}
 use Rattle.tap_engine.specs.Commands.{Named, sends}
-use Rattle.tap_engine.specs.Findings.{IsFound, IsReady, IsReported, IsSentBy, finding_of, names_of}
+use Rattle.tap_engine.specs.Findings.{IsFound, IsReady, IsReported, IsSentBy, fault_at, faults_in}
+use Rattle.tap_engine.specs.Findings.{finding_of, names_of}
 use Rattle.tap_engine.specs.Headline.{CapturesFor, IsHeadline}
-use Rattle.tap_engine.specs.Jobs.{HasJob, HasSetup, IsAsked, Stops, lines_for}
+use Rattle.tap_engine.specs.Jobs.{HasBadText, HasJob, HasSetup, IsAsked, IsChecked, Stops}
+use Rattle.tap_engine.specs.Jobs.{lines_for}
 use Rattle.tap_engine.specs.Conclusions.{IsCut, IsSearched}
+use Rattle.tap_engine.specs.Sendings.{IsSent}
 use Rattle.tap_engine.specs.declared.findings.Finding.{Finding}
 use Rattle.tap_engine.specs.declared.findings.Finding.TheVariants as finding
 use Rattle.std.proofs.lemmas.List.{length-map}
-use Rattle.tap_engine.specs.Names.{AreMeantToSave, filter_for, saved_for, ticks_for}
-use Rattle.tap_engine.proofs.Fetched.{to_save_same}
+use Rattle.tap_engine.specs.Names.{AreMeant, AreMeantToRead, AreMeantToSave, filter_for}
+use Rattle.tap_engine.specs.Names.{names_to_read, saved_for, ticks_for}
+use Rattle.tap_engine.proofs.Fetched.{held_same, rose_earlier, to_read_same, to_save_same}
+use Rattle.tap_engine.proofs.Fetched.{unfailed_then}
 use Rattle.tap_engine.proofs.Meant.{AllMeant, Untold, outputs_meant}
 
 pub if_ok : {A E : Type 0} (P Q : A → Type 0) (result : Result A E) → ((x : A) → P x → Q x)
@@ -95,10 +102,90 @@ at_schedule old new named job (stops.Text error) h has command =
     inr (inr (record { command = command; job = job; has = has; refused = h }))
 at_schedule old new named job stops.Memory h has command = inl h
 
--- where the store was read before and is as it was
-pub stops_same : (old mid new : StoreSeen) (named : Named) (stop : Stop) → mid ≡ old
+-- ---- where the store was read before, and no read failed
+
+refuses_earlier : {A E : Type 0} (reader : List ℕ → Result A E) (wanted : E → Bool)
+    (old mid new : StoreSeen) (name : List ℕ) (error : E) → NoReadFailed old mid
+    → Refuses reader wanted mid new name error → Refuses reader wanted old new name error
+refuses_earlier reader wanted old mid new name error before h = record {
+  faultless = unfailed_then old mid new before h.faultless;
+  says = subst (λ (held : Option Contents). Says reader held name (Err error))
+      (held_same old mid before.only) h.says;
+  not_memory = h.not_memory;
+}
+
+bad_text_earlier : (old mid new : StoreSeen) (named : Named) (error : TextError)
+    → NoReadFailed old mid → HasBadText mid new named error → HasBadText old new named error
+bad_text_earlier old mid new named error before (inl h) = inl (record {
+  setup = h.setup;
+  has = subst (λ (held : Option Contents). HasSetup held named h.setup)
+      (held_same old mid before.only) h.has;
+  name = h.name;
+  names = h.names;
+  refused = refuses_earlier filter_of is_text_want old mid new h.name error before h.refused;
+})
+bad_text_earlier old mid new named error before (inr (inl h)) = inr (inl (record {
+  job = h.job;
+  has = subst (λ (held : Option Contents). HasJob held named h.job)
+      (held_same old mid before.only) h.has;
+  name = h.name;
+  names = h.names;
+  refused = refuses_earlier moments_of is_text_want old mid new h.name error before h.refused;
+}))
+bad_text_earlier old mid new named error before (inr (inr h)) = inr (inr (record {
+  command = h.command;
+  job = h.job;
+  has = subst (λ (held : Option Contents). HasJob held named h.job)
+      (held_same old mid before.only) h.has;
+  refused = refuses_earlier (lines_for h.job) is_text_want old mid new named.schedule error before
+      h.refused;
+}))
+
+-- what stops a command then stops it from the start
+pub stops_earlier : (old mid new : StoreSeen) (named : Named) (stop : Stop) → NoReadFailed old mid
     → Stops mid new named stop → Stops old new named stop
-stops_same old mid new named stop same h = subst (λ (s : StoreSeen). Stops s new named stop) same h
+stops_earlier old mid new named stops.Unread before h = rose_earlier 1 old mid new before.only h
+stops_earlier old mid new named (stops.Setup error) before h =
+    refuses_earlier (setup_for named.command) is_setup_want old mid new named.setup error before h
+stops_earlier old mid new named (stops.Text error) before h =
+    bad_text_earlier old mid new named error before h
+stops_earlier old mid new named stops.Memory before (inl unfailed) =
+    inl (unfailed_then old mid new before unfailed)
+stops_earlier old mid new named stops.Memory before (inr asked) =
+    inr (subst (λ (held : Option Contents). IsAsked held named) (held_same old mid before.only)
+    asked)
+
+-- what is meant for reading is meant then
+pub meant_later : (old new : StoreSeen) (command : Option Named) → OnlyReads old new
+    → AreMeantToRead command old → AreMeantToRead command new
+meant_later old new command reads all =
+    subst (λ (held : Option Contents). AreMeant names_to_read command held new.to_read)
+    (sym (held_same old new reads))
+    (subst (λ (meant : List ℕ → Bool). AreMeant names_to_read command old.held meant)
+    (sym (to_read_same old new reads)) all)
+
+-- and what is found then is found from the start
+pub found_earlier : (old mid new : StoreSeen) (named : Named) (found : Finding)
+    → NoReadFailed old mid → IsFound (Some named) mid new found → IsFound (Some named) old new found
+found_earlier old mid new named finding.NoCommand before h = absurd h
+found_earlier old mid new named finding.Unread before h = rose_earlier 1 old mid new before.only h
+found_earlier old mid new named (finding.BadSetup error) before h =
+    refuses_earlier (setup_for named.command) is_setup_want old mid new named.setup error before h
+found_earlier old mid new named (finding.BadText error) before h =
+    bad_text_earlier old mid new named error before h
+found_earlier old mid new named finding.Checked before h =
+    subst (λ (held : Option Contents). IsChecked held named) (held_same old mid before.only) h
+found_earlier old mid new named (finding.Ran setup report forwards) before h = (
+  subst (λ (held : Option Contents). IsReported held named setup report)
+      (held_same old mid before.only) h.0,
+  rose_earlier (faults_in report.cpus) old mid new before.only h.1,
+  h.2,
+)
+found_earlier old mid new named (finding.Sent setup sending) before h = (
+  subst (λ (held : Option Contents). IsSent held named setup sending)
+      (held_same old mid before.only) h.0,
+  rose_earlier (fault_at sending.end) old mid new before.only h.1,
+)
 
 -- what is found where a text stops the command
 pub found_of : (old new : StoreSeen) (named : Named) (answer : Result Finding Stop)
@@ -120,9 +207,9 @@ cut_of command old new named (Err (stops.Setup error)) is reads h = tt
 cut_of command old new named (Err (stops.Text error)) is reads h = tt
 cut_of command old new named (Err stops.Memory) is reads h = record { reads = reads; cause = by h }
   where
-    by : (new ≡ old) ⊎ IsAsked old.held named → (new ≡ old)
+    by : NoReadFailed old new ⊎ IsAsked old.held named → NoReadFailed old new
         ⊎ ((n : Named) × (command ≡ Some n) × IsAsked old.held n)
-    by (inl same) = inl same
+    by (inl unfailed) = inl unfailed
     by (inr asked) = inr (named, is, asked)
 
 pub ready_of : (answer : Result Finding Stop) → IfOk answer IsReady

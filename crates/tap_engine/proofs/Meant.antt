@@ -19,7 +19,7 @@ use Rattle.tap_engine.proofs.Texts.{says_held, setups}
 abbrev pub AllMeant : (List ℕ → Bool) → List (List ℕ) → Type 0
 AllMeant meant names = AllByRecursion (λ name. IsTrue (meant name)) names
 
--- every name of a store that doesn't tell what it holds
+-- every name of a store that doesn't report what it holds
 abbrev pub Untold : Option Contents → (List ℕ → Bool) → Type 0
 Untold held meant = (name : List ℕ) → held ≡ None → IsTrue (meant name)
 

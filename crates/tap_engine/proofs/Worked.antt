@@ -11,7 +11,7 @@ use Rattle.setup_text.specs.declared.reports.RunReport.{RunReport}
 use Rattle.setup_text.specs.declared.setups.Setup.{Setup}
 use Rattle.tap_outside.specs.Contents.{Contents}
 use Rattle.tap_outside.specs.Counts.{RoseBy}
-use Rattle.tap_outside.specs.Seen.{StoreSeen}
+use Rattle.tap_outside.specs.Seen.{OnlyReads, StoreSeen}
 use Rattle.tp_layout.specs.Requests.{transmit_fault}
 use Rattle.tap_engine.specs.Commands.{Named, is_threaded}
 use Rattle.tap_reading.specs.Readers.{Says}
@@ -22,6 +22,7 @@ use Rattle.tap_engine.specs.Names.{first_file, read_last, ticks_for}
 use Rattle.tap_engine.specs.Sendings.{IsSending}
 use Rattle.tap_engine.specs.declared.findings.Finding.TheVariants as finding
 use Rattle.tap_engine.specs.declared.sending.Sending.{Sending}
+use Rattle.tap_engine.proofs.Fetched.{held_same}
 use Rattle.tap_engine.proofs.Meant.{AfterMeant, AllMeant, captures_meant}
 
 -- ---- the names that are read last are meant
@@ -186,35 +187,37 @@ asked_by_name held named job name lines is called has says =
     replay_asked held named job lines is has (schedule_by held named job name lines called says)
 
 -- what a report is worth, whatever `replay` asks for it
-abbrev pub IsWorthTo : StoreSeen → Job → List Line → RunReport → Type 0
-IsWorthTo store job lines report =
-    (named : Named) → named.command ≡ Replay → HasJob store.held named job
-    → HasLines store.held named job lines
-    → IsReported store.held named job.setup report
+abbrev pub IsWorthTo : Option Contents → Job → List Line → RunReport → Type 0
+IsWorthTo held job lines report =
+    (named : Named) → named.command ≡ Replay → HasJob held named job
+    → HasLines held named job lines
+    → IsReported held named job.setup report
 
 pub scheduled : (old mid : StoreSeen) (job : Job) (name : List ℕ) (lines : List Line)
-    (report : RunReport) → mid ≡ old
-    → Says (lines_for job) old.held name (Ok lines) → IsWorthTo mid job lines report
+    (report : RunReport) → OnlyReads old mid
+    → Says (lines_for job) old.held name (Ok lines) → IsWorthTo mid.held job lines report
     → (named : Named) → named.command ≡ Replay → named.schedule ≡ name → HasJob old.held named job
     → IsReported old.held named job.setup report
-scheduled old mid job name lines report same says worth named is called has =
-    let here : IsWorthTo old job lines report = subst (λ (s : StoreSeen). IsWorthTo s job lines
-    report) same worth in
+scheduled old mid job name lines report reads says worth named is called has =
+    let here : IsWorthTo old.held job lines report = subst
+    (λ (held : Option Contents). IsWorthTo held job lines report) (held_same old mid reads) worth in
     here named is has (subst (λ (c : Command). LinesFor c old.held named job lines) (sym is)
     (schedule_by old.held named job name lines called says))
 
 -- and whatever a command on threads asks for it
-abbrev pub IsWorthTimed : StoreSeen → Job → List ℕ → RunReport → Type 0
-IsWorthTimed store job moments report =
-    (named : Named) → is_threaded named.command ≡ true → HasJob store.held named job
-    → HasTicks store.held job.setup.ticks moments
-    → IsReported store.held named job.setup report
+abbrev pub IsWorthTimed : Option Contents → Job → List ℕ → RunReport → Type 0
+IsWorthTimed held job moments report =
+    (named : Named) → is_threaded named.command ≡ true → HasJob held named job
+    → HasTicks held job.setup.ticks moments
+    → IsReported held named job.setup report
 
-pub timed : (old mid : StoreSeen) (job : Job) (moments : List ℕ) (report : RunReport) → mid ≡ old
-    → HasTicks old.held job.setup.ticks moments → IsWorthTimed mid job moments report
+pub timed : (old mid : StoreSeen) (job : Job) (moments : List ℕ) (report : RunReport)
+    → OnlyReads old mid
+    → HasTicks old.held job.setup.ticks moments → IsWorthTimed mid.held job moments report
     → (named : Named) → is_threaded named.command ≡ true → HasJob old.held named job
     → IsReported old.held named job.setup report
-timed old mid job moments report same ticks worth named is has =
-    let here : IsWorthTimed old job moments report = subst (λ (s : StoreSeen). IsWorthTimed s job
-    moments report) same worth in
+timed old mid job moments report reads ticks worth named is has =
+    let here : IsWorthTimed old.held job moments report = subst
+    (λ (held : Option Contents). IsWorthTimed held job moments report) (held_same old mid reads)
+    worth in
     here named is has ticks

@@ -4,7 +4,7 @@ use Rattle.std.specs.Prelude.{IfOk, OnErr, Result}
 use Rattle.std.specs.Io.KnownBytes.{Appends}
 use Rattle.frame_view.specs.declared.want.Memory.{Memory}
 use Rattle.tap_outside.specs.Counts.{Rose, RoseBy}
-use Rattle.tap_outside.specs.Seen.{OnlyReads, SinkSeen, StoreSeen}
+use Rattle.tap_outside.specs.Seen.{NoReadFailed, OnlyReads, SinkSeen, StoreSeen}
 use Rattle.tap_outside.specs.Sinks.{AppendsFront}
 use Rattle.tap_saving.specs.Saving.{HoldAll, HoldUnless, SavedSome, Touches, marked}
 use Rattle.tap_engine.specs.Commands.{Named}
@@ -62,7 +62,8 @@ pub record Tells (command : Option Named) (outcome : Outcome) (old new : StoreSe
 pub record IsCut (command : Option Named) (old new : StoreSeen) : Type 0 where
   pub reads : OnlyReads old new
   pub cause :
-      (new ≡ old) ⊎ ((named : Named) × (command ≡ Some named) × IsAsked old.held named)
+      NoReadFailed old new
+      ⊎ ((named : Named) × (command ≡ Some named) × IsAsked old.held named)
 
 -- what a call found, the store being read alone, or that memory ran out
 pub record IsSearched (command : Option Named) (old new : StoreSeen)

@@ -9,7 +9,7 @@ use Rattle.setup_text.specs.declared.reports.Forwards.{Forwards}
 use Rattle.setup_text.specs.declared.reports.MemberReport.{MemberReport}
 use Rattle.setup_text.specs.declared.reports.RunReport.{RunReport}
 use Rattle.setup_text.specs.declared.setups.Setup.{Setup}
-use Rattle.tap_forward.specs.Bridging.{sent_for, skipped_for}
+use Rattle.tap_forward.specs.Bridges.{sent_for, skipped_for}
 use Rattle.tap_outside.specs.Contents.{Contents}
 use Rattle.tap_outside.specs.Counts.{Rose, RoseBy}
 use Rattle.tap_outside.specs.Seen.{StoreSeen}

@@ -15,7 +15,7 @@ use Rattle.setup_text.specs.declared.setups.Setup.{Setup}
 use Rattle.setup_text.specs.declared.text_error.TextError.{TextError}
 use Rattle.tap_outside.specs.Contents.{Contents}
 use Rattle.tap_outside.specs.Counts.{Rose}
-use Rattle.tap_outside.specs.Seen.{StoreSeen}
+use Rattle.tap_outside.specs.Seen.{NoReadFailed, StoreSeen}
 use Rattle.tap_reading.specs.Readers.{Refuses, Says, schedule_for, setup_for}
 use Rattle.tap_reading.specs.declared.stops.Stop.{Stop}
 use Rattle.tap_reading.specs.declared.stops.Stop.TheVariants as stops
@@ -127,4 +127,4 @@ abbrev pub Stops : StoreSeen → StoreSeen → Named → Stop → Type 0
 Stops old new named stops.Unread = Rose old.read_faults new.read_faults
 Stops old new named (stops.Setup error) = HasBadSetup old new named error
 Stops old new named (stops.Text error) = HasBadText old new named error
-Stops old new named stops.Memory = (new ≡ old) ⊎ IsAsked old.held named
+Stops old new named stops.Memory = NoReadFailed old new ⊎ IsAsked old.held named

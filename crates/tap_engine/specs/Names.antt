@@ -84,7 +84,7 @@ abbrev pub names_to_save : Option Named → Contents → List (List ℕ)
 names_to_save None files = []
 names_to_save (Some named) files = saved_by named.command (setup_held files named)
 
--- each of the names is meant; of a store that doesn't tell what it holds nothing is asked
+-- each of the names is meant; of a store that doesn't report what it holds nothing is asked
 abbrev pub AreMeant : (Option Named → Contents → List (List ℕ)) → Option Named → Option Contents
     → (List ℕ → Bool) → Type 0
 AreMeant names command None meant = ⊤

@@ -10,7 +10,7 @@ pub record IsFresh (held : Option Contents) (name : List ℕ) (source : SourceSe
   pub faultless : source.faults ≡ 0
   pub left : GivesFile held name source.left
 
--- the source of each CPU's capture, or none where it can't be had
+-- the source of each CPU's capture, or none where it can't be fetched
 abbrev pub AreFetched : Option Contents → List CpuSetup → List (Option SourceSeen) → Type 0
 AreFetched held [] [] = ⊤
 AreFetched held (cpu ∷ cpus) (None ∷ sources) = AreFetched held cpus sources
@@ -18,7 +18,7 @@ AreFetched held (cpu ∷ cpus) (Some source ∷ sources) =
     IsFresh held cpu.file source × AreFetched held cpus sources
 AreFetched held cpus sources = ⊥
 
--- how many can't be had
+-- how many can't be fetched
 abbrev pub missing_in : List (Option SourceSeen) → ℕ
 missing_in [] = 0
 missing_in (None ∷ sources) = missing_in sources + 1

@@ -12,6 +12,7 @@ ghost use Rattle.tap_engine.specs.Jobs.{HasJob, HasTicks, Stops};
 
 use crate::jobs::load_moments;
 use crate::sources::{close_captures, fetch_captures};
+use block_pool::run_pool;
 use cpu_feeders::{Gate, run_workers};
 use frame_view::{ItemList, Memory, MomentList};
 use setup_text::{Forwards, Job, Ran, RunReport};
@@ -117,7 +118,7 @@ fn run_sources<S: Source + Send, G: Gate + Sync, R: Threads + Wait + Sync>(
     ensures sent { IfOk result (λ run. IsSentBy sends job.now.setup run.0.report run.1) }
 {
     if !sends {
-        let ran = run_workers(rt, alloc, job, sources, moments, gate)?;
+        let ran = capture_sources(rt, alloc, job, sources, moments, gate)?;
         return Ok((ran, None));
     }
     let ran = forward_workers(rt, alloc, job, sources, moments, gate)?;
@@ -132,4 +133,30 @@ fn run_sources<S: Source + Send, G: Gate + Sync, R: Threads + Wait + Sync>(
         skipped: ItemList::from_vec(skipped),
     };
     Ok((Ran { report, sources }, Some(forwards)))
+}
+
+/// Runs a job on threads whose members send nothing, with these moments. A pool decodes the blocks
+/// where the setup has workers, else each reader decodes its own.
+fn capture_sources<S: Source + Send, G: Gate + Sync, R: Threads + Wait + Sync>(
+    rt: &R,
+    alloc: Global,
+    job: &Job,
+    sources: Vec<Option<S>>,
+    moments: &MomentList,
+    gate: &G,
+) -> Result<Ran<S>, Memory>
+    requires setup { IsSetup job.now.setup }
+    requires sources { length sources.items ≡ length job.now.setup.cpus }
+    requires moments { AreMoments moments.now }
+    ensures ran { IfOk result (λ ran. IsCaptureRun job.now moments.now
+        (map (option_map S.seen) sources.items)
+        (map (option_map S.seen) ran.sources.items)
+        ran.report) }
+{
+    let workers = job.setup.workers;
+    if workers == 0 {
+        run_workers(rt, alloc, job, sources, moments, gate)
+    } else {
+        run_pool(rt, alloc, job, sources, moments, gate, workers)
+    }
 }

@@ -6,7 +6,7 @@ ghost use Rattle.setup_text.specs.Setups.{request_fault};
 ghost use Rattle.setup_text.specs.Sound.{AreMoments, IsSetup};
 ghost use Rattle.setup_text.specs.declared.jobs.Job.{Job};
 ghost use Rattle.setup_text.specs.declared.setups.Setup.{Setup};
-ghost use Rattle.tap_outside.specs.Seen.{OnlyReads};
+ghost use Rattle.tap_outside.specs.Seen.{NoReadFailed, OnlyReads};
 ghost use Rattle.tap_reading.specs.Readers.{Says, StopsAtText, schedule_for};
 ghost use Rattle.tap_engine.specs.Commands.{Named, named_by};
 ghost use Rattle.tap_engine.specs.Jobs.{HasJob, HasProgram, HasSetup, HasTicks, Stops};
@@ -38,7 +38,7 @@ pub(crate) fn load_job<S: Store>(
     ensures stop { IfErr result (Stops (S.seen store.old) (S.seen store.new)
         (named_by asked.entry.command asked.entry.setup.now asked.entry.schedule.now)) }
     ensures store { OnlyReads (S.seen store.old) (S.seen store.new) }
-    ensures faultless { OnOk result (S.seen store.new ≡ S.seen store.old) }
+    ensures faultless { OnOk result (NoReadFailed (S.seen store.old) (S.seen store.new)) }
 {
     let setup = load_setup(alloc, store, asked.setup, asked.command)?;
     let program = load_program(alloc, store, filter_for(asked.command, &setup))?;
@@ -71,7 +71,7 @@ fn load_program<S: Store>(
         → filter_for named.command setup ≡ option_map (λ word. word.now) filter.entry
         → Stops (S.seen store.old) (S.seen store.new) named stop) }
     ensures store { OnlyReads (S.seen store.old) (S.seen store.new) }
-    ensures faultless { OnOk result (S.seen store.new ≡ S.seen store.old) }
+    ensures faultless { OnOk result (NoReadFailed (S.seen store.old) (S.seen store.new)) }
 {
     match filter {
         None => Ok(None),
@@ -96,7 +96,7 @@ pub(crate) fn load_moments<S: Store>(
         → ticks_for named.command job.setup ≡ ticks.now
         → Stops (S.seen store.old) (S.seen store.new) named stop) }
     ensures store { OnlyReads (S.seen store.old) (S.seen store.new) }
-    ensures faultless { OnOk result (S.seen store.new ≡ S.seen store.old) }
+    ensures faultless { OnOk result (NoReadFailed (S.seen store.old) (S.seen store.new)) }
 {
     match ticks {
         None => Ok(MomentList::new(alloc)),
@@ -122,7 +122,7 @@ pub(crate) fn load_lines<S: Store>(
         (StopsAtText (schedule_for (length setup.now.cpus) setup.now.plan.members)
         (S.seen store.old) (S.seen store.new) name.now) }
     ensures store { OnlyReads (S.seen store.old) (S.seen store.new) }
-    ensures faultless { OnOk result (S.seen store.new ≡ S.seen store.old) }
+    ensures faultless { OnOk result (NoReadFailed (S.seen store.old) (S.seen store.new)) }
 {
     let cpus = setup.cpus.len() as u32;
     load_schedule(alloc, store, name, cpus, setup.plan.members())

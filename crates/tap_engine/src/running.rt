@@ -99,7 +99,7 @@ fn carry_out<S: Store>(alloc: Global, asked: Asked<'_>, store: &mut S) -> Result
     work(alloc, asked, job, store)
 }
 
-/// Does what a command asks for on one thread, behind its setup and its filter.
+/// Does what a command asks for on one thread, after its setup and its filter.
 fn work<S: Store>(alloc: Global, asked: Asked<'_>, job: Job, store: &mut S) -> Result<Finding, Stop>
     requires plain { is_threaded asked.command ≡ false }
     requires job { HasJob (S.seen store.old).held

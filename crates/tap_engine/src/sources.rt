@@ -9,7 +9,7 @@ use setup_text::{CpuSetup, CpuSetupList};
 use std::alloc::Global;
 use tap_outside::{OutError, Store};
 
-/// Fetches the capture of each CPU. One that can't be had is missing.
+/// Fetches the capture of each CPU. One that can't be fetched is missing.
 pub(crate) fn fetch_captures<S: Store>(
     alloc: Global,
     store: &mut S,
@@ -31,7 +31,7 @@ pub(crate) fn fetch_captures<S: Store>(
     Ok(sources)
 }
 
-/// Fetches the capture of a CPU; none where it can't be had.
+/// Fetches the capture of a CPU; none where it can't be fetched.
 pub(crate) fn fetch_capture<S: Store>(
     store: &mut S,
     cpu: &CpuSetup,

@@ -14,7 +14,7 @@ use Rattle.tp_layout.specs.Requests.{numbers_of}
 use Rattle.tp_layout.specs.Writing.{ShapedBytes}
 use Rattle.tp_layout.specs.declared.requests.RingRequest.{RingRequest}
 use Rattle.tx_ring.specs.Rings.{room_of}
-use Rattle.tap_forward.specs.Bridging.{IsForwarderOf, tx_request}
+use Rattle.tap_forward.specs.Bridges.{IsForwarderOf, tx_request}
 use Rattle.tap_forward.specs.Forwarders.{ForwarderValue, base_of, forwarded_of, new_forwarder}
 use Rattle.tap_forward.specs.Forwarding.{sent_of, skipped_of}
 use Rattle.tap_forward.specs.declared.forwarder.Forwarded.{Forwarded}
@@ -113,6 +113,6 @@ mapped_more {A = A} {B = B} f xs now ys later x y now_is later_is y_is ys_is =
     later_is ∙ ap (λ (zs : List B). zs ++ y ∷ []) ys_is ∙ ap (λ (b : B). map f xs ++ b ∷ []) y_is
     ∙ sym (map-append f xs (x ∷ [])) ∙ ap (map f) (sym now_is)
 
--- both rings have the same room behind the header of a slot
+-- both rings have the same room after the header of a slot
 pub one_room : (request shape tx : RingRequest) → tx ≡ tx_request request → shape ≡ request → room_of tx ≡ room_of shape
 one_room request shape tx tx_is shape_is = ap room_of tx_is ∙ ap room_of (sym shape_is)

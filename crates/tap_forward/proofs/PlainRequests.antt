@@ -5,7 +5,7 @@ use Rattle.tp_layout.specs.declared.requests.RingRequest.{RingRequest}
 use Rattle.tp_layout.specs.declared.error.RequestError.{RequestError}
 use Rattle.tp_layout.specs.declared.error.RequestError.TheVariants.{BlockSize, BlockCount, Private, FrameSmall, FrameAlign, FrameCount, Feature}
 use Rattle.tp_layout.specs.Requests.{answer_of, frames_in, receive_fault, transmit_fault}
-use Rattle.tap_forward.specs.Bridging.{tx_request}
+use Rattle.tap_forward.specs.Bridges.{tx_request}
 
 -- the first fault by the tests of a receive ring
 by : Bool → Bool → Bool → Bool → Bool → Bool → Bool → Option RequestError

@@ -33,7 +33,7 @@ left_is ring going =
 pub emptied : (ring : TxState) → IsGoing ring → after_send ring ≡ record ring { requests = [] }
 emptied ring going = ap (λ (left : TxState). stop_at_front left left.requests) (left_is ring going)
 
--- it tells no bad slot
+-- it reports no bad slot
 pub none_bad : (ring : TxState) (slot : ℕ) → IsGoing ring → Err (BadSlot slot) ≡ send_answer ring → ⊥
 none_bad ring slot going told =
     let fine : send_answer ring ≡ Ok (counts_of ring) = ap (λ (left : TxState). answer_with left (counts_of ring) left.requests) (left_is ring going) in

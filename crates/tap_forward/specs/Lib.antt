@@ -2,4 +2,4 @@ pub mod Forwarding
 pub mod Sending
 pub mod Forwarders
 pub mod ForwardersInside
-pub mod Bridging
+pub mod Bridges

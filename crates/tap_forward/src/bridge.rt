@@ -4,7 +4,7 @@ ghost use Rattle.std.specs.List.{AllZip};
 ghost use Rattle.capture_reports.specs.Reported.{AreReported};
 ghost use Rattle.cpu_feeders.specs.Runs.{IsCaptureRun};
 ghost use Rattle.setup_text.specs.Sound.{AreMoments, IsSetup};
-ghost use Rattle.tap_forward.specs.Bridging.{IsForwarderOf, sent_for, skipped_for, tx_request};
+ghost use Rattle.tap_forward.specs.Bridges.{IsForwarderOf, sent_for, skipped_for, tx_request};
 ghost use Rattle.tap_forward.specs.Forwarders.{new_forwarder};
 ghost use Rattle.tp_layout.specs.Requests.{receive_fault, transmit_fault};
 ghost use Rattle.tp_layout.specs.declared.requests.RingRequest.{RingRequest as Request};
@@ -128,7 +128,7 @@ fn report<S: Source>(alloc: Global, workers: Workers<S, Forwarder>) -> Result<Fo
 /// through a transmit ring of its own: the ring of the setup's request without a time-out, a private area and features.
 ///
 /// Of each packet the frame is sent, with its tag put back. A packet whose frame has fewer than 14 bytes, or more than
-/// fit behind the header of a slot (`frame_size - 48`), is skipped. No slot is refused. The only error is that an
+/// fit after the header of a slot (`frame_size - 48`), is skipped. No slot is refused. The only error is that an
 /// allocation fails, and the sources are dropped then. That anything is sent before the run ends is not promised.
 pub fn forward_workers<S: Source + Send, G: Gate + Sync, R: Threads + Wait + Sync>(
     rt: &R,

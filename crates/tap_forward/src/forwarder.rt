@@ -23,7 +23,7 @@ pub struct Forwarded {
     /// The packets that were sent, in order. Each is the frame of a packet that was read, its tag put back, with time 0
     /// and its own length as the length on the wire.
     pub sent: Packets,
-    /// The number of packets that were skipped: those whose frame has fewer than 14 bytes or more than fit behind the
+    /// The number of packets that were skipped: those whose frame has fewer than 14 bytes or more than fit after the
     /// header of a slot.
     pub skipped: u64,
 }
@@ -135,7 +135,7 @@ impl Taker for Forwarder {
 
     ghost taken = { λ forwarder. forwarder.taken };
 
-    /// Reads a block, and queues the frame of each of its packets that has from 14 bytes to as many as fit behind the
+    /// Reads a block, and queues the frame of each of its packets that has from 14 bytes to as many as fit after the
     /// header of a slot; where all slots are requested it sends first. Every other packet is skipped.
     fn block(&mut self, block: &Block) -> Result<(), Memory> {
         self.forward(block)

@@ -14,14 +14,14 @@ Appends-then (Some xs) (Some ys) None first second one two = absurd two
 Appends-then (Some xs) (Some ys) (Some zs) first second one two =
     rw (two, one) (append_assoc xs first second)
 
--- all bytes are a front of them
+-- all bytes are a prefix of them
 pub AppendsFront-all : (old new : Option (List ℕ)) (bytes : List ℕ)
     → Appends old new bytes → AppendsFront old new bytes
 AppendsFront-all None new bytes all = tt
 AppendsFront-all (Some xs) None bytes all = absurd all
 AppendsFront-all (Some xs) (Some ys) bytes all = (length bytes, omega arith, rw take-length all)
 
--- some bytes, and then a front of more, are a front of both
+-- some bytes, and then a prefix of more, are a prefix of both
 pub AppendsFront-then : (old mid new : Option (List ℕ)) (first second : List ℕ)
     → Appends old mid first → AppendsFront mid new second → AppendsFront old new (first ++ second)
 AppendsFront-then None mid new first second one two = tt
@@ -33,7 +33,7 @@ AppendsFront-then (Some xs) (Some ys) (Some zs) first second one two = (
   rw (two.2, one, take-append-add first second two.0) (append_assoc xs first (take two.0 second)),
 )
 
--- a front of some bytes is a front of them and what was to follow
+-- a prefix of some bytes is a prefix of them and what was to follow
 pub AppendsFront-before : (old new : Option (List ℕ)) (first second : List ℕ)
     → AppendsFront old new first → AppendsFront old new (first ++ second)
 AppendsFront-before None new first second front = tt

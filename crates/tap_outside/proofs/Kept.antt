@@ -1,7 +1,6 @@
 -- What a store keeps where it is only read, or only saved to.
-use Rattle.std.proofs.Common.{◌≡◌, ◌≤◌, ℕ, List, Bool, Option, refl, sym, ap, ◌∙◌, subst, arith}
-use Rattle.tap_outside.specs.Contents.{Contents}
-use Rattle.tap_outside.specs.Seen.{OnlyReads, OnlySaves, StoreSeen}
+use Rattle.std.proofs.Common.{◌≡◌, ℕ, List, refl, sym, ap, ◌∙◌, subst, arith}
+use Rattle.tap_outside.specs.Seen.{NoReadFailed, OnlyReads, OnlySaves, StoreSeen}
 
 -- ---- where it is only read
 
@@ -29,6 +28,23 @@ pub OnlyReads-then : (a b c : StoreSeen) → OnlyReads a b → OnlyReads b c →
 OnlyReads-then a b c first second = record {
   same = second.same ∙ ap (λ (s : StoreSeen). record s { read_faults = c.read_faults }) first.same;
   later = let x = first.later in let y = second.later in omega (arith, x, y);
+}
+
+-- ---- where no read failed
+
+pub exact_kept : {old new : StoreSeen} → OnlyReads old new → new.exact ≡ old.exact
+exact_kept only = ap (λ (s : StoreSeen). s.exact) only.same
+
+-- none failed in a store that stays as it is
+pub NoReadFailed-none : (store : StoreSeen) → NoReadFailed store store
+NoReadFailed-none store = record { only = OnlyReads-none store; exact = λ is. refl }
+
+-- nor where none failed before and none after
+pub NoReadFailed-then : (a b c : StoreSeen) → NoReadFailed a b → NoReadFailed b c
+    → NoReadFailed a c
+NoReadFailed-then a b c first second = record {
+  only = OnlyReads-then a b c first.only second.only;
+  exact = λ is. second.exact (exact_kept first.only ∙ is) ∙ first.exact is;
 }
 
 -- ---- where it is only saved to

@@ -3,7 +3,7 @@ use Rattle.std.proofs.Common.{◌≡◌, ℕ, List, ◌+◌, take, drop, Option,
 use Rattle.std.proofs.Math.Seq.{take-add}
 use Rattle.std.specs.Io.KnownBytes.{Appends}
 
--- after a front of some bytes, the front of their rest makes a longer front
+-- after a prefix of some bytes, the prefix of their rest makes a longer prefix
 pub Appends-take : (old mid new : Option (List ℕ)) (at n : ℕ) (bytes rest : List ℕ)
     → Appends old mid (take at bytes) → rest ≡ drop at bytes → Appends mid new (take n rest)
     → Appends old new (take (at + n) bytes)

@@ -1,5 +1,5 @@
 -- What a store holds under its names, and how calls change it. `None` in place of the contents is a
--- store that doesn't tell what it holds.
+-- store that doesn't report what it holds.
 use Rattle.std.specs.Prelude.{◌≡◌, ◌≢◌, List, ℕ, [], ⊤, Option, None, Some, unwrap_or}
 
 -- what each name holds, if it is held

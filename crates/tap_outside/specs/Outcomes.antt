@@ -1,4 +1,4 @@
--- What a call to the outside says of its faults and of want of memory.
+-- What a call to the outside says of its faults and of memory that ran out.
 use Rattle.std.specs.Prelude.{Result, IfErr}
 use Rattle.tap_outside.specs.declared.causes.OutError.{OutError}
 use Rattle.tap_outside.specs.declared.causes.OutError.TheVariants.{Failed, Memory}
@@ -8,7 +8,7 @@ abbrev pub IfFailed : OutError → Type 0 → Type 0
 IfFailed Failed P = P
 IfFailed Memory P = Unit {0}
 
--- the fact holds where the error is want of memory
+-- the fact holds where the error is out of memory
 abbrev pub IfMemory : OutError → Type 0 → Type 0
 IfMemory Failed P = Unit {0}
 IfMemory Memory P = P
@@ -17,6 +17,6 @@ IfMemory Memory P = P
 abbrev pub OnFailed : {T : Type 0} → Result T OutError → Type 0 → Type 0
 OnFailed result P = IfErr result (λ e. IfFailed e P)
 
--- the fact holds where the call failed for want of memory
+-- the fact holds where the call failed for lack of memory
 abbrev pub OnMemory : {T : Type 0} → Result T OutError → Type 0 → Type 0
 OnMemory result P = IfErr result (λ e. IfMemory e P)

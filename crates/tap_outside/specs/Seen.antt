@@ -1,40 +1,43 @@
 -- What contracts see of the outside: a source, a sink and a store, each as one record.
-use Rattle.std.specs.Prelude.{◌≡◌, ◌≤◌, ℕ, List, Bool, true, Option, Some}
+use Rattle.std.specs.Prelude.{◌≡◌, ◌≤◌, ℕ, List, Bool, true, IsTrue, Option, Some}
 use Rattle.tap_outside.specs.Contents.{Contents, KeepsOthers}
 
 -- a source, of which bytes are read
 pub record SourceSeen : Type 0 where
-  -- the bytes still to come, where the source tells them
+  -- the bytes still to come, where the source reports them
   pub left : Option (List ℕ)
   -- the number of reads that failed
   pub faults : ℕ
 
--- a source of bytes that it tells, before its first read
+-- a source of bytes that it reports, before its first read
 abbrev pub unread_source : List ℕ → SourceSeen
 unread_source bytes = record { left = Some bytes; faults = 0 }
 
 -- a sink, to which bytes are written
 pub record SinkSeen : Type 0 where
-  -- the bytes written so far, where the sink tells them
+  -- the bytes written so far, where the sink reports them
   pub written : Option (List ℕ)
   -- the number of writes that failed
   pub faults : ℕ
 
 -- a store of named files
 pub record StoreSeen : Type 0 where
-  -- what each name holds, where the store tells it
+  -- what each name holds, where the store reports it
   pub held : Option Contents
   -- whether a name is meant for reading
   pub to_read : List ℕ → Bool
   -- whether a name is meant for saving
   pub to_save : List ℕ → Bool
-  -- the number of fetches that failed, and of sources that had a fault when they were closed
+  -- the number of faults of reading: each fetch that fails is one, and each source that had one
+  -- when it is closed
   pub read_faults : ℕ
-  -- the number of saves that failed
+  -- the number of faults of saving: each save that fails is one
   pub save_faults : ℕ
+  -- whether it counts nothing else; a store that is not exact may count a fault and still answer
+  pub exact : Bool
 
--- a store in which every name is meant for reading and for saving: what it holds, and its two
--- counts
+-- an exact store in which every name is meant for reading and for saving: what it holds, and its
+-- two counts
 abbrev pub meant_store : Option Contents → ℕ → ℕ → StoreSeen
 meant_store contents reads saves =
     record {
@@ -43,12 +46,18 @@ meant_store contents reads saves =
       to_save = λ _. true;
       read_faults = reads;
       save_faults = saves;
+      exact = true;
     }
 
 -- all of a store is as before, but its count of faults of reading, which may have risen
 pub record OnlyReads (old new : StoreSeen) : Type 0 where
   pub same : new ≡ record old { read_faults = new.read_faults }
   pub later : old.read_faults ≤ new.read_faults
+
+-- a store is only read and no read failed: an exact store is as before
+pub record NoReadFailed (old new : StoreSeen) : Type 0 where
+  pub only : OnlyReads old new
+  pub exact : IsTrue old.exact → new ≡ old
 
 -- all of a store is as before, but what this name holds, and its count of faults of saving, which
 -- may have risen

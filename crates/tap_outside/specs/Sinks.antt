@@ -3,7 +3,7 @@ use Rattle.std.specs.Prelude.{◌≡◌, ◌≤◌, ℕ, List, ◌++◌, length,
 use Rattle.tap_outside.specs.Counts.{counted}
 use Rattle.tap_outside.specs.Seen.{SinkSeen}
 
--- known bytes grow by a front of these
+-- known bytes grow by a prefix of these
 abbrev pub AppendsFront : Option (List ℕ) → Option (List ℕ) → List ℕ → Type 0
 AppendsFront None new bytes = ⊤
 AppendsFront (Some old) None bytes = ⊥
@@ -21,7 +21,7 @@ pub record MemSinkState : Type 0 where
   -- the number of those that failed
   pub faults : ℕ
 
--- such a sink as each sink is seen: it tells what was written
+-- such a sink as each sink is seen: it reports what was written
 abbrev pub seen_sink : MemSinkState → SinkSeen
 seen_sink sink = record { written = Some sink.written; faults = sink.faults }
 

@@ -16,7 +16,7 @@ pub record MemSourceState : Type 0 where
   -- the number of those that failed
   pub faults : ℕ
 
--- such a source as each source is seen: it tells what is left
+-- such a source as each source is seen: it reports what is left
 abbrev pub seen_source : MemSourceState → SourceSeen
 seen_source source = record { left = Some source.left; faults = source.faults }
 

@@ -54,7 +54,7 @@ pub record MemStoreState : Type 0 where
   -- the number of saves that failed
   pub save_faults : ℕ
 
--- such a store as each store is seen: it tells what it holds
+-- such a store as each store is seen: it reports what it holds
 abbrev pub seen_store : MemStoreState → StoreSeen
 seen_store store =
     meant_store (Some (contents_of store.files)) store.read_faults store.save_faults

@@ -81,7 +81,7 @@ impl<T: Drop> From<AllocFailed<T>> for OutError {
 impl From<io::Error> for OutError {
     ghost from_gives = { λ error e. (e ≡ Memory) ↔ (error_kind error ≡ OutOfMemory) };
 
-    /// Want of memory, where the system tells it, else a fault. Who hands it on as a fault counts
+    /// Out of memory, where the system reports it, else a fault. Who hands it on as a fault counts
     /// it.
     fn from(error: io::Error) -> OutError {
         match error.kind() {

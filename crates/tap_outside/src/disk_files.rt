@@ -1,4 +1,4 @@
-//! Real files. What they hold is the system's word, so nothing here tells any content.
+//! Real files. What they hold is the system's word, so nothing here reports any content.
 ghost use Rattle.std.specs.Prelude.{◌≡◌, refl, None, IfOk};
 ghost use Rattle.std.specs.Io.{ReadsAtMost};
 ghost use Rattle.tap_outside.specs.Seen.{meant_store};
@@ -62,7 +62,7 @@ fn read_some<F: Read>(file: &mut F, into: &mut [u8]) -> io::Result<usize>
 
 /// Real files, by their paths in UTF-8. A file that isn't there, a folder, and a name that is no
 /// path count as faults when they are fetched. A save writes over the file that is there. An error
-/// that the system tells only after a file is closed isn't seen.
+/// that the system reports only after a file is closed isn't seen.
 #[derive(Drop)]
 pub struct DiskStore<'a, R> {
     /// What opens files, and gives memory for a source's buffer.
@@ -154,7 +154,7 @@ fn open_source<R: Files + AllocGlobal>(rt: &R, name: &[u8]) -> Result<DiskSource
     })
 }
 
-/// Makes a file of these bytes. Once it is open its old bytes are gone, so want of memory is a
+/// Makes a file of these bytes. Once it is open its old bytes are gone, so running out of memory is a
 /// fault from there on: the file may hold anything then.
 fn write_file<R: Files>(rt: &R, name: &[u8], bytes: &[u8]) -> Result<(), OutError> {
     let path = str::from_utf8(name).map_err(|_| Failed)?;

@@ -1,4 +1,4 @@
-//! Standard output. What it takes is the system's word, so nothing here tells any content.
+//! Standard output. What it takes is the system's word, so nothing here reports any content.
 ghost use Rattle.std.specs.Prelude.{◌≡◌, ◌<◌, ◌≤◌, None, length, IfOk};
 
 use crate::disk_files::TRIES;
@@ -35,7 +35,7 @@ impl<'a, R: Print> Sink for StdSink<'a, R> {
     ghost seen = { λ sink. record { written = None; faults = sink.faults } };
 
     /// A write that a signal interrupts is tried again, 16 times at most. Each error that is left
-    /// is a fault, want of memory aside, and so is a write that takes nothing.
+    /// is a fault, memory that ran out aside, and so is a write that takes nothing.
     fn write(&mut self, from: &[u8]) -> Result<usize, OutError> {
         let written = write_some(self.rt, from);
         if let Err(OutError::Failed) = written {

@@ -7,11 +7,14 @@ ghost use Rattle.tap_outside.specs.Seen.{OnlyReads, OnlySaves, StoreSeen};
 
 use crate::{OutError, Source};
 
-/// Files by their names. Contracts see what each name holds, where the store tells it, which names
+/// Files by their names. Contracts see what each name holds, where the store reports it, which names
 /// are meant for reading and which for saving, and the numbers of faults of reading and of saving,
 /// which never fall and stand still at the greatest u64. No call changes what a name is meant for.
 /// Code that is generic over the store learns of a name that it is meant from its own caller, or
-/// from a store that doesn't tell what it holds.
+/// from a store that doesn't report what it holds.
+///
+/// A call that fails has raised its count. An exact store counts nothing else; another one may
+/// count a fault and still answer.
 pub trait Store {
     /// What a fetched file is read by.
     type Input: Source + Send;
@@ -19,8 +22,8 @@ pub trait Store {
     ghost seen: { Self → StoreSeen };
 
     /// A source of what a name holds, or of nothing where the name isn't held; a store may count
-    /// such a name as a fault of reading. It changes nothing but the count, and that only where it
-    /// fails.
+    /// such a name as a fault of reading. It changes nothing but the count, and that of an exact
+    /// store only where it fails.
     fn fetch(&mut self, name: &[u8]) -> Result<Self::Input, OutError>
         requires { IsTrue ((seen self.old).to_read name.now) }
         ensures left { IfOk result (λ input.
@@ -28,7 +31,8 @@ pub trait Store {
         ensures fresh { IfOk result (λ input. (Self.Input.seen input).faults ≡ 0) }
 
         ensures only { OnlyReads (seen self.old) (seen self.new) }
-        ensures faultless { OnOk result (seen self.new ≡ seen self.old) }
+        ensures faultless { OnOk result
+            (IsTrue (seen self.old).exact → seen self.new ≡ seen self.old) }
         ensures cause { OnFailed result
             (Rose (seen self.old).read_faults (seen self.new).read_faults) }
         ensures memory { OnMemory result (seen self.new ≡ seen self.old) };
@@ -40,19 +44,20 @@ pub trait Store {
         ensures faulty { 0 < (Self.Input.seen input).faults →
             Rose (seen self.old).read_faults (seen self.new).read_faults };
 
-    /// Makes a name hold these bytes. After `Failed` the name may hold anything.
+    /// Makes a name hold these bytes. After `Failed` the name may hold anything. The count of an
+    /// exact store rises only then.
     fn save(&mut self, name: &[u8], bytes: &[u8]) -> Result<(), OutError>
         requires { IsTrue ((seen self.old).to_save name.now) }
         ensures saved { OnOk result (HoldsFile (seen self.new).held name.now bytes.now) }
 
         ensures only { OnlySaves (seen self.old) (seen self.new) name.now }
-        ensures faultless { OnOk result
-            ((seen self.new).save_faults ≡ (seen self.old).save_faults) }
+        ensures faultless { OnOk result (IsTrue (seen self.old).exact →
+            (seen self.new).save_faults ≡ (seen self.old).save_faults) }
         ensures cause { OnFailed result
             (Rose (seen self.old).save_faults (seen self.new).save_faults) }
         ensures memory { OnMemory result (seen self.new ≡ seen self.old) };
 
-    // Where the store doesn't tell what it holds, every name is meant for both.
+    // Where the store doesn't report what it holds, every name is meant for both.
     ghost untold_reads: { (store : Self) (name : List ℕ) →
         (seen store).held ≡ None → IsTrue ((seen store).to_read name) };
 

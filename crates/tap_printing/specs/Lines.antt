@@ -27,7 +27,7 @@ damage_text (BadLength place) = codes "bad_length " ++ decimal place
 damage_text (Truncated place) = codes "truncated " ++ decimal place
 damage_text TooLarge = codes "too_large 33554432"
 damage_text (BadInterface place) = codes "bad_interface " ++ decimal place
--- no end of a CPU holds want of memory
+-- no end of a CPU holds `Memory`
 damage_text Memory = []
 
 -- how the frames of a CPU ended

@@ -7,13 +7,13 @@ pub record IsFront (whole bytes : List ℕ) : Type 0 where
   pub rest : List ℕ
   pub parts : whole ≡ bytes ++ rest
 
--- the bytes are a prefix of what the name holds, where the store tells it; a name that isn't held
+-- the bytes are a prefix of what the name holds, where the store reports it; a name that isn't held
 -- holds nothing
 abbrev pub IsFrontOf : Option Contents → List ℕ → List ℕ → Type 0
 IsFrontOf None name bytes = ⊤
 IsFrontOf (Some files) name bytes = IsFront (unwrap_or (files name) []) bytes
 
--- the bytes are all that the name holds, where the store tells it
+-- the bytes are all that the name holds, where the store reports it
 abbrev pub IsAllOf : Option Contents → List ℕ → List ℕ → Type 0
 IsAllOf None name bytes = ⊤
 IsAllOf (Some files) name bytes = bytes ≡ unwrap_or (files name) []

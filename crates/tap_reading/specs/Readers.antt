@@ -10,7 +10,7 @@ use Rattle.setup_text.specs.declared.setups.Setup.{Setup}
 use Rattle.setup_text.specs.declared.text_error.TextError.{TextError}
 use Rattle.tap_outside.specs.Contents.{Contents}
 use Rattle.tap_outside.specs.Counts.{Rose}
-use Rattle.tap_outside.specs.Seen.{StoreSeen}
+use Rattle.tap_outside.specs.Seen.{NoReadFailed, StoreSeen}
 use Rattle.tap_reading.specs.Fronts.{IsTextOf}
 use Rattle.tap_reading.specs.declared.stops.Stop.{Stop}
 use Rattle.tap_reading.specs.declared.stops.Stop.TheVariants as stops
@@ -36,17 +36,18 @@ schedule_for cpus members text = schedule_of cpus members text
 -- text
 pub record Refuses {A E : Type 0} (reader : List ℕ → Result A E) (wanted : E → Bool)
     (old new : StoreSeen) (name : List ℕ) (error : E) : Type 0 where
-  pub same : new ≡ old
+  pub faultless : NoReadFailed old new
   pub says : Says reader old.held name (Err error)
   pub not_memory : wanted error ≡ false
 
--- why a setup isn't there, and what the store came to: its count rose exactly where reading failed
+-- why a setup isn't there, and what the store came to: where it can't be read the count rose, and
+-- else no read failed
 abbrev pub StopsAtSetup : Command → StoreSeen → StoreSeen → List ℕ → Stop → Type 0
 StopsAtSetup command old new name stops.Unread = Rose old.read_faults new.read_faults
 StopsAtSetup command old new name (stops.Setup error) =
     Refuses (setup_for command) is_setup_want old new name error
 StopsAtSetup command old new name (stops.Text error) = ⊥
-StopsAtSetup command old new name stops.Memory = new ≡ old
+StopsAtSetup command old new name stops.Memory = NoReadFailed old new
 
 -- the same of a further text
 abbrev pub StopsAtText : {A : Type 0} → (List ℕ → Result A TextError)
@@ -54,7 +55,7 @@ abbrev pub StopsAtText : {A : Type 0} → (List ℕ → Result A TextError)
 StopsAtText reader old new name stops.Unread = Rose old.read_faults new.read_faults
 StopsAtText reader old new name (stops.Setup error) = ⊥
 StopsAtText reader old new name (stops.Text error) = Refuses reader is_text_want old new name error
-StopsAtText reader old new name stops.Memory = new ≡ old
+StopsAtText reader old new name stops.Memory = NoReadFailed old new
 
 -- ---- how a fault ends a command
 

@@ -4,7 +4,7 @@ ghost use Rattle.setup_text.specs.Filters.{filter_of};
 ghost use Rattle.setup_text.specs.Moments.{moments_of};
 ghost use Rattle.setup_text.specs.Setups.{request_fault};
 ghost use Rattle.setup_text.specs.Sound.{AreMoments, IsScheduleFor, IsSetup};
-ghost use Rattle.tap_outside.specs.Seen.{OnlyReads};
+ghost use Rattle.tap_outside.specs.Seen.{NoReadFailed, OnlyReads};
 ghost use Rattle.tap_reading.specs.Readers.{Says, StopsAtSetup, StopsAtText, schedule_for, setup_for};
 
 use crate::stops::Stop;
@@ -31,7 +31,7 @@ pub fn load_setup<S: Store>(
     ensures stop { IfErr result
         (StopsAtSetup command (S.seen store.old) (S.seen store.new) name.now) }
     ensures store { OnlyReads (S.seen store.old) (S.seen store.new) }
-    ensures faultless { OnOk result (S.seen store.new ≡ S.seen store.old) }
+    ensures faultless { OnOk result (NoReadFailed (S.seen store.old) (S.seen store.new)) }
 {
     let text = read_text(alloc, store, name)?;
     Ok(read_setup(alloc, text.as_slice(), command)?)
@@ -45,7 +45,7 @@ pub fn load_filter<S: Store>(alloc: Global, store: &mut S, name: &[u8]) -> Resul
     ensures stop { IfErr result
         (StopsAtText filter_of (S.seen store.old) (S.seen store.new) name.now) }
     ensures store { OnlyReads (S.seen store.old) (S.seen store.new) }
-    ensures faultless { OnOk result (S.seen store.new ≡ S.seen store.old) }
+    ensures faultless { OnOk result (NoReadFailed (S.seen store.old) (S.seen store.new)) }
 {
     let text = read_text(alloc, store, name)?;
     Ok(read_filter(alloc, text.as_slice())?)
@@ -60,7 +60,7 @@ pub fn load_ticks<S: Store>(alloc: Global, store: &mut S, name: &[u8]) -> Result
     ensures stop { IfErr result
         (StopsAtText moments_of (S.seen store.old) (S.seen store.new) name.now) }
     ensures store { OnlyReads (S.seen store.old) (S.seen store.new) }
-    ensures faultless { OnOk result (S.seen store.new ≡ S.seen store.old) }
+    ensures faultless { OnOk result (NoReadFailed (S.seen store.old) (S.seen store.new)) }
 {
     let text = read_text(alloc, store, name)?;
     Ok(read_ticks(alloc, text.as_slice())?)
@@ -81,7 +81,7 @@ pub fn load_schedule<S: Store>(
     ensures stop { IfErr result
         (StopsAtText (schedule_for cpus members) (S.seen store.old) (S.seen store.new) name.now) }
     ensures store { OnlyReads (S.seen store.old) (S.seen store.new) }
-    ensures faultless { OnOk result (S.seen store.new ≡ S.seen store.old) }
+    ensures faultless { OnOk result (NoReadFailed (S.seen store.old) (S.seen store.new)) }
 {
     let text = read_text(alloc, store, name)?;
     Ok(read_schedule(alloc, text.as_slice(), cpus, members)?)

@@ -66,14 +66,14 @@ impl From<TextError> for Stop {
     }
 }
 
-/// Whether a setup wasn't read for want of memory.
+/// Whether a setup wasn't read for lack of memory.
 fn is_setup_want(error: &SetupError) -> bool
     ensures { result ≡ is_setup_want error.now }
 {
     matches!(error.kind, SetupKind::Memory)
 }
 
-/// Whether a text wasn't read for want of memory.
+/// Whether a text wasn't read for lack of memory.
 fn is_text_want(error: &TextError) -> bool
     ensures { result ≡ is_text_want error.now }
 {

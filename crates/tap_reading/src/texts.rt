@@ -2,7 +2,7 @@
 ghost use Rattle.std.specs.Prelude.{◌≡◌, ◌<◌, ◌≤◌, length, IfOk, IsErrOf, IsTrue, OnOk, vec_len};
 ghost use Rattle.std.specs.Io.KnownBytes.{Consumes, IsAtEnd};
 ghost use Rattle.tap_outside.specs.Counts.{Rose};
-ghost use Rattle.tap_outside.specs.Seen.{OnlyReads};
+ghost use Rattle.tap_outside.specs.Seen.{NoReadFailed, OnlyReads};
 ghost use Rattle.tap_reading.specs.Fronts.{IsTextOf};
 
 use frame_view::ByteList;
@@ -33,16 +33,17 @@ impl From<AllocError> for Unread {
 }
 
 /// Reads the text of a name to its end, or until it has more than 1,048,576 bytes; then it has
-/// 1,048,577. Where a read fails the answer is `Failed`; else the store's count of faults stays.
+/// 1,048,577. Where a read fails the answer is `Failed`; else an exact store is as before.
 pub fn read_text<S: Store>(alloc: Global, store: &mut S, name: &[u8]) -> Result<ByteList, Unread>
     requires { IsTrue ((S.seen store.old).to_read name.now) }
     ensures text { IfOk result (λ text. IsTextOf (S.seen store.old).held name.now text) }
 
     ensures store { OnlyReads (S.seen store.old) (S.seen store.new) }
-    ensures faultless { OnOk result (S.seen store.new ≡ S.seen store.old) }
+    ensures faultless { OnOk result (NoReadFailed (S.seen store.old) (S.seen store.new)) }
     ensures failed { IsErrOf result Unread.Failed
         → Rose (S.seen store.old).read_faults (S.seen store.new).read_faults }
-    ensures memory { IsErrOf result Unread.Memory → S.seen store.new ≡ S.seen store.old }
+    ensures memory { IsErrOf result Unread.Memory
+        → NoReadFailed (S.seen store.old) (S.seen store.new) }
 {
     let mut input = match store.fetch(name) {
         Ok(input) => input,

@@ -19,7 +19,7 @@ use Rattle.run_reports.specs.Jobs.{arriving_of, captures_from, rules_of}
 use Rattle.run_reports.specs.Logs.{AreLogsFrom}
 use Rattle.run_reports.specs.Members.{IsMember}
 use Rattle.run_reports.specs.Reports.{IsReport, logged}
-use Rattle.run_reports.proofs.Arriving.{AreNumbered, arrive, count_from, some_members}
+use Rattle.run_reports.proofs.ArrivalOrder.{AreNumbered, arrive, count_from, some_members}
 use Rattle.schedule_lines.specs.Ascending.{IsSchedule}
 use Rattle.schedule_lines.specs.declared.lines.Line.{Line}
 use Rattle.setup_text.specs.Sound.{IsSetup}

@@ -22,7 +22,7 @@ use Rattle.tap_replay.specs.Blocks.{HasReadAll}
 use Rattle.tap_replay.specs.Members.{ring_of}
 use Rattle.run_reports.specs.Members.{dump_where}
 use Rattle.tap_replay.specs.Reported.{member_of}
-use Rattle.run_reports.proofs.Keeping.{as_many, kept_in_blocks, texts_are, walked_are}
+use Rattle.run_reports.proofs.KeptPackets.{as_many, kept_in_blocks, texts_are, walked_are}
 
 dump_is : (shape : RingRequest) (asked : Bool) (notes : List Note)
     → dump_by asked shape (taken_from shape 1 (state_of (size_of shape) notes).done) ≡ dump_where asked shape notes

@@ -12,18 +12,18 @@ use Rattle.frame_view.specs.declared.frames.Frame.{Frame}
 use Rattle.replay_model.specs.Replay.{Cpu, Replay, cpu_at, fed_by, feed, feed_from, feed_times, no_cpu, no_ring, noted_at}
 use Rattle.schedule_lines.specs.declared.lines.Line.{Line}
 use Rattle.schedule_lines.specs.declared.lines.Line.TheVariants.{Feed, Read, Tick, Stats}
-use Rattle.replay_model.proofs.Arriving.{arrived_is}
+use Rattle.replay_model.proofs.KeptArrivals.{arrived_is}
 use Rattle.ring_model.specs.Rings.{Ring, noted, note_of_tick, read_once, state}
 use Rattle.ring_model.specs.declared.notes.Note.TheVariants.{Counted}
 use Rattle.setup_text.specs.declared.jobs.Job.{Job}
 use Rattle.tp_layout.specs.Requests.{room_of, size_of}
 use Rattle.cpu_feed.specs.Fed.{FedOne, IsAtItsEnd}
 use Rattle.cpu_feed.specs.Feeding.{Feeding, IsAllOfCpu, frames_in}
-use Rattle.tap_replay.specs.Running.{AreAllOf, Feeds, HasCount, IsCounted, IsRun, RunValue, cpu_in, cpus_of, firsts_of, no_feeding, whole, cpu_of}
+use Rattle.tap_replay.specs.RunStates.{AreAllOf, Feeds, HasCount, IsCounted, IsRun, RunValue, cpu_in, cpus_of, firsts_of, no_feeding, whole, cpu_of}
 use Rattle.run_reports.specs.Jobs.{rules_of}
-use Rattle.tap_replay.specs.Turning.{FedRest, FedWhole, LineDone, fed_whole}
-use Rattle.tap_replay.proofs.Counting.{keeps_count, more_lines, read_counted, stats_counted, tick_counted}
-use Rattle.tap_replay.proofs.Stepping.{run_with}
+use Rattle.tap_replay.specs.RunEffects.{FedRest, FedWhole, LineDone, fed_whole}
+use Rattle.tap_replay.proofs.RunCounts.{keeps_count, more_lines, read_counted, stats_counted, tick_counted}
+use Rattle.tap_replay.proofs.CpuSteps.{run_with}
 use Rattle.tap_replay.proofs.Timed.{set_one}
 use Rattle.tap_replay.proofs.Whole.{all-set, as-many, cpus-at, no_frames, set_same}
 

@@ -2,14 +2,14 @@
 use Rattle.std.proofs.Common.{◌≡◌, ℕ, zero, suc, ◌+◌, ◌%◌, ◌<◌, ◌≤◌, true, false, List, [], ◌∷◌, length, get_or, Option, None, inl, refl, sym, ap, ◌∙◌, subst, arith, length-set}
 use Rattle.std.specs.Prelude.{All, IfSome, map, slice_set}
 use Rattle.std.proofs.lemmas.List.{set-set}
-use Rattle.fanout_group.specs.Judging.{AgreesAt, IsJudged, Lens, first_entry, offer_by}
+use Rattle.fanout_group.specs.Judgements.{AgreesAt, IsJudged, Lens, first_entry, offer_by}
 use Rattle.fanout_group.specs.Plans.{Shape}
 use Rattle.fanout_group.specs.Rules.{HasTicket}
 use Rattle.fanout_group.specs.declared.logs.ArrivalLog.{ArrivalLog}
 use Rattle.fanout_group.specs.declared.modes.Mode.{Mode}
 use Rattle.frame_view.specs.declared.frames.Frame.{Frame}
 use Rattle.replay_model.specs.Replay.{Replay, arrived, feed, next_ticket, ticket_of}
-use Rattle.replay_model.specs.Taking.{Takes}
+use Rattle.replay_model.specs.TakenOffers.{Takes}
 use Rattle.ring_model.specs.Offers.{IsSound}
 use Rattle.ring_model.specs.Rings.{Ring}
 use Rattle.ring_model.specs.declared.notes.Offer.{Offer}
@@ -19,12 +19,12 @@ use Rattle.tap_replay.specs.Deliveries.{ChangedByTries}
 use Rattle.cpu_feed.specs.Fed.{GoesOn, arrival_of}
 use Rattle.cpu_feed.specs.Feeding.{Feeding}
 use Rattle.run_reports.specs.Jobs.{lens_of, rules_of}
-use Rattle.tap_replay.specs.Running.{AreCpus, Arrives, Does, Feeds, HasCount, HasRoom, IsLogged, IsRun, Nexts, RunValue, cpu_in, firsts_of, no_feeding, whole}
+use Rattle.tap_replay.specs.RunStates.{AreCpus, Arrives, Does, Feeds, HasCount, HasRoom, IsLogged, IsRun, Nexts, RunValue, cpu_in, firsts_of, no_feeding, whole}
 use Rattle.tap_outside.specs.Seen.{SourceSeen}
 use Rattle.cpu_feed.specs.declared.fed.Fed.{Fed}
 use Rattle.cpu_feed.specs.declared.fed.Fed.TheVariants.{Arrival, Nothing, End}
-use Rattle.tap_replay.proofs.Arriving.{Looked, all_take, arrives, as_changed, as_count, as_keep, cpus_are, made_tries}
-use Rattle.tap_replay.proofs.Counting.{drawn_most, has_arrived, made_most, none_fed, nothing_arrived, one_fed, room_for_one}
+use Rattle.tap_replay.proofs.RunArrivals.{Looked, all_take, arrives, as_changed, as_count, as_keep, cpus_are, made_tries}
+use Rattle.tap_replay.proofs.RunCounts.{drawn_most, has_arrived, made_most, none_fed, nothing_arrived, one_fed, room_for_one}
 use Rattle.tap_replay.proofs.Whole.{cpus-keep, cpus-number, cpus-shape, feeds_frame, feeds_nothing, next_does}
 
 pub shape_at : (job : Job) (run : RunValue) (cpu : ℕ) → IsRun job run → cpu < length run.cpus → (cpu_in run cpu).path.shape ≡ job.setup.plan

@@ -10,13 +10,13 @@ use Rattle.ring_model.specs.Rings.{Ring, fresh, note_of_tick, noted, read_once}
 use Rattle.ring_model.specs.declared.notes.Note.{Note}
 use Rattle.ring_model.specs.declared.notes.Offer.{Offer}
 use Rattle.replay_model.specs.Replay.{no_ring}
-use Rattle.replay_model.specs.Taking.{MayCome}
+use Rattle.replay_model.specs.TakenOffers.{MayCome}
 use Rattle.schedule_lines.specs.Ascending.{AreAscending}
 use Rattle.schedule_lines.specs.declared.lines.Line.{Line}
 use Rattle.schedule_lines.specs.declared.lines.Line.TheVariants.{Feed, Read, Tick, Stats}
 use Rattle.replay_model.proofs.Rings.{IsOpen, count_open, fresh_open, put_open, read_open, tick_open, try_open}
 use Rattle.tap_replay.specs.Deliveries.{AreTried, ChangedByTries, IsNoteOf, IsTried}
-use Rattle.tap_replay.specs.Turning.{MembersAfter}
+use Rattle.tap_replay.specs.RunEffects.{MembersAfter}
 
 -- before some lines: the rings' clocks aren't past a moment from which the lines go on
 pub record IsTimed (size : Size) (rings : List Ring) (lines : List Line) : Type 0 where

@@ -8,7 +8,7 @@ use Rattle.replay_model.specs.Replay.{Cpu, Replay, arrived, cpu_at, fed_by, feed
 use Rattle.fanout_group.specs.Rules.{Rules}
 use Rattle.cpu_feed.specs.Fed.{arrival_of}
 use Rattle.cpu_feed.specs.Feeding.{Feeding, IsAllOfCpu, next_of, Takes, waiting_of}
-use Rattle.tap_replay.specs.Running.{AreAllOf, AreCpus, Nexts, RunValue, cpu_in, cpus_of, no_feeding, whole, cpu_of}
+use Rattle.tap_replay.specs.RunStates.{AreAllOf, AreCpus, Nexts, RunValue, cpu_in, cpus_of, no_feeding, whole, cpu_of}
 use Rattle.cpu_feed.specs.declared.fed.Fed.{Fed}
 
 -- a CPU has a frame less that waits

@@ -2,7 +2,7 @@
 use Rattle.std.specs.Prelude.{◌≡◌, ◌⊎◌, ℕ, ◌+◌, ◌^◌, ◌<◌, ◌≤◌, List, [], ◌∷◌, ◌++◌, length, slice_index_or, All}
 use Rattle.fanout_group.specs.declared.logs.Try.{Try}
 use Rattle.replay_model.specs.Replay.{fate_of, no_ring, noted_at}
-use Rattle.replay_model.specs.Taking.{Takes}
+use Rattle.replay_model.specs.TakenOffers.{Takes}
 use Rattle.ring_model.specs.Rings.{Ring, note_of_put, note_of_try}
 use Rattle.ring_model.specs.declared.notes.Note.{Note}
 use Rattle.ring_model.specs.declared.notes.Offer.{Offer}

@@ -4,5 +4,5 @@ pub mod Members
 pub mod Runs
 pub mod Deliveries
 pub mod DeskLaws
-pub mod Running
-pub mod Turning
+pub mod RunStates
+pub mod RunEffects

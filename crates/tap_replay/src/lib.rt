@@ -2,13 +2,13 @@
 //! out of there.
 #![tactic(auto)]
 
-mod closing;
+mod closed_replays;
 mod member;
+mod new_replays;
 mod replay_run;
 mod ring_desk;
 mod runs;
-mod setting;
-mod starting;
+mod settings;
 mod tickets;
 
 pub use runs::{a_job_reports_a_group, replay};

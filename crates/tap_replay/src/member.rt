@@ -5,14 +5,14 @@
 //! reads until no block waits.
 ghost use Rattle.std.specs.Prelude.{◌≡◌, ◌^◌, ◌<◌, ◌≤◌, length, IfErr, IfOk, OnErr, OnOk};
 ghost use Rattle.replay_model.specs.Replay.{finished_ring};
-ghost use Rattle.replay_model.specs.Taking.{Takes};
+ghost use Rattle.replay_model.specs.TakenOffers.{Takes};
 ghost use Rattle.ring_model.specs.Rings.{fresh, note_of_put, note_of_tick, note_of_try, noted, read_once, state};
 ghost use Rattle.ring_model.specs.Told.{put_told, try_told};
 ghost use Rattle.ring_model.specs.declared.notes.Note.TheVariants.{Counted};
 ghost use Rattle.tap_replay.specs.Reported.{member_of};
 ghost use Rattle.tp_layout.specs.Requests.{size_of};
 
-use crate::setting::Setting;
+use crate::settings::Setting;
 use block_ring::{Producer, TickError};
 use frame_view::Memory;
 use reader_walk::{Reader, a_text_is_read_as_it_was_written};

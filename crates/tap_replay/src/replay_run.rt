@@ -7,17 +7,17 @@ ghost use Rattle.fanout_group.specs.Arrivals.{IsArrival};
 ghost use Rattle.fanout_group.specs.Rules.{HasTicket};
 ghost use Rattle.replay_model.specs.Replay.{no_ring, noted_at};
 ghost use Rattle.schedule_lines.specs.declared.lines.Line.TheVariants.{Feed};
-ghost use Rattle.replay_model.specs.Taking.{MayCome, Takes};
+ghost use Rattle.replay_model.specs.TakenOffers.{MayCome, Takes};
 ghost use Rattle.ring_model.specs.Rings.{noted, note_of_tick, read_once, state};
 ghost use Rattle.ring_model.specs.declared.notes.Note.TheVariants.{Counted};
 ghost use Rattle.setup_text.specs.Sound.{IsSetup};
 ghost use Rattle.cpu_feed.specs.Fed.{arrival_of};
-ghost use Rattle.tap_replay.specs.Running.{Arrives, Feeds, HasCount, HasRoom, IsLogged, IsRun, Nexts, cpu_in};
-ghost use Rattle.tap_replay.specs.Turning.{FedRest, FedWhole, LineDone};
+ghost use Rattle.tap_replay.specs.RunStates.{Arrives, Feeds, HasCount, HasRoom, IsLogged, IsRun, Nexts, cpu_in};
+ghost use Rattle.tap_replay.specs.RunEffects.{FedRest, FedWhole, LineDone};
 
 use crate::member::Member;
 use crate::ring_desk::RingDesk;
-use crate::setting::Setting;
+use crate::settings::Setting;
 use crate::tickets::{next_ticket, ticket_of};
 use capture_reading::Buffer;
 use cpu_feed::{CpuFeed, Fed, rules_at};
@@ -45,7 +45,7 @@ pub(crate) struct ReplayRun<S: Source, K: Setting> {
 }
 
 impl<S: Source, K: Setting> Model for ReplayRun<S, K> {
-    ghost use Rattle.tap_replay.specs.Running.{RunValue};
+    ghost use Rattle.tap_replay.specs.RunStates.{RunValue};
 
     ghost Value = { RunValue };
 

@@ -6,7 +6,7 @@ ghost use Rattle.tap_replay.specs.Deliveries.{Follows, TakesAt, desk_with};
 ghost use Rattle.tap_replay.specs.DeskLaws.{follows_itself, follows_on};
 
 use crate::member::Member;
-use crate::setting::Setting;
+use crate::settings::Setting;
 use fanout_group::{Desk, Fate, Try};
 use ring_model::{Offer, Put, Tried, Unput};
 use std::alloc::Global;

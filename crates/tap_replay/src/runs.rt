@@ -8,9 +8,9 @@ ghost use Rattle.setup_text.specs.Sound.{IsSetup};
 ghost use Rattle.setup_text.specs.declared.jobs.Job.{Job};
 ghost use Rattle.tap_replay.specs.Runs.{IsReplayed, report_of};
 
-use crate::closing::finish;
-use crate::setting::Setting;
-use crate::starting::start;
+use crate::closed_replays::finish;
+use crate::new_replays::start;
+use crate::settings::Setting;
 use capture_file::frames_are_numbered;
 use frame_view::Memory;
 use replay_model::a_replay_reports_a_group;

@@ -75,7 +75,7 @@ stays (Some a) None c names more h k file apart holds = absurd h
 stays (Some a) (Some b) None names more h k file apart holds = absurd k
 stays (Some a) (Some b) (Some c) names more h k file apart holds = k file.name apart ∙ holds
 
--- a store that told before what it holds tells it after a saving too
+-- a store that reported before what it holds reports it after a saving too
 later : (a b c : Option Contents) (names : List (List ℕ)) → KeepsAllBut a b names
     → (file : File) → HoldsNow b c file → HoldsNow a c file
 later None b c names h file holds = tt

@@ -20,7 +20,7 @@ abbrev first_of : List ℕ → ℕ
 first_of [] = 0
 first_of (x ∷ xs) = x
 
--- behind the prefix a name is a dot, a digit and the ending
+-- after the prefix a name is a dot, a digit and the ending
 digit_name : (prefix : List ℕ) (member : ℕ) (ending : List ℕ) → member < 10
     → file_name prefix member ending ≡ prefix ++ (46 ∷ ((48 + member) ∷ ending))
 digit_name prefix member ending small =

@@ -7,7 +7,7 @@ use Rattle.std.proofs.lemmas.Grind.{common_steps}
 use Rattle.text_lines.specs.Lines.{lines_of, starts_with_line_feed}
 use Rattle.text_lines.proofs.LineCuts.{strip_more}
 
--- whether an empty part stands first, with another behind it
+-- whether an empty part stands first, with another after it
 abbrev starts_with_end : List (List ℕ) → Bool
 starts_with_end [] = false
 starts_with_end ([] ∷ []) = false

@@ -37,7 +37,7 @@ fails_where_none test bytes h =
 pub position_is_place : (test : ℕ → Bool) (bytes : List ℕ) (at : ℕ) → position test bytes ≡ Some at → at < length bytes
 position_is_place test bytes at h = (position-Some test bytes at 0 h).0
 
--- the bytes up to the place, the byte there, and the bytes behind it
+-- the bytes up to the place, the byte there, and the bytes after it
 pub split_at_position : (test : ℕ → Bool) (bytes : List ℕ) (at : ℕ) → position test bytes ≡ Some at → bytes ≡ take at bytes ++ (get_or bytes at 0 ∷ drop (at + 1) bytes)
 split_at_position test bytes at h =
     let small = position_is_place test bytes at h in

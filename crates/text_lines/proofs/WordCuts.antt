@@ -9,7 +9,7 @@ use Rattle.std.specs.Option.{unwrap_or}
 use Rattle.text_lines.proofs.Positions.{AllFail, fails_before, fails_where_none, split_at_position, passes_at, position_is_place}
 use Rattle.text_lines.specs.Words.{is_blank, words_of}
 
--- a blank in front is no part of a word
+-- a blank before it is no part of a word
 words_of-blank : (b : ℕ) (line : List ℕ) → is_blank b ≡ true → words_of (b ∷ line) ≡ words_of line
 unfolding words_of
 words_of-blank b line h = rw h refl

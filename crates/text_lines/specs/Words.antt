@@ -27,7 +27,7 @@ abbrev pub is_comment : List ℕ → Bool
 is_comment [] = false
 is_comment (b ∷ bytes) = b == 35
 
--- whether the line of these words is passed over: it has no word, or the first one begins with `#`
+-- whether the line of these words is skipped: it has no word, or the first one begins with `#`
 abbrev pub is_passed_over : List (List ℕ) → Bool
 is_passed_over [] = true
 is_passed_over (word ∷ more) = is_comment word

@@ -7,7 +7,7 @@ ghost use Rattle.text_lines.specs.Lines.{lines_of};
 /// The most bytes that a text may have, by this project's own choice.
 pub const LARGEST_TEXT: usize = 1_048_576;
 
-/// Takes the first line off a text: the line, and the text behind it. `None` is the end of the text.
+/// Takes the first line off a text: the line, and the text after it. `None` is the end of the text.
 ///
 /// A line feed ends a line, and the last line may lack it. One carriage return before a line feed is dropped; a last
 /// line without a line feed keeps its carriage return. A text of n bytes is read in n steps by repeated calls.

@@ -10,7 +10,7 @@ pub fn is_plain(line: &[u8]) -> bool
     line.iter().all(|byte| matches!(*byte, b' '..=b'~' | b'\t'))
 }
 
-/// Takes the first word off a line: the word, and the line behind it. `None` comes where no word is left. Words stand
+/// Takes the first word off a line: the word, and the line after it. `None` comes where no word is left. Words stand
 /// between spaces or tabs, which may stand round them too.
 pub fn next_word(line: &[u8]) -> Option<(&[u8], &[u8])>
     ensures word { MatchOption result (words_of line.now ≡ [])
@@ -23,7 +23,7 @@ pub fn next_word(line: &[u8]) -> Option<(&[u8], &[u8])>
     Some(rest.split_at(end))
 }
 
-/// Whether a line is passed over: it has no word, or its first word begins with `#`.
+/// Whether a line is skipped: it has no word, or its first word begins with `#`.
 pub fn is_passed_over(line: &[u8]) -> bool
     ensures { result ≡ is_passed_over (words_of line.now) }
 {

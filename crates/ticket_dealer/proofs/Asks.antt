@@ -5,7 +5,7 @@ use mathlib.Core.Option.{some, none, some-injective, some-ne-none}
 use lib.ListN.{get_elem?}
 use Rattle.atomic_table.specs.Table.{State, Me, step, keeps, Allows, Splits, Joins, Final, Seen}
 use Rattle.atomic_table.proofs.Lists.{at_set, set_else}
-use Rattle.ticket_dealer.specs.declared.knowing.Hand.{Hand}
+use Rattle.ticket_dealer.specs.declared.knowledge.Hand.{Hand}
 use Rattle.ticket_dealer.specs.Tickets.{times, once_below, AllBelow, Rises}
 use Rattle.ticket_dealer.specs.Hands.{total, without_feeder, feeder_of, without_other, other_of, drew, ended, saw, joined, spent}
 use Rattle.ticket_dealer.specs.Dealt.{HandOk, Dealt}

@@ -5,11 +5,11 @@ use mathlib.Core.Option.{some, some-injective}
 use native.Mathlib.Decide.{ℕ_discrete}
 use lib.ListN.{get_elem?}
 use Rattle.atomic_table.specs.Table.{State}
-use Rattle.ticket_dealer.specs.declared.knowing.Hand.{Hand}
+use Rattle.ticket_dealer.specs.declared.knowledge.Hand.{Hand}
 use Rattle.ticket_dealer.specs.Hands.{total}
 use Rattle.ticket_dealer.specs.Tickets.{times}
 use Rattle.ticket_dealer.specs.Dealt.{Dealt}
-use Rattle.ticket_dealer.specs.Dealing.{IsDealing, IsDrawnOnce}
+use Rattle.ticket_dealer.specs.Deals.{IsDealing, IsDrawnOnce}
 use Rattle.ticket_dealer.proofs.Lists.{below_yes}
 use Rattle.ticket_dealer.proofs.Totals.{total_above}
 

@@ -39,7 +39,7 @@ pub below_join : (number : ℕ) (xs ys : List ℕ) → AllBelow number xs → Al
 below_join number [] ys all also = also
 below_join number (x ∷ xs) ys all also = (all.0, below_join number xs ys all.1 also)
 
--- a number above all others goes behind them
+-- a number above all others goes after them
 pub rises_more : (least number : ℕ) (xs : List ℕ) → Rises least xs → AllBelow number xs → least ≤ number → Rises least (xs ++ number ∷ [])
 rises_more least number [] rises all above = (above, tt)
 rises_more least number (x ∷ xs) rises all above = (rises.0, rises_more (x + 1) number xs rises.1 all.1 (let here = all.0 in omega (arith, here)))

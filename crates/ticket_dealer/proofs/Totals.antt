@@ -2,7 +2,7 @@
 use Rattle.std.proofs.Common.{◌≡◌, ℕ, zero, suc, ◌+◌, ◌*◌, ◌<◌, ◌≤◌, ◌^◌, ◌≢◌, ◌⊎◌, inl, inr, List, [], ◌∷◌, ◌++◌, length, set, get_or, sym, refl, ap, arith}
 use mathlib.Core.Option.{some, some-injective, some-ne-none}
 use lib.ListN.{get_elem?}
-use Rattle.ticket_dealer.specs.declared.knowing.Hand.{Hand}
+use Rattle.ticket_dealer.specs.declared.knowledge.Hand.{Hand}
 use Rattle.ticket_dealer.specs.Hands.{total}
 
 -- the sum after a change of one view

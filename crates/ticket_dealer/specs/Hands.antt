@@ -1,6 +1,6 @@
 -- What a seat of the table knows at the start and after each step.
 use Rattle.std.specs.Prelude.{ℕ, ◌+◌, ◌-◌, List, [], ◌∷◌, ◌++◌}
-use Rattle.ticket_dealer.specs.declared.knowing.Hand.{Hand}
+use Rattle.ticket_dealer.specs.declared.knowledge.Hand.{Hand}
 
 -- a number that each seat of the table has, added up
 abbrev pub total : (Hand → ℕ) → List Hand → ℕ

@@ -1,7 +1,7 @@
 pub mod Tickets
 pub mod Hands
 pub mod Dealt
-pub mod Dealing
+pub mod Deals
 pub mod Steps
 pub mod Seats
 pub mod SeatsInside

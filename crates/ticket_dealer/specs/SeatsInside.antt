@@ -1,7 +1,7 @@
 -- What a seat of a dealer is to its owner, by what it knows at the table.
 use Rattle.std.specs.Prelude.{◌≡◌, ◌+◌, ◌≤◌, []}
 use Rattle.atomic_table.specs.declared.shared.Seat.{Seat}
-use Rattle.ticket_dealer.specs.declared.knowing.Hand.{Hand}
+use Rattle.ticket_dealer.specs.declared.knowledge.Hand.{Hand}
 use Rattle.ticket_dealer.specs.Seats.{SeatValue}
 use Rattle.ticket_dealer.specs.Tickets.{Rises}
 

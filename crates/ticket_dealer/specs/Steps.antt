@@ -1,7 +1,7 @@
 -- What each step tells the seat that made it.
 use Rattle.std.specs.Prelude.{◌≡◌, ℕ, ◌+◌, ◌<◌, ◌≤◌, ◌^◌}
 use Rattle.atomic_table.specs.Table.{Me, Step}
-use Rattle.ticket_dealer.specs.declared.knowing.Hand.{Hand}
+use Rattle.ticket_dealer.specs.declared.knowledge.Hand.{Hand}
 use Rattle.ticket_dealer.specs.Hands.{drew, ended, saw}
 use Rattle.ticket_dealer.specs.Tickets.{AllBelow}
 

@@ -1,5 +1,5 @@
 //! The dealer itself.
-use crate::knowing::Hand;
+use crate::knowledge::Hand;
 use crate::plays::EachOnce;
 use atomic_table::Table;
 use std::alloc::Global;

@@ -1,5 +1,5 @@
 //! A seat at a dealer.
-use crate::knowing::Hand;
+use crate::knowledge::Hand;
 use atomic_table::Seat;
 use std::marker::Model;
 

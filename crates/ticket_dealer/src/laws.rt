@@ -1,10 +1,10 @@
 //! The law of a dealer's table, the contract of a function that does nothing.
 ghost use Rattle.std.specs.Prelude.{ℕ};
 ghost use Rattle.atomic_table.specs.Table.{State};
-ghost use Rattle.ticket_dealer.specs.Dealing.{IsDealing};
-ghost use Rattle.ticket_dealer.specs.declared.knowing.Hand.{Hand};
+ghost use Rattle.ticket_dealer.specs.Deals.{IsDealing};
+ghost use Rattle.ticket_dealer.specs.declared.knowledge.Hand.{Hand};
 
-use crate::knowing::Hand;
+use crate::knowledge::Hand;
 use crate::plays::EachOnce;
 use atomic_table::TableRule;
 

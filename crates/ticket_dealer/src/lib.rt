@@ -1,14 +1,14 @@
 //! Tickets that seats draw in threads of their own, each number once, and a count of the feeders that go on.
 #![tactic(auto)]
 
+mod closed_dealers;
 mod dealer;
 mod dealer_seat;
-mod drawing;
-mod gathering;
-mod knowing;
+mod knowledge;
 mod laws;
-mod opening;
+mod new_dealers;
 mod plays;
+mod seat_calls;
 
 pub use dealer::Dealer;
 pub use dealer_seat::DealerSeat;

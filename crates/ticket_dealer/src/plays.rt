@@ -3,7 +3,7 @@ ghost use Rattle.ticket_dealer.specs.Dealt.{Dealt};
 ghost use Rattle.ticket_dealer.specs.Hands.{opening, without_feeder, feeder_of, without_other, other_of, joined, spent};
 ghost use Rattle.ticket_dealer.specs.Steps.{Drew, Ended, Saw};
 
-use crate::knowing::Hand;
+use crate::knowledge::Hand;
 use atomic_table::{Join, Play, Split, TableRule};
 
 /// Each number below the ticket word is drawn once.

@@ -121,7 +121,7 @@ end_lawful shape number status packets lawful =
     let even : end % 8 ≡ 0 = omega (arith, eight) in
     and_from _ _ (and_from (end % 8 == 0) _ (eq-eqb (end % 8) 0 even) (lt-ltb (first_of shape) end (omega (arith, some)))) (le-leb end shape.block_size lawful.fits)
 
--- a lawful text at the front passes
+-- a lawful text at the start passes
 pub begins_stands : (fits : ℕ → Bool) (shape : RingRequest) (number status : ℕ) (packets : List Packet) (bytes : List ℕ) → shape.block_size ≤ 1048576
     → ((end : ℕ) → end_may shape end ≡ true → fits end ≡ true) → BeginsWith shape number status packets bytes → BlockStands fits shape number status packets bytes
 begins_stands fits shape number status packets bytes sound may is =
@@ -213,7 +213,7 @@ times_front first last text rest header =
       number_front 4 44 text rest (omega arith),
     ) refl
 
--- the tests behind those of the head
+-- the tests after those of the head
 behind_head : RingRequest → ℕ → List ℕ → List ℕ → Option LayoutError
 behind_head shape count area bytes =
     option_or (packets_tests count (first_of shape) area) (time_tests (number_at 4 4 area, number_at 4 8 area) (last_time (packets_in count area)) bytes)
@@ -223,7 +223,7 @@ unfolding behind_head
 behind_front shape count area text rest header =
     ap (option_or (packets_tests count (first_of shape) area)) (times_front (number_at 4 4 area, number_at 4 8 area) (last_time (packets_in count area)) text rest header)
 
--- what stands behind a text doesn't count where its packets end with it
+-- what follows a text doesn't count where its packets end with it
 front_tests_are : (fits : ℕ → Bool) (shape : RingRequest) (text rest : List ℕ) → 48 ≤ length text
     → ((end : ℕ) → fits end ≡ true → (first_of shape < end) × (end ≡ length text)) → block_tests fits shape (text ++ rest) ≡ block_tests fits shape text
 unfolding block_tests behind_head

@@ -73,7 +73,7 @@ pub record PacketsStand (at : ℕ) (packets : List Packet) (bytes : List ℕ) : 
   pub tests : packets_tests (length packets) at bytes ≡ None
   pub packets_are : packets_in (length packets) bytes ≡ packets
 
--- a packet and those behind it
+-- a packet and those after it
 packets_more : (last : Bool) (at : ℕ) (packet : Packet) (packets : List Packet) (bytes rest : List ℕ) → (length packets == 0) ≡ last
     → stand.Stands last at packet bytes → drop (need_of_packet packet) bytes ≡ rest → PacketsStand (at + need_of_packet packet) packets rest
     → PacketsStand at (packet ∷ packets) bytes
@@ -105,7 +105,7 @@ packets_stand at (packet ∷ next ∷ packets) each small =
 
 -- ---- a block that passed is a text
 
--- the time of the packet at the front
+-- the time of the packet at the start
 pub first_time_in : (count : ℕ) (bytes : List ℕ) → 0 < count → first_time (packets_in count bytes) ≡ (number_at 4 4 bytes, number_at 4 8 bytes)
 unfolding packet_at
 first_time_in count bytes some = rw (packets_in_step count bytes some) refl

@@ -107,7 +107,7 @@ address_tests_are at bytes h =
     (read at 64 _ _ bytes _ (number_one 64 bytes)
     (read at 65 _ _ bytes _ (number_one 65 bytes) (none at 66 bytes)))))))))))))
 
--- two tables, one behind the other
+-- two tables, one after the other
 pub first_fault-append : (base from : ℕ) (rows more : List Row) (bytes : List ℕ)
     → first_fault base from (rows ++ more) bytes ≡ option_or (first_fault base from rows bytes) (first_fault base (from + size_of_rows rows) more bytes)
 unfolding first_fault

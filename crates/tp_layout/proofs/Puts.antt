@@ -1,4 +1,4 @@
--- Bytes written over others, one piece behind another.
+-- Bytes written over others, one piece after another.
 use Rattle.std.proofs.Common.{◌≡◌, ℕ, zero, suc, ◌+◌, ◌-◌, ◌≤◌, List, [], ◌∷◌, ◌++◌, length, take, drop, replicate, refl, sym, ap, ◌∙◌, arith, append_assoc}
 use Rattle.std.proofs.lemmas.List.{length-append, length-take, length-drop, length-replicate, take_at, drop_at, drop-drop, take-append-drop}
 use Rattle.byteorder.specs.Endian.{little_bytes}
@@ -64,7 +64,7 @@ unfolding bytes_of
 bytes_of-zeros at zero = refl
 bytes_of-zeros at (suc n) = ap (λ (xs : List ℕ). 0 ∷ xs) (bytes_of-zeros (at + 1) n)
 
--- the bytes of two tables, one behind the other
+-- the bytes of two tables, one after the other
 pub bytes_of-append : (rows more : List Row) → bytes_of (rows ++ more) ≡ bytes_of rows ++ bytes_of more
 unfolding bytes_of
 bytes_of-append [] more = refl

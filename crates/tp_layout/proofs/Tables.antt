@@ -64,7 +64,7 @@ pub size_of_zeros : (at n : ℕ) → size_of_rows (zeros at n) ≡ n
 size_of_zeros at zero = refl
 size_of_zeros at (suc n) = let rest = size_of_zeros (at + 1) n in omega arith
 
--- what stands behind the bytes of a table
+-- what follows the bytes of a table
 pub behind : (from : ℕ) (rows : List Row) (bytes rest : List ℕ) → drop from bytes ≡ bytes_of rows ++ rest → drop (from + size_of_rows rows) bytes ≡ rest
 behind from rows bytes rest e =
     sym (drop-drop (size_of_rows rows) from bytes) ∙ ap (drop (size_of_rows rows)) e ∙ drop_at (bytes_of rows) rest (size_of_rows rows) (length-bytes_of rows)

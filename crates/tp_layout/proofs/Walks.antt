@@ -30,18 +30,18 @@ unfolding packets_in
 packets_in_step zero bytes some = absurd (omega arith)
 packets_in_step (suc more) bytes some = let n : suc more - 1 ≡ more = omega arith in rw n refl
 
--- the time of the packet at the front is the last one so far
+-- the time of the packet at the start is the last one so far
 pub last_step : (time : ℕ × ℕ) (count : ℕ) (bytes : List ℕ) → 0 < count
     → last_time_after time (packets_in count bytes) ≡ last_time_after (number_at 4 4 bytes, number_at 4 8 bytes) (packets_in (count - 1) (drop (need_at bytes) bytes))
 unfolding packet_at
 last_step time count bytes some = rw (packets_in_step count bytes some) refl
 
--- a packet at the front that passed
+-- a packet at the start that passed
 pub packets_passed : (count at : ℕ) (bytes : List ℕ) → 0 < count → packet_tests (count - 1 == 0) at bytes ≡ None
     → packets_tests (count - 1) (at + need_at bytes) (drop (need_at bytes) bytes) ≡ packets_tests count at bytes
 packets_passed count at bytes some e = sym (packets_step count at bytes some ∙ rw e refl)
 
--- a packet at the front that is refused
+-- a packet at the start that is refused
 pub packets_refused : (count at : ℕ) (bytes : List ℕ) (fault : LayoutError) → 0 < count → packet_tests (count - 1 == 0) at bytes ≡ Some fault
     → packets_tests count at bytes ≡ Some fault
 packets_refused count at bytes fault some e = packets_step count at bytes some ∙ rw e refl
@@ -77,7 +77,7 @@ pub or_none : (first second : Option LayoutError) → option_or first second ≡
 or_none None second e = (refl, e)
 or_none (Some fault) second e = absurd (none-some _ (sym e))
 
--- a packet at the front that passed its tests
+-- a packet at the start that passed its tests
 pub record Front (last : Bool) (at : ℕ) (bytes : List ℕ) : Type 0 where
   pub header : 88 ≤ length bytes
   pub some : 1 ≤ number_at 4 12 bytes
@@ -160,7 +160,7 @@ area_small shape bytes sound size order within =
 
 -- ---- packets that stand
 
--- what is known of the packet at the front of those that stand
+-- what is known of the packet at the start of those that stand
 pub record Standing (count : ℕ) (bytes : List ℕ) : Type 0 where
   pub header : 88 ≤ length bytes
   pub snap : 82 + number_at 4 12 bytes ≤ length bytes

@@ -18,7 +18,7 @@ pub record Descriptor : Type 0 where
   pub status : ℕ
   -- the number of packets
   pub count : ℕ
-  -- the place behind the last packet
+  -- the place after the last packet
   pub end : ℕ
   -- the times of the first packet and of the last
   pub first_sec : ℕ
@@ -26,7 +26,7 @@ pub record Descriptor : Type 0 where
   pub last_sec : ℕ
   pub last_nsec : ℕ
 
--- whether the packets of a block may end there: a multiple of 8 behind the first packet's place, within the block
+-- whether the packets of a block may end there: a multiple of 8 after the first packet's place, within the block
 abbrev pub end_may : RingRequest → ℕ → Bool
 end_may shape end = (end % 8 == 0) && nat_lt (first_of shape) end && nat_le end shape.block_size
 
@@ -49,7 +49,7 @@ time_rows desc =
     ∷ row 40 4 desc.last_sec ∷ row 40 4 desc.last_nsec  -- ts_last_pkt
     ∷ []
 
--- the zeros behind the descriptor, a private area that nobody writes
+-- the zeros after the descriptor, a private area that nobody writes
 abbrev pub private_rows : RingRequest → List Row
 private_rows shape = zeros 48 (first_of shape - 48)
 
@@ -109,7 +109,7 @@ pub record IsLawful (shape : RingRequest) (number status : ℕ) (packets : List 
   pub each : AllByRecursion IsLawfulPacket packets
   pub fits : first_of shape + needs_of packets ≤ shape.block_size
 
--- a block begins with this lawful text; what stands behind it is free
+-- a block begins with this lawful text; what follows it is free
 pub record BeginsWith (shape : RingRequest) (number status : ℕ) (packets : List Packet) (bytes : List ℕ) : Type 0 where
   pub lawful : IsLawful shape number status packets
   pub begins : take (length (block_text shape number status packets)) bytes ≡ block_text shape number status packets

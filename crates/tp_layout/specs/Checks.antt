@@ -74,7 +74,7 @@ packet_tests last at bytes =
 unfoldable pub packets_tests : ℕ → ℕ → List ℕ → Option LayoutError
 packets_tests count at bytes = packets_fault_by packet_tests count at bytes
 
--- the tests of a descriptor up to the times, and of the zeros behind it
+-- the tests of a descriptor up to the times, and of the zeros after it
 abbrev pub descriptor_tests : (ℕ → Bool) → RingRequest → List ℕ → Option LayoutError
 descriptor_tests fits shape bytes = option_or (head_tests fits shape bytes) (first_fault 0 48 (private_rows shape) bytes)
 
@@ -91,7 +91,7 @@ block_tests fits shape bytes =
     (option_or (packets_tests (number_at 4 12 bytes) (first_of shape) (area_of shape bytes))
     (time_tests (number_at 4 4 (area_of shape bytes), number_at 4 8 (area_of shape bytes)) (last_time (packets_in (number_at 4 12 bytes) (area_of shape bytes))) bytes))
 
--- where packets may end is behind the first packet's place and within so many bytes
+-- where packets may end is after the first packet's place and within so many bytes
 abbrev pub EndsWithin : RingRequest → (ℕ → Bool) → ℕ → Type 0
 EndsWithin shape fits size = (end : ℕ) → fits end ≡ true → (first_of shape < end) × (end ≤ size)
 

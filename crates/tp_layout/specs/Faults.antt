@@ -10,7 +10,7 @@ use Rattle.tp_layout.specs.Rows.{number_at, first_fault}
 use Rattle.tp_layout.specs.Packets.{packet_rows, padding_rows, packet_at, need_at}
 use Rattle.tp_layout.specs.Blocks.{Descriptor, head_rows, time_rows, private_rows, end_may, first_time, last_time}
 
--- the snap length of the packet at the front: at least 1, at most its wire length, and the packet ends within the bytes
+-- the snap length of the packet at the start: at least 1, at most its wire length, and the packet ends within the bytes
 abbrev pub snap_may : List ℕ → Bool
 snap_may bytes =
     nat_le 1 (number_at 4 12 bytes) && nat_le (number_at 4 12 bytes) (number_at 4 16 bytes) && nat_le (need_at bytes) (length bytes)
@@ -19,7 +19,7 @@ snap_may bytes =
 abbrev pub next_of : Bool → List ℕ → ℕ
 next_of last bytes = if last then 0 else need_at bytes
 
--- the first fault of the packet at the front of bytes that stand at `at`; `last` says that it is the last by num_pkts
+-- the first fault of the packet at the start of bytes that stand at `at`; `last` says that it is the last by num_pkts
 unfoldable pub packet_fault : Bool → ℕ → List ℕ → Option LayoutError
 packet_fault last at bytes =
     if nat_lt (length bytes) 88 then Some (record { kind = Count; at = 12 })
@@ -27,7 +27,7 @@ packet_fault last at bytes =
     else option_or (first_fault at 0 (packet_rows (next_of last bytes) (packet_at bytes)) bytes)
     (first_fault at (82 + number_at 4 12 bytes) (padding_rows (number_at 4 12 bytes)) bytes)
 
--- the first fault of so many packets in bytes that stand at `at`, given that of the packet at the front: behind them no
+-- the first fault of so many packets in bytes that stand at `at`, given that of the packet at the start: after them no
 -- byte is left
 unfoldable pub packets_fault_by : (Bool → ℕ → List ℕ → Option LayoutError) → ℕ → ℕ → List ℕ → Option LayoutError
 packets_fault_by fault zero at [] = None
@@ -39,7 +39,7 @@ packets_fault_by fault (suc more) at bytes = option_or (fault (more == 0) at byt
 unfoldable pub packets_fault : ℕ → ℕ → List ℕ → Option LayoutError
 packets_fault count at bytes = packets_fault_by packet_fault count at bytes
 
--- so many packets from the front of the bytes
+-- so many packets from the start of the bytes
 unfoldable pub packets_in : ℕ → List ℕ → List Packet
 packets_in zero bytes = []
 packets_in (suc more) bytes = packet_at bytes ∷ packets_in more (drop (need_at bytes) bytes)
@@ -52,7 +52,7 @@ area_of shape bytes = drop (first_of shape) (take (number_at 4 20 bytes) bytes)
 unfoldable pub packets_of : RingRequest → List ℕ → List Packet
 packets_of shape bytes = packets_in (number_at 4 12 bytes) (area_of shape bytes)
 
--- what the descriptor at the front of a block says, with the times of its packets
+-- what the descriptor at the start of a block says, with the times of its packets
 abbrev pub descriptor_at : List Packet → List ℕ → Descriptor
 descriptor_at packets bytes = record {
   number = number_at 8 24 bytes;
@@ -78,7 +78,7 @@ fault_by fits shape bytes =
 unfoldable pub fault_of : RingRequest → List ℕ → Option LayoutError
 fault_of shape bytes = fault_by (end_may shape) shape bytes
 
--- the block that a text begins, with zeros behind it
+-- the block that a text begins, with zeros after it
 abbrev pub padded : RingRequest → List ℕ → List ℕ
 padded shape text = text ++ replicate (shape.block_size - length text) 0
 

@@ -28,7 +28,7 @@ pub record HaveOneText (shape : RingRequest) (first second : Said) : Type 0 wher
   pub other : IsLawful shape second.number second.status second.packets
   pub same : text_of_said shape first ≡ text_of_said shape second
 
--- the bytes with the packets of offers written one behind another from a place on
+-- the bytes with the packets of offers written one after another from a place on
 abbrev pub filled : RingRequest → ℕ → List Offer → List ℕ → List ℕ
 filled shape at [] bytes = bytes
 filled shape at (offer ∷ offers) bytes = filled shape (at + need_of offer.snap) offers

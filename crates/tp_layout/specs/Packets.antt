@@ -56,11 +56,11 @@ address_rows packet =
     ∷ row 63 1 (slice_index packet.addr 3) ∷ row 64 1 (slice_index packet.addr 4) ∷ row 65 1 (slice_index packet.addr 5)
     ∷ []
 
--- all 82 bytes before the data: the header, 8 bytes of padding, the address with two zeros behind it, a gap of 14 bytes
+-- all 82 bytes before the data: the header, 8 bytes of padding, the address with two zeros after it, a gap of 14 bytes
 unfoldable pub packet_rows : ℕ → Packet → List Row
 packet_rows next packet = header_rows next packet ++ (zeros 40 8 ++ (address_rows packet ++ zeros 66 16))
 
--- the zeros behind the data
+-- the zeros after the data
 abbrev pub padding_rows : ℕ → List Row
 padding_rows snap = zeros (82 + snap) (need_of snap - (82 + snap))
 
@@ -98,7 +98,7 @@ tag_at bytes =
     then Some (record { tpid = number_at 2 36 bytes; tci = number_at 4 32 bytes % 65536 })
     else None
 
--- the packet that stands at the front of the bytes
+-- the packet that stands at the start of the bytes
 unfoldable pub packet_at : List ℕ → Packet
 packet_at bytes = record {
   sec = number_at 4 4 bytes;
@@ -112,6 +112,6 @@ packet_at bytes = record {
   tag = tag_at bytes;
 }
 
--- the bytes that the packet at the front takes
+-- the bytes that the packet at the start takes
 abbrev pub need_at : List ℕ → ℕ
 need_at bytes = need_of (number_at 4 12 bytes)

@@ -50,7 +50,7 @@ pub record IsShape (shape : RingRequest) : Type 0 where
   pub frames : frames_in shape ≡ shape.frame_nr
   pub features : shape.features ≤ 1
 
--- the place of a block's first packet: behind the descriptor of 48 bytes and the private area, rounded up to 8
+-- the place of a block's first packet: after the descriptor of 48 bytes and the private area, rounded up to 8
 abbrev pub first_of : RingRequest → ℕ
 first_of shape = 48 + (shape.sizeof_priv + 7) / 8 * 8
 

@@ -1,4 +1,4 @@
-//! The tests of a block, in the order in which their faults are told.
+//! The tests of a block, in the order in which their faults are reported.
 ghost use Rattle.std.specs.Prelude.{◌≡◌, ◌+◌, ◌-◌, ◌^◌, ◌≤◌, ◌<◌, true, IfOk, length};
 ghost use Rattle.tp_layout.specs.Blocks.{is_status};
 ghost use Rattle.tp_layout.specs.Checks.{address_tests, fits_of, fixed_tests, head_tests, header_tests, packet_tests, told};
@@ -93,7 +93,7 @@ pub(crate) fn check_zeros(bytes: &[u8], base: u32, from: u32, to: u32) -> Result
     Ok(())
 }
 
-/// Tests the packet at the front of bytes that stand at `at`, and tells how many of them it takes.
+/// Tests the packet at the start of bytes that stand at `at`, and reports how many of them it takes.
 #[tactic(auto, unfolding(crate::specs::Checks::packet_tests))]
 pub(crate) fn check_packet(bytes: &[u8], at: u32, last: bool) -> Result<u32, LayoutError>
     requires small { at + length bytes.now ≤ 1048576 }
@@ -116,7 +116,7 @@ pub(crate) fn check_packet(bytes: &[u8], at: u32, last: bool) -> Result<u32, Lay
 /// The fewest bytes that a packet takes: a header of 82 and one byte of data, rounded up to 8.
 const LEAST_PACKET: usize = 88;
 
-/// Whether the snap length of the packet at the front is at least 1 and at most its wire length, and the packet ends
+/// Whether the snap length of the packet at the start is at least 1 and at most its wire length, and the packet ends
 /// within the bytes.
 fn snap_may(bytes: &[u8]) -> bool
     requires header { 88 ≤ length bytes.now }
@@ -128,7 +128,7 @@ fn snap_may(bytes: &[u8]) -> bool
     snap >= 1 && snap <= u32_at(bytes, 16) && snap <= most && need(snap) <= most
 }
 
-/// Tests all fields of the packet at the front before its data.
+/// Tests all fields of the packet at the start before its data.
 fn check_fixed(bytes: &[u8], at: u32, last: bool) -> Result<(), LayoutError>
     requires small { at + length bytes.now ≤ 1048576 }
     requires snap { 82 + number_at 4 12 bytes.now ≤ length bytes.now }

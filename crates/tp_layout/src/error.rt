@@ -1,4 +1,4 @@
-//! Why a ring can't be had, and why a block isn't read.
+//! Why a ring is invalid, and why a block isn't read.
 ghost use Rattle.std.specs.Prelude.{◌≡◌, Some};
 ghost use Rattle.tp_layout.specs.LayoutWords.{kind_word, layout_text};
 ghost use Rattle.tp_layout.specs.RequestWords.{word_of};
@@ -6,7 +6,7 @@ ghost use Rattle.tp_layout.specs.RequestWords.{word_of};
 use std::error::Error;
 use std::fmt;
 
-/// Why a ring can't be had. The tests are made in this order, and the first that fails is told.
+/// Why a ring is invalid. The tests are made in this order, and the first that fails is reported.
 #[derive(Clone, Copy, Debug, PartialEq, Eq)]
 pub enum RequestError {
     /// A block is no whole number of pages of 4096 bytes, at least 1, or has more than 1,048,576 bytes.

@@ -9,7 +9,7 @@ pub(crate) const DESCRIPTOR: u32 = 48;
 /// The place of a packet's data in its header, which `tp_mac` says; this project's own choice.
 pub(crate) const MAC: u16 = 82;
 
-/// The place of what stands behind an Ethernet header, which `tp_net` says.
+/// The place of what follows an Ethernet header, which `tp_net` says.
 pub(crate) const NET: u16 = 96;
 
 /// AF_PACKET of `linux/socket.h`.

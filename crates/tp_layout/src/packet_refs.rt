@@ -31,7 +31,7 @@ pub struct PacketRef<'a> {
     pub tag: Option<Tag>,
 }
 
-/// The packet at the front of the bytes.
+/// The packet at the start of the bytes.
 #[tactic(auto, unfolding(crate::specs::Packets::packet_at))]
 pub(crate) fn packet_at(bytes: &[u8]) -> PacketRef<'_>
     requires { 82 + number_at 4 12 bytes.now ≤ length bytes.now }
@@ -59,7 +59,7 @@ const USER: u32 = 1;
 /// TP_STATUS_USER, TP_STATUS_VLAN_VALID and TP_STATUS_VLAN_TPID_VALID of `linux/if_packet.h`.
 const USER_WITH_TAG: u32 = 81;
 
-/// The tag of the header at the front of the bytes, where its status says that it has one.
+/// The tag of the header at the start of the bytes, where its status says that it has one.
 pub(crate) fn tag_at(bytes: &[u8]) -> Option<Tag>
     requires { 40 ≤ length bytes.now }
     ensures { result ≡ tag_at bytes.now }

@@ -72,7 +72,7 @@ impl Shape {
         self.request.frame_nr
     }
 
-    /// The place of a block's first packet, in bytes: behind the descriptor and the private area, rounded up to 8.
+    /// The place of a block's first packet, in bytes: after the descriptor and the private area, rounded up to 8.
     pub fn first(&self) -> u32
         ensures value { result ≡ first_of self.now }
         ensures aligned { result % 8 ≡ 0 }

@@ -13,7 +13,7 @@ use crate::fields::u32_at;
 use crate::{Block, LayoutError, LayoutKind, PacketWalk, Shape};
 
 /// Tests a whole block up to its end (`blk_len`), and gives its packets. It is Ok exactly where the block begins with
-/// a lawful text; else it tells the first test that fails, and where.
+/// a lawful text; else it reports the first test that fails, and where.
 pub fn walk<'a>(bytes: &'a [u8], shape: &Shape) -> Result<PacketWalk<'a>, LayoutError>
     requires { length bytes.now ≡ shape.now.block_size }
     ensures fault { told result ≡ fault_of shape.now bytes.now }
@@ -27,7 +27,7 @@ pub fn walk<'a>(bytes: &'a [u8], shape: &Shape) -> Result<PacketWalk<'a>, Layout
 }
 
 /// Tests the text of a block that stands alone, and gives its packets. It answers as `walk` does on the text with
-/// zeros behind it, save that the packets have to end with the text.
+/// zeros after it, save that the packets have to end with the text.
 pub fn walk_text<'a>(text: &'a [u8], shape: &Shape) -> Result<PacketWalk<'a>, LayoutError>
     requires header { 48 ≤ length text.now }
     requires size { length text.now ≤ shape.now.block_size }
@@ -72,7 +72,7 @@ fn walk_by<'a>(bytes: &'a [u8], shape: &Shape, ends: Ends) -> Result<PacketWalk<
     Ok(PacketWalk::of(count, area))
 }
 
-/// Tests the descriptor up to the times, and the zeros behind it.
+/// Tests the descriptor up to the times, and the zeros after it.
 fn check_descriptor(bytes: &[u8], shape: &Shape, ends: Ends) -> Result<(), LayoutError>
     requires header { 48 ≤ length bytes.now }
     requires ends { EndsWithin shape.now (fits_of ends shape.now) (length bytes.now) }
@@ -97,7 +97,7 @@ fn area_of<'a>(bytes: &'a [u8], shape: &Shape) -> &'a [u8]
     area
 }
 
-/// Tests so many packets in bytes that stand at `at`, and tells the time of the last one.
+/// Tests so many packets in bytes that stand at `at`, and reports the time of the last one.
 #[tactic(auto, using(crate::proofs::Walks::packet_rules))]
 fn check_packets(bytes: &[u8], at: u32, count: u32) -> Result<(u32, u32), LayoutError>
     requires small { at + length bytes.now ≤ 1048576 }
@@ -123,7 +123,7 @@ fn check_packets(bytes: &[u8], at: u32, count: u32) -> Result<(u32, u32), Layout
     Ok(time)
 }
 
-/// Tests the times of a descriptor: those of the packet at the front of the area, and of the last packet.
+/// Tests the times of a descriptor: those of the packet at the start of the area, and of the last packet.
 #[tactic(auto, unfolding(crate::specs::Checks::time_tests))]
 fn check_times(bytes: &[u8], area: &[u8], last: (u32, u32)) -> Result<(), LayoutError>
     requires header { 48 ≤ length bytes.now }

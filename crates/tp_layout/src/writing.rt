@@ -18,7 +18,7 @@ pub struct Closing {
     pub status: u32,
     /// The number of packets.
     pub packets: u32,
-    /// The place behind the last packet, in bytes.
+    /// The place after the last packet, in bytes.
     pub length: u32,
     /// The place of the last packet, in bytes.
     pub last_at: u32,

@@ -4,17 +4,17 @@ use Rattle.std.proofs.lemmas.List.{map-append}
 use mathlib.Core.Option.{none}
 use Rattle.atomic_table.specs.Table.{Me, step, rest, Allows}
 use Rattle.atomic_table.specs.declared.shared.Seat.{Seat}
-use Rattle.turn_lock.specs.declared.knowing.Knows.{Knows}
-use Rattle.turn_lock.specs.declared.knowing.Place.{Place}
-use Rattle.turn_lock.specs.declared.knowing.Stage.{Stage}
-use Rattle.turn_lock.specs.declared.knowing.Stage.TheVariants.{Idle, Waits, Inside}
+use Rattle.turn_lock.specs.declared.knowledge.Knows.{Knows}
+use Rattle.turn_lock.specs.declared.knowledge.Place.{Place}
+use Rattle.turn_lock.specs.declared.knowledge.Stage.{Stage}
+use Rattle.turn_lock.specs.declared.knowledge.Stage.TheVariants.{Idle, Waits, Inside}
 use Rattle.turn_lock.specs.Histories.{IsTurn, Adds}
-use Rattle.turn_lock.specs.Knowing.{fresh_place, seated, with_ticket, with_last, drew, entered, left}
+use Rattle.turn_lock.specs.SeatKnowledge.{fresh_place, seated, with_ticket, with_last, drew, entered, left}
 use Rattle.turn_lock.specs.Seats.{LockValue, SeatValue, place_of, fresh_seat, outside}
 use Rattle.turn_lock.specs.SeatsInside.{number_in, last_in, drawn_in, turn_in, seat_value, Holds, IsSeat}
 use Rattle.turn_lock.specs.Steps.{Left}
 use Rattle.turn_lock.specs.Turns.{Turns}
-use Rattle.turn_lock.proofs.Leaving.{leaves}
+use Rattle.turn_lock.proofs.TurnEnds.{leaves}
 
 module _ {E V : Type 0} where
   -- a seat that isn't in its turn is idle

@@ -3,11 +3,11 @@ use Rattle.std.proofs.Common.{◌≡◌, ℕ, Bool, List, sym, ap, ◌∙◌, su
 use mathlib.Core.Option.{some}
 use lib.ListN.{get_elem?}
 use Rattle.atomic_table.specs.Table.{State}
-use Rattle.turn_lock.specs.declared.knowing.Knows.{Knows}
+use Rattle.turn_lock.specs.declared.knowledge.Knows.{Knows}
 use Rattle.turn_lock.specs.History.{IsHistory}
 use Rattle.turn_lock.specs.Turns.{Turns}
 use Rattle.turn_lock.proofs.Histories.{tickets_below, history_goes_on, one_holder}
-use Rattle.turn_lock.proofs.Looking.{inside_with}
+use Rattle.turn_lock.proofs.TicketLooks.{inside_with}
 
 module _ {V E B : Type 0} (stored : V → List E) (base : V → B) (may_add : B → ℕ → E → Bool) where
   pub historical : (b : B) (f : List E) (n : ℕ) (s : State (Option V) (Knows E B)) → Turns stored base may_add b f n s → IsHistory stored base may_add b f n s

@@ -3,12 +3,12 @@ use Rattle.std.proofs.Common.{◌≡◌, ℕ, ◌+◌, ◌*◌, ◌≤◌, ◌�
 use mathlib.Core.Option.{some, some-injective}
 use lib.ListN.{get_elem?}
 use Rattle.atomic_table.specs.Table.{State}
-use Rattle.turn_lock.specs.declared.knowing.Knows.{Knows}
-use Rattle.turn_lock.specs.declared.knowing.Place.{Place}
-use Rattle.turn_lock.specs.declared.knowing.Stage.{Stage}
-use Rattle.turn_lock.specs.declared.knowing.Stage.TheVariants.{Idle, Inside}
+use Rattle.turn_lock.specs.declared.knowledge.Knows.{Knows}
+use Rattle.turn_lock.specs.declared.knowledge.Place.{Place}
+use Rattle.turn_lock.specs.declared.knowledge.Stage.{Stage}
+use Rattle.turn_lock.specs.declared.knowledge.Stage.TheVariants.{Idle, Inside}
 use Rattle.turn_lock.specs.Histories.{all_added, IsTurn, GoesOn}
-use Rattle.turn_lock.specs.Knowing.{IsBusy, parts_of, drawn_of, total, all_drawn}
+use Rattle.turn_lock.specs.SeatKnowledge.{IsBusy, parts_of, drawn_of, total, all_drawn}
 use Rattle.turn_lock.specs.Turns.{HasTicket, PlaceOk, Turns}
 use Rattle.turn_lock.proofs.Totals.{total_times, few_drawn, at_below, item_at}
 use Rattle.turn_lock.proofs.Lists.{added_split, added_few, turn_few, others_turns, drop_item}

@@ -1,12 +1,12 @@
 mod Totals
 pub mod Lists
 mod Histories
-mod Drawing
-mod Looking
-mod Leaving
-mod Seating
-mod Joining
-mod Ending
+mod TicketDraws
+mod TicketLooks
+mod TurnEnds
+mod LockStarts
+mod SeatJoins
+mod LockEnds
 mod Historical
 pub mod SeatLists
 mod Calls

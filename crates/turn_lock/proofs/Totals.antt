@@ -2,9 +2,9 @@
 use Rattle.std.proofs.Common.{◌≡◌, ℕ, zero, suc, ◌+◌, ◌*◌, ◌<◌, ◌≤◌, ◌^◌, ◌≢◌, ◌⊎◌, inl, inr, List, [], ◌∷◌, ◌++◌, length, set, sym, refl, ap, subst, arith}
 use mathlib.Core.Option.{some, some-injective, some-ne-none}
 use lib.ListN.{get_elem?}
-use Rattle.turn_lock.specs.declared.knowing.Knows.{Knows}
-use Rattle.turn_lock.specs.declared.knowing.Place.{Place}
-use Rattle.turn_lock.specs.Knowing.{total, all_drawn}
+use Rattle.turn_lock.specs.declared.knowledge.Knows.{Knows}
+use Rattle.turn_lock.specs.declared.knowledge.Place.{Place}
+use Rattle.turn_lock.specs.SeatKnowledge.{total, all_drawn}
 
 module _ {E B : Type 0} where
   -- the sum after a change of one view

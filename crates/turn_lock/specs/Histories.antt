@@ -27,7 +27,7 @@ module _ {E : Type 0} where
   ByOthers may_add number (entry ∷ entries) =
       AnotherMay may_add number entry × ByOthers may_add number entries
 
-  -- the list begins with `last`, and each entry behind it is one that another seat may add
+  -- the list begins with `last`, and each entry after it is one that another seat may add
   abbrev pub GoesOn : (ℕ → E → Bool) → ℕ → List E → List E → Type 0
   GoesOn may_add number last entries =
       (more : List E) × (entries ≡ last ++ more) × ByOthers may_add number more

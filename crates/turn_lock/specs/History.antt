@@ -4,11 +4,11 @@ use mathlib.Core.Option.{some, none}
 use mathlib.Core.Option as maybe
 use lib.ListN.{get_elem?}
 use Rattle.atomic_table.specs.Table.{State}
-use Rattle.turn_lock.specs.declared.knowing.Knows.{Knows}
-use Rattle.turn_lock.specs.declared.knowing.Place.{Place}
-use Rattle.turn_lock.specs.declared.knowing.Stage.TheVariants.{Inside}
+use Rattle.turn_lock.specs.declared.knowledge.Knows.{Knows}
+use Rattle.turn_lock.specs.declared.knowledge.Place.{Place}
+use Rattle.turn_lock.specs.declared.knowledge.Stage.TheVariants.{Inside}
 use Rattle.turn_lock.specs.Histories.{times, all_added, IsTurn, GoesOn}
-use Rattle.turn_lock.specs.Knowing.{drawn_of, total}
+use Rattle.turn_lock.specs.SeatKnowledge.{drawn_of, total}
 
 -- A seat that left this list the last time: it has what the turns added up to the seat's latest one that has
 -- ended, and the history goes on from it by what other seats added

@@ -1,5 +1,5 @@
 pub mod Histories
-pub mod Knowing
+pub mod SeatKnowledge
 pub mod Turns
 pub mod Steps
 pub mod Seats

@@ -1,7 +1,7 @@
 -- What a seat of a lock is to its owner.
 use Rattle.std.specs.Prelude.{◌≡◌, ℕ, zero, suc, ◌+◌, Bool, List, [], ◌∷◌, Option, Some, None}
 use Rattle.atomic_table.specs.Seated.{TableId}
-use Rattle.turn_lock.specs.declared.knowing.Place.{Place}
+use Rattle.turn_lock.specs.declared.knowledge.Place.{Place}
 use Rattle.turn_lock.specs.Histories.{Adds}
 
 -- Contracts see a seat as this: the lock that it belongs to, its number from 0, what no turn changes of the

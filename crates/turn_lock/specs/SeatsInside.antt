@@ -2,11 +2,11 @@
 use Rattle.std.specs.Prelude.{◌≡◌, ℕ, ◌<◌, ◌^◌, List, [], ◌∷◌, Option, Some, None}
 use Rattle.atomic_table.specs.Seated.{TableId}
 use Rattle.atomic_table.specs.declared.shared.Seat.{Seat}
-use Rattle.turn_lock.specs.declared.knowing.Knows.{Knows}
-use Rattle.turn_lock.specs.declared.knowing.Place.{Place}
-use Rattle.turn_lock.specs.declared.knowing.Stage.{Stage}
-use Rattle.turn_lock.specs.declared.knowing.Stage.TheVariants.{Idle, Waits, Inside}
-use Rattle.turn_lock.specs.declared.knowing.Opening.{Opening}
+use Rattle.turn_lock.specs.declared.knowledge.Knows.{Knows}
+use Rattle.turn_lock.specs.declared.knowledge.Place.{Place}
+use Rattle.turn_lock.specs.declared.knowledge.Stage.{Stage}
+use Rattle.turn_lock.specs.declared.knowledge.Stage.TheVariants.{Idle, Waits, Inside}
+use Rattle.turn_lock.specs.declared.knowledge.Opening.{Opening}
 use Rattle.turn_lock.specs.Seats.{LockValue, SeatValue}
 
 module _ {E : Type 0} where

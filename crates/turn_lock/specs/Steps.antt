@@ -1,10 +1,10 @@
 -- What each step tells the seat that made it.
 use Rattle.std.specs.Prelude.{◌≡◌, ◌≢◌, ℕ, ◌+◌, ◌<◌, ◌≤◌, ◌^◌, Bool, List, [], ◌∷◌, length, Option, Some}
 use Rattle.atomic_table.specs.Table.{Me, Step}
-use Rattle.turn_lock.specs.declared.knowing.Knows.{Knows}
-use Rattle.turn_lock.specs.declared.knowing.Place.{Place}
+use Rattle.turn_lock.specs.declared.knowledge.Knows.{Knows}
+use Rattle.turn_lock.specs.declared.knowledge.Place.{Place}
 use Rattle.turn_lock.specs.Histories.{GoesOn}
-use Rattle.turn_lock.specs.Knowing.{drew, entered, left}
+use Rattle.turn_lock.specs.SeatKnowledge.{drew, entered, left}
 
 module _ {V E B : Type 0} where
   -- the ticket is the number that was found

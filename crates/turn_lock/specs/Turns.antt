@@ -5,12 +5,12 @@ use mathlib.Core.Option.{some, none}
 use mathlib.Core.Option as maybe
 use lib.ListN.{get_elem?}
 use Rattle.atomic_table.specs.Table.{State}
-use Rattle.turn_lock.specs.declared.knowing.Knows.{Knows}
-use Rattle.turn_lock.specs.declared.knowing.Place.{Place}
-use Rattle.turn_lock.specs.declared.knowing.Stage.{Stage}
-use Rattle.turn_lock.specs.declared.knowing.Stage.TheVariants.{Idle, Waits, Inside}
+use Rattle.turn_lock.specs.declared.knowledge.Knows.{Knows}
+use Rattle.turn_lock.specs.declared.knowledge.Place.{Place}
+use Rattle.turn_lock.specs.declared.knowledge.Stage.{Stage}
+use Rattle.turn_lock.specs.declared.knowledge.Stage.TheVariants.{Idle, Waits, Inside}
 use Rattle.turn_lock.specs.Histories.{times, all_added, IsTurn}
-use Rattle.turn_lock.specs.Knowing.{IsBusy, parts_of, drawn_of, total}
+use Rattle.turn_lock.specs.SeatKnowledge.{IsBusy, parts_of, drawn_of, total}
 
 module _ {E B : Type 0} (owners : List ℕ) (added : List (List E)) (history : List E)
     (v : Knows E B) where

@@ -1,13 +1,13 @@
 //! Laws of the turn history, each the contract of a function that does nothing.
 ghost use Rattle.std.specs.Prelude.{◌≡◌, ◌++◌, ℕ, List, Option};
 ghost use Rattle.atomic_table.specs.Table.{State};
-ghost use Rattle.turn_lock.specs.declared.knowing.Knows.{Knows};
-ghost use Rattle.turn_lock.specs.declared.knowing.Opening.{Opening};
+ghost use Rattle.turn_lock.specs.declared.knowledge.Knows.{Knows};
+ghost use Rattle.turn_lock.specs.declared.knowledge.Opening.{Opening};
 ghost use Rattle.turn_lock.specs.Histories.{GoesOn, IsTurn, own};
 ghost use Rattle.turn_lock.specs.History.{IsHistory};
 
 use crate::Kept;
-use crate::knowing::{Knows, Opening};
+use crate::knowledge::{Knows, Opening};
 use crate::plays::ByTurns;
 use atomic_table::TableRule;
 

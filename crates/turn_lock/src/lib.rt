@@ -2,11 +2,11 @@
 //! What the turns added to the value stands in it in the order of the tickets, each turn's once.
 #![tactic(auto)]
 
-mod closing;
+mod closed_locks;
 mod kept;
-mod knowing;
+mod knowledge;
 mod laws;
-mod making;
+mod new_locks;
 mod plays;
 mod turn_lock;
 mod turn_seat;

@@ -1,10 +1,10 @@
 //! The rule of a lock's table, and what each step tells. These types are for the proofs alone.
-ghost use Rattle.turn_lock.specs.Knowing.{opening, maker, newcomer, joined, spent};
+ghost use Rattle.turn_lock.specs.SeatKnowledge.{opening, maker, newcomer, joined, spent};
 ghost use Rattle.turn_lock.specs.Steps.{Drew, Looked, Left};
 ghost use Rattle.turn_lock.specs.Turns.{Turns};
 
 use crate::Kept;
-use crate::knowing::{Knows, Opening};
+use crate::knowledge::{Knows, Opening};
 use atomic_table::{Join, Play, Split, TableRule};
 
 /// The turn history.

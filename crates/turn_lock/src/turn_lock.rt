@@ -1,6 +1,6 @@
 //! The lock itself.
 use crate::Kept;
-use crate::knowing::{Knows, Opening};
+use crate::knowledge::{Knows, Opening};
 use crate::plays::ByTurns;
 use atomic_table::Table;
 use std::alloc::Global;

@@ -1,6 +1,6 @@
 //! A seat at a lock.
 use crate::Kept;
-use crate::knowing::Knows;
+use crate::knowledge::Knows;
 use atomic_table::Seat;
 use std::marker::Model;
 

@@ -1,11 +1,11 @@
 //! A turn: a seat enters, has the value, and leaves.
 ghost use Rattle.std.specs.Prelude.{◌≡◌, ◌+◌, ◌<◌, ◌≤◌, ◌^◌, [], ◌∷◌, length, Some, None};
-ghost use Rattle.turn_lock.specs.declared.knowing.Stage.TheVariants.{Waits};
+ghost use Rattle.turn_lock.specs.declared.knowledge.Stage.TheVariants.{Waits};
 ghost use Rattle.turn_lock.specs.Histories.{GoesOn};
 ghost use Rattle.turn_lock.specs.Seats.{AddsIn, IsSeatOf, inside, outside};
 ghost use Rattle.turn_lock.specs.Steps.{HasValue};
 
-use crate::knowing::{Knows, Opening};
+use crate::knowledge::{Knows, Opening};
 use crate::plays::{ByTurns, Draws, Leaves, Looks};
 use crate::{Kept, TurnLock, TurnSeat};
 use atomic_table::{Seat, Shared};

@@ -50,7 +50,7 @@ takes_one shape skip done run request carries going =
       stopped = rw going tt;
     }
 
--- of requests that begin with a bad one nothing comes, whatever stands behind
+-- of requests that begin with a bad one nothing comes, whatever follows
 bad_alike : (room : ℕ) (skip : Bool) (requests xs ys : List Request) → (skip ≡ false) × BeginsBad room requests
     → (sent_by room skip (requests ++ xs) ≡ sent_by room skip (requests ++ ys))
     × (over_by room skip (requests ++ xs) ≡ over_by room skip (requests ++ ys))

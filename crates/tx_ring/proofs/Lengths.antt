@@ -87,7 +87,7 @@ bad_kind room frame small longer =
     ap (λ (v : Bool). is_good room (if v then request_of 0 size (take room frame.bytes) else request_of 0 (length frame.bytes) frame.bytes)) longer.long
     ∙ rw (lt-leb size room above) (and_no (nat_le 14 size))
 
--- the packets of frames, and how many of them are passed over
+-- the packets of frames, and how many of them are skipped
 pub sent_all : (room : ℕ) (frames : List Frame) → 14 ≤ room → room + 48 < 2 ^ 32
     → packets_of room (requests_of room frames) ≡ plain_packets room frames
 sent_all room [] some small = refl

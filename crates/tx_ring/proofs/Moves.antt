@@ -26,7 +26,7 @@ each_slot P slots at slot within here others k less =
 pub one_more : (placed taken : ℕ) → taken ≤ placed → placed + 1 - taken ≡ suc (placed - taken)
 one_more placed taken order = omega arith
 
--- behind those that were taken stand those that weren't
+-- after those that were taken stand those that weren't
 pub behind : (placed taken : ℕ) → taken ≤ placed → taken + (placed - taken) ≡ placed
 behind placed taken order = omega arith
 
@@ -97,7 +97,7 @@ placed_state shape skip slots placed taken slot keeps free =
     rw (one_more placed taken order, requests_more n (set slots at slot) taken (placed - taken), last, get_or-set_same slots at slot (empty_slot 0) within, other_requests n slots at slot taken (placed - taken) past) refl in
     rw requests refl
 
--- the slots of the requests behind the first one
+-- the slots of the requests after the first one
 pub behind_first : (placed taken : ℕ) → taken < placed → placed - taken ≡ suc (placed - (taken + 1))
 behind_first placed taken some = omega arith
 

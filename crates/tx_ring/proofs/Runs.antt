@@ -15,7 +15,7 @@ use Rattle.tx_ring.specs.declared.error.SendError.TheVariants.{BadSlot, Memory}
 use Rattle.tx_ring.specs.declared.transmitting.Transmitter.{Transmitter}
 use Rattle.tx_ring.proofs.Splits.{after_good, bad_in_good, left_bad, left_in, left_is, over_by, over_split, sent_by, sent_split, stops_by, stops_split}
 
--- a send that tells a bad slot passed none over
+-- a send that tells a bad slot skipped none
 none_over_by : (ring : TxState) (slot : ℕ) (skip : Bool) → ring.skip_bad ≡ skip → Err (BadSlot slot) ≡ send_answer ring
     → bad_in (room_of ring.shape) (taken_by ring) ≡ 0
 none_over_by ring slot true skips told =
@@ -37,7 +37,7 @@ none_over ring slot told = none_over_by ring slot ring.skip_bad refl told
 never : {slot : ℕ} → Memory ≡ BadSlot slot → ⊥
 never is = cc
 
--- a run after a send that told a bad slot
+-- a run after a send that reported a bad slot
 pub sent_to_bad : (error : SendError) (slot : ℕ) (run : Transmitter) (ring : TxState) (out : List Packet) → error ≡ BadSlot slot
     → UnlessMemory (Err error) (Err error ≡ send_answer run.ring) → UnlessMemory (Err error) (ring ≡ after_send run.ring)
     → UnlessMemory (Err error) (out ≡ run.packets ++ packets_sent run.ring)
@@ -47,7 +47,7 @@ sent_to_bad (BadSlot slot) same run ring out is answer after_it appended =
     cc
 sent_to_bad Memory slot run ring out is answer after_it appended = absurd (never is)
 
--- what was sent, passed over and requested of requests that a run was given
+-- what was sent, skipped and requested of requests that a run was given
 pub record Carries (shape : RingRequest) (skip : Bool) (done : List Request) (run : Transmitter) : Type 0 where
   pub shape_is : run.ring.shape ≡ shape
   pub skip_is : run.ring.skip_bad ≡ skip
@@ -94,7 +94,7 @@ gone_on room skip requests None stop none = refl
 gone_on room true requests (Some slot) stop none = absurd (true≢false stop.0)
 gone_on room false requests (Some slot) stop none = absurd (bad_left room requests stop.1 none)
 
--- what a send leaves begins with a bad request that isn't passed over
+-- what a send leaves begins with a bad request that isn't skipped
 pub left_begins : (room : ℕ) (skip : Bool) (requests : List Request)
     → (left_in room skip requests ≡ []) ⊎ ((skip ≡ false) × BeginsBad room (left_in room skip requests))
 left_begins room true requests = inl refl

@@ -48,7 +48,7 @@ some_left old new before after counts count going more =
     let size = ap length going.requests ∙ length-append going.done new.requests in
     omega arith
 
--- what it took is told by the ring
+-- what it took is reported by the ring
 shape_of : {old new : TxState} {before after : List Packet} {counts : Sent} {count : ℕ} → Going old new before after counts count → new.shape ≡ old.shape
 shape_of going = ap (λ (ring : TxState). ring.shape) going.ring
 
@@ -240,7 +240,7 @@ pub all_counted : (old new : TxState) (before after : List Packet) (counts : Sen
 all_counted old new before after counts count going =
     ap (λ (c : Sent). c.sent + c.skipped) going.counts_is ∙ each_counted (room_of old.shape) going.done ∙ going.many
 
--- a ring that stopped stays as it is, and tells the slot where it stopped
+-- a ring that stopped stays as it is, and reports the slot where it stopped
 pub stopped_answer : (ring : TxState) (taken slot : ℕ) → IfSome ring.stopped (HasStopped ring taken) → ring.stopped ≡ Some slot
     → taken ≡ ring.placed - length ring.requests → (send_answer ring ≡ Err (BadSlot slot)) × (after_send ring ≡ ring)
 stopped_answer ring taken slot keeps is front =

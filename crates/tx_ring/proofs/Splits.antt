@@ -18,7 +18,7 @@ after_good room (request ∷ requests) = if is_good room request then after_good
 abbrev pub left_in : ℕ → Bool → List Request → List Request
 left_in room skip requests = if skip then [] else after_good room requests
 
--- the packets that are sent of requests, the number of those that are passed over, and whether one stops the ring
+-- the packets that are sent of requests, the number of those that are skipped, and whether one stops the ring
 abbrev pub sent_by : ℕ → Bool → List Request → List Packet
 sent_by room skip requests = packets_of room (taken_in room skip requests)
 
@@ -32,7 +32,7 @@ has_bad room (request ∷ requests) = if is_good room request then has_bad room 
 abbrev pub stops_by : ℕ → Bool → List Request → Bool
 stops_by room skip requests = if skip then false else has_bad room requests
 
--- none that is good is passed over
+-- none that is good is skipped
 pub bad_in_good : (room : ℕ) (requests : List Request) → bad_in room (good_front room requests) ≡ 0
 bad_in_good room [] = refl
 bad_in_good room (request ∷ requests) =
@@ -122,7 +122,7 @@ left_bad room (request ∷ requests) =
       | false ↦ λ bad. inr (sym bad)
     ] refl
 
--- of requests that begin with a bad one which isn't passed over none is sent, whatever stands behind
+-- of requests that begin with a bad one which isn't skipped none is sent, whatever follows
 pub bad_sends_none : (room : ℕ) (requests more : List Request) → BeginsBad room requests → sent_by room false (requests ++ more) ≡ []
 bad_sends_none room [] more bad = absurd bad
 bad_sends_none room (request ∷ requests) more bad = rw bad refl

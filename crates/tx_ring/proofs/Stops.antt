@@ -39,7 +39,7 @@ pub none_lost : (ring : TxState) → taken_by ring ++ (after_send ring).requests
 none_lost ring =
     ap (λ (left : List Request). taken_by ring ++ left) (left_of_ring ring) ∙ taken_and_left (room_of ring.shape) ring.skip_bad ring.requests
 
--- a send that told a slot left a request there, and the ring stopped
+-- a send that reported a slot left a request there, and the ring stopped
 told_slot : (left : TxState) (counts : Sent) (requests : List Request) (slot : ℕ) → answer_with left counts requests ≡ Err (BadSlot slot)
     → (requests ≡ [] → ⊥) × (slot ≡ front_slot left) × ((stop_at_front left requests).stopped ≡ Some slot)
 told_slot left counts [] slot told = cc

@@ -1,4 +1,4 @@
--- Requests that are taken from the front: what comes of them, and what a bad one leaves behind it.
+-- Requests that are taken from the start: what comes of them, and what a bad one leaves after it.
 use Rattle.std.proofs.Common.{◌≡◌, ℕ, suc, ◌+◌, ◌<◌, Bool, false, true, List, [], ◌∷◌, ◌++◌, length, drop, Option, None, Some, IfSome, refl, ap, subst, arith}
 use Rattle.std.specs.Prelude.{if◌then◌else◌}
 use Rattle.frame_view.specs.declared.frames.Packet.{Packet}
@@ -71,7 +71,7 @@ pub none_left : (skip : Bool) (room : ℕ) (left : List Request) → left ≡ []
 none_left true room left none = none
 none_left false room left none = ap (good_front room) none
 
--- a send that came to a bad request which isn't passed over took all that it takes
+-- a send that came to a bad request which isn't skipped took all that it takes
 pub bad_first : (room : ℕ) (requests : List Request) → is_good room (front_of requests) ≡ false → good_front room requests ≡ []
 bad_first room [] bad = refl
 bad_first room (request ∷ requests) bad = rw bad refl

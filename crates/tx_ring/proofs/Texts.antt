@@ -48,7 +48,7 @@ pub marked : (bytes : List ℕ) (slot : SlotState) (status : ℕ) → bytes ≡ 
 unfolding slot_text header_text
 marked bytes slot status text = rw text refl
 
--- how many zeros stand behind some bytes makes no difference to the first so many
+-- how many zeros follow some bytes makes no difference to the first so many
 pub padded : (bytes : List ℕ) (count n m : ℕ) → count ≤ length bytes + n → count ≤ length bytes + m
     → take count (bytes ++ replicate n 0) ≡ take count (bytes ++ replicate m 0)
 padded [] count n m fits also = take-replicate count n 0 (omega arith) ∙ sym (take-replicate count m 0 (omega arith))
@@ -62,7 +62,7 @@ lent count new old whole same =
     let none : drop (length new) old ≡ [] = drop_of_length-le old (omega arith) in
     rw (none, append-nil) (ap (λ (n : ℕ). take n new) (sym whole) ∙ take-length new)
 
--- the first bytes behind the header are those that were given, and zeros
+-- the first bytes after the header are those that were given, and zeros
 pub data_of : (slot : SlotState) (count : ℕ) → IsSound slot → 48 + count ≤ slot.size
     → take count (drop 48 (slot_text slot)) ≡ take count (slot.request.bytes ++ replicate count 0)
 unfolding slot_text header_text

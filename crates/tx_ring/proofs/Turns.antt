@@ -50,19 +50,19 @@ away places at from (suc count) none =
     let rest = away places at (from + 1) count (λ i less same. none (suc i) (omega arith) (ap (λ (n : ℕ). n % places) (omega arith) ∙ same)) in
     rw (false_from_ne_true (from % places == at) (λ yes. here (eqb-true (from % places) at yes)), rest) refl
 
--- the slot behind some that are fewer than there are places isn't among them
+-- the slot after some that are fewer than there are places isn't among them
 pub next_is_free : (places from count : ℕ) → count < places → is_among places ((from + count) % places) from count ≡ false
 next_is_free places from count less =
     away places ((from + count) % places) from count
     (λ i below same. apart places (from + i) (count - i) (omega arith) (omega arith) (ap (λ (n : ℕ). n % places) (omega arith) ∙ sym same))
 
--- the first of some slots isn't among those behind it
+-- the first of some slots isn't among those after it
 pub first_is_past : (places from count : ℕ) → count < places → is_among places (from % places) (from + 1) count ≡ false
 first_is_past places from count less =
     away places (from % places) (from + 1) count
     (λ i below same. apart places from (suc i) (omega arith) (omega arith) (ap (λ (n : ℕ). n % places) (omega arith) ∙ same))
 
--- a slot that is among some is among those of which it is the first or behind it
+-- a slot that is among some is among those of which it is the first or after it
 pub among_more : (places at from count : ℕ) → is_among places at from (suc count) ≡ is_among places at from count || ((from + count) % places == at)
 among_more places at from zero =
     rw (add-zero from) (or_false (from % places == at))

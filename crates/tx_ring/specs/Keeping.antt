@@ -30,7 +30,7 @@ abbrev pub BeginsBad : ℕ → List Request → Type 0
 BeginsBad room [] = ⊥
 BeginsBad room (request ∷ requests) = is_good room request ≡ false
 
--- where a ring stopped, the first request that wasn't taken is bad, and bad ones aren't passed over
+-- where a ring stopped, the first request that wasn't taken is bad, and bad ones aren't skipped
 pub record HasStopped (ring : TxState) (taken slot : ℕ) : Type 0 where
   pub front : slot ≡ slot_of ring.shape taken
   pub bad : BeginsBad (room_of ring.shape) ring.requests

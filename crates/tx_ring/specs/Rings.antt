@@ -5,7 +5,7 @@ use Rattle.tx_ring.specs.Slots.{Request}
 use Rattle.tx_ring.specs.declared.error.TxError.{TxError}
 use Rattle.tx_ring.specs.declared.error.TxError.TheVariants.{TooLong, Stopped, Full}
 
--- the shape of the ring, whether bad slots are passed over, the number of slots that were placed so far, the requests
+-- the shape of the ring, whether bad slots are skipped, the number of slots that were placed so far, the requests
 -- that weren't taken yet, and the slot where the ring stopped
 pub record TxState : Type 0 where
   pub shape : RingRequest
@@ -18,7 +18,7 @@ pub record TxState : Type 0 where
 abbrev pub new_ring : RingRequest → Bool → TxState
 new_ring shape skip = record { shape = shape; skip_bad = skip; placed = 0; requests = []; stopped = None }
 
--- the number of bytes that fit behind the header of a slot
+-- the number of bytes that fit after the header of a slot
 abbrev pub room_of : RingRequest → ℕ
 room_of shape = shape.frame_size - 48
 
@@ -79,6 +79,6 @@ status_of ring at =
     let count = length ring.requests in
     status_by ring.stopped (is_among ring.shape.frame_nr at (ring.placed - count) count) at
 
--- what is told of the status of a slot, of which there are so many
+-- what is reported of the status of a slot, of which there are so many
 abbrev pub status_at : TxState → ℕ → Option ℕ
 status_at ring at = if nat_lt at ring.shape.frame_nr then Some (status_of ring at) else None

@@ -8,7 +8,7 @@ use Rattle.tx_ring.specs.declared.error.SendError.{SendError}
 use Rattle.tx_ring.specs.declared.error.SendError.TheVariants.{BadSlot, Memory}
 use Rattle.tx_ring.specs.declared.ring.Sent.{Sent}
 
--- a request is good where it has no next frame, and from 14 bytes to as many as fit behind the header of a slot
+-- a request is good where it has no next frame, and from 14 bytes to as many as fit after the header of a slot
 abbrev pub is_good : ℕ → Request → Bool
 is_good room request =
     (request.next_offset == 0) && (nat_le 14 request.length && nat_le request.length room)
@@ -44,7 +44,7 @@ good_front room [] = []
 good_front room (request ∷ requests) =
     if is_good room request then request ∷ good_front room requests else []
 
--- the requests that a send takes from the front: with `skip_bad` all, without it the good ones before the first bad one
+-- the requests that a send takes from the start: with `skip_bad` all, without it the good ones before the first bad one
 abbrev pub taken_by : TxState → List Request
 taken_by ring = if ring.skip_bad then ring.requests else good_front (room_of ring.shape) ring.requests
 
@@ -84,24 +84,24 @@ send_answer ring =
     let left = after_taking (length (taken_by ring)) ring in
     answer_with left (counts_of ring) left.requests
 
--- a fact of each answer but want of memory
+-- a fact of each answer but `Memory`
 abbrev pub UnlessMemory : Result Sent SendError → Type 0 → Type 0
 UnlessMemory (Ok sent) P = P
 UnlessMemory (Err (BadSlot slot)) P = P
 UnlessMemory (Err Memory) P = ⊤
 
--- a fact of want of memory
+-- a fact of `Memory`
 abbrev pub OnMemory : Result Sent SendError → Type 0 → Type 0
 OnMemory (Err Memory) P = P
 OnMemory (Err (BadSlot slot)) P = ⊤
 OnMemory (Ok sent) P = ⊤
 
--- the counts of a send with one request more that was sent or passed over
+-- the counts of a send with one request more that was sent or skipped
 abbrev pub counted : Sent → Bool → Sent
 counted counts true = record counts { sent = counts.sent + 1 }
 counted counts false = record counts { skipped = counts.skipped + 1 }
 
--- what became of the first request of a ring: it was sent or passed over, the ring stopped there, or memory was wanting
+-- what became of the first request of a ring: it was sent or skipped, the ring stopped there, or memory ran out
 abbrev pub FrontTaken : TxState → TxState → List Packet → List Packet → Result Bool SendError → Type 0
 FrontTaken old new before after (Ok true) =
     (is_good (room_of old.shape) (front_of old.requests) ≡ true) × (new ≡ after_taking 1 old)

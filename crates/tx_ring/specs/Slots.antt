@@ -52,7 +52,7 @@ slot_in bytes = record {
   };
 }
 
--- the numbers of a slot fit its fields, and its bytes fit behind its header
+-- the numbers of a slot fit its fields, and its bytes fit after its header
 pub record IsSound (slot : SlotState) : Type 0 where
   pub status : slot.status < 2 ^ 32
   pub next_offset : slot.request.next_offset < 2 ^ 32

@@ -13,7 +13,7 @@ use Rattle.tx_ring.specs.declared.transmitting.Transmitter.{Transmitter}
 abbrev pub is_runt : Frame → Bool
 is_runt frame = nat_lt (length frame.bytes) 14
 
--- a frame that is longer than what fits behind the header of a slot
+-- a frame that is longer than what fits after the header of a slot
 abbrev pub is_long : ℕ → Frame → Bool
 is_long room frame = nat_lt room (length frame.bytes)
 
@@ -42,7 +42,7 @@ abbrev pub first_long : ℕ → List Frame → Option ℕ
 first_long room [] = None
 first_long room (frame ∷ frames) = if is_long room frame then Some frame.index else first_long room frames
 
--- the frames of which packets are sent: with `skip_bad` the longer ones are passed over, else the first of them stops all
+-- the frames of which packets are sent: with `skip_bad` the longer ones are skipped, else the first of them stops all
 abbrev pub reached : ℕ → Bool → List Frame → List Frame
 reached room skip frames = if skip then frames else before_long room frames
 

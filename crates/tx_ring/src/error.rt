@@ -6,10 +6,10 @@ use frame_view::Memory;
 use std::error::Error;
 use std::fmt;
 
-/// Why a frame isn't placed. The tests are made in this order, and the first that fails is told.
+/// Why a frame isn't placed. The tests are made in this order, and the first that fails is reported.
 #[derive(Clone, Copy, Debug, PartialEq, Eq)]
 pub enum TxError {
-    /// There are more bytes than fit behind a slot's header.
+    /// There are more bytes than fit after a slot's header.
     TooLong,
     /// The ring stopped at this slot.
     Stopped(u32),

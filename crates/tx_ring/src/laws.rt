@@ -10,7 +10,7 @@ pub fn no_request_is_lost()
     ensures { (ring : TxState) → taken_by ring ++ (after_send ring).requests ≡ ring.requests }
 {}
 
-/// Once a send told a bad slot the ring has stopped there for good.
+/// Once a send reported a bad slot the ring has stopped there for good.
 pub fn a_bad_slot_stops_for_good()
     ensures { (ring : TxState) (slot : ℕ)
         → send_answer ring ≡ Err (errors.BadSlot slot) → HasStoppedAt slot (after_send ring) }

@@ -1,9 +1,9 @@
 //! The ring of slots, in the manner of the kernel's `tpacket_snd` with TPACKET_V3.
 //!
 //! All slots are available at first. A sender places frames in turn: it writes a slot, which requests it, and goes on to
-//! the next one, behind the last of which comes the first again. It can go on until all slots are requested. A send takes
+//! the next one, after the last of which comes the first again. It can go on until all slots are requested. A send takes
 //! the requested slots in the order in which they were placed. Of a good one comes a packet, and the slot is available
-//! again. A bad one is passed over where that is asked for (PACKET_LOSS of packet(7)), and is available then; else it
+//! again. A bad one is skipped where that is asked for (PACKET_LOSS of packet(7)), and is available then; else it
 //! stays where it is, in wrong format, and the ring has stopped for good: nothing more is placed or sent. The kernel lets
 //! the sender mend such a slot.
 ghost use Rattle.std.specs.Prelude.{◌≡◌, ◌+◌, ◌-◌, ◌^◌, ◌<◌, ◌≤◌, ◌++◌, ◌==◌, ℕ, false, true, None, Some, IfOk, is_some, length, replicate};
@@ -26,7 +26,7 @@ use tp_layout::Shape;
 pub struct Sent {
     /// The number of packets that were appended.
     pub sent: u32,
-    /// The number of slots that were passed over.
+    /// The number of slots that were skipped.
     pub skipped: u32,
 }
 
@@ -37,13 +37,13 @@ pub struct TxRing {
     alloc: Global,
     /// The shape of the ring.
     shape: Shape,
-    /// Whether a bad slot is passed over, in place of stopping the ring (PACKET_LOSS).
+    /// Whether a bad slot is skipped, in place of stopping the ring (PACKET_LOSS).
     skip_bad: bool,
     /// The slots, as many as the shape says.
     slots: Vec<Slot>,
     /// How many slots were placed so far; the next one is that of this number.
     placed: u64,
-    /// How many of them were sent or passed over; the next one to send is that of this number.
+    /// How many of them were sent or skipped; the next one to send is that of this number.
     taken: u64,
     /// The slot where the ring stopped.
     stopped: Option<u32>,
@@ -126,7 +126,7 @@ impl TxRing {
         }
     }
 
-    /// The number of bytes that fit behind the header of a slot.
+    /// The number of bytes that fit after the header of a slot.
     pub(crate) fn room(&self) -> usize
         ensures value { result ≡ room_of self.now.shape }
         ensures least { 20 ≤ result }

@@ -1,7 +1,7 @@
 //! The bytes of a slot, written and read field by field.
 //!
 //! A slot begins with a header of 48 bytes (`struct tpacket3_hdr` of `linux/if_packet.h`), in which a transmit ring has
-//! tp_next_offset at 0, tp_snaplen at 12, tp_len at 16 and tp_status at 20; the other fields are 0. Behind it stand the
+//! tp_next_offset at 0, tp_snaplen at 12, tp_len at 16 and tp_status at 20; the other fields are 0. After it stand the
 //! bytes that were given, and zeros up to the slot's end.
 ghost use Rattle.std.specs.Prelude.{◌≡◌, ◌+◌, ◌-◌, ◌≤◌, ◌++◌, length, drop, replicate, take};
 ghost use Rattle.byteorder.specs.Endian.{little_bytes};
@@ -65,7 +65,7 @@ pub(crate) fn write_header(header: &mut [u8], next_offset: u32, asked: u32, give
     write_u32(header, STATUS, SEND_REQUEST);
 }
 
-/// Writes bytes, and zeros behind them.
+/// Writes bytes, and zeros after them.
 pub(crate) fn write_data(place: &mut [u8], from: &[u8])
     requires { length from.now ≤ length place.old }
     ensures { place.new ≡ from.now ++ replicate (length place.old - length from.now) 0 }

@@ -9,7 +9,7 @@ use frame_view::Memory;
 use std::alloc::Global;
 use std::marker::Model;
 
-/// One slot. Contracts see its size, its status and what it asks for, and nothing else stands in it: behind the bytes
+/// One slot. Contracts see its size, its status and what it asks for, and nothing else stands in it: after the bytes
 /// that were given there are zeros.
 #[derive(Debug, Drop)]
 pub(crate) struct Slot {
@@ -79,7 +79,7 @@ impl Slot {
         read_u32(self.bytes.as_slice(), LENGTH)
     }
 
-    /// The first `count` bytes of the data: those that were given, and zeros behind them.
+    /// The first `count` bytes of the data: those that were given, and zeros after them.
     pub(crate) fn data(&self, count: usize) -> &[u8]
         requires { 48 + count ≤ self.now.size }
         ensures { result.now ≡ take count (self.now.request.bytes ++ replicate count 0) }

@@ -18,7 +18,7 @@ pub struct Transmitted {
     pub packets: Packets,
     /// Their number.
     pub sent: u64,
-    /// The number of frames that were passed over, since they are longer than what fits into a slot.
+    /// The number of frames that were skipped, since they are longer than what fits into a slot.
     pub skipped: u64,
     /// The number in its capture of the frame at which the ring stopped, runts counted.
     pub stop: Option<u32>,
@@ -31,7 +31,7 @@ pub(crate) struct Transmitter {
     pub(crate) ring: TxRing,
     /// The packets that were sent so far.
     pub(crate) packets: Packets,
-    /// The number of slots that were passed over so far.
+    /// The number of slots that were skipped so far.
     pub(crate) skipped: u64,
 }
 
@@ -110,7 +110,7 @@ impl Transmitter {
 }
 
 /// Sends frames through a new ring of this shape, in order. Runts are left out. With `skip_bad` a frame that is longer
-/// than what fits into a slot is passed over, without it the first of them stops the ring.
+/// than what fits into a slot is skipped, without it the first of them stops the ring.
 pub fn transmit_frames(
     alloc: Global,
     shape: Shape,

@@ -8,8 +8,8 @@ use Rattle.work_queue.specs.Histories.{History, IsNamed, Place, own, works_of}
 use Rattle.work_queue.specs.Logs.{HasDone, log, named}
 use Rattle.work_queue.specs.Passes.{HasPlaces, IsAmong, IsFound, IsHistory, PassValue, WasFetched, WasHanded, part_of, parts_of}
 use Rattle.work_queue.specs.Steps.{Tells}
-use Rattle.work_queue.specs.declared.knowing.Log.{Log}
-use Rattle.work_queue.specs.declared.knowing.Part.{Part}
+use Rattle.work_queue.specs.declared.knowledge.Log.{Log}
+use Rattle.work_queue.specs.declared.knowledge.Part.{Part}
 use Rattle.work_queue.specs.declared.works.Work.{Work}
 use Rattle.work_queue.proofs.Places.{below_yes}
 
@@ -34,7 +34,7 @@ places_of handed gone [] all = tt
 places_of handed gone (pass ∷ passes) all =
     (record { handed_is = all.0.handed_is; fetched_is = all.0.fetched_is }, places_of handed gone passes all.1)
 
--- a pass that stands for all, and that took out all works, tells the history
+-- a pass that stands for all, and that took out all works, reports the history
 pub told : (passes : List PassValue) (count : ℕ) (left : List Work) → length passes ≡ count → Tells (log count (parts_of passes) left) [] → IsHistory passes left
 told passes count left all tells = record {
   handed = tells.handed;

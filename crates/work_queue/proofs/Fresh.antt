@@ -5,8 +5,8 @@ use Rattle.atomic_blocks.specs.Laid.{WebId}
 use Rattle.work_queue.specs.Logs.{first_of, fresh, fresh_parts, log, rest_of}
 use Rattle.work_queue.specs.Passes.{PassValue, fresh_pass, fresh_passes}
 use Rattle.work_queue.specs.PassesInside.{one_of}
-use Rattle.work_queue.specs.declared.knowing.Log.{Log}
-use Rattle.work_queue.specs.declared.knowing.Part.{Part}
+use Rattle.work_queue.specs.declared.knowledge.Log.{Log}
+use Rattle.work_queue.specs.declared.knowledge.Part.{Part}
 
 pub fresh_long : (name count : ℕ) → length (fresh_parts name count) ≡ count
 fresh_long name zero = refl

@@ -12,8 +12,8 @@ use Rattle.work_queue.specs.Histories.{History, IsNamed, Place, works_of}
 use Rattle.work_queue.specs.Logs.{HasDone, log, named, once_below}
 use Rattle.work_queue.specs.Steps.{Drained, Fetched, Handed, Tells}
 use Rattle.work_queue.specs.Works.{IsLawfulWork}
-use Rattle.work_queue.specs.declared.knowing.Log.{Log}
-use Rattle.work_queue.specs.declared.knowing.Part.{Part}
+use Rattle.work_queue.specs.declared.knowledge.Log.{Log}
+use Rattle.work_queue.specs.declared.knowledge.Part.{Part}
 use Rattle.work_queue.specs.declared.works.Work.{Work}
 use Rattle.work_queue.proofs.Places.{all_and, below_named, fetched_other, handed_other, named_here, none_in, once_few, own_more, place, works_more}
 use Rattle.work_queue.proofs.Totals.{at_below, total_above, total_both, total_one, total_set}

@@ -6,7 +6,7 @@ use mathlib.Core.Logic.{dite}
 use native.Mathlib.Decide.{ℕ_discrete, dec_le}
 use Rattle.work_queue.specs.Histories.{IsNamed, Place, own, works_of}
 use Rattle.work_queue.specs.Logs.{HasDone, fresh, named, once_below}
-use Rattle.work_queue.specs.declared.knowing.Part.{Part}
+use Rattle.work_queue.specs.declared.knowledge.Part.{Part}
 use Rattle.work_queue.specs.declared.works.Work.{Work}
 
 -- ---- what holds of each item

@@ -8,8 +8,8 @@ use Rattle.crossbeam_queue.proofs.Lists.{at_set, at_snoc, set_else}
 use Rattle.work_queue.specs.Happened.{Happened, LogOk}
 use Rattle.work_queue.specs.Histories.{Place}
 use Rattle.work_queue.specs.Logs.{HasDone, first_of, fresh, gathered, grown, log, named, once_below, opening, rest_of, spent}
-use Rattle.work_queue.specs.declared.knowing.Log.{Log}
-use Rattle.work_queue.specs.declared.knowing.Part.{Part}
+use Rattle.work_queue.specs.declared.knowledge.Log.{Log}
+use Rattle.work_queue.specs.declared.knowledge.Part.{Part}
 use Rattle.work_queue.specs.declared.works.Work.{Work}
 use Rattle.work_queue.proofs.Moves.{names_in, no_left, nothing_known, others_none, parts_in}
 use Rattle.work_queue.proofs.Places.{all_append, below_no, named_both, named_up, once_more, own_none}

@@ -5,7 +5,7 @@ use mathlib.Core.Option.{some}
 use lib.ListN.{get_elem?}
 use Rattle.work_queue.specs.Histories.{History, Place}
 use Rattle.work_queue.specs.Logs.{HasDone, named, once_below}
-use Rattle.work_queue.specs.declared.knowing.Log.{Log}
+use Rattle.work_queue.specs.declared.knowledge.Log.{Log}
 use Rattle.work_queue.specs.declared.works.Work.{Work}
 
 -- What is so of a pass that stands for some of so many: it knows what these did, and how many there are. One that

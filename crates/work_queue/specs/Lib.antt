@@ -2,7 +2,7 @@ pub mod Works
 pub mod Histories
 pub mod Logs
 pub mod Happened
-pub mod Going
+pub mod QueueHistory
 pub mod Steps
 pub mod Passes
 pub mod PassesInside

@@ -1,8 +1,8 @@
 -- What a pass knows at the start, and as others are made of it or joined into it.
 use Rattle.std.specs.Prelude.{◌≡◌, ℕ, zero, suc, ◌+◌, ◌==◌, nat_lt, if◌then◌else◌, List, [], ◌∷◌, ◌++◌, take, drop}
 use Rattle.work_queue.specs.Histories.{Place, own}
-use Rattle.work_queue.specs.declared.knowing.Log.{Log}
-use Rattle.work_queue.specs.declared.knowing.Part.{Part}
+use Rattle.work_queue.specs.declared.knowledge.Log.{Log}
+use Rattle.work_queue.specs.declared.knowledge.Part.{Part}
 use Rattle.work_queue.specs.declared.works.Work.{Work}
 
 abbrev pub log : ℕ → List Part → List Work → Log

@@ -3,7 +3,7 @@ use Rattle.std.specs.Prelude.{◌≡◌, ℕ, zero, suc, ◌+◌, ◌<◌, ◌==
 use Rattle.std.specs.List.{AllByRecursion}
 use Rattle.atomic_blocks.specs.Laid.{WebId}
 use Rattle.work_queue.specs.Histories.{History, Place, own}
-use Rattle.work_queue.specs.declared.knowing.Part.{Part}
+use Rattle.work_queue.specs.declared.knowledge.Part.{Part}
 use Rattle.work_queue.specs.declared.works.Work.{Work}
 
 -- Contracts see a queue as this: which it is, and how many passes it has

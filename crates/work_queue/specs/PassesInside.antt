@@ -2,7 +2,7 @@
 use Rattle.std.specs.Prelude.{◌≡◌, [], ◌∷◌, None, List}
 use Rattle.work_queue.specs.Logs.{fresh, log}
 use Rattle.work_queue.specs.Passes.{PassValue}
-use Rattle.work_queue.specs.declared.knowing.Part.{Part}
+use Rattle.work_queue.specs.declared.knowledge.Part.{Part}
 use Rattle.work_queue.specs.declared.passes.WorkPass.TheInside.{Inside}
 
 -- the pass for which it stands

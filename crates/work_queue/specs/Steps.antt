@@ -4,8 +4,8 @@ use Rattle.std.specs.List.{AllByRecursion}
 use Rattle.work_queue.specs.Histories.{History, Place}
 use Rattle.work_queue.specs.Logs.{HasDone, log, named, once_below}
 use Rattle.work_queue.specs.Works.{IsLawfulWork}
-use Rattle.work_queue.specs.declared.knowing.Log.{Log}
-use Rattle.work_queue.specs.declared.knowing.Part.{Part}
+use Rattle.work_queue.specs.declared.knowledge.Log.{Log}
+use Rattle.work_queue.specs.declared.knowledge.Part.{Part}
 use Rattle.work_queue.specs.declared.works.Work.{Work}
 
 -- the passes after a work was handed or fetched with the only one of them

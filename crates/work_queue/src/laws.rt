@@ -2,12 +2,12 @@
 ghost use Rattle.std.specs.Prelude.{ℕ, List, ◌↔◌};
 ghost use Rattle.work_queue.specs.Histories.{History};
 ghost use Rattle.work_queue.specs.Passes.{IsFound, IsHistory, PassValue, WasHanded};
-ghost use Rattle.work_queue.specs.Going.{GoesOn};
-ghost use Rattle.work_queue.specs.declared.knowing.Log.{Log};
+ghost use Rattle.work_queue.specs.QueueHistory.{GoesOn};
+ghost use Rattle.work_queue.specs.declared.knowledge.Log.{Log};
 ghost use Rattle.work_queue.specs.declared.works.Work.{Work};
 
 use crate::Work;
-use crate::knowing::Log;
+use crate::knowledge::Log;
 use crate::plays::EachOnce;
 use crossbeam_queue::protocol::Protocol;
 

@@ -1,11 +1,11 @@
 //! A queue of works between threads: some passes hand works in, others fetch them, each work once and in order.
 #![tactic(auto)]
 
-mod closing;
-mod handing;
-mod knowing;
+mod closed_queues;
+mod knowledge;
 mod laws;
-mod opening;
+mod new_queues;
+mod pass_calls;
 mod passes;
 mod plays;
 mod queues;

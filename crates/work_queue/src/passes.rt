@@ -1,7 +1,7 @@
 //! A pass of a queue.
 
 use crate::Work;
-use crate::knowing::Log;
+use crate::knowledge::Log;
 use crossbeam_queue::SegPass;
 use std::marker::Model;
 

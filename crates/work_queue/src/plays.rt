@@ -5,7 +5,7 @@ ghost use Rattle.work_queue.specs.Logs.{first_of, gathered, grown, opening, rest
 ghost use Rattle.work_queue.specs.Steps.{Drained, Fetched, Handed, Tells};
 
 use crate::Work;
-use crate::knowing::Log;
+use crate::knowledge::Log;
 use crossbeam_queue::protocol::{Join, Lesson, Outcome, Protocol, Split};
 
 /// Each work that was handed is fetched once, or is still in the queue.
@@ -51,7 +51,7 @@ impl Outcome<Work, Log> for Hands {
     ghost then = { Handed };
 }
 
-/// A work is fetched. A look that finds none tells nothing.
+/// A work is fetched. A look that finds none reports nothing.
 pub struct Fetches;
 
 impl Outcome<Work, Log> for Fetches {
@@ -62,7 +62,7 @@ impl Lesson<Work, Log> for Fetches {
     ghost fact = { λ v items. ⊤ };
 }
 
-/// A work is taken out as the queue is closed. A look that finds none tells all that happened.
+/// A work is taken out as the queue is closed. A look that finds none reports all that happened.
 pub struct Drains;
 
 impl Outcome<Work, Log> for Drains {

@@ -2,7 +2,7 @@
 ghost use Rattle.std.specs.Prelude.{◌≡◌, ◌<◌};
 
 use crate::Work;
-use crate::knowing::Log;
+use crate::knowledge::Log;
 use crate::plays::EachOnce;
 use crossbeam_queue::RuledSegQueue;
 use std::marker::Model;

@@ -1,4 +1,4 @@
-//! How the requested slots of a ring are sent, from the front.
+//! How the requested slots of a ring are sent, from the start.
 ghost use Rattle.std.specs.Prelude.{◌≡◌, ◌+◌, ◌^◌, ◌<◌, ◌≤◌, ◌++◌, ℕ, false, true, None, Some, IfOk, Err, length};
 ghost use Rattle.tx_ring.specs.Rings.{front_slot, room_of};
 ghost use Rattle.tx_ring.specs.Sending.{FrontTaken, IsBrokenOff, OnMemory, UnlessMemory, after_send, after_taking, counted, front_of, is_good, packet_of, packets_sent, send_answer};
@@ -15,7 +15,7 @@ const LEAST: usize = 14;
 
 impl TxRing {
     /// Takes the requested slots in order, and appends the packet of each good one, which is available then. A bad slot
-    /// stops the ring for good, or with `skip_bad` is passed over. What was appended before an error stays; after
+    /// stops the ring for good, or with `skip_bad` is skipped. What was appended before an error stays; after
     /// `Memory` the slot in question is still requested.
     pub fn send(&mut self, out: &mut Packets) -> Result<Sent, SendError>
         ensures answer { UnlessMemory result (result ≡ send_answer self.old) }
@@ -48,7 +48,7 @@ impl TxRing {
         (self.placed - self.taken) as u32
     }
 
-    /// Takes the first requested slot: sends it, passes it over, or stops the ring there. It tells whether it was sent.
+    /// Takes the first requested slot: sends it, skips it, or stops the ring there. It reports whether it was sent.
     fn take_front(&mut self, out: &mut Packets) -> Result<bool, SendError>
         requires some { 0 < length self.old.requests }
         ensures { FrontTaken self.old self.new out.old out.new result }
@@ -107,7 +107,7 @@ impl TxRing {
         self.taken += 1;
     }
 
-    /// Stops the ring at the first requested slot, which is bad, and tells its number.
+    /// Stops the ring at the first requested slot, which is bad, and reports its number.
     fn stop_front(&mut self) -> u32
         requires some { 0 < length self.old.requests }
         requires bad { is_good (room_of self.old.shape) (front_of self.old.requests) ≡ false }
@@ -123,7 +123,7 @@ impl TxRing {
     }
 }
 
-/// The counts with one slot more that was sent or passed over.
+/// The counts with one slot more that was sent or skipped.
 fn count_one(counts: Sent, is_sent: bool) -> Sent
     requires { counts.sent + counts.skipped + 1 < 2 ^ 32 }
     ensures { result ≡ counted counts is_sent }

@@ -1,5 +1,5 @@
 use Rattle.std.proofs.Common.{◌≡◌, ap, ◌∙◌, arith}
-use Rattle.capture_file.specs.Capture.{number_at, captured}
+use Rattle.capture_file.specs.Pcap.{number_at, captured}
 use Rattle.capture_file.proofs.Steps.{completes_header, completes_oversized, completes_record_if}
 use Rattle.capture_file.proofs.reading.complete.Goals as goal
 

@@ -1,6 +1,6 @@
 use Rattle.std.proofs.Common.{◌∙◌, ◌≤◌, ◌-◌, ◌^◌, ℕ, ap, arith, subst, sym}
 use Rattle.std.proofs.lemmas.Result.{on_ok_weaker}
-use Rattle.fanout_group.specs.Judging.{IsJudged}
+use Rattle.fanout_group.specs.Judgements.{IsJudged}
 use Rattle.fanout_group.specs.declared.logs.ArrivalLog.{ArrivalLog}
 use Rattle.run_reports.specs.Jobs.{lens_of}
 use Rattle.ticket_dealer.specs.Seats.{SeatValue}

@@ -2,7 +2,7 @@ use Rattle.std.proofs.Common.{◌≡◌, ◌<◌, ℕ, List}
 use Rattle.std.proofs.lemmas.Result.{IfOk-weaker}
 use Rattle.std.specs.Prelude.{map, option_map}
 use Rattle.tap_outside.specs.Seen.{SourceSeen}
-use Rattle.cpu_feeders.specs.Working.{IsReadyWorker}
+use Rattle.cpu_feeders.specs.WorkerEffects.{IsReadyWorker}
 use Rattle.cpu_feeders.specs.declared.worker.Worker.{Worker}
 use Rattle.cpu_feeders.proofs.AtEnd.{at_place}
 use Rattle.cpu_feeders.proofs.Hired.{hired_ready}

@@ -1,6 +1,6 @@
 use Rattle.std.proofs.Common.{◌≡◌, ◌<◌, ◌≤◌, ℕ, length, get_or}
 use Rattle.member_turns.specs.Seats.{Lock, Seat}
-use Rattle.member_turns.specs.Turning.{IsTickTurn}
+use Rattle.member_turns.specs.TurnEffects.{IsTickTurn}
 use Rattle.cpu_feeders.proofs.timer.tick_members.Given as goal
 
 abbrev pub invariant-loop-at : goal.invariant-loop-at

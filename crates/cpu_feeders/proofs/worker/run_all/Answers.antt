@@ -2,7 +2,7 @@ use Rattle.std.proofs.Common.{subst, sym}
 use denote.Param.{param}
 use denote.Param.Send.{IsSend, sendable}
 use Rattle.cpu_feeders.specs.contracts.worker.Worker as Worker
-use Rattle.cpu_feeders.specs.Working.{IsReadyWorker}
+use Rattle.cpu_feeders.specs.WorkerEffects.{IsReadyWorker}
 use Rattle.cpu_feeders.specs.declared.worker.Worker as declared
 use Rattle.cpu_feeders.proofs.Crossing.{worker_send}
 use Rattle.cpu_feeders.proofs.worker.run_all.Goals as goal

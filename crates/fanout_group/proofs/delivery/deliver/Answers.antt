@@ -2,7 +2,7 @@ use Rattle.std.proofs.Common.{arith, ◌≡◌, ◌<◌, ℕ, subst, sym}
 use Rattle.std.proofs.lemmas.Grind.{common_steps}
 use Rattle.fanout_group.specs.Plans.{rolls_over}
 use Rattle.fanout_group.specs.Routes.{IsRoute, present_after}
-use Rattle.fanout_group.proofs.Routing.{present_after-route}
+use Rattle.fanout_group.proofs.RouteBounds.{present_after-route}
 use Rattle.fanout_group.proofs.delivery.deliver.Goals as goal
 
 pub returns-clause-route : goal.returns-clause-route

@@ -1,4 +1,4 @@
-use Rattle.fanout_group.proofs.Sounding.{arrivals_sound}
+use Rattle.fanout_group.proofs.SoundArrivals.{arrivals_sound}
 use Rattle.fanout_group.proofs.laws.arrivals_are_sound.Goals as goal
 
 pub returns : goal.returns

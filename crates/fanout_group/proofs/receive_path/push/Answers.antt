@@ -4,7 +4,7 @@ use Rattle.std.proofs.lemmas.Option.{IfSome_then}
 use Rattle.frame_view.specs.declared.frames.Frame.{Frame}
 use Rattle.ip_defrag.specs.Fold.{pass}
 use Rattle.fanout_group.specs.Arrivals.{HasPlaceOf, IsUntagged}
-use Rattle.fanout_group.proofs.Arriving.{passes}
+use Rattle.fanout_group.proofs.ArrivalFacts.{passes}
 use Rattle.fanout_group.proofs.receive_path.push.Goals as goal
 
 pub returns-in-Ok-clause-sound : goal.returns-in-Ok-clause-sound

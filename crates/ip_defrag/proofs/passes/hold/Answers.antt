@@ -1,6 +1,6 @@
 -- The datagram with its fragment, or without a place.
 use Rattle.std.proofs.Common.{◌∙◌, ap, not}
-use Rattle.ip_defrag.proofs.Holding.{none_held, some_held}
+use Rattle.ip_defrag.proofs.JoinedFrames.{none_held, some_held}
 use Rattle.ip_defrag.proofs.passes.hold.Goals as goal
 
 pub returns-then-is_none-clause-is : goal.returns-then-is_none-clause-is

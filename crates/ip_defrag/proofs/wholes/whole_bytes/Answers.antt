@@ -1,4 +1,4 @@
--- The headers, and behind them the data.
+-- The headers, and after them the data.
 use Rattle.std.proofs.Common.{◌≡◌, ◌∙◌, ap, sym, arith, length, length-append, List, ℕ, ◌+◌, ◌-◌, take, drop, ◌++◌, replicate}
 use Rattle.std.proofs.Math.Seq.{take-append_seam, drop-append_seam}
 use Rattle.std.proofs.lemmas.List.{drop-replicate, length-replicate}
@@ -6,7 +6,7 @@ use Rattle.ip_defrag.specs.Datagrams.{headers_from, data_from, summed, unsummed}
 use Rattle.ip_defrag.specs.Fragments.{headers_length}
 use Rattle.ip_defrag.proofs.wholes.whole_bytes.Goals as goal
 
--- what stands behind some of only zeros
+-- what follows some of only zeros
 behind_zeros : (front back : List ℕ) (n : ℕ) → front ++ back ≡ replicate n 0 → back ≡ replicate (length back) 0
 behind_zeros front back n e =
     let long = ap length e in

@@ -23,5 +23,5 @@ pub returns-clause-reported : goal.returns-clause-reported
 returns-clause-reported g c = λ named is has.
     timed (g.S.Store.seen c.args.store.now) (g.S.Store.seen c.load_moments.new.store)
     c.args.job.now c.in_ok-moments.moments c.in_ok-run_captures.field-0.report
-    c.in_ok-moments.ensures.faultless c.in_ok-moments.ensures.ticks
+    c.in_ok-moments.ensures.faultless.only c.in_ok-moments.ensures.ticks
     c.in_ok-run_captures.ensures.reported named is has

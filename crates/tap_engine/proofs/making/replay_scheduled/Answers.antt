@@ -16,6 +16,6 @@ pub returns-clause-reported : goal.returns-clause-reported
 returns-clause-reported g c = λ named is called has.
     scheduled (g.S.Store.seen c.args.store.now) (g.S.Store.seen c.load_lines.new.store)
     c.args.job.now c.args.name.now
-    c.in_ok-schedule.schedule c.in_ok-replay_captures.field-0 c.in_ok-schedule.ensures.faultless
+    c.in_ok-schedule.schedule c.in_ok-replay_captures.field-0 c.in_ok-schedule.ensures.faultless.only
     c.in_ok-schedule.ensures.schedule
     c.in_ok-replay_captures.ensures.reported named is called has

@@ -7,7 +7,7 @@ use Rattle.cpu_feeders.proofs.ReadOut.{rings_many}
 use Rattle.cpu_feeders.proofs.Results.{both_of}
 use Rattle.fanout_group.specs.declared.runs.CpuLog.{CpuLog}
 use Rattle.tap_outside.specs.Seen.{SourceSeen}
-use Rattle.tap_forward.specs.Bridging.{sent_for, skipped_for}
+use Rattle.tap_forward.specs.Bridges.{sent_for, skipped_for}
 use Rattle.tap_forward.proofs.Bridged.{are_forwarders, as_many, one_room}
 use Rattle.tap_forward.proofs.bridge.forward_workers.Goals as goal
 

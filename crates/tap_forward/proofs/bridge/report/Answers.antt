@@ -4,7 +4,7 @@ use Rattle.cpu_feeders.proofs.OneMore.{empty}
 use Rattle.cpu_feeders.proofs.ReadOut.{none_reported, reported_next, zip_next}
 use Rattle.setup_text.specs.declared.reports.MemberReport.{MemberReport}
 use Rattle.tx_ring.specs.Rings.{room_of}
-use Rattle.tap_forward.specs.Bridging.{IsForwarderOf, sent_for, skipped_for}
+use Rattle.tap_forward.specs.Bridges.{IsForwarderOf, sent_for, skipped_for}
 use Rattle.tap_forward.proofs.Bridged.{mapped_more, one_reported, sent_is, skipped_is}
 use Rattle.tap_forward.proofs.bridge.report.Goals as goal
 

@@ -5,7 +5,7 @@ use Rattle.capture_reports.specs.Reported.{AreReported}
 use Rattle.setup_text.specs.declared.reports.MemberReport.{MemberReport}
 use Rattle.tp_layout.specs.declared.requests.RingRequest.{RingRequest}
 use Rattle.tx_ring.specs.Rings.{room_of}
-use Rattle.tap_forward.specs.Bridging.{IsForwarderOf, sent_for, skipped_for}
+use Rattle.tap_forward.specs.Bridges.{IsForwarderOf, sent_for, skipped_for}
 use Rattle.tap_forward.proofs.bridge.report.Given as goal
 
 -- of the members so far all is reported; there is a forwarder and a ring for each of the others

@@ -1,14 +1,14 @@
 use Rattle.std.proofs.Common.{◌<◌, ◌≤◌, get_or, length, map, rules, subst, sym, arith, List}
 use Rattle.std.specs.Prelude.{option_map}
 use Rattle.std.proofs.lemmas.List.{length-map}
-use Rattle.replay_model.specs.Taking.{MayCome}
+use Rattle.replay_model.specs.TakenOffers.{MayCome}
 use Rattle.schedule_lines.specs.declared.lines.Line.{Line}
 use Rattle.schedule_lines.specs.declared.lines.Line.TheVariants.{Feed}
 use Rattle.tap_replay.proofs.Timed.{may-next}
 use Rattle.tp_layout.specs.Requests.{size_of}
 use Rattle.tap_outside.specs.Seen.{SourceSeen}
-use Rattle.tap_replay.specs.Turning.{LineDone}
-use Rattle.tap_replay.proofs.Concluding.{Did, did_first, did_more, told}
+use Rattle.tap_replay.specs.RunEffects.{LineDone}
+use Rattle.tap_replay.proofs.WholeRuns.{Did, did_first, did_more, told}
 use Rattle.tap_replay.proofs.runs.replay_as.Goals as goal
 
 pub loop-line-init : goal.loop-line-init

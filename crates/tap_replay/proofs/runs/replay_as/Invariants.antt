@@ -3,7 +3,7 @@ use Rattle.frame_view.specs.declared.frames.Frame.{Frame}
 use Rattle.replay_model.specs.Replay.{done_lines}
 use Rattle.tap_replay.proofs.Timed.{IsTimed}
 use Rattle.tp_layout.specs.Requests.{room_of, size_of}
-use Rattle.tap_replay.specs.Running.{AreAllOf, IsCounted, IsRun, firsts_of, whole}
+use Rattle.tap_replay.specs.RunStates.{AreAllOf, IsCounted, IsRun, firsts_of, whole}
 use Rattle.run_reports.specs.Jobs.{rules_of}
 use Rattle.tap_replay.proofs.runs.replay_as.Given as goal
 

@@ -1,5 +1,5 @@
 use Rattle.std.proofs.Common.{rules, ap, ◌∙◌}
-use Rattle.turn_lock.proofs.Looking.{looks}
+use Rattle.turn_lock.proofs.TicketLooks.{looks}
 use Rattle.turn_lock.proofs.turns.wait_turn.Goals as goal
 
 pub load-requires : goal.load-requires

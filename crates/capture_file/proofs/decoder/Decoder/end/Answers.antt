@@ -1,14 +1,12 @@
-use Rattle.std.proofs.Common.{ℕ, ◌∙◌, ap, eqb, refl}
 use Rattle.std.specs.Result.{result_err}
 use Rattle.capture_file.specs.Decoding.{decoder_value}
-use Rattle.capture_file.proofs.Ending.{end_told, end_sound}
+use Rattle.capture_file.proofs.Joined.{end_not_yet, end_known, stands_known}
 use Rattle.capture_file.proofs.decoder.Decoder.end.Goals as goal
 
-pub returns-clause-end : goal.returns-clause-end
-returns-clause-end c cpu fed stands =
-    let none = c.is_empty.ensures ∙ ap (λ (n : ℕ). eqb n 0) c.self.inside.kept.ok.0 in
-    c.end.ensures ∙ end_told cpu (decoder_value c.self.inside) c.args.self.now fed c.self.view_is stands c.self.inside.stage c.is_empty.result refl none
+pub returns-in-Some-clause-end : goal.returns-in-Some-clause-end
+returns-in-Some-clause-end c cpu fed stands =
+    end_known cpu c.args.self.now (decoder_value c.self.inside) fed c.self.view_is stands c.in-Some.decoder c.in-Some.is (result_err c.end.result)
+    (c.end.ensures.end cpu fed (stands_known cpu c.args.self.now (decoder_value c.self.inside) fed c.self.view_is stands c.in-Some.decoder c.in-Some.is))
 
-pub returns-clause-memory : goal.returns-clause-memory
-returns-clause-memory c m =
-    end_sound (result_err c.end.result) c.self.inside.stage c.self.inside.next.stop c.is_empty.result c.self.inside.kept.items c.end.ensures c.self.invariant.told (ap result_err m)
+pub returns-in-None-clause-end : goal.returns-in-None-clause-end
+returns-in-None-clause-end c cpu fed stands = end_not_yet cpu c.args.self.now (decoder_value c.self.inside) fed c.self.view_is stands c.in-None.is

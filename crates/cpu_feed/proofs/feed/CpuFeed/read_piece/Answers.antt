@@ -2,8 +2,8 @@ use Rattle.std.proofs.Common.{◌≡◌, ◌≤◌, ◌∙◌, [], None, ap, len
 use Rattle.std.specs.Prelude.{option_map}
 use Rattle.cpu_feed.specs.Feeding.{Feeding, frames_in}
 use Rattle.tap_outside.specs.Seen.{SourceSeen}
-use Rattle.cpu_feed.proofs.Piecewise.{ends_here, no_bytes, piece_frames, piece_taken, read_more}
-use Rattle.cpu_feed.proofs.Knowing.{known}
+use Rattle.cpu_feed.proofs.Piecewise.{ends_here, no_bytes, piece_frames, piece_taken, read_more, reads_less}
+use Rattle.cpu_feed.proofs.SourceFacts.{known}
 use Rattle.cpu_feed.proofs.feed.CpuFeed.read_piece.Goals as goal
 
 pub invariant_of-self-2 : goal.invariant_of-self-2
@@ -27,3 +27,9 @@ invariant_of-self-then-is_empty g c = known _ _ _ _ _ _ _ _ _ _ c.if-self.false 
     let empty : c.read.new.self ≡ [] = sym c.piece-piece.ensures.piece ∙ no_bytes c.piece-piece.result.now c.if-is_empty.ensures in
     ends_here c.too_many_bytes_are_damage.ensures _ _ _ _ _ _ _ _ _ _ _ _ _ (c.self.invariant.whole c.if-self.false)
     (ap (option_map {T = g.row.S.Denot} {U = SourceSeen} g.S.Source.seen) c.in-Some.is) unended c.in-Ok.ensures.ok empty c.end_at.ensures)
+
+pub returns-clause-less : goal.returns-clause-less
+returns-clause-less g c =
+    let unended : c.self.inside.ended ≡ None = ap (λ (cpu : Feeding). cpu.ended) c.self.view_is ∙ c.requires.unended in
+    reads_less c.too_many_bytes_are_damage.ensures _ c.args.self.now _ _ c.piece-piece.result.now c.ended_by-self-inside.result c.self.view_is unended
+    ((c.self.invariant.whole c.if-self.false).sound unended) c.piece-piece.ensures.piece c.if-is_empty.ensures c.after-self-inside.ensures

@@ -4,7 +4,7 @@ use Rattle.frame_view.specs.declared.frames.Frame.{Frame}
 use Rattle.fanout_group.specs.Arrivals.{arrival_at, held_behind}
 use Rattle.fanout_group.specs.Paths.{IsPathBehind, Path}
 use Rattle.fanout_group.specs.Plans.{has_defrag}
-use Rattle.fanout_group.proofs.Pathing.{goes_behind}
+use Rattle.fanout_group.proofs.LongerLogs.{goes_behind}
 use Rattle.fanout_group.proofs.receive_path.ReceivePath.arrive.Goals as goal
 
 pub returns-clause-lawful : goal.returns-clause-lawful

@@ -1,5 +1,5 @@
 use Rattle.std.proofs.Common.{rules, ◌≡◌, refl, subst, sym}
-use Rattle.fanout_group.specs.Judging.{rules_by}
+use Rattle.fanout_group.specs.Judgements.{rules_by}
 use Rattle.fanout_group.specs.Paths.{IsPath, Path, logged}
 use Rattle.fanout_group.specs.PathsInside.{path_value}
 use Rattle.std.specs.Prelude.{OnErr, Result, Ok, Err, unwrap_or}
@@ -7,7 +7,7 @@ use Rattle.fanout_group.specs.Plans.{rolls_over}
 use Rattle.fanout_group.specs.Routes.{IsBegun, IsRoute}
 use Rattle.fanout_group.specs.Rules.{home_by}
 use Rattle.fanout_group.specs.declared.logs.ArrivalLog.{ArrivalLog}
-use Rattle.fanout_group.proofs.Pathing.{delivered, logs_one}
+use Rattle.fanout_group.proofs.LongerLogs.{delivered, logs_one}
 use Rattle.fanout_group.proofs.receive_path.ReceivePath.deliver.Goals as goal
 
 pub returns-clause-lawful : goal.returns-clause-lawful

@@ -1,10 +1,10 @@
 use Rattle.std.proofs.Common.{rules, ◌≡◌, List, refl, subst, sym}
 use Rattle.std.proofs.lemmas.Result.{on_ok_weaker}
-use Rattle.fanout_group.specs.Judging.{rules_by}
+use Rattle.fanout_group.specs.Judgements.{rules_by}
 use Rattle.fanout_group.specs.Paths.{IsPath, Path, logged}
 use Rattle.fanout_group.specs.PathsInside.{path_value}
 use Rattle.fanout_group.specs.declared.logs.ArrivalLog.{ArrivalLog}
-use Rattle.fanout_group.proofs.Pathing.{logs_one, passed_over}
+use Rattle.fanout_group.proofs.LongerLogs.{logs_one, passed_over}
 use Rattle.fanout_group.proofs.receive_path.ReceivePath.pass_over.Goals as goal
 
 pub returns-clause-lawful : goal.returns-clause-lawful

@@ -2,8 +2,8 @@ use Rattle.std.proofs.Common.{◌∙◌, ap}
 use Rattle.fanout_group.specs.Lenses.{lens_of}
 use Rattle.fanout_group.specs.declared.logs.ArrivalLog.{ArrivalLog}
 use Rattle.replay_model.specs.Replay.{next_ticket, ticket_of}
-use Rattle.tap_replay.specs.Running.{RunValue}
-use Rattle.tap_replay.proofs.Counting.{few_members}
+use Rattle.tap_replay.specs.RunStates.{RunValue}
+use Rattle.tap_replay.proofs.RunCounts.{few_members}
 use Rattle.tap_replay.proofs.RunSteps.{all_take_it, arrives_as, members_there, shape_at, ticket_fits}
 use Rattle.tap_replay.proofs.replay_run.ReplayRun.arrive.Goals as goal
 

@@ -3,8 +3,8 @@ use Rattle.std.specs.Prelude.{OnOk, slice_set}
 use Rattle.cpu_feed.specs.Feeding.{Feeding}
 use Rattle.tap_replay.specs.Deliveries.{DeskValue}
 use Rattle.ring_model.specs.Rings.{Ring}
-use Rattle.tap_replay.specs.Running.{IsLogged, RunValue, cpu_in, no_feeding}
-use Rattle.tap_replay.proofs.Stepping.{delivered_told, desk_takes, got_same, run_with}
+use Rattle.tap_replay.specs.RunStates.{IsLogged, RunValue, cpu_in, no_feeding}
+use Rattle.tap_replay.proofs.CpuSteps.{delivered_told, desk_takes, got_same, run_with}
 use Rattle.tap_replay.proofs.replay_run.ReplayRun.deliver.Goals as goal
 
 pub deliver-delivered-requires-clause-takes : goal.deliver-delivered-requires-clause-takes

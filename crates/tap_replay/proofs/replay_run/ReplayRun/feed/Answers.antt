@@ -1,7 +1,7 @@
 use Rattle.std.proofs.Common.{◌≡◌, ◌∙◌, subst}
 use Rattle.std.specs.Prelude.{IfSome}
 use Rattle.cpu_feed.specs.Fed.{arrival_of}
-use Rattle.tap_replay.specs.Running.{cpu_in}
+use Rattle.tap_replay.specs.RunStates.{cpu_in}
 use Rattle.cpu_feed.specs.declared.fed.Fed.{Fed}
 use Rattle.tap_replay.proofs.RunSteps.{feeds_arrival, feeds_end, feeds_none, next_run, number_at, room_for_arrival}
 use Rattle.tap_replay.proofs.replay_run.ReplayRun.feed.Goals as goal

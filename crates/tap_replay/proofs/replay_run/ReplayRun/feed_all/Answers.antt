@@ -1,4 +1,4 @@
-use Rattle.tap_replay.proofs.Counting.{keeps_count}
+use Rattle.tap_replay.proofs.RunCounts.{keeps_count}
 use Rattle.tap_replay.proofs.Lines.{Goes, goes_first, goes_on, goes_to_end}
 use Rattle.tap_replay.proofs.replay_run.ReplayRun.feed_all.Goals as goal
 

@@ -2,8 +2,8 @@ use Rattle.std.proofs.Common.{◌≡◌, ◌-◌, ℕ, List}
 use Rattle.std.specs.Prelude.{slice_set}
 use Rattle.frame_view.specs.declared.frames.Frame.{Frame}
 use Rattle.cpu_feed.specs.Feeding.{Feeding}
-use Rattle.tap_replay.specs.Running.{AreAllOf, IsCounted, IsRun, cpu_in, firsts_of, whole}
-use Rattle.tap_replay.specs.Turning.{fed_whole}
+use Rattle.tap_replay.specs.RunStates.{AreAllOf, IsCounted, IsRun, cpu_in, firsts_of, whole}
+use Rattle.tap_replay.specs.RunEffects.{fed_whole}
 use Rattle.tap_replay.proofs.replay_run.ReplayRun.feed_all.Given as goal
 
 abbrev pub invariant-feeding : goal.invariant-feeding

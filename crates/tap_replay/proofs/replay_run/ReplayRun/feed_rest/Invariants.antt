@@ -3,7 +3,7 @@ use Rattle.frame_view.specs.declared.frames.Frame.{Frame}
 use Rattle.replay_model.specs.Replay.{feed_from}
 use Rattle.tp_layout.specs.Requests.{room_of}
 use Rattle.cpu_feed.specs.Fed.{IsAtItsEnd}
-use Rattle.tap_replay.specs.Running.{AreAllOf, HasCount, IsRun, cpu_in, firsts_of, whole}
+use Rattle.tap_replay.specs.RunStates.{AreAllOf, HasCount, IsRun, cpu_in, firsts_of, whole}
 use Rattle.run_reports.specs.Jobs.{rules_of}
 use Rattle.tap_replay.proofs.replay_run.ReplayRun.feed_rest.Given as goal
 

@@ -1,4 +1,4 @@
-use Rattle.tap_replay.proofs.Counting.{room_for_note}
+use Rattle.tap_replay.proofs.RunCounts.{room_for_note}
 use Rattle.tap_replay.proofs.Lines.{read_done, stats_done, tick_done}
 use Rattle.tap_replay.proofs.replay_run.ReplayRun.line.Goals as goal
 

@@ -1,8 +1,8 @@
 use Rattle.std.proofs.Common.{Option, rules, subst, sym}
 use Rattle.std.specs.Prelude.{OnOk}
 use Rattle.ring_model.specs.declared.notes.Offer.{Offer}
-use Rattle.tap_replay.specs.Running.{IsLogged}
-use Rattle.tap_replay.proofs.Stepping.{passed_told, run_with}
+use Rattle.tap_replay.specs.RunStates.{IsLogged}
+use Rattle.tap_replay.proofs.CpuSteps.{passed_told, run_with}
 use Rattle.tap_replay.proofs.replay_run.ReplayRun.log.Goals as goal
 use Rattle.std.specs.Prelude.{slice_set}
 

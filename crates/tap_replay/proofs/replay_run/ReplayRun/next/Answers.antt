@@ -1,5 +1,5 @@
 use Rattle.std.proofs.Common.{rules}
-use Rattle.tap_replay.proofs.Stepping.{next_told}
+use Rattle.tap_replay.proofs.CpuSteps.{next_told}
 use Rattle.tap_replay.proofs.replay_run.ReplayRun.next.Goals as goal
 
 pub returns-clause-next : goal.returns-clause-next

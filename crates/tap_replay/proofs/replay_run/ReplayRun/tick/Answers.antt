@@ -2,7 +2,7 @@ use Rattle.std.proofs.Common.{◌≡◌, ◌∙◌, ◌<◌, ◌≤◌, ap, get_
 use Rattle.std.specs.Prelude.{All}
 use Rattle.ring_model.specs.Rings.{Ring, noted, note_of_tick, state}
 use Rattle.tap_replay.proofs.Clocks.{not_yet, one_more}
-use Rattle.tap_replay.specs.Running.{RunValue}
+use Rattle.tap_replay.specs.RunStates.{RunValue}
 use Rattle.tap_replay.proofs.Lines.{all_changed, ticked}
 use Rattle.tap_replay.proofs.replay_run.ReplayRun.tick.Goals as goal
 

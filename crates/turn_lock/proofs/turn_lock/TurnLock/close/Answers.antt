@@ -1,7 +1,7 @@
 use Rattle.std.proofs.Common.{rules, ap, ◌∙◌, sym, subst, unwrap_or, IsSome}
 use mathlib.Core.Option.{some-injective}
 use Rattle.turn_lock.specs.Endings.{Ends}
-use Rattle.turn_lock.proofs.Ending.{ends}
+use Rattle.turn_lock.proofs.LockEnds.{ends}
 use Rattle.turn_lock.proofs.turn_lock.TurnLock.close.Goals as goal
 
 pub unwrap-requires : goal.unwrap-requires

@@ -2,7 +2,7 @@ use Rattle.std.proofs.Common.{rules, ap, ◌∙◌, ◌<◌, ◌^◌, sym, subst
 use Rattle.atomic_table.specs.Table.{rest}
 use Rattle.turn_lock.specs.SeatsInside.{drawn_in}
 use Rattle.turn_lock.proofs.Calls.{idle_of, same_value, entered_me, entered_seat}
-use Rattle.turn_lock.proofs.Drawing.{draws}
+use Rattle.turn_lock.proofs.TicketDraws.{draws}
 use Rattle.turn_lock.proofs.turn_lock.TurnLock.enter.Goals as goal
 
 pub fetch_add-ticket-requires : goal.fetch_add-ticket-requires

@@ -1,6 +1,6 @@
 use Rattle.std.proofs.Common.{rules, ap, ◌∙◌, sym, [], ◌∷◌, Some, ℕ, ◌+◌}
 use Rattle.atomic_table.specs.Table.{rest}
-use Rattle.turn_lock.specs.Knowing.{left}
+use Rattle.turn_lock.specs.SeatKnowledge.{left}
 use Rattle.turn_lock.specs.Seats.{outside}
 use Rattle.turn_lock.specs.SeatsInside.{number_in}
 use Rattle.turn_lock.proofs.Calls.{inside_of, left_value, left_seat, leaves_from}

@@ -1,11 +1,11 @@
 use Rattle.std.proofs.Common.{rules, ap, ap₂, ◌∙◌, ◌<◌, ◌≤◌, ◌+◌, ◌-◌, ◌++◌, ◌∷◌, [], ℕ, suc, ◌≡◌, sym, subst, arith, Some}
 use Rattle.atomic_table.specs.Table as table
-use Rattle.turn_lock.specs.Knowing.{opening}
+use Rattle.turn_lock.specs.SeatKnowledge.{opening}
 use Rattle.turn_lock.specs.Seats.{fresh_seats}
 use Rattle.turn_lock.specs.SeatsInside.{lock_of}
 use Rattle.turn_lock.specs.Turns.{Turns}
 use Rattle.turn_lock.proofs.Calls.{fresh_value, fresh_is_seat}
-use Rattle.turn_lock.proofs.Seating.{opens}
+use Rattle.turn_lock.proofs.LockStarts.{opens}
 use Rattle.turn_lock.proofs.turn_lock.TurnLock.new.Goals as goal
 
 pub new-requires : goal.new-requires

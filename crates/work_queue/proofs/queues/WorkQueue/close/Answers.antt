@@ -2,7 +2,7 @@ use Rattle.std.proofs.Common.{[], length, sym, ap, ◌∙◌, subst, arith}
 use Rattle.std.proofs.lemmas.Result.{IfOk-weaker}
 use Rattle.work_queue.specs.Logs.{log}
 use Rattle.work_queue.specs.Steps.{Tells}
-use Rattle.work_queue.specs.declared.knowing.Log.{Log}
+use Rattle.work_queue.specs.declared.knowledge.Log.{Log}
 use Rattle.work_queue.proofs.Counts.{as_many, told}
 use Rattle.work_queue.proofs.queues.WorkQueue.close.Goals as goal
 

@@ -1,0 +1,18 @@
+use Rattle.std.proofs.Common.{◌≡◌, ◌+◌, [], List, length, refl, sym, ap, ◌∙◌}
+use Rattle.std.specs.List.{AllZip}
+use Rattle.member_turns.specs.Seats.{Lock}
+use Rattle.cpu_feeders.specs.Openings.{IsOpened}
+use Rattle.cpu_feeders.specs.Stands.{fresh_users}
+use Rattle.cpu_feeders.proofs.StandLists.{no_stands}
+use Rattle.cpu_feeders.proofs.open_groups.open_group.Goals as goal
+
+pub loop-member-init : goal.loop-member-init
+loop-member-init c =
+    let members = c.in_ok-with_capacity.ensures.items in
+    let ends = c.in_ok-with_capacity-2.ensures.items in
+    record {
+      count = ap length members;
+      users = c.in_ok-empty_lists.ensures ∙ sym (no_stands 0 (c.args.cpus + 1))
+          ∙ ap (λ (locks : List Lock). fresh_users locks 0 (c.args.cpus + 1)) (sym members);
+      opened = rw (members, ends) tt;
+    }

@@ -1,0 +1,127 @@
+//! The workers of a run before they start.
+ghost use Rattle.std.specs.Prelude.{◌≡◌, ◌+◌, ◌≤◌, false, length, map, option_map, IfOk};
+ghost use Rattle.std.specs.List.{AllByRecursion};
+ghost use Rattle.cpu_feeders.specs.Feeds.{IsFreshSeat};
+ghost use Rattle.cpu_feeders.specs.FreshWorkers.{first_feeds, in_order};
+ghost use Rattle.ticket_dealer.specs.Seats.{DealerValue, IsFreshOf};
+
+use crate::feeder::Feeder;
+use crate::stands::StandList;
+use crate::worker::Worker;
+use crate::{Timer, Walker};
+use capture_reading::Buffer;
+use cpu_feed::CpuFeed;
+use fanout_group::{DealerSeat, Plan};
+use frame_view::Memory;
+use reader_walk::Taker;
+use ring_words::TableWalker;
+use std::alloc::Global;
+use std::collections::VecDeque;
+use tap_outside::Source;
+use tp_layout::Block;
+
+/// A feeder for each source, with the stands of its CPU.
+pub(crate) fn feeders_of<S: Source>(
+    alloc: Global,
+    plan: Plan,
+    sources: Vec<Option<S>>,
+    users: Vec<StandList>,
+    mut seats: Vec<DealerSeat>,
+) -> Result<Vec<Feeder<S>>, Memory>
+    requires few { length sources.items ≤ 8 }
+    requires users { length users.items ≡ length sources.items }
+    requires seats { length seats.items ≡ length sources.items }
+    ensures feeds { IfOk result (λ feeders. map (λ feeder. feeder.feed) feeders.items
+        ≡ first_feeds plan 0 (map (option_map S.seen) sources.items)) }
+    ensures stands { IfOk result (λ feeders.
+        map (λ feeder. feeder.stands.items) feeders.items ≡ users.items) }
+    ensures full { IfOk result (λ feeders.
+        AllByRecursion (λ feeder. feeder.full ≡ false) feeders.items) }
+    ensures seats { IfOk result (λ feeders. (dealer : DealerValue)
+        → AllByRecursion (IsFreshSeat dealer) seats.items
+        → AllByRecursion (λ feeder. IsFreshSeat dealer feeder.seat) feeders.items) }
+{
+    let mut users = VecDeque::from(users);
+    let mut feeders = Vec::with_capacity(alloc, sources.len())?;
+    for source in sources {
+        let Some(stands) = users.pop_front() else {
+            unreachable!()
+        };
+        let Some(seat) = seats.pop() else {
+            unreachable!()
+        };
+        let number = feeders.len() as u32;
+        feeders.push(Feeder {
+            feed: CpuFeed::new(alloc, number, source, plan),
+            stands: stands.into_vec(),
+            seat,
+            buffer: Buffer::new(alloc)?,
+            full: false,
+        })?;
+    }
+    Ok(feeders)
+}
+
+/// A reader for each taker, with the end of its member's ring. Their seats come off the list.
+pub(crate) fn walkers_of<T: Taker + Drop>(
+    alloc: Global,
+    takers: Vec<T>,
+    ends: Vec<TableWalker<Block>>,
+    seats: &mut Vec<DealerSeat>,
+) -> Result<Vec<Walker<T>>, Memory>
+    requires few { length takers.items ≤ 8 }
+    requires ends { length ends.items ≡ length takers.items }
+    requires seats { length takers.items ≤ length seats.old.items }
+    ensures takers { IfOk result (λ walkers.
+        map (λ walker. walker.taker) walkers.items ≡ takers.items) }
+    ensures ends { IfOk result (λ walkers. map (λ walker. walker.end) walkers.items ≡ ends.items) }
+    ensures fresh { IfOk result (λ walkers. AllByRecursion
+        (λ walker. (walker.released ≡ 0) × (walker.full ≡ false)) walkers.items) }
+    ensures count { IfOk result (λ walkers.
+        length walkers.items + length seats.new.items ≡ length seats.old.items) }
+    ensures seats { IfOk result (λ walkers. (dealer : DealerValue)
+        → AllByRecursion (IsFreshOf dealer) seats.old.items
+        → AllByRecursion (IsFreshOf dealer) seats.new.items
+        × AllByRecursion (λ walker. IsFreshOf dealer walker.seat) walkers.items) }
+{
+    let mut ends = VecDeque::from(ends);
+    let mut walkers = Vec::with_capacity(alloc, takers.len())?;
+    for taker in takers {
+        let Some(end) = ends.pop_front() else {
+            unreachable!()
+        };
+        let Some(seat) = seats.pop() else {
+            unreachable!()
+        };
+        walkers.push(Walker {
+            member: walkers.len() as u32,
+            end,
+            taker,
+            seat,
+            released: 0,
+            full: false,
+        })?;
+    }
+    Ok(walkers)
+}
+
+/// The workers in the order in which they are run: readers, the timer, feeders.
+pub(crate) fn workers_of<S: Source, T: Taker + Drop>(
+    alloc: Global,
+    walkers: Vec<Walker<T>>,
+    timer: Timer,
+    feeders: Vec<Feeder<S>>,
+) -> Result<Vec<Worker<S, T>>, Memory>
+    ensures { IfOk result (λ workers.
+        workers.items ≡ in_order walkers.items timer feeders.items) }
+{
+    let mut workers = Vec::new(alloc);
+    for walker in walkers {
+        workers.push(Worker::Walks(walker))?;
+    }
+    workers.push(Worker::Ticks(timer))?;
+    for feeder in feeders {
+        workers.push(Worker::Feeds(feeder))?;
+    }
+    Ok(workers)
+}

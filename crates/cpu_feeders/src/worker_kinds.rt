@@ -1,0 +1,66 @@
+//! The workers of a run after the joins, by their kinds.
+ghost use Rattle.std.specs.Prelude.{◌≡◌, ◌∷◌, ◌++◌, [], false, IfOk, OnOk};
+ghost use Rattle.std.specs.List.{AllByRecursion};
+ghost use Rattle.cpu_feeders.specs.WorkerKinds.{feeders_in, is_full, timers_in, walkers_in};
+
+use crate::feeder::Feeder;
+use crate::worker::Worker;
+use crate::{Timer, Walker};
+use frame_view::Memory;
+use reader_walk::Taker;
+use std::alloc::Global;
+use tap_outside::Source;
+
+/// The workers of a run by their kinds, each kind in its order.
+#[derive(Drop)]
+pub(crate) struct Parted<S: Source, T: Taker + Drop> {
+    /// The readers of the members, from 0 up.
+    pub(crate) walkers: Vec<Walker<T>>,
+    /// The timer.
+    pub(crate) timers: Vec<Timer>,
+    /// The feeders of the CPUs, from 0 up.
+    pub(crate) feeders: Vec<Feeder<S>>,
+}
+
+impl<S: Source, T: Taker + Drop> Parted<S, T> {
+    /// Puts a worker after those of its kind. The error is also that it ran out of memory.
+    fn add(&mut self, worker: Worker<S, T>) -> Result<(), Memory>
+        ensures full { OnOk result (is_full worker ≡ false) }
+        ensures walkers { OnOk result (self.new.walkers.items
+            ≡ self.old.walkers.items ++ walkers_in (worker ∷ [])) }
+        ensures timers { OnOk result (self.new.timers.items
+            ≡ self.old.timers.items ++ timers_in (worker ∷ [])) }
+        ensures feeders { OnOk result (self.new.feeders.items
+            ≡ self.old.feeders.items ++ feeders_in (worker ∷ [])) }
+    {
+        match worker {
+            Worker::Walks(walker) if !walker.full => self.walkers.push(walker)?,
+            Worker::Ticks(timer) if !timer.full => self.timers.push(timer)?,
+            Worker::Feeds(feeder) if !feeder.full => self.feeders.push(feeder)?,
+            _ => return Err(Memory),
+        }
+        Ok(())
+    }
+}
+
+/// Parts workers by their kinds. The error is also that one of them ran out of memory.
+pub(crate) fn part<S: Source, T: Taker + Drop>(
+    alloc: Global,
+    workers: Vec<Worker<S, T>>,
+) -> Result<Parted<S, T>, Memory>
+    ensures full { IfOk result (λ parted.
+        AllByRecursion (λ worker. is_full worker ≡ false) workers.items) }
+    ensures walkers { IfOk result (λ parted. parted.walkers.items ≡ walkers_in workers.items) }
+    ensures timers { IfOk result (λ parted. parted.timers.items ≡ timers_in workers.items) }
+    ensures feeders { IfOk result (λ parted. parted.feeders.items ≡ feeders_in workers.items) }
+{
+    let mut parted = Parted {
+        walkers: Vec::new(alloc),
+        timers: Vec::new(alloc),
+        feeders: Vec::new(alloc),
+    };
+    for worker in workers {
+        parted.add(worker)?;
+    }
+    Ok(parted)
+}

@@ -1,8 +1,0 @@
-use Rattle.std.proofs.Common.{rules}
-use Rattle.fanout_group.specs.Lenses.{lens_of}
-use Rattle.fanout_group.proofs.Agreeing.{judged_alike}
-use Rattle.fanout_group.proofs.judging.ArrivalRules.judge.Goals as goal
-
-pub returns-clause-judged : goal.returns-clause-judged
-returns-clause-judged c = λ group agree.
-    judged_alike c.args.arrival group (lens_of c.args.self.now) agree c.args.self.now.room c.args.ticket _ _ (search rules) (search rules)

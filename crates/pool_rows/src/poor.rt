@@ -1,0 +1,127 @@
+//! The outside fails under a pool: a read, and each call that is out of memory.
+use cpu_feeders::NoGate;
+use frame_view::Memory;
+use run_building::{
+    Capture, Faults, Kept, NO_FAULT, NO_FRAME, NOTHING, Row, Shape, carry_out_on_threads,
+    difference_on_threads,
+};
+use std::alloc::Global;
+use std::sync::Wait;
+use std::test::Fail;
+use std::thread::Threads;
+
+/// A frame of 60 bytes, which needs 144 in a block.
+const SMALL: Shape<'static> = (b"", 60);
+
+/// Two captures of two frames each, of which the second fails at its second read.
+const TWO_CAPTURES: Row<'static> = Row {
+    words: &["capture", "conf"],
+    lines: "cpu b.pcap\nmembers 2\nworkers 3\n",
+    captures: &[
+        Capture {
+            frames: &[SMALL; 2],
+            ..NO_FRAME
+        },
+        Capture {
+            name: "b.pcap",
+            frames: &[SMALL; 2],
+            ..NO_FRAME
+        },
+    ],
+    faults: Faults {
+        file: "b.pcap",
+        piece: 124,
+        reads: &[2],
+        ..NO_FAULT
+    },
+    status: "5 ReadFault",
+    printed: "cpu 0 frames 2 arrivals 2 end ok\n\
+              cpu 1 frames 1 arrivals 1 end fault\n\
+              member 0 packets 2 drops 0 freezes 0 blocks 1\n\
+              member 1 packets 1 drops 0 freezes 0 blocks 1\n\
+              total arrivals 3 filtered 0 kept 3 drops 0\n",
+    cpus: &["k0.k0.", "k1."],
+    given: &[176, 124],
+    members: &[
+        Kept {
+            frames: &[(0, 60), (1, 60)],
+            blocks: &[(1, 336)],
+            notes: "kk.",
+        },
+        Kept {
+            frames: &[(0, 60)],
+            blocks: &[(1, 192)],
+            notes: "k.",
+        },
+    ],
+    ..NOTHING
+};
+
+#[test]
+fn of_two_captures_one_cannot_be_read(rt: HostRuntime) -> Result<(), Fail> {
+    for dump in [false, true] {
+        let row = Row {
+            dump,
+            ..TWO_CAPTURES
+        };
+        let found = difference_on_threads(&rt, rt.alloc(), &row, &NoGate)?;
+        assert_eq!(rt; found.as_str(), "");
+    }
+    Ok(())
+}
+
+/// Three frames of 60 bytes with a dump and a moment: three fetches, two saves and three writes.
+const THREE_FRAMES: Row<'static> = Row {
+    words: &["capture", "conf"],
+    lines: "ticks t.txt\nworkers 1\n",
+    dump: true,
+    ticks: Some("1\n"),
+    captures: &[Capture {
+        frames: &[SMALL; 3],
+        ..NO_FRAME
+    }],
+    ..NOTHING
+};
+
+/// The calls of the store that are out of memory, and the writes.
+static POOR: [(u64, u64); 8] = [
+    (1, 0),
+    (2, 0),
+    (3, 0),
+    (4, 0),
+    (5, 0),
+    (0, 1),
+    (0, 2),
+    (0, 3),
+];
+
+/// Whether the capture ends with status 7, no report and its line where a call of the store or a
+/// write is out of memory.
+fn ends_without_memory<R: Threads + Wait + Sync>(
+    rt: &R,
+    alloc: Global,
+    poor_call: u64,
+    poor_write: u64,
+) -> Result<bool, Memory> {
+    let faults = Faults {
+        poor_call,
+        poor_write,
+        ..NO_FAULT
+    };
+    let row = Row {
+        faults,
+        ..THREE_FRAMES
+    };
+    let (answer, printed, _) = carry_out_on_threads(rt, alloc, &row, &NoGate)?;
+    let ends = printed.as_str().ends_with("out of memory\n");
+    Ok(ends && answer.status.as_str() == "7 Memory" && answer.report.is_empty())
+}
+
+#[test]
+fn a_call_that_is_out_of_memory_ends_the_capture(rt: HostRuntime) -> Result<(), Fail> {
+    for (call, write) in &POOR {
+        let ends = ends_without_memory(&rt, rt.alloc(), *call, *write)?;
+        assert!(rt; ends, "call {call} write {write}");
+    }
+    Ok(())
+}
