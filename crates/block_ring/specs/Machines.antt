@@ -48,7 +48,7 @@ pub record At : Type 0 where
   pub in_hand : ℕ
   pub state : State
 
--- what the calls of a ring leave of what its end tells
+-- what the calls of a ring leave of what its end reports
 pub record KeepsEnd (before after : Feed) : Type 0 where
   pub ring : after.ring ≡ before.ring
   pub freed : after.freed ≡ before.freed

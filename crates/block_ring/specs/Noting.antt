@@ -29,7 +29,7 @@ abbrev pub deadline_after : Size → State → Found → ℕ
 deadline_after size state Free = state.clock + size.tov
 deadline_after size state found = state.deadline
 
--- 1 where a note tells of a block that was still the reader's
+-- 1 where a note reports of a block that was still the reader's
 abbrev pub held_in : Note → ℕ
 held_in (Refused cpu index need number) = 1
 held_in (Dropped cpu index need number) = 1

@@ -160,7 +160,7 @@ impl<E: FeederEnd<Block> + Drop> Machine<E> {
         }
     }
 
-    /// Brings the clock forward to a moment, in milliseconds, and tells what was found where a next block was needed.
+    /// Brings the clock forward to a moment, in milliseconds, and reports what was found where a next block was needed.
     pub(crate) fn tick(&mut self, ms: u64) -> Found
         ghost state: { State }
         requires at { IsAt E.feed 0 state self.old }

@@ -179,7 +179,7 @@ impl<E: FeederEnd<Block> + Drop> Producer<E> {
     }
 }
 
-/// The note of a packet that was put, and what its call tells.
+/// The note of a packet that was put, and what its call reports.
 fn noted_put(offer: Offer, found: Found) -> (Note, Put)
     requires { offer.snap ≤ 1048576 }
     ensures note { result.0 ≡ put_by offer found }
@@ -199,7 +199,7 @@ fn noted_put(offer: Offer, found: Found) -> (Note, Put)
     }
 }
 
-/// The note of a packet that was tried, and what its call tells.
+/// The note of a packet that was tried, and what its call reports.
 fn noted_try(offer: Offer, found: Found) -> (Note, Tried)
     requires { offer.snap ≤ 1048576 }
     ensures note { result.0 ≡ try_by offer found }

@@ -1,4 +1,4 @@
--- What a call answers, where it doesn't want memory.
+-- What a call answers, where it doesn't run out of memory.
 use Rattle.std.specs.Prelude.{◌≡◌, Option, Some, Result, Ok, Err}
 use Rattle.bpf_filter.specs.declared.error.FilterError.{FilterError}
 use Rattle.bpf_filter.specs.declared.error.FilterError.TheVariants.{Memory}

@@ -38,7 +38,7 @@ abbrev pub StandsAs : ℕ → FormatDecoder → List ℕ → Type 0
 StandsAs cpu (Pcap decoder) fed = records.Stands cpu decoder fed
 StandsAs cpu (Pcapng decoder) fed = blocks.Stands cpu decoder fed
 
--- a feed of a decoder that stood for these bytes: it stands for the piece too, and its frames and its damage are told
+-- a feed of a decoder that stood for these bytes: it stands for the piece too, and its frames and its damage are reported
 pub record FeedsAs (old : FormatDecoder) (piece : List ℕ) (damage : Option CaptureError) (new : FormatDecoder) (before after : List Frame) (cpu : ℕ) (fed : List ℕ) : Type 0 where
   pub stands : StandsAs cpu new (fed ++ piece)
   pub frames : (more : List Frame) × (after ≡ before ++ more) × (frames_as (reads_blocks old) cpu (fed ++ piece) ≡ frames_as (reads_blocks old) cpu fed ++ more)

@@ -47,7 +47,7 @@ read_from cpu format next frames bytes = record {
 unfoldable pub stage_at : Format → ℕ → List ℕ → Stage
 stage_at format stop left = if begins_oversized format.order left then Damaged (BadLength stop) else Records format
 
--- the bytes begin no record that can be told: neither a whole one nor an oversized one
+-- the bytes begin no record that can be recognised: neither a whole one nor an oversized one
 pub record IsPart (order : Order) (bytes : List ℕ) : Type 0 where
   pub whole : begins_whole order bytes ≡ false
   pub oversized : begins_oversized order bytes ≡ false

@@ -59,7 +59,7 @@ no_fault : (P : Type 0) (damage : Option CaptureError) → WhereFault (end_by da
 no_fault P None = tt
 no_fault P (Some damage) = tt
 
--- an end that the decoder tells
+-- an end that the decoder reports
 told_end : (P : Type 0) (end : CpuEnd) (damage : Option CaptureError) → end ≡ end_by damage
     → WhereFault end P
 told_end P end damage e = subst (λ (x : CpuEnd). WhereFault x P) (sym e) (no_fault P damage)

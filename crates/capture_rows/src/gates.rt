@@ -19,7 +19,7 @@ fn wait_for(word: &AtomicU64, least: u64) -> bool {
 
 /// A gate by which a feeder and a reader wait for each other. The frame of index i is delivered,
 /// for each i from 2 on, once i - 1 blocks were released; and the first block that was released is
-/// told once the frame of index 2 was to be delivered. So one thread alone can't get through.
+/// reported once the frame of index 2 was to be delivered. So one thread alone can't get through.
 #[derive(Drop)]
 pub(crate) struct TwoSided {
     /// How many frames were to be delivered.
@@ -79,7 +79,7 @@ impl Gate for TwoSided {
     }
 }
 
-/// A gate that tells when the first frame of CPU 0 is delivered. It holds nobody.
+/// A gate that reports when the first frame of CPU 0 is delivered. It holds nobody.
 #[derive(Drop)]
 pub(crate) struct FirstDelivery {
     /// 1 once it was to be delivered.

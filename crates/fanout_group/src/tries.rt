@@ -1,4 +1,4 @@
-//! One try at a desk, told in a list: room for it is asked for first, so that no try is made that
+//! One try at a desk, listed: room for it is asked for first, so that no try is made that
 //! isn't reported.
 ghost use Rattle.std.specs.Prelude.{◌≡◌, ◌<◌, [], ◌∷◌, ◌++◌, length, vec_capacity, vec_len, IfOk, IfSome, OnErr};
 ghost use Rattle.fanout_group.specs.Desks.{TakesTheSame};

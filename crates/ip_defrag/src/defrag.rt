@@ -57,7 +57,7 @@ impl Defrag {
     /// What names a datagram and when it is whole is RFC 791. This project's own choices are that a datagram of
     /// 30 seconds is given up, that at most 64 are held, and what copies, overlaps and ends that contradict each
     /// other do. After `NoPush` the frame is handed back and nothing has changed; a frame that takes no part
-    /// never wants memory.
+    /// never runs out of memory.
     pub fn push(&mut self, frame: Frame) -> Result<Step, NoPush>
         ensures held { OnOk result (self.new ≡ (pass self.old frame).held) }
         ensures whole { IfOk result (λ step. step.whole ≡ (pass self.old frame).whole) }

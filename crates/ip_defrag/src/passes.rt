@@ -1,6 +1,6 @@
 //! A fragment's pass over the datagrams that are held, which stand in the order in which they were opened.
 //!
-//! What wants memory is done first, so that nothing has changed where it is refused.
+//! What allocates is done first, so that nothing has changed where it is refused.
 ghost use Rattle.std.specs.Prelude.{◌≡◌, ◌≤◌, ◌<◌, IfErr, IfOk, HoldsAt, OnErr, OnOk, true, filter, length, vec_capacity, vec_len};
 ghost use Rattle.std.specs.List.{position_from};
 ghost use Rattle.ip_defrag.specs.Fold.{pass};

@@ -48,7 +48,7 @@ own_all lock turns history (seat ∷ seats) all = (
   own_all lock turns history seats all.1,
 )
 
--- what a lock tells at its end
+-- what a lock reports at its end
 pub closed_notes : (lock : Lock) (seats : List Seat) (history : List Note) → lock.first ≡ [] → length seats ≡ lock.seats
     → Ends (may_note lock.base) lock.first seats history → AreClosedNotes lock seats (history ++ Finished ∷ [])
 closed_notes lock seats history fresh all ends =

@@ -17,7 +17,7 @@ const THREE_FRAMES: [u8; 78] = [
     2, 0, 0, 0, 9, 0, 0, 0, 1, 0, 0, 0, 64, 0, 0, 0, 41, // third
 ];
 
-/// The front of the capture, in a source that gives so many bytes at a time and fails at these
+/// The start of the capture, in a source that gives so many bytes at a time and fails at these
 /// reads.
 fn source_of(
     alloc: Global,

@@ -8,7 +8,7 @@ use crate::heads::{Head, Look, look_at};
 use crate::interfaces::Interface;
 use crate::{BlockError, Order};
 
-/// What bytes begin with, as far as it can be told.
+/// What bytes begin with, as far as it is clear.
 #[derive(Clone, Copy)]
 pub(crate) enum Front {
     /// A part of a block that fails no test yet, or nothing.

@@ -1,4 +1,4 @@
-//! Blocks read from bytes, in one pass. The front block of a feed is completed in the kept bytes, those after it are
+//! Blocks read from bytes, in one pass. The first block of a feed is completed in the kept bytes, those after it are
 //! read where they lie, and of what is left only as much is kept as its block needs: of one that is skipped, the tail.
 ghost use Rattle.std.specs.Prelude.{◌≡◌, ◌+◌, ◌*◌, ◌-◌, ◌≤◌, ◌<◌, ℕ, List, ⊤, [], ◌++◌, false, true, length, take, drop, Some, IfOk, OnOk, OnErr, IfSome, MatchOption, MatchResult};
 ghost use Rattle.pcapng_blocks.specs.Heads.{look_at, is_skipped, IsHead};

@@ -10,7 +10,7 @@ const TURNS: u64 = 100_000_000;
 
 /// A gate by which a feeder, a reader and a worker wait for each other. The frame of index i is
 /// delivered, for each i from 2 on, once i - 1 blocks were released; and that of index 2 only once a
-/// worker was to decode block 1. The first block that was released is told once the frame of index
+/// worker was to decode block 1. The first block that was released is reported once the frame of index
 /// 2 was to be delivered. So one thread alone can't get through, nor one that decodes at the end.
 #[derive(Drop)]
 pub(crate) struct ThreeSided {

@@ -56,7 +56,7 @@ pub record Reads (took : List ℕ → Type 0) (before after : ReaderValue) : Typ
   pub comes : ComesFrom before.held took content
   pub read : after ≡ has_read content before
 
--- a step that wants memory keeps its block
+-- a step that runs out of memory keeps its block
 pub record Keeps (took : List ℕ → Type 0) (before after : ReaderValue) : Type 0 where
   pub content : List ℕ
   pub comes : ComesFrom before.held took content

@@ -1,7 +1,7 @@
 //! A reader: it takes each retired block of a ring, copies its packets, and gives the block back.
 //!
 //! A step looks once at the next block. Where the block was retired the reader takes it, walks over its packets, and
-//! releases it with the word of a free block (TP_STATUS_KERNEL, 0). Where it wants memory in between it keeps the
+//! releases it with the word of a free block (TP_STATUS_KERNEL, 0). Out of memory in between it keeps the
 //! block, and the next step goes on with it: no packet is lost and none is read twice.
 ghost use Rattle.std.specs.Prelude.{◌≡◌, ◌<◌, ◌≤◌, ◌^◌, ℕ, List, Bool, true, false, None, Some, length, is_some, IfNone, IfOk, IfSome, IsTrue, OnErr, OnOk};
 ghost use Rattle.ring_words.specs.Counts.{Rose};

@@ -15,12 +15,12 @@ abbrev pub found_by : Option ℕ → Found
 found_by None = Free
 found_by (Some number) = Held number
 
--- what a put tells of its note
+-- what a put reports of its note
 abbrev pub put_told : Note → Put
 put_told (notes.Dropped cpu index need number) = Dropped number
 put_told note = Kept
 
--- what a try tells of its note
+-- what a try reports of its note
 abbrev pub try_told : Offer → Note → Tried
 try_told offer (notes.Refused cpu index need number) = tries.Refused offer
 try_told offer note = tries.Kept

@@ -55,7 +55,7 @@ pub(crate) fn offer(alloc: Global, index: u32) -> Result<Offer, Memory>
     })
 }
 
-/// Puts a frame into a ring that has reserved room for a note: it doesn't want memory.
+/// Puts a frame into a ring that has reserved room for a note: it allocates nothing.
 fn put_reserved(ring: &mut Ring, offer: Offer) -> Put
     requires room { 82 + offer.snap ≤ room_of ring.old.shape }
     requires sound { IsWritable offer }

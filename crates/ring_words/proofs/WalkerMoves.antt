@@ -141,7 +141,7 @@ module _ {B : Type 0} (bytes kind_of : B → List ℕ) (ready : B → ℕ → �
             };
       }
 
-  -- a block that was retired and not taken: what the look at its word tells, and what is left of it
+  -- a block that was retired and not taken: what the look at its word shows, and what is left of it
   pub record Next (s : State (Option B) Known) (r : Ring s) (id : ℕ) (me : Holder B) : Type 0 where
     pub entry : Entry
     pub at : get_elem? r.course.log r.course.taken ≡ some entry

@@ -58,7 +58,7 @@ fresh count common words = record {
 abbrev pub has_block : PlainState → Bool
 has_block state = nat_lt state.released state.taken
 
--- what the ring tells as an end of the feeder's side: it stands for the blocks that weren't taken
+-- what the ring reports as an end of the feeder's side: it stands for the blocks that weren't taken
 abbrev pub feed_of : PlainState → Feed
 feed_of state = record {
   ring = ring_of state;

@@ -1,4 +1,4 @@
--- What each step on the table of a ring tells the end that makes it.
+-- What each step on the table of a ring shows the end that makes it.
 use Rattle.std.specs.Prelude.{◌≡◌, ℕ, ◌+◌, ◌/◌, ◌%◌, ◌^◌, ◌<◌, ◌≤◌, List, [], ◌∷◌, ◌++◌, length, take, Option, Some, None}
 use Rattle.atomic_table.specs.Table.{Me, Step, rest}
 use Rattle.ring_words.specs.Rings.{Entry, IsMark, IsStatus}

@@ -27,7 +27,7 @@ pub record IsStatus (status : ℕ) : Type 0 where
   pub odd : status % 2 ≡ 1
   pub small : status < 256
 
--- what an end of the feeder's side tells
+-- what an end of the feeder's side reports
 pub record Feed : Type 0 where
   -- the ring that it is an end of
   pub ring : Ring
@@ -57,7 +57,7 @@ pub record LeavesFeeder (before after : Feed) : Type 0 where
   pub holds : after.holds ≡ before.holds
   pub stands : (all : List Entry) → StandsFor before all → StandsFor after all
 
--- what an end of the reader's side tells
+-- what an end of the reader's side reports
 pub record Walk : Type 0 where
   -- the ring that it is an end of
   pub ring : Ring

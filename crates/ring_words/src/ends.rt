@@ -25,7 +25,7 @@ pub enum Next<B> {
 
 /// The feeder's end of a ring.
 pub trait FeederEnd<B: Content> {
-    // What the end tells of its ring, of the blocks that it was given and retired, and of what it stands for.
+    // What the end reports of its ring, of the blocks that it was given and retired, and of what it stands for.
     ghost feed: { Self → Feed };
 
     // A look between the two states, the earlier one first, found this mark as the word of the next place.
@@ -76,7 +76,7 @@ pub trait FeederEnd<B: Content> {
 
 /// The reader's end of a ring.
 pub trait WalkerEnd<B: Content> {
-    // What the end tells of its ring and of the blocks that it took.
+    // What the end reports of its ring and of the blocks that it took.
     ghost walk: { Self → Walk };
 
     // A block of this content was taken between the two states, the earlier one first.

@@ -1,4 +1,4 @@
-//! The table of a ring between two threads: its rule, and what each of its steps tells.
+//! The table of a ring between two threads: its rule, and what each of its steps shows.
 ghost use Rattle.ring_words.specs.Knowing.{all_known};
 ghost use Rattle.ring_words.specs.Plays.{Compares, Drains, Fetches, Frees, Looks, Stores};
 ghost use Rattle.ring_words.specs.Tables.{IsRing};

@@ -40,7 +40,7 @@ impl Model for MemSink {
 
 impl MemSink {
     /// A sink without a byte. The writes fail whose numbers, counted from 1, stand in `failing`; a
-    /// write that wants memory isn't counted. It takes no memory.
+    /// write that runs out of memory isn't counted. It takes no memory.
     pub fn new(alloc: Global, failing: MomentList) -> MemSink
         ensures fresh { result ≡ fresh_sink failing }
         ensures seen { ⟦<MemSink as Sink>⟧.seen result ≡ record { written = Some []; faults = 0 } }
@@ -68,7 +68,7 @@ impl Sink for MemSink {
         requires { 0 < length from.now }
 
         // A write fails exactly where its number stands among those that are to fail. Else it takes
-        // the whole piece, or wants memory.
+        // the whole piece, or runs out of memory.
         ensures fails { IsErrOf result OutError.Failed ↔
             Contains self.old.failing (counted self.old.writes) }
         ensures whole { IfOk result (λ n. n ≡ length from.now) }

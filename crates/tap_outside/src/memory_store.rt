@@ -58,7 +58,7 @@ impl Model for MemStore {
 
 impl MemStore {
     /// A store without a file. The fetches and the saves fail whose numbers, each counted from 1,
-    /// stand in the two lists; a call that wants memory isn't counted. It takes no memory.
+    /// stand in the two lists; one that runs out of memory isn't counted. It takes no memory.
     pub fn new(alloc: Global, failing_fetches: MomentList, failing_saves: MomentList) -> MemStore
         ensures fresh { result ≡ fresh_store failing_fetches failing_saves }
         ensures seen { ⟦<MemStore as Store>⟧.seen result ≡ meant_store (Some (λ name. None)) 0 0 }

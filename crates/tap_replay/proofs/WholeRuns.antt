@@ -234,7 +234,7 @@ module _ (job : Job) (lines : List Line) (firsts : List (Option SourceSeen)) (st
     report_is = report_is shape asked nows report shape_is asked_is e;
   }
 
-  -- what the closing tells
+  -- what the closing reports
   pub told : Reports → {A E : Type 0} (result : Result A E) (nows : A → List (Option SourceSeen)) (report : A → RunReport) (shape : RingRequest) (asked : Bool)
       → job.setup.shape ≡ shape → job.setup.dump ≡ asked → IfOk result (λ ran. Finishes shape asked final (nows ran) (report ran))
       → IfOk result (λ ran. IsReplayed job lines firsts (nows ran) (report ran))

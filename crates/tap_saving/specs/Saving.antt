@@ -7,7 +7,7 @@ use Rattle.tap_saving.specs.Files.{File}
 
 -- ---- what a name holds
 
--- it holds its file's bytes, where the store told before what it holds
+-- it holds its file's bytes, where the store reported before what it holds
 abbrev pub HoldsNow : Option Contents → Option Contents → File → Type 0
 HoldsNow None after file = ⊤
 HoldsNow (Some before) after file = HoldsFile after file.name file.bytes

@@ -1,4 +1,4 @@
--- What each step tells the seat that made it.
+-- What each step shows the seat that made it.
 use Rattle.std.specs.Prelude.{◌≡◌, ℕ, ◌+◌, ◌<◌, ◌≤◌, ◌^◌}
 use Rattle.atomic_table.specs.Table.{Me, Step}
 use Rattle.ticket_dealer.specs.declared.knowledge.Hand.{Hand}

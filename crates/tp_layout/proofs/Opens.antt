@@ -146,7 +146,7 @@ held shape number at packets packet bytes is_open here lawful =
 four : (a b c d : List ℕ) → (a ++ b) ++ (c ++ d) ≡ a ++ ((b ++ c) ++ d)
 four a b c d = simp append_assoc refl
 
--- the text of a packet that tells of no next one
+-- the text of a packet that says that there is no next one
 next_cut : (next : ℕ) (packet : Packet) (rest : List ℕ) → little_bytes 4 0 ++ drop 4 (packet_text next packet ++ rest) ≡ packet_text 0 packet ++ rest
 unfolding packet_text packet_rows bytes_of
 next_cut next packet rest = refl

@@ -58,7 +58,7 @@ unfoldable pub descriptor_text : RingRequest → Descriptor → List ℕ
 descriptor_text shape desc =
     bytes_of (head_rows (end_may shape) shape desc) ++ (bytes_of (time_rows desc) ++ bytes_of (private_rows shape))
 
--- packets one after another; each but the last tells where the next one stands
+-- packets one after another; each but the last says where the next one stands
 unfoldable pub packets_text : List Packet → List ℕ
 packets_text [] = []
 packets_text (packet ∷ []) = packet_text 0 packet

@@ -11,7 +11,7 @@ abbrev pub IsTextOf : RingRequest → List ℕ → List Packet → Type 0
 IsTextOf shape text packets =
     (number : ℕ) × (status : ℕ) × IsLawful shape number status packets × (text ≡ block_text shape number status packets)
 
--- the fault that an answer tells, if it reports one
+-- the fault that an answer reports, if it reports one
 abbrev pub told : {X : Type 0} → Result X LayoutError → Option LayoutError
 told (Ok x) = None
 told (Err fault) = Some fault

@@ -1,4 +1,4 @@
--- How a block is filled: an open block, each packet of which tells where the next one is to stand, is closed at the end.
+-- How a block is filled: an open block, each packet of which says where the next one is to stand, is closed at the end.
 use Rattle.std.specs.Prelude.{◌≡◌, ℕ, ◌+◌, ◌^◌, ◌<◌, ◌≤◌, IfSome, IsTrue, List, [], ◌∷◌, ◌++◌, length, take, drop, replicate}
 use Rattle.std.specs.List.{AllByRecursion, flat_map}
 use Rattle.byteorder.specs.Endian.{little_bytes}
@@ -60,7 +60,7 @@ empty_descriptor shape number = record {
 unfoldable pub open_header : RingRequest → ℕ → List ℕ
 open_header shape number = descriptor_text shape (empty_descriptor shape number)
 
--- the packets of an open block: each tells where the next one is to stand
+-- the packets of an open block: each says where the next one is to stand
 unfoldable pub open_packets : List Packet → List ℕ
 open_packets packets = flat_map (λ packet. packet_text (need_of_packet packet) packet) packets
 

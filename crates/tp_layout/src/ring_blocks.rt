@@ -80,7 +80,7 @@ impl Block {
         put_packet(self.bytes.as_mut_slice(), at as usize, offer, fill);
     }
 
-    /// Writes the fields of the descriptor that the end of a block tells, and that no packet follows the last one.
+    /// Writes the fields of the descriptor that the end of a block says, and that no packet follows the last one.
     pub(crate) fn put_closing(&mut self, closing: &Closing)
         requires behind { 48 ≤ closing.now.last_at }
         requires fits { closing.now.last_at + 4 ≤ self.old.shape.block_size }

@@ -42,7 +42,7 @@ pub struct Knows<E, B> {
     pub seen: LinkedList<E>,
 }
 
-/// What the table is told once.
+/// What the table is given once.
 #[derive(Drop)]
 pub struct Opening<V> {
     /// The first value.

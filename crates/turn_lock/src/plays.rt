@@ -1,4 +1,4 @@
-//! The rule of a lock's table, and what each step tells. These types are for the proofs alone.
+//! The rule of a lock's table, and what each step shows. These types are for the proofs alone.
 ghost use Rattle.turn_lock.specs.SeatKnowledge.{opening, maker, newcomer, joined, spent};
 ghost use Rattle.turn_lock.specs.Steps.{Drew, Looked, Left};
 ghost use Rattle.turn_lock.specs.Turns.{Turns};

@@ -15,7 +15,7 @@ use Rattle.tx_ring.specs.declared.error.SendError.TheVariants.{BadSlot, Memory}
 use Rattle.tx_ring.specs.declared.transmitting.Transmitter.{Transmitter}
 use Rattle.tx_ring.proofs.Splits.{after_good, bad_in_good, left_bad, left_in, left_is, over_by, over_split, sent_by, sent_split, stops_by, stops_split}
 
--- a send that tells a bad slot skipped none
+-- a send that reports a bad slot skipped none
 none_over_by : (ring : TxState) (slot : ℕ) (skip : Bool) → ring.skip_bad ≡ skip → Err (BadSlot slot) ≡ send_answer ring
     → bad_in (room_of ring.shape) (taken_by ring) ≡ 0
 none_over_by ring slot true skips told =

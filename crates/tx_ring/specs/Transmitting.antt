@@ -87,7 +87,7 @@ with_room run = if length run.ring.requests == run.ring.shape.frame_nr then sent
 abbrev pub with_frame : Transmitter → Frame → Transmitter
 with_frame run frame = if is_runt frame then run else placed_in (with_room run) frame.bytes
 
--- what a run tells of the frames that it was given
+-- what a run reports of the frames that it was given
 abbrev pub told_of : Transmitter → List Frame → Transmitted
 told_of run frames = record {
   packets = run.packets;

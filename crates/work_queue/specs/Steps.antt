@@ -1,4 +1,4 @@
--- What each step tells the pass that made it.
+-- What each step shows the pass that made it.
 use Rattle.std.specs.Prelude.{◌≡◌, ℕ, List, [], ◌∷◌, ◌++◌}
 use Rattle.std.specs.List.{AllByRecursion}
 use Rattle.work_queue.specs.Histories.{History, Place}

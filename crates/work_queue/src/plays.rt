@@ -1,4 +1,4 @@
-//! The rule of a queue of works, and what each step tells. These types are for the proofs alone.
+//! The rule of a queue of works, and what each step shows. These types are for the proofs alone.
 ghost use Rattle.std.specs.Prelude.{⊤};
 ghost use Rattle.work_queue.specs.Happened.{Happened};
 ghost use Rattle.work_queue.specs.Logs.{first_of, gathered, grown, opening, rest_of, spent};
