@@ -1,5 +1,5 @@
 -- What the table keeps is the dealing.
-use Rattle.std.proofs.Common.{◌≡◌, ◌≢◌, ℕ, zero, suc, ◌+◌, ◌<◌, List, [], ◌∷◌, length, refl, ap, ◌∙◌, sym, arith}
+use Rattle.std.proofs.Common.{◌≡◌, ◌≢◌, ℕ, zero, suc, List, [], ◌∷◌, refl, ap, ◌∙◌, sym, arith}
 use mathlib.Core.Logic.{dite}
 use mathlib.Core.Option.{some, some-injective}
 use native.Mathlib.Decide.{ℕ_discrete}
@@ -9,7 +9,7 @@ use Rattle.ticket_dealer.specs.declared.knowledge.Hand.{Hand}
 use Rattle.ticket_dealer.specs.Hands.{total}
 use Rattle.ticket_dealer.specs.Tickets.{times}
 use Rattle.ticket_dealer.specs.Dealt.{Dealt}
-use Rattle.ticket_dealer.specs.Deals.{IsDealing, IsDrawnOnce}
+use Rattle.ticket_dealer.specs.Deals.{IsDealing}
 use Rattle.ticket_dealer.proofs.Lists.{below_yes}
 use Rattle.ticket_dealer.proofs.Totals.{total_above}
 
@@ -69,5 +69,6 @@ dealing feeders s r = record {
   none_else = λ j v at. (r.each_hand j v at).below;
   number = r.sum;
   rising = λ j v at one. (r.each_hand j v at).rises one;
+  seats = r.shares;
   live = (let calls = r.calls in omega (arith, calls));
 }

@@ -17,7 +17,7 @@ pub record IsDrawnOnce (views : List Hand) (ticket : ℕ) : Type 0 where
       times ticket other.drawn ≡ 0
 
 -- Word 0 is the number of tickets drawn, word 1 the number of live feeders. A seat that was joined with others has
--- their tickets after one another
+-- their tickets after one another, and stands for as many seats of the dealer as they did together
 pub record IsDealing (feeders : ℕ) (table : State (Unit {0}) Hand) : Type 0 where
   -- each number below word 0 was drawn once, by one seat, and no others were drawn
   pub each : (ticket : ℕ) → ticket < slice_index table.words 0 → IsDrawnOnce table.views ticket
@@ -25,5 +25,7 @@ pub record IsDealing (feeders : ℕ) (table : State (Unit {0}) Hand) : Type 0 wh
   pub number : total (λ v. length v.drawn) table.views ≡ slice_index table.words 0
   -- the tickets of a seat that wasn't joined rise
   pub rising : (j : ℕ) (v : Hand) → get_elem? table.views j ≡ some v → v.shares ≡ 1 → Rises 0 v.drawn
+  -- each of the dealer's seats, one for each feeder and nine more, counts once
+  pub seats : total (λ v. v.shares) table.views ≡ feeders + 9
   -- word 1 and all calls of `done` are the number of feeders
   pub live : slice_index table.words 1 + total (λ v. v.ended) table.views ≡ feeders

@@ -1,6 +1,7 @@
 mod Totals
 pub mod Lists
 mod Histories
+mod PlacesApart
 mod TicketDraws
 mod TicketLooks
 mod TurnEnds

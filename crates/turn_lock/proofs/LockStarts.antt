@@ -16,6 +16,7 @@ use Rattle.turn_lock.specs.SeatKnowledge.{IsBusy, parts_of, drawn_of, fresh_plac
 use Rattle.turn_lock.specs.Turns.{StageOk, PlaceOk, Turns}
 use Rattle.turn_lock.proofs.Totals.{total_set, total_more, at_below, at_more, only_item}
 use Rattle.turn_lock.proofs.Lists.{times_none}
+use Rattle.turn_lock.proofs.PlacesApart.{apart_one, apart_set, apart_more}
 use Rattle.turn_lock.proofs.Histories.{chosen, passed, place_moves, place_lies}
 
 module _ {E B : Type 0} {b : B} {f : List E} {owners : List ℕ} {added : List (List E)} {seat_of : ℕ → ℕ} {made j : ℕ} where
@@ -90,6 +91,7 @@ module _ {V E B : Type 0} (stored : V → List E) (base : V → B) (may_add : B 
         (λ is. let w = opening b f n in let fresh = only_item w.places (fresh_place 0 f) p k refl is in
         subst (λ (z : Place E). PlaceOk b f [] [] (λ _. 0) 1 j w z) fresh (fresh_ok w 0 0 refl refl refl last.0 (omega arith) (λ i mine. some-ne-none 0 (sym mine)))) here)
         (at_more [] (opening b f n) v j at);
+    each_apart = apart_more [] (opening b f n) (λ j v at. absurd (some-ne-none v (sym at))) (apart_one ((opening b f n).places) (fresh_place 0 f) refl);
     each_stage = λ j v at. subst (λ (z : Knows E B). StageOk [] [] (f ++ []) z z.stage) (only_item (opening b f n ∷ []) (opening b f n) v j refl at) tt;
     each_maker = λ j v at spare. ⊎_elim (λ nothing. absurd (some-ne-none v (sym nothing)))
         (λ last. subst (λ (z : Knows E B). 0 < z.spare → (j ≡ 0) × (z.next ≡ 1) × (1 + z.spare ≡ n)) last.1 (λ more. (last.0, refl, omega (arith, some_seat))) spare)
@@ -134,6 +136,7 @@ module _ {V E B : Type 0} (stored : V → List E) (base : V → B) (may_add : B 
             subst (λ (z : Place E). PlaceOk b f r.owners r.added seats (made + 1) j u z) fresh
             (fresh_ok u v.next (length views) ok.base_is ok.first_is (chosen v.next made (length views) (r.seat_of v.next) next) last.0 (let g : v.next < made + 1 = omega (arith, next) in g) never)) here)
             (at_more views u t j to);
+        each_apart = apart_more views u (apart_set s.views id w r.each_apart (apart_one w.places p one)) (apart_one u.places (fresh_place v.next v.first) refl);
         each_stage = λ j t to. ⊎_elim
             (λ among. ⊎_elim
             (λ same. subst (λ (z : Knows E B). StageOk r.owners r.added (f ++ all_added r.added) z z.stage) same.1 (stage_makes r.owners r.added (f ++ all_added r.added) v v.stage (r.each_stage id v at)))

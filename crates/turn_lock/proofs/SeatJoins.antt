@@ -12,6 +12,7 @@ use Rattle.turn_lock.specs.Histories.{all_added}
 use Rattle.turn_lock.specs.SeatKnowledge.{IsBusy, parts_of, drawn_of, total, joined, spent}
 use Rattle.turn_lock.specs.Turns.{StageOk, PlaceOk, Turns}
 use Rattle.turn_lock.proofs.Totals.{total_set, at_both, drawn_join}
+use Rattle.turn_lock.proofs.PlacesApart.{apart_none, apart_join, apart_set}
 use Rattle.turn_lock.proofs.Histories.{chosen, passed, idle_not_busy, inside_busy, place_moves, place_lies}
 
 module _ {V E B : Type 0} (stored : V → List E) (base : V → B) (may_add : B → ℕ → E → Bool) (b : B) (f : List E) (n : ℕ) where
@@ -53,11 +54,15 @@ module _ {V E B : Type 0} (stored : V → List E) (base : V → B) (may_add : B 
             (λ same. let nothing : get_elem? [] k ≡ some q = subst (λ (z : Knows E B). get_elem? z.places k ≡ some q) (sym same.1) there in absurd (some-ne-none q (sym nothing)))
             (λ among. ⊎_elim
             (λ same. subst (λ (z : Knows E B). get_elem? z.places k ≡ some q → PlaceOk b f r.owners r.added seats r.made j z q) same.1
-            (λ is. subst (λ (z : ℕ). PlaceOk b f r.owners r.added seats r.made z both q) (sym same.0) (⊎_elim (λ theirs. yours k q theirs) (λ own_one. mine own_one.0 q own_one.1) (at_both w.places v.places k q is))) there)
+            (λ is. subst (λ (z : ℕ). PlaceOk b f r.owners r.added seats r.made z both q) (sym same.0) (⊎_elim (λ theirs. yours k q theirs) (λ own_one. mine own_one.0 q own_one.2) (at_both w.places v.places k q is))) there)
             (λ else. let was = r.each_place j k t q else.1 there in
             place_lies seats r.made j was (passed (r.seat_of q.number) other id (r.seat_of q.number) (λ e. among.0 (sym was.lies ∙ e)) ∙ was.lies) (le_refl r.made))
             (at_set s.views id j both t among.1))
             (at_set mid other j spent t here);
+        each_apart = apart_set mid other spent
+            (apart_set s.views id both r.each_apart (apart_join w.places v.places (r.each_apart other w old) (r.each_apart id v at)
+            (λ k l q u here there same. apart (sym (r.each_place other k w q old here).lies ∙ ap r.seat_of same ∙ (r.each_place id l v u at there).lies))))
+            (apart_none [] refl);
         each_stage = λ j t here. ⊎_elim
             (λ same. subst (λ (z : Knows E B). StageOk r.owners r.added (f ++ all_added r.added) z z.stage) same.1 tt)
             (λ among. ⊎_elim

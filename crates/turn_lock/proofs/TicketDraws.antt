@@ -14,6 +14,7 @@ use Rattle.turn_lock.specs.Turns.{StageOk, PlaceOk, Turns}
 use Rattle.turn_lock.specs.Steps.{Drew}
 use Rattle.turn_lock.proofs.Totals.{total_set, at_below, at_more, only_item}
 use Rattle.turn_lock.proofs.Lists.{times_more, times_same, times_else}
+use Rattle.turn_lock.proofs.PlacesApart.{apart_one, apart_set}
 use Rattle.turn_lock.proofs.Histories.{idle_not_busy, inside_busy, tickets_below}
 
 module _ {E B : Type 0} {b : B} {f : List E} {owners : List ℕ} {added : List (List E)} {seat_of : ℕ → ℕ} {made j : ℕ} {v : Knows E B} where
@@ -96,6 +97,7 @@ module _ {V E B : Type 0} (stored : V → List E) (base : V → B) (may_add : B 
             (subst (λ (z : ℕ). PlaceOk b f more r.added r.seat_of r.made z w (record p { drawn = p.drawn + 1 })) (sym same.0) (place_draws behind idle few ok))))
             (λ other. let old = r.each_place j k u q other.1 here in place_else p.number behind (λ e. other.0 (sym old.lies ∙ ap r.seat_of (sym e) ∙ ok.lies)) old)
             (at_set s.views id j w u to);
+        each_apart = apart_set s.views id w r.each_apart (apart_one w.places (record p { drawn = p.drawn + 1 }) places);
         each_stage = λ j u to. ⊎_elim
             (λ same. subst (λ (z : Knows E B). StageOk more r.added (f ++ all_added r.added) z z.stage) same.1 ((record p { drawn = p.drawn + 1 }, places, at_last r.owners p.number (length r.owners) refl), behind))
             (λ other. stage_else r.owners r.added (f ++ all_added r.added) u p.number u.stage (r.each_stage j u other.1))

@@ -16,6 +16,7 @@ use Rattle.turn_lock.specs.SeatKnowledge.{IsBusy, parts_of, drawn_of, entered}
 use Rattle.turn_lock.specs.Turns.{HasTicket, StageOk, PlaceOk, Turns}
 use Rattle.turn_lock.specs.Steps.{Looked}
 use Rattle.turn_lock.proofs.Totals.{total_set, at_below}
+use Rattle.turn_lock.proofs.PlacesApart.{apart_set}
 use Rattle.turn_lock.proofs.Histories.{words_again, place_moves, history_few, history_goes_on, one_holder}
 
 module _ {V E B : Type 0} (stored : V → List E) (base : V → B) (may_add : B → ℕ → E → Bool) (b : B) (f : List E) (n : ℕ) where
@@ -66,6 +67,7 @@ module _ {V E B : Type 0} (stored : V → List E) (base : V → B) (may_add : B 
             (λ mine_there. subst (λ (z : ℕ). PlaceOk b f r.owners r.added r.seat_of r.made z w q) (sym same.0) (place_moves (r.each_place id k v q at mine_there) refl refl busy_v)) there)
             (λ other. r.each_place j k u q other.1 there)
             (at_set s.views id j w u to);
+        each_apart = apart_set s.views id w r.each_apart (r.each_apart id v at);
         each_stage = λ j u to. ⊎_elim
             (λ same. subst (λ (z : Knows E B). StageOk r.owners r.added (f ++ all_added r.added) z z.stage) same.1 (mine.0, served, is))
             (λ other. r.each_stage j u other.1)

@@ -49,10 +49,10 @@ module _ {E : Type 0} where
 
 module _ {A : Type 0} where
   -- an item of two lists is one of the first, or one of the second
-  pub at_both : (xs ys : List A) (k : ℕ) (a : A) → get_elem? (xs ++ ys) k ≡ some a → (get_elem? xs k ≡ some a) ⊎ ((i : ℕ) × (get_elem? ys i ≡ some a))
-  at_both [] ys k a at = inr (k, at)
+  pub at_both : (xs ys : List A) (k : ℕ) (a : A) → get_elem? (xs ++ ys) k ≡ some a → (get_elem? xs k ≡ some a) ⊎ ((i : ℕ) × (k ≡ length xs + i) × (get_elem? ys i ≡ some a))
+  at_both [] ys k a at = inr (k, (omega arith), at)
   at_both (x ∷ xs) ys zero a at = inl at
-  at_both (x ∷ xs) ys (suc k) a at = at_both xs ys k a at
+  at_both (x ∷ xs) ys (suc k) a at = elim (at_both xs ys k a at) [ inl h ↦ inl h | inr h ↦ inr (h.0, (let at = h.1 in omega (arith, at)), h.2) ]
 
   -- a place that has an item is below the length
   pub at_below : (xs : List A) (k : ℕ) (a : A) → get_elem? xs k ≡ some a → k < length xs

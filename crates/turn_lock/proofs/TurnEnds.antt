@@ -15,6 +15,7 @@ use Rattle.turn_lock.specs.Turns.{StageOk, PlaceOk, Turns}
 use Rattle.turn_lock.specs.Steps.{Left}
 use Rattle.turn_lock.proofs.Totals.{total_set, at_below, at_more, only_item}
 use Rattle.turn_lock.proofs.Lists.{added_more, take_more}
+use Rattle.turn_lock.proofs.PlacesApart.{apart_one, apart_set}
 use Rattle.turn_lock.proofs.Histories.{set_only, two_same}
 use Rattle.turn_lock.proofs.TicketLooks.{inside_with}
 
@@ -122,6 +123,7 @@ module _ {V E B : Type 0} (stored : V → List E) (base : V → B) (may_add : B 
             (subst (λ (z : ℕ). PlaceOk b f r.owners more r.seat_of r.made z w p') (sym same_seat.0) (place_leaves entries (stored x) whose served all ok))))
             (λ other. place_waits p.number entries whose (number_else j k u q other.0 other.1 here) (r.each_place j k u q other.1 here))
             (at_set s.views id j w u to);
+        each_apart = apart_set s.views id w r.each_apart (apart_one w.places p' places);
         each_stage = λ j u to. ⊎_elim
             (λ same_seat. subst (λ (z : Knows E B). StageOk r.owners more (f ++ all_added more) z z.stage) same_seat.1 tt)
             (λ other. stage_waits r.owners r.added (f ++ all_added r.added) (f ++ all_added more) u p.number entries whose (λ q only. number_else j 0 u q other.0 other.1 (ap (λ (z : List (Place E)). get_elem? z 0) only)) u.stage (r.each_stage j u other.1))

@@ -22,9 +22,13 @@ pub record IsLast {E : Type 0} (may_add : ℕ → E → Bool) (first : List E) (
   pub goes_on : GoesOn may_add number last (first ++ all_added added)
 
 module _ {E B : Type 0} where
+  -- the seat j of the table stands at its place k for this seat of the lock
+  abbrev pub StandsAt : List (Knows E B) → ℕ → ℕ → Knows E B → Place E → Type 0
+  StandsAt views j k v place = (get_elem? views j ≡ some v) × (get_elem? v.places k ≡ some place)
+
   -- the seat j of the table stands for this seat of the lock
   abbrev pub StandsFor : List (Knows E B) → ℕ → Knows E B → Place E → Type 0
-  StandsFor views j v place = (get_elem? views j ≡ some v) × ((k : ℕ) × (get_elem? v.places k ≡ some place))
+  StandsFor views j v place = (k : ℕ) × StandsAt views j k v place
 
   -- the seat j of the table is in its turn
   abbrev pub IsInside : List (Knows E B) → ℕ → Knows E B → Type 0
@@ -54,9 +58,11 @@ module _ {V E B : Type 0} (stored : V → List E) (base : V → B) (may_add : B 
     -- each ticket belongs to one of the seats, which together have them all, and each has few
     pub owned : (i number : ℕ) → get_elem? owners i ≡ some number → number < n
     pub sum : total drawn_of table.views ≡ length owners
-    -- each ticket's seat is one: no two seats of the table stand for a seat of the same number
-    pub one_seat : (i j : ℕ) (v w : Knows E B) (here there : Place E) → StandsFor table.views i v here
-        → StandsFor table.views j w there → here.number ≡ there.number → i ≡ j
+    -- each ticket's seat is one: a number stands at one place of one seat of the table. A seat of the table that
+    -- was joined with others has a place for each seat of the lock that was joined into it
+    pub stands_once : (i j k l : ℕ) (v w : Knows E B) (here there : Place E) →
+        StandsAt table.views i k v here → StandsAt table.views j l w there →
+        here.number ≡ there.number → (i ≡ j) × (k ≡ l)
     pub each_drew : (j : ℕ) (v : Knows E B) (place : Place E) → StandsFor table.views j v place →
         (place.drawn ≡ times place.number owners) × (place.drawn ≤ 2 ^ 32)
     -- a turn that has ended added one entry at most, which its seat may add

@@ -25,6 +25,12 @@ module _ {E B : Type 0} (owners : List ℕ) (added : List (List E)) (history : L
   StageOk Waits = HasTicket × (length added ≤ v.ticket)
   StageOk Inside = HasTicket × (v.ticket ≡ length added) × (v.seen ≡ history)
 
+module _ {E : Type 0} where
+  -- no two of the places are those of one seat
+  abbrev pub AreApart : List (Place E) → Type 0
+  AreApart places = (k l : ℕ) (p q : Place E) → get_elem? places k ≡ some p →
+      get_elem? places l ≡ some q → p.number ≡ q.number → k ≡ l
+
 -- A seat of the lock, of which the seat j of the table knows v: it has few tickets, at most one of which isn't
 -- served to its end, and `last` has what the turns added up to its latest one
 pub record PlaceOk {E B : Type 0} (base : B) (first : List E) (owners : List ℕ)
@@ -76,6 +82,7 @@ module _ {V E B : Type 0} (stored : V → List E) (base : V → B) (may_add : B 
         (j : ℕ) × (v : Knows E B) × (get_elem? s.views j ≡ some v) × IsBusy v.stage × (v.ticket ≡ i)
     pub each_place : (j k : ℕ) (v : Knows E B) (place : Place E) → get_elem? s.views j ≡ some v →
         get_elem? v.places k ≡ some place → PlaceOk b f owners added seat_of made j v place
+    pub each_apart : (j : ℕ) (v : Knows E B) → get_elem? s.views j ≡ some v → AreApart v.places
     pub each_stage : (j : ℕ) (v : Knows E B) → get_elem? s.views j ≡ some v →
         StageOk owners added (f ++ all_added added) v v.stage
     pub each_maker : (j : ℕ) (v : Knows E B) → get_elem? s.views j ≡ some v → 0 < v.spare →

@@ -1,0 +1,53 @@
+-- Each seat of the lock has one place: no two places of a seat of the table are those of one seat.
+use Rattle.std.proofs.Common.{◌≡◌, ◌≢◌, ℕ, zero, suc, ◌+◌, List, [], ◌∷◌, ◌++◌, length, set, sym, ap, ◌∙◌, subst, ⊎_elim, arith}
+use mathlib.Core.Option.{some, some-ne-none}
+use lib.ListN.{get_elem?}
+use Rattle.atomic_table.proofs.Lists.{at_set}
+use Rattle.turn_lock.specs.declared.knowledge.Knows.{Knows}
+use Rattle.turn_lock.specs.declared.knowledge.Place.{Place}
+use Rattle.turn_lock.specs.Turns.{AreApart}
+use Rattle.turn_lock.proofs.Totals.{at_both, at_more}
+
+module _ {A : Type 0} where
+  first_alone : (a q : A) (k : ℕ) → get_elem? (a ∷ []) k ≡ some q → k ≡ 0
+  first_alone a q zero at = omega arith
+  first_alone a q (suc k) at = absurd (some-ne-none q (sym at))
+
+  -- the place of an item in a list of one
+  only_place : (xs : List A) (a q : A) (k : ℕ) → xs ≡ a ∷ [] → get_elem? xs k ≡ some q → k ≡ 0
+  only_place xs a q k one at = first_alone a q k (subst (λ (z : List A). get_elem? z k ≡ some q) one at)
+
+module _ {E : Type 0} where
+  pub apart_one : (places : List (Place E)) (place : Place E) → places ≡ place ∷ [] → AreApart places
+  apart_one places place one k l p q at to same = only_place places place p k one at ∙ sym (only_place places place q l one to)
+
+  pub apart_none : (places : List (Place E)) → places ≡ [] → AreApart places
+  apart_none places none_there k l p q at to same = absurd (some-ne-none p (sym (subst (λ (z : List (Place E)). get_elem? z k ≡ some p) none_there at)))
+
+  -- two lists that have no number in common
+  pub apart_join : (xs ys : List (Place E)) → AreApart xs → AreApart ys → ((k l : ℕ) (p q : Place E) → get_elem? xs k ≡ some p → get_elem? ys l ≡ some q → p.number ≢ q.number) → AreApart (xs ++ ys)
+  apart_join xs ys mine yours apart k l p q at to same = ⊎_elim
+      (λ here. ⊎_elim
+      (λ there. mine k l p q here there same)
+      (λ there. absurd (apart k there.0 p q here there.2 same))
+      (at_both xs ys l q to))
+      (λ here. ⊎_elim
+      (λ there. absurd (apart l here.0 q p there here.2 (sym same)))
+      (λ there. here.1 ∙ ap (λ (z : ℕ). length xs + z) (yours here.0 there.0 p q here.2 there.2 same) ∙ sym there.1)
+      (at_both xs ys l q to))
+      (at_both xs ys k p at)
+
+module _ {E B : Type 0} where
+  -- each seat's places are apart, when one seat has changed
+  pub apart_set : (views : List (Knows E B)) (id : ℕ) (w : Knows E B) → ((j : ℕ) (v : Knows E B) → get_elem? views j ≡ some v → AreApart v.places) → AreApart w.places → (j : ℕ) (v : Knows E B) → get_elem? (set views id w) j ≡ some v → AreApart v.places
+  apart_set views id w all now j v to = ⊎_elim
+      (λ same. subst (λ (z : Knows E B). AreApart z.places) same.1 now)
+      (λ other. all j v other.1)
+      (at_set views id j w v to)
+
+  -- and when there is one seat more
+  pub apart_more : (views : List (Knows E B)) (w : Knows E B) → ((j : ℕ) (v : Knows E B) → get_elem? views j ≡ some v → AreApart v.places) → AreApart w.places → (j : ℕ) (v : Knows E B) → get_elem? (views ++ w ∷ []) j ≡ some v → AreApart v.places
+  apart_more views w all now j v to = ⊎_elim
+      (λ old. all j v old)
+      (λ last. subst (λ (z : Knows E B). AreApart z.places) last.1 now)
+      (at_more views w v j to)
