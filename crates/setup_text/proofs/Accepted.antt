@@ -6,7 +6,7 @@ use Rattle.std.proofs.lemmas.List.Elements.{All-nil}
 use Rattle.text_lines.specs.Lines.{lines_of}
 use Rattle.text_lines.specs.Readings.{read_lines}
 use Rattle.text_lines.proofs.Kept.{reads_keep}
-use Rattle.tp_layout.specs.Requests.{receive_fault, transmit_fault}
+use Rattle.tp_layout.specs.Requests.{receive_fault, slot_fault, transmit_fault}
 use Rattle.tp_layout.specs.declared.requests.RingRequest.{RingRequest}
 use Rattle.setup_text.specs.Drafts.{line_after, nothing_said}
 use Rattle.setup_text.specs.Setups.{answer, at_line, count_in, count_of, draft_of, fault_after, group_fault, has_no_cpu, makes_frames, missing, request_fault, request_of, setup_after, setup_from}
@@ -31,13 +31,15 @@ map_none f None h = refl
 map_none f (Some x) h = cc
 
 receive_none : (given : Command) (request : RingRequest) → request_fault given request ≡ None → receive_fault request ≡ None
-unfolding transmit_fault
+unfolding slot_fault transmit_fault
 receive_none command.Check request h = h
 receive_none command.Replay request h = h
 receive_none command.Capture request h = h
 receive_none command.Send request h = (or_none (receive_fault request) _ h).0
 receive_none command.Make request h = h
 receive_none command.Forward request h = h
+receive_none command.Replay2 request h =
+    (or_none (receive_fault request) _ (or_none (transmit_fault request) _ h).0).0
 
 missing_none : (a b c d e f : Bool)
     → (if a then Some needed.BlockSize else if b then Some needed.BlockNr else if c then Some needed.FrameSize else if d then Some needed.FrameNr
@@ -105,6 +107,7 @@ made_known command.Capture draft p h e = cc
 made_known command.Send draft p h e = cc
 made_known command.Make draft p h e = some_made draft.made p.made h
 made_known command.Forward draft p h e = cc
+made_known command.Replay2 draft p h e = cc
 
 after_sound : (given : Command) (draft : Draft) (setup : Setup) → IsDraft draft → setup_after given draft ≡ Ok setup → IsAccepted given setup
 unfolding setup_after

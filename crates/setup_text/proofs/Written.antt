@@ -141,6 +141,7 @@ made_there command.Replay none seed count e h = refl
 made_there command.Capture none seed count e h = refl
 made_there command.Send none seed count e h = refl
 made_there command.Forward none seed count e h = refl
+made_there command.Replay2 none seed count e h = refl
 
 none_missing : (given : Command) (setup : Setup) → 0 < length setup.cpus → (given ≡ command.Make → 1 ≤ setup.count) → missing given (draft_for setup) ≡ None
 unfolding missing

@@ -7,7 +7,7 @@ use Rattle.fanout_group.specs.declared.modes.Mode.{Mode}
 use Rattle.fanout_group.specs.declared.modes.Mode.TheVariants as mode
 use Rattle.text_lines.specs.Lines.{lines_of}
 use Rattle.text_lines.specs.Readings.{read_lines}
-use Rattle.tp_layout.specs.Requests.{receive_fault, transmit_fault}
+use Rattle.tp_layout.specs.Requests.{receive_fault, slot_fault, transmit_fault}
 use Rattle.tp_layout.specs.declared.error.RequestError.{RequestError}
 use Rattle.tp_layout.specs.declared.requests.RingRequest.{RingRequest}
 use Rattle.setup_text.specs.Drafts.{line_after, nothing_said}
@@ -57,9 +57,11 @@ request_of draft = record {
   features = unwrap_or draft.features 0;
 }
 
--- why the ring is invalid, for the command: one of the commands sends
+-- why the ring is invalid, for the command: one of the commands sends, and one has rings of
+-- TPACKET_V2
 abbrev pub request_fault : Command → RingRequest → Option RequestError
 request_fault command.Send request = transmit_fault request
+request_fault command.Replay2 request = slot_fault request
 request_fault given request = receive_fault request
 
 -- the flags as linux/if_packet.h numbers them

@@ -15,4 +15,6 @@ pub enum Command {
     Make,
     /// The captures are fed on threads, and what each member reads is sent through a transmit ring.
     Forward,
+    /// The captures are replayed as a schedule says, over rings of TPACKET_V2.
+    Replay2,
 }

@@ -56,9 +56,9 @@ pub struct Setup {
 /// `TooLarge` comes for more than 1,048,576 bytes, with line 0. Then the first line with a fault
 /// answers, with its number from 1. Where no line has one, `Missing` comes for the first line that
 /// isn't there, of which `Make` alone needs the line `make`. Then `Request` comes for a ring that
-/// is invalid, which is a transmit ring for `Send` and a ring of captured frames for every other
-/// command, and then `Group` for a group that there isn't. Each has line 0. `Memory`, an allocation
-/// that failed, has line 0 too.
+/// is invalid, which is a transmit ring for `Send`, a ring of TPACKET_V2 for `Replay2` and a ring
+/// of blocks for every other command, and then `Group` for a group that there isn't. Each has line
+/// 0. `Memory`, an allocation that failed, has line 0 too.
 pub fn read_setup(alloc: Global, text: &[u8], command: Command) -> Result<Setup, SetupError>
     ensures right { IsRight is_setup_want result (setup_of text.now command) }
     ensures memory { IsOnlyWant is_setup_want setup_memory result }
@@ -161,6 +161,7 @@ fn shape_of(request: &RingRequest, command: Command) -> Result<Shape, RequestErr
 {
     match command {
         Command::Send => request.check_tx(),
+        Command::Replay2 => request.check_v2(),
         Command::Check | Command::Replay | Command::Capture | Command::Make | Command::Forward => {
             request.check()
         }

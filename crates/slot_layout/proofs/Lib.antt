@@ -1,0 +1,4 @@
+mod SlotPuts
+pub mod SlotNumbers
+pub mod SlotStands
+pub mod SlotReads

@@ -1,0 +1,5 @@
+pub mod SlotShapes
+pub mod SlotTexts
+pub mod SlotFaults
+pub mod SlotDump
+pub mod SlotLaws
