@@ -1,0 +1,4 @@
+pub mod SlotShapes
+pub mod SlotTexts
+pub mod SlotFaults
+pub mod SlotDump

@@ -1,0 +1,19 @@
+-- The shape of a ring of TPACKET_V2, and what a ring of slots is made of.
+use Rattle.std.specs.Prelude.{◌≡◌, None, replicate}
+use Rattle.ring_model.specs.Ring.{Size}
+use Rattle.slot_model.specs.SlotRings.{room_of_slots}
+use Rattle.tp_layout.specs.Requests.{slot_fault}
+use Rattle.tp_layout.specs.Writing.{ShapedBytes}
+use Rattle.tp_layout.specs.declared.requests.RingRequest.{RingRequest}
+
+-- the shape came from `check_v2`
+abbrev pub IsSlotShape : RingRequest → Type 0
+IsSlotShape shape = slot_fault shape ≡ None
+
+-- what a ring of slots of this shape is made of: as many slots as it has frames, and no time-out
+abbrev pub slot_size_of : RingRequest → Size
+slot_size_of shape = record { room = room_of_slots shape.frame_size; blocks = shape.frame_nr; tov = 0 }
+
+-- a slot of zeros
+abbrev pub zero_slot : RingRequest → ShapedBytes
+zero_slot shape = record { shape = shape; bytes = replicate shape.frame_size 0 }

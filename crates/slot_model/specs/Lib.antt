@@ -1,0 +1,4 @@
+pub mod SlotSteps
+pub mod SlotAsking
+pub mod SlotRings
+pub mod SlotFates

@@ -1,0 +1,30 @@
+-- A ring of slots with its reader, as far as reports speak of it: the record of a ring of blocks, with a slot in a
+-- block's place. Its size has the number of slots as `blocks`. No time-out counts.
+use Rattle.std.specs.Prelude.{ℕ, ◌+◌, length, nat_lt, if◌then◌else◌}
+use Rattle.ring_model.specs.Rings.{Ring}
+use Rattle.ring_model.specs.declared.notes.Offer.{Offer}
+use Rattle.ring_model.specs.declared.notes.Note.{Note}
+use Rattle.slot_model.specs.SlotSteps.{SlotState, slot_state_of}
+use Rattle.slot_model.specs.SlotAsking.{slot_put_note, slot_try_note}
+
+-- the room of a block that would keep as much of a packet as a slot of this many bytes: before a packet's data stand 66
+-- bytes in a slot and 82 in a block
+abbrev pub room_of_slots : ℕ → ℕ
+room_of_slots slot_size = slot_size + 16
+
+-- the state that the notes leave
+abbrev pub slot_state : Ring → SlotState
+slot_state ring = slot_state_of ring.notes
+
+-- the note that a put and a try make
+abbrev pub slot_note_of_put : Ring → Offer → Note
+slot_note_of_put ring offer = slot_put_note ring.size.blocks ring.released (slot_state ring) offer
+
+abbrev pub slot_note_of_try : Ring → Offer → Note
+slot_note_of_try ring offer = slot_try_note ring.size.blocks ring.released (slot_state ring) offer
+
+-- the ring after the reader has read a slot, if one is filled and not yet released
+abbrev pub slot_read_once : Ring → Ring
+slot_read_once ring =
+    if nat_lt ring.released (length (slot_state ring).done)
+    then record ring { released = ring.released + 1 } else ring

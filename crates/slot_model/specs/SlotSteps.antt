@@ -1,0 +1,77 @@
+-- The ring of TPACKET_V2 as a machine of notes. A slot has one packet, and is handed over as soon as it is filled: there
+-- is no open block, no timer and no freeze. Slot numbers count from 1.
+use Rattle.std.specs.Prelude.{◌≡◌, ℕ, ◌+◌, ◌<◌, List, [], ◌∷◌, ◌++◌, length, ◌==◌, if◌then◌else◌, Option, None, Some}
+use Rattle.frame_view.specs.declared.frames.Tag.{Tag}
+use Rattle.ring_model.specs.Ring.{EndsThere}
+use Rattle.ring_model.specs.declared.notes.Offer.{Offer}
+use Rattle.ring_model.specs.declared.notes.Found.TheVariants.{Free}
+use Rattle.ring_model.specs.declared.notes.Note.{Note}
+use Rattle.ring_model.specs.declared.notes.Note.TheVariants.{Kept, Refused, Dropped, Ticked, Counted, Finished}
+
+-- what notes leave behind
+pub record SlotState : Type 0 where
+  -- the filled slots in order, each with its packet's offer and its status; the slot of number s is the s-th
+  pub done : List (Offer × ℕ)
+  -- packets kept and dropped since the statistics were last taken
+  pub kept : ℕ
+  pub dropped : ℕ
+
+-- the state before the first note
+abbrev pub first_slot_state : SlotState
+first_slot_state = record { done = []; kept = 0; dropped = 0 }
+
+-- TP_STATUS_VLAN_VALID (16) and TP_STATUS_VLAN_TPID_VALID (64) with a tag
+abbrev pub status_with_tag : Option Tag → ℕ
+status_with_tag None = 0
+status_with_tag (Some tag) = 80
+
+-- the status of the slot that gets this packet: TP_STATUS_USER (1), TP_STATUS_LOSING (4) where packets were dropped
+-- since the statistics were last taken, and that of its tag
+abbrev pub slot_status : SlotState → Offer → ℕ
+slot_status state offer = 1 + (if state.dropped == 0 then 0 else 4) + status_with_tag offer.frame.tag
+
+-- the state after a note
+abbrev pub slot_after : SlotState → Note → SlotState
+slot_after state (Kept offer found) =
+    record state { done = state.done ++ (offer, slot_status state offer) ∷ []; kept = state.kept + 1 }
+slot_after state (Dropped cpu index need number) = record state { dropped = state.dropped + 1 }
+slot_after state Counted = record state { kept = 0; dropped = 0 }
+slot_after state note = state
+
+-- the state after notes
+abbrev pub slot_after_all : SlotState → List Note → SlotState
+slot_after_all state [] = state
+slot_after_all state (note ∷ notes) = slot_after_all (slot_after state note) notes
+
+-- the state of a ring of slots that has these notes
+abbrev pub slot_state_of : List Note → SlotState
+slot_state_of notes = slot_after_all first_slot_state notes
+
+-- the number of the slot that the next packet would get
+abbrev pub next_slot : SlotState → ℕ
+next_slot state = length state.done + 1
+
+-- with so many slots, the one in whose place the next one would stand has this number, and was filled
+abbrev pub IsSlotHeld : ℕ → SlotState → ℕ → Type 0
+IsSlotHeld slots state number = (0 < number) × (number + slots ≡ next_slot state)
+
+-- a note may stand after a state of a ring of so many slots
+abbrev pub SlotMayStand : ℕ → SlotState → Note → Type 0
+SlotMayStand slots state (Kept offer Free) = Unit {0}
+SlotMayStand slots state (Kept offer found) = ⊥
+SlotMayStand slots state (Refused cpu index need number) = IsSlotHeld slots state number
+SlotMayStand slots state (Dropped cpu index need number) = IsSlotHeld slots state number
+SlotMayStand slots state (Ticked ms found) = ⊥
+SlotMayStand slots state Counted = Unit {0}
+SlotMayStand slots state Finished = Unit {0}
+
+-- each note may stand after those before it
+abbrev pub IsSlotRun : ℕ → SlotState → List Note → Type 0
+IsSlotRun slots state [] = Unit {0}
+IsSlotRun slots state (note ∷ notes) =
+    SlotMayStand slots state note × EndsThere note notes × IsSlotRun slots (slot_after state note) notes
+
+-- notes of a ring of so many slots from its opening to its close
+pub record IsWholeSlotRun (slots : ℕ) (notes : List Note) : Type 0 where
+  pub run : IsSlotRun slots first_slot_state notes
+  pub closed : (before : List Note) × (notes ≡ before ++ Finished ∷ [])

@@ -1,0 +1,9 @@
+//! The definitions of a receive ring of slots (TPACKET_V2), over the notes of `ring_model`.
+#![tactic(auto)]
+
+mod laws;
+
+pub use laws::{
+    a_slot_noted_as_held_is_unreleased, a_slot_ring_counts_as_a_ring_of_blocks, slot_puts_stand,
+    slot_tries_stand, the_filled_slots_are_the_kept_packets,
+};
