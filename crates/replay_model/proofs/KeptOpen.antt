@@ -1,9 +1,7 @@
 -- What a replay needs of the steps of its rings: each keeps a ring open.
-use Rattle.std.proofs.Common.{◌≡◌, ℕ, ◌≤◌, Bool, true, false, cond, List, [], Option, None, Some, refl}
-use Rattle.std.specs.Prelude.{IfSome, nat_lt}
-use Rattle.ring_model.specs.Fates.{frame_note}
+use Rattle.std.proofs.Common.{◌≡◌, ℕ, ◌≤◌, Bool, true, false, cond, refl}
+use Rattle.std.specs.Prelude.{nat_lt}
 use Rattle.ring_model.specs.Rings.{Ring, fresh, noted}
-use Rattle.ring_model.specs.declared.notes.Note.{Note}
 use Rattle.ring_model.specs.declared.notes.Note.TheVariants.{Counted}
 use Rattle.ring_model.specs.declared.notes.Offer.{Offer}
 use Rattle.replay_model.specs.RingSteps.{RingSteps, put_note, read_by, ticked, try_note}
@@ -16,9 +14,6 @@ pub record KeepOpen (steps : RingSteps) (P : ℕ → Ring → Type 0) : Type 0 w
   pub tick : (clock ms : ℕ) (ring : Ring) → clock ≤ ms → P clock ring → P ms (ticked steps ms ring)
   pub count : (clock : ℕ) (ring : Ring) → P clock ring → P clock (noted ring Counted)
   pub read : (clock : ℕ) (ring : Ring) → P clock ring → P clock (read_by steps ring)
-  pub early : (clock : ℕ) (ring : Ring) → P clock ring → steps.clock ring ≤ clock
-  -- a tick is about no frame
-  pub silent : (ring : Ring) (ms cpu : ℕ) → IfSome (steps.ticks ring ms) (λ note. frame_note cpu note ≡ [])
 
 released_notes : (ring : Ring) (released : ℕ) (later : Bool) → (cond later (record ring { released = released }) ring).notes ≡ ring.notes
 released_notes ring released true = refl

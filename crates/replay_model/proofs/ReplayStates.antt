@@ -1,10 +1,11 @@
 -- What holds of a replay at each moment, and that the lines that feed nothing keep it.
 use Rattle.std.proofs.Common.{◌≡◌, ℕ, ◌<◌, ◌≤◌, eqb, ltb, List, [], ◌∷◌, ◌++◌, length, get_or, refl, sym, ap, subst, ◌∙◌, arith, append_assoc}
-use Rattle.std.specs.Prelude.{Option, None, Some, IfSome, map, sum_by, count_by, slice_set}
+use Rattle.std.specs.Prelude.{Option, None, Some, map, sum_by, count_by, slice_set}
 use Rattle.std.proofs.lemmas.List.{append-nil, get_or-map, length-map, length-set}
 use Rattle.frame_view.specs.declared.frames.Frame.{Frame}
-use Rattle.ring_model.specs.Fates.{frame_note, frame_notes}
+use Rattle.ring_model.specs.Fates.{frame_notes}
 use Rattle.ring_model.specs.Rings.{Ring}
+use Rattle.ring_model.specs.declared.notes.Found.{Found}
 use Rattle.ring_model.specs.declared.notes.Note.{Note}
 use Rattle.ring_model.specs.declared.notes.Note.TheVariants as notes
 use Rattle.fanout_group.specs.Arrivals.{somes}
@@ -17,7 +18,7 @@ use Rattle.fanout_group.specs.declared.modes.Mode.TheVariants.{Lb}
 use Rattle.fanout_group.proofs.Members.{one_if}
 use Rattle.replay_model.specs.Replay.{Cpu, Replay, cpu_at, no_ring, noted_at}
 use Rattle.replay_model.proofs.Places.{set_within}
-use Rattle.replay_model.specs.RingSteps.{RingSteps, noted_if, read_by, ticked}
+use Rattle.replay_model.specs.RingSteps.{RingSteps, read_by, ticked, ticked_by}
 use Rattle.replay_model.proofs.KeptOpen.{KeepOpen, read_notes}
 use Rattle.replay_model.proofs.AddedNotes.{frame_notes-append}
 
@@ -86,12 +87,10 @@ quiet_goes P rules steps arriving clock now replay rings h count quiet = record 
   tickets = λ e. let t = h.tickets e in record { rising = t.rising; once = t.once; total = t.total };
 }
 
--- a tick, where it notes anything
-tick_quiet : (P : ℕ → Ring → Type 0) (now : ℕ) (note : Option Note) (old : Ring) → P now (noted_if note old)
-    → ((cpu : ℕ) → IfSome note (λ note. frame_note cpu note ≡ [])) → Quiet P now old (noted_if note old)
-tick_quiet P now None old opens silent = record { opens = opens; notes = []; new_is = sym (append-nil old.notes); silent = λ cpu. refl }
-tick_quiet P now (Some note) old opens silent =
-    record { opens = opens; notes = note ∷ []; new_is = refl; silent = λ cpu. append-nil (frame_note cpu note) ∙ silent cpu }
+-- a tick, of which a ring without a timer notes nothing
+tick_quiet : (P : ℕ → Ring → Type 0) (ms : ℕ) (found : Option Found) (old : Ring) → P ms (ticked_by found ms old) → Quiet P ms old (ticked_by found ms old)
+tick_quiet P ms None old opens = record { opens = opens; notes = []; new_is = sym (append-nil old.notes); silent = λ cpu. refl }
+tick_quiet P ms (Some found) old opens = record { opens = opens; notes = notes.Ticked ms found ∷ []; new_is = refl; silent = λ cpu. refl }
 
 pub tick_goes : (P : ℕ → Ring → Type 0) (rules : Rules) (steps : RingSteps) (keep : KeepOpen steps P) (arriving : List Waiting) (clock ms : ℕ) (replay : Replay) → clock ≤ ms
     → Goes P rules steps arriving clock replay
@@ -101,7 +100,7 @@ tick_goes P rules steps keep arriving clock ms replay later h =
     subst (λ (ring : Ring). Quiet P ms (get_or replay.members member no_ring) ring)
     (sym (get_or-map _ replay.members member no_ring no_ring below))
     (tick_quiet P ms (steps.ticks (get_or replay.members member no_ring) ms) (get_or replay.members member no_ring)
-    (keep.tick clock ms _ later (h.opens member below)) (λ cpu. keep.silent (get_or replay.members member no_ring) ms cpu)))
+    (keep.tick clock ms _ later (h.opens member below))))
 
 -- one ring changes, if it is there
 one_quiet : (P : ℕ → Ring → Type 0) (clock at : ℕ) (rings : List Ring) (new : Ring)

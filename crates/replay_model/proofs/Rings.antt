@@ -155,6 +155,4 @@ blocks_keep size = record {
   tick = tick_open size;
   count = count_open size;
   read = read_open size;
-  early = λ clock ring h. h.clock_is;
-  silent = λ ring ms cpu. refl;
 }

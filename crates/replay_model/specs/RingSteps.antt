@@ -1,12 +1,14 @@
 -- What the rings of a replay do at each step, where every look at a status word has the answer that
--- the released blocks give. A ring of slots has its slots in the blocks' place.
+-- the released blocks give. In a ring of slots a slot has the block's place.
 use Rattle.std.specs.Prelude.{ℕ, ◌+◌, length, nat_lt, if◌then◌else◌, Option, None, Some}
 use Rattle.ring_model.specs.Asking.{found_for, put_by, try_by}
 use Rattle.ring_model.specs.Ring.{Size}
 use Rattle.ring_model.specs.Rings.{Ring, note_of_tick, noted, state}
 use Rattle.ring_model.specs.Sizes.{need_of}
 use Rattle.ring_model.specs.declared.notes.Found.{Found}
+use Rattle.ring_model.specs.declared.notes.Found.TheVariants.{NotAsked}
 use Rattle.ring_model.specs.declared.notes.Note.{Note}
+use Rattle.ring_model.specs.declared.notes.Note.TheVariants.{Ticked}
 use Rattle.ring_model.specs.declared.notes.Offer.{Offer}
 
 pub record RingSteps : Type 0 where
@@ -14,10 +16,8 @@ pub record RingSteps : Type 0 where
   pub size : Size
   -- what an offer finds
   pub finds : Ring → Offer → Found
-  -- the note of a tick at a moment in milliseconds, if a tick does anything
-  pub ticks : Ring → ℕ → Option Note
-  -- the moment that the last tick reported
-  pub clock : Ring → ℕ
+  -- what a tick at a moment in milliseconds finds; nothing where a ring has no timer
+  pub ticks : Ring → ℕ → Option Found
   -- how many blocks were handed to the reader
   pub retired : Ring → ℕ
 
@@ -29,13 +29,14 @@ put_note steps ring offer = put_by offer (steps.finds ring offer)
 abbrev pub try_note : RingSteps → Ring → Offer → Note
 try_note steps ring offer = try_by offer (steps.finds ring offer)
 
-abbrev pub noted_if : Option Note → Ring → Ring
-noted_if None ring = ring
-noted_if (Some note) ring = noted ring note
+-- the ring after a tick that found this
+abbrev pub ticked_by : Option Found → ℕ → Ring → Ring
+ticked_by None ms ring = ring
+ticked_by (Some found) ms ring = noted ring (Ticked ms found)
 
 -- the ring after a tick
 abbrev pub ticked : RingSteps → ℕ → Ring → Ring
-ticked steps ms ring = noted_if (steps.ticks ring ms) ring
+ticked steps ms ring = ticked_by (steps.ticks ring ms) ms ring
 
 -- the ring after its reader has read a block, if one is retired and not yet released
 abbrev pub read_by : RingSteps → Ring → Ring
@@ -43,12 +44,16 @@ read_by steps ring =
     if nat_lt ring.released (steps.retired ring)
     then record ring { released = ring.released + 1 } else ring
 
+-- what the note of a tick says was found
+abbrev pub found_in : Note → Found
+found_in (Ticked ms found) = found
+found_in note = NotAsked
+
 -- what rings of blocks of this size do
 abbrev pub block_steps : Size → RingSteps
 block_steps size = record {
   size = size;
   finds = λ ring offer. found_for ring.size ring.released (state ring) (need_of offer.snap);
-  ticks = λ ring ms. Some (note_of_tick ring ms);
-  clock = λ ring. (state ring).clock;
+  ticks = λ ring ms. Some (found_in (note_of_tick ring ms));
   retired = λ ring. length (state ring).done;
 }

@@ -3,8 +3,8 @@ use Rattle.std.specs.Prelude.{◌≤◌, List, All}
 use Rattle.ring_model.specs.Offers.{IsSound}
 use Rattle.ring_model.specs.Rings.{Ring}
 use Rattle.ring_model.specs.Sizes.{need_of}
+use Rattle.ring_model.specs.Unreleased.{last_moment}
 use Rattle.ring_model.specs.declared.notes.Offer.{Offer}
-use Rattle.replay_model.specs.RingSteps.{RingSteps}
 use Rattle.schedule_lines.specs.declared.lines.Line.{Line}
 use Rattle.schedule_lines.specs.declared.lines.Line.TheVariants.{Feed, Read, Tick, Stats}
 
@@ -13,9 +13,9 @@ pub record Takes (offer : Offer) (ring : Ring) : Type 0 where
   pub sound : IsSound ring.size.room offer
   pub fits : need_of offer.snap ≤ ring.size.room
 
--- a tick leads no ring's clock back, and a schedule can name its moment; every other line may come
-abbrev pub MayCome : RingSteps → Line → List Ring → Type 0
-MayCome steps (Tick ms) rings = (ms ≤ 4294967295) × All (λ ring. steps.clock ring ≤ ms) rings
-MayCome steps (Feed cpu) rings = Unit {0}
-MayCome steps (Read member) rings = Unit {0}
-MayCome steps (Stats member) rings = Unit {0}
+-- a tick isn't before a ring's last one, and a schedule can name its moment; every other line may come
+abbrev pub MayCome : Line → List Ring → Type 0
+MayCome (Tick ms) rings = (ms ≤ 4294967295) × All (λ ring. last_moment 0 ring.notes ≤ ms) rings
+MayCome (Feed cpu) rings = Unit {0}
+MayCome (Read member) rings = Unit {0}
+MayCome (Stats member) rings = Unit {0}
