@@ -1,0 +1,2 @@
+//! The replay of a job over rings of one kind.
+#![tactic(auto)]
