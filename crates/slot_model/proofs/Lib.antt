@@ -1,3 +1,3 @@
 pub mod Looks
 pub mod Kept
-mod Counts
+pub mod Counts
