@@ -1,0 +1,3 @@
+pub mod SlotReplays
+pub mod SlotReports
+pub mod SlotRuns
