@@ -3,7 +3,7 @@ use Rattle.ring_model.specs.Ring.{state_of}
 use Rattle.ring_model.specs.declared.notes.Note.TheVariants.{Finished}
 use Rattle.tp_layout.specs.Requests.{size_of}
 use Rattle.tap_replay.specs.Blocks.{HasRead}
-use Rattle.tap_replay.proofs.member.Member.close.Given as goal
+use Rattle.tap_replay.proofs.member.BlockMemberRingMember.close.Given as goal
 
 abbrev pub invariant-waiting : goal.invariant-waiting
 invariant-waiting g l =

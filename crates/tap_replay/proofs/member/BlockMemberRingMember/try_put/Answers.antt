@@ -5,7 +5,7 @@ use Rattle.ring_model.specs.declared.notes.Found.{Found}
 use Rattle.ring_words.specs.PlainRings.{feed_of}
 use Rattle.tap_replay.proofs.MemberFields.{either, noted_member, stays_member}
 use Rattle.tap_replay.specs.Members.{Parts}
-use Rattle.tap_replay.proofs.member.Member.try_put.Goals as goal
+use Rattle.tap_replay.proofs.member.BlockMemberRingMember.try_put.Goals as goal
 
 pub invariant_of-self : goal.invariant_of-self
 invariant_of-self g c =

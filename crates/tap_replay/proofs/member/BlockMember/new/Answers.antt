@@ -4,7 +4,7 @@ use Rattle.std.proofs.lemmas.List.{length-replicate}
 use Rattle.tp_layout.specs.Requests.{numbers_of}
 use Rattle.tp_layout.specs.Writing.{ShapedBytes, zero_block}
 use Rattle.tap_replay.proofs.MemberFields.{fresh_end, one_kind}
-use Rattle.tap_replay.proofs.member.Member.new.Goals as goal
+use Rattle.tap_replay.proofs.member.BlockMember.new.Goals as goal
 
 pub new-requires-clause-kind : goal.new-requires-clause-kind
 new-requires-clause-kind g c =

@@ -6,7 +6,7 @@ use Rattle.tp_layout.specs.declared.requests.RingRequest.{RingRequest}
 use Rattle.tap_replay.proofs.LastReads.{closed_report}
 use Rattle.tap_replay.proofs.MemberFields.{closing_read, few_closed, few_read}
 use Rattle.tap_replay.proofs.ReadBlocks.{all_read, fewer_wait, free_hand, next_read, none_read}
-use Rattle.tap_replay.proofs.member.Member.close.Goals as goal
+use Rattle.tap_replay.proofs.member.BlockMemberRingMember.close.Goals as goal
 
 pub waiting-init : goal.waiting-init
 waiting-init g c =

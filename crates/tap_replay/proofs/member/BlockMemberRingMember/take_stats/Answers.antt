@@ -1,7 +1,7 @@
 use Rattle.std.proofs.Common.{◌<◌, ◌^◌, length, subst, sym}
 use Rattle.ring_model.specs.Rings.{Ring}
 use Rattle.tap_replay.proofs.MemberFields.{noted_member}
-use Rattle.tap_replay.proofs.member.Member.take_stats.Goals as goal
+use Rattle.tap_replay.proofs.member.BlockMemberRingMember.take_stats.Goals as goal
 
 pub invariant_of-self-2 : goal.invariant_of-self-2
 invariant_of-self-2 g c =

@@ -1,7 +1,7 @@
 use Rattle.std.proofs.Common.{◌≡◌, ◌∙◌, ap, false, rules}
 use Rattle.ring_model.specs.Rings.{Ring, read_once}
 use Rattle.tap_replay.proofs.MemberFields.{few_taken, step_member}
-use Rattle.tap_replay.proofs.member.Member.read.Goals as goal
+use Rattle.tap_replay.proofs.member.BlockMemberRingMember.read.Goals as goal
 
 pub step-requires-clause-few : goal.step-requires-clause-few
 step-requires-clause-few g c =

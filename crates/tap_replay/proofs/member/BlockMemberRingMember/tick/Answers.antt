@@ -2,8 +2,8 @@ use Rattle.std.proofs.Common.{◌<◌, ◌^◌, length, subst, sym}
 use Rattle.ring_model.specs.Rings.{Ring}
 use Rattle.tap_replay.proofs.MemberFields.{noted_member, stays_member}
 use Rattle.tap_replay.specs.Members.{Parts}
-use Rattle.tap_replay.proofs.member.Member.tick.Goals as goal
-use Rattle.tap_replay.proofs.member.Member.tick.Goals.{in-Ok, in-Err-Memory}
+use Rattle.tap_replay.proofs.member.BlockMemberRingMember.tick.Goals as goal
+use Rattle.tap_replay.proofs.member.BlockMemberRingMember.tick.Goals.{in-Ok, in-Err-Memory}
 
 pub invariant_of-self : goal.invariant_of-self
 invariant_of-self g c =
