@@ -9,7 +9,9 @@ mod replay_run;
 mod ring_desk;
 mod room_rules;
 mod runs;
+mod settings;
 mod tickets;
 
 pub use member::{Member, RingMember};
 pub use runs::replay_over;
+pub use settings::Setting;

@@ -5,6 +5,5 @@
 mod member;
 mod new_members;
 mod runs;
-mod settings;
 
 pub use runs::{a_job_reports_a_group, replay};

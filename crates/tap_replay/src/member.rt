@@ -9,11 +9,10 @@ ghost use Rattle.ring_model.specs.Rings.{fresh};
 ghost use Rattle.tap_replay.specs.Reported.{member_of};
 ghost use Rattle.tp_layout.specs.Requests.{size_of};
 
-use crate::settings::Setting;
 use block_ring::{Producer, TickError};
 use frame_view::Memory;
 use reader_walk::{Reader, a_text_is_read_as_it_was_written};
-use replay_machine::RingMember;
+use replay_machine::{RingMember, Setting};
 use ring_model::{Offer, Put, Tried, Unput, the_clock_is_that_of_the_last_tick};
 use ring_words::PlainRing;
 use setup_text::MemberReport;

@@ -4,9 +4,8 @@ ghost use Rattle.ring_model.specs.Rings.{fresh};
 ghost use Rattle.tp_layout.specs.Requests.{size_of};
 
 use crate::member::BlockMember;
-use crate::settings::Setting;
 use frame_view::Memory;
-use replay_machine::Member;
+use replay_machine::{Member, Setting};
 use std::alloc::Global;
 use tp_layout::Shape;
 

@@ -13,10 +13,9 @@ ghost use Rattle.tap_replay.specs.Runs.{IsReplayed, report_of};
 
 use crate::member::BlockMember;
 use crate::new_members::open_members;
-use crate::settings::Setting;
 use capture_file::frames_are_numbered;
 use frame_view::Memory;
-use replay_machine::replay_over;
+use replay_machine::{Setting, replay_over};
 use replay_model::a_replay_reports_a_group;
 use run_reports::a_group_s_report_is_that_of_a_run;
 use schedule_lines::Schedule;

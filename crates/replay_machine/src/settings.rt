@@ -1,4 +1,4 @@
-//! What all members of a run have in common.
+//! What the members of a run have in common, where that is known only at run time.
 ghost use Rattle.std.specs.Prelude.{Bool, false};
 ghost use Rattle.tp_layout.specs.declared.requests.RingRequest.{RingRequest};
 
@@ -6,7 +6,7 @@ use std::marker::Brand;
 
 /// What all members of one run have in common. It is known only at run time; contracts see it at
 /// the type of the members.
-pub(crate) trait Setting {
+pub trait Setting {
     // The shape of the rings' blocks.
     ghost shape: { RingRequest };
 
