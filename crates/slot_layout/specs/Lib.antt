@@ -2,3 +2,4 @@ pub mod SlotShapes
 pub mod SlotTexts
 pub mod SlotFaults
 pub mod SlotDump
+pub mod SlotLaws

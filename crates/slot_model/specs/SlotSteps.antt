@@ -1,6 +1,6 @@
 -- The ring of TPACKET_V2 as a machine of notes. A slot has one packet, and is handed over as soon as it is filled: there
 -- is no open block, no timer and no freeze. Slot numbers count from 1.
-use Rattle.std.specs.Prelude.{◌≡◌, ℕ, ◌+◌, ◌<◌, List, [], ◌∷◌, ◌++◌, length, ◌==◌, if◌then◌else◌, Option, None, Some}
+use Rattle.std.specs.Prelude.{◌≡◌, ℕ, ◌+◌, ◌<◌, List, [], ◌∷◌, ◌++◌, length, Bool, nat_lt, if◌then◌else◌, Option, None, Some}
 use Rattle.frame_view.specs.declared.frames.Tag.{Tag}
 use Rattle.ring_model.specs.Ring.{EndsThere}
 use Rattle.ring_model.specs.declared.notes.Offer.{Offer}
@@ -25,10 +25,14 @@ abbrev pub status_with_tag : Option Tag → ℕ
 status_with_tag None = 0
 status_with_tag (Some tag) = 80
 
--- the status of the slot that gets this packet: TP_STATUS_USER (1), TP_STATUS_LOSING (4) where packets were dropped
--- since the statistics were last taken, and that of its tag
+-- the status of a filled slot: TP_STATUS_USER (1), TP_STATUS_LOSING (4) where packets were lost, and that of its tag
+abbrev pub status_of_slot : Bool → Option Tag → ℕ
+status_of_slot losing tag = 1 + (if losing then 4 else 0) + status_with_tag tag
+
+-- the status of the slot that gets this packet; packets were lost where some were dropped since the statistics were last
+-- taken
 abbrev pub slot_status : SlotState → Offer → ℕ
-slot_status state offer = 1 + (if state.dropped == 0 then 0 else 4) + status_with_tag offer.frame.tag
+slot_status state offer = status_of_slot (nat_lt 0 state.dropped) offer.frame.tag
 
 -- the state after a note
 abbrev pub slot_after : SlotState → Note → SlotState
@@ -70,6 +74,17 @@ abbrev pub IsSlotRun : ℕ → SlotState → List Note → Type 0
 IsSlotRun slots state [] = Unit {0}
 IsSlotRun slots state (note ∷ notes) =
     SlotMayStand slots state note × EndsThere note notes × IsSlotRun slots (slot_after state note) notes
+
+-- a note that doesn't close the ring
+abbrev pub SlotGoesOn : Note → Type 0
+SlotGoesOn Finished = ⊥
+SlotGoesOn note = Unit {0}
+
+-- each note may stand after those before it, and none closes the ring
+abbrev pub IsOpenSlotRun : ℕ → SlotState → List Note → Type 0
+IsOpenSlotRun slots state [] = Unit {0}
+IsOpenSlotRun slots state (note ∷ notes) =
+    SlotMayStand slots state note × SlotGoesOn note × IsOpenSlotRun slots (slot_after state note) notes
 
 -- notes of a ring of so many slots from its opening to its close
 pub record IsWholeSlotRun (slots : ℕ) (notes : List Note) : Type 0 where

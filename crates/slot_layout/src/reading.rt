@@ -1,0 +1,79 @@
+//! How a slot is read.
+ghost use Rattle.std.specs.Prelude.{◌≡◌, ◌+◌, ◌≤◌, ℕ, IfOk, IsOk, length};
+ghost use Rattle.frame_view.specs.Headers.{address_of};
+ghost use Rattle.frame_view.specs.declared.frames.Packet.{Packet};
+ghost use Rattle.slot_layout.specs.SlotFaults.{slot_text_fault};
+ghost use Rattle.slot_layout.specs.SlotTexts.{HasSlotText, SlotBegins, SlotBeginsLawfully, slot_packet_at, slot_tag_at};
+ghost use Rattle.tp_layout.specs.Checks.{seen, told};
+ghost use Rattle.tp_layout.specs.Rows.{number_at};
+
+use crate::checking::check_fields;
+use crate::fields::{network_u16_at, u8_at, u16_at, u32_at};
+use frame_view::Tag;
+use tp_layout::{LayoutError, PacketRef, Shape};
+
+/// Tests a slot, and gives its packet. It is Ok exactly where the slot begins with a lawful text; else it reports the first
+/// test that fails, and where.
+pub fn read_slot<'a>(bytes: &'a [u8], shape: &Shape) -> Result<PacketRef<'a>, LayoutError>
+    requires { length bytes.now ≡ shape.now.frame_size }
+    ensures fault { told result ≡ slot_text_fault shape.now bytes.now }
+    ensures found { IfOk result (λ packet. HasSlotText shape.now bytes.now (seen packet)) }
+    ensures only { (status : ℕ) (packet : Packet) → SlotBegins shape.now status packet bytes.now
+        → IsOk result × IfOk result (λ read. seen read ≡ packet) }
+    ensures lawful { (status : ℕ) → SlotBeginsLawfully shape.now status bytes.now → IsOk result }
+{
+    check_fields(bytes, shape)?;
+    Ok(packet_at(bytes))
+}
+
+/// The packet of a slot that passed its tests.
+#[tactic(auto, unfolding(crate::specs::SlotTexts::slot_packet_at))]
+fn packet_at(bytes: &[u8]) -> PacketRef<'_>
+    requires { 66 + number_at 4 8 bytes.now ≤ length bytes.now }
+    ensures { seen result ≡ slot_packet_at bytes.now }
+{
+    let snap = u32_at(bytes, 8);
+    let (_, rest) = bytes.split_at(66);
+    let (captured, _) = rest.split_at(snap as usize);
+    PacketRef {
+        sec: u32_at(bytes, 16),
+        nsec: u32_at(bytes, 20),
+        wire: u32_at(bytes, 4),
+        rxhash: 0,
+        protocol: network_u16_at(bytes, 34),
+        pkttype: u8_at(bytes, 42),
+        addr: address_at(bytes, 44),
+        bytes: captured,
+        tag: tag_at(bytes),
+    }
+}
+
+/// The tag of a slot, where its status says that it has one.
+pub(crate) fn tag_at(bytes: &[u8]) -> Option<Tag>
+    requires { 28 ≤ length bytes.now }
+    ensures { result ≡ slot_tag_at bytes.now }
+{
+    let status = u32_at(bytes, 0);
+    if status != 81 && status != 85 {
+        return None;
+    }
+    Some(Tag {
+        tpid: u16_at(bytes, 26),
+        tci: u16_at(bytes, 24),
+    })
+}
+
+/// The six bytes of an address from a place.
+fn address_at(bytes: &[u8], at: usize) -> [u8; 6]
+    requires { at + 6 ≤ length bytes.now }
+    ensures { result ≡ address_of at bytes.now }
+{
+    [
+        bytes[at],
+        bytes[at + 1],
+        bytes[at + 2],
+        bytes[at + 3],
+        bytes[at + 4],
+        bytes[at + 5],
+    ]
+}
