@@ -1,5 +1,5 @@
 -- The report of a replay over rings of slots is that of a run over such rings.
-use Rattle.std.proofs.Common.{◌≡◌, ℕ, ◌<◌, ◌≤◌, ◌+◌, Bool, List, length, get_or, Option, refl, subst, sym, ap, arith}
+use Rattle.std.proofs.Common.{◌≡◌, ℕ, ◌<◌, ◌≤◌, ◌+◌, Bool, false, List, length, get_or, Option, refl, subst, sym, ap, arith}
 use Rattle.std.specs.Prelude.{All, None, map}
 use Rattle.capture_file.specs.declared.cpu_end.CpuEnd.{CpuEnd}
 use Rattle.fanout_group.specs.Joined.{Logged}
@@ -16,19 +16,21 @@ use Rattle.ring_model.specs.Rings.{Ring}
 use Rattle.ring_model.specs.declared.notes.Note.{Note}
 use Rattle.run_reports.specs.Jobs.{arriving_of, rules_of}
 use Rattle.run_reports.specs.Once.{EachArrivalStandsOnce}
+use Rattle.run_reports.specs.Reports.{logged}
+use Rattle.run_reports.proofs.Shorts.{short_members}
 use Rattle.run_reports.proofs.ArrivalOrder.{AreNumbered, arrive, some_members}
 use Rattle.schedule_lines.specs.Ascending.{IsSchedule}
 use Rattle.schedule_lines.specs.declared.lines.Line.{Line}
 use Rattle.setup_text.specs.Sound.{IsSetup}
 use Rattle.setup_text.specs.declared.jobs.Job.{Job}
 use Rattle.setup_text.specs.declared.reports.RunReport.{RunReport}
+use Rattle.slot_layout.proofs.SlotBounds.{slot_bounds}
 use Rattle.slot_layout.specs.SlotShapes.{IsSlotShape, slot_size_of}
 use Rattle.tp_layout.specs.declared.requests.RingRequest.{RingRequest}
 use Rattle.v2_replay.specs.SlotReplays.{slot_member_of, slot_steps}
 use Rattle.v2_replay.specs.SlotReports.{IsSlotMember, IsSlotRingReport, IsSlotRunReport}
 use Rattle.v2_replay.specs.SlotRuns.{slot_replay_of, slot_report_of}
 use Rattle.v2_replay.proofs.SlotRings.{IsOpenSlots, closed_slots, slots_keep}
-use Rattle.v2_replay.proofs.SlotShorts.{are_short}
 
 member_lawful : (shape : RingRequest) (asked : Bool) (ring : Ring) → IsSlotRingReport (slot_size_of shape) ring → IsSlotMember shape asked (slot_member_of asked ring)
 member_lawful shape asked ring h = record { run = h.run; walked = refl; dump = refl; blocks = refl }
@@ -52,6 +54,9 @@ module _ (law : AreNumbered) (once : EachOnce) (job : Job) (lines : List Line) (
   abbrev of : RunReport
   of = report_with (slot_member_of job.setup.dump) all ends (slot_replay_of job lines all)
 
+  small : IsSlotShape job.setup.shape → size.room ≤ 4294967373
+  small checked = let bounds = slot_bounds job.setup.shape checked in let most = bounds.small in omega (arith, most)
+
   is_run : IsSlotRunReport job all ends of
   is_run =
       let group = group_is steps (slot_member_of job.setup.dump) (IsSlotRingReport size) job lines all ends report many (λ ring. refl) in
@@ -62,7 +67,8 @@ module _ (law : AreNumbered) (once : EachOnce) (job : Job) (lines : List Line) (
         group = group;
         members = members;
         once = once (rules_of job) size.room _ _ group;
-        short = are_short job (arriving_of job all) of setup group members;
+        short = short_members (rules_of job) size.room false (logged (arriving_of job all) of.cpus) of.members (small slots) group
+            (λ at d within. let member = members at d within in member.walked);
       }
 
   pub is_slot_run : IsSlotRunReport job all ends (slot_report_of job lines all ends)
