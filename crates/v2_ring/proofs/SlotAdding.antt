@@ -1,11 +1,11 @@
 -- A note more, and what the fields of a ring of slots keep.
-use Rattle.std.proofs.Common.{◌≡◌, ℕ, ◌+◌, ◌^◌, ◌<◌, ◌≤◌, List, [], ◌∷◌, ◌++◌, length, refl, sym, subst, ap, arith, length-append}
+use Rattle.std.proofs.Common.{◌≡◌, ℕ, ◌+◌, ◌^◌, ◌<◌, ◌≤◌, List, [], ◌∷◌, ◌++◌, length, Option, refl, sym, subst, ap, arith, length-append}
 use Rattle.ring_model.specs.declared.notes.Note.{Note}
 use Rattle.ring_words.specs.Rings.{Feed}
 use Rattle.slot_model.specs.SlotSteps.{SlotGoesOn, SlotMayStand, SlotState, slot_after, slot_state_of}
 use Rattle.slot_model.proofs.Runs.{slot_counted, slot_run_push, slot_state_push}
 use Rattle.v2_ring.specs.SlotMachines.{IsSlotAt, IsSlotFew, KeepsSlotEnd}
-use Rattle.v2_ring.specs.SlotProducing.{SlotAdds, SlotKeeps}
+use Rattle.v2_ring.specs.SlotProducing.{SlotAdds, SlotKeeps, SlotLooks, SlotProducing, slots_filled}
 use Rattle.v2_ring.specs.declared.machine.SlotMachine.{SlotMachine}
 
 -- the machine went on by a note
@@ -22,7 +22,7 @@ few_before notes few =
     record { slots = omega (arith, all.slots); packets = omega (arith, all.packets) }
 
 -- another list of notes beside the machine
-at_notes : {E : Type 0} (feed : E → Feed) (s : SlotState) (machine : SlotMachine E) (notes : _) → IsSlotAt feed 0 s machine
+pub at_notes : {E : Type 0} (feed : E → Feed) (s : SlotState) (machine : SlotMachine E) (notes : _) → IsSlotAt feed 0 s machine
     → IsSlotAt feed 0 s (record machine { notes = notes })
 at_notes feed s machine notes a = record {
   checked = a.checked;
@@ -73,3 +73,23 @@ module _ {E : Type 0} (feed : E → Feed) (before after_it : SlotMachine E) (not
     texts = at_after.texts;
     end = step.end;
   })
+
+-- an end that is the same
+pub same_end : (before after_it : Feed) → after_it ≡ before → KeepsSlotEnd before after_it
+same_end before after_it same = record {
+  ring = ap (λ (f : Feed). f.ring) same;
+  freed = ap (λ (f : Feed). f.freed) same;
+  fetched = ap (λ (f : Feed). f.fetched) same;
+  holds = (let holds = ap (λ (f : Feed). f.holds) same in omega arith);
+}
+
+-- what is known of the fields is known of what contracts see
+pub adds_given : {E : Type 0} (feed : E → Feed) (inside given after_it : SlotProducing E) → inside ≡ given → (note : Note)
+    → SlotAdds feed inside after_it note → SlotAdds feed given after_it note
+adds_given feed inside given after_it e note adds = subst (λ p. SlotAdds feed p after_it note) e adds
+
+pub looks_given : {E : Type 0} (feed : E → Feed) (inside given : SlotProducing E) → inside ≡ given → (held : Option ℕ) (after_it : Feed)
+    → SlotLooks inside.shape.frame_nr (slots_filled inside) held (feed inside.end) after_it
+    → SlotLooks given.shape.frame_nr (slots_filled given) held (feed given.end) after_it
+looks_given feed inside given e held after_it looks =
+    subst (λ p. SlotLooks p.shape.frame_nr (slots_filled p) held (feed p.end) after_it) e looks

@@ -1,5 +1,5 @@
 -- An end stands for the text of one slot more.
-use Rattle.std.proofs.Common.{◌≡◌, ℕ, zero, suc, ◌+◌, ◌≤◌, ◌<◌, ◌^◌, ◌%◌, List, [], ◌∷◌, ◌++◌, length, drop, refl, sym, subst, ap, ◌∙◌, arith, length-append}
+use Rattle.std.proofs.Common.{◌≡◌, ℕ, zero, suc, ◌+◌, ◌≤◌, ◌^◌, List, [], ◌∷◌, ◌++◌, length, drop, refl, sym, subst, ap, ◌∙◌, arith, length-append}
 use Rattle.ring_model.specs.declared.notes.Found.TheVariants.{Free}
 use Rattle.ring_model.specs.declared.notes.Note.TheVariants.{Kept}
 use Rattle.ring_model.specs.declared.notes.Offer.{Offer}

@@ -1,11 +1,11 @@
 -- A slot that begins with a lawful text is read as what the text says.
 use Rattle.std.proofs.Common.{◌≡◌, ℕ, ◌+◌, ◌≤◌, List, length, take, refl, ap, sym, ◌∙◌, arith}
-use Rattle.std.specs.Prelude.{Err, IsOk, Ok, Result}
+use Rattle.std.specs.Prelude.{Err, IsOk, Result}
 use Rattle.std.proofs.Math.Bridge.{le_prop}
 use Rattle.std.proofs.Math.Logic.{∥∥₁_elim}
 use Rattle.std.proofs.Props.{props}
 use Rattle.frame_view.specs.declared.frames.Packet.{Packet}
-use Rattle.slot_layout.specs.SlotTexts.{HasSlotText, SlotBegins, SlotBeginsLawfully, slot_packet_at, slot_text}
+use Rattle.slot_layout.specs.SlotTexts.{SlotBegins, SlotBeginsLawfully, slot_packet_at, slot_text}
 use Rattle.slot_layout.proofs.SlotNumbers.{length-slot_text}
 use Rattle.slot_layout.proofs.SlotStands.{begins_stands}
 use Rattle.tp_layout.proofs.Opens.{within}

@@ -1,5 +1,5 @@
 -- The machine of a ring of slots at a state of its notes.
-use Rattle.std.specs.Prelude.{◌≡◌, ℕ, ◌+◌, ◌^◌, ◌<◌, ◌≤◌, List, [], length, Option, None, Some}
+use Rattle.std.specs.Prelude.{◌≡◌, ℕ, ◌+◌, ◌^◌, ◌<◌, ◌≤◌, [], length, Option, None, Some}
 use Rattle.ring_words.specs.Rings.{Feed}
 use Rattle.slot_layout.specs.SlotShapes.{IsSlotShape}
 use Rattle.slot_model.specs.SlotSteps.{SlotState}

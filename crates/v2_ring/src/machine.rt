@@ -114,7 +114,8 @@ impl<E: FeederEnd<Slot> + Drop> SlotMachine<E> {
         requires kind { numbers_of slot.shape ≡ numbers_of self.old.shape }
         requires fits { 66 + offer.now.snap ≤ self.old.shape.frame_size }
         requires writable { IsWritable offer.now }
-        ensures at { IsSlotAt E.feed 0 (slot_after state (notes.Kept offer.now found.Free)) self.new }
+        ensures at { IsSlotAt E.feed 0
+            (slot_after state (notes.Kept offer.now found.Free)) self.new }
         ensures end { KeepsSlotEnd (E.feed self.old.end) (E.feed self.new.end) }
         ensures holds { (E.feed self.new.end).holds ≡ (E.feed self.old.end).holds }
         ensures same { (self.new.shape ≡ self.old.shape) × (self.new.notes ≡ self.old.notes) }

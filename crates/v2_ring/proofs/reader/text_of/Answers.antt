@@ -1,4 +1,4 @@
-use Rattle.std.proofs.Common.{◌≡◌, ◌+◌, List, ℕ, length, take, ap, ◌∙◌, arith}
+use Rattle.std.proofs.Common.{◌+◌, List, ℕ, length, take, ap, ◌∙◌, arith}
 use Rattle.frame_view.specs.declared.frames.Packet.{Packet}
 use Rattle.v2_ring.proofs.SlotTold.{text_lent, text_within}
 use Rattle.v2_ring.proofs.reader.text_of.Goals as goal
