@@ -1,3 +1,4 @@
 pub mod Looks
 pub mod Kept
+pub mod Runs
 pub mod Counts

@@ -1,9 +1,11 @@
 -- What the report of a run over rings of slots is worth.
-use Rattle.std.specs.Prelude.{◌≡◌, ℕ, ◌+◌, ◌<◌, ◌≤◌, Bool, List, [], ◌∷◌, length, map, All}
+use Rattle.std.specs.Prelude.{◌≡◌, ℕ, Bool, List, length, map, All}
 use Rattle.capture_file.specs.declared.cpu_end.CpuEnd.{CpuEnd}
 use Rattle.fanout_group.specs.Once.{IsGroupReport}
 use Rattle.ring_model.specs.Fates.{kept_of}
-use Rattle.ring_model.specs.Unreleased.{IsUnreleased}
+use Rattle.replay_model.specs.Reports.{AreReleases}
+use Rattle.ring_model.specs.Ring.{Size}
+use Rattle.ring_model.specs.Rings.{Ring}
 use Rattle.run_reports.specs.Jobs.{arriving_of, rules_of}
 use Rattle.run_reports.specs.Logs.{AreLogsFrom}
 use Rattle.run_reports.specs.Members.{AreShort}
@@ -17,6 +19,14 @@ use Rattle.slot_model.specs.SlotRings.{room_of_slots}
 use Rattle.slot_model.specs.SlotSteps.{IsWholeSlotRun, slot_state_of}
 use Rattle.tp_layout.specs.declared.requests.RingRequest.{RingRequest}
 use Rattle.v2_replay.specs.SlotReplays.{slot_dump_where}
+
+-- a ring of slots of this size whose notes go from its opening to its close
+pub record IsSlotRingReport (size : Size) (ring : Ring) : Type 0 where
+  pub size_is : ring.size ≡ size
+  pub run : IsWholeSlotRun size.blocks ring.notes
+  -- so a drop found its slot unreleased
+  pub releases : List ℕ
+  pub unreleased : AreReleases 0 ring.released releases ring.notes
 
 -- a member's notes are a run of its ring of slots from its opening to its close; its report has the
 -- packets of the offers that were kept, the texts of the filled slots where they are asked for, and
