@@ -1,5 +1,5 @@
 //! The lines that runs print.
-use crate::reports::{Cpu, Member, printed, printed_forward};
+use crate::reports::{Cpu, Member, printed, printed_forward, printed_slots};
 use capture_file::CpuEnd;
 use frame_view::Memory;
 
@@ -93,6 +93,23 @@ fn prints_the_lines_of_runs(rt: HostRuntime) -> Result<(), Memory> {
         let text = printed(rt.alloc(), *tov, cpus, members)?;
         assert_eq!(rt; text.as_slice(), lines.as_bytes(), "{name}");
     }
+    Ok(())
+}
+
+#[test]
+fn prints_no_freeze_of_slots(rt: HostRuntime) -> Result<(), Memory> {
+    let text = printed_slots(
+        rt.alloc(),
+        &[(8, &[PASS; 8], CpuEnd::Whole)],
+        &[("nnnndcnd.", &[], 5), ("r.", &[], 0)],
+    )?;
+    let lines = "cpu 0 frames 8 arrivals 8 end ok
+member 0 packets 7 drops 2 freezes 0 blocks 5
+count 0 packets 5 drops 1 freezes 0
+member 1 packets 0 drops 0 freezes 0 blocks 0
+total arrivals 8 filtered 0 kept 5 drops 2
+";
+    assert_eq!(rt; text.as_slice(), lines.as_bytes());
     Ok(())
 }
 

@@ -5,7 +5,7 @@ use frame_view::{ByteList, Frame, ItemList, Memory, Packet, Packets};
 use ring_model::{Found, Note, Notes, Offer};
 use setup_text::{Forwards, MemberList, MemberReport, RunReport};
 use std::alloc::Global;
-use tap_printing::summary;
+use tap_printing::{RingKind, summary};
 
 /// The log of a CPU: the number of frames, the verdicts of the arrivals, and the end.
 pub(crate) type Cpu<'a> = (u32, &'a [u32], CpuEnd);
@@ -158,7 +158,7 @@ fn report_of(alloc: Global, cpus: &[Cpu<'_>], members: &[Member<'_>]) -> Result<
     })
 }
 
-/// The lines of a run with a time-out in milliseconds.
+/// The lines of a run over rings of blocks with a time-out in milliseconds.
 pub(crate) fn printed(
     alloc: Global,
     tov: u64,
@@ -166,7 +166,17 @@ pub(crate) fn printed(
     members: &[Member<'_>],
 ) -> Result<ByteList, Memory> {
     let report = report_of(alloc, cpus, members)?;
-    summary(alloc, tov, &report, None)
+    summary(alloc, RingKind::Blocks, tov, &report, None)
+}
+
+/// The lines of a run over rings of slots. A slot that is filled was free, which is the letter `n`.
+pub(crate) fn printed_slots(
+    alloc: Global,
+    cpus: &[Cpu<'_>],
+    members: &[Member<'_>],
+) -> Result<ByteList, Memory> {
+    let report = report_of(alloc, cpus, members)?;
+    summary(alloc, RingKind::Slots, 8, &report, None)
 }
 
 /// So many packets of 14 bytes.
@@ -195,5 +205,5 @@ pub(crate) fn printed_forward(
         forwards.sent.push(packets(alloc, *sent)?)?;
         forwards.skipped.push(*skipped)?;
     }
-    summary(alloc, 0, &report, Some(&forwards))
+    summary(alloc, RingKind::Blocks, 0, &report, Some(&forwards))
 }

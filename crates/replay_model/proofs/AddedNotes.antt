@@ -7,7 +7,6 @@ use Rattle.frame_view.specs.declared.frames.Frame.{Frame}
 use Rattle.ring_model.specs.Fates.{frame_note, frame_notes}
 use Rattle.ring_model.specs.Offers.{offer_of}
 use Rattle.ring_model.specs.Asking.{put_by, try_by}
-use Rattle.ring_model.specs.Ring.{Size}
 use Rattle.ring_model.specs.Rings.{Ring, noted}
 use Rattle.ring_model.specs.declared.notes.Offer.{Offer}
 use Rattle.ring_model.specs.declared.notes.Found.{Found}
@@ -22,7 +21,6 @@ use Rattle.fanout_group.specs.declared.logs.Fate.TheVariants.{Kept}
 use Rattle.fanout_group.specs.declared.logs.Try.{Try}
 use Rattle.replay_model.specs.Replay.{fate_of, no_ring, noted_at}
 use Rattle.replay_model.proofs.Places.{set_within}
-use Rattle.replay_model.proofs.Rings.{IsOpen}
 
 pub frame_notes-append : (cpu : ℕ) (a b : List Note) → frame_notes cpu (a ++ b) ≡ frame_notes cpu a ++ frame_notes cpu b
 frame_notes-append cpu [] b = refl
@@ -58,17 +56,17 @@ abbrev pub offered : Arrival → Offer
 offered a = offer_of a.room a.own a.entry.hash a.entry.verdict a.frame
 
 -- tries of an arrival add to a ring the notes of those at its member, and nothing about other CPUs
-pub record Adds (a : Arrival) (member : ℕ) (tries : List Try) (old new : Ring) : Type 0 where
+pub record Adds (P : ℕ → Ring → Type 0) (a : Arrival) (member : ℕ) (tries : List Try) (old new : Ring) : Type 0 where
   pub notes : List Note
   pub new_is : new.notes ≡ old.notes ++ notes
   pub joined : AreNotesOf a.room a.own (attempts_in member a.frame a.entry tries) (frame_notes a.frame.cpu notes)
   pub others : (cpu : ℕ) → cpu ≢ a.frame.cpu → frame_notes cpu notes ≡ []
-  pub opens : (size : Size) (clock : ℕ) → IsOpen size clock old → IsOpen size clock new
+  pub opens : (clock : ℕ) → P clock old → P clock new
 
 -- the same of all rings
-pub record Spread (a : Arrival) (tries : List Try) (old new : List Ring) : Type 0 where
+pub record Spread (P : ℕ → Ring → Type 0) (a : Arrival) (tries : List Try) (old new : List Ring) : Type 0 where
   pub count : length new ≡ length old
-  pub each : (member : ℕ) → member < length old → Adds a member tries (get_or old member no_ring) (get_or new member no_ring)
+  pub each : (member : ℕ) → member < length old → Adds P a member tries (get_or old member no_ring) (get_or new member no_ring)
 
 -- the note of a try of an arrival
 pub record Tells (a : Arrival) (fate : Fate) (note : Note) : Type 0 where
@@ -77,21 +75,21 @@ pub record Tells (a : Arrival) (fate : Fate) (note : Note) : Type 0 where
   pub others : (cpu : ℕ) → cpu ≢ a.frame.cpu → frame_note cpu note ≡ []
 
 -- a note that leaves a ring open
-abbrev pub LeavesOpen : Ring → Note → Type 0
-LeavesOpen ring note = (size : Size) (clock : ℕ) → IsOpen size clock ring → IsOpen size clock (noted ring note)
+abbrev pub LeavesOpen : (ℕ → Ring → Type 0) → Ring → Note → Type 0
+LeavesOpen P ring note = (clock : ℕ) → P clock ring → P clock (noted ring note)
 
-module _ (a : Arrival) where
-  adds_none : (member : ℕ) (ring : Ring) → Adds a member [] ring ring
+module _ (P : ℕ → Ring → Type 0) (a : Arrival) where
+  adds_none : (member : ℕ) (ring : Ring) → Adds P a member [] ring ring
   adds_none member ring = record {
     notes = [];
     new_is = sym (append-nil ring.notes);
     joined = tt;
     others = λ cpu other. refl;
-    opens = λ size clock h. h;
+    opens = λ clock h. h;
   }
 
-  adds_then : (member : ℕ) (first rest : List Try) (old mid new : Ring) → Adds a member first old mid → Adds a member rest mid new
-      → Adds a member (first ++ rest) old new
+  adds_then : (member : ℕ) (first rest : List Try) (old mid new : Ring) → Adds P a member first old mid → Adds P a member rest mid new
+      → Adds P a member (first ++ rest) old new
   adds_then member first rest old mid new h k = record {
     notes = h.notes ++ k.notes;
     new_is = k.new_is ∙ ap (λ (ns : List Note). ns ++ k.notes) h.new_is ∙ append_assoc old.notes h.notes k.notes;
@@ -99,20 +97,20 @@ module _ (a : Arrival) where
         (notes-append a.room a.own _ _ _ _ h.joined k.joined);
     others = λ cpu other. frame_notes-append cpu h.notes k.notes
         ∙ ap (λ (ns : List Note). ns ++ frame_notes cpu k.notes) (h.others cpu other) ∙ k.others cpu other;
-    opens = λ size clock was. k.opens size clock (h.opens size clock was);
+    opens = λ clock was. k.opens clock (h.opens clock was);
   }
 
-  adds_elsewhere : (member at : ℕ) (fate : Fate) (ring : Ring) → eqb at member ≡ false → Adds a member (a_try at fate ∷ []) ring ring
+  adds_elsewhere : (member at : ℕ) (fate : Fate) (ring : Ring) → eqb at member ≡ false → Adds P a member (a_try at fate ∷ []) ring ring
   adds_elsewhere member at fate ring other = record {
     notes = [];
     new_is = sym (append-nil ring.notes);
     joined = rw other tt;
     others = λ cpu other. refl;
-    opens = λ size clock h. h;
+    opens = λ clock h. h;
   }
 
   adds_here : (member at : ℕ) (fate : Fate) (note : Note) (ring : Ring) → eqb at member ≡ true → Tells a fate note
-      → LeavesOpen ring note → Adds a member (a_try at fate ∷ []) ring (noted ring note)
+      → LeavesOpen P ring note → Adds P a member (a_try at fate ∷ []) ring (noted ring note)
   adds_here member at fate note ring same tells opens = record {
     notes = note ∷ [];
     new_is = refl;
@@ -121,25 +119,26 @@ module _ (a : Arrival) where
     opens = opens;
   }
 
-  pub spread_none : (rings : List Ring) → Spread a [] rings rings
+  pub spread_none : (rings : List Ring) → Spread P a [] rings rings
   spread_none rings = record { count = refl; each = λ member below. adds_none member (get_or rings member no_ring) }
 
-  pub spread_then : (first rest : List Try) (old mid new : List Ring) → Spread a first old mid → Spread a rest mid new
-      → Spread a (first ++ rest) old new
+  pub spread_then : (first rest : List Try) (old mid new : List Ring) → Spread P a first old mid → Spread P a rest mid new
+      → Spread P a (first ++ rest) old new
   spread_then first rest old mid new h k = record {
     count = k.count ∙ h.count;
     each = λ member below. adds_then member first rest _ _ _ (h.each member below) (k.each member (omega (arith, h.count)));
   }
 
   pub spread_one : (at : ℕ) (fate : Fate) (note : Note) (rings : List Ring) → at < length rings → Tells a fate note
-      → LeavesOpen (get_or rings at no_ring) note → Spread a (a_try at fate ∷ []) rings (noted_at at note rings)
+      → LeavesOpen P (get_or rings at no_ring) note → Spread P a (a_try at fate ∷ []) rings (noted_at at note rings)
   spread_one at fate note rings inside tells opens = record {
     count = length-set rings at _;
-    each = set_within (λ member ring. Adds a member (a_try at fate ∷ []) (get_or rings member no_ring) ring) rings at _ no_ring
+    each = set_within (λ member ring. Adds P a member (a_try at fate ∷ []) (get_or rings member no_ring) ring) rings at _ no_ring
         (λ inside. adds_here at at fate note (get_or rings at no_ring) (eq-eqb at at refl) tells opens)
         (λ member below other. adds_elsewhere member at fate (get_or rings member no_ring) (ne_eqb at member (λ e. other (sym e))));
   }
 
+module _ (a : Arrival) where
   kept_tells : (found : Found) → Tells a Kept (notes.Kept (offered a) found)
   kept_tells found = record {
     is = (refl, refl);

@@ -1,4 +1,5 @@
 pub mod Noted
+pub mod KeptOpen
 pub mod Places
 pub mod Rings
 pub mod AddedNotes

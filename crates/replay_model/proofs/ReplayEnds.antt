@@ -5,7 +5,6 @@ use Rattle.std.proofs.lemmas.Bool.{cases_lt, le-ltb}
 use Rattle.std.proofs.lemmas.List.{append-nil, get_or-map, get_or-replicate, get_or_past, length-map, length-replicate}
 use Rattle.std.proofs.lemmas.List.Sums.{sum_by-cons}
 use Rattle.ring_model.specs.Fates.{frame_notes}
-use Rattle.ring_model.specs.Ring.{Size}
 use Rattle.ring_model.specs.Rings.{Ring, fresh, noted}
 use Rattle.ring_model.specs.declared.notes.Note.{Note}
 use Rattle.ring_model.specs.declared.notes.Note.TheVariants as notes
@@ -17,12 +16,13 @@ use Rattle.fanout_group.specs.Rules.{Rules}
 use Rattle.fanout_group.specs.declared.logs.ArrivalLog.{ArrivalLog}
 use Rattle.fanout_group.proofs.Members.{one_if}
 use Rattle.replay_model.specs.Replay.{Cpu, Replay, closed, cpu_at, feed_from, done_lines, no_cpu, no_ring, replayed, started}
-use Rattle.replay_model.specs.Reports.{AreArrivals, IsReplayReport, IsRingReport, logged_of, notes_of}
+use Rattle.replay_model.specs.Reports.{AreArrivals, IsReplayReport, logged_of, notes_of}
+use Rattle.replay_model.specs.RingSteps.{RingSteps}
 use Rattle.schedule_lines.specs.Ascending.{IsSchedule}
 use Rattle.schedule_lines.specs.declared.lines.Line.{Line}
 use Rattle.replay_model.proofs.FedLines.{all_fed, lines_go}
 use Rattle.replay_model.proofs.ReplayStates.{Waiting, Goes, Joins}
-use Rattle.replay_model.proofs.Rings.{IsOpen, closed_run, fresh_open}
+use Rattle.replay_model.proofs.KeptOpen.{KeepOpen}
 
 -- a CPU before the first line
 abbrev new_cpu : Waiting → Cpu
@@ -38,20 +38,20 @@ nothing_yet f [] e = refl
 nothing_yet f (waiting ∷ arriving) e =
     let count : Cpu → ℕ = λ cpu. f cpu.log in omega (arith, sum_by-cons count (new_cpu waiting) (map new_cpu arriving), nothing_yet f arriving e)
 
-started_goes : (rules : Rules) (size : Size) (arriving : List Waiting) → 0 < rules.members → AreArrivals arriving
-    → Goes rules size arriving 0 (started rules size arriving)
-started_goes rules size arriving some of =
-    let rings = replicate rules.members (fresh size) in
-    let count : length rings ≡ rules.members = length-replicate rules.members (fresh size) in
-    let ring_at : (member : ℕ) → member < length rings → fresh size ≡ get_or rings member no_ring =
-    λ member below. sym (get_or-replicate rules.members member (fresh size) no_ring (omega arith)) in
+started_goes : (P : ℕ → Ring → Type 0) (rules : Rules) (steps : RingSteps) (keep : KeepOpen steps P) (arriving : List Waiting) → 0 < rules.members → AreArrivals arriving
+    → Goes P rules steps arriving 0 (started rules steps arriving)
+started_goes P rules steps keep arriving some of =
+    let rings = replicate rules.members (fresh steps.size) in
+    let count : length rings ≡ rules.members = length-replicate rules.members (fresh steps.size) in
+    let ring_at : (member : ℕ) → member < length rings → fresh steps.size ≡ get_or rings member no_ring =
+    λ member below. sym (get_or-replicate rules.members member (fresh steps.size) no_ring (omega arith)) in
     record {
       cpus = length-map arriving new_cpu;
       members = count;
-      opens = λ member below. subst (λ (ring : Ring). IsOpen size 0 ring) (ring_at member below) (fresh_open size);
+      opens = λ member below. subst (λ (ring : Ring). P 0 ring) (ring_at member below) (keep.first);
       logs = λ cpu. rw (started_at arriving cpu) (record { present = some; least = 0; of = of cpu; lawful = λ more rest. rest });
       joins = λ cpu member below.
-          subst (λ (ring : Ring). Joins size.room rules.own cpu member (somes (get_or arriving cpu [])) (cpu_at (started rules size arriving) cpu)
+          subst (λ (ring : Ring). Joins steps.size.room rules.own cpu member (somes (get_or arriving cpu [])) (cpu_at (started rules steps arriving) cpu)
           ring.notes) (ring_at member below)
           (rw (started_at arriving cpu) (record { joined = λ log more k. k }));
       tickets = λ lb. record {
@@ -84,7 +84,7 @@ logged_sum f (waiting ∷ arriving) (c ∷ cpus) e =
     omega (arith, first, same, sum_by-cons b c cpus)
 
 -- a replay whose CPUs are all fed to their ends
-module _ (rules : Rules) (size : Size) (arriving : List Waiting) (clock : ℕ) (replay : Replay) (h : Goes rules size arriving clock replay)
+module _ (P : ℕ → Ring → Type 0) (rules : Rules) (steps : RingSteps) (arriving : List Waiting) (clock : ℕ) (replay : Replay) (h : Goes P rules steps arriving clock replay)
     (fed : (k : ℕ) → (cpu_at replay k).waiting ≡ []) where
   count : length (closed replay).members ≡ length replay.members
   count = length-map replay.members (λ ring. noted ring notes.Finished)
@@ -107,27 +107,28 @@ module _ (rules : Rules) (size : Size) (arriving : List Waiting) (clock : ℕ) (
       subst (λ (log : List ArrivalLog). IsLawful rules (somes (get_or arriving cpu [])) log) (append-nil of.log) ((h.logs cpu).lawful [] none)
 
   joined_at : (cpu member : ℕ) → member < length replay.members
-      → AreNotesOf size.room rules.own (attempts_at member (somes (get_or arriving cpu [])) (cpu_at replay cpu).log)
+      → AreNotesOf steps.size.room rules.own (attempts_at member (somes (get_or arriving cpu [])) (cpu_at replay cpu).log)
       (frame_notes cpu ((get_or replay.members member no_ring).notes ++ notes.Finished ∷ []))
   joined_at cpu member below =
       let of = cpu_at replay cpu in
       let ns = (get_or replay.members member no_ring).notes ++ notes.Finished ∷ [] in
-      let none = subst (λ (ws : Waiting). AreNotesOf size.room rules.own (attempts_at member (somes ws) []) []) (sym (fed cpu)) tt in
-      subst (λ (log : List ArrivalLog). AreNotesOf size.room rules.own (attempts_at member (somes (get_or arriving cpu [])) log) (frame_notes cpu ns))
+      let none = subst (λ (ws : Waiting). AreNotesOf steps.size.room rules.own (attempts_at member (somes ws) []) []) (sym (fed cpu)) tt in
+      subst (λ (log : List ArrivalLog). AreNotesOf steps.size.room rules.own (attempts_at member (somes (get_or arriving cpu [])) log) (frame_notes cpu ns))
       (append-nil of.log) ((h.joins cpu member below).joined [] (notes.Finished ∷ []) none)
 
-  closed_rings : All (IsRingReport size) (closed replay).members
-  closed_rings = λ member d below.
+  closed_rings : (IsRing : Ring → Type 0) → ((clock : ℕ) (ring : Ring) → P clock ring → IsRing (noted ring notes.Finished))
+      → All IsRing (closed replay).members
+  closed_rings IsRing closes = λ member d below.
       let there : member < length replay.members = omega (arith, count) in
-      rw (closed_at member d there) (closed_run size clock (get_or replay.members member no_ring) (h.opens member there))
+      rw (closed_at member d there) (closes clock (get_or replay.members member no_ring) (h.opens member there))
 
-  joined : AreJoined rules size.room (logged_of arriving replay.cpus) (notes_of (closed replay).members)
+  joined : AreJoined rules steps.size.room (logged_of arriving replay.cpus) (notes_of (closed replay).members)
   joined = record {
     each = λ cpu member below.
         let there : member < length replay.members = omega (arith, count, length-map (closed replay).members (λ ring. ring.notes)) in
-        subst (λ (logged : Logged). AreNotesOf size.room rules.own (attempts_at member logged.arrivals logged.log)
+        subst (λ (logged : Logged). AreNotesOf steps.size.room rules.own (attempts_at member logged.arrivals logged.log)
         (frame_notes cpu (get_or (notes_of (closed replay).members) member []))) (logged_at arriving replay.cpus cpu h.cpus)
-        (subst (λ (ns : List Note). AreNotesOf size.room rules.own
+        (subst (λ (ns : List Note). AreNotesOf steps.size.room rules.own
         (attempts_at member (somes (get_or arriving cpu [])) (cpu_at replay cpu).log) (frame_notes cpu ns))
         (notes_at member there) (joined_at cpu member there));
     rising = λ cpu lb.
@@ -139,7 +140,7 @@ module _ (rules : Rules) (size : Size) (arriving : List Waiting) (clock : ℕ) (
         ∙ ap (λ n. one_if (ltb ticket n)) ((h.tickets lb).total ∙ sym (logged_sum length arriving replay.cpus h.cpus));
   }
 
-  group : 0 < rules.members → AreArrivals arriving → IsGroupReport rules size.room (logged_of arriving replay.cpus) (notes_of (closed replay).members)
+  group : 0 < rules.members → AreArrivals arriving → IsGroupReport rules steps.size.room (logged_of arriving replay.cpus) (notes_of (closed replay).members)
   group some of = record {
     some = some;
     count = length-map (closed replay).members (λ ring. ring.notes) ∙ count ∙ h.members;
@@ -155,20 +156,21 @@ none_past cpus upto e empty k = elim (cases_lt k upto) [
   | inr past ↦ ap (λ (cpu : Cpu). cpu.waiting) (get_or_past cpus k no_cpu (omega arith))
 ]
 
-pub report_is : (rules : Rules) (size : Size) (arriving : List Waiting) (lines : List Line) → 0 < rules.members → AreArrivals arriving
-    → IsSchedule lines → IsReplayReport rules size arriving (replayed rules size arriving lines)
+pub report_is : (P : ℕ → Ring → Type 0) (rules : Rules) (steps : RingSteps) (keep : KeepOpen steps P) (IsRing : Ring → Type 0)
+    (closes : (clock : ℕ) (ring : Ring) → P clock ring → IsRing (noted ring notes.Finished)) (arriving : List Waiting) (lines : List Line)
+    → 0 < rules.members → AreArrivals arriving → IsSchedule lines → IsReplayReport rules steps.size.room IsRing arriving (replayed rules steps arriving lines)
 unfolding replayed
-report_is rules size arriving lines some of ascending =
-    let first = started rules size arriving in
-    let going = lines_go rules size arriving some lines 0 first (started_goes rules size arriving some of) ascending in
-    let last = done_lines rules size.room lines first in
+report_is P rules steps keep IsRing closes arriving lines some of ascending =
+    let first = started rules steps arriving in
+    let going = lines_go P rules steps keep arriving some lines 0 first (started_goes P rules steps keep arriving some of) ascending in
+    let last = done_lines rules steps lines first in
     let clock = going.0 in
-    let emptied = all_fed rules size arriving some (length last.cpus) clock 0 last going.1 (λ k below. absurd (omega arith)) in
-    let fed = feed_from rules size.room 0 (length last.cpus) last in
+    let emptied = all_fed P rules steps keep arriving some (length last.cpus) clock 0 last going.1 (λ k below. absurd (omega arith)) in
+    let fed = feed_from rules steps 0 (length last.cpus) last in
     let same : length fed.cpus ≡ 0 + length last.cpus = omega (arith, emptied.goes.cpus, going.1.cpus) in
     let empty = none_past fed.cpus (0 + length last.cpus) same emptied.waiting in
     record {
       cpus = emptied.goes.cpus;
-      group = group rules size arriving clock fed emptied.goes empty some of;
-      rings = closed_rings rules size arriving clock fed emptied.goes empty;
+      group = group P rules steps arriving clock fed emptied.goes empty some of;
+      rings = closed_rings P rules steps arriving clock fed emptied.goes empty IsRing closes;
     }

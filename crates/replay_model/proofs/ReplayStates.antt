@@ -1,11 +1,11 @@
 -- What holds of a replay at each moment, and that the lines that feed nothing keep it.
 use Rattle.std.proofs.Common.{◌≡◌, ℕ, ◌<◌, ◌≤◌, eqb, ltb, List, [], ◌∷◌, ◌++◌, length, get_or, refl, sym, ap, subst, ◌∙◌, arith, append_assoc}
-use Rattle.std.specs.Prelude.{Option, map, sum_by, count_by, slice_set}
+use Rattle.std.specs.Prelude.{Option, None, Some, map, sum_by, count_by, slice_set}
 use Rattle.std.proofs.lemmas.List.{append-nil, get_or-map, length-map, length-set}
 use Rattle.frame_view.specs.declared.frames.Frame.{Frame}
 use Rattle.ring_model.specs.Fates.{frame_notes}
-use Rattle.ring_model.specs.Ring.{Size}
-use Rattle.ring_model.specs.Rings.{Ring, note_of_tick, noted, read_once}
+use Rattle.ring_model.specs.Rings.{Ring}
+use Rattle.ring_model.specs.declared.notes.Found.{Found}
 use Rattle.ring_model.specs.declared.notes.Note.{Note}
 use Rattle.ring_model.specs.declared.notes.Note.TheVariants as notes
 use Rattle.fanout_group.specs.Arrivals.{somes}
@@ -18,7 +18,8 @@ use Rattle.fanout_group.specs.declared.modes.Mode.TheVariants.{Lb}
 use Rattle.fanout_group.proofs.Members.{one_if}
 use Rattle.replay_model.specs.Replay.{Cpu, Replay, cpu_at, no_ring, noted_at}
 use Rattle.replay_model.proofs.Places.{set_within}
-use Rattle.replay_model.proofs.Rings.{IsOpen, count_open, read_notes, read_open, tick_open}
+use Rattle.replay_model.specs.RingSteps.{RingSteps, read_by, ticked, ticked_by}
+use Rattle.replay_model.proofs.KeptOpen.{KeepOpen, read_notes}
 use Rattle.replay_model.proofs.AddedNotes.{frame_notes-append}
 
 -- what arrives at each frame that isn't fed yet
@@ -45,13 +46,13 @@ pub record Tickets (replay : Replay) : Type 0 where
       → sum_by (λ cpu. count_by (λ drawn. eqb drawn ticket) (tickets_of cpu.log)) replay.cpus ≡ one_if (ltb ticket replay.ticket)
   pub total : replay.ticket ≡ sum_by (λ cpu. length cpu.log) replay.cpus
 
-pub record Goes (rules : Rules) (size : Size) (arriving : List Waiting) (clock : ℕ) (replay : Replay) : Type 0 where
+pub record Goes (P : ℕ → Ring → Type 0) (rules : Rules) (steps : RingSteps) (arriving : List Waiting) (clock : ℕ) (replay : Replay) : Type 0 where
   pub cpus : length replay.cpus ≡ length arriving
   pub members : length replay.members ≡ rules.members
-  pub opens : (member : ℕ) → member < length replay.members → IsOpen size clock (get_or replay.members member no_ring)
+  pub opens : (member : ℕ) → member < length replay.members → P clock (get_or replay.members member no_ring)
   pub logs : (cpu : ℕ) → Logs rules cpu (somes (get_or arriving cpu [])) (cpu_at replay cpu)
   pub joins : (cpu member : ℕ) → member < length replay.members
-      → Joins size.room rules.own cpu member (somes (get_or arriving cpu [])) (cpu_at replay cpu) (get_or replay.members member no_ring).notes
+      → Joins steps.size.room rules.own cpu member (somes (get_or arriving cpu [])) (cpu_at replay cpu) (get_or replay.members member no_ring).notes
   pub tickets : rules.mode ≡ Lb → Tickets replay
 
 -- notes that aren't about frames of this CPU change nothing for it
@@ -65,53 +66,59 @@ silent_joins room own number member arrivals cpu old new added new_is silent h =
 }
 
 -- a ring after a line that feeds nothing
-record Quiet (size : Size) (now : ℕ) (old new : Ring) : Type 0 where
-  opens : IsOpen size now new
+record Quiet (P : ℕ → Ring → Type 0) (now : ℕ) (old new : Ring) : Type 0 where
+  opens : P now new
   notes : List Note
   new_is : new.notes ≡ old.notes ++ notes
   silent : (cpu : ℕ) → frame_notes cpu notes ≡ []
 
-quiet_goes : (rules : Rules) (size : Size) (arriving : List Waiting) (clock now : ℕ) (replay : Replay) (rings : List Ring)
-    → Goes rules size arriving clock replay → length rings ≡ length replay.members
-    → ((member : ℕ) → member < length replay.members → Quiet size now (get_or replay.members member no_ring) (get_or rings member no_ring))
-    → Goes rules size arriving now (record replay { members = rings })
-quiet_goes rules size arriving clock now replay rings h count quiet = record {
+quiet_goes : (P : ℕ → Ring → Type 0) (rules : Rules) (steps : RingSteps) (arriving : List Waiting) (clock now : ℕ) (replay : Replay) (rings : List Ring)
+    → Goes P rules steps arriving clock replay → length rings ≡ length replay.members
+    → ((member : ℕ) → member < length replay.members → Quiet P now (get_or replay.members member no_ring) (get_or rings member no_ring))
+    → Goes P rules steps arriving now (record replay { members = rings })
+quiet_goes P rules steps arriving clock now replay rings h count quiet = record {
   cpus = h.cpus;
   members = count ∙ h.members;
   opens = λ member below. (quiet member (omega arith)).opens;
   logs = h.logs;
   joins = λ cpu member below.
       let q = quiet member (omega arith) in
-      silent_joins size.room rules.own cpu member _ (cpu_at replay cpu) _ _ q.notes q.new_is (q.silent cpu) (h.joins cpu member (omega arith));
+      silent_joins steps.size.room rules.own cpu member _ (cpu_at replay cpu) _ _ q.notes q.new_is (q.silent cpu) (h.joins cpu member (omega arith));
   tickets = λ e. let t = h.tickets e in record { rising = t.rising; once = t.once; total = t.total };
 }
 
-pub tick_goes : (rules : Rules) (size : Size) (arriving : List Waiting) (clock ms : ℕ) (replay : Replay) → clock ≤ ms
-    → Goes rules size arriving clock replay
-    → Goes rules size arriving ms (record replay { members = map (λ ring. noted ring (note_of_tick ring ms)) replay.members })
-tick_goes rules size arriving clock ms replay later h =
-    quiet_goes rules size arriving clock ms replay _ h (length-map replay.members _) (λ member below.
-    subst (λ (ring : Ring). Quiet size ms (get_or replay.members member no_ring) ring)
+-- a tick, of which a ring without a timer notes nothing
+tick_quiet : (P : ℕ → Ring → Type 0) (ms : ℕ) (found : Option Found) (old : Ring) → P ms (ticked_by found ms old) → Quiet P ms old (ticked_by found ms old)
+tick_quiet P ms None old opens = record { opens = opens; notes = []; new_is = sym (append-nil old.notes); silent = λ cpu. refl }
+tick_quiet P ms (Some found) old opens = record { opens = opens; notes = notes.Ticked ms found ∷ []; new_is = refl; silent = λ cpu. refl }
+
+pub tick_goes : (P : ℕ → Ring → Type 0) (rules : Rules) (steps : RingSteps) (keep : KeepOpen steps P) (arriving : List Waiting) (clock ms : ℕ) (replay : Replay) → clock ≤ ms
+    → Goes P rules steps arriving clock replay
+    → Goes P rules steps arriving ms (record replay { members = map (ticked steps ms) replay.members })
+tick_goes P rules steps keep arriving clock ms replay later h =
+    quiet_goes P rules steps arriving clock ms replay _ h (length-map replay.members _) (λ member below.
+    subst (λ (ring : Ring). Quiet P ms (get_or replay.members member no_ring) ring)
     (sym (get_or-map _ replay.members member no_ring no_ring below))
-    (record { opens = tick_open size clock ms _ later (h.opens member below); notes = _; new_is = refl; silent = λ cpu. refl }))
+    (tick_quiet P ms (steps.ticks (get_or replay.members member no_ring) ms) (get_or replay.members member no_ring)
+    (keep.tick clock ms _ later (h.opens member below))))
 
 -- one ring changes, if it is there
-one_quiet : (size : Size) (clock at : ℕ) (rings : List Ring) (new : Ring)
-    → ((member : ℕ) → member < length rings → IsOpen size clock (get_or rings member no_ring))
-    → (at < length rings → Quiet size clock (get_or rings at no_ring) new)
-    → (member : ℕ) → member < length rings → Quiet size clock (get_or rings member no_ring) (get_or (slice_set rings at new) member no_ring)
-one_quiet size clock at rings new opens here =
-    set_within (λ member ring. Quiet size clock (get_or rings member no_ring) ring) rings at new no_ring here (λ member below other.
+one_quiet : (P : ℕ → Ring → Type 0) (clock at : ℕ) (rings : List Ring) (new : Ring)
+    → ((member : ℕ) → member < length rings → P clock (get_or rings member no_ring))
+    → (at < length rings → Quiet P clock (get_or rings at no_ring) new)
+    → (member : ℕ) → member < length rings → Quiet P clock (get_or rings member no_ring) (get_or (slice_set rings at new) member no_ring)
+one_quiet P clock at rings new opens here =
+    set_within (λ member ring. Quiet P clock (get_or rings member no_ring) ring) rings at new no_ring here (λ member below other.
     record { opens = opens member below; notes = []; new_is = sym (append-nil _); silent = λ cpu. refl })
 
-pub read_goes : (rules : Rules) (size : Size) (arriving : List Waiting) (clock at : ℕ) (replay : Replay) → Goes rules size arriving clock replay
-    → Goes rules size arriving clock (record replay { members = slice_set replay.members at (read_once (get_or replay.members at no_ring)) })
-read_goes rules size arriving clock at replay h =
-    quiet_goes rules size arriving clock clock replay _ h (length-set replay.members at _) (one_quiet size clock at replay.members _ h.opens (λ inside.
-    record { opens = read_open size clock _ (h.opens at inside); notes = []; new_is = read_notes _ ∙ sym (append-nil _); silent = λ cpu. refl }))
+pub read_goes : (P : ℕ → Ring → Type 0) (rules : Rules) (steps : RingSteps) (keep : KeepOpen steps P) (arriving : List Waiting) (clock at : ℕ) (replay : Replay) → Goes P rules steps arriving clock replay
+    → Goes P rules steps arriving clock (record replay { members = slice_set replay.members at (read_by steps (get_or replay.members at no_ring)) })
+read_goes P rules steps keep arriving clock at replay h =
+    quiet_goes P rules steps arriving clock clock replay _ h (length-set replay.members at _) (one_quiet P clock at replay.members _ h.opens (λ inside.
+    record { opens = keep.read clock _ (h.opens at inside); notes = []; new_is = read_notes steps _ ∙ sym (append-nil _); silent = λ cpu. refl }))
 
-pub count_goes : (rules : Rules) (size : Size) (arriving : List Waiting) (clock at : ℕ) (replay : Replay) → Goes rules size arriving clock replay
-    → Goes rules size arriving clock (record replay { members = noted_at at notes.Counted replay.members })
-count_goes rules size arriving clock at replay h =
-    quiet_goes rules size arriving clock clock replay _ h (length-set replay.members at _) (one_quiet size clock at replay.members _ h.opens (λ inside.
-    record { opens = count_open size clock _ (h.opens at inside); notes = notes.Counted ∷ []; new_is = refl; silent = λ cpu. refl }))
+pub count_goes : (P : ℕ → Ring → Type 0) (rules : Rules) (steps : RingSteps) (keep : KeepOpen steps P) (arriving : List Waiting) (clock at : ℕ) (replay : Replay) → Goes P rules steps arriving clock replay
+    → Goes P rules steps arriving clock (record replay { members = noted_at at notes.Counted replay.members })
+count_goes P rules steps keep arriving clock at replay h =
+    quiet_goes P rules steps arriving clock clock replay _ h (length-set replay.members at _) (one_quiet P clock at replay.members _ h.opens (λ inside.
+    record { opens = keep.count clock _ (h.opens at inside); notes = notes.Counted ∷ []; new_is = refl; silent = λ cpu. refl }))

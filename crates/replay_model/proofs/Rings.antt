@@ -13,6 +13,8 @@ use Rattle.ring_model.specs.declared.notes.Note.TheVariants.{Ticked, Counted, Fi
 use Rattle.ring_model.specs.Unreleased.{IsUnreleased}
 use Rattle.ring_model.proofs.Unreleased.{put_unreleased, tick_unreleased, try_unreleased}
 use Rattle.replay_model.specs.Reports.{AreReleases, IsRingReport}
+use Rattle.replay_model.specs.RingSteps.{block_steps}
+use Rattle.replay_model.proofs.KeptOpen.{KeepOpen}
 use Rattle.replay_model.proofs.Noted.{state-noted}
 
 -- a ring of this size that isn't closed: what may follow its state may follow its notes, and its clock isn't past this moment
@@ -24,14 +26,14 @@ pub record IsOpen (size : Size) (clock : ℕ) (ring : Ring) : Type 0 where
   pub unreleased : AreReleases 0 ring.released releases ring.notes
 
 -- one note more, and blocks released more
-releases_more : (low last : ℕ) (counts : List ℕ) (notes : List Note) (note : Note) → AreReleases low last counts notes → IsUnreleased last note
+pub releases_more : (low last : ℕ) (counts : List ℕ) (notes : List Note) (note : Note) → AreReleases low last counts notes → IsUnreleased last note
     → AreReleases low last (counts ++ last ∷ []) (notes ++ note ∷ [])
 releases_more low last [] [] note h new = (h, new, omega arith)
 releases_more low last [] (first ∷ notes) note h new = absurd h
 releases_more low last (count ∷ counts) [] note h new = absurd h
 releases_more low last (count ∷ counts) (first ∷ notes) note h new = (h.0, h.1, releases_more count last counts notes note h.2 new)
 
-releases_later : (low last later : ℕ) (counts : List ℕ) (notes : List Note) → last ≤ later → AreReleases low last counts notes
+pub releases_later : (low last later : ℕ) (counts : List ℕ) (notes : List Note) → last ≤ later → AreReleases low last counts notes
     → AreReleases low later counts notes
 releases_later low last later [] [] more h = omega (arith, more, h)
 releases_later low last later [] (note ∷ notes) more h = absurd h
@@ -129,13 +131,6 @@ released_open size clock ring false h = h
 pub read_open : (size : Size) (clock : ℕ) (ring : Ring) → IsOpen size clock ring → IsOpen size clock (read_once ring)
 read_open size clock ring h = released_open size clock ring (nat_lt ring.released (length (state ring).done)) h
 
-released_notes : (ring : Ring) (later : Bool) → (cond later (record ring { released = ring.released + 1 }) ring).notes ≡ ring.notes
-released_notes ring true = refl
-released_notes ring false = refl
-
-pub read_notes : (ring : Ring) → (read_once ring).notes ≡ ring.notes
-read_notes ring = released_notes ring (nat_lt ring.released (length (state ring).done))
-
 -- the last note closes it
 pub closed_run : (size : Size) (clock : ℕ) (ring : Ring) → IsOpen size clock ring → IsRingReport size (noted ring Finished)
 closed_run size clock ring h = record {
@@ -150,3 +145,14 @@ closed_run size clock ring h = record {
 
 pub fresh_open : (size : Size) → IsOpen size 0 (fresh size)
 fresh_open size = record { size_is = refl; run = λ more run. run; clock_is = omega arith; releases = []; unreleased = omega arith }
+
+-- so the steps of rings of blocks keep a ring open
+pub blocks_keep : (size : Size) → KeepOpen (block_steps size) (IsOpen size)
+blocks_keep size = record {
+  first = fresh_open size;
+  put = put_open size;
+  tried = try_open size;
+  tick = tick_open size;
+  count = count_open size;
+  read = read_open size;
+}

@@ -1,3 +1,4 @@
+pub mod RingSteps
 pub mod Replay
 pub mod Reports
 pub mod TakenOffers

@@ -1,11 +1,9 @@
 -- The replay report: what a schedule makes of the frames of several CPUs and the rings of a group,
--- where every look at a status word has the answer that the released blocks give. CPUs and members
--- count from 0.
+-- by the steps of these rings. CPUs and members count from 0.
 use Rattle.std.specs.Prelude.{ℕ, zero, suc, ◌+◌, ◌%◌, Bool, true, false, List, [], ◌∷◌, ◌++◌, length, map, replicate, slice_index_or, slice_set, ◌==◌, if◌then◌else◌, Option, None, Some}
 use Rattle.frame_view.specs.declared.frames.Frame.{Frame}
 use Rattle.ring_model.specs.Offers.{offer_of}
-use Rattle.ring_model.specs.Ring.{Size}
-use Rattle.ring_model.specs.Rings.{Ring, fresh, note_of_put, note_of_tick, note_of_try, noted, read_once}
+use Rattle.ring_model.specs.Rings.{Ring, fresh, noted}
 use Rattle.ring_model.specs.declared.notes.Offer.{Offer}
 use Rattle.ring_model.specs.declared.notes.Note.{Note}
 use Rattle.ring_model.specs.declared.notes.Note.TheVariants as notes
@@ -17,6 +15,7 @@ use Rattle.fanout_group.specs.declared.logs.Fate.TheVariants.{Kept, Refused, Dro
 use Rattle.fanout_group.specs.declared.logs.Try.{Try}
 use Rattle.fanout_group.specs.declared.modes.Mode.{Mode}
 use Rattle.fanout_group.specs.declared.modes.Mode.TheVariants.{Lb}
+use Rattle.replay_model.specs.RingSteps.{RingSteps, put_note, read_by, ticked, try_note}
 use Rattle.schedule_lines.specs.declared.lines.Line.{Line}
 use Rattle.schedule_lines.specs.declared.lines.Line.TheVariants.{Feed, Read, Tick, Stats}
 
@@ -66,17 +65,17 @@ and_then member note members rest =
     record { tries = a_try member Kept ∷ []; kept = true; members = members }
 
 -- at most `left` tries, from one member on round the group, until one keeps the packet
-abbrev pub try_round : ℕ → ℕ → ℕ → Offer → List Ring → Tried
-try_round count zero at offer members = record { tries = []; kept = false; members = members }
-try_round count (suc left) at offer members =
-    let note = note_of_try (slice_index_or members at no_ring) offer in
+abbrev pub try_round : RingSteps → ℕ → ℕ → ℕ → Offer → List Ring → Tried
+try_round steps count zero at offer members = record { tries = []; kept = false; members = members }
+try_round steps count (suc left) at offer members =
+    let note = try_note steps (slice_index_or members at no_ring) offer in
     let after = noted_at at note members in
-    and_then at note after (try_round count left ((at + 1) % count) offer after)
+    and_then at note after (try_round steps count left ((at + 1) % count) offer after)
 
 -- a packet that a member keeps or drops
-abbrev pub put_at : ℕ → Offer → List Ring → Tried
-put_at member offer members =
-    let note = note_of_put (slice_index_or members member no_ring) offer in
+abbrev pub put_at : RingSteps → ℕ → Offer → List Ring → Tried
+put_at steps member offer members =
+    let note = put_note steps (slice_index_or members member no_ring) offer in
     record {
       tries = a_try member (fate_of note) ∷ [];
       kept = true;
@@ -84,23 +83,23 @@ put_at member offer members =
     }
 
 -- after tries that kept nothing the packet is put at home
-abbrev pub or_put_at : ℕ → Offer → Tried → Tried
-or_put_at home offer tried =
-    let put = put_at home offer tried.members in
+abbrev pub or_put_at : RingSteps → ℕ → Offer → Tried → Tried
+or_put_at steps home offer tried =
+    let put = put_at steps home offer tried.members in
     if tried.kept then tried else record put { tries = tried.tries ++ put.tries }
 
 -- the tries of an arrival whose home this is
-abbrev pub routed : Rules → ℕ → Offer → List Ring → Tried
-routed rules home offer members =
+abbrev pub routed : Rules → RingSteps → ℕ → Offer → List Ring → Tried
+routed rules steps home offer members =
     if rolls_over rules
-    then or_put_at home offer (try_round rules.members rules.members home offer members)
-    else put_at home offer members
+    then or_put_at steps home offer (try_round steps rules.members rules.members home offer members)
+    else put_at steps home offer members
 
 -- what a verdict leaves of the tries: 0 ends the arrival
-abbrev pub tries_of : Rules → ℕ → Offer → ℕ → List Ring → Tried
-tries_of rules home offer verdict members =
+abbrev pub tries_of : Rules → RingSteps → ℕ → Offer → ℕ → List Ring → Tried
+tries_of rules steps home offer verdict members =
     if verdict == 0 then record { tries = []; kept = false; members = members }
-    else routed rules home offer members
+    else routed rules steps home offer members
 
 -- an arrival draws a ticket exactly in mode Lb
 abbrev pub ticket_of : Mode → ℕ → Option ℕ
@@ -112,13 +111,13 @@ next_ticket Lb ticket = ticket + 1
 next_ticket mode ticket = ticket
 
 -- an arrival of a CPU
-abbrev pub arrived : Rules → ℕ → ℕ → Frame → Replay → Replay
-arrived rules room cpu frame replay =
+abbrev pub arrived : Rules → RingSteps → ℕ → Frame → Replay → Replay
+arrived rules steps cpu frame replay =
     let of = cpu_at replay cpu in
     let ticket = ticket_of rules.mode replay.ticket in
-    let offer = offer_of room rules.own (rules.hash frame) (rules.verdict frame) frame in
+    let offer = offer_of steps.size.room rules.own (rules.hash frame) (rules.verdict frame) frame in
     let tried =
-    tries_of rules (home_of rules of.present ticket frame) offer
+    tries_of rules steps (home_of rules of.present ticket frame) offer
     (rules.verdict frame) replay.members in
     let entry : ArrivalLog = record {
       index = frame.index;
@@ -137,54 +136,54 @@ arrived rules room cpu frame replay =
     }
 
 -- what is fed: nothing, a frame at which nothing arrives, or one at which a frame arrives
-abbrev pub fed_by : Rules → ℕ → ℕ → List (Option Frame) → Replay → Replay
-fed_by rules room cpu [] replay = replay
-fed_by rules room cpu (None ∷ waiting) replay =
+abbrev pub fed_by : Rules → RingSteps → ℕ → List (Option Frame) → Replay → Replay
+fed_by rules steps cpu [] replay = replay
+fed_by rules steps cpu (None ∷ waiting) replay =
     record replay {
       cpus = slice_set replay.cpus cpu
           (record (cpu_at replay cpu) { waiting = waiting });
     }
-fed_by rules room cpu (Some frame ∷ waiting) replay =
-    arrived rules room cpu frame
+fed_by rules steps cpu (Some frame ∷ waiting) replay =
+    arrived rules steps cpu frame
     (record replay {
       cpus = slice_set replay.cpus cpu (record (cpu_at replay cpu) { waiting = waiting });
     })
 
 -- the next frame of a CPU
-abbrev pub feed : Rules → ℕ → ℕ → Replay → Replay
-feed rules room cpu replay = fed_by rules room cpu (cpu_at replay cpu).waiting replay
+abbrev pub feed : Rules → RingSteps → ℕ → Replay → Replay
+feed rules steps cpu replay = fed_by rules steps cpu (cpu_at replay cpu).waiting replay
 
 -- one line of the schedule
-abbrev pub done_line : Rules → ℕ → Line → Replay → Replay
-done_line rules room (Feed cpu) replay = feed rules room cpu replay
-done_line rules room (Read member) replay =
+abbrev pub done_line : Rules → RingSteps → Line → Replay → Replay
+done_line rules steps (Feed cpu) replay = feed rules steps cpu replay
+done_line rules steps (Read member) replay =
     record replay {
       members = slice_set replay.members member
-          (read_once (slice_index_or replay.members member no_ring));
+          (read_by steps (slice_index_or replay.members member no_ring));
     }
-done_line rules room (Tick ms) replay =
-    record replay { members = map (λ ring. noted ring (note_of_tick ring ms)) replay.members }
-done_line rules room (Stats member) replay =
+done_line rules steps (Tick ms) replay =
+    record replay { members = map (ticked steps ms) replay.members }
+done_line rules steps (Stats member) replay =
     record replay { members = noted_at member notes.Counted replay.members }
 
 -- the lines in order
-abbrev pub done_lines : Rules → ℕ → List Line → Replay → Replay
-done_lines rules room [] replay = replay
-done_lines rules room (line ∷ lines) replay =
-    done_lines rules room lines (done_line rules room line replay)
+abbrev pub done_lines : Rules → RingSteps → List Line → Replay → Replay
+done_lines rules steps [] replay = replay
+done_lines rules steps (line ∷ lines) replay =
+    done_lines rules steps lines (done_line rules steps line replay)
 
 -- the next frames of a CPU, `times` of them
-abbrev pub feed_times : Rules → ℕ → ℕ → ℕ → Replay → Replay
-feed_times rules room cpu zero replay = replay
-feed_times rules room cpu (suc times) replay =
-    feed_times rules room cpu times (feed rules room cpu replay)
+abbrev pub feed_times : Rules → RingSteps → ℕ → ℕ → Replay → Replay
+feed_times rules steps cpu zero replay = replay
+feed_times rules steps cpu (suc times) replay =
+    feed_times rules steps cpu times (feed rules steps cpu replay)
 
 -- all frames of the next CPUs from one on, `left` of them
-abbrev pub feed_from : Rules → ℕ → ℕ → ℕ → Replay → Replay
-feed_from rules room cpu zero replay = replay
-feed_from rules room cpu (suc left) replay =
-    feed_from rules room (cpu + 1) left
-    (feed_times rules room cpu (length (cpu_at replay cpu).waiting) replay)
+abbrev pub feed_from : Rules → RingSteps → ℕ → ℕ → Replay → Replay
+feed_from rules steps cpu zero replay = replay
+feed_from rules steps cpu (suc left) replay =
+    feed_from rules steps (cpu + 1) left
+    (feed_times rules steps cpu (length (cpu_at replay cpu).waiting) replay)
 
 -- a ring once it is closed
 abbrev pub finished_ring : Ring → Ring
@@ -195,15 +194,15 @@ abbrev pub closed : Replay → Replay
 closed replay = record replay { members = map finished_ring replay.members }
 
 -- before the first line
-abbrev pub started : Rules → Size → List (List (Option Frame)) → Replay
-started rules size arriving = record {
+abbrev pub started : Rules → RingSteps → List (List (Option Frame)) → Replay
+started rules steps arriving = record {
   cpus = map (λ waiting. record { waiting = waiting; present = 0; log = [] }) arriving;
-  members = replicate rules.members (fresh size);
+  members = replicate rules.members (fresh steps.size);
   ticket = 0;
 }
 
 -- after the last line each CPU from 0 up is fed to its end, and the rings are closed
-unfoldable pub replayed : Rules → Size → List (List (Option Frame)) → List Line → Replay
-replayed rules size arriving lines =
-    let last = done_lines rules size.room lines (started rules size arriving) in
-    closed (feed_from rules size.room 0 (length last.cpus) last)
+unfoldable pub replayed : Rules → RingSteps → List (List (Option Frame)) → List Line → Replay
+replayed rules steps arriving lines =
+    let last = done_lines rules steps lines (started rules steps arriving) in
+    closed (feed_from rules steps 0 (length last.cpus) last)

@@ -42,10 +42,11 @@ pub record IsRingReport (size : Size) (ring : Ring) : Type 0 where
   pub releases : List ℕ
   pub unreleased : AreReleases 0 ring.released releases ring.notes
 
-pub record IsReplayReport (rules : Rules) (size : Size) (arriving : List (List (Option Frame)))
-    (replay : Replay) : Type 0 where
+-- the report is one of a group of such rings, whose offers are cut for this room
+pub record IsReplayReport (rules : Rules) (room : ℕ) (IsRing : Ring → Type 0)
+    (arriving : List (List (Option Frame))) (replay : Replay) : Type 0 where
   -- no CPU is left out
   pub cpus : length replay.cpus ≡ length arriving
-  pub group : IsGroupReport rules size.room (logged_of arriving replay.cpus)
+  pub group : IsGroupReport rules room (logged_of arriving replay.cpus)
       (notes_of replay.members)
-  pub rings : All (IsRingReport size) replay.members
+  pub rings : All IsRing replay.members

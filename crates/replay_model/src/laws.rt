@@ -5,19 +5,21 @@ ghost use Rattle.ring_model.specs.Ring.{Size};
 ghost use Rattle.fanout_group.specs.Once.{EachStandsOnce};
 ghost use Rattle.fanout_group.specs.Rules.{Rules};
 ghost use Rattle.replay_model.specs.Replay.{replayed};
-ghost use Rattle.replay_model.specs.Reports.{AreArrivals, IsReplayReport, logged_of, notes_of};
+ghost use Rattle.replay_model.specs.Reports.{AreArrivals, IsReplayReport, IsRingReport, logged_of, notes_of};
+ghost use Rattle.replay_model.specs.RingSteps.{block_steps};
 ghost use Rattle.schedule_lines.specs.Ascending.{IsSchedule};
 ghost use Rattle.schedule_lines.specs.declared.lines.Line.{Line};
 
 use fanout_group::each_frame_stands_exactly_once;
 
-/// Whatever the schedule, the logs of a replay are lawful, logs and notes are joined, and each
+/// Whatever the schedule, the logs of a replay over rings of blocks are lawful, logs and notes are joined, and each
 /// member's notes are a run of its ring from its opening to its close.
 pub fn a_replay_reports_a_group()
     ensures { (rules : Rules) (size : Size) (arriving : List (List (Option Frame)))
         (lines : List Line)
         → 0 < rules.members → AreArrivals arriving → IsSchedule lines
-        → IsReplayReport rules size arriving (replayed rules size arriving lines) }
+        → IsReplayReport rules size.room (IsRingReport size) arriving
+        (replayed rules (block_steps size) arriving lines) }
 {}
 
 /// Among the Kept and Dropped notes of a replay's members each arrival that the filter passes
@@ -26,8 +28,9 @@ pub fn each_frame_of_a_replay_stands_exactly_once()
     ensures { (rules : Rules) (size : Size) (arriving : List (List (Option Frame)))
         (lines : List Line)
         → 0 < rules.members → AreArrivals arriving → IsSchedule lines
-        → EachStandsOnce (logged_of arriving (replayed rules size arriving lines).cpus)
-        (notes_of (replayed rules size arriving lines).members) }
+        → EachStandsOnce
+        (logged_of arriving (replayed rules (block_steps size) arriving lines).cpus)
+        (notes_of (replayed rules (block_steps size) arriving lines).members) }
 {
     each_frame_stands_exactly_once();
     a_replay_reports_a_group();

@@ -2,7 +2,7 @@ pub mod GrownBlocks
 pub mod KeptPackets
 pub mod ArrivalOrder
 mod KeptOffers
-mod Shorts
+pub mod Shorts
 mod Once
 mod Lasts
 mod Totals

@@ -5,7 +5,9 @@ use Rattle.std.specs.List.{AllByRecursion}
 use Rattle.std.proofs.lemmas.Bool.{ltb-false}
 use Rattle.std.proofs.lemmas.List.{length-map, length-take, get_or-map}
 use Rattle.std.proofs.lemmas.List.Elements.{All-from_recursion}
-use Rattle.fanout_group.specs.Joined.{AreNotesOf, attempts_at, nothing_logged}
+use Rattle.fanout_group.specs.Joined.{AreNotesOf, Logged, attempts_at, nothing_logged}
+use Rattle.fanout_group.specs.Once.{IsGroupReport}
+use Rattle.fanout_group.specs.Rules.{Rules}
 use Rattle.frame_view.specs.declared.frames.Frame.{Frame}
 use Rattle.frame_view.specs.declared.frames.Packet.{Packet}
 use Rattle.ring_model.specs.Fates.{frame_notes, kept_of}
@@ -22,7 +24,7 @@ use Rattle.tp_layout.specs.declared.error.RequestError.TheVariants.{BlockSize}
 use Rattle.tp_layout.specs.declared.requests.RingRequest.{RingRequest}
 use Rattle.run_reports.specs.Jobs.{rules_of}
 use Rattle.run_reports.specs.Members.{AreShort, IsMember}
-use Rattle.run_reports.specs.Reports.{IsReport, logged}
+use Rattle.run_reports.specs.Reports.{IsReport, logged, notes_of}
 use Rattle.run_reports.proofs.KeptOffers.{IsCut, all_cut}
 
 no_fault : (a b c : Bool) (rest : Option RequestError) → (if a || b || c then Some BlockSize else rest) ≡ None → c ≡ false
@@ -37,39 +39,40 @@ room_small request e =
     let small = ltb-false 1048576 request.block_size (no_fault (request.block_size == 0) (not (request.block_size % 4096 == 0)) (nat_lt 1048576 request.block_size) _ e) in
     omega (arith, small)
 
-packets_short : (fills : Bool) (room : ℕ) (offers : List Offer) → room ≤ 1048576 → AllByRecursion (IsCut room) offers
+packets_short : (fills : Bool) (room : ℕ) (offers : List Offer) → room ≤ 4294967373 → AllByRecursion (IsCut room) offers
     → AllByRecursion (λ packet. length packet.bytes ≤ 4294967291) (map (packet_of fills) offers)
 packets_short fills room [] small cut = tt
 packets_short fills room (offer ∷ offers) small cut =
     let cut_first = cut.0 in
     (omega (arith, small, cut_first, length-take offer.snap offer.frame.bytes), packets_short fills room offers small cut.1)
 
-module _ (job : Job) (arriving : List (List (Option Frame))) (report : RunReport) (setup : IsSetup job.setup)
-    (h : IsReport (rules_of job) job.setup.shape job.setup.dump arriving report) where
-  abbrev room : ℕ
-  room = room_of job.setup.shape
+abbrev IsShort : Packet → Type 0
+IsShort packet = length packet.bytes ≤ 4294967291
 
-  abbrev IsShort : Packet → Type 0
-  IsShort packet = length packet.bytes ≤ 4294967291
-
-  cut_at : (at : ℕ) (d : MemberReport) → at < length report.members → AllByRecursion (IsCut room) (kept_of (get_or report.members at d).notes)
+-- the members of a group whose offers are cut for this room, and whose readers read what was kept
+module _ (rules : Rules) (room : ℕ) (fills : Bool) (cpus : List Logged) (members : List MemberReport) (small : room ≤ 4294967373)
+    (group : IsGroupReport rules room cpus (notes_of members)) where
+  cut_at : (at : ℕ) (d : MemberReport) → at < length members → AllByRecursion (IsCut room) (kept_of (get_or members at d).notes)
   cut_at at d within =
-      let notes = get_or report.members at d in
-      let counted = length-map report.members (λ (member : MemberReport). member.notes) in
-      let inside : at < length (map (λ (member : MemberReport). member.notes) report.members) = omega (arith, within, counted) in
-      let same : get_or (map (λ (member : MemberReport). member.notes) report.members) at [] ≡ (get_or report.members at d).notes =
-      get_or-map (λ (member : MemberReport). member.notes) report.members at d [] within in
-      all_cut room (rules_of job).own (get_or report.members at d).notes
-      (λ cpu. let l = get_or (logged arriving report.cpus) cpu nothing_logged in attempts_at at l.arrivals l.log)
-      (λ cpu. let l = get_or (logged arriving report.cpus) cpu nothing_logged in
-      subst (λ (ns : List Note). AreNotesOf room (rules_of job).own (attempts_at at l.arrivals l.log) (frame_notes cpu ns)) same (h.group.joined.each cpu at inside))
+      let counted = length-map members (λ (member : MemberReport). member.notes) in
+      let inside : at < length (map (λ (member : MemberReport). member.notes) members) = omega (arith, within, counted) in
+      let same : get_or (map (λ (member : MemberReport). member.notes) members) at [] ≡ (get_or members at d).notes =
+      get_or-map (λ (member : MemberReport). member.notes) members at d [] within in
+      all_cut room rules.own (get_or members at d).notes
+      (λ cpu. let l = get_or cpus cpu nothing_logged in attempts_at at l.arrivals l.log)
+      (λ cpu. let l = get_or cpus cpu nothing_logged in
+      subst (λ (ns : List Note). AreNotesOf room rules.own (attempts_at at l.arrivals l.log) (frame_notes cpu ns)) same (group.joined.each cpu at inside))
 
-  short_at : (at : ℕ) (d : MemberReport) → at < length report.members → All IsShort (get_or report.members at d).walked
-  short_at at d within =
-      let small : room ≤ 1048576 = subst (λ (r : RingRequest). room_of r ≤ 1048576) (sym setup.shape) (room_small job.setup.request setup.ring) in
-      let member = h.members at d within in
-      subst (λ (ps : List Packet). All IsShort ps) (sym member.walked)
-      (All-from_recursion IsShort _ (packets_short (fills_hash job.setup.shape) room (kept_of (get_or report.members at d).notes) small (cut_at at d within)))
+  pub short_members : ((at : ℕ) (d : MemberReport) → at < length members
+      → (get_or members at d).walked ≡ map (packet_of fills) (kept_of (get_or members at d).notes)) → AreShort members
+  short_members walked = λ at d within.
+      subst (λ (ps : List Packet). All IsShort ps) (sym (walked at d within))
+      (All-from_recursion IsShort _ (packets_short fills room (kept_of (get_or members at d).notes) small (cut_at at d within)))
 
-  pub are_short : AreShort report.members
-  are_short = λ at d within. short_at at d within
+pub are_short : (job : Job) (arriving : List (List (Option Frame))) (report : RunReport) → IsSetup job.setup
+    → IsReport (rules_of job) job.setup.shape job.setup.dump arriving report → AreShort report.members
+are_short job arriving report setup h =
+    let room = room_of job.setup.shape in
+    let low : room ≤ 1048576 = subst (λ (r : RingRequest). room_of r ≤ 1048576) (sym setup.shape) (room_small job.setup.request setup.ring) in
+    short_members (rules_of job) room (fills_hash job.setup.shape) (logged arriving report.cpus) report.members (omega (arith, low)) h.group
+    (λ at d within. let member = h.members at d within in member.walked)

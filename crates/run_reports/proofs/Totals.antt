@@ -307,7 +307,7 @@ abbrev pub CountsDrops : Type 0
 CountsDrops = (size : Size) (notes : List Note) → (totals_of size notes).drops ≡ length (drops_of notes)
 
 same_members : (packets : CountsEach) (drops : CountsDrops) (size : Size) (reports : List MemberReport)
-    → sum_by (λ notes. sum_by settled notes) (notes_of reports) ≡ kept_in size reports + drops_in size reports
+    → sum_by (λ notes. sum_by settled notes) (notes_of reports) ≡ kept_in (totals_of size) reports + drops_in (totals_of size) reports
 same_members packets drops size [] = refl
 same_members packets drops size (report ∷ reports) =
     omega (
@@ -322,7 +322,7 @@ same_members packets drops size (report ∷ reports) =
     )
 
 pub report_adds_up : CountsEach → CountsDrops → (job : Job) (bytes : List (List ℕ)) (ends : List CpuEnd) (report : RunReport) → IsRunReport job bytes ends report
-    → arrivals_in report.cpus ≡ filtered_in report.cpus + (kept_in (size_of job.setup.shape) report.members + drops_in (size_of job.setup.shape) report.members)
+    → arrivals_in report.cpus ≡ filtered_in report.cpus + (kept_in (totals_of (size_of job.setup.shape)) report.members + drops_in (totals_of (size_of job.setup.shape)) report.members)
 report_adds_up packets drops job bytes ends report h =
     let arriving = arriving_of job bytes in
     let many : length report.cpus ≡ length arriving =

@@ -5,6 +5,7 @@ ghost use Rattle.fanout_group.specs.Joined.{Logged};
 ghost use Rattle.fanout_group.specs.Once.{IsGroupReport};
 ghost use Rattle.fanout_group.specs.Rules.{Rules};
 ghost use Rattle.frame_view.specs.declared.frames.Frame.{Frame};
+ghost use Rattle.ring_model.specs.Fates.{totals_of};
 ghost use Rattle.ring_model.specs.declared.notes.Note.{Note};
 ghost use Rattle.run_reports.specs.Jobs.{arriving_of, rules_of};
 ghost use Rattle.run_reports.specs.Logs.{AreLogsFrom};
@@ -56,7 +57,7 @@ pub fn a_group_s_report_is_that_of_a_run()
 pub fn the_totals_add_up()
     ensures { (job : Job) (bytes : List (List ℕ)) (ends : List CpuEnd) (report : RunReport)
         → IsRunReport job bytes ends report
-        → TotalsAddUp (size_of job.setup.shape) report }
+        → TotalsAddUp (totals_of (size_of job.setup.shape)) report }
 {
     statistics_count_each_packet();
 }

@@ -1,4 +1,5 @@
 mod SlotPuts
+pub mod SlotBounds
 pub mod SlotNumbers
 pub mod SlotStands
 pub mod SlotReads

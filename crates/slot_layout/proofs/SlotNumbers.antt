@@ -1,5 +1,5 @@
 -- What the fields of a slot's text hold.
-use Rattle.std.proofs.Common.{◌≡◌, ℕ, ◌+◌, ◌^◌, ◌≤◌, ◌<◌, true, List, ◌++◌, length, drop, refl, sym, ap, ◌∙◌, inl, inr, arith, append_assoc}
+use Rattle.std.proofs.Common.{◌≡◌, ℕ, ◌+◌, ◌^◌, ◌<◌, true, List, ◌++◌, length, drop, refl, ◌∙◌, inl, inr, arith, append_assoc}
 use Rattle.std.specs.Prelude.{◌==◌, IfSome, IsTrue, Option, None, Some}
 use Rattle.std.proofs.lemmas.Bool.{eqb-true, or_cases}
 use Rattle.std.proofs.lemmas.List.{length-append}
@@ -10,7 +10,7 @@ use Rattle.tp_layout.specs.Packets.{IsLawfulPacket, address_rows, tci_of, tpid_o
 use Rattle.tp_layout.specs.Rows.{bytes_of, number_at, zeros}
 use Rattle.tp_layout.specs.declared.requests.RingRequest.{RingRequest}
 use Rattle.tp_layout.proofs.Bytes.{are_bytes}
-use Rattle.tp_layout.proofs.Puts.{bytes_of-zeros, length-address, length-bytes_of}
+use Rattle.tp_layout.proofs.Puts.{length-address, length-bytes_of}
 use Rattle.tp_layout.proofs.Tables.{AllFit, AllRead, behind, read_bytes, zeros_fit}
 use Rattle.slot_layout.specs.SlotFaults.{is_slot_status}
 use Rattle.slot_layout.specs.SlotTexts.{IsLawfulSlot, slot_header_rows, slot_status_may, slot_tag_at, slot_text}
@@ -97,27 +97,49 @@ header_fit shape status packet lawful =
     let typed = sound.typed in
     let captured = sound.captured in
     let wire = typed.wire in
-    let nsec = sound.nsec in
-    (small_status packet.tag status lawful.filled,
-      (wire,
-        (omega arith,
-          (omega arith,
-            (omega arith,
-              (typed.sec, (omega arith, (small_tci packet.tag typed.tci, (small_tpid packet.tag sound.tag, tt)))))))))
+    let nsec = sound.nsec in (
+      small_status packet.tag status lawful.filled,
+      (
+        wire,
+        (
+          omega arith,
+          (
+            omega arith,
+            (
+              omega arith,
+              (typed.sec, (omega arith, (small_tci packet.tag typed.tci, (small_tpid packet.tag sound.tag, tt)))),
+            ),
+          ),
+        ),
+      ),
+    )
 
 address_fit : (packet : Packet) → IsLawfulPacket packet → AllFit (address_rows packet)
 address_fit packet lawful =
     let small = are_bytes packet.addr lawful.typed.addr in
     let protocol = lawful.typed.protocol in
-    let kind = lawful.pkttype in
-    (omega arith,
-      (omega arith,
-        (omega arith,
-          (omega arith,
-            (omega arith,
-              (omega arith,
-                (omega arith,
-                  (small 0, (small 1, (small 2, (small 3, (small 4, (small 5, tt)))))))))))))
+    let kind = lawful.pkttype in (
+      omega arith,
+      (
+        omega arith,
+        (
+          omega arith,
+          (
+            omega arith,
+            (
+              omega arith,
+              (
+                omega arith,
+                (
+                  omega arith,
+                  (small 0, (small 1, (small 2, (small 3, (small 4, (small 5, tt)))))),
+                ),
+              ),
+            ),
+          ),
+        ),
+      ),
+    )
 
 -- the numbers of a slot's text
 pub record Numbers (status : ℕ) (packet : Packet) (bytes rest : List ℕ) : Type 0 where

@@ -1,5 +1,5 @@
 -- The pieces of a slot's text, written one after another.
-use Rattle.std.proofs.Common.{◌≡◌, ℕ, ◌+◌, ◌≤◌, List, ◌++◌, length, take, drop, replicate, refl, sym, ap, ◌∙◌, arith, append_assoc}
+use Rattle.std.proofs.Common.{◌≡◌, ℕ, ◌+◌, ◌≤◌, List, ◌++◌, length, drop, replicate, refl, arith, append_assoc}
 use Rattle.std.proofs.lemmas.List.{length-append, length-take-le}
 use Rattle.std.specs.Prelude.{IsTrue}
 use Rattle.frame_view.specs.declared.frames.Packet.{Packet}
@@ -11,7 +11,7 @@ use Rattle.tp_layout.specs.declared.requests.RingRequest.{RingRequest}
 use Rattle.tp_layout.proofs.Opens.{begins}
 use Rattle.tp_layout.proofs.Puts.{all, bytes_of-zeros, length-address, length-bytes_of, nothing, piece}
 use Rattle.slot_layout.specs.SlotDump.{slot_packet_of}
-use Rattle.slot_layout.specs.SlotTexts.{IsLawfulSlot, SlotBegins, slot_header_rows, slot_status_may, slot_text}
+use Rattle.slot_layout.specs.SlotTexts.{SlotBegins, slot_header_rows, slot_status_may, slot_text}
 
 regroup : (a b c d e : List ℕ) → (((a ++ b) ++ c) ++ d) ++ e ≡ a ++ (b ++ (c ++ (d ++ e)))
 regroup a b c d e = simp append_assoc refl

@@ -1,26 +1,20 @@
 -- A slot that passed the tests begins with the text of its packet.
-use Rattle.std.proofs.Common.{◌≡◌, ℕ, zero, suc, ◌+◌, ◌-◌, ◌/◌, ◌%◌, ◌^◌, ◌≤◌, ◌<◌, true, false, List, ◌++◌, length, take, drop, refl, sym, ap, ◌∙◌, inl, inr, arith}
-use Rattle.std.specs.Prelude.{◌==◌, ◌&&◌, ◌||◌, nat_le, IfOk, IfSome, IsOk, IsTrue, Option, None, Some, Result, Ok, Err}
-use Rattle.std.proofs.Math.Logic.{∥∥₁_elim}
+use Rattle.std.proofs.Common.{◌≡◌, ℕ, zero, suc, ◌+◌, ◌-◌, ◌/◌, ◌%◌, ◌^◌, ◌≤◌, ◌<◌, true, List, ◌++◌, length, take, drop, refl, sym, ap, ◌∙◌, inl, inr, arith}
+use Rattle.std.specs.Prelude.{◌==◌, ◌&&◌, ◌||◌, nat_le, IfSome, IsTrue, Option, None, Some}
 use Rattle.std.proofs.Math.Seq.{take-add}
 use Rattle.std.proofs.lemmas.Bool.{and_parts, cases_Bool, eqb-true, leb-true, or_cases}
 use Rattle.std.proofs.lemmas.List.{drop-drop, length-drop, length-take-le}
-use Rattle.std.proofs.lemmas.Option.{none-some}
 use Rattle.frame_view.specs.Headers.{address_of}
 use Rattle.frame_view.specs.Vlan.{is_tpid}
-use Rattle.frame_view.specs.declared.frames.Packet.{Packet}
 use Rattle.frame_view.specs.declared.frames.Tag.{Tag}
-use Rattle.tp_layout.specs.Checks.{told}
-use Rattle.tp_layout.specs.Packets.{IsLawfulPacket, IsTyped, address_rows, tci_of, tpid_may, tpid_of}
+use Rattle.tp_layout.specs.Packets.{address_rows, tci_of, tpid_may, tpid_of}
 use Rattle.tp_layout.specs.Rows.{bytes_of, network_at, number_at, zeros}
-use Rattle.tp_layout.specs.declared.error.LayoutError.{LayoutError}
 use Rattle.tp_layout.specs.declared.requests.RingRequest.{RingRequest}
 use Rattle.tp_layout.proofs.Bytes.{IsBytes, all_bytes, network_two, number_fits, number_one}
-use Rattle.tp_layout.proofs.Puts.{length-address, length-bytes_of}
 use Rattle.tp_layout.proofs.Tables.{AllRead, bytes_read, zeros_read}
 use Rattle.tp_layout.proofs.Walks.{or_none, unless_none}
 use Rattle.slot_layout.specs.SlotFaults.{is_slot_status, slot_address_fault, slot_head_fault, slot_snap_may, slot_text_fault, slot_vlan_fault}
-use Rattle.slot_layout.specs.SlotTexts.{HasSlotText, IsLawfulSlot, SlotBegins, SlotBeginsLawfully, slot_header_rows, slot_packet_at, slot_status_may, slot_tag_at, slot_text}
+use Rattle.slot_layout.specs.SlotTexts.{HasSlotText, IsLawfulSlot, slot_header_rows, slot_packet_at, slot_status_may, slot_tag_at, slot_text}
 use Rattle.slot_layout.proofs.SlotNumbers.{length-slot_text}
 
 -- ---- what the tests say
@@ -162,9 +156,37 @@ slot_reads shape bytes h long size e =
     let lower : number_at 1 35 bytes ≡ network_at 2 34 bytes % 256 = rw (number_one 35 bytes, two) (omega arith) in
     let header_read : AllRead 0 (slot_header_rows status packet) bytes =
     (refl, (refl, (sym kept, (top.mac, (top.net, (refl, (refl, (tags.tci, (tags.tpid, tt))))))))) in
-    let address_read : AllRead 32 (address_rows packet) bytes =
-    (link.family, (high, (lower, (link.ifindex, (link.hatype, (refl, (link.halen, (number_one 44 bytes, (number_one 45 bytes, (number_one 46 bytes,
-      (number_one 47 bytes, (number_one 48 bytes, (number_one 49 bytes, tt))))))))))))) in
+    let address_read : AllRead 32 (address_rows packet) bytes = (
+      link.family,
+      (
+        high,
+        (
+          lower,
+          (
+            link.ifindex,
+            (
+              link.hatype,
+              (
+                refl,
+                (
+                  link.halen,
+                  (
+                    number_one 44 bytes,
+                    (
+                      number_one 45 bytes,
+                      (
+                        number_one 46 bytes,
+                        (number_one 47 bytes, (number_one 48 bytes, (number_one 49 bytes, tt))),
+                      ),
+                    ),
+                  ),
+                ),
+              ),
+            ),
+          ),
+        ),
+      ),
+    ) in
     let one : take 28 bytes ≡ bytes_of (slot_header_rows status packet) = bytes_read 0 (slot_header_rows status packet) bytes h (omega (arith, long)) header_read in
     let padding : take 4 (drop 28 bytes) ≡ bytes_of (zeros 28 4) = bytes_read 28 (zeros 28 4) bytes h (omega (arith, long)) (zeros_read 0 28 4 bytes c.0) in
     let three : take 18 (drop 32 bytes) ≡ bytes_of (address_rows packet) = bytes_read 32 (address_rows packet) bytes h (omega (arith, long)) address_read in

@@ -1,5 +1,5 @@
 -- The shape of a ring of TPACKET_V2, and what a ring of slots is made of.
-use Rattle.std.specs.Prelude.{◌≡◌, None, replicate}
+use Rattle.std.specs.Prelude.{◌≡◌, ◌≤◌, None, replicate}
 use Rattle.ring_model.specs.Ring.{Size}
 use Rattle.slot_model.specs.SlotRings.{room_of_slots}
 use Rattle.tp_layout.specs.Requests.{slot_fault}
@@ -9,6 +9,12 @@ use Rattle.tp_layout.specs.declared.requests.RingRequest.{RingRequest}
 -- the shape came from `check_v2`
 abbrev pub IsSlotShape : RingRequest → Type 0
 IsSlotShape shape = slot_fault shape ≡ None
+
+-- what follows from it: a ring has 2 to 65,536 slots of at most 1 MiB
+pub record SlotBounds (shape : RingRequest) : Type 0 where
+  pub some : 2 ≤ shape.frame_nr
+  pub few : shape.frame_nr ≤ 65536
+  pub small : shape.frame_size ≤ 1048576
 
 -- what a ring of slots of this shape is made of: as many slots as it has frames, and no time-out
 abbrev pub slot_size_of : RingRequest → Size

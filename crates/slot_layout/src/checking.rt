@@ -124,7 +124,8 @@ fn check_zeros(bytes: &[u8], from: u32, to: u32) -> Result<(), LayoutError>
 /// Tests the fields of `struct sockaddr_ll`, the zeros after the address and the gap.
 fn check_address(bytes: &[u8]) -> Result<(), LayoutError>
     requires { 66 ≤ length bytes.now }
-    ensures { told result ≡ option_or (slot_address_fault bytes.now) (first_fault 0 50 (zeros 50 16) bytes.now) }
+    ensures { told result ≡ option_or (slot_address_fault bytes.now)
+        (first_fault 0 50 (zeros 50 16) bytes.now) }
 {
     check_link(bytes)?;
     check_zeros(bytes, 50, 66)

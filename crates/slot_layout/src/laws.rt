@@ -1,5 +1,6 @@
 //! Laws of the definitions, each the contract of a function that does nothing.
 ghost use Rattle.std.specs.Prelude.{◌≡◌};
+ghost use Rattle.slot_layout.specs.SlotShapes.{IsSlotShape, SlotBounds};
 ghost use Rattle.slot_layout.specs.SlotLaws.{HaveOneSlotText, SlotSaid};
 ghost use Rattle.tp_layout.specs.declared.requests.RingRequest.{RingRequest};
 
@@ -7,4 +8,10 @@ ghost use Rattle.tp_layout.specs.declared.requests.RingRequest.{RingRequest};
 pub fn a_slot_text_says_one_thing()
     ensures { (shape : RingRequest) (first second : SlotSaid)
         → HaveOneSlotText shape first second → first ≡ second }
+{}
+
+/// A ring of slots has 2 to 65,536 slots of at most 1 MiB.
+#[tactic(auto, using(crate::proofs::SlotBounds::slot_bounds))]
+pub fn a_checked_ring_is_bounded()
+    ensures { (shape : RingRequest) → IsSlotShape shape → SlotBounds shape }
 {}

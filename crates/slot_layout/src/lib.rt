@@ -11,7 +11,7 @@ mod reading;
 mod ring_slots;
 mod writing;
 
-pub use laws::a_slot_text_says_one_thing;
+pub use laws::{a_checked_ring_is_bounded, a_slot_text_says_one_thing};
 pub use reading::read_slot;
 pub use ring_slots::{Slot, slots};
 pub use writing::write_slot;

@@ -1,7 +1,7 @@
 //! The slots of a ring.
 ghost use Rattle.std.specs.Prelude.{◌≡◌, ◌+◌, ◌≤◌, Bool, IfOk, length, replicate};
 ghost use Rattle.slot_layout.specs.SlotDump.{slot_packet_of};
-ghost use Rattle.slot_layout.specs.SlotShapes.{zero_slot};
+ghost use Rattle.slot_layout.specs.SlotShapes.{IsSlotShape, zero_slot};
 ghost use Rattle.slot_layout.specs.SlotTexts.{slot_text};
 ghost use Rattle.tp_layout.specs.Packets.{IsTyped};
 ghost use Rattle.tp_layout.specs.Writing.{IsWritable, put};
@@ -56,8 +56,9 @@ impl Slot {
     }
 }
 
-/// The slots of a ring of this shape, of zeros: one for each of its frames.
+/// The slots of a ring of this shape, which came from `check_v2`: one of zeros for each of its frames, 2 to 65,536 in all.
 pub fn slots(alloc: Global, shape: &Shape) -> Result<Vec<Slot>, Memory>
+    requires { IsSlotShape shape.now }
     ensures { IfOk result (λ slots.
         slots.items ≡ replicate shape.now.frame_nr (zero_slot shape.now)) }
 {

@@ -1,3 +1,4 @@
 pub mod Looks
 pub mod Kept
-mod Counts
+pub mod Runs
+pub mod Counts

@@ -75,6 +75,17 @@ IsSlotRun slots state [] = Unit {0}
 IsSlotRun slots state (note ∷ notes) =
     SlotMayStand slots state note × EndsThere note notes × IsSlotRun slots (slot_after state note) notes
 
+-- a note that doesn't close the ring
+abbrev pub SlotGoesOn : Note → Type 0
+SlotGoesOn Finished = ⊥
+SlotGoesOn note = Unit {0}
+
+-- each note may stand after those before it, and none closes the ring
+abbrev pub IsOpenSlotRun : ℕ → SlotState → List Note → Type 0
+IsOpenSlotRun slots state [] = Unit {0}
+IsOpenSlotRun slots state (note ∷ notes) =
+    SlotMayStand slots state note × SlotGoesOn note × IsOpenSlotRun slots (slot_after state note) notes
+
 -- notes of a ring of so many slots from its opening to its close
 pub record IsWholeSlotRun (slots : ℕ) (notes : List Note) : Type 0 where
   pub run : IsSlotRun slots first_slot_state notes

@@ -32,7 +32,8 @@ pub fn a_slot_noted_as_held_is_unreleased()
 
 /// The filled slots have the packets that were kept, in order.
 pub fn the_filled_slots_are_the_kept_packets()
-    ensures { (notes : List Note) → map (λ slot. slot.0) (slot_state_of notes).done ≡ kept_of notes }
+    ensures { (notes : List Note)
+        → map (λ slot. slot.0) (slot_state_of notes).done ≡ kept_of notes }
 {}
 
 /// The statistics of a ring of slots are those that a ring of blocks has of the same notes, whatever its size, but for

@@ -4,7 +4,6 @@ use Rattle.std.specs.Prelude.{ℕ, ◌+◌, List, [], ◌∷◌, ◌++◌, lengt
 use Rattle.capture_file.specs.declared.error.CaptureError.{CaptureError}
 use Rattle.capture_file.specs.declared.error.CaptureError.TheVariants.{BadMagic, BadVersion, BadLink, BadLength, Truncated, TooLarge, Memory, BadInterface}
 use Rattle.tx_ring.specs.declared.transmitting.Transmitted.{Transmitted}
-use Rattle.ring_model.specs.Fates.{counts_of, totals_of}
 use Rattle.ring_model.specs.Ring.{Size}
 use Rattle.ring_model.specs.declared.notes.Stats.{Stats}
 use Rattle.capture_file.specs.declared.cpu_end.CpuEnd.{CpuEnd}
@@ -16,6 +15,8 @@ use Rattle.setup_text.specs.declared.reports.MemberReport.{MemberReport}
 use Rattle.setup_text.specs.declared.reports.RunReport.{RunReport}
 -- the sums are those that add up by a law of reports
 pub use Rattle.run_reports.specs.Totals.{arrivals_in, drops_in, filtered_in, kept_in}
+use Rattle.tap_printing.specs.Statistics.{counts_by, totals_by}
+use Rattle.tap_printing.specs.declared.ring_kind.RingKind.{RingKind}
 
 -- what is wrong with a capture, and the place of it in bytes; of a capture that is too large, the
 -- most that it may have
@@ -53,8 +54,8 @@ stats_text stats =
     codes " packets " ++ (decimal stats.packets ++ (codes " drops " ++ (decimal stats.drops
     ++ (codes " freezes " ++ decimal stats.freezes))))
 
--- the line of a member, with its statistics over the whole run and the number of blocks that its
--- reader walked
+-- the line of a member, with its statistics over the whole run and the number of blocks, or of
+-- slots, that its reader walked
 unfoldable pub member_line : ℕ → Stats → ℕ → List ℕ
 member_line member stats blocks =
     codes "member " ++ (decimal member ++ (stats_text stats ++ (codes " blocks " ++ (decimal blocks ++ codes "\n"))))
@@ -64,10 +65,10 @@ unfoldable pub count_line : ℕ → Stats → List ℕ
 count_line member stats = codes "count " ++ (decimal member ++ (stats_text stats ++ codes "\n"))
 
 -- the lines of a member: its own, and one for each of its Counted notes
-unfoldable pub member_text : Size → ℕ → MemberReport → List ℕ
-member_text size member report =
-    member_line member (totals_of size report.notes) report.blocks
-    ++ flat_map (count_line member) (counts_of size report.notes)
+unfoldable pub member_text : RingKind → Size → ℕ → MemberReport → List ℕ
+member_text kind size member report =
+    member_line member (totals_by kind size report.notes) report.blocks
+    ++ flat_map (count_line member) (counts_by kind size report.notes)
 
 -- the line of how many packets a member sent, and how many it skipped
 unfoldable pub forward_line : ℕ → ℕ → ℕ → List ℕ
@@ -86,15 +87,16 @@ forward_text (Some forwards) member =
     forward_by member (slice_get forwards.sent member) (slice_get forwards.skipped member)
 
 -- the lines of a member, and then that of what it sent
-unfoldable pub lines_at : Size → Option Forwards → ℕ → MemberReport → List ℕ
-lines_at size forwards member report =
-    member_text size member report ++ forward_text forwards member
+unfoldable pub lines_at : RingKind → Size → Option Forwards → ℕ → MemberReport → List ℕ
+lines_at kind size forwards member report =
+    member_text kind size member report ++ forward_text forwards member
 
 -- the lines of members that have the numbers from this one up
-abbrev pub member_lines : Size → Option Forwards → ℕ → List MemberReport → List ℕ
-member_lines size forwards member [] = []
-member_lines size forwards member (report ∷ reports) =
-    lines_at size forwards member report ++ member_lines size forwards (member + 1) reports
+abbrev pub member_lines : RingKind → Size → Option Forwards → ℕ → List MemberReport → List ℕ
+member_lines kind size forwards member [] = []
+member_lines kind size forwards member (report ∷ reports) =
+    lines_at kind size forwards member report
+    ++ member_lines kind size forwards (member + 1) reports
 
 -- the line of a run's sums
 unfoldable pub total_line : ℕ → ℕ → ℕ → ℕ → List ℕ
@@ -104,10 +106,11 @@ total_line arrivals filtered kept drops =
 
 -- the lines of a run: the CPUs', the members' and the sums; after a member's lines that of what it
 -- sent, where members send
-unfoldable pub summary_of : Size → Option Forwards → RunReport → List ℕ
-summary_of size forwards report =
-    cpu_lines 0 report.cpus ++ (member_lines size forwards 0 report.members
-    ++ total_line (arrivals_in report.cpus) (filtered_in report.cpus) (kept_in size report.members) (drops_in size report.members))
+unfoldable pub summary_of : RingKind → Size → Option Forwards → RunReport → List ℕ
+summary_of kind size forwards report =
+    cpu_lines 0 report.cpus ++ (member_lines kind size forwards 0 report.members
+    ++ total_line (arrivals_in report.cpus) (filtered_in report.cpus)
+    (kept_in (totals_by kind size) report.members) (drops_in (totals_by kind size) report.members))
 
 -- the frame at which a transmit ring stopped
 unfoldable pub stop_text : Option ℕ → List ℕ

@@ -1,11 +1,12 @@
 //! The lines of members, and the sums over them.
 ghost use Rattle.std.specs.Prelude.{◌≡◌, ◌++◌, ◌≤◌, IfOk, OnOk, flat_map, option_copied, string_bytes};
-ghost use Rattle.ring_model.specs.Fates.{totals_of};
 ghost use Rattle.ring_model.specs.Ring.{AtEachSize};
 ghost use Rattle.tap_printing.specs.Lines.{count_line, drops_in, forward_line, forward_text};
 ghost use Rattle.tap_printing.specs.Lines.{kept_in, lines_at, member_line, member_lines};
 ghost use Rattle.tap_printing.specs.Lines.{member_text, stats_text};
+ghost use Rattle.tap_printing.specs.Statistics.{seen_by, totals_by};
 
+use crate::ring_kind::RingKind;
 use frame_view::Memory;
 use ring_model::{Stats, Tally, tally_notes};
 use setup_text::{Forwards, MemberReport};
@@ -23,21 +24,24 @@ pub(crate) struct Passed {
 pub(crate) fn push_members(
     alloc: Global,
     text: &mut Vec<u8>,
+    kind: RingKind,
     tov: u64,
     members: &[MemberReport],
     forwards: Option<&Forwards>,
 ) -> Result<Passed, Memory>
     ensures lines { OnOk result (AtEachSize tov (λ size. text.new.items
         ≡ text.old.items
-        ++ member_lines size (option_copied forwards.entry) 0 members.now)) }
+        ++ member_lines kind size (option_copied forwards.entry) 0 members.now)) }
     ensures kept { IfOk result
-        (λ passed. AtEachSize tov (λ size. passed.kept ≡ kept_in size members.now)) }
+        (λ passed. AtEachSize tov
+        (λ size. passed.kept ≡ kept_in (totals_by kind size) members.now)) }
     ensures drops { IfOk result
-        (λ passed. AtEachSize tov (λ size. passed.drops ≡ drops_in size members.now)) }
+        (λ passed. AtEachSize tov
+        (λ size. passed.drops ≡ drops_in (totals_by kind size) members.now)) }
 {
     let mut passed = Passed { kept: 0, drops: 0 };
     for (member, report) in members.iter().enumerate() {
-        let stats = push_lines(alloc, text, tov, member, report, forwards)?;
+        let stats = push_lines(alloc, text, kind, tov, member, report, forwards)?;
         passed.kept += u128::from(stats.packets - stats.drops);
         passed.drops += u128::from(stats.drops);
     }
@@ -50,18 +54,19 @@ pub(crate) fn push_members(
 fn push_lines(
     alloc: Global,
     text: &mut Vec<u8>,
+    kind: RingKind,
     tov: u64,
     member: usize,
     report: &MemberReport,
     forwards: Option<&Forwards>,
 ) -> Result<Stats, Memory>
     ensures lines { OnOk result (AtEachSize tov (λ size. text.new.items
-        ≡ text.old.items ++ lines_at size (option_copied forwards.entry) member report.now)) }
+        ≡ text.old.items ++ lines_at kind size (option_copied forwards.entry) member report.now)) }
     ensures stats { IfOk result
-        (λ stats. AtEachSize tov (λ size. stats ≡ totals_of size report.now.notes)) }
+        (λ stats. AtEachSize tov (λ size. stats ≡ totals_by kind size report.now.notes)) }
     ensures fewer { IfOk result (λ stats. stats.drops ≤ stats.packets) }
 {
-    let stats = push_member(alloc, text, tov, member, report)?;
+    let stats = push_member(alloc, text, kind, tov, member, report)?;
     push_forward(alloc, text, member, forwards)?;
     Ok(stats)
 }
@@ -71,21 +76,23 @@ fn push_lines(
 fn push_member(
     alloc: Global,
     text: &mut Vec<u8>,
+    kind: RingKind,
     tov: u64,
     member: usize,
     report: &MemberReport,
 ) -> Result<Stats, Memory>
     ensures lines { OnOk result (AtEachSize tov
-        (λ size. text.new.items ≡ text.old.items ++ member_text size member report.now)) }
+        (λ size. text.new.items ≡ text.old.items ++ member_text kind size member report.now)) }
     ensures stats { IfOk result
-        (λ stats. AtEachSize tov (λ size. stats ≡ totals_of size report.now.notes)) }
+        (λ stats. AtEachSize tov (λ size. stats ≡ totals_by kind size report.now.notes)) }
     ensures fewer { IfOk result (λ stats. stats.drops ≤ stats.packets) }
 {
     let tally = tally_notes(alloc, tov, &report.notes)?;
-    let line = member_line(alloc, member, tally.totals, report.blocks)?;
+    let totals = kind.seen(tally.totals);
+    let line = member_line(alloc, member, totals, report.blocks)?;
     text.extend_from_slice(line.as_bytes())?;
-    push_counts(alloc, text, member, tally.counts.as_slice())?;
-    Ok(tally.totals)
+    push_counts(alloc, text, kind, member, tally.counts.as_slice())?;
+    Ok(totals)
 }
 
 /// Appends the line of what a member sent, where members send.
@@ -118,18 +125,20 @@ fn forward_line(alloc: Global, member: usize, sent: usize, skipped: u64) -> Resu
     Ok(format!(in alloc; "forward {member} sent {sent} skipped {skipped}\n")?)
 }
 
-/// Appends the lines of the statistics that a member's notes took.
+/// Appends the lines of the statistics that a member's notes took, each as a ring of its kind has
+/// them.
 fn push_counts(
     alloc: Global,
     text: &mut Vec<u8>,
+    kind: RingKind,
     member: usize,
     counts: &[Stats],
 ) -> Result<(), Memory>
-    ensures { OnOk result (text.new.items
-        ≡ text.old.items ++ flat_map (count_line member) counts.now) }
+    ensures { OnOk result (text.new.items ≡ text.old.items
+        ++ flat_map (λ stats. count_line member (seen_by kind stats)) counts.now) }
 {
     for stats in counts {
-        let line = count_line(alloc, member, *stats)?;
+        let line = count_line(alloc, member, kind.seen(*stats))?;
         text.extend_from_slice(line.as_bytes())?;
     }
     Ok(())

@@ -5,29 +5,31 @@ ghost use Rattle.tap_printing.specs.Lines.{summary_of, total_line};
 
 use crate::cpu_lines::{arrivals_in, filtered_in, push_cpus};
 use crate::member_lines::{Passed, push_members};
+use crate::ring_kind::RingKind;
 use frame_view::{ByteList, Memory};
 use setup_text::{Forwards, RunReport};
 use std::alloc::Global;
 
 /// The lines of a run, each ended by a line feed: those of the CPUs from 0 up, those of the
-/// members, each with what it sent where members send, and the sums. `tov` is the time-out of the
-/// rings in milliseconds. The lines are this project's own choice. They don't hang on the size of a
-/// block, nor on the number of blocks.
+/// members, each with what it sent where members send, and the sums. `kind` is what the rings are
+/// made of, and `tov` their time-out in milliseconds, which rings of slots don't have. The lines are
+/// this project's own choice. They don't hang on the size of a block, nor on the number of blocks.
 #[tactic(auto, unfolding(crate::specs::Lines::summary_of))]
 pub fn summary(
     alloc: Global,
+    kind: RingKind,
     tov: u64,
     report: &RunReport,
     forwards: Option<&Forwards>,
 ) -> Result<ByteList, Memory>
     ensures { IfOk result (λ text. AtEachSize tov
-        (λ size. text ≡ summary_of size (option_copied forwards.entry) report.now)) }
+        (λ size. text ≡ summary_of kind size (option_copied forwards.entry) report.now)) }
 {
     let mut text = Vec::new(alloc);
     let cpus = report.cpus.as_slice();
     push_cpus(alloc, &mut text, cpus)?;
     let members = report.members.as_slice();
-    let passed = push_members(alloc, &mut text, tov, members, forwards)?;
+    let passed = push_members(alloc, &mut text, kind, tov, members, forwards)?;
     let line = total_line(alloc, arrivals_in(cpus), filtered_in(cpus), passed)?;
     text.extend_from_slice(line.as_bytes())?;
     Ok(ByteList::from_vec(text))

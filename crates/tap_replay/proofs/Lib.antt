@@ -1,15 +1,5 @@
 mod ReadBlocks
 mod MemberFields
 mod LastReads
-mod Clocks
-mod Timed
-mod RunRoutes
-mod CpuSteps
-mod Whole
-mod Desks
-mod RunArrivals
-mod RunCounts
-mod RunSteps
-mod Lines
-mod WholeRuns
 mod GroupLaw
+mod Replayed

@@ -2,13 +2,8 @@
 //! out of there.
 #![tactic(auto)]
 
-mod closed_replays;
 mod member;
-mod new_replays;
-mod replay_run;
-mod ring_desk;
+mod new_members;
 mod runs;
-mod settings;
-mod tickets;
 
 pub use runs::{a_job_reports_a_group, replay};

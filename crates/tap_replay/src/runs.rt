@@ -6,13 +6,16 @@ ghost use Rattle.schedule_lines.specs.Ascending.{IsSchedule};
 ghost use Rattle.run_reports.specs.Reports.{IsRunReport};
 ghost use Rattle.setup_text.specs.Sound.{IsSetup};
 ghost use Rattle.setup_text.specs.declared.jobs.Job.{Job};
+ghost use Rattle.replay_machine.specs.RunStates.{IsRoomOf};
+ghost use Rattle.replay_model.specs.RingSteps.{block_steps};
+ghost use Rattle.tp_layout.specs.Requests.{size_of};
 ghost use Rattle.tap_replay.specs.Runs.{IsReplayed, report_of};
 
-use crate::closed_replays::finish;
-use crate::new_replays::start;
-use crate::settings::Setting;
+use crate::member::BlockMember;
+use crate::new_members::open_members;
 use capture_file::frames_are_numbered;
 use frame_view::Memory;
+use replay_machine::{Setting, replay_over};
 use replay_model::a_replay_reports_a_group;
 use run_reports::a_group_s_report_is_that_of_a_run;
 use schedule_lines::Schedule;
@@ -20,6 +23,7 @@ use setup_text::{Job, Ran};
 use std::alloc::Global;
 use std::marker::Brand;
 use tap_outside::Source;
+use tp_layout::Shape;
 
 /// Replays a job over rings of blocks: the lines of the schedule in order, and then each CPU from 0
 /// up to its end. The sources are one for each CPU, and come back less the bytes that they gave; a
@@ -62,12 +66,19 @@ fn replay_as<S: Source, K: Setting>(
         ran.report) }
 {
     a_job_reports_a_group();
-    let mut run = start::<S, K>(alloc, job, sources)?;
-    for line in schedule.as_slice() {
-        run.line(alloc, job, *line)?;
-    }
-    run.feed_rest(alloc, job)?;
-    finish(alloc, run)
+    let shape = &job.setup.shape;
+    let members = open_members::<K>(alloc, job.setup.plan.members(), shape, job.setup.dump)?;
+    let room = room_of_blocks(shape);
+    replay_over::<S, BlockMember<K>>(alloc, job, room, members, sources, schedule)
+}
+
+/// The bytes of a block that are for packets.
+fn room_of_blocks(shape: &Shape) -> u32
+    ensures { IsRoomOf (block_steps (size_of shape.now)) result }
+{
+    let _first = shape.first();
+    let _size = shape.block_size();
+    shape.room()
 }
 
 /// The report of a replay is that of a run, whatever the schedule: its logs are lawful over the

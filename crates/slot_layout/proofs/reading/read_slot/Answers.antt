@@ -1,4 +1,4 @@
-use Rattle.std.proofs.Common.{◌≡◌, ◌∙◌, refl, sym, arith}
+use Rattle.std.proofs.Common.{◌∙◌, refl, sym, arith}
 use Rattle.slot_layout.proofs.SlotReads.{has_slot_text}
 use Rattle.slot_layout.proofs.SlotStands.{begins_stands, refused, refused_lawful}
 use Rattle.slot_layout.proofs.reading.read_slot.Goals as goal

@@ -1,0 +1,12 @@
+pub mod Clocks
+pub mod Whole
+pub mod Desks
+pub mod RunRoutes
+pub mod RunArrivals
+pub mod RunCounts
+pub mod Timed
+pub mod CpuSteps
+pub mod RunSteps
+pub mod Lines
+pub mod WholeRuns
+pub mod GroupReports

@@ -1,0 +1,5 @@
+pub mod Deliveries
+pub mod DeskLaws
+pub mod RunStates
+pub mod RunEffects
+pub mod Runs

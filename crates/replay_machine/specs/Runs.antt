@@ -1,0 +1,53 @@
+-- What the replay of a job over rings of one kind reports of the bytes that its CPUs' sources gave.
+use Rattle.std.specs.Prelude.{◌≡◌, ℕ, ◌+◌, List, [], ◌∷◌, length, map, Option}
+use Rattle.capture_file.specs.Capture.{frames_of}
+use Rattle.capture_file.specs.declared.cpu_end.CpuEnd.{CpuEnd}
+use Rattle.capture_reading.specs.Sources.{AllGave}
+use Rattle.fanout_group.specs.declared.runs.CpuLog.{CpuLog}
+use Rattle.replay_model.specs.Replay.{Cpu, Replay, replayed}
+use Rattle.replay_model.specs.RingSteps.{RingSteps}
+use Rattle.ring_model.specs.Rings.{Ring}
+use Rattle.run_reports.specs.Jobs.{arriving_of, rules_of}
+use Rattle.schedule_lines.specs.declared.lines.Line.{Line}
+use Rattle.setup_text.specs.declared.jobs.Job.{Job}
+use Rattle.setup_text.specs.declared.reports.MemberReport.{MemberReport}
+use Rattle.setup_text.specs.declared.reports.RunReport.{RunReport}
+use Rattle.tap_outside.specs.Seen.{SourceSeen}
+
+-- the replay of a job over rings that do these steps
+abbrev pub replay_over : RingSteps → Job → List Line → List (List ℕ) → Replay
+replay_over steps job lines all = replayed (rules_of job) steps (arriving_of job all) lines
+
+-- the log of a CPU whose source gave these bytes and ended so
+abbrev pub log_of : ℕ → List ℕ → CpuEnd → Cpu → CpuLog
+log_of cpu bytes end of = record {
+  frames = length (frames_of cpu bytes);
+  given = length bytes;
+  end = end;
+  arrivals = of.log;
+}
+
+-- those of CPUs with the numbers from this one up
+abbrev pub logs_from : ℕ → List (List ℕ) → List CpuEnd → List Cpu → List CpuLog
+logs_from cpu (bytes ∷ all) (end ∷ ends) (of ∷ cpus) =
+    log_of cpu bytes end of ∷ logs_from (cpu + 1) all ends cpus
+logs_from cpu all ends cpus = []
+
+-- the report of a replay of sources that gave these bytes and ended so, where this is reported of
+-- each closed ring
+abbrev pub report_with :
+    (Ring → MemberReport) → List (List ℕ) → List CpuEnd → Replay → RunReport
+report_with reported all ends replay = record {
+  cpus = logs_from 0 all ends replay.cpus;
+  members = map reported replay.members;
+}
+
+-- the job was replayed by these lines: its sources gave these bytes and ended so, and the report is
+-- the replay report
+pub record IsReplayedOver (steps : RingSteps) (reported : Ring → MemberReport) (job : Job)
+    (lines : List Line) (old new : List (Option SourceSeen)) (report : RunReport) : Type 0 where
+  pub bytes : List (List ℕ)
+  pub ends : List CpuEnd
+  pub many : length ends ≡ length bytes
+  pub gave : AllGave old new bytes ends
+  pub report_is : report ≡ report_with reported bytes ends (replay_over steps job lines bytes)

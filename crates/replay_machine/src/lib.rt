@@ -1,0 +1,17 @@
+//! The machine of a replay: it reads the captures of several CPUs by a schedule, and gives what
+//! arrives to the rings of a group, of whatever kind they are.
+#![tactic(auto)]
+
+mod closed_replays;
+mod member;
+mod new_replays;
+mod replay_run;
+mod ring_desk;
+mod room_rules;
+mod runs;
+mod settings;
+mod tickets;
+
+pub use member::{Member, RingMember};
+pub use runs::replay_over;
+pub use settings::Setting;

@@ -1,0 +1,107 @@
+//! The members of a group, as the delivery of one packet meets them.
+ghost use Rattle.std.specs.Prelude.{◌≡◌, ◌^◌, ◌+◌, ◌<◌, ◌≤◌, ◌∷◌, ◌++◌, [], length, vec_capacity, vec_len, All};
+ghost use Rattle.fanout_group.specs.Desks.{fate_of_put, fate_of_try};
+ghost use Rattle.fanout_group.specs.Routes.{a_try};
+ghost use Rattle.replay_machine.specs.Deliveries.{Follows, TakesAt, desk_with};
+ghost use Rattle.replay_machine.specs.DeskLaws.{follows_itself, follows_on};
+
+use crate::member::{Member, RingMember};
+use fanout_group::{Desk, Fate, Try};
+use ring_model::{Offer, Put, Tried, Unput};
+use std::alloc::Global;
+use std::marker::Model;
+use std::snapshot::Snapshot;
+
+/// A desk over the members of a group. It is made for one delivery. Contracts see the offer, the
+/// rings of the members and the tries.
+#[derive(Drop)]
+pub(crate) struct RingDesk<M: RingMember> {
+    /// The members, from 0 up.
+    pub(crate) members: Vec<Member<M>>,
+    /// The tries so far.
+    pub(crate) tries: Vec<Try>,
+    /// The offer that is delivered. It takes no room: only contracts read it.
+    pub(crate) offer: Snapshot<Offer>,
+}
+
+impl<M: RingMember> Model for RingDesk<M> {
+    ghost use Rattle.replay_machine.specs.Deliveries.{DeskValue, HasRoomFor, desk_with};
+
+    ghost Value = { DeskValue };
+
+    ghost view = { λ desk. desk_with desk.offer.value desk.members.items desk.tries.items };
+
+    ghost invariant = { λ desk. HasRoomFor desk.tries.items desk.members.items };
+}
+
+impl<M: RingMember> RingDesk<M> {
+    /// A desk for this offer. It takes no memory.
+    pub(crate) fn new(alloc: Global, members: Vec<Member<M>>, offer: &Offer) -> RingDesk<M>
+        requires few { All (λ ring. length ring.notes + 9 ≤ 2 ^ 39) members.items }
+        ensures { result ≡ desk_with offer.now members.items [] }
+    {
+        RingDesk {
+            members,
+            tries: Vec::new(alloc),
+            offer: Snapshot::of(offer),
+        }
+    }
+}
+
+/// Puts a try at the end of a list that has room for it.
+fn add(tries: &mut Vec<Try>, member: u32, fate: Fate)
+    requires room { vec_len tries.old < vec_capacity tries.old }
+    ensures { tries.new.items ≡ tries.old.items ++ a_try member fate ∷ [] }
+{
+    let _there_was_room = tries.push(Try { member, fate });
+}
+
+/// What came of a try.
+fn fate_of_try(tried: &Tried) -> Fate
+    ensures { result ≡ fate_of_try tried.now }
+{
+    match tried {
+        Tried::Kept => Fate::Kept,
+        Tried::Refused(_) => Fate::Refused,
+    }
+}
+
+/// What came of a put.
+fn fate_of_put(put: &Put) -> Fate
+    ensures { result ≡ fate_of_put put.now }
+{
+    match put {
+        Put::Kept => Fate::Kept,
+        Put::Dropped(_) => Fate::Dropped,
+    }
+}
+
+impl<M: RingMember> Desk for RingDesk<M> {
+    ghost tried = { λ desk. desk.tries };
+
+    ghost takes = { λ desk member offer. TakesAt desk.offer desk.members member offer };
+
+    ghost follows = { λ old new. Follows M.steps old new };
+
+    fn try_put(&mut self, member: u32, offer: Offer) -> Result<Tried, Unput> {
+        let Ok(()) = self.tries.reserve(1) else {
+            return Err(Unput { offer });
+        };
+        let tried = self.members[member as usize].try_put(offer)?;
+        add(&mut self.tries, member, fate_of_try(&tried));
+        Ok(tried)
+    }
+
+    fn put(&mut self, member: u32, offer: Offer) -> Result<Put, Unput> {
+        let Ok(()) = self.tries.reserve(1) else {
+            return Err(Unput { offer });
+        };
+        let put = self.members[member as usize].put(offer)?;
+        add(&mut self.tries, member, fate_of_put(&put));
+        Ok(put)
+    }
+
+    ghost stays = { λ desk. follows_itself M.steps desk };
+
+    ghost goes_on = { λ first next last one two. follows_on M.steps first next last one two };
+}

@@ -1,0 +1,59 @@
+-- What the rings of a replay do at each step, where every look at a status word has the answer that
+-- the released blocks give. In a ring of slots a slot has the block's place.
+use Rattle.std.specs.Prelude.{ℕ, ◌+◌, length, nat_lt, if◌then◌else◌, Option, None, Some}
+use Rattle.ring_model.specs.Asking.{found_for, put_by, try_by}
+use Rattle.ring_model.specs.Ring.{Size}
+use Rattle.ring_model.specs.Rings.{Ring, note_of_tick, noted, state}
+use Rattle.ring_model.specs.Sizes.{need_of}
+use Rattle.ring_model.specs.declared.notes.Found.{Found}
+use Rattle.ring_model.specs.declared.notes.Found.TheVariants.{NotAsked}
+use Rattle.ring_model.specs.declared.notes.Note.{Note}
+use Rattle.ring_model.specs.declared.notes.Note.TheVariants.{Ticked}
+use Rattle.ring_model.specs.declared.notes.Offer.{Offer}
+
+pub record RingSteps : Type 0 where
+  -- what each ring is made of
+  pub size : Size
+  -- what an offer finds
+  pub finds : Ring → Offer → Found
+  -- what a tick at a moment in milliseconds finds; nothing where a ring has no timer
+  pub ticks : Ring → ℕ → Option Found
+  -- how many blocks were handed to the reader
+  pub retired : Ring → ℕ
+
+-- the note of a packet that the ring keeps or drops
+abbrev pub put_note : RingSteps → Ring → Offer → Note
+put_note steps ring offer = put_by offer (steps.finds ring offer)
+
+-- the note of a packet that the ring keeps or hands back
+abbrev pub try_note : RingSteps → Ring → Offer → Note
+try_note steps ring offer = try_by offer (steps.finds ring offer)
+
+-- the ring after a tick that found this
+abbrev pub ticked_by : Option Found → ℕ → Ring → Ring
+ticked_by None ms ring = ring
+ticked_by (Some found) ms ring = noted ring (Ticked ms found)
+
+-- the ring after a tick
+abbrev pub ticked : RingSteps → ℕ → Ring → Ring
+ticked steps ms ring = ticked_by (steps.ticks ring ms) ms ring
+
+-- the ring after its reader has read a block, if one is retired and not yet released
+abbrev pub read_by : RingSteps → Ring → Ring
+read_by steps ring =
+    if nat_lt ring.released (steps.retired ring)
+    then record ring { released = ring.released + 1 } else ring
+
+-- what the note of a tick says was found
+abbrev pub found_in : Note → Found
+found_in (Ticked ms found) = found
+found_in note = NotAsked
+
+-- what rings of blocks of this size do
+abbrev pub block_steps : Size → RingSteps
+block_steps size = record {
+  size = size;
+  finds = λ ring offer. found_for ring.size ring.released (state ring) (need_of offer.snap);
+  ticks = λ ring ms. Some (found_in (note_of_tick ring ms));
+  retired = λ ring. length (state ring).done;
+}

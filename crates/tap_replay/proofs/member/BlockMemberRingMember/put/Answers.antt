@@ -1,0 +1,19 @@
+use Rattle.std.proofs.Common.{◌≡◌, ◌<◌, ◌^◌, length, subst, sym}
+use Rattle.block_ring.specs.Producing.{Puts, Stays}
+use Rattle.ring_model.specs.Rings.{Ring}
+use Rattle.ring_model.specs.declared.notes.Found.{Found}
+use Rattle.ring_words.specs.PlainRings.{feed_of}
+use Rattle.tap_replay.proofs.MemberFields.{either, noted_member, stays_member}
+use Rattle.tap_replay.specs.Members.{Parts}
+use Rattle.tap_replay.proofs.member.BlockMemberRingMember.put.Goals as goal
+
+pub invariant_of-self : goal.invariant_of-self
+invariant_of-self g c =
+    let before : Parts = record { producer = c.self.inside.producer; reader = c.self.inside.reader; stuck = c.self.inside.stuck } in
+    let few : length c.self.inside.producer.notes < 2 ^ 39 =
+    subst (λ (ring : Ring). length ring.notes < 2 ^ 39) (sym c.self.view_is) c.requires.few in
+    either c.put.result
+    (λ put. (found : Found) × Puts feed_of c.self.inside.producer c.put.new.self c.args.offer found put)
+    (λ unput. (unput.offer ≡ c.args.offer) × Stays c.self.inside.producer c.put.new.self) _ c.put.ensures.put c.put.ensures.unput
+    (λ put made. noted_member g.K.Setting.shape g.K.Setting.dumps before c.put.new.self _ c.self.invariant few made.1.adds)
+    (λ unput none. stays_member g.K.Setting.shape g.K.Setting.dumps before c.put.new.self c.self.invariant none.1)

@@ -1,0 +1,6 @@
+mod SlotRings
+mod SlotGroup
+mod SlotReplayed
+mod ReadSlots
+mod MemberFields
+mod LastReads

@@ -1,0 +1,5 @@
+pub mod SlotReplays
+pub mod SlotReports
+pub mod SlotRuns
+pub mod SlotsRead
+pub mod SlotMembers

@@ -1,0 +1,9 @@
+//! The replay over rings of slots (TPACKET_V2): each frame travels as bytes in a slot of its own,
+//! and its reader reads it out of there.
+#![tactic(auto)]
+
+mod member;
+mod new_members;
+mod runs;
+
+pub use runs::{a_job_over_slots_reports_a_group, replay_v2};

@@ -1,0 +1,4 @@
+mod SlotKinds
+mod SlotFilling
+mod SlotAdding
+pub mod SlotTold

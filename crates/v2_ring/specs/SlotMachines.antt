@@ -1,0 +1,47 @@
+-- The machine of a ring of slots at a state of its notes.
+use Rattle.std.specs.Prelude.{◌≡◌, ℕ, ◌+◌, ◌^◌, ◌<◌, ◌≤◌, [], length, Option, None, Some}
+use Rattle.ring_words.specs.Rings.{Feed}
+use Rattle.slot_layout.specs.SlotShapes.{IsSlotShape}
+use Rattle.slot_model.specs.SlotSteps.{SlotState}
+use Rattle.tp_layout.specs.Requests.{numbers_of}
+use Rattle.tp_layout.specs.declared.requests.RingRequest.{RingRequest}
+use Rattle.v2_ring.specs.SlotContents.{StandsForSlots}
+use Rattle.v2_ring.specs.declared.machine.SlotMachine.{SlotMachine}
+
+-- the machine is at this state, with so many slots in hand
+pub record IsSlotAt {E : Type 0} (feed : E → Feed) (in_hand : ℕ) (state : SlotState) (machine : SlotMachine E) : Type 0 where
+  pub checked : IsSlotShape machine.shape
+  pub places : (feed machine.end).ring.places ≡ machine.shape.frame_nr
+  pub kind : (feed machine.end).ring.kind ≡ numbers_of machine.shape
+  pub far : 2 ^ 40 ≤ (feed machine.end).ring.bound
+  pub given : (feed machine.end).given ≡ length state.done + in_hand
+  pub retired_is : (feed machine.end).retired ≡ length state.done
+  pub texts : StandsForSlots machine.shape state.done (feed machine.end)
+  pub kept_is : machine.kept ≡ state.kept
+  pub dropped_is : machine.dropped ≡ state.dropped
+
+-- a packet more passes no count's end
+pub record IsSlotFew (state : SlotState) : Type 0 where
+  pub slots : length state.done < 2 ^ 39
+  pub packets : state.kept + state.dropped < 2 ^ 39
+
+-- what the calls of a ring leave of what its end reports
+pub record KeepsSlotEnd (before after : Feed) : Type 0 where
+  pub ring : after.ring ≡ before.ring
+  pub freed : after.freed ≡ before.freed
+  pub fetched : after.fetched ≡ before.fetched
+  pub holds : before.holds ≤ after.holds
+
+-- how many looks found a slot that was still the reader's, by the number that one reported
+abbrev pub look_count : Option ℕ → ℕ
+look_count None = 0
+look_count (Some number) = 1
+
+-- an end that was given nothing yet, of a ring of the slots of this shape
+pub record IsFreshSlots (shape : RingRequest) (feed : Feed) : Type 0 where
+  pub places : feed.ring.places ≡ shape.frame_nr
+  pub kind : feed.ring.kind ≡ numbers_of shape
+  pub given : feed.given ≡ 0
+  pub retired_none : feed.retired ≡ 0
+  pub passed : feed.passed ≡ 0
+  pub shown : feed.shown ≡ []

@@ -1,0 +1,64 @@
+-- A ring of slots that frames are put into, as contracts see it.
+use Rattle.std.specs.Prelude.{◌≡◌, ℕ, ◌+◌, ◌^◌, ◌<◌, ◌≤◌, List, [], ◌∷◌, ◌++◌, length, IfSome, Option, Some}
+use Rattle.ring_model.specs.Asking.{put_by, try_by}
+use Rattle.ring_model.specs.Told.{found_by, put_told, try_told}
+use Rattle.ring_model.specs.declared.notes.Note.{Note}
+use Rattle.ring_model.specs.declared.notes.Offer.{Offer}
+use Rattle.ring_model.specs.declared.notes.Put.{Put}
+use Rattle.ring_model.specs.declared.notes.Tried.{Tried}
+use Rattle.ring_words.specs.Counts.{Rose}
+use Rattle.ring_words.specs.Rings.{Feed}
+use Rattle.slot_model.specs.SlotAsking.{slot_look}
+use Rattle.slot_model.specs.SlotSteps.{IsOpenSlotRun, SlotMayStand, SlotState, first_slot_state, slot_state_of}
+use Rattle.tp_layout.specs.declared.requests.RingRequest.{RingRequest}
+use Rattle.v2_ring.specs.SlotContents.{StandsForSlots}
+use Rattle.v2_ring.specs.SlotMachines.{IsSlotAt, KeepsSlotEnd, look_count}
+use Rattle.v2_ring.specs.declared.machine.SlotMachine.{SlotMachine}
+
+pub record SlotProducing (E : Type 0) : Type 0 where
+  -- the shape of its slots
+  pub shape : RingRequest
+  -- what happened so far
+  pub notes : List Note
+  -- its end of the ring
+  pub end : E
+
+-- the state that its notes leave
+abbrev pub slots_filled : {E : Type 0} → SlotProducing E → SlotState
+slots_filled ring = slot_state_of ring.notes
+
+-- a call added this note, which may stand; the end stands for the texts of all filled slots
+pub record SlotAdds {E : Type 0} (feed : E → Feed) (before after : SlotProducing E) (note : Note) : Type 0 where
+  pub shape : after.shape ≡ before.shape
+  pub notes : after.notes ≡ before.notes ++ note ∷ []
+  pub stands : SlotMayStand before.shape.frame_nr (slots_filled before) note
+  pub texts : StandsForSlots after.shape (slots_filled after).done (feed after.end)
+  pub end : KeepsSlotEnd (feed before.end) (feed after.end)
+
+-- what the one look of a call found: the number of a slot that is still the reader's, of which then one look more is
+-- counted, or none where the next slot is free; where the end reports how many slots were released, it is exact
+pub record SlotLooks (slots : ℕ) (state : SlotState) (held : Option ℕ) (before after : Feed) : Type 0 where
+  pub looked : IfSome held (λ number. Rose before.holds after.holds)
+  pub count : after.holds ≤ before.holds + look_count held
+  pub exact : (released : ℕ) → before.freed ≡ Some released → found_by held ≡ slot_look slots released state
+
+-- a put found this, and dropped the packet where the slot was held
+pub record SlotPuts {E : Type 0} (feed : E → Feed) (before after : SlotProducing E) (offer : Offer) (held : Option ℕ) (put : Put)
+    : Type 0 where
+  pub adds : SlotAdds feed before after (put_by offer (found_by held))
+  pub told : put ≡ put_told (put_by offer (found_by held))
+  pub looks : SlotLooks before.shape.frame_nr (slots_filled before) held (feed before.end) (feed after.end)
+
+-- a try found this, and handed the packet back where the slot was held
+pub record SlotTries {E : Type 0} (feed : E → Feed) (before after : SlotProducing E) (offer : Offer) (held : Option ℕ) (tried : Tried)
+    : Type 0 where
+  pub adds : SlotAdds feed before after (try_by offer (found_by held))
+  pub told : tried ≡ try_told offer (try_by offer (found_by held))
+  pub looks : SlotLooks before.shape.frame_nr (slots_filled before) held (feed before.end) (feed after.end)
+
+-- what the fields of a ring keep
+pub record SlotKeeps {E : Type 0} (feed : E → Feed) (machine : SlotMachine E) (notes : List Note) (room : ℕ) : Type 0 where
+  pub at : IsSlotAt feed 0 (slot_state_of notes) machine
+  pub run : IsOpenSlotRun machine.shape.frame_nr first_slot_state notes
+  pub last : length notes < room
+  pub few : machine.kept + machine.dropped ≤ 2 ^ 39

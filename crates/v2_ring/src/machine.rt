@@ -1,0 +1,149 @@
+//! The ring as a machine, in the manner of the kernel's `tpacket_rcv` with TPACKET_V2.
+//!
+//! A packet needs the next slot. The machine looks once at its status word. Where the slot is free the packet is written
+//! into it, and the slot goes to the reader at once. Where the reader still has it the packet is dropped, or handed back
+//! if it was only tried. A slot that is filled while drops are counted has TP_STATUS_LOSING. There are no blocks, no timer
+//! and no freeze.
+ghost use Rattle.std.specs.Prelude.{◌≡◌, ◌+◌, ◌^◌, ◌<◌, ◌≤◌, ℕ, IfSome, None, Some};
+ghost use Rattle.ring_model.specs.Asking.{put_by, try_by};
+ghost use Rattle.ring_model.specs.Told.{found_by};
+ghost use Rattle.ring_model.specs.declared.notes.Found.TheVariants as found;
+ghost use Rattle.ring_model.specs.declared.notes.Note.TheVariants as notes;
+ghost use Rattle.slot_layout.specs.SlotShapes.{IsSlotShape};
+ghost use Rattle.slot_model.specs.SlotFates.{slot_stats_of};
+ghost use Rattle.slot_model.specs.SlotSteps.{SlotMayStand, SlotState, first_slot_state, slot_after};
+ghost use Rattle.tp_layout.specs.Requests.{numbers_of};
+ghost use Rattle.tp_layout.specs.Writing.{IsWritable};
+
+use ring_model::{Note, Offer, Stats};
+use ring_words::{FeederEnd, Next};
+use slot_layout::{Slot, write_slot};
+use tp_layout::Shape;
+
+/// A ring between two notes.
+#[derive(Drop)]
+pub(crate) struct SlotMachine<E> {
+    /// The shape of its slots.
+    pub(crate) shape: Shape,
+    /// Its end of the ring.
+    pub(crate) end: E,
+    /// Packets kept since the statistics were last taken.
+    kept: u64,
+    /// Packets dropped since then.
+    dropped: u64,
+    /// What happened so far, with room for one note more, so that closing the ring takes no memory.
+    pub(crate) notes: Vec<Note>,
+}
+
+impl<E: FeederEnd<Slot> + Drop> SlotMachine<E> {
+    ghost use Rattle.v2_ring.specs.SlotMachines.{IsFreshSlots, IsSlotAt, IsSlotFew, KeepsSlotEnd};
+    ghost use Rattle.v2_ring.specs.SlotProducing.{SlotLooks};
+
+    /// A machine over a fresh end.
+    pub(crate) fn new(shape: Shape, end: E, notes: Vec<Note>) -> SlotMachine<E>
+        requires checked { IsSlotShape shape }
+        requires fresh { IsFreshSlots shape (E.feed end) }
+        ensures at { IsSlotAt E.feed 0 first_slot_state result }
+        ensures shape { result.shape ≡ shape }
+        ensures end { result.end ≡ end }
+        ensures notes { result.notes ≡ notes }
+        ensures counts { (result.kept ≡ 0) × (result.dropped ≡ 0) }
+    {
+        SlotMachine {
+            shape,
+            end,
+            kept: 0,
+            dropped: 0,
+            notes,
+        }
+    }
+
+    /// Puts a packet: where the next slot is still the reader's the packet is dropped, and that slot's number is reported.
+    pub(crate) fn put(&mut self, offer: &Offer) -> Option<u64>
+        ghost state: { SlotState }
+        requires at { IsSlotAt E.feed 0 state self.old }
+        requires few { IsSlotFew state }
+        requires fits { 66 + offer.now.snap ≤ self.old.shape.frame_size }
+        requires writable { IsWritable offer.now }
+        ensures at { IsSlotAt E.feed 0
+            (slot_after state (put_by offer.now (found_by result))) self.new }
+        ensures stands { SlotMayStand self.old.shape.frame_nr state
+            (put_by offer.now (found_by result)) }
+        ensures looks { SlotLooks self.old.shape.frame_nr state result
+            (E.feed self.old.end) (E.feed self.new.end) }
+        ensures end { KeepsSlotEnd (E.feed self.old.end) (E.feed self.new.end) }
+        ensures same { (self.new.shape ≡ self.old.shape) × (self.new.notes ≡ self.old.notes) }
+    {
+        let held = self.try_put(offer);
+        if held.is_some() {
+            self.dropped += 1;
+        }
+        held
+    }
+
+    /// Tries a packet: where the next slot is still the reader's that slot's number is reported, and all is as before.
+    pub(crate) fn try_put(&mut self, offer: &Offer) -> Option<u64>
+        ghost state: { SlotState }
+        requires at { IsSlotAt E.feed 0 state self.old }
+        requires few { IsSlotFew state }
+        requires fits { 66 + offer.now.snap ≤ self.old.shape.frame_size }
+        requires writable { IsWritable offer.now }
+        ensures at { IsSlotAt E.feed 0
+            (slot_after state (try_by offer.now (found_by result))) self.new }
+        ensures stands { SlotMayStand self.old.shape.frame_nr state
+            (try_by offer.now (found_by result)) }
+        ensures looks { SlotLooks self.old.shape.frame_nr state result
+            (E.feed self.old.end) (E.feed self.new.end) }
+        ensures end { KeepsSlotEnd (E.feed self.old.end) (E.feed self.new.end) }
+        ensures same { (self.new.shape ≡ self.old.shape) × (self.new.notes ≡ self.old.notes) }
+    {
+        match self.end.next() {
+            Next::Free { block, .. } => {
+                self.fill(block, offer);
+                None
+            }
+            Next::Held(number) => Some(number),
+        }
+    }
+
+    /// Writes a packet into a slot that the end gave, and hands it over.
+    fn fill(&mut self, slot: Slot, offer: &Offer)
+        ghost state: { SlotState }
+        requires at { IsSlotAt E.feed 1 state self.old }
+        requires few { IsSlotFew state }
+        requires kind { numbers_of slot.shape ≡ numbers_of self.old.shape }
+        requires fits { 66 + offer.now.snap ≤ self.old.shape.frame_size }
+        requires writable { IsWritable offer.now }
+        ensures at { IsSlotAt E.feed 0
+            (slot_after state (notes.Kept offer.now found.Free)) self.new }
+        ensures end { KeepsSlotEnd (E.feed self.old.end) (E.feed self.new.end) }
+        ensures holds { (E.feed self.new.end).holds ≡ (E.feed self.old.end).holds }
+        ensures same { (self.new.shape ≡ self.old.shape) × (self.new.notes ≡ self.old.notes) }
+    {
+        let mut slot = slot;
+        let status = write_slot(&mut slot, offer, self.dropped > 0);
+        self.end.retire(slot, status);
+        self.kept += 1;
+    }
+
+    /// Takes the statistics, which start anew.
+    pub(crate) fn take_stats(&mut self) -> Stats
+        ghost state: { SlotState }
+        requires at { IsSlotAt E.feed 0 state self.old }
+        requires few { self.old.kept + self.old.dropped ≤ 2 ^ 39 }
+        ensures at { IsSlotAt E.feed 0 (slot_after state notes.Counted) self.new }
+        ensures stats { result ≡ slot_stats_of state }
+        ensures counts { (self.new.kept ≡ 0) × (self.new.dropped ≡ 0) }
+        ensures same { (self.new.shape ≡ self.old.shape) × (self.new.notes ≡ self.old.notes) }
+        ensures end { self.new.end ≡ self.old.end }
+    {
+        let stats = Stats {
+            packets: self.kept + self.dropped,
+            drops: self.dropped,
+            freezes: 0,
+        };
+        self.kept = 0;
+        self.dropped = 0;
+        stats
+    }
+}

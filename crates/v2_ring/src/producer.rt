@@ -1,0 +1,174 @@
+//! A ring of slots that frames are put into: its machine, and the notes of what happened.
+ghost use Rattle.std.specs.Prelude.{◌≡◌, ◌+◌, ◌^◌, ◌<◌, ◌≤◌, ◌∷◌, ◌++◌, ℕ, [], length, Option, IfOk, IfErr, OnErr};
+ghost use Rattle.ring_model.specs.Asking.{put_by, try_by};
+ghost use Rattle.ring_model.specs.Told.{found_by, put_told, try_told};
+ghost use Rattle.ring_model.specs.declared.notes.Found.TheVariants.{Free};
+ghost use Rattle.ring_model.specs.declared.notes.Note.TheVariants.{Counted, Finished};
+ghost use Rattle.slot_layout.specs.SlotShapes.{IsSlotShape};
+ghost use Rattle.slot_model.specs.SlotFates.{slot_stats_of};
+ghost use Rattle.slot_model.specs.SlotSteps.{IsWholeSlotRun, slot_state_of};
+ghost use Rattle.tp_layout.specs.Writing.{IsWritable};
+
+use crate::machine::SlotMachine;
+use frame_view::Memory;
+use ring_model::{Found, Note, Notes, Offer, Put, Stats, Tried, Unput, need};
+use ring_words::FeederEnd;
+use slot_layout::Slot;
+use std::alloc::Global;
+use std::marker::Model;
+use tp_layout::Shape;
+
+/// A receive ring of slots: the feeder's side, which keeps, refuses or drops packets. Contracts see its shape, its notes
+/// and its end.
+#[derive(Drop)]
+pub struct SlotProducer<E: FeederEnd<Slot> + Drop> {
+    pub(crate) machine: SlotMachine<E>,
+}
+
+impl<E: FeederEnd<Slot> + Drop> Model for SlotProducer<E> {
+    ghost use Rattle.std.specs.Vec.{vec_capacity};
+    ghost use Rattle.v2_ring.specs.SlotProducing.{SlotKeeps, SlotProducing};
+
+    ghost Value = { SlotProducing E };
+
+    ghost view = { λ ring. record {
+      shape = ring.machine.shape;
+      notes = ring.machine.notes.items;
+      end = ring.machine.end;
+    } };
+
+    ghost invariant = { λ ring.
+        SlotKeeps E.feed ring.machine ring.machine.notes.items
+        (vec_capacity ring.machine.notes) };
+}
+
+impl<E: FeederEnd<Slot> + Drop> SlotProducer<E> {
+    ghost use Rattle.v2_ring.specs.SlotContents.{StandsForSlots};
+    ghost use Rattle.v2_ring.specs.SlotMachines.{IsFreshSlots};
+    ghost use Rattle.v2_ring.specs.SlotProducing.{SlotAdds, SlotPuts, SlotTries, slots_filled};
+
+    /// A ring of slots of this shape, which came from `check_v2`. The end is fresh, and its ring has as many slots of the
+    /// shape as the shape has frames. After `Memory` the end is dropped.
+    pub fn new(alloc: Global, shape: Shape, end: E) -> Result<SlotProducer<E>, Memory>
+        requires checked { IsSlotShape shape }
+        requires fresh { IsFreshSlots shape (E.feed end) }
+        ensures { IfOk result (λ ring. ring ≡ record { shape = shape; notes = []; end = end }) }
+    {
+        let mut notes = Vec::new(alloc);
+        notes.reserve(1)?;
+        Ok(SlotProducer {
+            machine: SlotMachine::new(shape, end, notes),
+        })
+    }
+
+    /// Keeps a packet in the next slot, or hands it back where that slot is still the reader's; then all but the notes is
+    /// as before. The condition on the offer is that of `put`.
+    pub fn try_put(&mut self, offer: Offer) -> Result<Tried, Unput>
+        requires fits { 66 + offer.snap ≤ self.old.shape.frame_size }
+        requires sound { IsWritable offer }
+        requires few { length self.old.notes < 2 ^ 39 }
+        ensures tried { IfOk result (λ tried. (held : Option ℕ)
+            × SlotTries E.feed self.old self.new offer held tried) }
+        ensures unput { IfErr result (λ unput. unput.offer ≡ offer) }
+        ensures same { OnErr result (self.new ≡ self.old) }
+    {
+        let Ok(()) = self.machine.notes.reserve(2) else {
+            return Err(Unput { offer });
+        };
+        let held = self.machine.try_put(&offer);
+        let (note, tried) = noted_try(offer, held);
+        self.machine.notes.push_reserved(note);
+        Ok(tried)
+    }
+
+    /// Keeps a packet in the next slot, or drops it where that slot is still the reader's. The offer keeps at least one
+    /// byte of what was captured, no more than goes into a slot after the 66 bytes of its header, and is sound.
+    pub fn put(&mut self, offer: Offer) -> Result<Put, Unput>
+        requires fits { 66 + offer.snap ≤ self.old.shape.frame_size }
+        requires sound { IsWritable offer }
+        requires few { length self.old.notes < 2 ^ 39 }
+        ensures put { IfOk result (λ put. (held : Option ℕ)
+            × SlotPuts E.feed self.old self.new offer held put) }
+        ensures unput { IfErr result (λ unput. unput.offer ≡ offer) }
+        ensures same { OnErr result (self.new ≡ self.old) }
+    {
+        let Ok(()) = self.machine.notes.reserve(2) else {
+            return Err(Unput { offer });
+        };
+        let held = self.machine.put(&offer);
+        let (note, put) = noted_put(offer, held);
+        self.machine.notes.push_reserved(note);
+        Ok(put)
+    }
+
+    /// Takes the statistics, which start anew (PACKET_STATISTICS of packet(7)). There are no freezes.
+    pub fn take_stats(&mut self) -> Result<Stats, Memory>
+        ensures taken { IfOk result (λ stats. SlotAdds E.feed self.old self.new Counted) }
+        ensures stats { IfOk result (λ stats. stats ≡ slot_stats_of (slots_filled self.old)) }
+        ensures end { self.new.end ≡ self.old.end }
+        ensures same { OnErr result (self.new ≡ self.old) }
+    {
+        self.machine.notes.reserve(2)?;
+        let stats = self.machine.take_stats();
+        self.machine.notes.push_reserved(Note::Counted);
+        Ok(stats)
+    }
+
+    /// Closes the ring. It gives back the end and the notes, of which the last says that the ring was closed.
+    pub fn finish(self) -> (E, Notes)
+        ensures end { result.0 ≡ self.end }
+        ensures notes { result.1 ≡ self.notes ++ Finished ∷ [] }
+        ensures run { IsWholeSlotRun self.shape.frame_nr result.1 }
+        ensures texts { StandsForSlots self.shape (slot_state_of result.1).done (E.feed result.0) }
+    {
+        let SlotMachine { end, mut notes, .. } = self.machine;
+        notes.push_reserved(Note::Finished);
+        (end, Notes::from_vec(notes))
+    }
+}
+
+/// The note of a packet that was put, and what its call reports, by the number of the slot that was held.
+fn noted_put(offer: Offer, held: Option<u64>) -> (Note, Put)
+    requires { offer.snap ≤ 1048576 }
+    ensures note { result.0 ≡ put_by offer (found_by held) }
+    ensures put { result.1 ≡ put_told (put_by offer (found_by held)) }
+{
+    let Some(number) = held else {
+        return (kept(offer), Put::Kept);
+    };
+    let note = Note::Dropped {
+        cpu: offer.frame.cpu,
+        index: offer.frame.index,
+        need: need(offer.snap),
+        number,
+    };
+    (note, Put::Dropped(number))
+}
+
+/// The note of a packet that was tried, and what its call reports, by the number of the slot that was held.
+fn noted_try(offer: Offer, held: Option<u64>) -> (Note, Tried)
+    requires { offer.snap ≤ 1048576 }
+    ensures note { result.0 ≡ try_by offer (found_by held) }
+    ensures tried { result.1 ≡ try_told offer (try_by offer (found_by held)) }
+{
+    let Some(number) = held else {
+        return (kept(offer), Tried::Kept);
+    };
+    let note = Note::Refused {
+        cpu: offer.frame.cpu,
+        index: offer.frame.index,
+        need: need(offer.snap),
+        number,
+    };
+    (note, Tried::Refused(offer))
+}
+
+/// The note of a packet that was kept.
+fn kept(offer: Offer) -> Note
+    ensures { result ≡ put_by offer Free }
+{
+    Note::Kept {
+        offer,
+        found: Found::Free,
+    }
+}

@@ -1,0 +1,13 @@
+use Rattle.std.proofs.Common.{◌≡◌, ◌≤◌, false, None}
+use Rattle.tp_layout.specs.Requests.{numbers_of}
+use Rattle.v2_tests.proofs.threads.read_all.Given as goal
+
+-- each look took a slot at most, and no slot is in hand
+abbrev pub invariant-loop-look : goal.invariant-loop-look
+invariant-loop-look l = record {
+  kind : l.walker.kind ≡ numbers_of l.reader.shape;
+  held : l.reader.held ≡ None;
+  hand : l.walker.in_hand ≡ false;
+  few : l.reader.outputs.blocks ≤ l.look;
+  ring : l.walker.id ≡ l.initial.walker.id;
+}

@@ -1,0 +1,77 @@
+//! A slot with each of its bytes changed in turn.
+ghost use Rattle.std.specs.Prelude.{◌≡◌, ◌≤◌, length};
+
+use crate::sample_slots::slot_shape;
+use crate::texts::filled;
+use frame_view::Memory;
+use slot_layout::read_slot;
+use std::alloc::Global;
+use std::test::Fail;
+use tp_layout::{LayoutKind, Shape};
+
+/// A fault with its place.
+type Fault = Option<(LayoutKind, u32)>;
+
+/// The fault of a slot whose byte at this place was changed by an exclusive or with 1, the frame's length being 14, its
+/// nanoseconds 2,000 and its packet type 1; the tag's fields are tested apart.
+fn fault_at(place: u32) -> Fault {
+    match place {
+        0..=3 => Some((LayoutKind::Field, 0)),
+        8..=11 => Some((LayoutKind::Snap, 8)),
+        12..=13 => Some((LayoutKind::Offset, 12)),
+        14..=15 => Some((LayoutKind::Offset, 14)),
+        32..=33 => Some((LayoutKind::Field, 32)),
+        36..=39 => Some((LayoutKind::Field, 36)),
+        40..=41 => Some((LayoutKind::Field, 40)),
+        28..=31 | 43 | 50..=65 => Some((LayoutKind::Field, place)),
+        _ => None,
+    }
+}
+
+/// The same, with the fields of the tag: they are 0 in a slot without one, and with one the control information may be any.
+fn fault_with_tag(place: u32, tagged: bool) -> Fault {
+    match place {
+        24..=25 => {
+            if tagged {
+                None
+            } else {
+                Some((LayoutKind::Field, 24))
+            }
+        }
+        26..=27 => Some((LayoutKind::Field, 26)),
+        _ => fault_at(place),
+    }
+}
+
+/// The fault of these bytes with one changed by an exclusive or with 1.
+fn changed(alloc: Global, shape: &Shape, slot: &[u8], place: u32) -> Result<Fault, Memory>
+    requires { length slot.now ≡ shape.now.frame_size }
+{
+    let mut bytes = slot.to_vec(alloc)?;
+    if let Some(byte) = bytes.get_mut(place as usize) {
+        *byte ^= 1;
+    }
+    let read = read_slot(bytes.as_slice(), shape);
+    Ok(read.err().map(|error| (error.kind, error.at)))
+}
+
+#[test]
+fn each_byte_of_a_slot_changed(rt: HostRuntime) -> Result<(), Fail> {
+    let alloc = rt.alloc();
+    let shape = slot_shape().ok_or("a shape")?;
+    if shape.frame_size() < 80 {
+        return Err("a slot has room for a frame".into());
+    }
+    for tagged in [false, true] {
+        let (slot, _) = filled(alloc, &shape, tagged, false)?;
+        for place in 0..84 {
+            let fault = changed(alloc, &shape, slot.bytes(), place)?;
+            assert_eq!(rt;
+                fault,
+                fault_with_tag(place, tagged),
+                "the byte at {place}"
+            );
+        }
+    }
+    Ok(())
+}
