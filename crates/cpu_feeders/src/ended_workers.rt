@@ -30,8 +30,8 @@ pub(crate) fn gather<S: Source>(
     feeders: Vec<Feeder<S>>,
     timers: Vec<Timer>,
 ) -> Result<Left<S>, Memory>
-    requires feeders { AllByRecursion (λ feeder. length feeder.stands.items ≡ members) feeders.items }
-    requires timers { AllByRecursion (λ timer. length timer.stands.items ≡ members) timers.items }
+    requires feeders { AllByRecursion (λ it. length it.stands.items ≡ members) feeders.items }
+    requires timers { AllByRecursion (λ it. length it.stands.items ≡ members) timers.items }
     ensures cpus { IfOk result (λ left.
         left.cpus.items ≡ map (λ feeder. feeder.feed) feeders.items) }
     ensures seats { IfOk result (λ left.

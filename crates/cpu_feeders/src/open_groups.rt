@@ -27,7 +27,8 @@ impl OpenGroup {
     fn add(&mut self, alloc: Global, shape: &Shape, cpus: u32) -> Result<(), Memory>
         requires few { cpus ≤ 8 }
         requires users { self.old.users.items ≡ fresh_users self.old.members.items 0 (cpus + 1) }
-        requires opened { AllZip (IsOpened shape.now cpus) self.old.members.items self.old.ends.items }
+        requires opened { AllZip (IsOpened shape.now cpus) self.old.members.items
+            self.old.ends.items }
         ensures users { OnOk result
             (self.new.users.items ≡ fresh_users self.new.members.items 0 (cpus + 1)) }
         ensures opened { OnOk result

@@ -92,8 +92,8 @@ impl Reader {
         requires kept { IsKept stage (spot_of cursor held.old.interfaces.items) held.old.kept.items
             (33554432 - length piece.now) }
         requires few { length piece.now ≤ 33554432 }
-        ensures ok { IfOk result (λ progress. Feeds self.cpu stage cursor held.old piece.now into.old
-            progress held.new into.new) }
+        ensures ok { IfOk result (λ read. Feeds self.cpu stage cursor held.old piece.now into.old
+            read held.new into.new) }
         ensures ends { IfOk result (λ progress. IsReadTo progress held.new) }
         ensures sound { IfOk result (λ progress. (fed : ℕ)
             → IsKept stage (spot_of cursor held.old.interfaces.items) held.old.kept.items fed
@@ -403,7 +403,7 @@ impl Reader {
 fn keep_rest(cursor: Cursor, left: &[u8], kept: &mut Vec<u8>) -> Result<Stage, Memory>
     ensures stage { IfOk result (λ stage.
         stage ≡ waiting (look_at cursor.order cursor.stop left.now) left.now) }
-    ensures kept { IfOk result (λ stage. kept.new.items ≡ kept.old.items ++ rest_in stage left.now) }
+    ensures kept { IfOk result (λ next. kept.new.items ≡ kept.old.items ++ rest_in next left.now) }
     ensures err { OnErr result (kept.new.items ≡ kept.old.items) }
 {
     match look_at(cursor.order, cursor.stop, left) {
