@@ -23,12 +23,12 @@ import random
 import struct
 import subprocess
 import sys
-import tempfile
 import threading
 from collections import namedtuple
 
 import by_hand
 import filter_verdicts
+from outcomes import passing, refused, wrong_runs
 from replays import FILTERS, KEY, SIZES, datagram, frame, header, record, setup_text
 
 # A run: its setup, the captures of the CPUs from 0 up (None for one that isn't there), and the texts of its filter and moments.
@@ -412,40 +412,22 @@ def made_wrong(case, lines, files):
 
 def tests_differ():
     """How many outcomes of by_hand.py are refused, and how many that were made wrong aren't."""
-    numbers, wrong = random.Random(5), 0
-    for _ in range(60):
-        case = random_case(numbers)
-        if None in case.captures:
-            continue
-        lines, files = some_outcome(case, numbers)
-        for why in faults(case, lines, files, Arriving(case).status()):
-            wrong += 1
-            print(f"an outcome of by_hand.py is refused: {why}; setup {case.setup!r}")
+    numbers = random.Random(5)
+    cases = [case for case in (random_case(numbers) for _ in range(60)) if None not in case.captures]
+    wrong = refused(faults, ((case, (*some_outcome(case, numbers), Arriving(case).status())) for case in cases))
     text = setup_text(SIZES[0], 2) + "members 2\nmode cpu\ndump yes\n"
     data = [header() + b"".join(record(frame(60, fill=at), sec=cpu, fraction=at) for at in range(9)) for cpu in range(2)]
     case = Case(text, data, None, [])
     lines, files = by_hand.replay(by_hand.Setup(text), "", data)
-    for what, *outcome in made_wrong(case, lines, files):
-        if not list(faults(case, *outcome)):
-            wrong += 1
-            print(f"a wrong outcome passes: {what}")
-    return wrong
+    return wrong + passing(faults, case, made_wrong(case, lines, files))
 
 
 def main():
     program, runs = os.path.abspath(sys.argv[1]), int(sys.argv[2]) if len(sys.argv) > 2 else 300
-    numbers, wrong, count = random.Random(4), tests_differ(), 0
-    with tempfile.TemporaryDirectory() as room:
-        os.chdir(room)
-        for count, case in enumerate([*sum_cases(), *(random_case(numbers) for _ in range(runs))], 1):
-            outcome, why = run_of(program, case, numbers)
-            found = list(faults(case, *outcome)) if outcome else [why]
-            if found:
-                wrong += 1
-                sizes = [capture and len(capture) for capture in case.captures]
-                print(f"run {count}, setup {case.setup!r}, captures of {sizes} bytes: {'; '.join(found[:3])}")
-        os.chdir("/")
-    print(f"captures.py: {count} runs on threads, {wrong} of them wrong")
+    numbers, wrong = random.Random(4), tests_differ()
+    cases = [*sum_cases(), *(random_case(numbers) for _ in range(runs))]
+    wrong += wrong_runs(faults, cases, lambda case: run_of(program, case, numbers))
+    print(f"captures.py: {len(cases)} runs on threads, {wrong} of them wrong")
     sys.exit(1 if wrong else 0)
 
 

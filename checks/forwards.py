@@ -15,10 +15,10 @@ import os
 import random
 import struct
 import sys
-import tempfile
 
 import by_hand
 import captures
+from outcomes import passing, refused, wrong_runs
 from replays import SIZES, frame, header, record, setup_text
 
 
@@ -112,39 +112,23 @@ def made_wrong(lines, files):
 
 def tests_differ():
     """How many outcomes of by_hand.py are refused, and how many that were made wrong aren't."""
-    numbers, wrong = random.Random(6), 0
-    for _ in range(40):
-        case = captures.random_case(numbers)
-        if None in case.captures:
-            continue
-        for why in faults(case, *some_outcome(case, numbers), captures.Arriving(case).status()):
-            wrong += 1
-            print(f"an outcome of by_hand.py is refused: {why}; setup {case.setup!r}")
+    numbers = random.Random(6)
+    cases = [case for case in (captures.random_case(numbers) for _ in range(40)) if None not in case.captures]
+    wrong = refused(faults, ((case, (*some_outcome(case, numbers), captures.Arriving(case).status())) for case in cases))
     text = setup_text(SIZES[0], 2) + "members 2\nmode cpu\ndump yes\n"
     long = record(frame(5000), sec=0, fraction=20)
     data = [header() + b"".join(record(frame(60, fill=at + 20 * cpu), sec=cpu, fraction=at) for at in range(9)) for cpu in range(2)]
     case = captures.Case(text, [data[0] + long, data[1]], None, [])
     lines, files = with_sent(by_hand.Setup(text), *by_hand.replay(by_hand.Setup(text), "", case.captures))
-    for what, *outcome in made_wrong(lines, files):
-        if not list(faults(case, *outcome, 0)):
-            wrong += 1
-            print(f"a wrong outcome passes: {what}")
-    return wrong
+    return wrong + passing(faults, case, ((*outcome, 0) for outcome in made_wrong(lines, files)))
 
 
 def main():
     program, runs = os.path.abspath(sys.argv[1]), int(sys.argv[2]) if len(sys.argv) > 2 else 200
-    numbers, wrong, count = random.Random(7), tests_differ(), 0
-    with tempfile.TemporaryDirectory() as room:
-        os.chdir(room)
-        for count, case in enumerate([*captures.sum_cases(), *(captures.random_case(numbers) for _ in range(runs))], 1):
-            outcome, why = captures.run_of(program, case, numbers, "forward")
-            found = list(faults(case, *outcome)) if outcome else [why]
-            if found:
-                wrong += 1
-                print(f"run {count}, setup {case.setup!r}: {'; '.join(found[:3])}")
-        os.chdir("/")
-    print(f"forwards.py: {count} runs on threads that send, {wrong} of them wrong")
+    numbers, wrong = random.Random(7), tests_differ()
+    cases = [*captures.sum_cases(), *(captures.random_case(numbers) for _ in range(runs))]
+    wrong += wrong_runs(faults, cases, lambda case: captures.run_of(program, case, numbers, "forward"))
+    print(f"forwards.py: {len(cases)} runs on threads that send, {wrong} of them wrong")
     sys.exit(1 if wrong else 0)
 
 
