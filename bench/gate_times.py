@@ -2,7 +2,8 @@
 """Which crate and which of its parts takes the gate's time.
 
     gate_times.py --watch OUT [PID]   samples the prover's processes each second, and writes to OUT what each took so far
-    gate_times.py --table OUT         prints a table of it: of each crate its own proof, its tests' proof and its edits
+    gate_times.py --table OUT         prints a table of it: of each crate its own proof, its tests' proof, the second check
+                                      that its edits begin with, and the edits
 
 Start the watch beside `rt ci`. With a PID it counts the processes below that one alone, and ends with it; without one it counts
 every process of the prover on the machine, and ends when it is interrupted.
@@ -13,6 +14,8 @@ of one process.
 """
 import argparse
 import collections
+import filecmp
+import functools
 import json
 import os
 import signal
@@ -20,7 +23,7 @@ import sys
 import time
 
 PROVER = "rattle"
-PARTS = ["proof", "tests", "edits"]
+PARTS = ["proof", "tests", "seed", "edits"]
 TICK = os.sysconf("SC_CLK_TCK")
 
 Seen = collections.namedtuple("Seen", "crate part seconds kib")
@@ -36,17 +39,37 @@ def fields_of(pid):
     return text_of(pid, "stat").rpartition(")")[2].split()
 
 
+def top_of(pid):
+    """The folder of the repository, which rt runs in: that of the nearest process above the prover's own."""
+    while os.path.basename(text_of(pid, "cmdline").split("\0")[0]) == PROVER:
+        pid = int(fields_of(pid)[1])
+    return os.readlink(f"/proc/{pid}/cwd")
+
+
+@functools.lru_cache(maxsize=None)
+def part_of(pid, begun, folder, crate, above):
+    """What a check in a copy of a crate is for. The one that the edits begin with has the crate's own files."""
+    own, copy = f"{above}/crates/{crate}/src", f"{folder}/src"
+    try:
+        names = [os.path.relpath(f"{at}/{name}", own) for at, _, names in os.walk(own) for name in names]
+        return "edits" if any(filecmp.cmpfiles(own, copy, names, shallow=False)[1:]) else "seed"
+    except OSError:
+        return "edits"
+
+
 def seen_of(pid, fields):
     """What a process of the prover took until now; None for any other process."""
     words = text_of(pid, "cmdline").split("\0")
     if os.path.basename(words[0]) != PROVER or "--crate-name" not in words:
         return None
-    # an edit is tried in a copy of the crate, in a folder of its own
-    is_edit = os.path.basename(os.readlink(f"/proc/{pid}/cwd")).startswith("rt-edit")
-    part = "edits" if is_edit else "tests" if "--test" in words else "proof"
+    crate, folder = words[words.index("--crate-name") + 1], os.readlink(f"/proc/{pid}/cwd")
+    part = "tests" if "--test" in words else "proof"
+    if os.path.basename(folder).startswith("rt-edit"):
+        # an edit is tried in a copy of the crate, in a folder of its own; rt itself is in the repository
+        part = part_of(pid, fields[19], folder, crate, top_of(pid))
     peak = next((line.split()[1] for line in text_of(pid, "status").splitlines() if line.startswith("VmHWM")), "0")
     seconds = (int(fields[11]) + int(fields[12])) / TICK
-    return Seen(words[words.index("--crate-name") + 1], part, seconds, int(peak))
+    return Seen(crate, part, seconds, int(peak))
 
 
 def sample(seen, top):
@@ -98,8 +121,8 @@ def table(path):
         took[crate][part] += seconds
         took["all"][part] += seconds
         peak[crate], peak["all"] = max(peak[crate], kib), max(peak["all"], kib)
-    print("| Crate | Proof, s | Tests, s | Edits, s | All, s | Memory, MiB |")
-    print("|---|---|---|---|---|---|")
+    print("| Crate | Proof, s | Tests, s | Second check, s | Edits, s | All, s | Memory, MiB |")
+    print("|---|---|---|---|---|---|---|")
     for crate, parts in sorted(took.items(), key=lambda it: (it[0] != "all", sum(it[1].values())), reverse=True):
         times = " | ".join(f"{parts[part]:,.0f}" for part in PARTS)
         print(f"| {crate} | {times} | {sum(parts.values()):,.0f} | {peak[crate] / 1024:,.0f} |")

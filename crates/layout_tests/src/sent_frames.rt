@@ -1,7 +1,7 @@
 //! Frames that are sent through a ring of four slots of 2048 bytes.
 ghost use Rattle.std.specs.Prelude.{◌≡◌, ◌<◌, IfOk, length};
 
-use crate::slots::SLOTS;
+use crate::slots::{SLOTS, lengths};
 use frame_view::{ByteList, Frame, Frames};
 use std::alloc::Global;
 use std::test::Fail;
@@ -82,28 +82,28 @@ fn frames(alloc: Global, lengths: &[usize]) -> Result<Frames, Fail>
     Ok(frames)
 }
 
+/// How many frames were sent and skipped, and where the ring stopped.
+type Counts = (u64, u64, Option<u32>);
+
+/// The lengths of the packets that a ring sends of the frames of a row, and its counts.
+fn sent_of(alloc: Global, row: &Row) -> Result<(Vec<usize>, Counts), Fail> {
+    let shape = SLOTS.check_tx().ok().ok_or("a valid request")?;
+    if row.lengths.len() >= 100 {
+        return Err("few frames".into());
+    }
+    let frames = frames(alloc, row.lengths)?;
+    let told = transmit_frames(alloc, shape, row.skip_bad, &frames)?;
+    let sent = lengths(alloc, &told.packets)?;
+    Ok((sent, (told.sent, told.skipped, told.stop)))
+}
+
 #[test]
 fn frames_through_a_ring(rt: HostRuntime) -> Result<(), Fail> {
-    let alloc = rt.alloc();
     for row in ROWS {
-        let shape = SLOTS.check_tx().ok().ok_or("a valid request")?;
-        if row.lengths.len() >= 100 {
-            return Err("few frames".into());
-        }
-        let frames = frames(alloc, row.lengths)?;
-        let told = transmit_frames(alloc, shape, row.skip_bad, &frames)?;
-        let mut sent = Vec::new(alloc);
-        for packet in told.packets.as_slice() {
-            sent.push(packet.bytes.len())?;
-        }
+        let (sent, counts) = sent_of(rt.alloc(), &row)?;
         assert_eq!(rt; sent.as_slice(), row.sent, "{}", row.name);
-        let counts = (told.sent, told.skipped, told.stop);
-        assert_eq!(rt;
-            counts,
-            (row.sent.len() as u64, row.skipped, row.stop),
-            "{}",
-            row.name
-        );
+        let all = row.sent.len() as u64;
+        assert_eq!(rt; counts, (all, row.skipped, row.stop), "{}", row.name);
     }
     Ok(())
 }

@@ -227,7 +227,7 @@ fn do_all(
 }
 
 /// The lengths of packets.
-fn lengths(alloc: Global, packets: &Packets) -> Result<Vec<usize>, Fail> {
+pub(crate) fn lengths(alloc: Global, packets: &Packets) -> Result<Vec<usize>, Fail> {
     let mut all = Vec::new(alloc);
     for packet in packets.as_slice() {
         all.push(packet.bytes.len())?;
@@ -256,16 +256,23 @@ fn what_a_ring_says(rt: HostRuntime) -> Result<(), Fail> {
     Ok(())
 }
 
-#[test]
-fn zeros_stand_after_the_bytes_that_were_given(rt: HostRuntime) -> Result<(), Fail> {
-    let alloc = rt.alloc();
+/// What a ring sends of a frame of 16 bytes of which 14 were given, 6 each, after frames that filled its slots.
+fn padded(alloc: Global) -> Result<Packets, Fail> {
     let mut ring = four_slots(alloc, false)?;
     let mut out = Packets::new(alloc);
     let acts = [Queue(2000), Queue(2000), Queue(2000), Queue(2000), Send];
     let said = do_all(alloc, &mut ring, &acts, &mut out)?;
-    assert_eq!(rt; said.as_slice(), &[Done, Done, Done, Done, Took(4, 0)][..]);
-    assert_eq!(rt; say_place(ring.place(0, 16, &[6; 14])), Done);
-    assert_eq!(rt; do_act(&mut ring, Send, &mut out), Took(1, 0));
+    let placed = say_place(ring.place(0, 16, &[6; 14]));
+    let sent = do_act(&mut ring, Send, &mut out);
+    if said.last() != Some(&Took(4, 0)) || (placed, sent) != (Done, Took(1, 0)) {
+        return Err("four frames and one more are sent".into());
+    }
+    Ok(out)
+}
+
+#[test]
+fn zeros_stand_after_the_bytes_that_were_given(rt: HostRuntime) -> Result<(), Fail> {
+    let out = padded(rt.alloc())?;
     let packet = out.get(4).ok_or("a fifth packet")?;
     let bytes = [6, 6, 6, 6, 6, 6, 6, 6, 6, 6, 6, 6, 6, 6, 0, 0];
     assert_eq!(rt; packet.bytes.as_slice(), &bytes[..]);

@@ -1,12 +1,28 @@
 //! Blocks that are written and walked, beside bytes that another program wrote.
+ghost use Rattle.std.specs.Prelude.{◌≡◌, IfOk};
+
 use crate::sample_blocks::{FRAME, PAGES, TEXT, block_with, fault, new_block, offer, part};
 use frame_view::Tag;
 use ring_model::need;
+use std::alloc::Global;
 use std::test::Fail;
 use tp_layout::{
-    Closing, LayoutError, PacketRef, PacketWalk, RingRequest, close_header, text_of, walk,
-    walk_text, write_header, write_packet,
+    Block, Closing, LayoutError, PacketRef, PacketWalk, RingRequest, Shape, close_header, text_of,
+    walk, walk_text, write_header, write_packet,
 };
+
+/// Bytes that stand in a block from a place on.
+type Bytes = (usize, &'static [u8]);
+
+/// The first of these places where other bytes stand in a block.
+fn other_bytes(block: &[u8], rows: &[Bytes]) -> Option<usize> {
+    for (from, bytes) in rows {
+        if part(block, *from, from.saturating_add(bytes.len())) != *bytes {
+            return Some(*from);
+        }
+    }
+    None
+}
 
 /// The packet of a walk that gives just one.
 fn only_packet(answer: Result<PacketWalk<'_>, LayoutError>) -> Option<PacketRef<'_>> {
@@ -47,6 +63,9 @@ fn a_block_with_one_frame(rt: HostRuntime) -> Result<(), Fail> {
     Ok(())
 }
 
+/// Where the first packet starts and the text ends, and the private area.
+static PRIVATE: [Bytes; 2] = [(16, &[64, 0, 0, 0, 160, 0, 0, 0]), (48, &[0; 16])];
+
 #[test]
 fn a_private_area_before_the_frame(rt: HostRuntime) -> Result<(), Fail> {
     let alloc = rt.alloc();
@@ -61,11 +80,17 @@ fn a_private_area_before_the_frame(rt: HostRuntime) -> Result<(), Fail> {
     let offer = offer(alloc, &FRAME, 14, 14, None)?;
     let block = block_with(alloc, &shape, &offer)?;
     let bytes = block.bytes();
-    assert_eq!(rt; part(bytes, 16, 24), [64, 0, 0, 0, 160, 0, 0, 0].as_slice());
-    assert_eq!(rt; part(bytes, 48, 64), [0; 16].as_slice());
+    assert_eq!(rt; other_bytes(bytes, &PRIVATE), None);
     assert_eq!(rt; fault(bytes, &shape), None);
     Ok(())
 }
+
+/// Where the text ends, the lengths of the packet and its status, and its tag.
+static TAGGED: [Bytes; 3] = [
+    (20, &[192, 0, 0, 0]),
+    (60, &[60, 0, 0, 0, 60, 0, 0, 0, 81, 0, 0, 0]),
+    (80, &[0x64, 0, 0, 0, 0, 0x81, 0]),
+];
 
 #[test]
 fn a_packet_with_a_tag(rt: HostRuntime) -> Result<(), Fail> {
@@ -80,30 +105,27 @@ fn a_packet_with_a_tag(rt: HostRuntime) -> Result<(), Fail> {
     let offer = offer(alloc, &frame, 60, 60, Some(tag))?;
     let block = block_with(alloc, &shape, &offer)?;
     let bytes = block.bytes();
-    assert_eq!(rt; part(bytes, 20, 24), [192, 0, 0, 0].as_slice());
-    let lengths = [60, 0, 0, 0, 60, 0, 0, 0, 81, 0, 0, 0];
-    assert_eq!(rt; part(bytes, 60, 72), lengths.as_slice());
-    assert_eq!(rt; part(bytes, 80, 87), [0x64, 0, 0, 0, 0, 0x81, 0].as_slice());
+    assert_eq!(rt; other_bytes(bytes, &TAGGED), None);
     let packet = only_packet(walk(bytes, &shape)).ok_or("it has a packet")?;
     let told = (packet.tag, packet.protocol, packet.wire);
     assert_eq!(rt; told, (Some(tag), 0x0800, 60));
     Ok(())
 }
 
-#[test]
-fn three_frames_one_after_another(rt: HostRuntime) -> Result<(), Fail> {
-    let alloc = rt.alloc();
-    let shape = PAGES.check().ok().ok_or("a valid request")?;
+/// Block 1 with three packets of 60 bytes, retired with status 1.
+fn three_frames(alloc: Global, shape: &Shape) -> Result<Block, Fail>
+    ensures { IfOk result (λ block. block.shape ≡ shape.now) }
+{
     let offer = offer(alloc, &[0; 60], 60, 60, None)?;
-    let mut block = new_block(alloc, &shape)?;
+    let mut block = new_block(alloc, shape)?;
     let first = shape.first();
     if shape.room() < 432 {
         return Err("three frames fit".into());
     }
-    write_header(&mut block, &shape, 1);
-    write_packet(&mut block, &shape, first, &offer);
-    write_packet(&mut block, &shape, first + 144, &offer);
-    write_packet(&mut block, &shape, first + 288, &offer);
+    write_header(&mut block, shape, 1);
+    write_packet(&mut block, shape, first, &offer);
+    write_packet(&mut block, shape, first + 144, &offer);
+    write_packet(&mut block, shape, first + 288, &offer);
     let closing = Closing {
         status: 1,
         packets: 3,
@@ -114,17 +136,25 @@ fn three_frames_one_after_another(rt: HostRuntime) -> Result<(), Fail> {
         last_sec: 1,
         last_nsec: 2_000,
     };
-    close_header(&mut block, &shape, &closing);
+    close_header(&mut block, shape, &closing);
+    Ok(block)
+}
+
+/// The number of packets, where the first one starts and where the text ends; and the offset from each packet to the
+/// next one, 0 of the last.
+static THREE: [Bytes; 4] = [
+    (12, &[3, 0, 0, 0, 48, 0, 0, 0, 0xe0, 1, 0, 0]),
+    (48, &[144, 0, 0, 0]),
+    (192, &[144, 0, 0, 0]),
+    (336, &[0, 0, 0, 0]),
+];
+
+#[test]
+fn three_frames_one_after_another(rt: HostRuntime) -> Result<(), Fail> {
+    let shape = PAGES.check().ok().ok_or("a valid request")?;
+    let block = three_frames(rt.alloc(), &shape)?;
     let bytes = block.bytes();
-    let sizes = [3, 0, 0, 0, 48, 0, 0, 0, 0xe0, 1, 0, 0];
-    assert_eq!(rt; part(bytes, 12, 24), sizes.as_slice());
-    for (place, next) in [(48, 144), (192, 144), (336, 0)] {
-        assert_eq!(rt;
-            part(bytes, place, place + 4),
-            [next, 0, 0, 0].as_slice(),
-            "at {place}"
-        );
-    }
+    assert_eq!(rt; other_bytes(bytes, &THREE), None);
     let mut packets = walk(bytes, &shape).ok().ok_or("the text is lawful")?;
     for left in [true, true, true, false] {
         assert_eq!(rt; packets.next().is_some(), left);
