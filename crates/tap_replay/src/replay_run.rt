@@ -83,7 +83,7 @@ impl<S: Source, K: Setting> ReplayRun<S, K> {
         ensures { OnOk result (IsLogged queue cpu entry (Some offer) self.old self.new) }
     {
         let members = mem::replace(&mut self.members, Vec::new(alloc));
-        let mut desk = RingDesk::new(alloc, members, &offer);
+        let mut desk = RingDesk::new(members, &offer);
         let delivered = self.cpus[cpu].deliver(alloc, &mut desk, queue, entry, offer);
         self.members = desk.members;
         delivered
