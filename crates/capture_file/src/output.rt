@@ -3,6 +3,7 @@ ghost use Rattle.std.specs.Prelude.{◌≡◌, ◌+◌, ◌≤◌, ◌++◌, len
 ghost use Rattle.frame_view.specs.Vlan.{frame_of};
 ghost use Rattle.capture_file.specs.Output.{output_of, record_text, original, four_bytes};
 
+use crate::reading::RECORD_HEADER_SIZE;
 use frame_view::{ByteList, Memory, Packet, Packets};
 use std::alloc::Global;
 
@@ -20,11 +21,23 @@ pub fn pcap_text(alloc: Global, packets: &Packets) -> Result<ByteList, Memory>
     requires { All (λ packet. length packet.bytes ≤ 4294967291) packets.now }
     ensures { IfOk result (λ text. text ≡ output_of packets.now) }
 {
-    let mut text = Vec::from_slice(alloc, &HEADER)?;
+    let mut text = Vec::with_capacity(alloc, file_size(packets.as_slice()))?;
+    text.extend_from_slice(&HEADER)?;
     for packet in packets.as_slice() {
         push_record(&mut text, packet)?;
     }
     Ok(ByteList::from_vec(text))
+}
+
+/// The number of bytes of the output file of packets, to make room for all of them at once.
+fn file_size(packets: &[Packet]) -> usize
+    requires { All (λ packet. length packet.bytes ≤ 4294967291) packets.now }
+{
+    let mut size = HEADER.len();
+    for packet in packets {
+        size = size.saturating_add(RECORD_HEADER_SIZE + frame_size(packet) as usize);
+    }
+    size
 }
 
 /// Appends the record of a packet.

@@ -10,7 +10,7 @@ use frame_view::{ByteList, Frame, Frames, Memory};
 use std::alloc::Global;
 
 /// The number of bytes of a record's header.
-const RECORD_HEADER_SIZE: usize = 16;
+pub(crate) const RECORD_HEADER_SIZE: usize = 16;
 
 /// The largest number of captured bytes of a record.
 const LARGEST_RECORD: u32 = 262_144;

@@ -11,7 +11,7 @@ path_value inside = record {
   shape = inside.plan;
   held = unwrap_or inside.reassembly [];
   present = inside.present;
-  log = inside.log;
+  log = inside.log.items;
 }
 
 pub record IsInGroup (inside : Inside) : Type 0 where

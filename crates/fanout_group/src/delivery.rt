@@ -9,6 +9,7 @@ use crate::tries::{put_at, try_at};
 use crate::{Desk, Mode, Plan, Try, TryList};
 use frame_view::Memory;
 use ring_model::Offer;
+use smallvec::SmallVec;
 use std::alloc::Global;
 use std::mem;
 
@@ -52,12 +53,43 @@ pub fn deliver<D: Desk>(
     ensures same { TakesTheSame (D.takes desk.old) (D.takes desk.new) }
     ensures follows { D.follows desk.old desk.new }
 {
+    let mut told = mem::replace(tries, TryList::new(alloc)).into_small();
+    let made = deliver_by(plan, desk, present, queue, offer, ticket, &mut told);
+    *tries = TryList::from_small(told);
+    made
+}
+
+/// Delivers a packet to a group by its mode, as `deliver` says.
+pub(crate) fn deliver_by<D: Desk>(
+    plan: &Plan,
+    desk: &mut D,
+    present: &mut u32,
+    queue: u32,
+    offer: Offer,
+    ticket: Option<u64>,
+    tries: &mut SmallVec<Try, 1>,
+) -> Result<(), Memory>
+    requires present { present.old < plan.now.members }
+    requires ticket { HasTicket plan.now.mode ticket }
+    requires fresh { D.tried desk.old ≡ [] }
+    requires takes { (member : ℕ) → member < plan.now.members → D.takes desk.old member offer }
+    ensures told { tries.new.items ≡ tries.old.items ++ D.tried desk.new }
+    ensures route { OnOk result (let home = home_by plan.now.mode plan.now.members
+        offer.hash (unwrap_or ticket 0) offer.frame.cpu queue present.old in
+        IsRoute (rolls_over plan.now) plan.now.members home (D.tried desk.new)) }
+    ensures present { OnOk result (present.new
+        ≡ present_after plan.now.mode present.old (D.tried desk.new)) }
+    ensures member { present.new < plan.now.members }
+    ensures refusals { OnErr result (let home = home_by plan.now.mode plan.now.members
+        offer.hash (unwrap_or ticket 0) offer.frame.cpu queue present.old in
+        IsBegun (rolls_over plan.now) plan.now.members home (D.tried desk.new)) }
+    ensures err { OnErr result (present.new ≡ present.old) }
+    ensures same { TakesTheSame (D.takes desk.old) (D.takes desk.new) }
+    ensures follows { D.follows desk.old desk.new }
+{
     let home = home(plan, *present, queue, &offer, ticket);
     let earlier = tries.len();
-    let mut told = mem::replace(tries, TryList::new(alloc)).into_vec();
-    let made = make_tries(plan, desk, home, offer, &mut told);
-    *tries = TryList::from_vec(told);
-    made?;
+    make_tries(plan, desk, home, offer, tries)?;
     let (_, route) = tries.as_slice().split_at(earlier);
     *present = present_after(plan.mode(), *present, route);
     Ok(())
@@ -86,7 +118,7 @@ fn make_tries<D: Desk>(
     desk: &mut D,
     home: u32,
     offer: Offer,
-    tries: &mut Vec<Try>,
+    tries: &mut SmallVec<Try, 1>,
 ) -> Result<(), Memory>
     requires home { home < plan.now.members }
     requires fresh { D.tried desk.old ≡ [] }
@@ -115,7 +147,7 @@ fn try_round<D: Desk>(
     members: u32,
     home: u32,
     offer: Offer,
-    tries: &mut Vec<Try>,
+    tries: &mut SmallVec<Try, 1>,
 ) -> Result<Option<Offer>, Memory>
     requires few { members ≤ 8 }
     requires home { home < members }

@@ -1,10 +1,12 @@
 //! The log of a CPU: each arrival with its ticket, hash and verdict, and what was tried with it.
+use crate::TryList;
 use frame_view::ItemList;
 
 /// What came of a try.
-#[derive(Clone, Copy, Debug, PartialEq, Eq)]
+#[derive(Clone, Copy, Debug, Default, PartialEq, Eq)]
 pub enum Fate {
     /// The member kept the packet.
+    #[default]
     Kept,
     /// The member had no room and was left as it was.
     Refused,
@@ -12,17 +14,14 @@ pub enum Fate {
     Dropped,
 }
 
-/// One try to give an arrival to a member.
-#[derive(Clone, Copy, Debug, PartialEq, Eq)]
+/// One try to give an arrival to a member. Its default fills a place of a list that holds no try.
+#[derive(Clone, Copy, Debug, Default, PartialEq, Eq)]
 pub struct Try {
     /// The member, from 0.
     pub member: u32,
     /// What came of it.
     pub fate: Fate,
 }
-
-/// Tries, in order.
-pub type TryList = ItemList<Try>;
 
 /// One arrival of a CPU.
 #[derive(Debug, Drop)]

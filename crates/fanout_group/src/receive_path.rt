@@ -12,13 +12,14 @@ ghost use Rattle.fanout_group.specs.Rules.{HasTicket, Rules, home_by};
 ghost use Rattle.frame_view.specs.declared.frames.Frame.{Frame};
 ghost use Rattle.ip_defrag.specs.Fold.{pass};
 
-use crate::{ArrivalList, ArrivalLog, Desk, Plan, deliver};
+use crate::delivery::deliver_by;
+use crate::{ArrivalList, ArrivalLog, Desk, Plan, TryList};
 use frame_view::{Frame, Memory, untag};
 use ip_defrag::Defrag;
 use ring_model::Offer;
+use smallvec::SmallVec;
 use std::alloc::Global;
 use std::marker::Model;
-use std::mem;
 
 /// The bytes of a link header; a frame with fewer is no arrival.
 const LINK_HEADER: usize = 14;
@@ -34,7 +35,7 @@ pub struct ReceivePath {
     /// The member that an arrival is for in mode `Rollover`.
     present: u32,
     /// The arrivals so far.
-    log: ArrivalList,
+    log: Vec<ArrivalLog>,
 }
 
 impl Model for ReceivePath {
@@ -64,7 +65,7 @@ impl ReceivePath {
             plan,
             reassembly,
             present: 0,
-            log: ArrivalList::new(alloc),
+            log: Vec::new(alloc),
         }
     }
 
@@ -124,7 +125,8 @@ impl ReceivePath {
             → IsPathTo (rules_by self.old.shape group) frames arrival self.old
             → IsPath (rules_by self.old.shape group) frames self.new) }
     {
-        self.log.push(entry)
+        self.log.push(entry)?;
+        Ok(())
     }
 
     /// Delivers the offer of an arrival, and logs the arrival with the tries that were made: room
@@ -162,21 +164,16 @@ impl ReceivePath {
         ensures same { TakesTheSame (D.takes desk.old) (D.takes desk.new) }
         ensures follows { D.follows desk.old desk.new }
     {
-        let mut present = self.present;
-        let mut log = mem::replace(&mut self.log, ArrivalList::new(alloc)).into_vec();
-        let done = deliver_and_log(
+        deliver_and_log(
             alloc,
             &self.plan,
             desk,
-            &mut present,
+            &mut self.present,
             queue,
             entry,
             offer,
-            &mut log,
-        );
-        self.log = ArrivalList::from_vec(log);
-        self.present = present;
-        done?;
+            &mut self.log,
+        )?;
         Ok(())
     }
 
@@ -184,7 +181,7 @@ impl ReceivePath {
     pub fn into_log(self) -> ArrivalList
         ensures { result ≡ self.log }
     {
-        self.log
+        ArrivalList::from_vec(self.log)
     }
 }
 
@@ -222,11 +219,12 @@ fn deliver_and_log<D: Desk>(
     ensures follows { D.follows desk.old desk.new }
 {
     log.reserve(1)?;
-    let mut entry = entry;
-    let ticket = entry.ticket;
-    let tries = &mut entry.tries;
-    deliver(alloc, plan, desk, present, queue, offer, ticket, tries)?;
-    let _there_was_room = log.push(entry);
+    let mut tries = SmallVec::new(alloc);
+    deliver_by(plan, desk, present, queue, offer, entry.ticket, &mut tries)?;
+    log.push_reserved(ArrivalLog {
+        tries: TryList::from_small(tries),
+        ..entry
+    });
     Ok(())
 }
 

@@ -1,6 +1,7 @@
 //! One try at a desk, listed: room for it is asked for first, so that no try is made that
 //! isn't reported.
-ghost use Rattle.std.specs.Prelude.{◌≡◌, ◌<◌, [], ◌∷◌, ◌++◌, length, vec_capacity, vec_len, IfOk, IfSome, OnErr};
+ghost use Rattle.std.specs.Prelude.{◌≡◌, ◌<◌, [], ◌∷◌, ◌++◌, length, IfOk, IfSome, OnErr};
+ghost use Rattle.smallvec.specs.SmallVec.{HasRoomFor};
 ghost use Rattle.fanout_group.specs.Desks.{TakesTheSame};
 ghost use Rattle.fanout_group.specs.Routes.{IsSettled, a_try};
 ghost use Rattle.fanout_group.specs.TryEffects.{Tells, SaysNothing, fate_by};
@@ -8,13 +9,14 @@ ghost use Rattle.fanout_group.specs.TryEffects.{Tells, SaysNothing, fate_by};
 use crate::{Desk, Fate, Try};
 use frame_view::Memory;
 use ring_model::{Offer, Put, Tried};
+use smallvec::SmallVec;
 
 /// Puts a try at the end of a list that has room for it.
-fn add(tries: &mut Vec<Try>, member: u32, fate: Fate)
-    requires room { vec_len tries.old < vec_capacity tries.old }
+fn add(tries: &mut SmallVec<Try, 1>, member: u32, fate: Fate)
+    requires room { HasRoomFor tries.old 1 }
     ensures { tries.new.items ≡ tries.old.items ++ a_try member fate ∷ [] }
 {
-    let _there_was_room = tries.push(Try { member, fate });
+    tries.push_reserved(Try { member, fate });
 }
 
 /// Tries to give an offer to a member; it comes back where the member refuses it.
@@ -22,7 +24,7 @@ pub(crate) fn try_at<D: Desk>(
     desk: &mut D,
     member: u32,
     offer: Offer,
-    tries: &mut Vec<Try>,
+    tries: &mut SmallVec<Try, 1>,
 ) -> Result<Option<Offer>, Memory>
     requires takes { D.takes desk.old member offer }
     requires few { length (D.tried desk.old) < 9 }
@@ -53,7 +55,7 @@ pub(crate) fn put_at<D: Desk>(
     desk: &mut D,
     member: u32,
     offer: Offer,
-    tries: &mut Vec<Try>,
+    tries: &mut SmallVec<Try, 1>,
 ) -> Result<Fate, Memory>
     requires takes { D.takes desk.old member offer }
     requires few { length (D.tried desk.old) < 9 }

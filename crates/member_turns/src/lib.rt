@@ -7,7 +7,6 @@ mod member;
 mod member_ring;
 mod opening;
 mod ring_base;
-mod try_trace;
 mod turn_desk;
 mod turns;
 

@@ -5,9 +5,8 @@ ghost use Rattle.fanout_group.specs.Desks.{fate_of_put, fate_of_try};
 ghost use Rattle.member_turns.specs.Desks.{AreForDesk, Follows, TakesAt, fresh_desk, turns_at};
 ghost use Rattle.member_turns.specs.DeskLaws.{follows_itself, follows_on};
 
-use crate::try_trace::TryTrace;
 use crate::{Member, Stand, put_turn, try_turn};
-use fanout_group::{Desk, Fate, Try};
+use fanout_group::{Desk, Fate, Try, TryTrace};
 use ring_model::{Offer, Put, Tried, Unput};
 use std::marker::Model;
 use std::snapshot::Snapshot;

@@ -1,11 +1,10 @@
 -- A reader with a block more.
-use Rattle.std.proofs.Common.{◌≡◌, ℕ, List, [], ◌∷◌, ◌++◌, length, refl, ap, sym, ◌∙◌}
+use Rattle.std.proofs.Common.{◌≡◌, ℕ, List, [], ◌∷◌, ◌++◌, length, refl, sym}
 use Rattle.std.specs.Prelude.{OnErr, OnOk, Result, Ok, Err}
 use Rattle.frame_view.specs.declared.frames.Packet.{Packet}
 use Rattle.frame_view.specs.declared.want.Memory.{Memory}
-use Rattle.reader_walk.specs.ReadersInside.{IsSound, blocks_of, reader_value, taken_by}
-use Rattle.reader_walk.specs.Readers.{ReaderValue, dump_by}
-use Rattle.reader_walk.specs.Takers.{Taken, taken_in}
+use Rattle.reader_walk.specs.ReadersInside.{IsSound, blocks_of}
+use Rattle.reader_walk.specs.Takers.{taken_in}
 use Rattle.tp_layout.specs.Faults.{packets_of}
 use Rattle.tp_layout.specs.Rows.{number_at}
 use Rattle.tp_layout.specs.declared.requests.RingRequest.{RingRequest}

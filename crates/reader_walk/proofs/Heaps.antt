@@ -1,9 +1,9 @@
 -- The blocks of some marks, whose packets stand one after another.
-use Rattle.std.proofs.Common.{◌≡◌, ℕ, ◌+◌, ◌≤◌, Bool, true, false, List, [], ◌∷◌, ◌++◌, length, take, drop, refl, ap, sym, ◌∙◌, arith, append_assoc}
-use Rattle.std.proofs.Math.Seq.{take-length, drop-length}
+use Rattle.std.proofs.Common.{◌≡◌, ℕ, ◌+◌, ◌≤◌, Bool, true, false, List, [], ◌∷◌, ◌++◌, length, take, drop, refl, ap, ◌∙◌, arith}
+use Rattle.std.proofs.Math.Seq.{take-length}
 use Rattle.std.proofs.lemmas.Grind.{flat_map-append}
 use Rattle.std.proofs.lemmas.List.{append-nil, take-append-drop, take-append-le, drop-append-le, length-take-le, length-append}
-use Rattle.std.specs.Prelude.{flat_map, if◌then◌else◌}
+use Rattle.std.specs.Prelude.{flat_map}
 use Rattle.frame_view.specs.declared.frames.Packet.{Packet}
 use Rattle.reader_walk.specs.Readers.{dump_by, walked_of, texts_of}
 use Rattle.reader_walk.specs.ReadersInside.{packets_in, taken_by}

@@ -1,14 +1,14 @@
 -- A block that begins with a lawful text is read as what the text says.
-use Rattle.std.proofs.Common.{◌≡◌, ℕ, ◌≤◌, List, refl, ap, sym}
+use Rattle.std.proofs.Common.{◌≡◌, ℕ, ◌≤◌, List, refl, sym}
 use Rattle.frame_view.specs.declared.frames.Packet.{Packet}
 use Rattle.tp_layout.proofs.Answering.{begins_stands}
-use Rattle.tp_layout.specs.Blocks.{BeginsWith, block_text, end_may}
+use Rattle.tp_layout.specs.Blocks.{BeginsWith, end_may}
 use Rattle.tp_layout.specs.declared.requests.RingRequest.{RingRequest}
 use Rattle.std.specs.Prelude.{Err, Ok, Result}
 use Rattle.tp_layout.specs.Blocks.{HasText}
 use Rattle.tp_layout.specs.Faults.{packets_of}
 use Rattle.tp_layout.specs.declared.error.LayoutError.{LayoutError}
-use Rattle.reader_walk.specs.Takers.{Taken, taken_in}
+use Rattle.reader_walk.specs.Takers.{taken_in}
 
 pub tells : (shape : RingRequest) (number status : ℕ) (packets : List Packet) (bytes : List ℕ) → shape.block_size ≤ 1048576
     → BeginsWith shape number status packets bytes

@@ -1,9 +1,9 @@
 -- A reader, by the blocks that it has read.
-use Rattle.std.specs.Prelude.{◌≡◌, ℕ, Bool, true, false, is_some, List, [], ◌∷◌, ◌++◌, length, take, drop, flat_map, sum_by, if◌then◌else◌, Option, None, Some, IfSome, option_map}
+use Rattle.std.specs.Prelude.{◌≡◌, ℕ, Bool, true, false, is_some, List, [], ◌∷◌, ◌++◌, length, flat_map, if◌then◌else◌, Option, None, Some}
 use Rattle.frame_view.specs.declared.frames.Packet.{Packet}
 use Rattle.tp_layout.specs.declared.requests.RingRequest.{RingRequest}
 use Rattle.reader_walk.specs.Texts.{text_of_taken}
-use Rattle.reader_walk.specs.Takers.{Base, IsReadable, Taken, taken_in}
+use Rattle.reader_walk.specs.Takers.{Base, Taken, taken_in}
 use Rattle.reader_walk.specs.declared.outputs.Outputs.{Outputs}
 
 pub record ReaderValue : Type 0 where

@@ -1,20 +1,24 @@
 //! Copies of packets that are read in place.
-ghost use Rattle.std.specs.Prelude.{◌≡◌, IfOk};
+ghost use Rattle.std.specs.Prelude.{◌≡◌, ◌++◌, length, take, IfOk, OnOk};
 ghost use Rattle.tp_layout.specs.Checks.{seen};
 
 use frame_view::{ByteList, Memory, Packet};
 use std::alloc::Global;
 use tp_layout::{PacketRef, PacketWalk};
 
-/// Copies of all packets of a block.
-pub(crate) fn copies(alloc: Global, walk: PacketWalk<'_>) -> Result<Vec<Packet>, Memory>
-    ensures { IfOk result (λ packets. packets.items ≡ walk.entry) }
+/// Appends copies of all packets of a block. After `Memory` some of them stand after those that were there.
+pub(crate) fn push_copies(
+    alloc: Global,
+    walk: PacketWalk<'_>,
+    packets: &mut Vec<Packet>,
+) -> Result<(), Memory>
+    ensures copies { OnOk result (packets.new.items ≡ packets.old.items ++ walk.entry) }
+    ensures front { take (length packets.old.items) packets.new.items ≡ packets.old.items }
 {
-    let mut packets = Vec::new(alloc);
     for packet in walk {
         packets.push(copy(alloc, packet)?)?;
     }
-    Ok(packets)
+    Ok(())
 }
 
 /// A copy of a packet, whose data is copied once.

@@ -1,7 +1,10 @@
 //! The packets of the blocks that were read, and what tells them apart again.
-ghost use Rattle.std.specs.Prelude.{◌≡◌, [], ◌∷◌, ◌++◌, OnErr, OnOk};
+ghost use Rattle.std.specs.Prelude.{◌≡◌, [], ◌∷◌, ◌++◌, length, OnErr, OnOk};
 
+use crate::copying::push_copies;
 use frame_view::{Memory, Packet};
+use std::alloc::Global;
+use tp_layout::PacketWalk;
 
 /// What is kept of a block beside its packets.
 #[derive(Clone, Copy, Debug)]
@@ -26,45 +29,39 @@ pub(crate) struct Pile {
 }
 
 impl Pile {
-    /// Adds a block with its packets and what is kept of its text. After `Memory` all is as before.
+    /// Adds a block of this number and status with copies of its packets, and with what is kept of its text. After
+    /// `Memory` all is as before.
     pub(crate) fn add(
         &mut self,
-        mark: Mark,
-        packets: Vec<Packet>,
+        alloc: Global,
+        number: u64,
+        status: u32,
+        packets: PacketWalk<'_>,
         text: &[u8],
     ) -> Result<(), Memory>
-        ensures marks { OnOk result (self.new.marks.items ≡ self.old.marks.items ++ mark ∷ []) }
+        ensures marks { OnOk result (self.new.marks.items ≡ self.old.marks.items
+            ++ record { number = number; status = status; packets = length packets.entry } ∷ []) }
         ensures walked { OnOk result
-            (self.new.walked.items ≡ self.old.walked.items ++ packets.items) }
+            (self.new.walked.items ≡ self.old.walked.items ++ packets.entry) }
         ensures dump { OnOk result (self.new.dump.items ≡ self.old.dump.items ++ text.now) }
         ensures same_marks { OnErr result (self.new.marks.items ≡ self.old.marks.items) }
         ensures same_walked { OnErr result (self.new.walked.items ≡ self.old.walked.items) }
         ensures same_dump { OnErr result (self.new.dump.items ≡ self.old.dump.items) }
     {
-        self.marks.push(mark)?;
-        let filled = self.fill(packets, text);
-        if filled.is_err() {
-            self.marks.pop();
-        }
-        filled
-    }
-
-    /// Adds the packets of a block and what is kept of its text. After `Memory` all is as before.
-    fn fill(&mut self, packets: Vec<Packet>, text: &[u8]) -> Result<(), Memory>
-        ensures walked { OnOk result
-            (self.new.walked.items ≡ self.old.walked.items ++ packets.items) }
-        ensures dump { OnOk result (self.new.dump.items ≡ self.old.dump.items ++ text.now) }
-        ensures same_walked { OnErr result (self.new.walked.items ≡ self.old.walked.items) }
-        ensures same_dump { OnErr result (self.new.dump.items ≡ self.old.dump.items) }
-        ensures marks { self.new.marks ≡ self.old.marks }
-    {
-        let mut packets = packets;
+        self.marks.reserve(1)?;
         let texts = self.dump.len();
         self.dump.extend_from_slice(text)?;
-        if self.walked.append(&mut packets).is_err() {
+        let earlier = self.walked.len();
+        if push_copies(alloc, packets, &mut self.walked).is_err() {
+            self.walked.truncate(earlier);
             self.dump.truncate(texts);
             return Err(Memory);
         }
+        self.marks.push_reserved(Mark {
+            number,
+            status,
+            packets: self.walked.len() - earlier,
+        });
         Ok(())
     }
 }

@@ -11,8 +11,7 @@ ghost use Rattle.tp_layout.specs.Faults.{packets_of};
 ghost use Rattle.tp_layout.specs.Requests.{numbers_of};
 ghost use Rattle.tp_layout.specs.Rows.{number_at};
 
-use crate::copying::copies;
-use crate::piles::{Mark, Pile};
+use crate::piles::Pile;
 use crate::{Outputs, Taker};
 use byteorder::{ByteOrder, LittleEndian};
 use frame_view::{ByteList, Memory, Packets};
@@ -183,10 +182,10 @@ impl Reader {
             ≡ record (has_read block.now.bytes self.old) { held = self.old.held }) }
         ensures err { OnErr result (self.new ≡ self.old) }
     {
-        let packets = copies(self.alloc, packets_in(block, &self.shape))?;
-        let mark = mark_of(block, &self.shape, packets.len());
+        let packets = packets_in(block, &self.shape);
+        let (number, status) = head_of(block, &self.shape);
         let text = kept_text(block, &self.shape, self.dumps);
-        self.pile.add(mark, packets, text)
+        self.pile.add(self.alloc, number, status, packets, text)
     }
 }
 
@@ -232,21 +231,19 @@ fn whole_text<'a>(block: &'a Block, shape: &Shape) -> &'a [u8]
     text_of(block)
 }
 
-/// What is kept of a block with so many packets.
-fn mark_of(block: &Block, shape: &Shape, packets: usize) -> Mark
+/// The number of a block and the status that it was retired with.
+fn head_of(block: &Block, shape: &Shape) -> (u64, u32)
     requires { IsReadable shape.now block.now }
-    ensures number { result.number ≡ number_at 8 24 block.now.bytes }
-    ensures status { result.status ≡ number_at 4 8 block.now.bytes }
-    ensures packets { result.packets ≡ packets }
+    ensures number { result.0 ≡ number_at 8 24 block.now.bytes }
+    ensures status { result.1 ≡ number_at 4 8 block.now.bytes }
 {
     // A block has whole pages, so its descriptor is there.
     let _size = shape.block_size();
     let bytes = block.bytes();
     let (_, status) = bytes.split_at(8);
     let (_, number) = bytes.split_at(24);
-    Mark {
-        number: LittleEndian::read_u64(number),
-        status: LittleEndian::read_u32(status),
-        packets,
-    }
+    (
+        LittleEndian::read_u64(number),
+        LittleEndian::read_u32(status),
+    )
 }

@@ -84,7 +84,7 @@ impl<S: Source, M: RingMember> ReplayRun<S, M> {
         ensures { OnOk result (IsLogged M.steps queue cpu entry (Some offer) self.old self.new) }
     {
         let members = mem::replace(&mut self.members, Vec::new(alloc));
-        let mut desk = RingDesk::new(alloc, members, &offer);
+        let mut desk = RingDesk::new(members, &offer);
         let delivered = self.cpus[cpu].deliver(alloc, &mut desk, queue, entry, offer);
         self.members = desk.members;
         delivered

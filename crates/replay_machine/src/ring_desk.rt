@@ -1,14 +1,12 @@
 //! The members of a group, as the delivery of one packet meets them.
-ghost use Rattle.std.specs.Prelude.{◌≡◌, ◌^◌, ◌+◌, ◌<◌, ◌≤◌, ◌∷◌, ◌++◌, [], length, vec_capacity, vec_len, All};
+ghost use Rattle.std.specs.Prelude.{◌≡◌, ◌^◌, ◌+◌, ◌≤◌, [], length, All};
 ghost use Rattle.fanout_group.specs.Desks.{fate_of_put, fate_of_try};
-ghost use Rattle.fanout_group.specs.Routes.{a_try};
 ghost use Rattle.replay_machine.specs.Deliveries.{Follows, TakesAt, desk_with};
 ghost use Rattle.replay_machine.specs.DeskLaws.{follows_itself, follows_on};
 
 use crate::member::{Member, RingMember};
-use fanout_group::{Desk, Fate, Try};
+use fanout_group::{Desk, Fate, Try, TryTrace};
 use ring_model::{Offer, Put, Tried, Unput};
-use std::alloc::Global;
 use std::marker::Model;
 use std::snapshot::Snapshot;
 
@@ -18,9 +16,9 @@ use std::snapshot::Snapshot;
 pub(crate) struct RingDesk<M: RingMember> {
     /// The members, from 0 up.
     pub(crate) members: Vec<Member<M>>,
-    /// The tries so far.
-    pub(crate) tries: Vec<Try>,
-    /// The offer that is delivered. It takes no room: only contracts read it.
+    /// The tries so far. It takes no room: only contracts read it.
+    pub(crate) tries: TryTrace,
+    /// The offer that is delivered. It takes no room either.
     pub(crate) offer: Snapshot<Offer>,
 }
 
@@ -29,31 +27,23 @@ impl<M: RingMember> Model for RingDesk<M> {
 
     ghost Value = { DeskValue };
 
-    ghost view = { λ desk. desk_with desk.offer.value desk.members.items desk.tries.items };
+    ghost view = { λ desk. desk_with desk.offer.value desk.members.items desk.tries.tries };
 
-    ghost invariant = { λ desk. HasRoomFor desk.tries.items desk.members.items };
+    ghost invariant = { λ desk. HasRoomFor desk.tries.tries desk.members.items };
 }
 
 impl<M: RingMember> RingDesk<M> {
     /// A desk for this offer. It takes no memory.
-    pub(crate) fn new(alloc: Global, members: Vec<Member<M>>, offer: &Offer) -> RingDesk<M>
+    pub(crate) fn new(members: Vec<Member<M>>, offer: &Offer) -> RingDesk<M>
         requires few { All (λ ring. length ring.notes + 9 ≤ 2 ^ 39) members.items }
         ensures { result ≡ desk_with offer.now members.items [] }
     {
         RingDesk {
             members,
-            tries: Vec::new(alloc),
+            tries: TryTrace::new(),
             offer: Snapshot::of(offer),
         }
     }
-}
-
-/// Puts a try at the end of a list that has room for it.
-fn add(tries: &mut Vec<Try>, member: u32, fate: Fate)
-    requires room { vec_len tries.old < vec_capacity tries.old }
-    ensures { tries.new.items ≡ tries.old.items ++ a_try member fate ∷ [] }
-{
-    let _there_was_room = tries.push(Try { member, fate });
 }
 
 /// What came of a try.
@@ -84,20 +74,16 @@ impl<M: RingMember> Desk for RingDesk<M> {
     ghost follows = { λ old new. Follows M.steps old new };
 
     fn try_put(&mut self, member: u32, offer: Offer) -> Result<Tried, Unput> {
-        let Ok(()) = self.tries.reserve(1) else {
-            return Err(Unput { offer });
-        };
         let tried = self.members[member as usize].try_put(offer)?;
-        add(&mut self.tries, member, fate_of_try(&tried));
+        let fate = fate_of_try(&tried);
+        self.tries = self.tries.after(&Try { member, fate });
         Ok(tried)
     }
 
     fn put(&mut self, member: u32, offer: Offer) -> Result<Put, Unput> {
-        let Ok(()) = self.tries.reserve(1) else {
-            return Err(Unput { offer });
-        };
         let put = self.members[member as usize].put(offer)?;
-        add(&mut self.tries, member, fate_of_put(&put));
+        let fate = fate_of_put(&put);
+        self.tries = self.tries.after(&Try { member, fate });
         Ok(put)
     }
 

@@ -1,10 +1,10 @@
-use Rattle.std.proofs.Common.{◌≡◌, List, ℕ, ap, subst, sym, ◌∙◌}
+use Rattle.std.proofs.Common.{ap, subst, sym, ◌∙◌}
 use Rattle.std.proofs.Math.Logic.{∥∥₁_elim}
 use Rattle.std.proofs.Props.{props}
 use Rattle.tp_layout.specs.Blocks.{BeginsLawfully, BeginsWith, block_text}
 use Rattle.tp_layout.specs.declared.requests.RingRequest.{RingRequest}
 use Rattle.reader_walk.proofs.Telling.{tells}
-use Rattle.reader_walk.specs.Takers.{Taken, taken_in}
+use Rattle.reader_walk.specs.Takers.{Taken}
 use Rattle.reader_walk.specs.Texts.{text_of_taken}
 use Rattle.reader_walk.proofs.reader.whole_text.Goals as goal
 

@@ -1,15 +1,22 @@
-use Rattle.std.proofs.Common.{◌≡◌, ℕ, Bool, List, ◌∷◌, [], ◌++◌, length, refl, ap, subst, sym, ◌∙◌, rules}
-use Rattle.std.specs.Prelude.{OnErr, OnOk, Result}
-use Rattle.frame_view.specs.declared.want.Memory.{Memory}
+use Rattle.std.proofs.Common.{◌≡◌, List, ◌∷◌, [], ◌++◌, length, refl, ap, sym, ◌∙◌}
 use Rattle.reader_walk.specs.Readers.{ReaderValue, has_read}
 use Rattle.reader_walk.specs.ReadersInside.{blocks_of, reader_value}
 use Rattle.reader_walk.specs.Takers.{Taken, taken_in}
 use Rattle.reader_walk.specs.Texts.{text_by}
+use Rattle.reader_walk.specs.declared.piles.Mark.{Mark}
 use Rattle.reader_walk.proofs.Heaps.{block_by}
 use Rattle.reader_walk.proofs.Adding.{Adds, is_taken, on_err, on_ok, sound_after, taken_after, same_after}
 use Rattle.reader_walk.proofs.reader.Reader.read.Goals as goal
 
-adds : (c : goal.After-add) → Adds c.mark_of-mark.result c.in_ok-packets.packets.items c.kept_text-text.result.now c.self.inside.pile c.add.new.self c.add.result
+-- what is kept of the block beside its packets
+abbrev mark : goal.After-add → Mark
+mark c = record {
+  number = c.head_of-number.result.0;
+  status = c.head_of-number.result.1;
+  packets = length c.packets_in-packets.result;
+}
+
+adds : (c : goal.After-add) → Adds (mark c) c.packets_in-packets.result c.kept_text-text.result.now c.self.inside.pile c.add.new.self c.add.result
 adds c = record {
   marks = c.add.ensures.marks;
   walked = c.add.ensures.walked;
@@ -19,16 +26,12 @@ adds c = record {
   same_dump = c.add.ensures.same_dump;
 }
 
-count : (c : goal.After-add) → c.mark_of-mark.result.packets ≡ length c.in_ok-packets.packets.items
-count c = search rules
-
-taken : (c : goal.After-add) → block_by c.mark_of-mark.result c.in_ok-packets.packets.items ≡ taken_in c.self.inside.shape c.args.block.now.bytes
-taken c = is_taken _ _ c.mark_of-mark.result c.in_ok-packets.packets.items c.mark_of-mark.ensures.number c.mark_of-mark.ensures.status
-    (c.in_ok-packets.ensures ∙ c.packets_in.ensures)
+taken : (c : goal.After-add) → block_by (mark c) c.packets_in-packets.result ≡ taken_in c.self.inside.shape c.args.block.now.bytes
+taken c = is_taken _ _ (mark c) c.packets_in-packets.result c.head_of-number.ensures.number c.head_of-number.ensures.status c.packets_in-packets.ensures
 
 pub invariant_of-self : goal.invariant_of-self
-invariant_of-self c = sound_after c.self.inside c.add.new.self c.mark_of-mark.result c.in_ok-packets.packets.items c.kept_text-text.result.now
-    c.add.result c.self.invariant (count c)
+invariant_of-self c = sound_after c.self.inside c.add.new.self (mark c) c.packets_in-packets.result c.kept_text-text.result.now
+    c.add.result c.self.invariant refl
     (c.kept_text-text.ensures ∙ ap (λ (t : Taken). text_by c.self.inside.dumps c.self.inside.shape t) (sym (taken c))) (adds c)
 
 -- the reader before the call with these blocks
@@ -39,10 +42,10 @@ pub returns-clause-read : goal.returns-clause-read
 returns-clause-read c = on_ok c.add.result
     (λ e. ap (with_blocks c) (e ∙ ap (λ (t : Taken). blocks_of c.self.inside.pile ++ t ∷ []) (taken c))
     ∙ ap (λ (v : ReaderValue). record (has_read c.args.block.now.bytes v) { held = v.held }) c.self.view_is)
-    (taken_after c.self.inside c.add.new.self c.mark_of-mark.result c.in_ok-packets.packets.items c.kept_text-text.result.now
-    c.add.result c.self.invariant (count c) (adds c))
+    (taken_after c.self.inside c.add.new.self (mark c) c.packets_in-packets.result c.kept_text-text.result.now
+    c.add.result c.self.invariant refl (adds c))
 
 pub returns-clause-err : goal.returns-clause-err
 returns-clause-err c = on_err c.add.result (λ e. ap (with_blocks c) e ∙ c.self.view_is)
-    (same_after c.self.inside c.add.new.self c.mark_of-mark.result c.in_ok-packets.packets.items c.kept_text-text.result.now
+    (same_after c.self.inside c.add.new.self (mark c) c.packets_in-packets.result c.kept_text-text.result.now
     c.add.result (adds c))

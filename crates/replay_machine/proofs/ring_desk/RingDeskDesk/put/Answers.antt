@@ -5,12 +5,12 @@ use Rattle.replay_machine.proofs.ring_desk.RingDeskDesk.put.Goals as goal
 
 pub returns-in_err-put-clause-follows : goal.returns-in_err-put-clause-follows
 returns-in_err-put-clause-follows g c =
-    desk_stays g.M.RingMember.steps c.args.self.now c.self.inside.offer.value c.self.inside.members.items c.self.inside.tries.items c.reserve.new.self.items c.args.member
-    c.index_mut.result.now c.put.new.self c.self.view_is c.in-Ok.ensures.items c.index_mut.ensures.value c.in_err-put.ensures.err
+    desk_stays g.M.RingMember.steps c.args.self.now c.self.inside.offer.value c.self.inside.members.items c.self.inside.tries.tries c.args.member
+    c.index_mut.result.now c.put.new.self c.self.view_is c.index_mut.ensures.value c.in_err-put.ensures.err
 
 pub invariant_of-self-2 : goal.invariant_of-self-2
 invariant_of-self-2 g c =
     let within : c.args.member < length c.self.inside.members.items =
     subst (λ (desk : DeskValue). c.args.member < length desk.members) (sym c.self.view_is) c.requires.takes.within in
-    room_left c.self.inside.members.items c.self.inside.tries.items c.reserve.new.self.items c.add.new.tries.items _ c.args.member
-    c.index_mut.result.now c.put.new.self _ c.self.invariant within c.index_mut.ensures.value c.in_ok-put.ensures.ok c.in-Ok.ensures.items c.add.ensures
+    room_left c.self.inside.members.items c.self.inside.tries.tries c.after-self-inside.result.tries _ c.args.member
+    c.index_mut.result.now c.put.new.self _ c.self.invariant within c.index_mut.ensures.value c.in_ok-put.ensures.ok c.after-self-inside.ensures

@@ -1,6 +1,6 @@
 use Rattle.std.proofs.Common.{rules}
 use Rattle.tp_layout.specs.Rows.{number_at}
-use Rattle.reader_walk.proofs.reader.mark_of.Goals as goal
+use Rattle.reader_walk.proofs.reader.head_of.Goals as goal
 
 pub returns-clause-number : goal.returns-clause-number
 unfolding number_at

@@ -3,13 +3,13 @@ ghost use Rattle.std.specs.Prelude.{◌≡◌, List, [], ◌∷◌, ◌++◌};
 ghost use Rattle.std.specs.Borrow.{ftrue};
 ghost use Rattle.fanout_group.specs.declared.logs.Try.{Try};
 
-use fanout_group::Try;
+use crate::Try;
 use std::marker::Model;
 
-/// The tries that were made, in their order. It takes no memory, and its calls do nothing when they
-/// run.
+/// The tries that were made at a desk, in their order: what a `Desk` says of its tries can stand in
+/// it. It takes no memory, and its calls do nothing when they run.
 #[derive(Drop)]
-pub(crate) struct TryTrace {
+pub struct TryTrace {
     ghost tries: { List Try },
 }
 
@@ -19,14 +19,14 @@ impl Model for TryTrace {
 
 impl TryTrace {
     /// That of no try.
-    pub(crate) fn new() -> TryTrace
+    pub fn new() -> TryTrace
         ensures { result.tries ≡ [] }
     {
         TryTrace {}
     }
 
     /// That with one try more.
-    pub(crate) fn after(&self, _made: &Try) -> TryTrace
+    pub fn after(&self, _made: &Try) -> TryTrace
         ensures { result.tries ≡ self.now.tries ++ _made.now ∷ [] }
     {
         TryTrace {}
