@@ -18,6 +18,7 @@ use Rattle.ring_words.specs.PlainRings as plain
 use Rattle.ring_words.specs.PlainRings.{PlainState, Took, feed_of, has_block}
 use Rattle.ring_words.specs.Rings as words
 use Rattle.ring_words.specs.Rings.{Entry}
+use Rattle.slot_layout.specs.SlotDump.{slot_texts_of}
 use Rattle.slot_layout.specs.SlotShapes.{slot_size_of, zero_slot}
 use Rattle.slot_model.proofs.Runs.{slot_counted, slot_state_push}
 use Rattle.slot_model.specs.SlotAsking.{slot_look}
@@ -158,6 +159,11 @@ pub one_kind : (shape : RingRequest) (n : ℕ) → AllByRecursion (λ slot. numb
 one_kind shape zero = tt
 one_kind shape (suc n) = (refl, one_kind shape n)
 
+nothing_read : (asked : Bool) → ◌≡◌ {A = Outputs} (record { walked = []; dump = []; blocks = 0 }) (read_of_slots asked [])
+unfolding slot_texts_of
+nothing_read true = refl
+nothing_read false = refl
+
 pub new_member : (shape : RingRequest) (asked : Bool) (count : ℕ) (marks : List ℕ) (ring : PlainState) (producer : SlotProducing PlainState) (reader : SlotReaderValue)
     → ring ≡ plain.fresh count ring.kind marks → ring.kind ≡ numbers_of shape → producer ≡ record { shape = shape; notes = []; end = ring }
     → reader ≡ new_slot_reader shape asked → KeepsSlots shape asked (record { producer = producer; reader = reader; stuck = false })
@@ -181,11 +187,11 @@ new_member shape asked count marks ring producer reader e kind opens is =
         outputs_are = ap (λ (r : SlotReaderValue). r.outputs) is ∙ nothing_read asked ∙ ap (λ n. read_of_slots asked (take n [])) (sym released);
       };
     })
-  where
-    nothing_read : (asked : Bool) → ◌≡◌ {A = Outputs} (record { walked = []; dump = []; blocks = 0 }) (read_of_slots asked [])
-    unfolding slot_texts_of
-    nothing_read true = refl
-    nothing_read false = refl
+
+-- the shape and the flag are those of its type
+pub as_set : (shape common : RingRequest) (asked all : Bool) (m : Parts) → shape ≡ common → asked ≡ all → KeepsSlots shape asked m → KeepsSlots common all m
+as_set shape common asked all m s a h =
+    subst (λ (b : Bool). KeepsSlots common b m) a (subst (λ (x : RingRequest). KeepsSlots x asked m) s h)
 
 -- ---- a read
 
