@@ -16,3 +16,4 @@ pub mod Damage
 pub mod Frames
 pub mod ReadBack
 pub mod Joined
+mod RecordBytes

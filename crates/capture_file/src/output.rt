@@ -1,7 +1,7 @@
 //! The output file of packets: pcap 2.4, little-endian, in nanoseconds.
 ghost use Rattle.std.specs.Prelude.{◌≡◌, ◌+◌, ◌≤◌, ◌++◌, length, IfOk, OnOk, All};
 ghost use Rattle.frame_view.specs.Vlan.{frame_of};
-ghost use Rattle.capture_file.specs.Output.{output_of, record_text, original, four_bytes};
+ghost use Rattle.capture_file.specs.Output.{output_of, record_text, original};
 
 use crate::reading::RECORD_HEADER_SIZE;
 use frame_view::{ByteList, Memory, Packet, Packets};
@@ -41,15 +41,18 @@ fn file_size(packets: &[Packet]) -> usize
 }
 
 /// Appends the record of a packet.
-#[tactic(auto, unfolding(crate::specs::Output::record_text))]
+#[tactic(auto, unfolding(crate::specs::Output::record_text, crate::specs::Output::four_bytes))]
 fn push_record(text: &mut Vec<u8>, packet: &Packet) -> Result<(), Memory>
     requires { length packet.now.bytes ≤ 4294967291 }
     ensures { OnOk result (text.new.items ≡ text.old.items ++ record_text packet.now) }
 {
-    push_u32(text, packet.sec)?;
-    push_u32(text, packet.nsec)?;
-    push_u32(text, frame_size(packet))?;
-    push_u32(text, original(packet))?;
+    let header = [
+        packet.sec.to_le_bytes(),
+        packet.nsec.to_le_bytes(),
+        frame_size(packet).to_le_bytes(),
+        original(packet).to_le_bytes(),
+    ];
+    text.extend_from_slice(header.as_flattened())?;
     push_frame(text, packet)
 }
 
@@ -91,14 +94,5 @@ fn push_frame(text: &mut Vec<u8>, packet: &Packet) -> Result<(), Memory>
         }
         _ => text.extend_from_slice(bytes)?,
     }
-    Ok(())
-}
-
-/// Appends a number in four bytes, the lowest first.
-#[tactic(auto, unfolding(crate::specs::Output::four_bytes))]
-fn push_u32(text: &mut Vec<u8>, number: u32) -> Result<(), Memory>
-    ensures { OnOk result (text.new.items ≡ text.old.items ++ four_bytes number) }
-{
-    text.extend_from_slice(&number.to_le_bytes())?;
     Ok(())
 }
