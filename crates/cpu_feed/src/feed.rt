@@ -12,7 +12,7 @@ ghost use Rattle.fanout_group.specs.Arrivals.{HasPlaceOf, IsArrival, arrival_at,
 ghost use Rattle.fanout_group.specs.Judgements.{Lens};
 ghost use Rattle.fanout_group.specs.Paths.{IsPath, IsPathBehind, first_path, logged};
 ghost use Rattle.fanout_group.specs.Plans.{has_defrag, rolls_over};
-ghost use Rattle.fanout_group.specs.Routes.{IsRoute};
+ghost use Rattle.fanout_group.specs.Routes.{IsBegun, IsRoute};
 ghost use Rattle.fanout_group.specs.Rules.{HasTicket, Rules, home_by};
 ghost use Rattle.frame_view.specs.declared.frames.Frame.{Frame};
 ghost use Rattle.cpu_feed.specs.Feeding.{Closes, FailsFed, HasNotFailed, HasRead, IsAllOfCpu, IsReady, IsSameCpu, Pops, Takes, frames_in, unread};
@@ -247,7 +247,8 @@ impl<S: Source> CpuFeed<S> {
         }
     }
 
-    /// Logs an arrival whose verdict is 0. The only error is that an allocation fails.
+    /// Logs an arrival whose verdict is 0. The only error is that an allocation fails; the CPU is
+    /// as before then.
     pub fn pass_over(&mut self, entry: ArrivalLog) -> Result<(), Memory>
         requires none { entry.tries ≡ [] }
         ensures ok { OnOk result (self.new
@@ -255,12 +256,14 @@ impl<S: Source> CpuFeed<S> {
         ensures lawful { OnOk result ((group : Lens) (room : ℕ)
             → LogsLawfully group room (λ _. HasTicket self.old.path.shape.mode entry.ticket)
             self.old entry None self.new) }
+        ensures err { OnErr result (self.new ≡ self.old) }
     {
         self.path.pass_over(entry)
     }
 
     /// Delivers the offer of an arrival at a desk, and logs the arrival with the tries that were
-    /// made. The only error is that an allocation fails.
+    /// made. The only error is that an allocation fails; the CPU is as before then, and no member
+    /// has the packet.
     pub fn deliver<D: Desk>(
         &mut self,
         alloc: Global,
@@ -284,6 +287,11 @@ impl<S: Source> CpuFeed<S> {
         ensures lawful { OnOk result ((group : Lens) (room : ℕ)
             → LogsLawfully group room (λ arrival. group.queue arrival.cpu ≡ queue)
             self.old entry (Some offer) self.new) }
+        ensures refusals { OnErr result (let path = self.old.path in
+            let home = home_by path.shape.mode path.shape.members
+            offer.hash (unwrap_or entry.ticket 0) offer.frame.cpu queue path.present in
+            IsBegun (rolls_over path.shape) path.shape.members home (D.tried desk.new)) }
+        ensures err { OnErr result (self.new ≡ self.old) }
         ensures follows { D.follows desk.old desk.new }
     {
         self.path.deliver(alloc, desk, queue, entry, offer)

@@ -3,7 +3,7 @@
 //! A step looks once at the next block. Where the block was retired the reader takes it, walks over its packets, and
 //! releases it with the word of a free block (TP_STATUS_KERNEL, 0). Out of memory in between it keeps the
 //! block, and the next step goes on with it: no packet is lost and none is read twice.
-ghost use Rattle.std.specs.Prelude.{◌≡◌, ◌<◌, ◌≤◌, ◌^◌, ℕ, List, Bool, true, false, None, Some, length, is_some, IfNone, IfOk, IfSome, IsTrue, OnErr, OnOk};
+ghost use Rattle.std.specs.Prelude.{◌≡◌, ◌≢◌, ◌+◌, ◌<◌, ◌≤◌, ◌^◌, ℕ, List, Bool, true, false, None, Some, Ok, length, is_some, IfNone, IfOk, IfSome, IsTrue, OnErr, OnOk, OnSome};
 ghost use Rattle.ring_words.specs.Counts.{Rose};
 ghost use Rattle.reader_walk.specs.Texts.{text_by, text_of_taken};
 ghost use Rattle.reader_walk.specs.Takers.{IsReadable, taken_in};
@@ -92,8 +92,14 @@ impl Reader {
         ensures stays { IfOk result (λ stepped. stepped ≡ false → W.stays end.old end.new) }
         ensures looked { IfOk result (λ stepped. stepped ≡ false
             → Rose (W.walk end.old).empties (W.walk end.new).empties) }
+        ensures once { IfOk result (λ stepped. stepped ≡ false
+            → (W.walk end.new).empties ≤ (W.walk end.old).empties + 1) }
         ensures waiting { IfOk result (λ stepped. stepped ≡ false
             → (blocks : ℕ) → (W.walk end.old).waiting ≡ Some blocks → blocks ≡ 0) }
+
+        // Where it has a block, no look found none.
+        ensures found { result ≢ Ok false
+            → (W.walk end.new).empties ≡ (W.walk end.old).empties }
 
         // After `Memory` the block is in the reader.
         ensures kept { OnErr result (Keeps (W.took end.old end.new) self.old self.new) }
@@ -164,6 +170,9 @@ impl Reader {
         ensures none { IfNone result (self.old.held ≡ None) }
         ensures stays { IfNone result (W.stays end.old end.new) }
         ensures looked { IfNone result (Rose (W.walk end.old).empties (W.walk end.new).empties) }
+        ensures once { IfNone result
+            ((W.walk end.new).empties ≤ (W.walk end.old).empties + 1) }
+        ensures found { OnSome result ((W.walk end.new).empties ≡ (W.walk end.old).empties) }
         ensures waiting { IfNone result
             ((blocks : ℕ) → (W.walk end.old).waiting ≡ Some blocks → blocks ≡ 0) }
         ensures goes_on { (content : List ℕ) → self.old.held ≡ Some content → end.new ≡ end.old }
