@@ -41,12 +41,7 @@ enum Came {
 }
 
 /// Does one thing to a ring.
-fn do_act(
-    alloc: Global,
-    ring: &mut Ring,
-    reader: &mut SlotReader,
-    act: Act,
-) -> Result<Came, Memory>
+fn do_act(alloc: Global, ring: &mut Ring, reader: &mut SlotReader, act: Act) -> Result<Came, Memory>
     requires fits { 126 ≤ ring.old.shape.frame_size }
     requires few { length ring.old.notes < 1000 }
     requires kind { ring.old.end.kind ≡ numbers_of reader.old.shape }
@@ -133,8 +128,14 @@ fn a_full_ring_drops_and_goes_on(rt: HostRuntime) -> Result<(), Fail> {
     let (others, outputs) = run(alloc, &shape, &ACTS)?;
     assert_eq!(rt; others, 0);
     let dump = outputs.dump;
-    assert_eq!(rt; (outputs.walked.len(), dump.len(), outputs.blocks), (5, 630, 5));
+    assert_eq!(rt;
+        (outputs.walked.len(), dump.len(), outputs.blocks),
+        (5, 630, 5)
+    );
     // the slot after a drop has TP_STATUS_LOSING
-    assert_eq!(rt; (status(&dump, 0), status(&dump, 3), status(&dump, 4)), (Some(1), Some(1), Some(5)));
+    assert_eq!(rt;
+        (status(&dump, 0), status(&dump, 3), status(&dump, 4)),
+        (Some(1), Some(1), Some(5))
+    );
     Ok(())
 }
