@@ -1,11 +1,97 @@
 //! A ring of four slots on one thread, with the answers, the statistics and the dump that follow from the rules by hand.
-use crate::ring_calls::{new_ring, put, try_put};
+ghost use Rattle.std.specs.Prelude.{◌≡◌, ◌+◌, ◌<◌, ◌≤◌, false, None, length, IfOk};
+ghost use Rattle.ring_words.specs.PlainRings.{has_block};
+ghost use Rattle.slot_layout.specs.SlotShapes.{IsSlotShape};
+ghost use Rattle.tp_layout.specs.Requests.{numbers_of};
+
+use crate::ring_calls::{Ring, new_ring, put, try_put};
 use crate::sample_slots::slot_shape;
-use frame_view::ByteList;
+use frame_view::{ByteList, Memory};
 use reader_walk::Outputs;
-use ring_model::{Put, Stats};
+use ring_model::Put;
+use std::alloc::Global;
 use std::test::Fail;
+use tp_layout::Shape;
 use v2_ring::SlotReader;
+
+/// What is done to a ring.
+#[derive(Clone, Copy, Debug)]
+enum Act {
+    /// A frame of 60 bytes with this number is put.
+    Put(u32),
+    /// It is tried.
+    Try(u32),
+    /// A reader takes a step.
+    Read,
+    /// The statistics are taken.
+    Stats,
+}
+
+/// What came of it.
+#[derive(Clone, Copy, Debug, PartialEq, Eq)]
+enum Came {
+    /// The frame was kept, or a slot was read.
+    Done,
+    /// The frame came back, or no slot was there.
+    Nothing,
+    /// The frame was dropped: the reader still has the slot of this number.
+    Dropped(u64),
+    /// The statistics.
+    Counts(u64, u64, u64),
+}
+
+/// Does one thing to a ring.
+fn do_act(alloc: Global, ring: &mut Ring, reader: &mut SlotReader, act: Act) -> Result<Came, Memory>
+    requires fits { 126 ≤ ring.old.shape.frame_size }
+    requires few { length ring.old.notes < 1000 }
+    requires kind { ring.old.end.kind ≡ numbers_of reader.old.shape }
+    requires hand { has_block ring.old.end ≡ false }
+    requires held { reader.old.held ≡ None }
+    requires read { reader.old.outputs.blocks < 1000 }
+    ensures shape { IfOk result (λ came. ring.new.shape ≡ ring.old.shape) }
+    ensures few { IfOk result (λ came. length ring.new.notes ≤ length ring.old.notes + 1) }
+    ensures kind { IfOk result (λ came. ring.new.end.kind ≡ numbers_of reader.new.shape) }
+    ensures hand { IfOk result (λ came. has_block ring.new.end ≡ false) }
+    ensures held { IfOk result (λ came. reader.new.held ≡ None) }
+    ensures read { IfOk result
+        (λ came. reader.new.outputs.blocks ≤ reader.old.outputs.blocks + 1) }
+{
+    match act {
+        Act::Put(index) => match put(alloc, ring, index)? {
+            Put::Kept => Ok(Came::Done),
+            Put::Dropped(number) => Ok(Came::Dropped(number)),
+        },
+        Act::Try(index) => Ok(done(try_put(alloc, ring, index)?)),
+        Act::Read => Ok(done(reader.step(ring)?)),
+        Act::Stats => {
+            let stats = ring.take_stats()?;
+            Ok(Came::Counts(stats.packets, stats.drops, stats.freezes))
+        }
+    }
+}
+
+/// Whether a thing was done.
+fn done(done: bool) -> Came {
+    if done { Came::Done } else { Came::Nothing }
+}
+
+/// What is done to the ring, and what comes of it.
+static ACTS: [(Act, Came); 14] = [
+    (Act::Put(0), Came::Done),
+    (Act::Put(1), Came::Done),
+    (Act::Put(2), Came::Done),
+    (Act::Try(3), Came::Done),
+    (Act::Try(4), Came::Nothing),
+    (Act::Put(4), Came::Dropped(1)),
+    (Act::Read, Came::Done),
+    (Act::Put(5), Came::Done),
+    (Act::Stats, Came::Counts(6, 1, 0)),
+    (Act::Read, Came::Done),
+    (Act::Put(6), Came::Done),
+    (Act::Read, Came::Done),
+    (Act::Read, Came::Done),
+    (Act::Read, Came::Done),
+];
 
 /// The bytes of a slot's text with a frame of 60 bytes.
 const TEXT: usize = 126;
@@ -15,6 +101,23 @@ fn status(dump: &ByteList, at: usize) -> Option<u8> {
     dump.get(TEXT.checked_mul(at)?).copied()
 }
 
+/// Does these things to a new ring, and gives how many of them came out otherwise, and what was read.
+fn run(alloc: Global, shape: &Shape, acts: &[(Act, Came)]) -> Result<(u32, Outputs), Memory>
+    requires checked { IsSlotShape shape.now }
+    requires fits { 126 ≤ shape.now.frame_size }
+    requires few { length acts.now < 100 }
+{
+    let mut ring = new_ring(alloc, shape)?;
+    let mut reader = SlotReader::new(alloc, *shape, true);
+    let mut others = 0;
+    for (act, came) in acts {
+        if do_act(alloc, &mut ring, &mut reader, *act)? != *came {
+            others += 1;
+        }
+    }
+    Ok((others, reader.outputs()))
+}
+
 #[test]
 fn a_full_ring_drops_and_goes_on(rt: HostRuntime) -> Result<(), Fail> {
     let alloc = rt.alloc();
@@ -22,32 +125,17 @@ fn a_full_ring_drops_and_goes_on(rt: HostRuntime) -> Result<(), Fail> {
     if shape.frame_size() < 126 {
         return Err("a slot has room for a frame".into());
     }
-    let mut ring = new_ring(alloc, &shape)?;
-    let mut reader = SlotReader::new(alloc, shape, true);
-    assert_eq!(rt; put(alloc, &mut ring, 0)?, Put::Kept);
-    assert_eq!(rt; put(alloc, &mut ring, 1)?, Put::Kept);
-    assert_eq!(rt; put(alloc, &mut ring, 2)?, Put::Kept);
-    assert!(rt; try_put(alloc, &mut ring, 3)?);
-    assert!(rt; !try_put(alloc, &mut ring, 4)?);
-    assert_eq!(rt; put(alloc, &mut ring, 4)?, Put::Dropped(1));
-    assert!(rt; reader.step(&mut ring)?);
-    assert_eq!(rt; put(alloc, &mut ring, 5)?, Put::Kept);
-    let stats = ring.take_stats()?;
+    let (others, outputs) = run(alloc, &shape, &ACTS)?;
+    assert_eq!(rt; others, 0);
+    let dump = outputs.dump;
     assert_eq!(rt;
-        stats,
-        Stats { packets: 6, drops: 1, freezes: 0 }
+        (outputs.walked.len(), dump.len(), outputs.blocks),
+        (5, 630, 5)
     );
-    assert!(rt; reader.step(&mut ring)?);
-    assert_eq!(rt; put(alloc, &mut ring, 6)?, Put::Kept);
-    for _ in 0..4 {
-        assert!(rt; reader.step(&mut ring)?);
-    }
-    assert!(rt; !reader.step(&mut ring)?);
-    let Outputs { walked, dump, blocks } = reader.outputs();
-    assert_eq!(rt; (walked.len(), dump.len(), blocks), (6, 6 * TEXT, 6));
-    // the slot after a drop has TP_STATUS_LOSING, until the statistics are taken
-    for (at, expected) in [(0, 1), (3, 1), (4, 5), (5, 1)] {
-        assert_eq!(rt; status(&dump, at), Some(expected), "slot {at}");
-    }
+    // the slot after a drop has TP_STATUS_LOSING
+    assert_eq!(rt;
+        (status(&dump, 0), status(&dump, 3), status(&dump, 4)),
+        (Some(1), Some(1), Some(5))
+    );
     Ok(())
 }

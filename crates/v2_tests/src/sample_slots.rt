@@ -41,9 +41,9 @@ pub(crate) const TAG: Tag = Tag {
 /// The bytes of its slot before the data: status 1, lengths 14 and 14, places 66 and 80, 1 second and 2,000 nanoseconds, no
 /// tag; AF_PACKET, 0x0806, interface 1, ARPHRD_ETHER, broadcast, the sender's address.
 pub(crate) static HEADER: [u8; 66] = [
-    1, 0, 0, 0, 14, 0, 0, 0, 14, 0, 0, 0, 66, 0, 80, 0, 1, 0, 0, 0, 0xd0, 7, 0, 0, 0, 0, 0, 0, 0, 0,
-    0, 0, 17, 0, 8, 6, 1, 0, 0, 0, 1, 0, 1, 6, 2, 0, 0, 0, 0, 1, 0, 0, 0, 0, 0, 0, 0, 0, 0, 0, 0,
-    0, 0, 0, 0, 0,
+    1, 0, 0, 0, 14, 0, 0, 0, 14, 0, 0, 0, 66, 0, 80, 0, 1, 0, 0, 0, 0xd0, 7, 0, 0, 0, 0, 0, 0, 0,
+    0, 0, 0, 17, 0, 8, 6, 1, 0, 0, 0, 1, 0, 1, 6, 2, 0, 0, 0, 0, 1, 0, 0, 0, 0, 0, 0, 0, 0, 0, 0,
+    0, 0, 0, 0, 0, 0,
 ];
 
 /// The offer of that frame with that tag or without, at 1 second and 2,000 nanoseconds.

@@ -64,6 +64,27 @@ fn is_that_packet(packet: &PacketRef<'_>, tag: Option<Tag>) -> bool {
         && packet.bytes == FRAME.as_slice()
 }
 
+/// What is read of a slot with that frame: its status, whether it begins with these bytes, and whether its packet is that
+/// frame.
+fn seen(
+    alloc: Global,
+    shape: &Shape,
+    tagged: bool,
+    losing: bool,
+    bytes: &[u8],
+) -> Result<(u32, bool, bool), Memory>
+    requires checked { IsSlotShape shape.now }
+    requires room { 80 ≤ shape.now.frame_size }
+{
+    let (slot, status) = filled(alloc, shape, tagged, losing)?;
+    let tag = if tagged { Some(TAG) } else { None };
+    let is_read = match read_slot(slot.bytes(), shape) {
+        Ok(packet) => is_that_packet(&packet, tag),
+        Err(_) => false,
+    };
+    Ok((status, slot.bytes().starts_with(bytes), is_read))
+}
+
 #[test]
 fn a_slot_is_read_as_it_was_written(rt: HostRuntime) -> Result<(), Fail> {
     let alloc = rt.alloc();
@@ -78,13 +99,9 @@ fn a_slot_is_read_as_it_was_written(rt: HostRuntime) -> Result<(), Fail> {
         (true, false, 81),
         (true, true, 85),
     ] {
-        let (slot, told) = filled(alloc, &shape, tagged, losing)?;
         let bytes = expected(alloc, status, tagged)?;
-        assert_eq!(rt; told, u32::from(status), "{tagged} {losing}");
-        assert!(rt; slot.bytes().starts_with(bytes.as_slice()), "{status}");
-        let packet = read_slot(slot.bytes(), &shape).ok().ok_or("a packet")?;
-        let tag = if tagged { Some(TAG) } else { None };
-        assert!(rt; is_that_packet(&packet, tag), "{status}");
+        let seen = seen(alloc, &shape, tagged, losing, bytes.as_slice())?;
+        assert_eq!(rt; seen, (u32::from(status), true, true), "{status}");
     }
     Ok(())
 }
