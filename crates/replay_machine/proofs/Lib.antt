@@ -10,3 +10,4 @@ pub mod RunSteps
 pub mod Lines
 pub mod WholeRuns
 pub mod GroupReports
+pub mod MemberFacts

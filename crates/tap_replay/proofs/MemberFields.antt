@@ -1,7 +1,8 @@
 -- A member's fields stand for its ring after each call.
 use Rattle.std.proofs.Common.{◌≡◌, ℕ, ◌+◌, ◌^◌, ◌<◌, ◌≤◌, Bool, true, false, List, [], ◌∷◌, ◌++◌, length, take, drop, zero, suc, Some, refl, sym, ap, ◌∙◌, subst, arith, length-append}
-use Rattle.std.specs.Prelude.{IfErr, IfOk, Result, Ok, Err, is_some, if◌then◌else◌, replicate}
+use Rattle.std.specs.Prelude.{is_some, if◌then◌else◌, replicate}
 use Rattle.std.specs.List.{AllByRecursion}
+use Rattle.std.proofs.Math.Seq.{drop-nil}
 use Rattle.std.proofs.lemmas.List.{length-take}
 use Rattle.std.proofs.lemmas.Bool.{le-ltb, lt-ltb}
 use Rattle.block_ring.specs.Machines.{IsFresh, KeepsEnd}
@@ -10,6 +11,7 @@ use Rattle.block_ring.specs.Texts.{StandsForTexts}
 use Rattle.block_ring.specs.Walking.{StaysBy, TookBy}
 use Rattle.reader_walk.specs.Readers.{ReaderValue, Reads, new_reader}
 use Rattle.reader_walk.specs.Takers.{Taken}
+use Rattle.replay_machine.proofs.MemberFacts.{some_same}
 use Rattle.ring_model.specs.Offers.{IsSound}
 use Rattle.ring_model.specs.Ring.{state_of}
 use Rattle.ring_model.specs.Rings.{Ring, fresh, noted, read_once}
@@ -21,7 +23,7 @@ use Rattle.ring_words.specs.PlainRings.{PlainState, Took, feed_of, has_block}
 use Rattle.ring_words.specs.Rings as words
 use Rattle.ring_words.specs.Rings.{Entry}
 use Rattle.tp_layout.specs.Requests.{numbers_of, size_of}
-use Rattle.tp_layout.specs.Writing.{IsWritable, zero_block}
+use Rattle.tp_layout.specs.Writing.{zero_block}
 use Rattle.tp_layout.specs.declared.requests.RingRequest.{RingRequest}
 use Rattle.run_reports.specs.Blocks.{taken_from}
 use Rattle.tap_replay.specs.Blocks.{HasRead}
@@ -29,27 +31,6 @@ use Rattle.tap_replay.specs.Members.{IsMember, Parts, ring_of}
 use Rattle.run_reports.proofs.GrownBlocks.{Grows, few_done, front_stays, grows_noted}
 use Rattle.run_reports.proofs.KeptPackets.{as_many}
 use Rattle.tap_replay.proofs.ReadBlocks.{Tells, came, none_read, one_read, released_done}
-
-some_same : (a b : ℕ) → Some a ≡ Some b → a ≡ b
-some_same a b e = cc
-
-none_left : (n : ℕ) → ◌≡◌ {A = List Entry} (drop n []) []
-none_left zero = refl
-none_left (suc n) = refl
-
--- an offer that is sound for a ring's blocks may be written
-pub writable : (room : ℕ) (offer : Offer) → IsSound room offer → IsWritable offer
-writable room offer sound =
-    let captured = sound.captured in
-    let wire = sound.wire in record {
-      some = sound.some;
-      captured = sound.captured;
-      wire = omega (arith, captured, wire);
-      no_runt = sound.no_runt;
-      nsec = sound.nsec;
-      pkttype = sound.pkttype;
-      tag = sound.tag;
-    }
 
 pub goes_in : (room : ℕ) (offer : Offer) → IsSound room offer → 82 + offer.snap ≤ room
 goes_in room offer sound =
@@ -116,12 +97,6 @@ stays_member shape asked m after h stays =
     record { shape_is = h.shape_is; small = h.small; few = h.few; read = h.read } in
     subst P (sym stays) same
 
--- what a call did, or that it did nothing
-pub either : {A E : Type 0} (result : Result A E) (Q : A → Type 0) (R : E → Type 0) (P : Type 0) → IfOk result Q → IfErr result R
-    → ((a : A) → Q a → P) → ((e : E) → R e → P) → P
-either (Ok a) Q R P q r done failed = done a q
-either (Err e) Q R P q r done failed = failed e r
-
 -- a ring whose blocks are all free
 pub fresh_end : (shape : RingRequest) (count : ℕ) (marks : List ℕ) (ring : PlainState) → ring ≡ plain.fresh count ring.kind marks
     → ring.kind ≡ numbers_of shape → count ≡ shape.block_nr → IsFresh shape (feed_of ring)
@@ -147,7 +122,7 @@ new_member shape asked count marks ring producer reader small e kind opens is =
     let shown : (feed_of producer.end).shown ≡ [] = ap (λ (f : words.Feed). f.shown) opens.end ∙ ap (λ (r : PlainState). r.shown) e in
     let none_noted : length producer.notes ≡ 0 = ap (λ (ns : List Note). length ns) opens.notes in
     let none : StandsForTexts shape [] (feed_of producer.end) =
-    ([], record { count = sym retired; front = omega (arith, taken); rest = none_left producer.end.taken ∙ sym shown }, tt) in
+    ([], record { count = sym retired; front = omega (arith, taken); rest = drop-nil producer.end.taken ∙ sym shown }, tt) in
     let done : (state_of (size_of shape) producer.notes).done ≡ [] = ap (λ (ns : List Note). (state_of (size_of shape) ns).done) opens.notes in
     let Q : List (List Offer × ℕ) → Type 0 = λ d. StandsForTexts shape d (feed_of producer.end) in
     record {

@@ -2,6 +2,7 @@
 use Rattle.std.proofs.Common.{◌≡◌, ℕ, zero, suc, ◌+◌, ◌<◌, ◌≤◌, Bool, false, List, [], ◌∷◌, ◌++◌, length, take, drop, Option, None, refl, sym, ap, ◌∙◌, subst, arith}
 use Rattle.std.specs.Prelude.{is_some, if◌then◌else◌}
 use Rattle.std.proofs.lemmas.Bool.{le-ltb}
+use Rattle.std.proofs.lemmas.List.{length-drop, nil_from_length, take_all}
 use Rattle.block_ring.specs.Texts.{AreTexts}
 use Rattle.frame_view.specs.declared.frames.Packet.{Packet}
 use Rattle.reader_walk.specs.Readers.{ComesFrom, ReaderValue, Reads, has_read}
@@ -62,21 +63,6 @@ next_block shape number (suc count) last (entry ∷ all) (block ∷ done) conten
       some = omega (arith, within);
       more = ap (λ (taken : List Taken). read_of shape number block ∷ taken) later.more;
     }
-
-drop_none : {X : Type 0} (count : ℕ) (xs : List X) → drop count xs ≡ [] → length xs ≤ count
-drop_none count [] e = omega arith
-drop_none zero (x ∷ xs) e = cc
-drop_none (suc count) (x ∷ xs) e = let less = drop_none count xs e in omega (arith, less)
-
-take_all : {X : Type 0} (count : ℕ) (xs : List X) → length xs ≤ count → take count xs ≡ xs
-take_all zero [] h = refl
-take_all zero (x ∷ xs) h = absurd (omega (arith, h))
-take_all (suc count) [] h = refl
-take_all (suc count) (x ∷ xs) h = ap (λ ys. x ∷ ys) (take_all count xs (omega (arith, h)))
-
-no_items : {X : Type 0} (xs : List X) → length xs ≡ 0 → xs ≡ []
-no_items [] e = refl
-no_items (x ∷ xs) e = absurd (omega (arith, e))
 
 -- the blocks that were released were retired
 pub released_done : (shape : RingRequest) (asked : Bool) (done : List (List Offer × ℕ)) (ring : PlainState) (reader : ReaderValue)
@@ -174,9 +160,10 @@ none_read shape asked done ring after reader next h stays is empty =
     let same = h.none_in_hand in
     let leaves = stays_leaves ring after stays in
     let released : after.released ≡ ring.released = ap (λ (r : PlainState). r.released) stays in
-    let none = no_items ring.shown empty in
+    let none = nil_from_length ring.shown empty in
     let rest : drop ring.released all ≡ [] = ap (λ n. drop n all) (sym same) ∙ stands.rest ∙ none in
-    let few = drop_none ring.released all rest in
+    let few = length-drop ring.released all in
+    let gone : length (drop ring.released all) ≡ 0 = ap (λ (es : List Entry). length es) rest in
     let many = as_many_texts shape 1 all done h.texts.2 in
     record {
       has = record {
@@ -189,7 +176,7 @@ none_read shape asked done ring after reader next h stays is empty =
         taken_is = ap (λ (r : ReaderValue). r.taken) is ∙ h.taken_is ∙ ap (λ n. taken_from shape 1 (take n done)) (sym released);
       };
       released = released;
-      all = omega (arith, few, many);
+      all = omega (arith, few, gone, many);
     }
 
 -- then all are read

@@ -1,10 +1,12 @@
 -- A member's fields stand for its ring after each call.
 use Rattle.std.proofs.Common.{◌≡◌, ℕ, ◌+◌, ◌^◌, ◌<◌, ◌≤◌, Bool, true, false, List, [], ◌∷◌, ◌++◌, length, take, drop, zero, suc, Some, refl, sym, ap, ◌∙◌, subst, arith, length-append}
-use Rattle.std.specs.Prelude.{IfErr, IfOk, Option, OnErr, Result, Ok, Err, is_some, if◌then◌else◌, replicate}
+use Rattle.std.specs.Prelude.{is_some, if◌then◌else◌, replicate}
 use Rattle.std.specs.List.{AllByRecursion}
+use Rattle.std.proofs.Math.Seq.{drop-nil}
 use Rattle.std.proofs.lemmas.List.{append-nil, length-take, take-append-le}
 use Rattle.std.proofs.lemmas.Bool.{le-ltb, lt-ltb}
 use Rattle.reader_walk.specs.declared.outputs.Outputs.{Outputs}
+use Rattle.replay_machine.proofs.MemberFacts.{some_same}
 use Rattle.replay_model.specs.RingSteps.{put_note, read_by, try_note}
 use Rattle.ring_model.specs.Asking.{put_by, try_by}
 use Rattle.ring_model.specs.Offers.{IsSound}
@@ -18,12 +20,12 @@ use Rattle.ring_words.specs.PlainRings as plain
 use Rattle.ring_words.specs.PlainRings.{PlainState, Took, feed_of, has_block}
 use Rattle.ring_words.specs.Rings as words
 use Rattle.ring_words.specs.Rings.{Entry}
+use Rattle.slot_layout.specs.SlotDump.{slot_texts_of}
 use Rattle.slot_layout.specs.SlotShapes.{slot_size_of, zero_slot}
 use Rattle.slot_model.proofs.Runs.{slot_counted, slot_state_push}
 use Rattle.slot_model.specs.SlotAsking.{slot_look}
 use Rattle.slot_model.specs.SlotSteps.{SlotState, slot_after, slot_state_of, slot_status}
 use Rattle.tp_layout.specs.Requests.{numbers_of}
-use Rattle.tp_layout.specs.Writing.{IsWritable}
 use Rattle.tp_layout.specs.declared.requests.RingRequest.{RingRequest}
 use Rattle.v2_ring.specs.SlotContents.{StandsForSlots}
 use Rattle.v2_ring.specs.SlotMachines.{IsFreshSlots, KeepsSlotEnd}
@@ -35,28 +37,7 @@ use Rattle.v2_replay.specs.SlotReplays.{slot_steps}
 use Rattle.v2_replay.specs.SlotsRead.{HasReadSlots, read_of_slots}
 use Rattle.v2_replay.proofs.ReadSlots.{Tells, came, none_read, one_read, released_done}
 
-some_same : (a b : ℕ) → Some a ≡ Some b → a ≡ b
-some_same a b e = cc
-
-none_left : (n : ℕ) → ◌≡◌ {A = List Entry} (drop n []) []
-none_left zero = refl
-none_left (suc n) = refl
-
 -- ---- offers
-
--- an offer that is sound for a ring's slots may be written
-pub writable : (room : ℕ) (offer : Offer) → IsSound room offer → IsWritable offer
-writable room offer sound =
-    let captured = sound.captured in
-    let wire = sound.wire in record {
-      some = sound.some;
-      captured = sound.captured;
-      wire = omega (arith, captured, wire);
-      no_runt = sound.no_runt;
-      nsec = sound.nsec;
-      pkttype = sound.pkttype;
-      tag = sound.tag;
-    }
 
 pub goes_in : (shape : RingRequest) (offer : Offer) → IsSound (slot_size_of shape).room offer → 66 + offer.snap ≤ shape.frame_size
 goes_in shape offer sound =
@@ -133,12 +114,6 @@ stays_member shape asked m after h stays =
     subst (λ (p : SlotProducing PlainState). KeepsSlots shape asked (noted_with m p)) (sym stays)
     (record { shape_is = h.shape_is; few = h.few; read = h.read })
 
--- what a call did, or that it did nothing
-pub either : {A E : Type 0} (result : Result A E) (Q : A → Type 0) (R : Type 0) (P : Type 0) → IfOk result Q → OnErr result R
-    → ((a : A) → Q a → P) → (R → P) → P
-either (Ok a) Q R P q r done failed = done a q
-either (Err e) Q R P q r done failed = failed r
-
 -- ---- a new member
 
 -- a ring whose slots are all free
@@ -158,6 +133,11 @@ pub one_kind : (shape : RingRequest) (n : ℕ) → AllByRecursion (λ slot. numb
 one_kind shape zero = tt
 one_kind shape (suc n) = (refl, one_kind shape n)
 
+nothing_read : (asked : Bool) → ◌≡◌ {A = Outputs} (record { walked = []; dump = []; blocks = 0 }) (read_of_slots asked [])
+unfolding slot_texts_of
+nothing_read true = refl
+nothing_read false = refl
+
 pub new_member : (shape : RingRequest) (asked : Bool) (count : ℕ) (marks : List ℕ) (ring : PlainState) (producer : SlotProducing PlainState) (reader : SlotReaderValue)
     → ring ≡ plain.fresh count ring.kind marks → ring.kind ≡ numbers_of shape → producer ≡ record { shape = shape; notes = []; end = ring }
     → reader ≡ new_slot_reader shape asked → KeepsSlots shape asked (record { producer = producer; reader = reader; stuck = false })
@@ -167,7 +147,7 @@ new_member shape asked count marks ring producer reader e kind opens is =
     let retired : ring.retired ≡ 0 = ap (λ (r : PlainState). r.retired) e in
     let shown : ring.shown ≡ [] = ap (λ (r : PlainState). r.shown) e in
     let none : StandsForSlots shape [] (feed_of ring) =
-    ([], record { count = sym retired; front = omega (arith, taken); rest = none_left ring.taken ∙ sym shown }, tt) in
+    ([], record { count = sym retired; front = omega (arith, taken); rest = drop-nil ring.taken ∙ sym shown }, tt) in
     subst (λ (p : SlotProducing PlainState). KeepsSlots shape asked (record { producer = p; reader = reader; stuck = false })) (sym opens) (record {
       shape_is = refl;
       few = omega arith;
@@ -181,11 +161,11 @@ new_member shape asked count marks ring producer reader e kind opens is =
         outputs_are = ap (λ (r : SlotReaderValue). r.outputs) is ∙ nothing_read asked ∙ ap (λ n. read_of_slots asked (take n [])) (sym released);
       };
     })
-  where
-    nothing_read : (asked : Bool) → ◌≡◌ {A = Outputs} (record { walked = []; dump = []; blocks = 0 }) (read_of_slots asked [])
-    unfolding slot_texts_of
-    nothing_read true = refl
-    nothing_read false = refl
+
+-- the shape and the flag are those of its type
+pub as_set : (shape common : RingRequest) (asked all : Bool) (m : Parts) → shape ≡ common → asked ≡ all → KeepsSlots shape asked m → KeepsSlots common all m
+as_set shape common asked all m s a h =
+    subst (λ (b : Bool). KeepsSlots common b m) a (subst (λ (x : RingRequest). KeepsSlots x asked m) s h)
 
 -- ---- a read
 

@@ -3,7 +3,7 @@ use Rattle.std.proofs.Common.{◌≡◌, ℕ, zero, suc, ◌+◌, ◌<◌, ◌�
 use Rattle.std.specs.Prelude.{flat_map, is_some, if◌then◌else◌}
 use Rattle.std.proofs.lemmas.Bool.{le-ltb}
 use Rattle.std.proofs.lemmas.Grind.{flat_map-append}
-use Rattle.std.proofs.lemmas.List.{append-nil, map-append}
+use Rattle.std.proofs.lemmas.List.{append-nil, length-drop, map-append, nil_from_length, take_all}
 use Rattle.frame_view.specs.declared.frames.Packet.{Packet}
 use Rattle.reader_walk.specs.Readers.{ComesFrom}
 use Rattle.reader_walk.specs.declared.outputs.Outputs.{Outputs}
@@ -61,21 +61,6 @@ next_slot shape (suc count) (entry ∷ all) (slot ∷ done) content status rest 
       some = omega (arith, within);
       more = ap (λ (slots : List (Offer × ℕ)). slot ∷ slots) later.more;
     }
-
-drop_none : {X : Type 0} (count : ℕ) (xs : List X) → drop count xs ≡ [] → length xs ≤ count
-drop_none count [] e = omega arith
-drop_none zero (x ∷ xs) e = cc
-drop_none (suc count) (x ∷ xs) e = let less = drop_none count xs e in omega (arith, less)
-
-take_all : {X : Type 0} (count : ℕ) (xs : List X) → length xs ≤ count → take count xs ≡ xs
-take_all zero [] h = refl
-take_all zero (x ∷ xs) h = absurd (omega (arith, h))
-take_all (suc count) [] h = refl
-take_all (suc count) (x ∷ xs) h = ap (λ ys. x ∷ ys) (take_all count xs (omega (arith, h)))
-
-no_items : {X : Type 0} (xs : List X) → length xs ≡ 0 → xs ≡ []
-no_items [] e = refl
-no_items (x ∷ xs) e = absurd (omega (arith, e))
 
 -- ---- what is read of one slot more
 
@@ -203,9 +188,10 @@ none_read shape asked done ring after reader next h stays is empty =
     let same = h.none_in_hand in
     let leaves = stays_leaves ring after stays in
     let released : after.released ≡ ring.released = ap (λ (r : PlainState). r.released) stays in
-    let none = no_items ring.shown empty in
+    let none = nil_from_length ring.shown empty in
     let rest : drop ring.released all ≡ [] = ap (λ n. drop n all) (sym same) ∙ stands.rest ∙ none in
-    let few = drop_none ring.released all rest in
+    let few = length-drop ring.released all in
+    let gone : length (drop ring.released all) ≡ 0 = ap (λ (es : List Entry). length es) rest in
     let many = as_many_slots shape all done h.texts.2 in
     record {
       has = record {
@@ -218,7 +204,7 @@ none_read shape asked done ring after reader next h stays is empty =
         outputs_are = ap (λ (r : SlotReaderValue). r.outputs) is ∙ h.outputs_are ∙ ap (λ n. read_of_slots asked (take n done)) (sym released);
       };
       released = released;
-      all = omega (arith, few, many);
+      all = omega (arith, few, gone, many);
     }
 
 -- then all are read

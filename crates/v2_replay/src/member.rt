@@ -13,7 +13,7 @@ use replay_machine::{RingMember, Setting};
 use ring_model::{Offer, Put, Tried, Unput};
 use ring_words::PlainRing;
 use setup_text::MemberReport;
-use slot_layout::{Slot, slots};
+use slot_layout::{Slot, a_checked_ring_is_bounded, slots};
 use std::alloc::Global;
 use std::marker::{Model, PhantomData};
 use tp_layout::Shape;
@@ -57,6 +57,7 @@ impl<K: Setting> SlotMember<K> {
         requires slots { IsSlotShape shape.now }
         ensures { IfOk result (λ member. member ≡ fresh (slot_size_of shape.now)) }
     {
+        a_checked_ring_is_bounded();
         let ring = PlainRing::new(alloc, slots(alloc, shape)?)?;
         Ok(SlotMember {
             producer: SlotProducer::new(alloc, *shape, ring)?,

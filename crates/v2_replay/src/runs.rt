@@ -19,6 +19,7 @@ use replay_machine::{Setting, replay_over};
 use run_reports::each_arrival_stands_exactly_once;
 use schedule_lines::Schedule;
 use setup_text::{Job, Ran};
+use slot_layout::a_checked_ring_is_bounded;
 use std::alloc::Global;
 use std::marker::Brand;
 use tap_outside::Source;
@@ -83,6 +84,7 @@ fn room_of_slots(shape: &Shape) -> u32
     requires { IsSlotShape shape.now }
     ensures { IsRoomOf (slot_steps (slot_size_of shape.now)) result }
 {
+    a_checked_ring_is_bounded();
     let _size = shape.block_size();
     shape.frame_size() + NEARER
 }

@@ -3,7 +3,8 @@ use Rattle.block_ring.specs.Producing.{Tries, Stays}
 use Rattle.ring_model.specs.Rings.{Ring}
 use Rattle.ring_model.specs.declared.notes.Found.{Found}
 use Rattle.ring_words.specs.PlainRings.{feed_of}
-use Rattle.tap_replay.proofs.MemberFields.{either, noted_member, stays_member}
+use Rattle.replay_machine.proofs.MemberFacts.{either}
+use Rattle.tap_replay.proofs.MemberFields.{noted_member, stays_member}
 use Rattle.tap_replay.specs.Members.{Parts}
 use Rattle.tap_replay.proofs.member.BlockMemberRingMember.try_put.Goals as goal
 

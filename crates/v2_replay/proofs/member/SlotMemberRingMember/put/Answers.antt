@@ -3,7 +3,8 @@ use Rattle.std.specs.Prelude.{Option}
 use Rattle.ring_model.specs.Rings.{Ring}
 use Rattle.ring_words.specs.PlainRings.{feed_of}
 use Rattle.v2_ring.specs.SlotProducing.{SlotPuts}
-use Rattle.v2_replay.proofs.MemberFields.{either, noted_member, stays_member}
+use Rattle.replay_machine.proofs.MemberFacts.{either}
+use Rattle.v2_replay.proofs.MemberFields.{noted_member, stays_member}
 use Rattle.v2_replay.specs.SlotMembers.{Parts}
 use Rattle.v2_replay.proofs.member.SlotMemberRingMember.put.Goals as goal
 
@@ -13,6 +14,6 @@ invariant_of-self g c =
     let few : length c.self.inside.producer.notes < 2 ^ 39 =
     subst (λ (ring : Ring). length ring.notes < 2 ^ 39) (sym c.self.view_is) c.requires.few in
     either c.put.result (λ put. (held : Option ℕ) × SlotPuts feed_of c.self.inside.producer c.put.new.self c.args.offer held put)
-    (c.put.new.self ≡ c.self.inside.producer) _ c.put.ensures.put c.put.ensures.same
+    (λ unput. c.put.new.self ≡ c.self.inside.producer) _ c.put.ensures.put c.put.ensures.same
     (λ put made. noted_member g.K.Setting.shape g.K.Setting.dumps before c.put.new.self _ c.self.invariant few made.1.adds)
-    (λ none. stays_member g.K.Setting.shape g.K.Setting.dumps before c.put.new.self c.self.invariant none)
+    (λ unput none. stays_member g.K.Setting.shape g.K.Setting.dumps before c.put.new.self c.self.invariant none)
