@@ -137,17 +137,18 @@ impl<K: Setting> Member<K> {
         }
     }
 
-    /// Closes the ring, and reads all blocks that still wait.
-    pub(crate) fn close(self) -> Result<MemberReport, Memory>
+    /// Closes the ring, and reads all blocks that still wait. Each is dropped once it is read.
+    pub(crate) fn close(self, alloc: Global) -> Result<MemberReport, Memory>
         ensures { IfOk result (λ report. report ≡ member_of K.shape K.dumps (finished_ring self)) }
     {
         a_text_is_read_as_it_was_written();
         if self.stuck {
             return Err(Memory);
         }
-        let (mut ring, notes) = self.producer.finish();
+        let (ring, notes) = self.producer.finish();
+        let mut waiting = ring.closing(alloc)?;
         let mut reader = self.reader;
-        'waiting: while reader.step(&mut ring)? {}
+        'waiting: while reader.step(&mut waiting)? {}
         let outputs = reader.outputs();
         Ok(MemberReport {
             notes,
