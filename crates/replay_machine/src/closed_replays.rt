@@ -22,7 +22,7 @@ pub(crate) fn close_members<M: RingMember>(
 {
     let mut reports = Vec::with_capacity(alloc, members.len())?;
     for member in members {
-        reports.push(member.close()?)?;
+        reports.push(member.close(alloc)?)?;
     }
     Ok(MemberList::from_vec(reports))
 }

@@ -12,6 +12,7 @@ ghost use Rattle.setup_text.specs.declared.reports.MemberReport.{MemberReport};
 use frame_view::Memory;
 use ring_model::{Offer, Put, Tried, Unput};
 use setup_text::MemberReport;
+use std::alloc::Global;
 use std::marker::Model;
 
 /// A ring with its reader. Contracts see the ring: its size, its notes, and how many blocks its
@@ -66,7 +67,7 @@ pub trait RingMember: Drop {
         ensures { OnOk result (ring self.new ≡ read_by steps (ring self.old)) };
 
     /// Closes the ring, and reads all blocks that still wait.
-    fn close(self) -> Result<MemberReport, Memory>
+    fn close(self, alloc: Global) -> Result<MemberReport, Memory>
         ensures { IfOk result (λ report. report ≡ reported (finished_ring (ring self))) };
 }
 
@@ -144,9 +145,9 @@ impl<M: RingMember> Member<M> {
     }
 
     /// As the ring's `close`.
-    pub(crate) fn close(self) -> Result<MemberReport, Memory>
+    pub(crate) fn close(self, alloc: Global) -> Result<MemberReport, Memory>
         ensures { IfOk result (λ report. report ≡ M.reported (finished_ring self)) }
     {
-        self.ring.close()
+        self.ring.close(alloc)
     }
 }

@@ -1,6 +1,7 @@
 //! The two ends of a ring of blocks that are handed over by status words, and such a ring on one thread.
 #![tactic(auto)]
 
+mod closing_ring;
 mod ends;
 mod feeder;
 mod handover;
@@ -11,6 +12,7 @@ mod tables;
 mod walker;
 
 pub use block_content::Content;
+pub use closing_ring::ClosingRing;
 pub use ends::{BothEnds, FeederEnd, Next, WalkerEnd};
 pub use feeder::TableFeeder;
 pub use pending::{Pending, finish};

@@ -8,6 +8,7 @@ ghost use Rattle.ring_words.specs.Looks.{IfFree, IfHeld, OnFree, OnHeld, StandsB
 ghost use Rattle.ring_words.specs.PlainRings.{IsOwned, Stays, Took, fresh, has_block, ring_of};
 ghost use Rattle.ring_words.specs.Rings.{IsMark, IsStatus};
 
+use crate::closing_ring::{ClosingRing, marks_of};
 use crate::{BothEnds, Content, FeederEnd, Next, WalkerEnd};
 use frame_view::Memory;
 use std::alloc::Global;
@@ -17,18 +18,18 @@ use std::snapshot::Snapshot;
 
 /// A free block at its place.
 #[derive(Drop)]
-struct Vacant<B> {
-    block: B,
+pub(crate) struct Vacant<B> {
+    pub(crate) block: B,
     /// The word of its place, which is even and below 256.
-    mark: u32,
+    pub(crate) mark: u32,
 }
 
 /// A retired block at its place.
 #[derive(Drop)]
-struct Filled<B> {
-    block: B,
+pub(crate) struct Filled<B> {
+    pub(crate) block: B,
     /// The status that it was retired with, which is odd and below 256.
-    status: u32,
+    pub(crate) status: u32,
 }
 
 /// Both ends of a ring, on one thread. Here each look is exact: the feeder finds a block free exactly where the reader
@@ -191,6 +192,26 @@ impl<B: Content + Drop> PlainRing<B> {
             holds: 0,
             empties: 0,
             sample,
+        })
+    }
+
+    /// The ring after its feeder is done, for the reader alone: the memory of each block that is free or is released is
+    /// given up.
+    pub fn closing(self, alloc: Global) -> Result<ClosingRing<B>, Memory>
+        ensures { IfOk result (λ ring. ring ≡ self) }
+    {
+        let marks = marks_of(alloc, self.places as usize, self.vacant)?;
+        Ok(ClosingRing {
+            places: self.places,
+            given: self.given,
+            retired: self.retired,
+            taken: self.taken,
+            released: self.released,
+            marks,
+            filled: self.filled,
+            holds: self.holds,
+            empties: self.empties,
+            sample: self.sample,
         })
     }
 }

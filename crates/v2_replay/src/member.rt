@@ -107,7 +107,7 @@ impl<K: Setting> RingMember for SlotMember<K> {
         }
     }
 
-    fn close(self) -> Result<MemberReport, Memory> {
+    fn close(self, _alloc: Global) -> Result<MemberReport, Memory> {
         a_slot_is_read_as_it_was_written();
         if self.stuck {
             return Err(Memory);

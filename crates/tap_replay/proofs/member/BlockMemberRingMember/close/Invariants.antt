@@ -7,7 +7,7 @@ use Rattle.tap_replay.proofs.member.BlockMemberRingMember.close.Given as goal
 
 abbrev pub invariant-waiting : goal.invariant-waiting
 invariant-waiting g l =
-    HasRead g.K.Setting.shape g.K.Setting.dumps (state_of (size_of g.K.Setting.shape) (l.fn.self.notes ++ Finished ∷ [])).done l.ring l.reader
+    HasRead g.K.Setting.shape g.K.Setting.dumps (state_of (size_of g.K.Setting.shape) (l.fn.self.notes ++ Finished ∷ [])).done l.waiting l.reader
 
 abbrev pub decreases-waiting : goal.decreases-waiting
-decreases-waiting g l = length l.ring.shown
+decreases-waiting g l = length l.waiting.shown

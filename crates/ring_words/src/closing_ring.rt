@@ -1,0 +1,119 @@
+//! A ring on one thread whose feeder is done: what waits is read, and what was read is dropped.
+ghost use Rattle.std.specs.Prelude.{◌≡◌, ◌+◌, ◌<◌, ◌≤◌, length, vec_capacity, IfOk, IfSome, IfNone, OnSome};
+ghost use Rattle.std.specs.VecDeque.{deque_capacity};
+ghost use Rattle.ring_words.specs.PlainRings.{marks_of};
+
+use crate::plain_ring::{Filled, Vacant};
+use crate::{Content, WalkerEnd};
+use frame_view::Memory;
+use std::alloc::Global;
+use std::collections::VecDeque;
+use std::marker::Model;
+use std::snapshot::Snapshot;
+
+/// The reader's end of a ring on one thread whose feeder is done. Contracts see it as they see the ring. A block that
+/// is released is dropped, since nobody fills it again, so that its memory is there for what was read.
+#[derive(Drop)]
+pub struct ClosingRing<B: Content + Drop> {
+    /// The number of places.
+    pub(crate) places: u64,
+    /// How many blocks were given to the feeder.
+    pub(crate) given: u64,
+    /// How many of them it retired.
+    pub(crate) retired: u64,
+    /// How many of these the reader took.
+    pub(crate) taken: u64,
+    /// How many of these it released.
+    pub(crate) released: u64,
+    /// The words of the free places, by number.
+    pub(crate) marks: Vec<u32>,
+    /// The blocks that wait for the reader, by number.
+    pub(crate) filled: VecDeque<Filled<B>>,
+    /// How many looks of the feeder found no free block; it stands still at the greatest u64.
+    pub(crate) holds: u64,
+    /// How many looks of the reader found no block; it stands still at the greatest u64.
+    pub(crate) empties: u64,
+    /// One of the blocks as the ring was made of them. It takes no room: only contracts read it.
+    pub(crate) sample: Snapshot<B>,
+}
+
+impl<B: Content + Drop> Model for ClosingRing<B> {
+    ghost use Rattle.std.specs.Prelude.{◌≤◌, [], vec_capacity};
+    ghost use Rattle.ring_words.specs.PlainRings.{Keeps, PlainState, entries_of};
+
+    ghost Value = { PlainState };
+
+    ghost view = { λ ring. record {
+      places = ring.places;
+      kind = B.kind ring.sample.value;
+      given = ring.given;
+      retired = ring.retired;
+      taken = ring.taken;
+      released = ring.released;
+      shown = entries_of B.bytes ring.filled.items;
+      marks = ring.marks.items;
+      holds = ring.holds;
+      empties = ring.empties;
+    } };
+
+    ghost invariant = { λ ring.
+        Keeps B.kind B.ready (record {
+          places = ring.places;
+          kind = B.kind ring.sample.value;
+          given = ring.given;
+          retired = ring.retired;
+          taken = ring.taken;
+          released = ring.released;
+          shown = entries_of B.bytes ring.filled.items;
+          marks = ring.marks.items;
+          holds = ring.holds;
+          empties = ring.empties;
+        }) [] ring.filled.items
+        × (ring.places ≤ vec_capacity ring.marks) };
+}
+
+impl<B: Content + Drop> WalkerEnd<B> for ClosingRing<B> {
+    ghost use Rattle.ring_words.specs.PlainRings.{GaveBack, Stays, Took, walk_of};
+
+    ghost walk = { walk_of };
+
+    ghost took = { Took };
+
+    ghost gave_back = { GaveBack };
+
+    ghost stays = { Stays };
+
+    fn take(&mut self) -> Option<B> {
+        match self.filled.pop_front() {
+            Some(Filled { block, .. }) => {
+                self.taken += 1;
+                Some(block)
+            }
+            None => {
+                self.empties = self.empties.saturating_add(1);
+                None
+            }
+        }
+    }
+
+    fn release(&mut self, _block: B, mark: u32) {
+        self.marks.push_reserved(mark);
+        self.released += 1;
+    }
+}
+
+/// The words of free places, with room for those of all places.
+pub(crate) fn marks_of<B: Drop>(
+    alloc: Global,
+    places: usize,
+    vacant: VecDeque<Vacant<B>>,
+) -> Result<Vec<u32>, Memory>
+    ensures marks { IfOk result (λ marks. marks.items ≡ marks_of vacant.items) }
+    ensures room { IfOk result (λ marks. places ≤ vec_capacity marks) }
+{
+    let mut marks = Vec::with_capacity(alloc, places)?;
+    for place in vacant {
+        marks.push(place.mark)?;
+    }
+    Ok(marks)
+}
