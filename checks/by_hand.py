@@ -2,6 +2,7 @@
 """What ringtap's runs have to print and to save, worked out a second time and apart from its code.
 
     by_hand.py replay SETUP SCHEDULE [FOLDER]   prints the lines, and writes the files that are saved below a folder
+    by_hand.py replay2 SETUP SCHEDULE [FOLDER]  the same over rings of TPACKET_V2
     by_hand.py capture SETUP [FOLDER]           the same of a run on threads of which nothing hangs on them
     by_hand.py make SETUP [FOLDER]              the same of frames that are made from the setup's number
     by_hand.py send SETUP [FOLDER]              the same of a capture that is sent through a transmit ring
@@ -30,6 +31,7 @@ SECTION_MAGICS = {b"\x4d\x3c\x2b\x1a": "<", b"\x1a\x2b\x3c\x4d": ">"}
 DESCRIPTOR = 48  # the bytes of a block that are for its descriptor
 HEADER = 82  # the bytes of a packet before its data
 SLOT_HEADER = 48  # the bytes of a transmit slot before its data
+V2_HEADER = 66  # the bytes of a slot of TPACKET_V2 before its data
 
 Frame = namedtuple("Frame", "cpu index sec nsec wire bytes tag")
 Offer = namedtuple("Offer", "frame snap hash pkttype")
@@ -155,6 +157,18 @@ def untagged(frame):
         rest = frame.bytes[:12] + frame.bytes[16:]
         return frame._replace(wire=frame.wire - 4, bytes=rest, tag=frame.bytes[12:16])
     return frame
+
+
+def vlan_of(frame):
+    """The tag's control information and its protocol, in the order in which a packet has them."""
+    return (number(frame.tag, 2, 2), number(frame.tag, 0, 2)) if frame.tag else (0, 0)
+
+
+def address_of(offer):
+    """The `sockaddr_ll` of a packet: the address of its sender, on an Ethernet interface of index 1."""
+    data = offer.frame.bytes
+    link = struct.pack("<H", 17) + struct.pack(">H", protocol_of(data)) + struct.pack("<IHBB", 1, 1, offer.pkttype, 6)
+    return link + data[6:12] + bytes(2)
 
 
 def need_of(size):
@@ -287,6 +301,11 @@ class Ring:
         self.kept = self.drops = self.freezes = 0
         self.taken, self.sums = [], [0, 0, 0]
 
+    @staticmethod
+    def most(setup):
+        """The most bytes of a frame that a block keeps."""
+        return setup.room - HEADER
+
     def fits(self, offer):
         return self.open is not None and sum(need_of(o.snap) for o in [*self.open, offer]) <= self.room
 
@@ -361,20 +380,73 @@ class Ring:
         packets = []
         for at, offer in enumerate(offers):
             frame, need = offer.frame, need_of(offer.snap)
-            tpid, tci = (number(frame.tag, 0, 2), number(frame.tag, 2, 2)) if frame.tag else (0, 0)
             head = struct.pack(
                 "<IIIIIIHHIIHH8x",
                 need if at + 1 < len(offers) else 0, frame.sec, frame.nsec, offer.snap, frame.wire, 81 if frame.tag else 1,
-                82, 96, offer.hash if self.setup.features else 0, tci, tpid, 0,
+                82, 96, offer.hash if self.setup.features else 0, *vlan_of(frame), 0,
             )
-            link = struct.pack("<H", 17) + struct.pack(">H", protocol_of(frame.bytes)) + struct.pack("<IHBB", 1, 1, offer.pkttype, 6)
-            packets.append((head + link + frame.bytes[6:12] + bytes(2 + 14) + frame.bytes[: offer.snap]).ljust(need, b"\0"))
+            packets.append((head + address_of(offer) + bytes(14) + frame.bytes[: offer.snap]).ljust(need, b"\0"))
         begin, end = offers[0].frame, offers[-1].frame
         size = first + sum(map(len, packets))
         descriptor = struct.pack(
             "<IIIIIIQIIII", 2, 48, status, len(offers), first, size, place, begin.sec, begin.nsec, end.sec, end.nsec
         )
         return descriptor.ljust(first, b"\0") + b"".join(packets)
+
+
+class SlotRing:
+    """The ring of TPACKET_V2 with its reader: filled slots with their status, how many were released, and the statistics since
+    they were last taken. It has no timer, and nothing of it freezes."""
+
+    def __init__(self, setup):
+        self.count, self.done, self.released = setup.frame_nr, [], 0
+        self.kept = self.drops = 0
+        self.taken, self.sums = [], [0, 0, 0]
+
+    @staticmethod
+    def most(setup):
+        """The most bytes of a frame that a slot keeps."""
+        return setup.frame_size - V2_HEADER
+
+    def try_put(self, offer):
+        if len(self.done) + 1 - self.count > self.released:
+            return False
+        self.done.append((1 + 4 * (self.drops > 0) + 80 * (offer.frame.tag is not None), offer))
+        self.kept += 1
+        return True
+
+    def put(self, offer):
+        if not self.try_put(offer):
+            self.drops += 1
+
+    def tick(self, moment):
+        pass
+
+    def count_now(self):
+        now = [self.kept + self.drops, self.drops, 0]
+        self.sums = [a + b for a, b in zip(self.sums, now)]
+        self.kept = self.drops = 0
+        return now
+
+    def read(self):
+        self.released += self.released < len(self.done)
+
+    def close(self):
+        pass
+
+    def offers(self):
+        return [offer for _, offer in self.done]
+
+    def dump(self):
+        return b"".join(self.text(*slot) for slot in self.done)
+
+    @staticmethod
+    def text(status, offer):
+        frame = offer.frame
+        head = struct.pack(
+            "<IIIHHIIHH4x", status, frame.wire, offer.snap, V2_HEADER, 80, frame.sec, frame.nsec, *vlan_of(frame)
+        )
+        return head + address_of(offer) + bytes(14) + frame.bytes[: offer.snap]
 
 
 class Setup:
@@ -393,7 +465,8 @@ class Setup:
             elif not word.startswith("#"):
                 fields[word] = values[0]
         self.block_size, self.block_nr = int(fields["block_size"]), int(fields["block_nr"])
-        self.slot_room, self.skip_bad = int(fields["frame_size"]) - SLOT_HEADER, "skip_bad" in fields
+        self.frame_size, self.frame_nr = int(fields["frame_size"]), int(fields["frame_nr"])
+        self.slot_room, self.skip_bad = self.frame_size - SLOT_HEADER, "skip_bad" in fields
         self.priv, self.features = int(fields.get("priv", 0)), int(fields.get("features", 0))
         self.tov = int(fields.get("tov", 0)) or 8
         self.room = self.block_size - DESCRIPTOR - (self.priv + 7) // 8 * 8
@@ -407,9 +480,9 @@ class Setup:
 class Replay:
     """A run: its CPUs with what waits, its rings, and what was logged."""
 
-    def __init__(self, setup, captures, program):
+    def __init__(self, setup, captures, program, kind):
         self.setup, self.program, self.ticket = setup, program, 0
-        self.rings = [Ring(setup) for _ in range(setup.members)]
+        self.most, self.rings = kind.most(setup), [kind(setup) for _ in range(setup.members)]
         read = [frames_of(data, cpu) for cpu, data in enumerate(captures)]
         self.frames, self.ends = [frames for frames, _ in read], [end for _, end in read]
         self.waiting = [list(frames) for frames in self.frames]
@@ -436,7 +509,7 @@ class Replay:
         self.verdicts[cpu].append(verdict)
         if verdict == 0:
             return
-        offer = Offer(frame, min(len(frame.bytes), verdict, setup.room - HEADER), hashed, pkttype)
+        offer = Offer(frame, min(len(frame.bytes), verdict, self.most), hashed, pkttype)
         homes = {"hash": hashed, "lb": ticket, "cpu": cpu, "qm": queue, "rollover": self.present[cpu]}
         self.deliver(cpu, offer, homes[setup.mode] % setup.members)
 
@@ -493,9 +566,9 @@ class Replay:
         return saved
 
 
-def replay(setup, schedule, captures, program=None):
-    """The printed lines and the files of a run. Words behind a `#` in front are comments."""
-    run = Replay(setup, captures, program)
+def replay(setup, schedule, captures, program=None, kind=Ring):
+    """The printed lines and the files of a run over rings of a kind. Words behind a `#` in front are comments."""
+    run = Replay(setup, captures, program, kind)
     for line in schedule.splitlines():
         word, *values = line.split() or ["#"]
         if not word.startswith("#"):
@@ -591,7 +664,8 @@ def run(command, setup_path, schedule_path=None):
     if command == "make":
         return make(setup, program)
     schedule = text_of(schedule_path) if schedule_path else ""
-    return replay(setup, schedule, [bytes_of(file) for file, _ in setup.cpus], program)
+    kind = SlotRing if command == "replay2" else Ring
+    return replay(setup, schedule, [bytes_of(file) for file, _ in setup.cpus], program, kind)
 
 
 def save(folder, files):
@@ -620,7 +694,7 @@ def make_demo():
 
 
 def main(words):
-    texts = {"replay": 2, "make": 1, "send": 1, "capture": 1}.get(words[0] if words else None, 0)
+    texts = {"replay": 2, "replay2": 2, "make": 1, "send": 1, "capture": 1}.get(words[0] if words else None, 0)
     if words == ["--demo"]:
         make_demo()
     elif len(words) == 2 and words[0] == "--frames":

@@ -29,7 +29,7 @@ EXTREMES = [0, 1, 13, 14, 17, 18, 262_143, 262_144, 262_145, 2**31 - 1, 2**31, 2
 # The time that a run may take: its captures have less than 10,000 bytes, of which it needs milliseconds.
 SECONDS = 20
 
-COMMANDS = ["replay", "send", "capture"]
+COMMANDS = ["replay", "send", "capture", "replay2"]
 
 # A ring that holds all frames of a capture of less than 10,000 bytes.
 ROOMY = (65536, 16, 2048, 512)
@@ -139,9 +139,9 @@ def case_of(command, capture, numbers):
     if command == "send":
         text = setup_text(numbers.choice(SIZES)) + numbers.choice(["", "skip_bad yes\n"])
         return Case("send", text, captures=[capture])
-    if command == "replay":
+    if command in ("replay", "replay2"):
         flags = numbers.choice(["", "members 2\nflag rollover\n", "flag defrag\n", "dump yes\n"])
-        return Case("replay", setup_text(numbers.choice(SIZES)) + flags, "feed 0\nread 0\n", [capture])
+        return Case(command, setup_text(numbers.choice(SIZES)) + flags, "feed 0\nread 0\n", [capture])
     cpus = numbers.choice([1, 1, 2])
     flags = f"members {cpus}\n" + numbers.choice(["", "flag defrag\n", "dump yes\n", "workers 2\n"])
     return Case("capture", setup_text(ROOMY, cpus) + flags, captures=[capture, base("<")][:cpus])
@@ -153,7 +153,7 @@ def cases(count):
         for command in COMMANDS:
             yield case_of(command, capture, numbers)
     for at, capture in enumerate(changed(count)):
-        yield case_of(COMMANDS[at % 3], capture, numbers)
+        yield case_of(COMMANDS[at % len(COMMANDS)], capture, numbers)
 
 
 def run_share(program, share, number):

@@ -66,7 +66,7 @@ sent() {
     fi
 }
 
-usage='usage: ringtap check|replay|capture|send|make|forward CONF [SCHED]'
+usage='usage: ringtap check|replay|capture|send|make|forward|replay2 CONF [SCHED]'
 fault='cpu 0 frames 0 arrivals 0 end fault
 member 0 packets 0 drops 0 freezes 0 blocks 0
 total arrivals 0 filtered 0 kept 0 drops 0'

@@ -1,5 +1,5 @@
 #!/usr/bin/env bash
-# Refuses each request for memory of a run in turn: of a check, of a replay with a dump, of a few frames that are made, of a capture
+# Refuses each request for memory of a run in turn: of a check, of a replay with a dump, of one over slots, of a few frames that are made, of a capture
 # that is sent, and of captures on threads, without a pool of workers and with one. Every such run ends within a minute, with status 7,
 # or with the status, the lines and the files of a run with ample memory; what it saved before status 7 is what that run saves; and no
 # thread is left. On threads the number of a request may be another one at each run; what the runs here give is the same. Then each
@@ -86,6 +86,7 @@ for program in "${programs[@]}"; do
     refuse_each check two.txt
     least=20
     refuse_each replay setup.txt schedule.txt
+    refuse_each replay2 setup.txt schedule.txt
     refuse_each make make.txt
     refuse_each send setup.txt
     refuse_each capture setup.txt

@@ -1,6 +1,6 @@
 #!/usr/bin/env python3
-"""Replays captures of many kinds with a program, sends them, and has it make frames, and compares its status, lines and files
-with those of by_hand.py.
+"""Replays captures of many kinds with a program, over rings of blocks and of slots, sends them, and has it make frames, and
+compares its status, lines and files with those of by_hand.py.
 
     replays.py PROGRAM
 
@@ -95,6 +95,31 @@ def worked_cases():
         yield schedule, header() + b"".join(record(frame(size)) for size in lengths), lines, length
 
 
+# The same over a ring of four slots of 2048 bytes: a slot has one packet and keeps 1982 bytes of it. Kept, drops, slots, and
+# the length of the output.
+SLOTS_WORKED = [
+    ([60] * 6, "feed 0\n" * 5 + "read 0\n" + "feed 0\n", (5, 1, 5), 24 + 5 * 76),
+    ([3000], "", (1, 0, 1), 24 + 16 + 1982),
+    ([60] * 5, "", (4, 1, 4), 24 + 4 * 76),
+    ([60] * 5, "feed 0\nread 0\nread 0\n", (5, 0, 5), 24 + 5 * 76),
+    ([60] * 7, "feed 0\n" * 6 + "tick 1000\nread 0\n" + "feed 0\n", (5, 2, 5), 24 + 5 * 76),
+    ([13, 14], "tick 8\n", (1, 0, 1), 24 + 16 + 14),
+    ([], "read 0\n", (0, 0, 0), 24),
+]
+
+
+def slot_cases():
+    for lengths, schedule, (kept, drops, slots), length in SLOTS_WORKED:
+        arrivals = sum(size >= 14 for size in lengths)
+        lines = (
+            f"cpu 0 frames {len(lengths)} arrivals {arrivals} end ok\n"
+            f"member 0 packets {kept + drops} drops {drops} freezes 0 blocks {slots}\n"
+            f"total arrivals {arrivals} filtered 0 kept {kept} drops {drops}\n"
+        )
+        capture = header() + b"".join(record(frame(size)) for size in lengths)
+        yield Case("replay2", setup_text(SIZES[0]), schedule, [capture]), lines, length
+
+
 def large_captures():
     """One of exactly the most bytes that a capture may have, and one of a byte more."""
     whole = header() + 127 * record(frame(262_144)) + record(frame(260_072))
@@ -166,13 +191,18 @@ FILTERS = [
 ]
 
 
-def group_case(numbers):
+# Lines of a group, each there or not, and those that only rings of blocks have.
+GROUP_LINES = ("dump yes", "flag defrag", "mac 020000000002")
+BLOCK_LINES = ("features 1", "priv 13", "tov 5")
+
+
+def group_case(numbers, sizes=tuple(SIZES[:3]), further=BLOCK_LINES):
     """A setup of several CPUs and members, with its schedule, captures and filter."""
     cpus, members = numbers.randrange(1, 4), numbers.randrange(2, 5)
-    text = setup_text(numbers.choice(SIZES[:3]), cpus)
+    text = setup_text(numbers.choice(sizes), cpus)
     mode = numbers.choice(["hash", "lb", "cpu", "rollover", "qm"])
     text += f"members {members}\nmode {mode}\nkey {KEY}\n"
-    for line in ("dump yes", "flag defrag", "features 1", "priv 13", "tov 5", "mac 020000000002"):
+    for line in (*GROUP_LINES, *further):
         if numbers.random() < 0.5:
             text += line + "\n"
     if mode != "rollover" and numbers.random() < 0.5:
@@ -242,6 +272,23 @@ def makes():
     yield Case("make", LARGE)
 
 
+def slots():
+    """Replays over rings of TPACKET_V2: of one member and of groups, with slots that are small, and of the most slots."""
+    for case, _, _ in slot_cases():
+        yield case
+    for capture in small_captures():
+        for size in SLOTS[:4]:
+            yield Case("replay2", setup_text(size) + "dump yes\n", "feed 0\nread 0\nfeed 0\nfeed 0\n", [capture])
+    numbers = random.Random(4)
+    for _ in range(100):
+        text = setup_text(numbers.choice(SLOTS)) + numbers.choice(["", "dump yes\n"])
+        yield Case("replay2", text, random_schedule(numbers), [random_capture(numbers)])
+    for _ in range(200):
+        yield Case("replay2", *group_case(numbers, SLOTS[:4], ()))
+    yield Case("replay2", setup_text((1_048_576, 4, 64 * 1024, 64)), "", [next(large_captures())])
+    yield Case("replay2", setup_text((1_048_576, 64, 1024, 65_536)) + "dump yes\n", "", [random_capture(numbers)])
+
+
 # The largest number of made frames.
 LARGE = (
     "block_size 65536\nblock_nr 64\nframe_size 2048\nframe_nr 2048\npriv 16\ncpu a\ncpu b\nmembers 4\nmode hash\n"
@@ -262,6 +309,7 @@ def cases():
         yield Case("replay", setup_text(numbers.choice(SIZES)), random_schedule(numbers), [random_capture(numbers)])
     for _ in range(200):
         yield Case("replay", *group_case(numbers))
+    yield from slots()
     yield from sends()
     yield from makes()
 
@@ -280,7 +328,7 @@ def by_hand_differs():
         if printed != lines or len(files["out.0.pcap"]) != length:
             wrong += 1
             print(f"by_hand.py gives {printed!r} in place of {lines!r}")
-    for case, lines, length in sent_cases():
+    for case, lines, length in [*slot_cases(), *sent_cases()]:
         printed, files = worked_out(case)
         if printed != lines or [len(data) for data in files.values()] != [length]:
             wrong += 1
@@ -299,7 +347,8 @@ def worked_out(case):
         return by_hand.send(setup, case.captures[0])
     if case.command == "make":
         return by_hand.make(setup, code)
-    return by_hand.replay(setup, case.schedule, case.captures, code)
+    kind = by_hand.SlotRing if case.command == "replay2" else by_hand.Ring
+    return by_hand.replay(setup, case.schedule, case.captures, code, kind)
 
 
 def differs(program, case, seconds=None):
@@ -312,7 +361,7 @@ def differs(program, case, seconds=None):
     if case.listing:
         inputs["filter.ddd"] = case.listing.encode()
     words = [case.command, "conf"]
-    if case.command == "replay":
+    if case.command in ("replay", "replay2"):
         inputs["sched"] = case.schedule.encode()
         words.append("sched")
     by_hand.save(".", inputs)

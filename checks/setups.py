@@ -11,6 +11,7 @@ WORDS_HEAD = "| Line | Its value | Without it |"
 LINES_HEAD = "| Lines | Answer |"
 RINGS_HEAD = "| Ring | Answer |"
 COMMANDS_HEAD = "| Command | Lines | Answer |"
+COMMAND_RINGS_HEAD = "| Command | Ring | Answer |"
 TEXTS_HEAD = "| Text | Answer |"
 NEEDED = ["block_size", "block_nr", "frame_size", "frame_nr", "cpu"]
 MOST = 1_048_576
@@ -114,11 +115,12 @@ def refused_rings(needed, rows):
         check(cell, 2, line_of("setup", answer), lines_of(cell) + needed[-1:])
 
 
-def refused_by_commands(needed, rows):
-    """The lines that a command refuses after what is needed."""
+def refused_by_commands(lines, rows):
+    """The setups that a command refuses, each of the lines that this gives for a cell."""
     for command, cell, answer in rows:
-        setup = ("\n".join(needed + lines_of(cell)) + "\n").encode()
-        words = [lines_of(command)[0], "conf"]
+        setup = ("\n".join(lines(lines_of(cell))) + "\n").encode()
+        word = lines_of(command)[0]
+        words = [word, "conf", "sched"] if word == "replay2" else [word, "conf"]
         expect(f"{command} {cell}", 2, line_of("setup", answer), words, {"conf": setup})
 
 
@@ -154,7 +156,8 @@ accepted(words)
 measured(needed)
 refused(needed, rows_below(text, LINES_HEAD))
 refused_rings(needed, rows_below(text, RINGS_HEAD))
-refused_by_commands(needed, rows_below(text, COMMANDS_HEAD))
+refused_by_commands(lambda lines: needed + lines, rows_below(text, COMMANDS_HEAD))
+refused_by_commands(lambda lines: lines + needed[-1:], rows_below(text, COMMAND_RINGS_HEAD))
 other_texts(needed, rows_below(text, TEXTS_HEAD))
 print(f"{answers} answers, {failures} wrong")
 sys.exit(failures > 0)

@@ -219,7 +219,7 @@ fn members_send_what_they_read(rt: HostRuntime) -> Result<(), Fail> {
 static UNKNOWN: Row<'static> = Row {
     words: FORWARD,
     status: "1 Usage",
-    printed: "usage: ringtap check|replay|capture|send|make|forward CONF [SCHED]\n",
+    printed: "usage: ringtap check|replay|capture|send|make|forward|replay2 CONF [SCHED]\n",
     cpus: &[],
     members: &[],
     absent: &["out.0.pcap", "out.0.tx.pcap"],

@@ -81,6 +81,32 @@ const REPLAY: Command = Command {
     saves: &["out.0.pcap", "out.0.blk", "out.1.pcap", "out.1.blk"],
 };
 
+/// The same three frames over rings of TPACKET_V2. A slot has 66 bytes before the frame.
+const REPLAY2: Command = Command {
+    row: Row {
+        name: "replay2",
+        words: &["replay2", "conf", "sched"],
+        printed: "cpu 0 frames 3 arrivals 3 end ok\n\
+                  member 0 packets 2 drops 0 freezes 0 blocks 2\n\
+                  member 1 packets 1 drops 0 freezes 0 blocks 1\n\
+                  total arrivals 3 filtered 0 kept 3 drops 0\n",
+        members: &[
+            Kept {
+                frames: &[(0, 60), (2, 60)],
+                blocks: &[(1, 126), (1, 126)],
+                notes: "nn.",
+            },
+            Kept {
+                frames: &[(1, 60)],
+                blocks: &[(1, 126)],
+                notes: "n.",
+            },
+        ],
+        ..REPLAY.row
+    },
+    ..REPLAY
+};
+
 /// Five made frames of 1261, 495, 404, 474 and 747 bytes, for two CPUs by turns, none of which
 /// passes the filter. The setup has 117 bytes and the filter 10.
 const MAKE: Command = Command {
@@ -127,4 +153,4 @@ pub(crate) const SEND: Command = Command {
     saves: &["out.tx.pcap"],
 };
 
-pub(crate) static COMMANDS: [Command; 4] = [CHECK, REPLAY, MAKE, SEND];
+pub(crate) static COMMANDS: [Command; 5] = [CHECK, REPLAY, REPLAY2, MAKE, SEND];

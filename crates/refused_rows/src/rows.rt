@@ -4,7 +4,7 @@ use run_building::{Faults, NO_FAULT, NO_FRAME, NOTHING, Row, difference};
 use std::alloc::Global;
 use std::test::Fail;
 
-const USAGE: &str = "usage: ringtap check|replay|capture|send|make|forward CONF [SCHED]\n";
+const USAGE: &str = "usage: ringtap check|replay|capture|send|make|forward|replay2 CONF [SCHED]\n";
 
 const CHECK: &[&str] = &["check", "conf"];
 

@@ -70,19 +70,38 @@ pub(crate) fn sent(alloc: Global, shapes: &[Shape<'_>], numbers: &[u8]) -> Resul
     Ok(bytes)
 }
 
-/// Whether a dump is made of blocks of these statuses and lengths, one after the other.
-pub(crate) fn is_dump_of(dump: &[u8], blocks: &[(u32, u32)]) -> bool {
+/// What a dump is made of.
+#[derive(Clone, Copy)]
+pub(crate) enum Parts {
+    /// Blocks of TPACKET_V3.
+    Blocks,
+    /// Slots of TPACKET_V2, each up to the end of its packet.
+    Slots,
+}
+
+/// Whether a dump is made of parts of these statuses and lengths, one after the other.
+pub(crate) fn is_dump_of(dump: &[u8], parts: Parts, all: &[(u32, u32)]) -> bool {
     let mut rest = dump;
-    for (status, length) in blocks {
-        let Some((block, tail)) = rest.split_at_checked(*length as usize) else {
+    for (status, length) in all {
+        let Some((part, tail)) = rest.split_at_checked(*length as usize) else {
             return false;
         };
-        if !has_at(block, 8, &status.to_le_bytes()) || !has_at(block, 20, &length.to_le_bytes()) {
+        if !is_part(part, parts, *status, *length) {
             return false;
         }
         rest = tail;
     }
     rest.is_empty()
+}
+
+/// Whether a part has this status and this length: a block's own, or 66 bytes before those that a
+/// slot keeps.
+fn is_part(part: &[u8], parts: Parts, status: u32, length: u32) -> bool {
+    let (status_at, length_at, said) = match parts {
+        Parts::Blocks => (8, 20, length),
+        Parts::Slots => (0, 8, length.saturating_sub(66)),
+    };
+    has_at(part, status_at, &status.to_le_bytes()) && has_at(part, length_at, &said.to_le_bytes())
 }
 
 /// Whether these bytes stand at a place.

@@ -1,5 +1,5 @@
 //! The files and the report that a row says.
-use crate::captures::{capture_bytes, has_at, is_dump_of, output, sent};
+use crate::captures::{Parts, capture_bytes, has_at, is_dump_of, output, sent};
 use crate::rows::{Capture, Kept, NO_FRAME, Row, Shape};
 use frame_view::Memory;
 use std::alloc::Global;
@@ -65,10 +65,20 @@ fn holds(row: &Row<'_>, files: &MemStore, name: &str, bytes: &[u8]) -> bool {
     }
 }
 
+/// What the dumps of a row's command are made of.
+fn parts_of(row: &Row<'_>) -> Parts {
+    match row.words.first() {
+        Some(word) if *word == "replay2" => Parts::Slots,
+        _ => Parts::Blocks,
+    }
+}
+
 /// Whether a member's dump is there exactly where the row asks for it, and is made of its blocks.
 fn holds_dump(row: &Row<'_>, files: &MemStore, name: &str, blocks: &[(u32, u32)]) -> bool {
     match files.file(name.as_bytes()) {
-        Some(dump) => row.dump && !row.absent.contains(&name) && is_dump_of(dump, blocks),
+        Some(dump) => {
+            row.dump && !row.absent.contains(&name) && is_dump_of(dump, parts_of(row), blocks)
+        }
         None => !row.dump || row.absent.contains(&name),
     }
 }

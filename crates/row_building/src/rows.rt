@@ -48,7 +48,7 @@ pub struct Faults<'a> {
 pub struct Kept<'a> {
     /// The frames that its output file holds, by number, each with how many of its bytes.
     pub frames: &'a [(u8, u16)],
-    /// The status and the length of each block of its dump.
+    /// The status and the length of each block of its dump, or of each slot.
     pub blocks: &'a [(u32, u32)],
     /// The letters of its notes.
     pub notes: &'a str,

@@ -219,6 +219,7 @@ fn reads_made_frames_and_skip_bad(rt: HostRuntime) -> Result<(), Memory> {
         Command::Send,
         Command::Make,
         Command::Forward,
+        Command::Replay2,
     ] {
         let text = shown(rt.alloc(), MADE, command)?;
         let end = "dump false skip true\nmake 1 20000\nworkers 0\n";

@@ -4,12 +4,13 @@ use frame_view::Memory;
 use setup_text::Command;
 
 /// A command, lines after the five that are needed, and what it finds of the lines together.
-static TOGETHER: [(Command, &str, &str); 28] = [
+static TOGETHER: [(Command, &str, &str); 34] = [
     (Command::Check, "", ""),
     (Command::Replay, "", ""),
     (Command::Capture, "", ""),
     (Command::Send, "", ""),
     (Command::Forward, "", ""),
+    (Command::Replay2, "", ""),
     // only `Make` needs its line, before a fault of the ring or of the group
     (Command::Make, "", "setup line 0: missing make\n"),
     (
@@ -34,7 +35,7 @@ static TOGETHER: [(Command, &str, &str); 28] = [
         "setup line 0: group no_member\n",
     ),
     (Command::Make, "make 1 5\n", ""),
-    // only `Send` asks for a ring without a time-out, a private area and a feature
+    // only `Send` and `Replay2` ask for a ring without a time-out, a private area and a feature
     (Command::Send, "tov 8\n", "setup line 0: request transmit\n"),
     (
         Command::Send,
@@ -92,6 +93,31 @@ static TOGETHER: [(Command, &str, &str); 28] = [
         "members 0\n",
         "setup line 0: group no_member\n",
     ),
+    (
+        Command::Replay2,
+        "tov 8\n",
+        "setup line 0: request transmit\n",
+    ),
+    (
+        Command::Replay2,
+        "priv 16\n",
+        "setup line 0: request transmit\n",
+    ),
+    (
+        Command::Replay2,
+        "features 1\n",
+        "setup line 0: request transmit\n",
+    ),
+    (
+        Command::Replay2,
+        "priv 1025\n",
+        "setup line 0: request private\n",
+    ),
+    (
+        Command::Replay2,
+        "members 0\n",
+        "setup line 0: group no_member\n",
+    ),
 ];
 
 #[test]
@@ -115,6 +141,7 @@ fn misses_a_cpu_for_each_command(rt: HostRuntime) -> Result<(), Memory> {
         Command::Send,
         Command::Make,
         Command::Forward,
+        Command::Replay2,
     ] {
         let answer = setup_answer(rt.alloc(), WITHOUT_CPU.as_bytes(), command)?;
         assert_eq!(rt;
@@ -122,6 +149,29 @@ fn misses_a_cpu_for_each_command(rt: HostRuntime) -> Result<(), Memory> {
             "setup line 0: missing cpu\n",
             "{command:?}"
         );
+    }
+    Ok(())
+}
+
+/// Rings of 65,536 slots and of more, and what `Replay2` answers.
+static SLOTS: [(&str, &str); 2] = [
+    (
+        "block_size 1048576\nblock_nr 64\nframe_size 1024\nframe_nr 65536\ncpu a.pcap\n",
+        "",
+    ),
+    (
+        "block_size 1048576\nblock_nr 64\nframe_size 80\nframe_nr 838848\ncpu a.pcap\n",
+        "setup line 0: request slots\n",
+    ),
+];
+
+#[test]
+fn counts_the_slots_of_a_ring_of_tpacket_v2(rt: HostRuntime) -> Result<(), Memory> {
+    for (setup, fault) in &SLOTS {
+        let answer = setup_answer(rt.alloc(), setup.as_bytes(), Command::Replay2)?;
+        assert_eq!(rt; answer.as_str(), *fault, "{setup}");
+        let blocks = setup_answer(rt.alloc(), setup.as_bytes(), Command::Replay)?;
+        assert_eq!(rt; blocks.as_str(), "", "{setup}");
     }
     Ok(())
 }

@@ -15,7 +15,7 @@ use Rattle.fanout_group.specs.declared.runs.CpuLog.{CpuLog}
 use Rattle.setup_text.specs.Filters.{filter_of}
 use Rattle.setup_text.specs.Moments.{moments_of}
 use Rattle.setup_text.specs.declared.commands.Command.{Command}
-use Rattle.setup_text.specs.declared.commands.Command.TheVariants.{Capture, Check, Forward, Make, Replay, Send}
+use Rattle.setup_text.specs.declared.commands.Command.TheVariants.{Capture, Check, Forward, Make, Replay, Replay2, Send}
 use Rattle.setup_text.specs.declared.cpu_setups.CpuSetup.{CpuSetup}
 use Rattle.setup_text.specs.declared.jobs.Job.{Job}
 use Rattle.setup_text.specs.declared.reports.RunReport.{RunReport}
@@ -27,9 +27,9 @@ use Rattle.tap_outside.specs.Seen.{SinkSeen, StoreSeen}
 use Rattle.tap_reading.specs.Readers.{Says, setup_for}
 use Rattle.capture_reading.specs.Sources.{UnlessFault, WhereEnded, end_by}
 use Rattle.tap_saving.specs.Saving.{marked}
-use Rattle.tap_engine.specs.Commands.{Named}
+use Rattle.tap_engine.specs.Commands.{Named, has_schedule, rings_of}
 use Rattle.tap_engine.specs.Complete.{AreSoundLast, AreSoundTicks, AreWhole, IsComplete, IsSound}
-use Rattle.tap_engine.specs.Complete.{IsSoundFilter, NothingFails, text_in}
+use Rattle.tap_engine.specs.Complete.{IsSoundFilter, IsSoundSchedule, NothingFails, text_in}
 use Rattle.tap_engine.specs.Conclusions.{IsDone, IsFailed, IsPrinted, Tells}
 use Rattle.tap_engine.specs.Findings.{IsFound, fault_at, faults_in, lines_of, report_in}
 use Rattle.tap_engine.specs.Findings.{status_by_end, status_of, status_of_logs}
@@ -57,14 +57,14 @@ worth_in old new None finding.Unread h = absurd h
 worth_in old new None (finding.BadSetup error) h = absurd h
 worth_in old new None (finding.BadText error) h = absurd h
 worth_in old new None finding.Checked h = absurd h
-worth_in old new None (finding.Ran setup report forwards) h = absurd h
+worth_in old new None (finding.Ran rings setup report forwards) h = absurd h
 worth_in old new None (finding.Sent setup sending) h = absurd h
 worth_in old new (Some named) finding.NoCommand h = absurd h
 worth_in old new (Some named) finding.Unread h = tt
 worth_in old new (Some named) (finding.BadSetup error) h = tt
 worth_in old new (Some named) (finding.BadText error) h = tt
 worth_in old new (Some named) finding.Checked h = tt
-worth_in old new (Some named) (finding.Ran setup report forwards) h = (named, refl, h.0.headline)
+worth_in old new (Some named) (finding.Ran rings setup report forwards) h = (named, refl, h.0.headline)
 worth_in old new (Some named) (finding.Sent setup sending) h = tt
 
 pub worth_of : (command : Option Named) (outcome : Outcome) (old new : StoreSeen)
@@ -141,12 +141,24 @@ last_of files named sound command setup is has =
     (the_setup files named sound setup has)
     (subst (λ (c : Command). AreSoundLast c files named.schedule sound.setup) is sound.last)
 
+sound_schedule : (command : Command) (files : Contents) (name : List ℕ) (setup : Setup)
+    → has_schedule command ≡ true → AreSoundLast command files name setup
+    → IsSoundSchedule files name setup
+sound_schedule Replay files name setup is sound = sound.0
+sound_schedule Replay2 files name setup is sound = sound.0
+sound_schedule Check files name setup is sound = cc
+sound_schedule Capture files name setup is sound = cc
+sound_schedule Forward files name setup is sound = cc
+sound_schedule Send files name setup is sound = cc
+sound_schedule Make files name setup is sound = cc
+
 no_schedule : (files : Contents) (old new : StoreSeen) (named : Named) (error : TextError)
     → old.held ≡ Some files → IsSound files named
     → HasBadSchedule old new named error → ⊥
 no_schedule files old new named error held sound h =
-    let schedule = (last_of files named sound Replay h.job.setup h.command
-    (subst (λ (o : Option Contents). HasSetup o named h.job.setup) held h.has.setup)).0 in
+    let schedule = sound_schedule named.command files named.schedule h.job.setup h.command
+    (last_of files named sound named.command h.job.setup refl
+    (subst (λ (o : Option Contents). HasSetup o named h.job.setup) held h.has.setup)) in
     not_both (lines_for h.job) files named.schedule schedule.0 error
     (schedules (length h.job.setup.cpus) h.job.setup.plan.members) schedule.1
     (subst (λ (o : Option Contents). Says (lines_for h.job) o named.schedule (Err error)) held
@@ -280,6 +292,9 @@ fine_captures files named setup bytes ends logs Make sound is has captures are n
 fine_captures files named setup bytes ends logs Replay sound is has captures are none =
     fine_logs files setup.cpus 0 bytes ends logs captures are
     (last_of files named sound Replay setup is has).1 none
+fine_captures files named setup bytes ends logs Replay2 sound is has captures are none =
+    fine_logs files setup.cpus 0 bytes ends logs captures are
+    (last_of files named sound Replay2 setup is has).1 none
 fine_captures files named setup bytes ends logs Capture sound is has captures are none =
     fine_logs files setup.cpus 0 bytes ends logs captures are
     (last_of files named sound Capture setup is has) none
@@ -295,7 +310,7 @@ fine_report : (files : Contents) (named : Named) (report : RunReport) → IsSoun
 fine_report files named report sound h none =
     fine_captures files named h.job.setup h.bytes h.ends report.cpus named.command sound refl
     h.job_is.setup h.captures
-    (report_ends h.job h.bytes h.ends report h.report_is) none
+    (report_ends (rings_of named.command) h.job h.bytes h.ends report h.report_is) none
 
 -- the first capture is whole, where it is sent
 first_whole : (files : Contents) (named : Named) (setup : Setup) (job : Job) → IsSound files named
@@ -339,7 +354,7 @@ fine_found files named old new (finding.BadSetup error) is sound sane h =
 fine_found files named old new (finding.BadText error) is sound sane h =
     absurd (no_text files old new named error is sound h)
 fine_found files named old new finding.Checked is sound sane h = refl
-fine_found files named old new (finding.Ran setup report forwards) is sound sane h =
+fine_found files named old new (finding.Ran rings setup report forwards) is sound sane h =
     fine_report files named report sound (subst (λ (o : Option Contents). IsHeadline o named report)
     is h.0.headline)
     (none_rose (faults_in report.cpus) old.read_faults new.read_faults sane h.1)

@@ -144,7 +144,7 @@ no_want finding.Unread e = cc
 no_want (finding.BadSetup error) e = cc
 no_want (finding.BadText error) e = cc
 no_want finding.Checked e = cc
-no_want (finding.Ran setup report forwards) e = logs_no_want 0 report.cpus e
+no_want (finding.Ran rings setup report forwards) e = logs_no_want 0 report.cpus e
 no_want (finding.Sent setup sending) e = by_end_no_want 0 sending.end statuses.Fine fine_no_want e
 
 fault_no_want : statuses.WriteFault ≢ statuses.Memory

@@ -1,11 +1,19 @@
 -- The ends of a report's logs are those of its captures.
-use Rattle.std.proofs.Common.{◌≡◌, ℕ, suc, ◌+◌, List, [], ◌∷◌, length, refl, ap}
+use Rattle.std.proofs.Common.{◌≡◌, ℕ, suc, ◌+◌, List, [], ◌∷◌, length, refl, sym, ap, ◌∙◌}
+use Rattle.std.proofs.lemmas.List.{length-map}
 use Rattle.capture_file.specs.declared.cpu_end.CpuEnd.{CpuEnd}
 use Rattle.fanout_group.specs.declared.runs.CpuLog.{CpuLog}
 use Rattle.run_reports.specs.Logs.{AreLogsFrom}
-use Rattle.run_reports.specs.Reports.{IsRunReport}
+use Rattle.run_reports.specs.Jobs.{arriving_of, rules_of}
+use Rattle.run_reports.specs.Members.{AreShort}
+use Rattle.run_reports.specs.Once.{EachArrivalStandsOnce}
+use Rattle.run_reports.specs.Reports.{logged, notes_of}
 use Rattle.setup_text.specs.declared.jobs.Job.{Job}
+use Rattle.setup_text.specs.declared.reports.MemberReport.{MemberReport}
 use Rattle.setup_text.specs.declared.reports.RunReport.{RunReport}
+use Rattle.tap_printing.specs.declared.ring_kind.RingKind.{RingKind}
+use Rattle.tap_printing.specs.declared.ring_kind.RingKind.TheVariants.{Blocks, Slots}
+use Rattle.tap_engine.specs.Headline.{IsReportBy}
 
 -- each log ended so
 abbrev pub AreEnds : List CpuLog → List CpuEnd → Type 0
@@ -26,10 +34,34 @@ ends_of cpu (b ∷ bytes) (end ∷ ends) (log ∷ logs) are = (
       logs are.1,
 )
 
-pub report_ends : (job : Job) (bytes : List (List ℕ)) (ends : List CpuEnd) (report : RunReport)
-    → IsRunReport job bytes ends report
+pub report_ends : (rings : RingKind) (job : Job) (bytes : List (List ℕ)) (ends : List CpuEnd)
+    (report : RunReport) → IsReportBy rings job bytes ends report
     → AreEnds report.cpus ends
-report_ends job bytes ends report is = ends_of 0 bytes ends report.cpus is.logs
+report_ends Blocks job bytes ends report is = ends_of 0 bytes ends report.cpus is.logs
+report_ends Slots job bytes ends report is = ends_of 0 bytes ends report.cpus is.logs
+
+-- there are as many members as the setup says
+pub report_members : (rings : RingKind) (job : Job) (bytes : List (List ℕ)) (ends : List CpuEnd)
+    (report : RunReport) → IsReportBy rings job bytes ends report
+    → length report.members ≡ job.setup.plan.members
+report_members Blocks job bytes ends report is =
+    sym (length-map report.members (λ (member : MemberReport). member.notes)) ∙ is.group.count
+report_members Slots job bytes ends report is =
+    sym (length-map report.members (λ (member : MemberReport). member.notes)) ∙ is.group.count
+
+-- each arrival that passes stands once
+pub report_once : (rings : RingKind) (job : Job) (bytes : List (List ℕ)) (ends : List CpuEnd)
+    (report : RunReport) → IsReportBy rings job bytes ends report
+    → EachArrivalStandsOnce (rules_of job) (logged (arriving_of job bytes) report.cpus)
+    (notes_of report.members)
+report_once Blocks job bytes ends report is = is.once
+report_once Slots job bytes ends report is = is.once
+
+-- and the packets are short enough for an output file
+pub report_short : (rings : RingKind) (job : Job) (bytes : List (List ℕ)) (ends : List CpuEnd)
+    (report : RunReport) → IsReportBy rings job bytes ends report → AreShort report.members
+report_short Blocks job bytes ends report is = is.short
+report_short Slots job bytes ends report is = is.short
 
 pub as_many_logs : (logs : List CpuLog) (ends : List CpuEnd) → AreEnds logs ends
     → length logs ≡ length ends

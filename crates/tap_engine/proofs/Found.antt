@@ -8,10 +8,9 @@ use Rattle.setup_text.specs.Answers.{is_setup_want, is_text_want}
 use Rattle.setup_text.specs.Filters.{filter_of}
 use Rattle.setup_text.specs.Moments.{moments_of}
 use Rattle.setup_text.specs.declared.commands.Command.{Command}
-use Rattle.setup_text.specs.declared.commands.Command.TheVariants.{Capture, Check, Forward, Make, Replay, Send}
+use Rattle.setup_text.specs.declared.commands.Command.TheVariants.{Capture, Check, Forward, Make, Replay, Replay2, Send}
 use Rattle.setup_text.specs.declared.jobs.Job.{Job}
 use Rattle.setup_text.specs.declared.reports.Forwards.{Forwards}
-use Rattle.setup_text.specs.declared.reports.MemberReport.{MemberReport}
 use Rattle.setup_text.specs.declared.reports.RunReport.{RunReport}
 use Rattle.setup_text.specs.declared.setups.Setup.{Setup}
 use Rattle.setup_text.specs.declared.text_error.TextError.{TextError}
@@ -21,7 +20,7 @@ use Rattle.tap_reading.specs.Readers.{Refuses, Says, StopsAtSetup, StopsAtText, 
 use Rattle.tap_reading.specs.declared.stops.Stop.{Stop}
 use Rattle.tap_reading.specs.declared.stops.Stop.TheVariants as stops
 use Rattle.tap_saving.specs.Files.{names_from}
-use Rattle.tap_engine.specs.Commands.{Named, sends}
+use Rattle.tap_engine.specs.Commands.{Named, has_schedule, rings_of, sends}
 use Rattle.tap_engine.specs.Findings.{IsFound, IsReady, IsReported, IsSentBy, fault_at, faults_in}
 use Rattle.tap_engine.specs.Findings.{finding_of, names_of}
 use Rattle.tap_engine.specs.Headline.{CapturesFor, IsHeadline}
@@ -31,9 +30,9 @@ use Rattle.tap_engine.specs.Conclusions.{IsCut, IsSearched}
 use Rattle.tap_engine.specs.Sendings.{IsSent}
 use Rattle.tap_engine.specs.declared.findings.Finding.{Finding}
 use Rattle.tap_engine.specs.declared.findings.Finding.TheVariants as finding
-use Rattle.std.proofs.lemmas.List.{length-map}
 use Rattle.tap_engine.specs.Names.{AreMeant, AreMeantToRead, AreMeantToSave, filter_for}
 use Rattle.tap_engine.specs.Names.{names_to_read, saved_for, ticks_for}
+use Rattle.tap_engine.proofs.Ends.{report_members}
 use Rattle.tap_engine.proofs.Fetched.{held_same, rose_earlier, to_read_same, to_save_same}
 use Rattle.tap_engine.proofs.Fetched.{unfailed_then}
 use Rattle.tap_engine.proofs.Meant.{AllMeant, Untold, outputs_meant}
@@ -94,7 +93,7 @@ at_ticks old new name stops.Memory h named job has is = inl h
 
 pub at_schedule : (old new : StoreSeen) (named : Named) (job : Job) (stop : Stop)
     → StopsAtText (lines_for job) old new named.schedule stop → HasJob old.held named job
-    → named.command ≡ Replay
+    → has_schedule named.command ≡ true
     → Stops old new named stop
 at_schedule old new named job stops.Unread h has command = h
 at_schedule old new named job (stops.Setup error) h has command = absurd h
@@ -175,11 +174,12 @@ found_earlier old mid new named (finding.BadText error) before h =
     bad_text_earlier old mid new named error before h
 found_earlier old mid new named finding.Checked before h =
     subst (λ (held : Option Contents). IsChecked held named) (held_same old mid before.only) h
-found_earlier old mid new named (finding.Ran setup report forwards) before h = (
+found_earlier old mid new named (finding.Ran rings setup report forwards) before h = (
   subst (λ (held : Option Contents). IsReported held named setup report)
       (held_same old mid before.only) h.0,
   rose_earlier (faults_in report.cpus) old mid new before.only h.1,
   h.2,
+  h.3,
 )
 found_earlier old mid new named (finding.Sent setup sending) before h = (
   subst (λ (held : Option Contents). IsSent held named setup sending)
@@ -226,8 +226,7 @@ members_count : (held : Option Contents) (named : Named) (report : RunReport)
     (h : IsHeadline held named report)
     → length report.members ≡ h.job.setup.plan.members
 members_count held named report h =
-    sym (length-map report.members (λ (member : MemberReport). member.notes))
-    ∙ h.report_is.group.count
+    report_members (rings_of named.command) h.job h.bytes h.ends report h.report_is
 
 run_saves : (command : Command) (held : Option Contents) (setup : Setup) (bytes : List (List ℕ))
     (ends : List CpuEnd)
@@ -236,6 +235,7 @@ run_saves : (command : Command) (held : Option Contents) (setup : Setup) (bytes 
 run_saves Check held setup bytes ends h = absurd h
 run_saves Make held setup bytes ends h = refl
 run_saves Replay held setup bytes ends h = refl
+run_saves Replay2 held setup bytes ends h = refl
 run_saves Capture held setup bytes ends h = refl
 run_saves Forward held setup bytes ends h = refl
 run_saves Send held setup bytes ends h = absurd h
@@ -271,14 +271,14 @@ saves_meant old new None finding.Unread untold all h = absurd h
 saves_meant old new None (finding.BadSetup error) untold all h = absurd h
 saves_meant old new None (finding.BadText error) untold all h = absurd h
 saves_meant old new None finding.Checked untold all h = absurd h
-saves_meant old new None (finding.Ran setup report forwards) untold all h = absurd h
+saves_meant old new None (finding.Ran rings setup report forwards) untold all h = absurd h
 saves_meant old new None (finding.Sent setup sending) untold all h = absurd h
 saves_meant old new (Some named) finding.NoCommand untold all h = absurd h
 saves_meant old new (Some named) finding.Unread untold all h = tt
 saves_meant old new (Some named) (finding.BadSetup error) untold all h = tt
 saves_meant old new (Some named) (finding.BadText error) untold all h = tt
 saves_meant old new (Some named) finding.Checked untold all h = tt
-saves_meant old new (Some named) (finding.Ran setup report forwards) untold all h =
+saves_meant old new (Some named) (finding.Ran rings setup report forwards) untold all h =
     let head = h.0.headline in
     subst (λ (names : List (List ℕ)). AllMeant old.to_save names)
     (report_names old.held named setup report forwards h.0 h.2)

@@ -12,13 +12,13 @@ use Rattle.capture_file.proofs.Damage.{end_not_memory}
 use Rattle.capture_reading.specs.Sources.{UnlessFault, end_by}
 use Rattle.fanout_group.specs.declared.runs.CpuLog.{CpuLog}
 use Rattle.setup_text.specs.declared.commands.Command.{Command}
-use Rattle.setup_text.specs.declared.commands.Command.TheVariants.{Capture, Check, Forward, Make, Replay, Send}
+use Rattle.setup_text.specs.declared.commands.Command.TheVariants.{Capture, Check, Forward, Make, Replay, Replay2, Send}
 use Rattle.setup_text.specs.declared.cpu_setups.CpuSetup.{CpuSetup}
 use Rattle.setup_text.specs.declared.reports.RunReport.{RunReport}
 use Rattle.setup_text.specs.declared.setups.Setup.{Setup}
 use Rattle.tap_outside.specs.Contents.{Contents}
 use Rattle.tap_outside.specs.Seen.{SinkSeen, StoreSeen}
-use Rattle.tap_engine.specs.Commands.{Named}
+use Rattle.tap_engine.specs.Commands.{Named, rings_of}
 use Rattle.tap_engine.specs.Conclusions.{IsDone, IsFailed, Tells}
 use Rattle.tap_engine.specs.Findings.{IsFound, report_in, status_by_end, status_of, status_of_logs}
 use Rattle.tap_engine.specs.Headline.{AreCaptures, CapturesFor, IsHeadline}
@@ -72,6 +72,8 @@ run_ends Make held setup bytes ends logs captures are =
     whole_ends bytes logs (subst (λ (es : List CpuEnd). AreEnds logs es) captures.whole are)
 run_ends Replay held setup bytes ends logs captures are = ends_of held setup.cpus bytes ends logs
     captures are
+run_ends Replay2 held setup bytes ends logs captures are = ends_of held setup.cpus bytes ends logs
+    captures are
 run_ends Capture held setup bytes ends logs captures are = ends_of held setup.cpus bytes ends logs
     captures are
 run_ends Forward held setup bytes ends logs captures are = ends_of held setup.cpus bytes ends logs
@@ -83,7 +85,7 @@ report_of_texts : (held : Option Contents) (named : Named) (report : RunReport)
     → AllByRecursion (λ log. IsOfCapture log.end) report.cpus
 report_of_texts held named report h =
     run_ends named.command held h.job.setup h.bytes h.ends report.cpus h.captures
-    (report_ends h.job h.bytes h.ends report h.report_is)
+    (report_ends (rings_of named.command) h.job h.bytes h.ends report h.report_is)
 
 -- ---- the status
 
@@ -113,7 +115,7 @@ found_of_texts old new None finding.Unread h = absurd h
 found_of_texts old new None (finding.BadSetup error) h = absurd h
 found_of_texts old new None (finding.BadText error) h = absurd h
 found_of_texts old new None finding.Checked h = absurd h
-found_of_texts old new None (finding.Ran setup report forwards) h = absurd h
+found_of_texts old new None (finding.Ran rings setup report forwards) h = absurd h
 found_of_texts old new None (finding.Sent setup sending) h = absurd h
 found_of_texts old new (Some named) finding.NoCommand h = absurd h
 found_of_texts old new (Some named) finding.Unread h = tt
@@ -124,7 +126,7 @@ found_of_texts old new (Some named) (finding.BadText error) (inr (inl ticks)) =
 found_of_texts old new (Some named) (finding.BadText error) (inr (inr schedule)) =
     schedule.refused.not_memory
 found_of_texts old new (Some named) finding.Checked h = tt
-found_of_texts old new (Some named) (finding.Ran setup report forwards) h =
+found_of_texts old new (Some named) (finding.Ran rings setup report forwards) h =
     by_logs 0 report.cpus (report_of_texts old.held named report h.0.headline)
 found_of_texts old new (Some named) (finding.Sent setup sending) h =
     by_end 0 sending.end statuses.Fine (end_of_capture h.0.sending_is.bytes sending.end
@@ -138,14 +140,14 @@ found_ends old new None finding.Unread h = tt
 found_ends old new None (finding.BadSetup error) h = tt
 found_ends old new None (finding.BadText error) h = tt
 found_ends old new None finding.Checked h = tt
-found_ends old new None (finding.Ran setup report forwards) h = absurd h
+found_ends old new None (finding.Ran rings setup report forwards) h = absurd h
 found_ends old new None (finding.Sent setup sending) h = tt
 found_ends old new (Some named) finding.NoCommand h = tt
 found_ends old new (Some named) finding.Unread h = tt
 found_ends old new (Some named) (finding.BadSetup error) h = tt
 found_ends old new (Some named) (finding.BadText error) h = tt
 found_ends old new (Some named) finding.Checked h = tt
-found_ends old new (Some named) (finding.Ran setup report forwards) h = report_of_texts old.held named report
+found_ends old new (Some named) (finding.Ran rings setup report forwards) h = report_of_texts old.held named report
     h.0.headline
 found_ends old new (Some named) (finding.Sent setup sending) h = tt
 

@@ -24,10 +24,12 @@ use Rattle.setup_text.specs.declared.reports.RunReport.{RunReport}
 use Rattle.tap_outside.specs.Contents.{Contents}
 use Rattle.tap_outside.specs.Counts.{Rose}
 use Rattle.tap_outside.specs.Seen.{SourceSeen}
+use Rattle.tap_printing.specs.declared.ring_kind.RingKind.TheVariants.{Blocks}
 use Rattle.tap_replay.specs.Runs.{IsReplayed}
 use Rattle.tap_engine.specs.Commands.{Named}
 use Rattle.tap_engine.specs.Findings.{IsReported, IsSmall, fault_at, faults_in}
 use Rattle.tap_engine.specs.Headline.{AreMade}
+use Rattle.tap_engine.specs.Replays.{IsReplayedBy}
 use Rattle.tap_engine.specs.Jobs.{HasJob, HasLines, LinesFor}
 use Rattle.tap_engine.proofs.Complete.{whole_end}
 use Rattle.tap_engine.proofs.Ends.{AreEnds, report_ends}
@@ -117,7 +119,8 @@ lines_of job = made_lines job.setup.count (length job.setup.cpus) job.setup.plan
 -- the captures of the run are the made ones
 are_made : (job : Job) (lines : List Line) (old : List (Option SourceSeen))
     (left : List (Option (List ℕ))) (report : RunReport)
-    → (r : IsReplayed job lines old (map seen left) report) → old ≡ map fresh (texts_of job)
+    → (r : IsReplayedBy Blocks job lines old (map seen left) report)
+    → old ≡ map fresh (texts_of job)
     → AllByRecursion (λ text. end_of text ≡ None) (texts_of job) → AreMade job.setup r.bytes r.ends
 are_made job lines old left report r old_is whole =
     let gave = subst (λ (sources : List (Option SourceSeen)). AllGave sources (map seen left)
@@ -130,6 +133,18 @@ lines_are : (held : Option Contents) (named : Named) (job : Job) (lines : List L
     → HasLines held named job lines
 lines_are held named job lines is same = subst (λ (c : Command). LinesFor c held named job lines)
     (sym is) same
+
+-- a replay over rings of blocks
+blocks_replayed : (job : Job) (lines : List Line) (old new : List (Option SourceSeen))
+    (report : RunReport) → IsReplayed job lines old new report
+    → IsReplayedBy Blocks job lines old new report
+blocks_replayed job lines old new report r = record {
+  bytes = r.bytes;
+  ends = r.ends;
+  gave = r.gave;
+  run = r.run;
+  report_is = r.report_is;
+}
 
 -- what the report of a run over made frames is
 pub record IsMadeRun (job : Job) (report : RunReport) : Type 0 where
@@ -147,9 +162,10 @@ pub made_run : (job : Job) (lines : List Line) (sources left : List (Option (Lis
 made_run job lines sources left cpus members report sound cpus_is members_is sources_are lines_made
     replayed =
     let setup = job.setup in
-    let r = replays job lines (map seen sources) (map seen left) report sound
+    let r = replays Blocks job lines (map seen sources) (map seen left) report sound
     (length-map sources seen ∙ count_sources setup.seed setup.count cpus sources sources_are
-    ∙ cpus_is) replayed in
+    ∙ cpus_is)
+    (blocks_replayed job lines (map seen sources) (map seen left) report replayed) in
     let old_is = ap (λ ss. map seen ss) (sources_are ∙ ap (λ n. map Some (made_captures setup.seed
     setup.count n)) cpus_is) ∙ fresh_sources (texts_of job) in
     let lines_same : lines ≡ lines_of job =
@@ -164,6 +180,6 @@ made_run job lines sources left cpus members report sound cpus_is members_is sou
           (lines_are held named job lines is lines_same);
       faults = no_faults r.replayed.bytes report.cpus
           (subst (λ (es : List CpuEnd). AreEnds report.cpus es) made.whole
-          (report_ends job r.replayed.bytes r.replayed.ends report r.replayed.run));
+          (report_ends Blocks job r.replayed.bytes r.replayed.ends report r.replayed.run));
       small = r.small;
     }

@@ -1,19 +1,23 @@
 -- What the work of a command comes to, where its job is accepted.
-use Rattle.std.proofs.Common.{◌≡◌, ℕ, Bool, true, List, refl, sym, ap, subst, arith}
+use Rattle.std.proofs.Common.{◌≡◌, ℕ, Bool, true, false, List, ◌∷◌, map, refl, sym, ap, subst, arith, inl, inr}
 use Rattle.std.proofs.Common.{Option, None, Some}
-use Rattle.std.specs.Prelude.{IfSome, IsTrue, All, Ok}
+use Rattle.std.specs.Prelude.{◌⊎◌, IfSome, IsTrue, All, Ok}
 use Rattle.schedule_lines.specs.declared.lines.Line.{Line}
 use Rattle.setup_text.specs.Setups.{request_fault}
+use Rattle.setup_text.specs.Sound.{IsSetup}
 use Rattle.setup_text.specs.declared.commands.Command.{Command}
-use Rattle.setup_text.specs.declared.commands.Command.TheVariants.{Capture, Check, Forward, Make, Replay, Send}
+use Rattle.setup_text.specs.declared.commands.Command.TheVariants.{Capture, Check, Forward, Make, Replay, Replay2, Send}
 use Rattle.setup_text.specs.declared.jobs.Job.{Job}
 use Rattle.setup_text.specs.declared.reports.RunReport.{RunReport}
 use Rattle.setup_text.specs.declared.setups.Setup.{Setup}
 use Rattle.tap_outside.specs.Contents.{Contents}
 use Rattle.tap_outside.specs.Counts.{RoseBy}
 use Rattle.tap_outside.specs.Seen.{OnlyReads, StoreSeen}
-use Rattle.tp_layout.specs.Requests.{transmit_fault}
-use Rattle.tap_engine.specs.Commands.{Named, is_threaded}
+use Rattle.slot_layout.specs.SlotShapes.{IsSlotShape}
+use Rattle.tap_printing.specs.declared.ring_kind.RingKind.TheVariants.{Blocks, Slots}
+use Rattle.tp_layout.specs.Requests.{slot_fault, transmit_fault}
+use Rattle.tp_layout.specs.declared.requests.RingRequest.{RingRequest}
+use Rattle.tap_engine.specs.Commands.{Named, has_schedule, is_threaded, rings_of, sends}
 use Rattle.tap_reading.specs.Readers.{Says}
 use Rattle.tap_engine.specs.Findings.{IsFound, IsReported, fault_at}
 use Rattle.tap_engine.specs.Jobs.{HasJob, HasLast, HasLines, HasSchedule, HasTicks, IsAsked}
@@ -26,6 +30,17 @@ use Rattle.tap_engine.proofs.Fetched.{held_same}
 use Rattle.tap_engine.proofs.Meant.{AfterMeant, AllMeant, captures_meant}
 
 -- ---- the names that are read last are meant
+
+scheduled_last : (meant : List ℕ → Bool) (schedule : List ℕ) (setup : Setup) (command : Command)
+    → has_schedule command ≡ true → AllMeant meant (read_last command schedule setup)
+    → AllMeant meant (schedule ∷ map (λ cpu. cpu.file) setup.cpus)
+scheduled_last meant schedule setup Replay is all = all
+scheduled_last meant schedule setup Replay2 is all = all
+scheduled_last meant schedule setup Check is all = cc
+scheduled_last meant schedule setup Capture is all = cc
+scheduled_last meant schedule setup Forward is all = cc
+scheduled_last meant schedule setup Send is all = cc
+scheduled_last meant schedule setup Make is all = cc
 
 last_meant : (meant : List ℕ → Bool) (named : Named) (setup : Setup) (command : Command)
     → named.command ≡ command
@@ -40,14 +55,16 @@ ticks_meant meant named setup are all =
     subst (λ (ticks : Option (List ℕ)). IfSome ticks (λ name. IsTrue (meant name))) are all.ticks
 
 pub schedule_meant : (meant : List ℕ → Bool) (named : Named) (setup : Setup)
-    → named.command ≡ Replay
+    → has_schedule named.command ≡ true
     → AfterMeant meant named setup → IsTrue (meant named.schedule)
-schedule_meant meant named setup is all = (last_meant meant named setup Replay is all).0
+schedule_meant meant named setup is all =
+    (scheduled_last meant named.schedule setup named.command is all.last).0
 
-pub run_meant : (meant : List ℕ → Bool) (named : Named) (setup : Setup) → named.command ≡ Replay
+pub run_meant : (meant : List ℕ → Bool) (named : Named) (setup : Setup)
+    → has_schedule named.command ≡ true
     → AfterMeant meant named setup → All (λ cpu. IsTrue (meant cpu.file)) setup.cpus
 run_meant meant named setup is all = captures_meant meant setup.cpus
-    (last_meant meant named setup Replay is all).1
+    (scheduled_last meant named.schedule setup named.command is all.last).1
 
 threaded_last : (meant : List ℕ → Bool) (schedule : List ℕ) (setup : Setup) (command : Command)
     → is_threaded command ≡ true → AllMeant meant (read_last command schedule setup)
@@ -56,6 +73,7 @@ threaded_last meant schedule setup Capture is all = captures_meant meant setup.c
 threaded_last meant schedule setup Forward is all = captures_meant meant setup.cpus all
 threaded_last meant schedule setup Check is all = cc
 threaded_last meant schedule setup Replay is all = cc
+threaded_last meant schedule setup Replay2 is all = cc
 threaded_last meant schedule setup Send is all = cc
 threaded_last meant schedule setup Make is all = cc
 
@@ -89,6 +107,7 @@ threaded_moments Capture setup is = refl
 threaded_moments Forward setup is = refl
 threaded_moments Check setup is = cc
 threaded_moments Replay setup is = cc
+threaded_moments Replay2 setup is = cc
 threaded_moments Send setup is = cc
 threaded_moments Make setup is = cc
 
@@ -148,6 +167,7 @@ threaded_texts held named job moments Capture is ticks = (moments, ticks)
 threaded_texts held named job moments Forward is ticks = (moments, ticks)
 threaded_texts held named job moments Check is ticks = cc
 threaded_texts held named job moments Replay is ticks = cc
+threaded_texts held named job moments Replay2 is ticks = cc
 threaded_texts held named job moments Send is ticks = cc
 threaded_texts held named job moments Make is ticks = cc
 
@@ -161,16 +181,54 @@ threaded_asked held named job moments is has ticks =
       last = threaded_texts held named job moments named.command is ticks;
     }
 
+scheduled_texts : (held : Option Contents) (named : Named) (job : Job) (lines : List Line)
+    (command : Command) → has_schedule command ≡ true
+    → HasSchedule held named job lines → HasLast command held named job
+scheduled_texts held named job lines Replay is schedule = (lines, schedule)
+scheduled_texts held named job lines Replay2 is schedule = (lines, schedule)
+scheduled_texts held named job lines Check is schedule = cc
+scheduled_texts held named job lines Capture is schedule = cc
+scheduled_texts held named job lines Forward is schedule = cc
+scheduled_texts held named job lines Send is schedule = cc
+scheduled_texts held named job lines Make is schedule = cc
+
 pub replay_asked : (held : Option Contents) (named : Named) (job : Job) (lines : List Line)
-    → named.command ≡ Replay → HasJob held named job
+    → has_schedule named.command ≡ true → HasJob held named job
     → HasSchedule held named job lines → IsAsked held named
 replay_asked held named job lines is has schedule =
     record {
       job = job;
       job_is = has;
-      last = subst (λ (c : Command). HasLast c held named job)
-          (sym is) (lines, schedule);
+      last = scheduled_texts held named job lines named.command is schedule;
     }
+
+scheduled_lines : (held : Option Contents) (named : Named) (job : Job) (lines : List Line)
+    (command : Command) → has_schedule command ≡ true
+    → HasSchedule held named job lines → LinesFor command held named job lines
+scheduled_lines held named job lines Replay is schedule = schedule
+scheduled_lines held named job lines Replay2 is schedule = schedule
+scheduled_lines held named job lines Check is schedule = cc
+scheduled_lines held named job lines Capture is schedule = cc
+scheduled_lines held named job lines Forward is schedule = cc
+scheduled_lines held named job lines Send is schedule = cc
+scheduled_lines held named job lines Make is schedule = cc
+
+-- a `replay` and a `replay2` have one, and send nothing
+pub replays_scheduled : (command : Command) → (command ≡ Replay) ⊎ (command ≡ Replay2)
+    → has_schedule command ≡ true
+replays_scheduled command (inl is) = ap has_schedule is
+replays_scheduled command (inr is) = ap has_schedule is
+
+pub replays_unsent : (command : Command) → (command ≡ Replay) ⊎ (command ≡ Replay2)
+    → sends command ≡ false
+replays_unsent command (inl is) = ap sends is
+replays_unsent command (inr is) = ap sends is
+
+-- the command that is named has a schedule, where the one that is carried out has
+pub named_schedule : (command : Command) (named : Named) → has_schedule command ≡ true
+    → named.command ≡ command → has_schedule named.command ≡ true
+named_schedule command named is same =
+    subst (λ (c : Command). has_schedule c ≡ true) (sym same) is
 
 -- also by the name of its schedule
 schedule_by : (held : Option Contents) (named : Named) (job : Job) (name : List ℕ)
@@ -180,29 +238,59 @@ schedule_by held named job name lines called says =
     subst (λ (n : List ℕ). Says (lines_for job) held n (Ok lines)) (sym called) says
 
 pub asked_by_name : (held : Option Contents) (named : Named) (job : Job) (name : List ℕ)
-    (lines : List Line) → named.command ≡ Replay
+    (lines : List Line) → has_schedule named.command ≡ true
     → named.schedule ≡ name → HasJob held named job → Says (lines_for job) held name (Ok lines)
     → IsAsked held named
 asked_by_name held named job name lines is called has says =
     replay_asked held named job lines is has (schedule_by held named job name lines called says)
 
--- what a report is worth, whatever `replay` asks for it
-abbrev pub IsWorthTo : Option Contents → Job → List Line → RunReport → Type 0
-IsWorthTo held job lines report =
-    (named : Named) → named.command ≡ Replay → HasJob held named job
+-- what a report is worth, whatever the command with a schedule asks for it
+abbrev pub IsWorthTo : Command → Option Contents → Job → List Line → RunReport → Type 0
+IsWorthTo command held job lines report =
+    (named : Named) → named.command ≡ command → HasJob held named job
     → HasLines held named job lines
     → IsReported held named job.setup report
 
-pub scheduled : (old mid : StoreSeen) (job : Job) (name : List ℕ) (lines : List Line)
-    (report : RunReport) → OnlyReads old mid
-    → Says (lines_for job) old.held name (Ok lines) → IsWorthTo mid.held job lines report
-    → (named : Named) → named.command ≡ Replay → named.schedule ≡ name → HasJob old.held named job
+pub scheduled : (old mid : StoreSeen) (command : Command) (job : Job) (name : List ℕ)
+    (lines : List Line) (report : RunReport) → has_schedule command ≡ true → OnlyReads old mid
+    → Says (lines_for job) old.held name (Ok lines) → IsWorthTo command mid.held job lines report
+    → (named : Named) → named.command ≡ command → named.schedule ≡ name → HasJob old.held named job
     → IsReported old.held named job.setup report
-scheduled old mid job name lines report reads says worth named is called has =
-    let here : IsWorthTo old.held job lines report = subst
-    (λ (held : Option Contents). IsWorthTo held job lines report) (held_same old mid reads) worth in
-    here named is has (subst (λ (c : Command). LinesFor c old.held named job lines) (sym is)
+scheduled old mid command job name lines report by_schedule reads says worth named is called has =
+    let here : IsWorthTo command old.held job lines report = subst
+    (λ (held : Option Contents). IsWorthTo command held job lines report)
+    (held_same old mid reads) worth in
+    here named is has (scheduled_lines old.held named job lines named.command
+    (named_schedule command named by_schedule is)
     (schedule_by old.held named job name lines called says))
+
+-- ---- what rings are made of
+
+pub threaded_rings : (command : Command) → is_threaded command ≡ true → Blocks ≡ rings_of command
+threaded_rings Capture is = refl
+threaded_rings Forward is = refl
+threaded_rings Check is = cc
+threaded_rings Replay is = cc
+threaded_rings Replay2 is = cc
+threaded_rings Send is = cc
+threaded_rings Make is = cc
+
+slots_of : (command : Command) (request : RingRequest) → rings_of command ≡ Slots
+    → request_fault command request ≡ None → slot_fault request ≡ None
+slots_of Replay2 request is ring = ring
+slots_of Replay request is ring = cc
+slots_of Check request is ring = cc
+slots_of Capture request is ring = cc
+slots_of Forward request is ring = cc
+slots_of Send request is ring = cc
+slots_of Make request is ring = cc
+
+pub slots_asked : (command : Command) (setup : Setup) → IsSetup setup
+    → request_fault command setup.request ≡ None → rings_of command ≡ Slots
+    → IsSlotShape setup.shape
+slots_asked command setup sound ring is =
+    subst (λ (request : RingRequest). slot_fault request ≡ None) (sym sound.shape)
+    (slots_of command setup.request is ring)
 
 -- and whatever a command on threads asks for it
 abbrev pub IsWorthTimed : Option Contents → Job → List ℕ → RunReport → Type 0

@@ -2,7 +2,9 @@
 use Rattle.std.specs.Prelude.{ℕ, Bool, false, true, ◌&&◌, not, List, [], ◌∷◌, length, codes}
 use Rattle.std.specs.Prelude.{bytes_eq, ◌==◌, if◌then◌else◌, Option, None, Some, option_map}
 use Rattle.setup_text.specs.declared.commands.Command.{Command}
-use Rattle.setup_text.specs.declared.commands.Command.TheVariants.{Capture, Check, Forward, Make, Replay, Send}
+use Rattle.setup_text.specs.declared.commands.Command.TheVariants.{Capture, Check, Forward, Make, Replay, Replay2, Send}
+use Rattle.tap_printing.specs.declared.ring_kind.RingKind.{RingKind}
+use Rattle.tap_printing.specs.declared.ring_kind.RingKind.TheVariants.{Blocks, Slots}
 
 -- a command with the names of its texts; where it has no schedule that name is empty
 pub record Named : Type 0 where
@@ -26,16 +28,29 @@ lone_command word =
     else if bytes_eq word (codes "forward") then Some Forward
     else None
 
--- exactly the words `check CONF`, `capture CONF`, `send CONF`, `make CONF`, `forward CONF` and
--- `replay CONF SCHED`, where no name is empty
+-- the commands that ask for a setup and a schedule
+unfoldable pub scheduled_command : List ℕ → Option Command
+scheduled_command word =
+    if bytes_eq word (codes "replay") then Some Replay
+    else if bytes_eq word (codes "replay2") then Some Replay2
+    else None
+
+-- exactly the words `check CONF`, `capture CONF`, `send CONF`, `make CONF`, `forward CONF`,
+-- `replay CONF SCHED` and `replay2 CONF SCHED`, where no name is empty
 abbrev pub command_of : List (List ℕ) → Option Named
 command_of (word ∷ setup ∷ []) =
     if is_name setup
     then option_map (λ command. named_by command setup []) (lone_command word) else None
 command_of (word ∷ setup ∷ schedule ∷ []) =
-    if bytes_eq word (codes "replay") && is_name setup && is_name schedule
-    then Some (named_by Replay setup schedule) else None
+    if is_name setup && is_name schedule
+    then option_map (λ command. named_by command setup schedule) (scheduled_command word) else None
 command_of words = None
+
+-- whether a command has a schedule
+abbrev pub has_schedule : Command → Bool
+has_schedule Replay = true
+has_schedule Replay2 = true
+has_schedule command = false
 
 -- whether a command runs on threads
 abbrev pub is_threaded : Command → Bool
@@ -47,6 +62,11 @@ is_threaded command = false
 abbrev pub sends : Command → Bool
 sends Forward = true
 sends command = false
+
+-- what the rings of a command's run are made of
+abbrev pub rings_of : Command → RingKind
+rings_of Replay2 = Slots
+rings_of command = Blocks
 
 -- the command that is carried out on one thread: each of these but `capture` and `forward`
 abbrev pub plain_of : Option Named → Option Named

@@ -8,7 +8,7 @@ use Rattle.setup_text.specs.Filters.{filter_of}
 use Rattle.setup_text.specs.Moments.{moments_of}
 use Rattle.setup_text.specs.Schedules.{schedule_of}
 use Rattle.setup_text.specs.declared.commands.Command.{Command}
-use Rattle.setup_text.specs.declared.commands.Command.TheVariants.{Capture, Check, Forward, Make, Replay, Send}
+use Rattle.setup_text.specs.declared.commands.Command.TheVariants.{Capture, Check, Forward, Make, Replay, Replay2, Send}
 use Rattle.setup_text.specs.declared.cpu_setups.CpuSetup.{CpuSetup}
 use Rattle.setup_text.specs.declared.setups.Setup.{Setup}
 use Rattle.tap_outside.specs.Contents.{Contents}
@@ -50,6 +50,8 @@ abbrev pub AreSoundLast : Command → Contents → List ℕ → Setup → Type 0
 AreSoundLast Check files schedule setup = ⊤
 AreSoundLast Make files schedule setup = ⊤
 AreSoundLast Replay files schedule setup =
+    IsSoundSchedule files schedule setup × AreWhole files setup.cpus
+AreSoundLast Replay2 files schedule setup =
     IsSoundSchedule files schedule setup × AreWhole files setup.cpus
 AreSoundLast Capture files schedule setup = AreWhole files setup.cpus
 AreSoundLast Forward files schedule setup = AreWhole files setup.cpus

@@ -21,7 +21,7 @@ use Rattle.run_reports.specs.Members.{AreShort}
 use Rattle.tap_saving.specs.Files.{CanBeOutput, File, files_from, names_from, sent_file, sent_name}
 use Rattle.tp_layout.specs.Requests.{size_of}
 use Rattle.tx_ring.specs.Rings.{room_of}
-use Rattle.tap_engine.specs.Commands.{Named, sends}
+use Rattle.tap_engine.specs.Commands.{Named, rings_of, sends}
 use Rattle.tap_engine.specs.Headline.{IsHeadline}
 use Rattle.tap_engine.specs.Jobs.{HasBadSetup, HasBadText, IsChecked}
 use Rattle.tap_engine.specs.Sendings.{IsSent}
@@ -73,10 +73,11 @@ IsFound (Some named) old new finding.Unread = Rose old.read_faults new.read_faul
 IsFound (Some named) old new (finding.BadSetup error) = HasBadSetup old new named error
 IsFound (Some named) old new (finding.BadText error) = HasBadText old new named error
 IsFound (Some named) old new finding.Checked = IsChecked old.held named
-IsFound (Some named) old new (finding.Ran setup report forwards) =
+IsFound (Some named) old new (finding.Ran rings setup report forwards) =
     IsReported old.held named setup report
     × RoseBy (faults_in report.cpus) old.read_faults new.read_faults
     × IsSentBy (sends named.command) setup report forwards
+    × (rings ≡ rings_of named.command)
 IsFound (Some named) old new (finding.Sent setup sending) =
     IsSent old.held named setup sending
     × RoseBy (fault_at sending.end) old.read_faults new.read_faults
@@ -109,33 +110,34 @@ status_of finding.Unread = statuses.ReadFault
 status_of (finding.BadSetup error) = statuses.Setup error
 status_of (finding.BadText error) = statuses.Text error
 status_of finding.Checked = statuses.Fine
-status_of (finding.Ran setup report forwards) = status_of_logs 0 report.cpus
+status_of (finding.Ran rings setup report forwards) = status_of_logs 0 report.cpus
 status_of (finding.Sent setup sending) = status_by_end 0 sending.end statuses.Fine
 
 -- the report
 abbrev pub report_in : Finding → Option RunReport
-report_in (finding.Ran setup report forwards) = Some report
+report_in (finding.Ran rings setup report forwards) = Some report
 report_in found = None
 
 -- the printed lines
 abbrev pub lines_of : Finding → List ℕ
 lines_of finding.NoCommand =
-    codes "usage: ringtap check|replay|capture|send|make|forward CONF [SCHED]\n"
+    codes "usage: ringtap check|replay|capture|send|make|forward|replay2 CONF [SCHED]\n"
 lines_of finding.Unread = codes "read fault\n"
 lines_of (finding.BadSetup error) = setup_refusal error
 lines_of (finding.BadText error) = text_refusal error
 lines_of finding.Checked = codes "ok\n"
-lines_of (finding.Ran setup report forwards) = summary_of (size_of setup.shape) forwards report
+lines_of (finding.Ran rings setup report forwards) =
+    summary_of rings (size_of setup.shape) forwards report
 lines_of (finding.Sent setup sending) = send_lines sending.frames sending.end sending.sent
 
 -- the files, and their names
 abbrev pub files_of : Finding → List File
-files_of (finding.Ran setup report forwards) = files_from setup forwards 0 report.members
+files_of (finding.Ran rings setup report forwards) = files_from setup forwards 0 report.members
 files_of (finding.Sent setup sending) = sent_file setup sending.sent.packets ∷ []
 files_of found = []
 
 abbrev pub names_of : Finding → List (List ℕ)
-names_of (finding.Ran setup report forwards) =
+names_of (finding.Ran rings setup report forwards) =
     names_from setup (is_some forwards) 0 (length report.members)
 names_of (finding.Sent setup sending) = sent_name setup ∷ []
 names_of found = []
@@ -149,7 +151,7 @@ pub record IsSmall (report : RunReport) : Type 0 where
   pub packets : AreShort report.members
 
 abbrev pub IsReady : Finding → Type 0
-IsReady (finding.Ran setup report forwards) =
+IsReady (finding.Ran rings setup report forwards) =
     IsSmall report × IfSome forwards (λ forwards. All CanBeOutput forwards.sent)
 IsReady (finding.Sent setup sending) = CanBeOutput sending.sent.packets
 IsReady found = ⊤

@@ -8,7 +8,7 @@ use Rattle.capture_reports.specs.Reported.{IsCaptured}
 use Rattle.made_captures.specs.Made.{made_captures}
 use Rattle.schedule_lines.specs.declared.lines.Line.{Line}
 use Rattle.setup_text.specs.declared.commands.Command.{Command}
-use Rattle.setup_text.specs.declared.commands.Command.TheVariants.{Capture, Check, Forward, Make, Replay, Send}
+use Rattle.setup_text.specs.declared.commands.Command.TheVariants.{Capture, Check, Forward, Make, Replay, Replay2, Send}
 use Rattle.setup_text.specs.declared.cpu_setups.CpuSetup.{CpuSetup}
 use Rattle.setup_text.specs.declared.jobs.Job.{Job}
 use Rattle.setup_text.specs.declared.reports.RunReport.{RunReport}
@@ -16,9 +16,13 @@ use Rattle.setup_text.specs.declared.setups.Setup.{Setup}
 use Rattle.tap_outside.specs.Contents.{Contents}
 use Rattle.tap_reading.specs.Fronts.{IsAllOf, IsFrontOf}
 use Rattle.run_reports.specs.Reports.{IsRunReport}
+use Rattle.tap_printing.specs.declared.ring_kind.RingKind.{RingKind}
+use Rattle.tap_printing.specs.declared.ring_kind.RingKind.TheVariants.{Blocks, Slots}
 use Rattle.tap_replay.specs.Runs.{report_of}
+use Rattle.v2_replay.specs.SlotReports.{IsSlotRunReport}
+use Rattle.v2_replay.specs.SlotRuns.{slot_report_of}
 use Rattle.capture_reading.specs.Sources.{EndsAtDamage, UnlessFault, WhereEnded, WhereFault, end_by}
-use Rattle.tap_engine.specs.Commands.{Named}
+use Rattle.tap_engine.specs.Commands.{Named, rings_of}
 use Rattle.tap_engine.specs.Jobs.{HasJob, HasLines, HasTicks}
 
 -- the capture under a name gave these bytes, from its start, and ended so
@@ -51,16 +55,27 @@ abbrev pub CapturesFor :
 CapturesFor Check held setup bytes ends = ⊥
 CapturesFor Make held setup bytes ends = AreMade setup bytes ends
 CapturesFor Replay held setup bytes ends = AreCaptures held setup.cpus bytes ends
+CapturesFor Replay2 held setup bytes ends = AreCaptures held setup.cpus bytes ends
 CapturesFor Capture held setup bytes ends = AreCaptures held setup.cpus bytes ends
 CapturesFor Forward held setup bytes ends = AreCaptures held setup.cpus bytes ends
 CapturesFor Send held setup bytes ends = ⊥
 
--- the report is the replay report of the command's lines, and of what the captures gave
+-- what holds of every report of a run, whatever its command, by what its rings are made of
+abbrev pub IsReportBy : RingKind → Job → List (List ℕ) → List CpuEnd → RunReport → Type 0
+IsReportBy Blocks job bytes ends report = IsRunReport job bytes ends report
+IsReportBy Slots job bytes ends report = IsSlotRunReport job bytes ends report
+
+-- the replay report of these lines, and of what the captures gave
+abbrev pub replay_by : RingKind → Job → List Line → List (List ℕ) → List CpuEnd → RunReport
+replay_by Blocks job lines bytes ends = report_of job lines bytes ends
+replay_by Slots job lines bytes ends = slot_report_of job lines bytes ends
+
+-- the report is that of the command's lines
 pub record IsReplayOf (held : Option Contents) (named : Named) (job : Job) (bytes : List (List ℕ))
     (ends : List CpuEnd) (report : RunReport) : Type 0 where
   pub lines : List Line
   pub lines_are : HasLines held named job lines
-  pub replay : report ≡ report_of job lines bytes ends
+  pub replay : report ≡ replay_by (rings_of named.command) job lines bytes ends
 
 -- the members were told the moments that the setup names, each once and in order, and the report
 -- holds their rings, finished
@@ -69,13 +84,14 @@ pub record IsCaptureOf (held : Option Contents) (job : Job) (report : RunReport)
   pub moments_are : HasTicks held job.setup.ticks moments
   pub captured : IsCaptured job.setup.shape moments report
 
--- what a command adds to what holds of every report: `replay` and `make` replay their lines, and
--- `capture` and `forward` tell their moments
+-- what a command adds to what holds of every report: `replay`, `replay2` and `make` replay their
+-- lines, and `capture` and `forward` tell their moments
 abbrev pub IsRunOf :
     Command → Option Contents → Named → Job → List (List ℕ) → List CpuEnd → RunReport → Type 0
 IsRunOf Check held named job bytes ends report = ⊥
 IsRunOf Make held named job bytes ends report = IsReplayOf held named job bytes ends report
 IsRunOf Replay held named job bytes ends report = IsReplayOf held named job bytes ends report
+IsRunOf Replay2 held named job bytes ends report = IsReplayOf held named job bytes ends report
 IsRunOf Capture held named job bytes ends report = IsCaptureOf held job report
 IsRunOf Forward held named job bytes ends report = IsCaptureOf held job report
 IsRunOf Send held named job bytes ends report = ⊥
@@ -91,7 +107,7 @@ pub record IsHeadline (held : Option Contents) (named : Named) (report : RunRepo
   pub captures : CapturesFor named.command held job.setup bytes ends
   -- what holds of every report: its logs, its members, and that each arrival that passes appears
   -- once
-  pub report_is : IsRunReport job bytes ends report
+  pub report_is : IsReportBy (rings_of named.command) job bytes ends report
   -- what the command adds
   pub run : IsRunOf named.command held named job bytes ends report
 

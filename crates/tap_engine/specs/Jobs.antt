@@ -1,6 +1,6 @@
 -- What a command asks for, by the texts under its names: setup, filter, and then the moments or the
 -- schedule.
-use Rattle.std.specs.Prelude.{◌≡◌, ◌⊎◌, ℕ, List, [], length, ⊤, Option, None, Some, Result, Ok}
+use Rattle.std.specs.Prelude.{◌≡◌, ◌⊎◌, ℕ, true, List, [], length, ⊤, Option, None, Some, Result, Ok}
 use Rattle.bpf_filter.specs.declared.insn.Insn.{Insn}
 use Rattle.schedule_lines.specs.declared.lines.Line.{Line}
 use Rattle.setup_text.specs.Answers.{is_setup_want, is_text_want}
@@ -8,7 +8,7 @@ use Rattle.setup_text.specs.Filters.{filter_of}
 use Rattle.setup_text.specs.Moments.{moments_of}
 use Rattle.made_captures.specs.Made.{made_lines}
 use Rattle.setup_text.specs.declared.commands.Command.{Command}
-use Rattle.setup_text.specs.declared.commands.Command.TheVariants.{Capture, Check, Forward, Make, Replay, Send}
+use Rattle.setup_text.specs.declared.commands.Command.TheVariants.{Capture, Check, Forward, Make, Replay, Replay2, Send}
 use Rattle.setup_text.specs.declared.jobs.Job.{Job}
 use Rattle.setup_text.specs.declared.setup_error.SetupError.{SetupError}
 use Rattle.setup_text.specs.declared.setups.Setup.{Setup}
@@ -19,7 +19,7 @@ use Rattle.tap_outside.specs.Seen.{NoReadFailed, StoreSeen}
 use Rattle.tap_reading.specs.Readers.{Refuses, Says, schedule_for, setup_for}
 use Rattle.tap_reading.specs.declared.stops.Stop.{Stop}
 use Rattle.tap_reading.specs.declared.stops.Stop.TheVariants as stops
-use Rattle.tap_engine.specs.Commands.{Named}
+use Rattle.tap_engine.specs.Commands.{Named, has_schedule}
 use Rattle.tap_engine.specs.Names.{filter_for, ticks_for}
 
 -- ---- what is accepted
@@ -52,9 +52,11 @@ abbrev pub HasSchedule : Option Contents → Named → Job → List Line → Typ
 HasSchedule held named job lines =
     Says (lines_for job) held named.schedule (Ok lines)
 
--- what a replay does line by line: the schedule of a `replay`, or that which `make` makes itself
+-- what a replay does line by line: the schedule of a `replay` or a `replay2`, or that which `make`
+-- makes itself
 abbrev pub LinesFor : Command → Option Contents → Named → Job → List Line → Type 0
 LinesFor Replay held named job lines = HasSchedule held named job lines
+LinesFor Replay2 held named job lines = HasSchedule held named job lines
 LinesFor Make held named job lines =
     lines ≡ made_lines job.setup.count (length job.setup.cpus) job.setup.plan.members
 LinesFor Check held named job lines = ⊥
@@ -94,7 +96,7 @@ pub record HasBadTicks (old new : StoreSeen) (named : Named) (error : TextError)
   pub refused : Refuses moments_of is_text_want old new name error
 
 pub record HasBadSchedule (old new : StoreSeen) (named : Named) (error : TextError) : Type 0 where
-  pub command : named.command ≡ Replay
+  pub command : has_schedule named.command ≡ true
   pub job : Job
   pub has : HasJob old.held named job
   pub refused : Refuses (lines_for job) is_text_want old new named.schedule error
@@ -111,6 +113,7 @@ abbrev pub HasLast : Command → Option Contents → Named → Job → Type 0
 HasLast Check held named job = ⊥
 HasLast Make held named job = ⊤
 HasLast Replay held named job = (lines : List Line) × HasSchedule held named job lines
+HasLast Replay2 held named job = (lines : List Line) × HasSchedule held named job lines
 HasLast Capture held named job = (moments : List ℕ) × HasTicks held job.setup.ticks moments
 HasLast Forward held named job = (moments : List ℕ) × HasTicks held job.setup.ticks moments
 HasLast Send held named job = ⊤

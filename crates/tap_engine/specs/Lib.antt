@@ -2,6 +2,7 @@ pub mod Commands
 pub mod Names
 pub mod Jobs
 pub mod Headline
+pub mod Replays
 pub mod Sendings
 pub mod Findings
 pub mod Conclusions

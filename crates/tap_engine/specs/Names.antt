@@ -3,7 +3,7 @@ use Rattle.std.specs.Prelude.{ℕ, Bool, false, true, List, [], ◌∷◌, ◌++
 use Rattle.std.specs.Prelude.{unwrap_or, IsTrue, ⊤, Result, Ok, Err}
 use Rattle.std.specs.List.{AllByRecursion}
 use Rattle.setup_text.specs.declared.commands.Command.{Command}
-use Rattle.setup_text.specs.declared.commands.Command.TheVariants.{Capture, Check, Forward, Make, Replay, Send}
+use Rattle.setup_text.specs.declared.commands.Command.TheVariants.{Capture, Check, Forward, Make, Replay, Replay2, Send}
 use Rattle.setup_text.specs.declared.cpu_setups.CpuSetup.{CpuSetup}
 use Rattle.setup_text.specs.declared.setup_error.SetupError.{SetupError}
 use Rattle.setup_text.specs.declared.setups.Setup.{Setup}
@@ -19,6 +19,7 @@ filter_for Send setup = None
 filter_for Check setup = setup.filter
 filter_for Make setup = setup.filter
 filter_for Replay setup = setup.filter
+filter_for Replay2 setup = setup.filter
 filter_for Capture setup = setup.filter
 filter_for Forward setup = setup.filter
 
@@ -29,6 +30,7 @@ ticks_for Capture setup = setup.ticks
 ticks_for Forward setup = setup.ticks
 ticks_for Make setup = None
 ticks_for Replay setup = None
+ticks_for Replay2 setup = None
 ticks_for Send setup = None
 
 -- the capture of CPU 0
@@ -36,12 +38,13 @@ abbrev pub first_file : List CpuSetup → List ℕ
 first_file [] = []
 first_file (cpu ∷ cpus) = cpu.file
 
--- after these `replay` reads the schedule and the captures, `capture` and `forward` the captures,
--- and `send` the first capture
+-- after these `replay` and `replay2` read the schedule and the captures, `capture` and `forward` the
+-- captures, and `send` the first capture
 abbrev pub read_last : Command → List ℕ → Setup → List (List ℕ)
 read_last Check schedule setup = []
 read_last Make schedule setup = []
 read_last Replay schedule setup = schedule ∷ map (λ cpu. cpu.file) setup.cpus
+read_last Replay2 schedule setup = schedule ∷ map (λ cpu. cpu.file) setup.cpus
 read_last Capture schedule setup = map (λ cpu. cpu.file) setup.cpus
 read_last Forward schedule setup = map (λ cpu. cpu.file) setup.cpus
 read_last Send schedule setup = first_file setup.cpus ∷ []
@@ -64,6 +67,7 @@ abbrev pub saved_for : Command → Setup → List (List ℕ)
 saved_for Check setup = []
 saved_for Make setup = names_from setup false 0 setup.plan.members
 saved_for Replay setup = names_from setup false 0 setup.plan.members
+saved_for Replay2 setup = names_from setup false 0 setup.plan.members
 saved_for Capture setup = names_from setup false 0 setup.plan.members
 saved_for Forward setup = names_from setup true 0 setup.plan.members
 saved_for Send setup = sent_name setup ∷ []

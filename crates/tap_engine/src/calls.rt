@@ -76,6 +76,8 @@ pub fn run<S: Store, O: Sink, G: Gate + Sync, R: Threads + Wait + Sync>(
 ///
 /// - `check CONF` reads the setup, and the filter and the moments that it names, and prints `ok`.
 /// - `replay CONF SCHED` replays the captures of the setup as the schedule says.
+/// - `replay2 CONF SCHED` does the same over rings of TPACKET_V2, whose reader gets one frame at a
+///   time.
 /// - `make CONF` replays frames that are made from the setup's number, by a schedule of its own,
 ///   and reads no capture.
 /// - `send CONF` sends the capture of CPU 0 through a transmit ring, and gives no report.

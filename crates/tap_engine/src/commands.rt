@@ -1,9 +1,10 @@
 //! The words of a command.
 ghost use Rattle.std.specs.Prelude.{◌≡◌, [], ◌∷◌, false, option_map, IfSome};
 ghost use Rattle.tap_engine.specs.Commands.{command_of, is_threaded, lone_command, named_by};
-ghost use Rattle.tap_engine.specs.Commands.{plain_command, sends};
+ghost use Rattle.tap_engine.specs.Commands.{plain_command, rings_of, scheduled_command, sends};
 
 use setup_text::Command;
+use tap_printing::RingKind;
 use text_lines::Word;
 
 /// A command with the names of its texts.
@@ -24,7 +25,7 @@ pub(crate) fn command_of(words: &[Word]) -> Option<Asked<'_>>
 {
     match words {
         [word, setup] => lone_of(word, setup),
-        [word, setup, schedule] => replay_of(word, setup, schedule),
+        [word, setup, schedule] => scheduled_of(word, setup, schedule),
         _ => None,
     }
 }
@@ -39,7 +40,24 @@ pub(crate) fn plain_command(words: &[Word]) -> Option<Asked<'_>>
     let asked = command_of(words)?;
     match asked.command {
         Command::Capture | Command::Forward => None,
-        Command::Check | Command::Replay | Command::Send | Command::Make => Some(asked),
+        Command::Check | Command::Replay | Command::Replay2 | Command::Send | Command::Make => Some(
+            asked,
+        ),
+    }
+}
+
+/// What the rings of a command's run are made of.
+pub(crate) fn rings_of(command: Command) -> RingKind
+    ensures { result ≡ rings_of command }
+{
+    match command {
+        Command::Replay2 => RingKind::Slots,
+        Command::Check
+        | Command::Replay
+        | Command::Capture
+        | Command::Send
+        | Command::Make
+        | Command::Forward => RingKind::Blocks,
     }
 }
 
@@ -49,9 +67,12 @@ pub(crate) fn sends(command: Command) -> bool
 {
     match command {
         Command::Forward => true,
-        Command::Check | Command::Replay | Command::Capture | Command::Send | Command::Make => {
-            false
-        }
+        Command::Check
+        | Command::Replay
+        | Command::Replay2
+        | Command::Capture
+        | Command::Send
+        | Command::Make => false,
     }
 }
 
@@ -92,18 +113,33 @@ fn lone_command(word: &[u8]) -> Option<Command>
     }
 }
 
-/// The command `replay CONF SCHED`.
-fn replay_of<'a>(word: &Word, setup: &'a Word, schedule: &'a Word) -> Option<Asked<'a>>
+/// The commands `replay CONF SCHED` and `replay2 CONF SCHED`.
+fn scheduled_of<'a>(word: &Word, setup: &'a Word, schedule: &'a Word) -> Option<Asked<'a>>
     ensures { option_map (λ asked. named_by asked.command asked.setup.now asked.schedule.now) result
         ≡ command_of (word.now ∷ setup.now ∷ schedule.now ∷ []) }
 {
     let (setup, schedule) = (setup.bytes(), schedule.bytes());
-    if word.bytes() != b"replay".as_slice() || setup.is_empty() || schedule.is_empty() {
+    if setup.is_empty() || schedule.is_empty() {
         return None;
     }
+    let command = scheduled_command(word.bytes())?;
     Some(Asked {
-        command: Command::Replay,
+        command,
         setup,
         schedule,
     })
+}
+
+/// The command that asks for a setup and a schedule and has this name.
+#[tactic(auto, unfolding(crate::specs::Commands::scheduled_command))]
+fn scheduled_command(word: &[u8]) -> Option<Command>
+    ensures { result ≡ scheduled_command word.now }
+{
+    if word == b"replay".as_slice() {
+        Some(Command::Replay)
+    } else if word == b"replay2".as_slice() {
+        Some(Command::Replay2)
+    } else {
+        None
+    }
 }

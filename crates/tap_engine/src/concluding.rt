@@ -49,7 +49,7 @@ fn save<S: Store>(alloc: Global, finding: &Finding, store: &mut S) -> Result<boo
         (SavedSome (S.seen store.old) (S.seen store.new) (files_of finding.now)) }
 {
     match finding {
-        Finding::Ran(setup, report, forwards) => {
+        Finding::Ran(_, setup, report, forwards) => {
             let members = report.members.as_slice();
             save_members(alloc, setup, members, forwards.as_ref(), store)
         }

@@ -10,7 +10,7 @@ use fanout_group::CpuLog;
 use frame_view::{ByteList, Memory};
 use setup_text::{Forwards, RunReport, Setup, SetupError, TextError};
 use std::alloc::Global;
-use tap_printing::{send_lines, setup_refusal, summary, text_refusal};
+use tap_printing::{RingKind, send_lines, setup_refusal, summary, text_refusal};
 
 /// What a command finds, by what the outside gives.
 #[derive(Drop)]
@@ -25,8 +25,8 @@ pub(crate) enum Finding {
     BadText(TextError),
     /// All texts are accepted, and there is nothing to run.
     Checked,
-    /// The run of a setup was made, with what its members sent, where they send.
-    Ran(Setup, RunReport, Option<Forwards>),
+    /// The run of a setup was made over such rings, with what its members sent, where they send.
+    Ran(RingKind, Setup, RunReport, Option<Forwards>),
     /// The capture of a setup was sent.
     Sent(Setup, Sending),
 }
@@ -39,15 +39,15 @@ impl Finding {
         let line = match self {
             Finding::NoCommand => {
                 format!(in alloc;
-                    "usage: ringtap check|replay|capture|send|make|forward CONF [SCHED]\n"
+                    "usage: ringtap check|replay|capture|send|make|forward|replay2 CONF [SCHED]\n"
                 )?
             }
             Finding::Unread => format!(in alloc; "read fault\n")?,
             Finding::BadSetup(error) => setup_refusal(alloc, error)?,
             Finding::BadText(error) => text_refusal(alloc, error)?,
             Finding::Checked => format!(in alloc; "ok\n")?,
-            Finding::Ran(setup, report, forwards) => {
-                return summary(alloc, setup.shape.tov(), report, forwards.as_ref());
+            Finding::Ran(rings, setup, report, forwards) => {
+                return summary(alloc, *rings, setup.shape.tov(), report, forwards.as_ref());
             }
             Finding::Sent(_, sending) => {
                 send_lines(alloc, sending.frames, sending.end, &sending.sent)?
@@ -67,7 +67,7 @@ impl Finding {
             Finding::BadSetup(error) => Status::Setup(*error),
             Finding::BadText(error) => Status::Text(*error),
             Finding::Checked => Status::Fine,
-            Finding::Ran(_, report, _) => status_of_ends(report.cpus.as_slice()),
+            Finding::Ran(_, _, report, _) => status_of_ends(report.cpus.as_slice()),
             Finding::Sent(_, sending) => status_with_end(0, sending.end, Status::Fine),
         }
     }
@@ -77,7 +77,7 @@ impl Finding {
         ensures { result ≡ report_in self }
     {
         match self {
-            Finding::Ran(_, report, _) => Some(report),
+            Finding::Ran(_, _, report, _) => Some(report),
             _ => None,
         }
     }

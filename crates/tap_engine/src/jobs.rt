@@ -51,9 +51,12 @@ fn filter_for(command: Command, setup: &Setup) -> Option<&Word>
 {
     match command {
         Command::Send => None,
-        Command::Check | Command::Make | Command::Replay | Command::Capture | Command::Forward => {
-            setup.filter.as_ref()
-        }
+        Command::Check
+        | Command::Make
+        | Command::Replay
+        | Command::Replay2
+        | Command::Capture
+        | Command::Forward => setup.filter.as_ref(),
     }
 }
 

@@ -1,42 +1,53 @@
 //! Runs from their jobs to their reports: over the captures of a store, and over frames that are
 //! made.
-ghost use Rattle.std.specs.Prelude.{◌≡◌, ◌≤◌, ℕ, Option, Some, length, All, IfErr, IfOk, IsTrue};
+ghost use Rattle.std.specs.Prelude.{◌≡◌, ◌≤◌, ◌<◌, ◌^◌, true, ℕ, Option, None, Some, length, map};
+ghost use Rattle.std.specs.Prelude.{option_map, All, IfErr, IfOk, IsTrue};
 ghost use Rattle.schedule_lines.specs.Ascending.{IsSchedule};
+ghost use Rattle.setup_text.specs.Setups.{request_fault};
 ghost use Rattle.setup_text.specs.Sound.{IsSetup};
-ghost use Rattle.setup_text.specs.declared.commands.Command.TheVariants.{Make, Replay};
+ghost use Rattle.setup_text.specs.declared.commands.Command.TheVariants.{Make};
+ghost use Rattle.slot_layout.specs.SlotShapes.{IsSlotShape};
 ghost use Rattle.tap_outside.specs.Contents.{Contents};
 ghost use Rattle.tap_outside.specs.Counts.{RoseBy};
 ghost use Rattle.tap_outside.specs.Seen.{OnlyReads};
-ghost use Rattle.tap_engine.specs.Commands.{Named};
+ghost use Rattle.tap_engine.specs.Commands.{Named, has_schedule};
 ghost use Rattle.tap_engine.specs.Findings.{IsReported, IsSmall, faults_in};
 ghost use Rattle.tap_engine.specs.Jobs.{HasJob, HasLines, Stops};
+ghost use Rattle.tap_engine.specs.Replays.{IsReplayedBy};
 
+use crate::commands::rings_of;
 use crate::jobs::load_lines;
 use crate::sources::{close_captures, fetch_captures};
 use frame_view::Memory;
 use made_captures::{made_schedule, made_sources};
 use schedule_lines::Schedule;
-use setup_text::{Job, Ran, RunReport};
+use setup_text::{Command, Job, Ran, RunReport};
 use std::alloc::Global;
-use tap_outside::Store;
+use tap_outside::{Source, Store};
+use tap_printing::RingKind;
 use tap_reading::Stop;
 use tap_replay::replay;
+use v2_replay::replay_v2;
 
-/// Replays a job over the captures that a store holds, by the schedule of a name.
+/// Replays a job over the captures that a store holds, by the schedule of a name, and over the rings
+/// of a command.
 pub(crate) fn replay_scheduled<S: Store>(
     alloc: Global,
+    command: Command,
     job: &Job,
     name: &[u8],
     store: &mut S,
 ) -> Result<RunReport, Stop>
+    requires scheduled { has_schedule command ≡ true }
     requires setup { IsSetup job.now.setup }
+    requires ring { request_fault command job.now.setup.request ≡ None }
     requires schedule { IsTrue ((S.seen store.old).to_read name.now) }
     requires captures { All (λ cpu. IsTrue ((S.seen store.old).to_read cpu.file))
         job.now.setup.cpus }
-    ensures reported { IfOk result (λ report. (named : Named) → named.command ≡ Replay
+    ensures reported { IfOk result (λ report. (named : Named) → named.command ≡ command
         → named.schedule ≡ name.now → HasJob (S.seen store.old).held named job.now
         → IsReported (S.seen store.old).held named job.now.setup report) }
-    ensures stop { IfErr result (λ stop. (named : Named) → named.command ≡ Replay
+    ensures stop { IfErr result (λ stop. (named : Named) → named.command ≡ command
         → named.schedule ≡ name.now → HasJob (S.seen store.old).held named job.now
         → Stops (S.seen store.old) (S.seen store.new) named stop) }
     ensures faults { IfOk result (λ report. RoseBy (faults_in report.cpus)
@@ -45,22 +56,25 @@ pub(crate) fn replay_scheduled<S: Store>(
     ensures store { OnlyReads (S.seen store.old) (S.seen store.new) }
 {
     let schedule = load_lines(alloc, store, name, &job.setup)?;
-    Ok(replay_captures(alloc, job, &schedule, store)?)
+    Ok(replay_captures(alloc, command, job, &schedule, store)?)
 }
 
-/// Replays a job over the captures that a store holds.
+/// Replays a job over the captures that a store holds, and over the rings of a command.
 fn replay_captures<S: Store>(
     alloc: Global,
+    command: Command,
     job: &Job,
     schedule: &Schedule,
     store: &mut S,
 ) -> Result<RunReport, Memory>
+    requires scheduled { has_schedule command ≡ true }
     requires setup { IsSetup job.now.setup }
+    requires ring { request_fault command job.now.setup.request ≡ None }
     requires schedule { IsSchedule schedule.now }
     requires few { length schedule.now ≤ 1048576 }
     requires captures { All (λ cpu. IsTrue ((S.seen store.old).to_read cpu.file))
         job.now.setup.cpus }
-    ensures reported { IfOk result (λ report. (named : Named) → named.command ≡ Replay
+    ensures reported { IfOk result (λ report. (named : Named) → named.command ≡ command
         → HasJob (S.seen store.old).held named job.now
         → HasLines (S.seen store.old).held named job.now schedule.now
         → IsReported (S.seen store.old).held named job.now.setup report) }
@@ -70,9 +84,33 @@ fn replay_captures<S: Store>(
     ensures store { OnlyReads (S.seen store.old) (S.seen store.new) }
 {
     let sources = fetch_captures(alloc, store, &job.setup.cpus)?;
-    let Ran { report, sources } = replay(alloc, job, sources, schedule)?;
+    let Ran { report, sources } = replay_over(alloc, rings_of(command), job, sources, schedule)?;
     close_captures(store, sources);
     Ok(report)
+}
+
+/// Replays a job over rings of a kind.
+fn replay_over<I: Source>(
+    alloc: Global,
+    rings: RingKind,
+    job: &Job,
+    sources: Vec<Option<I>>,
+    schedule: &Schedule,
+) -> Result<Ran<I>, Memory>
+    requires setup { IsSetup job.now.setup }
+    requires ring { rings ≡ RingKind.Slots → IsSlotShape job.now.setup.shape }
+    requires sources { length sources.items ≡ length job.now.setup.cpus }
+    requires schedule { IsSchedule schedule.now }
+    requires few { length schedule.now < 2 ^ 32 }
+    ensures ran { IfOk result (λ ran. IsReplayedBy rings job.now schedule.now
+        (map (option_map I.seen) sources.items)
+        (map (option_map I.seen) ran.sources.items)
+        ran.report) }
+{
+    match rings {
+        RingKind::Blocks => replay(alloc, job, sources, schedule),
+        RingKind::Slots => replay_v2(alloc, job, sources, schedule),
+    }
 }
 
 /// Replays a job over the captures of the frames that its setup has made. No source fails.

@@ -10,7 +10,7 @@ ghost use Rattle.tap_engine.specs.Jobs.{HasJob, Stops};
 ghost use Rattle.tap_engine.specs.Names.{AreMeantToRead};
 
 use crate::capturing::{ThreadedRun, run_timed};
-use crate::commands::{Asked, command_of, plain_command, sends};
+use crate::commands::{Asked, command_of, plain_command, rings_of, sends};
 use crate::findings::Finding;
 use crate::jobs::{load_job, load_moments};
 use crate::making::{replay_made, replay_scheduled};
@@ -22,6 +22,7 @@ use std::alloc::Global;
 use std::sync::Wait;
 use std::thread::Threads;
 use tap_outside::Store;
+use tap_printing::RingKind;
 use tap_reading::Stop;
 use text_lines::Word;
 
@@ -46,9 +47,8 @@ pub(crate) fn find<S: Store, G: Gate + Sync, R: Threads + Wait + Sync>(
         Command::Capture | Command::Forward => {
             finding_of(run_threads(rt, alloc, asked, store, gate))
         }
-        Command::Check | Command::Replay | Command::Send | Command::Make => {
-            finding_of(carry_out(alloc, asked, store))
-        }
+        Command::Check | Command::Replay | Command::Replay2 | Command::Send | Command::Make =>
+            finding_of(carry_out(alloc, asked, store)),
     }
 }
 
@@ -123,11 +123,11 @@ fn work<S: Store>(alloc: Global, asked: Asked<'_>, job: Job, store: &mut S) -> R
         }
         Command::Make => {
             let report = replay_made(alloc, &job)?;
-            Ok(Finding::Ran(job.setup, report, None))
+            Ok(Finding::Ran(RingKind::Blocks, job.setup, report, None))
         }
-        Command::Replay => {
-            let report = replay_scheduled(alloc, &job, asked.schedule, store)?;
-            Ok(Finding::Ran(job.setup, report, None))
+        Command::Replay | Command::Replay2 => {
+            let report = replay_scheduled(alloc, asked.command, &job, asked.schedule, store)?;
+            Ok(Finding::Ran(rings_of(asked.command), job.setup, report, None))
         }
         Command::Send => {
             let sending = send_capture(alloc, &job.setup, store)?;
@@ -159,5 +159,5 @@ fn run_threads<S: Store, G: Gate + Sync, R: Threads + Wait + Sync>(
     let job = load_job(alloc, asked, store)?;
     let sends = sends(asked.command);
     let ThreadedRun { report, forwards } = run_timed(rt, alloc, &job, sends, store, gate)?;
-    Ok(Finding::Ran(job.setup, report, forwards))
+    Ok(Finding::Ran(RingKind::Blocks, job.setup, report, forwards))
 }

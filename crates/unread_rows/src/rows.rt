@@ -20,7 +20,7 @@ const UNREAD: Row<'static> = Row {
 };
 
 /// What is read, the words of the command, the file, and the fetch that it is.
-static TEXTS: [(&str, &[&str], &str, &[u64]); 9] = [
+static TEXTS: [(&str, &[&str], &str, &[u64]); 10] = [
     ("the setup of check", &["check", "conf"], "conf", &[1]),
     ("the filter of check", &["check", "conf"], "f.ddd", &[2]),
     ("the moments of check", &["check", "conf"], "t.txt", &[3]),
@@ -39,6 +39,12 @@ static TEXTS: [(&str, &[&str], &str, &[u64]); 9] = [
     (
         "the schedule of replay",
         &["replay", "conf", "sched"],
+        "sched",
+        &[3],
+    ),
+    (
+        "the schedule of replay2",
+        &["replay2", "conf", "sched"],
         "sched",
         &[3],
     ),

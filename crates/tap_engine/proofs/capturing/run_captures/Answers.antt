@@ -1,6 +1,7 @@
 use Rattle.std.proofs.Common.{map, sym, ◌∙◌}
 use Rattle.std.specs.Prelude.{option_map}
 use Rattle.std.proofs.lemmas.List.{length-map}
+use Rattle.tap_printing.specs.declared.ring_kind.RingKind.TheVariants.{Blocks}
 use Rattle.tap_engine.proofs.Fetched.{as_many}
 use Rattle.tap_engine.proofs.Forwarded.{sends_short}
 use Rattle.tap_engine.proofs.Made.{faults_rose, small_run, threaded_reported}
@@ -22,7 +23,7 @@ returns-clause-reported g c = λ named is has ticks.
 pub returns-clause-faults : goal.returns-clause-faults
 returns-clause-faults g c =
     let ran = c.in_ok-ran.ensures.ran in
-    faults_rose (g.S.Store.seen c.args.store.now).held c.args.job.now _ _ ran.bytes ran.ends
+    faults_rose (g.S.Store.seen c.args.store.now).held Blocks c.args.job.now _ _ ran.bytes ran.ends
     c.in_ok-ran.ran.report _ _ _
     c.in_ok-sources.ensures.fetched ran.gave ran.run c.in_ok-sources.ensures.faults
     c.close_captures.ensures.faults
@@ -31,7 +32,7 @@ pub returns-clause-small : goal.returns-clause-small
 returns-clause-small g c =
     let ran = c.in_ok-ran.ensures.ran in
     let old = map (option_map g.S.Input.Source.seen) c.in_ok-sources.sources.items in
-    small_run c.args.job.now old _ ran.bytes ran.ends c.in_ok-ran.ran.report
+    small_run Blocks c.args.job.now old _ ran.bytes ran.ends c.in_ok-ran.ran.report
     c.requires.setup
     (as_many (g.S.Store.seen c.args.store.now).held c.args.job.now.setup.cpus old
     c.in_ok-sources.ensures.fetched) ran.gave ran.run

@@ -1,6 +1,6 @@
 use Rattle.std.proofs.Common.{inr}
 use Rattle.std.proofs.lemmas.Result.{err_from_is_err_and}
-use Rattle.tap_engine.proofs.Worked.{asked_by_name, scheduled}
+use Rattle.tap_engine.proofs.Worked.{asked_by_name, named_schedule, scheduled}
 use Rattle.tap_engine.proofs.making.replay_scheduled.Goals as goal
 
 pub returns-in_err-replay_captures-clause-stop : goal.returns-in_err-replay_captures-clause-stop
@@ -9,13 +9,14 @@ returns-in_err-replay_captures-clause-stop g c =
     c.from_residual-in_err-replay_captures.ensures.1 in
     rw (p.1, p.2) (λ named is called has.
     inr (asked_by_name (g.S.Store.seen c.args.store.now).held named c.args.job.now c.args.name.now
-    c.in_ok-schedule.schedule
-    is called has c.in_ok-schedule.ensures.schedule))
+    c.in_ok-schedule.schedule (named_schedule c.args.command named c.requires.scheduled is)
+    called has c.in_ok-schedule.ensures.schedule))
 
 pub returns-clause-reported : goal.returns-clause-reported
 returns-clause-reported g c = λ named is called has.
     scheduled (g.S.Store.seen c.args.store.now) (g.S.Store.seen c.load_lines.new.store)
-    c.args.job.now c.args.name.now
-    c.in_ok-schedule.schedule c.in_ok-replay_captures.field-0 c.in_ok-schedule.ensures.faultless.only
+    c.args.command c.args.job.now c.args.name.now
+    c.in_ok-schedule.schedule c.in_ok-replay_captures.field-0 c.requires.scheduled
+    c.in_ok-schedule.ensures.faultless.only
     c.in_ok-schedule.ensures.schedule
     c.in_ok-replay_captures.ensures.reported named is called has

@@ -3,14 +3,15 @@ use Rattle.std.specs.Prelude.{ℕ, List, All, Bool, IfSome, IsTrue, Option}
 use Rattle.std.proofs.lemmas.Result.{err_from_is_err_and}
 use Rattle.setup_text.specs.declared.setups.Setup.{Setup}
 use Rattle.tap_outside.specs.Contents.{Contents}
-use Rattle.tap_engine.specs.Commands.{Named, named_by, sends}
+use Rattle.tap_printing.specs.declared.ring_kind.RingKind.TheVariants.{Blocks}
+use Rattle.tap_engine.specs.Commands.{Named, named_by}
 use Rattle.tap_engine.specs.Findings.{IsSentBy}
 use Rattle.tap_engine.specs.Jobs.{HasJob}
 use Rattle.tap_engine.specs.declared.findings.Finding.TheVariants as finding
 use Rattle.tap_engine.proofs.Fetched.{held_same, to_read_same}
 use Rattle.tap_engine.proofs.Found.{found_earlier, stops_earlier}
 use Rattle.tap_engine.proofs.Meant.{names_meant}
-use Rattle.tap_engine.proofs.Worked.{threaded_meant, threaded_ticks, ticks_meant}
+use Rattle.tap_engine.proofs.Worked.{threaded_meant, threaded_rings, threaded_ticks, ticks_meant}
 use Rattle.tap_engine.proofs.running.run_threads.Goals as goal
 
 pub run_timed-requires-clause-ticks : goal.run_timed-requires-clause-ticks
@@ -60,8 +61,9 @@ returns-clause-found g c =
     let sent = subst (λ (sent : Bool). IsSentBy sent job.setup run.report run.forwards)
     c.sends-sends.ensures c.in_ok-report.ensures.sent in
     found_earlier _ _ (g.S.Store.seen c.run_timed.new.store) named
-    (finding.Ran job.setup run.report run.forwards) before (
+    (finding.Ran Blocks job.setup run.report run.forwards) before (
       c.in_ok-report.ensures.reported named c.requires.threaded has,
       c.in_ok-report.ensures.faults,
       sent,
+      threaded_rings named.command c.requires.threaded,
     )

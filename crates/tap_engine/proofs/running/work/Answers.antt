@@ -1,10 +1,10 @@
-use Rattle.std.proofs.Common.{refl, sym, subst, None}
+use Rattle.std.proofs.Common.{Bool, refl, sym, subst, None}
 use Rattle.std.proofs.lemmas.Result.{err_from_is_err_and}
-use Rattle.setup_text.specs.declared.commands.Command.{Command}
-use Rattle.tap_engine.specs.Commands.{Named, named_by, sends}
+use Rattle.tap_engine.specs.Commands.{Named, named_by}
 use Rattle.tap_engine.specs.Findings.{IsSentBy}
 use Rattle.tap_engine.proofs.Meant.{names_meant}
-use Rattle.tap_engine.proofs.Worked.{first_meant, run_meant, schedule_meant, ticks_are, ticks_meant}
+use Rattle.tap_engine.proofs.Worked.{first_meant, replays_scheduled, replays_unsent, run_meant}
+use Rattle.tap_engine.proofs.Worked.{schedule_meant, ticks_are, ticks_meant}
 use Rattle.tap_engine.proofs.running.work.Goals as goal
 
 pub load_moments-requires-after_bounds : goal.load_moments-requires-after_bounds
@@ -33,7 +33,7 @@ replay_scheduled-requires-clause-schedule g c κs within =
     let named : Named = named_by c.args.asked.command c.args.asked.setup.now
     c.args.asked.schedule.now in
     let setup = c.args.job.setup in
-    schedule_meant store.to_read named setup c.in-Replay.is
+    schedule_meant store.to_read named setup (replays_scheduled named.command c.in-Replay.is)
     (names_meant store.held store.to_read named setup (g.met.S.Store.untold_reads c.args.store.now)
     c.requires.reads c.requires.job.setup)
 
@@ -43,7 +43,7 @@ replay_scheduled-requires-clause-captures g c κs within =
     let named : Named = named_by c.args.asked.command c.args.asked.setup.now
     c.args.asked.schedule.now in
     let setup = c.args.job.setup in
-    run_meant store.to_read named setup c.in-Replay.is
+    run_meant store.to_read named setup (replays_scheduled named.command c.in-Replay.is)
     (names_meant store.held store.to_read named setup (g.met.S.Store.untold_reads c.args.store.now)
     c.requires.reads c.requires.job.setup)
 
@@ -53,7 +53,7 @@ returns-in_err-report-in-Replay-clause-stop g c =
     c.args.asked.schedule.now in
     let p = err_from_is_err_and c.from_residual-in_err-report-in-Replay.result
     c.from_residual-in_err-report-in-Replay.ensures.1 in
-    rw (p.1, p.2) (c.in_err-report-in-Replay.ensures.stop named c.in-Replay.is refl c.requires.job)
+    rw (p.1, p.2) (c.in_err-report-in-Replay.ensures.stop named refl refl c.requires.job)
 
 pub send_capture-requires-clause-meant : goal.send_capture-requires-clause-meant
 send_capture-requires-clause-meant g c κs within =
@@ -70,8 +70,9 @@ returns-in_ok-report-in-Replay-clause-found g c =
     let named : Named = named_by c.args.asked.command c.args.asked.setup.now
     c.args.asked.schedule.now in
     let report = c.in_ok-report-in-Replay.report in (
-      c.in_ok-report-in-Replay.ensures.reported named c.in-Replay.is refl c.requires.job,
+      c.in_ok-report-in-Replay.ensures.reported named refl refl c.requires.job,
       c.in_ok-report-in-Replay.ensures.faults,
-      subst (λ (command : Command). IsSentBy (sends command) c.args.job.setup report None)
-          (sym c.in-Replay.is) tt,
+      subst (λ (sent : Bool). IsSentBy sent c.args.job.setup report None)
+          (sym (replays_unsent named.command c.in-Replay.is)) tt,
+      c.rings_of.ensures,
     )
