@@ -10,10 +10,12 @@ use Rattle.ring_model.specs.declared.notes.Offer.{Offer}
 
 -- the note is that of a try of the offer at a ring, or of a put
 abbrev pub IsNoteOf : RingSteps → Offer → Ring → Note → Type 0
-IsNoteOf steps offer ring note = (note ≡ try_note steps ring offer) ⊎ (note ≡ put_note steps ring offer)
+IsNoteOf steps offer ring note =
+    (note ≡ try_note steps ring offer) ⊎ (note ≡ put_note steps ring offer)
 
 -- one try has its note at its member, and all else stays
-pub record IsTried (steps : RingSteps) (offer : Offer) (t : Try) (old new : List Ring) : Type 0 where
+pub record IsTried (steps : RingSteps) (offer : Offer) (t : Try) (old new : List Ring)
+    : Type 0 where
   pub within : t.member < length old
   pub note : Note
   pub note_is : IsNoteOf steps offer (slice_index_or old t.member no_ring) note

@@ -11,13 +11,15 @@ pub tried_on : (steps : RingSteps) (offer : Offer) (a b : List Try) (first next 
     → AreTried steps offer (a ++ b) first last
 tried_on steps offer [] b first next last h k =
     subst (λ (rings : List Ring). AreTried steps offer b rings last) h k
-tried_on steps offer (t ∷ a) b first next last h k = (h.0, h.1, tried_on steps offer a b h.0 next last h.2 k)
+tried_on steps offer (t ∷ a) b first next last h k =
+    (h.0, h.1, tried_on steps offer a b h.0 next last h.2 k)
 
 pub follows_itself : (steps : RingSteps) (desk : DeskValue) → Follows steps desk desk
 follows_itself steps desk =
     record { offer_is = refl; more = []; tries_are = sym (append-nil desk.tries); made = refl }
 
-pub follows_on : (steps : RingSteps) (first next last : DeskValue) → Follows steps first next → Follows steps next last
+pub follows_on : (steps : RingSteps) (first next last : DeskValue) → Follows steps first next
+    → Follows steps next last
     → Follows steps first last
 follows_on steps first next last h k = record {
   offer_is = k.offer_is ∙ h.offer_is;

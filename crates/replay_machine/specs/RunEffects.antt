@@ -40,7 +40,8 @@ starting_from plan number (first ∷ firsts) =
     first_feeding plan number first ∷ starting_from plan (number + 1) firsts
 
 -- before the first line
-pub record Starts (steps : RingSteps) (job : Job) (firsts : List (Option SourceSeen)) (run : RunValue) : Type 0 where
+pub record Starts (steps : RingSteps) (job : Job) (firsts : List (Option SourceSeen))
+    (run : RunValue) : Type 0 where
   pub cpus : run.cpus ≡ starting_from job.setup.plan 0 firsts
   pub members : run.members ≡ replicate job.setup.plan.members (fresh steps.size)
   pub ticket : run.ticket ≡ 0
@@ -54,7 +55,8 @@ MembersAfter steps (line.Tick ms) old new = new ≡ map (ticked steps ms) old
 MembersAfter steps (line.Stats member) old new = new ≡ noted_at member Counted old
 
 -- a line is done
-pub record LineDone (steps : RingSteps) (job : Job) (line : Line) (old new : RunValue) : Type 0 where
+pub record LineDone (steps : RingSteps) (job : Job) (line : Line) (old new : RunValue)
+    : Type 0 where
   pub does : Does (λ replay. done_line (rules_of job) steps line replay) old new
   pub run : IsRun steps job new
   pub firsts : firsts_of new ≡ firsts_of old

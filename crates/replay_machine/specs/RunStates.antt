@@ -120,8 +120,8 @@ pub record Nexts (cpu : ℕ) (fed : Fed) (old new : RunValue) : Type 0 where
   pub idle : fed ≡ End → (cpu_in new cpu).fed ≡ (cpu_in old cpu).fed
 
 -- the tries of an arrival that offers this: none, or a route, each with its note
-abbrev pub IsTriedAs : RingSteps → Shape → ℕ → ℕ → Option ℕ → Option Offer → List Try → List Ring → List Ring
-    → Type 0
+abbrev pub IsTriedAs : RingSteps → Shape → ℕ → ℕ → Option ℕ → Option Offer → List Try
+    → List Ring → List Ring → Type 0
 IsTriedAs steps plan present queue ticket None tries old new = (tries ≡ []) × (new ≡ old)
 IsTriedAs steps plan present queue ticket (Some offer) tries old new =
     IsRoute (rolls_over plan) plan.members
@@ -149,7 +149,8 @@ pub record FeedsOn (cpu : ℕ) (more : Bool) (old new : RunValue) : Type 0 where
   pub goes : MatchBool more (FedOne (cpu_in old cpu) one) (IsAtItsEnd one)
 
 -- a frame arrives at a CPU
-pub record Arrives (steps : RingSteps) (job : Job) (cpu : ℕ) (frame : Frame) (old new : RunValue) : Type 0 where
+pub record Arrives (steps : RingSteps) (job : Job) (cpu : ℕ) (frame : Frame)
+    (old new : RunValue) : Type 0 where
   pub does : Does (arrived (rules_of job) steps cpu frame) old new
   pub run : IsRun steps job new
   pub path : Path
@@ -159,7 +160,8 @@ pub record Arrives (steps : RingSteps) (job : Job) (cpu : ℕ) (frame : Frame) (
   pub notes : (most : ℕ) → HaveAtMost most old.members → HaveAtMost (most + 9) new.members
 
 -- a CPU is fed its next frame, if it has one
-pub record Feeds (steps : RingSteps) (job : Job) (cpu : ℕ) (more : Bool) (old new : RunValue) : Type 0 where
+pub record Feeds (steps : RingSteps) (job : Job) (cpu : ℕ) (more : Bool) (old new : RunValue)
+    : Type 0 where
   pub does : Does (λ replay. feed (rules_of job) steps cpu replay) old new
   pub run : IsRun steps job new
   pub goes : FeedsOn cpu more old new

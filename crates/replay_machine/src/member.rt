@@ -38,8 +38,8 @@ pub trait RingMember: Drop {
         ensures unput { IfErr result (λ unput. unput.offer ≡ offer) }
         ensures err { OnErr result (ring self.new ≡ ring self.old) };
 
-    /// Keeps a packet, or hands it back where it finds no room. After `Unput` the ring is as before,
-    /// and the offer comes back.
+    /// Keeps a packet, or hands it back where it finds no room. After `Unput` the ring is as
+    /// before, and the offer comes back.
     fn try_put(&mut self, offer: Offer) -> Result<Tried, Unput>
         requires takes { Takes offer (ring self.old) }
         requires few { length (ring self.old).notes < 2 ^ 39 }

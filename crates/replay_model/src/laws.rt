@@ -12,8 +12,8 @@ ghost use Rattle.schedule_lines.specs.declared.lines.Line.{Line};
 
 use fanout_group::each_frame_stands_exactly_once;
 
-/// Whatever the schedule, the logs of a replay over rings of blocks are lawful, logs and notes are joined, and each
-/// member's notes are a run of its ring from its opening to its close.
+/// Whatever the schedule, the logs of a replay over rings of blocks are lawful, logs and notes are
+/// joined, and each member's notes are a run of its ring from its opening to its close.
 pub fn a_replay_reports_a_group()
     ensures { (rules : Rules) (size : Size) (arriving : List (List (Option Frame)))
         (lines : List Line)

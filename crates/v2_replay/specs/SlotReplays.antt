@@ -23,8 +23,8 @@ slot_steps size = record {
 abbrev pub slot_dump_where : Bool → List Note → List ℕ
 slot_dump_where asked notes = if asked then slot_dump_of notes else []
 
--- what is reported of a closed ring of slots: the packets of the offers that it kept, its dump where
--- that is asked for, and the number of filled slots; one thread ran it
+-- what is reported of a closed ring of slots: the packets of the offers that it kept, its dump
+-- where that is asked for, and the number of filled slots; one thread ran it
 abbrev pub slot_member_of : Bool → Ring → MemberReport
 slot_member_of asked ring = record {
   notes = ring.notes;

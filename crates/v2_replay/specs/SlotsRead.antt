@@ -17,8 +17,8 @@ read_of_slots asked done = record {
   blocks = length done;
 }
 
--- a ring on one thread with these filled slots, and what a reader has of them: it read all that were
--- released, and has none in hand
+-- a ring on one thread with these filled slots, and what a reader has of them: it read all that
+-- were released, and has none in hand
 pub record HasReadSlots (shape : RingRequest) (asked : Bool) (done : List (Offer × ℕ))
     (ring : PlainState) (reader : SlotReaderValue) : Type 0 where
   pub shape_is : reader.shape ≡ shape

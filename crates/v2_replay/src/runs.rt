@@ -25,11 +25,11 @@ use std::marker::Brand;
 use tap_outside::Source;
 use tp_layout::Shape;
 
-/// Replays a job over rings of slots (TPACKET_V2): the lines of the schedule in order, and then each
-/// CPU from 0 up to its end. A `tick` line does nothing, since such a ring has no timer. The shape of
-/// the job's rings is one of `check_v2`. The sources are one for each CPU, and come back less the
-/// bytes that they gave; a CPU without one ends with a fault. The only error is that an allocation
-/// fails, and the sources are dropped then.
+/// Replays a job over rings of slots (TPACKET_V2 of packet_mmap.rst): the lines of the schedule in
+/// order, and then each CPU from 0 up to its end. A `tick` line does nothing, since such a ring has
+/// no timer. The shape of the job's rings came from `check_v2`. The sources are one for each CPU,
+/// and come back less the bytes that they gave; a CPU without one ends with a fault. The only error
+/// is that an allocation fails, and the sources are dropped then.
 pub fn replay_v2<S: Source>(
     alloc: Global,
     job: &Job,
@@ -75,8 +75,8 @@ fn replay_as<S: Source, K: Setting>(
     replay_over::<S, SlotMember<K>>(alloc, job, room, members, sources, schedule)
 }
 
-/// How much longer a slot's room would be as that of a block: before a packet's data are 66 bytes in
-/// a slot and 82 in a block (docs/kernel.md).
+/// By how much a slot's room as that of a block is longer than the slot: before a packet's data are
+/// 66 bytes in a slot and 82 in a block.
 const NEARER: u32 = 16;
 
 /// The room by which offers are cut for slots of this shape, as if it were that of a block.
