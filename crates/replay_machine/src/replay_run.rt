@@ -141,13 +141,7 @@ impl<S: Source, M: RingMember> ReplayRun<S, M> {
     }
 
     /// Feeds a CPU its next frame; gives whether it had one.
-    fn feed(
-        &mut self,
-        alloc: Global,
-        job: &Job,
-        room: u32,
-        cpu: usize,
-    ) -> Result<bool, Memory>
+    fn feed(&mut self, alloc: Global, job: &Job, room: u32, cpu: usize) -> Result<bool, Memory>
         requires setup { IsSetup job.now.setup }
         requires bytes { IsRoomOf M.steps room }
         requires run { IsRun M.steps job.now self.old }
@@ -189,13 +183,7 @@ impl<S: Source, M: RingMember> ReplayRun<S, M> {
     }
 
     /// Feeds a CPU its next frame, if there is such a CPU.
-    fn feed_line(
-        &mut self,
-        alloc: Global,
-        job: &Job,
-        room: u32,
-        cpu: u32,
-    ) -> Result<(), Memory>
+    fn feed_line(&mut self, alloc: Global, job: &Job, room: u32, cpu: u32) -> Result<(), Memory>
         requires setup { IsSetup job.now.setup }
         requires bytes { IsRoomOf M.steps room }
         requires run { IsRun M.steps job.now self.old }
@@ -265,13 +253,7 @@ impl<S: Source, M: RingMember> ReplayRun<S, M> {
     }
 
     /// Feeds all frames of a CPU that are left.
-    fn feed_all(
-        &mut self,
-        alloc: Global,
-        job: &Job,
-        room: u32,
-        cpu: usize,
-    ) -> Result<(), Memory>
+    fn feed_all(&mut self, alloc: Global, job: &Job, room: u32, cpu: usize) -> Result<(), Memory>
         requires setup { IsSetup job.now.setup }
         requires bytes { IsRoomOf M.steps room }
         requires run { IsRun M.steps job.now self.old }
