@@ -1,14 +1,14 @@
 #!/usr/bin/env python3
 """Times `ringtap replay` on captures of 4 to 32 MiB, beside `tcpdump -r IN -w OUT` of the same file in the same run; then
-pcapng captures of the same frames; then groups of several members and CPUs, with a filter, and with reassembly; then `ringtap make`
-and `ringtap send`; then `ringtap capture` beside `replay` of the same captures, `ringtap forward` beside `capture`, and captures with
-pools of workers beside those without.
+pcapng captures of the same frames; then groups of several members and CPUs, with a filter, and with reassembly; then `ringtap make`,
+`ringtap send` and `ringtap replay2`; then `ringtap capture` beside `replay` of the same captures, `ringtap forward` beside `capture`,
+and captures with pools of workers beside those without.
 
     bench/run.py [--sizes 4,8,16,32] [--runs 5] [--beside OTHER | --threads] [PROGRAM]
 
 PROGRAM is crates/ringtap/out/ringtap where none is named; it is built where it isn't there. The captures have frames of 60
 bytes, of 1514 bytes, or of 60, 590 and 1514 bytes by turns. Each is replayed with a ring that keeps every frame and with one
-that drops. Those of 60 and of 1514 bytes are sent through a ring of 2048 slots. Files are written below bench/work. With
+that drops. Those of 60 and of 1514 bytes are sent through a ring of 2048 slots, and replayed over rings of TPACKET_V2. Files are written below bench/work. With
 --beside the replays alone are run, by turns with those of another program, as an earlier one; both must print the same. With
 --threads the captures on threads, the forwards and the pools alone are run.
 
@@ -335,6 +335,7 @@ def main():
     found.update(times_of_groups(program, asked))
     found.update(times_of_made(program, asked))
     found.update(times_of_sent(program, asked))
+    found.update(times_of_slots(program, asked))
     too_much = times_of_threads(program, asked)
     times_of_forwards(program, asked)
     times_of_pools(program, asked)
@@ -428,6 +429,35 @@ def times_of_sent(program, asked):
                 sys.exit(f"send of {count} frames: {printed}")
             print(
                 f"| {kind} | {size} | {count:,} | {taken:.3f} | {cpu:.3f} | {size / taken:.0f} | {memory / MIB:.0f} |",
+                flush=True,
+            )
+    return found
+
+
+# The rings of TPACKET_V2: by the bytes of a frame, as many slots as keep all frames of 1514 bytes, and the most slots there are.
+SLOT_RINGS = {
+    "1514": {"block_size": MIB, "block_nr": 64, "frame_size": 2048, "frame_nr": 64 * MIB // 2048},
+    "60": {"block_size": MIB, "block_nr": 64, "frame_size": 1024, "frame_nr": 64 * MIB // 1024},
+}
+
+
+def times_of_slots(program, asked):
+    """Prints the table of replays over rings of TPACKET_V2 that nobody reads, and gives their CPU times and memory."""
+    print("\n| Frames | Slots | MiB | Kept | Dropped | Time, s | CPU, s | MiB/s | Memory, MiB |")
+    print("|---|---|---|---|---|---|---|---|---|")
+    found = {}
+    for kind, ring in SLOT_RINGS.items():
+        write_setup("conf", ring)
+        for size in map(int, asked.sizes.split(",")):
+            count = make_capture("in.pcap", size * MIB, FRAMES[kind])
+            taken, cpu, memory, printed = measure([program, "replay2", "conf", "sched"], asked.runs)
+            found[f"{kind}, slots", size] = cpu, memory
+            kept = min(count, ring["frame_nr"])
+            if total_of(printed) != (kept, count - kept):
+                sys.exit(f"replay2 of {count} frames: {printed}")
+            print(
+                f"| {kind} | {ring['frame_nr']:,} | {size} | {kept:,} | {count - kept:,} | {taken:.3f} | {cpu:.3f}"
+                f" | {size / taken:.0f} | {memory / MIB:.0f} |",
                 flush=True,
             )
     return found

@@ -3,7 +3,7 @@ _ringtap() {
     local files=0
     COMPREPLY=()
     if [ "$COMP_CWORD" -eq 1 ]; then
-        mapfile -t COMPREPLY < <(compgen -W 'check replay capture make forward send' -- "$2")
+        mapfile -t COMPREPLY < <(compgen -W 'check replay capture make forward send replay2' -- "$2")
         return
     fi
     case ${COMP_WORDS[1]} in
@@ -13,6 +13,7 @@ _ringtap() {
     make) files=1 ;;
     forward) files=1 ;;
     send) files=1 ;;
+    replay2) files=2 ;;
     esac
     if [ "$COMP_CWORD" -le $((files + 1)) ]; then
         mapfile -t COMPREPLY < <(compgen -f -- "$2")

@@ -86,10 +86,19 @@ const REPLAY2: Command = Command {
     row: Row {
         name: "replay2",
         words: &["replay2", "conf", "sched"],
+        lines: "members 2\nmode lb\nfilter f.ddd\n",
+        dump: true,
+        filter: "1\n6 0 0 96\n",
+        schedule: "feed 0\nfeed 0\nfeed 0\n",
+        captures: &[Capture {
+            frames: &[SMALL; 3],
+            ..NO_FRAME
+        }],
         printed: "cpu 0 frames 3 arrivals 3 end ok\n\
                   member 0 packets 2 drops 0 freezes 0 blocks 2\n\
                   member 1 packets 1 drops 0 freezes 0 blocks 1\n\
                   total arrivals 3 filtered 0 kept 3 drops 0\n",
+        cpus: &["0k0.1k1.2k0."],
         members: &[
             Kept {
                 frames: &[(0, 60), (2, 60)],
@@ -102,9 +111,11 @@ const REPLAY2: Command = Command {
                 notes: "n.",
             },
         ],
-        ..REPLAY.row
+        ..NOTHING
     },
-    ..REPLAY
+    texts: &[("conf", 7), ("f.ddd", 2), ("sched", 3)],
+    captures: &["a.pcap"],
+    saves: &["out.0.pcap", "out.0.blk", "out.1.pcap", "out.1.blk"],
 };
 
 /// Five made frames of 1261, 495, 404, 474 and 747 bytes, for two CPUs by turns, none of which
