@@ -48,7 +48,7 @@ class Arriving(by_hand.Replay):
         self.passing = [[] for _ in case.captures]
         setup = by_hand.Setup(case.setup)
         code = filter_verdicts.program(case.listing) if case.listing else None
-        super().__init__(setup, [capture or b"" for capture in case.captures], code)
+        super().__init__(setup, [capture or b"" for capture in case.captures], code, by_hand.Ring)
         self.ends = ["fault" if capture is None else end for capture, end in zip(case.captures, self.ends)]
         for cpu, waiting in enumerate(self.waiting):
             while waiting:

@@ -70,7 +70,7 @@ fi
 offered() {
     bash -c 'source tools/ringtap.bash; COMP_WORDS=("$@"); COMP_CWORD=$(($# - 1)); _ringtap ringtap "${!#}"; echo "${COMPREPLY[*]}"' - "$@"
 }
-[ "$(offered ringtap re)" = replay ] || wrong "bash offers '$(offered ringtap re)' for re"
+[ "$(offered ringtap re)" = "replay replay2" ] || wrong "bash offers '$(offered ringtap re)' for re"
 [ "$(offered ringtap replay demo/sm)" = demo/small.txt ] || wrong "bash offers '$(offered ringtap replay demo/sm)'"
 [ -z "$(offered ringtap check a demo/sm)" ] || wrong "bash offers '$(offered ringtap check a demo/sm)' after check"
 exit "$failed"
