@@ -13,5 +13,5 @@ pub trait Content {
     ghost ready: { Self → ℕ → ℕ → Type 0 };
 
     // That is a fact, which a ring's rule can keep.
-    ghost ready_is_fact: { (block : Self) (number status : ℕ) → IsProp (ready block number status) };
+    ghost ready_is_fact: { (it : Self) (number status : ℕ) → IsProp (ready it number status) };
 }

@@ -36,7 +36,11 @@ impl Model for Datagram {
 
     ghost use Rattle.ip_defrag.specs.Held.{AreHeld};
 
-    ghost view = { λ it. record { name = it.name; opened = it.opened; fragments = it.fragments.items } };
+    ghost view = { λ it. record {
+      name = it.name;
+      opened = it.opened;
+      fragments = it.fragments.items;
+    } };
 
     ghost invariant = { λ it. AreHeld it.fragments.items };
 }

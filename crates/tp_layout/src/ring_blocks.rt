@@ -72,7 +72,8 @@ impl Block {
         requires small { self.old.shape.block_size ≤ 1048576 }
         requires sound { IsWritable offer.now }
         ensures written { self.new ≡ record self.old {
-          bytes = put at (packet_text (need_of offer.now.snap) (packet_of fill offer.now)) self.old.bytes;
+          bytes = put at (packet_text (need_of offer.now.snap)
+              (packet_of fill offer.now)) self.old.bytes;
         } }
         ensures typed { IsTyped (packet_of fill offer.now) }
     {

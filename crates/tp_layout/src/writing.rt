@@ -53,7 +53,8 @@ pub fn write_packet(block: &mut Block, shape: &Shape, at: u32, offer: &Offer)
     requires fits { at + need_of offer.now.snap ≤ shape.now.block_size }
     requires sound { IsWritable offer.now }
     ensures written { block.new ≡ record block.old {
-      bytes = put at (packet_text (need_of offer.now.snap) (packet_of (fills_hash shape.now) offer.now)) block.old.bytes;
+      bytes = put at (packet_text (need_of offer.now.snap)
+          (packet_of (fills_hash shape.now) offer.now)) block.old.bytes;
     } }
     ensures held { (number : ℕ) (packets : List Packet)
         → IsOpen shape.now number packets block.old.bytes → at ≡ end_of shape.now packets
