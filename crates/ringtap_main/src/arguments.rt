@@ -1,5 +1,5 @@
 //! The arguments of the program, as words.
-ghost use Rattle.std.specs.Prelude.{◌≡◌, IfOk, [], IsUtf8};
+ghost use Rattle.std.specs.Prelude.{◌≡◌, ◌≤◌, [], length, All, IfOk, IfSome, IsUtf8};
 
 use frame_view::Memory;
 use std::alloc::Global;
@@ -14,8 +14,11 @@ const FIRST_SIZE: u32 = 8;
 const LAST_SIZE: u32 = 25;
 
 /// The arguments after the program's name, in order. One that isn't UTF-8, or has more than 32 MiB,
-/// is the empty word, which is no command and the name of no file.
-pub(crate) fn words<R: Env>(rt: &R, alloc: Global) -> Result<Vec<Word>, Memory> {
+/// is the empty word, which is no command and the name of no file, and so is one without a byte.
+pub(crate) fn words<R: Env>(rt: &R, alloc: Global) -> Result<Vec<Word>, Memory>
+    ensures utf8 { IfOk result (λ words. All IsUtf8 words.items) }
+    ensures size { IfOk result (λ words. All (λ word. length word ≤ 33554432) words.items) }
+{
     let mut words = Vec::new(alloc);
     for index in 1..usize::MAX {
         match word_at(rt, alloc, index)? {
@@ -28,7 +31,10 @@ pub(crate) fn words<R: Env>(rt: &R, alloc: Global) -> Result<Vec<Word>, Memory> 
 
 /// The argument of a number, if there is one. It is read into buffers that double until one holds
 /// it.
-fn word_at<R: Env>(rt: &R, alloc: Global, index: usize) -> Result<Option<Word>, Memory> {
+fn word_at<R: Env>(rt: &R, alloc: Global, index: usize) -> Result<Option<Word>, Memory>
+    ensures utf8 { IfOk result (λ word. IfSome word IsUtf8) }
+    ensures size { IfOk result (λ word. IfSome word (λ word. length word ≤ 33554432)) }
+{
     for size in FIRST_SIZE..LAST_SIZE + 1 {
         let mut buffer = vec![in alloc; 0u8; 1usize << size]?;
         match rt.arg(index, &mut buffer) {
@@ -44,6 +50,8 @@ fn word_at<R: Env>(rt: &R, alloc: Global, index: usize) -> Result<Option<Word>, 
 fn word_of(alloc: Global, bytes: &[u8]) -> Result<Word, Memory>
     ensures text { IsUtf8 bytes.now → IfOk result (λ word. word ≡ bytes.now) }
     ensures other { ¬ (IsUtf8 bytes.now) → IfOk result (λ word. word ≡ []) }
+    ensures utf8 { IfOk result IsUtf8 }
+    ensures size { IfOk result (λ word. length word ≤ length bytes.now) }
 {
     match str::from_utf8(bytes) {
         Ok(text) => Word::new(alloc, text),

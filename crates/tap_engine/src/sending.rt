@@ -1,17 +1,17 @@
 //! A capture that is sent through a transmit ring.
-ghost use Rattle.std.specs.Prelude.{◌≡◌, ◌≤◌, None, length, All, IfOk, IsTrue};
+ghost use Rattle.std.specs.Prelude.{◌≡◌, ◌≤◌, None, length, All, IfOk, IsTrue, OnErr};
 ghost use Rattle.setup_text.specs.Sound.{IsSetup};
 ghost use Rattle.tap_outside.specs.Counts.{RoseBy};
-ghost use Rattle.tap_outside.specs.Seen.{OnlyReads};
+ghost use Rattle.tap_outside.specs.Seen.{NoReadFailed, OnlyReads};
 ghost use Rattle.tp_layout.specs.Requests.{transmit_fault};
 ghost use Rattle.tap_engine.specs.Findings.{fault_at};
 ghost use Rattle.tap_engine.specs.Names.{first_file};
 ghost use Rattle.tap_engine.specs.Sendings.{IsFirst, IsSending};
 
 use crate::sources::{close_capture, fetch_capture};
-use capture_file::{CpuEnd, frames_are_captured, frames_are_few};
+use capture_file::{CpuEnd, an_empty_capture_has_no_frames, frames_are_captured, frames_are_few};
 use capture_reading::{Reading, read_capture};
-use frame_view::Memory;
+use frame_view::{Frames, Memory};
 use setup_text::Setup;
 use std::alloc::Global;
 use tap_outside::Store;
@@ -59,7 +59,8 @@ pub(crate) fn send_capture<S: Store>(
     })
 }
 
-/// Reads the capture of CPU 0 to its end.
+/// Reads the capture of CPU 0 to its end. One that can't be fetched gives nothing and ends with a
+/// fault. Where memory runs out no read failed.
 fn read_first<S: Store>(alloc: Global, setup: &Setup, store: &mut S) -> Result<Reading, Memory>
     requires setup { IsSetup setup.now }
     requires meant { IsTrue ((S.seen store.old).to_read (first_file setup.now.cpus)) }
@@ -67,8 +68,18 @@ fn read_first<S: Store>(alloc: Global, setup: &Setup, store: &mut S) -> Result<R
     ensures faults { IfOk result (λ reading. RoseBy (fault_at reading.end)
         (S.seen store.old).read_faults (S.seen store.new).read_faults) }
     ensures store { OnlyReads (S.seen store.old) (S.seen store.new) }
+    ensures kept { OnErr result (NoReadFailed (S.seen store.old) (S.seen store.new)) }
 {
+    an_empty_capture_has_no_frames();
     let mut source = fetch_capture(store, &setup.cpus.as_slice()[0])?;
+    // `read_capture` ends so too, but may run out of memory there, for all that it promises.
+    if source.is_none() {
+        return Ok(Reading {
+            frames: Frames::new(alloc),
+            given: 0,
+            end: CpuEnd::Fault,
+        });
+    }
     let reading = read_capture(alloc, 0, &mut source);
     close_capture(store, source);
     reading

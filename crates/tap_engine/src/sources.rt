@@ -1,7 +1,8 @@
 //! The sources of a run's captures: fetched before it, and closed after it.
-ghost use Rattle.std.specs.Prelude.{◌≡◌, [], ◌∷◌, length, map, option_map, All, IfOk, IsTrue};
+ghost use Rattle.std.specs.Prelude.{◌≡◌, [], ◌∷◌, length, map, option_map, All, IfOk, IfSome};
+ghost use Rattle.std.specs.Prelude.{IsTrue, OnErr};
 ghost use Rattle.tap_outside.specs.Counts.{RoseBy};
-ghost use Rattle.tap_outside.specs.Seen.{OnlyReads};
+ghost use Rattle.tap_outside.specs.Seen.{NoReadFailed, OnlyReads};
 ghost use Rattle.tap_engine.specs.Sources.{AreFetched, faulty_in, missing_in};
 
 use frame_view::Memory;
@@ -31,7 +32,8 @@ pub(crate) fn fetch_captures<S: Store>(
     Ok(sources)
 }
 
-/// Fetches the capture of a CPU; none where it can't be fetched.
+/// Fetches the capture of a CPU; none where it can't be fetched. Where memory runs out the store is
+/// as before: a fault that was counted isn't told so.
 pub(crate) fn fetch_capture<S: Store>(
     store: &mut S,
     cpu: &CpuSetup,
@@ -43,6 +45,9 @@ pub(crate) fn fetch_capture<S: Store>(
         (missing_in (option_map S.Input.seen source ∷ []))
         (S.seen store.old).read_faults (S.seen store.new).read_faults) }
     ensures store { OnlyReads (S.seen store.old) (S.seen store.new) }
+    ensures faultless { IfOk result (λ source.
+        IfSome source (λ _. NoReadFailed (S.seen store.old) (S.seen store.new))) }
+    ensures memory { OnErr result (S.seen store.new ≡ S.seen store.old) }
 {
     match store.fetch(cpu.file.bytes()) {
         Ok(source) => Ok(Some(source)),
@@ -67,6 +72,8 @@ pub(crate) fn close_capture<S: Store>(store: &mut S, source: Option<S::Input>)
     ensures faults { RoseBy (faulty_in (option_map S.Input.seen source ∷ []))
         (S.seen store.old).read_faults (S.seen store.new).read_faults }
     ensures store { OnlyReads (S.seen store.old) (S.seen store.new) }
+    ensures faultless { IfSome source (λ source. (S.Input.seen source).faults ≡ 0)
+        → S.seen store.new ≡ S.seen store.old }
 {
     if let Some(source) = source {
         store.close(source);

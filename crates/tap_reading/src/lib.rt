@@ -1,10 +1,12 @@
 //! The texts of a command, read out of a store piece by piece and understood.
 #![tactic(auto)]
 
+mod laws;
 mod loading;
 mod stops;
 mod texts;
 
+pub use laws::{the_first_fault_of_a_schedule_answers, the_first_fault_of_ticks_answers};
 pub use loading::{load_filter, load_schedule, load_setup, load_ticks};
 pub use stops::Stop;
 pub use texts::{Unread, read_text};

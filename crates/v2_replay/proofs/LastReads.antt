@@ -1,5 +1,5 @@
 -- What a closed member reports.
-use Rattle.std.proofs.Common.{◌≡◌, ℕ, Bool, true, false, List, [], ◌∷◌, ◌++◌, length, map, None, refl, sym, ap, ◌∙◌, subst}
+use Rattle.std.proofs.Common.{◌≡◌, ℕ, Bool, true, false, List, [], ◌∷◌, ◌++◌, length, map, None, refl, ap, ◌∙◌}
 use Rattle.frame_view.specs.declared.frames.Packet.{Packet}
 use Rattle.reader_walk.specs.declared.outputs.Outputs.{Outputs}
 use Rattle.ring_model.specs.Fates.{kept_of}
@@ -8,7 +8,7 @@ use Rattle.ring_model.specs.declared.notes.Note.{Note}
 use Rattle.ring_model.specs.declared.notes.Note.TheVariants.{Finished}
 use Rattle.ring_model.specs.declared.notes.Offer.{Offer}
 use Rattle.setup_text.specs.declared.reports.MemberReport.{MemberReport}
-use Rattle.slot_layout.specs.SlotDump.{slot_dump_of, slot_packet_of, slot_texts_of}
+use Rattle.slot_layout.specs.SlotDump.{slot_dump_of, slot_packet_of}
 use Rattle.slot_model.proofs.Kept.{kept_from}
 use Rattle.slot_model.specs.SlotSteps.{first_slot_state, slot_state_of}
 use Rattle.v2_replay.specs.SlotReplays.{slot_dump_where, slot_member_of}

@@ -4,3 +4,5 @@ mod SlotReplayed
 mod ReadSlots
 mod MemberFields
 mod LastReads
+mod GroupTotals
+mod SlotTotals

@@ -1,5 +1,5 @@
 -- A member's fields stand for its ring after each call.
-use Rattle.std.proofs.Common.{◌≡◌, ℕ, ◌+◌, ◌^◌, ◌<◌, ◌≤◌, Bool, true, false, List, [], ◌∷◌, ◌++◌, length, take, drop, zero, suc, Some, refl, sym, ap, ◌∙◌, subst, arith, length-append}
+use Rattle.std.proofs.Common.{◌≡◌, ℕ, ◌+◌, ◌^◌, ◌<◌, ◌≤◌, Bool, true, false, List, [], ◌∷◌, ◌++◌, length, take, zero, suc, Some, refl, sym, ap, ◌∙◌, subst, arith, length-append}
 use Rattle.std.specs.Prelude.{is_some, if◌then◌else◌, replicate}
 use Rattle.std.specs.List.{AllByRecursion}
 use Rattle.std.proofs.Math.Seq.{drop-nil}
@@ -7,12 +7,9 @@ use Rattle.std.proofs.lemmas.List.{append-nil, length-take, take-append-le}
 use Rattle.std.proofs.lemmas.Bool.{le-ltb, lt-ltb}
 use Rattle.reader_walk.specs.declared.outputs.Outputs.{Outputs}
 use Rattle.replay_machine.proofs.MemberFacts.{some_same}
-use Rattle.replay_model.specs.RingSteps.{put_note, read_by, try_note}
-use Rattle.ring_model.specs.Asking.{put_by, try_by}
+use Rattle.replay_model.specs.RingSteps.{read_by}
 use Rattle.ring_model.specs.Offers.{IsSound}
-use Rattle.ring_model.specs.Rings.{Ring, fresh, noted}
-use Rattle.ring_model.specs.Told.{found_by}
-use Rattle.ring_model.specs.declared.notes.Found.{Found}
+use Rattle.ring_model.specs.Rings.{Ring}
 use Rattle.ring_model.specs.declared.notes.Note.{Note}
 use Rattle.ring_model.specs.declared.notes.Note.TheVariants.{Kept, Refused, Dropped, Ticked, Counted, Finished}
 use Rattle.ring_model.specs.declared.notes.Offer.{Offer}
@@ -23,13 +20,12 @@ use Rattle.ring_words.specs.Rings.{Entry}
 use Rattle.slot_layout.specs.SlotDump.{slot_texts_of}
 use Rattle.slot_layout.specs.SlotShapes.{slot_size_of, zero_slot}
 use Rattle.slot_model.proofs.Runs.{slot_counted, slot_state_push}
-use Rattle.slot_model.specs.SlotAsking.{slot_look}
 use Rattle.slot_model.specs.SlotSteps.{SlotState, slot_after, slot_state_of, slot_status}
 use Rattle.tp_layout.specs.Requests.{numbers_of}
 use Rattle.tp_layout.specs.declared.requests.RingRequest.{RingRequest}
 use Rattle.v2_ring.specs.SlotContents.{StandsForSlots}
 use Rattle.v2_ring.specs.SlotMachines.{IsFreshSlots, KeepsSlotEnd}
-use Rattle.v2_ring.specs.SlotProducing.{SlotAdds, SlotLooks, SlotProducing}
+use Rattle.v2_ring.specs.SlotProducing.{SlotAdds, SlotProducing}
 use Rattle.v2_ring.specs.SlotReaders.{ReadsSlot, SlotReaderValue, new_slot_reader}
 use Rattle.v2_ring.specs.SlotWalking.{SlotStaysBy, SlotTookBy}
 use Rattle.v2_replay.specs.SlotMembers.{KeepsSlots, Parts, ring_of}

@@ -1,13 +1,11 @@
 -- The report of a replay over rings of slots is that of a run over such rings.
-use Rattle.std.proofs.Common.{◌≡◌, ℕ, ◌<◌, ◌≤◌, ◌+◌, Bool, false, List, length, get_or, Option, refl, subst, sym, ap, arith}
-use Rattle.std.specs.Prelude.{All, None, map}
+use Rattle.std.proofs.Common.{◌≡◌, ℕ, ◌≤◌, Bool, false, List, length, refl, arith}
 use Rattle.capture_file.specs.declared.cpu_end.CpuEnd.{CpuEnd}
 use Rattle.fanout_group.specs.Joined.{Logged}
 use Rattle.fanout_group.specs.Once.{IsGroupReport}
 use Rattle.fanout_group.specs.Rules.{Rules}
-use Rattle.frame_view.specs.declared.frames.Frame.{Frame}
 use Rattle.replay_machine.proofs.GroupReports.{group_is, logs_are, members_are}
-use Rattle.replay_machine.specs.Runs.{replay_over, report_with}
+use Rattle.replay_machine.specs.Runs.{report_with}
 use Rattle.replay_model.proofs.ReplayEnds.{report_is}
 use Rattle.replay_model.specs.Reports.{IsReplayReport}
 use Rattle.replay_model.specs.RingSteps.{RingSteps}

@@ -6,7 +6,7 @@ use Rattle.replay_model.proofs.Rings.{releases_later, releases_more}
 use Rattle.replay_model.specs.Reports.{AreReleases}
 use Rattle.replay_model.specs.RingSteps.{put_note, read_by, try_note}
 use Rattle.ring_model.specs.Ring.{Size}
-use Rattle.ring_model.specs.Rings.{Ring, fresh, noted}
+use Rattle.ring_model.specs.Rings.{Ring, noted}
 use Rattle.ring_model.specs.Unreleased.{IsUnreleased}
 use Rattle.ring_model.specs.declared.notes.Note.{Note}
 use Rattle.ring_model.specs.declared.notes.Note.TheVariants.{Counted, Finished}

@@ -2,8 +2,10 @@
 //! and its reader reads it out of there.
 #![tactic(auto)]
 
+mod laws;
 mod member;
 mod new_members;
 mod runs;
 
+pub use laws::the_totals_over_slots_add_up;
 pub use runs::{a_job_over_slots_reports_a_group, replay_v2};
