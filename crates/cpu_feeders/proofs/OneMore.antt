@@ -1,5 +1,5 @@
 -- Lists that loops make an item at a time.
-use Rattle.std.proofs.Common.{◌≡◌, ◌<◌, ℕ, zero, suc, ◌+◌, List, [], ◌∷◌, ◌++◌, length, append_assoc, append-nil, refl, sym, ap, ◌∙◌, subst, arith}
+use Rattle.std.proofs.Common.{◌≡◌, ◌<◌, ℕ, zero, suc, ◌+◌, List, [], ◌∷◌, ◌++◌, length, length-append, append_assoc, append-nil, refl, sym, ap, ◌∙◌, subst, arith}
 use Rattle.std.specs.Prelude.{map}
 use Rattle.std.specs.List.{AllByRecursion, AllZip}
 use Rattle.std.proofs.lemmas.List.{map-append}
@@ -73,3 +73,47 @@ pub next_item : {A B : Type 0} (f : A → B) (made now : List A) (rest after all
 next_item {A = A} {B = B} f made now rest after all x y next now_is is h =
     ap (λ (xs : List A). map f xs ++ after) now_is ∙ ap (λ (ys : List B). ys ++ after) (map-append f made (x ∷ []))
     ∙ append_assoc (map f made) (f x ∷ []) after ∙ ap (λ (b : B). map f made ++ b ∷ after) is ∙ ap (λ (ys : List B). map f made ++ ys) (sym next) ∙ h
+
+-- ---- how many items there are where one goes over
+
+module _ {A B : Type 0} where
+  pub as_many : (count : ℕ) (done now : List B) (rest after : List A) (x : A) (y : B) → rest ≡ x ∷ after → now ≡ done ++ y ∷ []
+      → length done + length rest ≡ count → length now + length after ≡ count
+  as_many count done now rest after x y next now_is many =
+      let one_less = ap (λ (xs : List A). length xs) next in
+      let one_more = ap (λ (ys : List B). length ys) now_is in
+      let sum = length-append done (y ∷ []) in
+      omega (arith, many, one_less, one_more, sum)
+
+  -- from the end
+  pub as_many_at_end : (count : ℕ) (done now : List B) (rest after : List A) (x : A) (y : B) → rest ≡ after ++ x ∷ [] → now ≡ done ++ y ∷ []
+      → length done + length rest ≡ count → length now + length after ≡ count
+  as_many_at_end count done now rest after x y next now_is many =
+      let one_less = ap (λ (xs : List A). length xs) next in
+      let one_more = ap (λ (ys : List B). length ys) now_is in
+      let less = length-append after (x ∷ []) in
+      let sum = length-append done (y ∷ []) in
+      omega (arith, many, one_less, one_more, less, sum)
+
+  pub both_shorter : (xs less : List A) (ys fewer : List B) (x : A) (y : B) → xs ≡ x ∷ less → ys ≡ y ∷ fewer → length xs ≡ length ys → length less ≡ length fewer
+  both_shorter xs less ys fewer x y xs_are ys_are same =
+      let one = ap (λ (zs : List A). length zs) xs_are in
+      let other = ap (λ (zs : List B). length zs) ys_are in
+      omega (arith, same, one, other)
+
+  -- the first one at its end
+  pub both_shorter_at_end : (xs less : List A) (ys fewer : List B) (x : A) (y : B) → xs ≡ less ++ x ∷ [] → ys ≡ y ∷ fewer → length xs ≡ length ys
+      → length less ≡ length fewer
+  both_shorter_at_end xs less ys fewer x y xs_are ys_are same =
+      let one = ap (λ (zs : List A). length zs) xs_are in
+      let sum = length-append less (x ∷ []) in
+      let other = ap (λ (zs : List B). length zs) ys_are in
+      omega (arith, same, one, sum, other)
+
+
+-- three lists after one another
+pub in_a_row : {A : Type 0} (none one two three first last : List A) (x : A) → none ≡ [] → one ≡ none ++ first → two ≡ one ++ x ∷ [] → three ≡ two ++ last
+    → three ≡ first ++ x ∷ last
+in_a_row {A = A} none one two three first last x none_is one_is two_is three_is =
+    three_is ∙ ap (λ (xs : List A). xs ++ last) (two_is ∙ ap (λ (xs : List A). xs ++ x ∷ []) (one_is ∙ ap (λ (xs : List A). xs ++ first) none_is))
+    ∙ append_assoc first (x ∷ []) last

@@ -1,7 +1,7 @@
 //! What feeders and the timer leave after the joins.
-ghost use Rattle.std.specs.Prelude.{◌≡◌, ◌++◌, [], length, map, replicate, IfOk};
+ghost use Rattle.std.specs.Prelude.{◌≡◌, ◌++◌, ◌∷◌, [], length, map, replicate, IfOk, OnOk};
 ghost use Rattle.std.specs.List.{AllByRecursion};
-ghost use Rattle.cpu_feeders.specs.Stands.{with_all};
+ghost use Rattle.cpu_feeders.specs.Stands.{with_all, with_each};
 
 use crate::Timer;
 use crate::feeder::Feeder;
@@ -23,6 +23,48 @@ pub(crate) struct Left<S: Source> {
     pub(crate) stands: Vec<StandList>,
 }
 
+impl<S: Source> Left<S> {
+    /// Nothing is left yet, of no CPU and at so many members. There is room for so many CPUs.
+    fn new(alloc: Global, cpus: usize, members: usize) -> Result<Left<S>, Memory>
+        ensures cpus { IfOk result (λ left. left.cpus.items ≡ []) }
+        ensures seats { IfOk result (λ left. left.seats.items ≡ []) }
+        ensures stands { IfOk result (λ left. left.stands.items ≡ replicate members []) }
+    {
+        Ok(Left {
+            cpus: Vec::with_capacity(alloc, cpus)?,
+            seats: Vec::with_capacity(alloc, cpus)?,
+            stands: empty_lists(alloc, members)?,
+        })
+    }
+
+    /// Takes one feeder apart, and puts what it leaves after what others left.
+    fn add(&mut self, feeder: Feeder<S>) -> Result<(), Memory>
+        requires count { length feeder.stands.items ≡ length self.old.stands.items }
+        ensures cpus { OnOk result (self.new.cpus.items ≡ self.old.cpus.items ++ feeder.feed ∷ []) }
+        ensures seats { OnOk result
+            (self.new.seats.items ≡ self.old.seats.items ++ feeder.seat ∷ []) }
+        ensures stands { OnOk result
+            (self.new.stands.items ≡ with_each self.old.stands.items feeder.stands.items) }
+    {
+        self.cpus.push(feeder.feed)?;
+        self.seats.push(feeder.seat)?;
+        add_to_each(&mut self.stands, feeder.stands)
+    }
+}
+
+/// Puts the stands of timers, who have one at each member, after these.
+fn add_timers(stands: &mut Vec<StandList>, timers: Vec<Timer>) -> Result<(), Memory>
+    requires timers { AllByRecursion (λ it. length it.stands.items ≡ length stands.old.items)
+        timers.items }
+    ensures { OnOk result (stands.new.items
+        ≡ with_all stands.old.items (map (λ timer. timer.stands.items) timers.items)) }
+{
+    for timer in timers {
+        add_to_each(stands, timer.stands)?;
+    }
+    Ok(())
+}
+
 /// Takes feeders and the timer apart, who have a stand at each of so many members.
 pub(crate) fn gather<S: Source>(
     alloc: Global,
@@ -40,18 +82,10 @@ pub(crate) fn gather<S: Source>(
         (map (λ feeder. feeder.stands.items) feeders.items
         ++ map (λ timer. timer.stands.items) timers.items)) }
 {
-    let mut left = Left {
-        cpus: Vec::with_capacity(alloc, feeders.len())?,
-        seats: Vec::with_capacity(alloc, feeders.len())?,
-        stands: empty_lists(alloc, members)?,
-    };
+    let mut left = Left::new(alloc, feeders.len(), members)?;
     for feeder in feeders {
-        left.cpus.push(feeder.feed)?;
-        left.seats.push(feeder.seat)?;
-        add_to_each(&mut left.stands, feeder.stands)?;
+        left.add(feeder)?;
     }
-    for timer in timers {
-        add_to_each(&mut left.stands, timer.stands)?;
-    }
+    add_timers(&mut left.stands, timers)?;
     Ok(left)
 }

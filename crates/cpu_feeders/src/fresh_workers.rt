@@ -1,8 +1,9 @@
 //! The workers of a run before they start.
-ghost use Rattle.std.specs.Prelude.{◌≡◌, ◌+◌, ◌≤◌, false, length, map, option_map, IfOk};
+ghost use Rattle.std.specs.Prelude.{◌≡◌, ◌+◌, ◌≤◌, ◌++◌, false, length, map, option_map, IfOk, OnOk};
 ghost use Rattle.std.specs.List.{AllByRecursion};
 ghost use Rattle.cpu_feeders.specs.Feeds.{IsFreshSeat};
-ghost use Rattle.cpu_feeders.specs.FreshWorkers.{first_feeds, in_order};
+ghost use Rattle.cpu_feeders.specs.FreshWorkers.{first_feed, first_feeds, in_order};
+ghost use Rattle.cpu_feeders.specs.declared.worker.Worker.TheVariants as worker;
 ghost use Rattle.ticket_dealer.specs.Seats.{DealerValue, IsFreshOf};
 
 use crate::feeder::Feeder;
@@ -19,6 +20,31 @@ use std::alloc::Global;
 use std::collections::VecDeque;
 use tap_outside::Source;
 use tp_layout::Block;
+
+/// The feeder of a CPU, of which nothing was read.
+fn fresh_feeder<S: Source>(
+    alloc: Global,
+    number: u32,
+    plan: Plan,
+    source: Option<S>,
+    stands: StandList,
+    seat: DealerSeat,
+) -> Result<Feeder<S>, Memory>
+    ensures feed { IfOk result (λ feeder.
+        feeder.feed ≡ first_feed plan number (option_map S.seen source)) }
+    ensures stands { IfOk result (λ feeder. feeder.stands.items ≡ stands) }
+    ensures seat { IfOk result (λ feeder. feeder.seat ≡ seat) }
+    ensures full { IfOk result (λ feeder. feeder.full ≡ false) }
+{
+    let buffer = Buffer::new(alloc)?;
+    Ok(Feeder {
+        feed: CpuFeed::new(alloc, number, source, plan),
+        stands: stands.into_vec(),
+        seat,
+        buffer,
+        full: false,
+    })
+}
 
 /// A feeder for each source, with the stands of its CPU.
 pub(crate) fn feeders_of<S: Source>(
@@ -51,13 +77,7 @@ pub(crate) fn feeders_of<S: Source>(
             unreachable!()
         };
         let number = feeders.len() as u32;
-        feeders.push(Feeder {
-            feed: CpuFeed::new(alloc, number, source, plan),
-            stands: stands.into_vec(),
-            seat,
-            buffer: Buffer::new(alloc)?,
-            full: false,
-        })?;
+        feeders.push(fresh_feeder(alloc, number, plan, source, stands, seat)?)?;
     }
     Ok(feeders)
 }
@@ -105,6 +125,34 @@ pub(crate) fn walkers_of<T: Taker + Drop>(
     Ok(walkers)
 }
 
+/// Puts readers after these workers.
+fn add_walkers<S: Source, T: Taker + Drop>(
+    workers: &mut Vec<Worker<S, T>>,
+    walkers: Vec<Walker<T>>,
+) -> Result<(), Memory>
+    ensures { OnOk result (workers.new.items
+        ≡ workers.old.items ++ map (λ walker. worker.Walks walker) walkers.items) }
+{
+    for walker in walkers {
+        workers.push(Worker::Walks(walker))?;
+    }
+    Ok(())
+}
+
+/// Puts feeders after these workers.
+fn add_feeders<S: Source, T: Taker + Drop>(
+    workers: &mut Vec<Worker<S, T>>,
+    feeders: Vec<Feeder<S>>,
+) -> Result<(), Memory>
+    ensures { OnOk result (workers.new.items
+        ≡ workers.old.items ++ map (λ feeder. worker.Feeds feeder) feeders.items) }
+{
+    for feeder in feeders {
+        workers.push(Worker::Feeds(feeder))?;
+    }
+    Ok(())
+}
+
 /// The workers in the order in which they are run: readers, the timer, feeders.
 pub(crate) fn workers_of<S: Source, T: Taker + Drop>(
     alloc: Global,
@@ -116,12 +164,8 @@ pub(crate) fn workers_of<S: Source, T: Taker + Drop>(
         workers.items ≡ in_order walkers.items timer feeders.items) }
 {
     let mut workers = Vec::new(alloc);
-    for walker in walkers {
-        workers.push(Worker::Walks(walker))?;
-    }
+    add_walkers(&mut workers, walkers)?;
     workers.push(Worker::Ticks(timer))?;
-    for feeder in feeders {
-        workers.push(Worker::Feeds(feeder))?;
-    }
+    add_feeders(&mut workers, feeders)?;
     Ok(workers)
 }

@@ -1,5 +1,5 @@
 //! A run on threads with takers of the caller's.
-ghost use Rattle.std.specs.Prelude.{◌≡◌, ◌++◌, ℕ, List, Option, length, map, option_map, IfOk};
+ghost use Rattle.std.specs.Prelude.{◌≡◌, ◌++◌, ◌∷◌, [], ℕ, List, Option, length, map, option_map, IfOk, OnOk};
 ghost use Rattle.std.specs.List.{AllByRecursion};
 ghost use Rattle.cpu_feeders.specs.Crews.{HaveWorked};
 ghost use Rattle.cpu_feeders.specs.FreshWorkers.{AreHired};
@@ -96,6 +96,53 @@ fn hire<S: Source, T: Taker + Drop>(
     })
 }
 
+/// What closed CPUs leave, with room for what so many members leave.
+fn without_members<S: Source, T: Taker + Drop>(
+    alloc: Global,
+    cpus: ClosedCpus<S>,
+    members: usize,
+) -> Result<Workers<S, T>, Memory>
+    ensures cpus { IfOk result (λ workers. workers.cpus ≡ cpus.logs) }
+    ensures sources { IfOk result (λ workers. workers.sources.items ≡ cpus.sources.items) }
+    ensures notes { IfOk result (λ workers. workers.notes.items ≡ []) }
+    ensures takers { IfOk result (λ workers. workers.takers.items ≡ []) }
+    ensures rings { IfOk result (λ workers. workers.rings.items ≡ []) }
+{
+    let notes = Vec::with_capacity(alloc, members)?;
+    let takers = Vec::with_capacity(alloc, members)?;
+    let rings = Vec::with_capacity(alloc, members)?;
+    Ok(Workers {
+        cpus: cpus.logs,
+        notes,
+        takers,
+        sources: cpus.sources,
+        rings,
+    })
+}
+
+/// Puts what a closed member leaves after the others.
+fn add_member<S: Source, T: Taker + Drop>(
+    workers: &mut Workers<S, T>,
+    seats: &mut Vec<DealerSeat>,
+    closed: Closed<T>,
+) -> Result<(), Memory>
+    ensures cpus { OnOk result (workers.new.cpus ≡ workers.old.cpus) }
+    ensures sources { OnOk result (workers.new.sources.items ≡ workers.old.sources.items) }
+    ensures notes { OnOk result
+        (workers.new.notes.items ≡ workers.old.notes.items ++ closed.notes ∷ []) }
+    ensures takers { OnOk result
+        (workers.new.takers.items ≡ workers.old.takers.items ++ closed.taker ∷ []) }
+    ensures rings { OnOk result
+        (workers.new.rings.items ≡ workers.old.rings.items ++ closed.ring ∷ []) }
+    ensures seats { OnOk result (seats.new.items ≡ seats.old.items ++ closed.seat ∷ []) }
+{
+    workers.notes.push(closed.notes)?;
+    workers.takers.push(closed.taker)?;
+    workers.rings.push(closed.ring)?;
+    seats.push(closed.seat)?;
+    Ok(())
+}
+
 /// Puts what closed CPUs and closed members leave together, each kind in a list of its own.
 fn assemble<S: Source, T: Taker + Drop>(
     alloc: Global,
@@ -114,18 +161,9 @@ fn assemble<S: Source, T: Taker + Drop>(
     ensures seats { IfOk result (λ workers.
         seats.new.items ≡ seats.old.items ++ map (λ closed. closed.seat) members.items) }
 {
-    let mut workers = Workers {
-        cpus: cpus.logs,
-        notes: Vec::with_capacity(alloc, members.len())?,
-        takers: Vec::with_capacity(alloc, members.len())?,
-        sources: cpus.sources,
-        rings: Vec::with_capacity(alloc, members.len())?,
-    };
+    let mut workers = without_members(alloc, cpus, members.len())?;
     for closed in members {
-        workers.notes.push(closed.notes)?;
-        workers.takers.push(closed.taker)?;
-        workers.rings.push(closed.ring)?;
-        seats.push(closed.seat)?;
+        add_member(&mut workers, seats, closed)?;
     }
     Ok(workers)
 }

@@ -34,13 +34,50 @@ impl<S: Source, T: Taker + Drop> Parted<S, T> {
             ≡ self.old.feeders.items ++ feeders_in (worker ∷ [])) }
     {
         match worker {
-            Worker::Walks(walker) if !walker.full => self.walkers.push(walker)?,
-            Worker::Ticks(timer) if !timer.full => self.timers.push(timer)?,
-            Worker::Feeds(feeder) if !feeder.full => self.feeders.push(feeder)?,
-            _ => return Err(Memory),
+            Worker::Walks(walker) => add_walker(&mut self.walkers, walker),
+            Worker::Ticks(timer) => add_timer(&mut self.timers, timer),
+            Worker::Feeds(feeder) => add_feeder(&mut self.feeders, feeder),
         }
-        Ok(())
     }
+}
+
+/// Puts a reader after others, unless it ran out of memory.
+fn add_walker<T: Taker + Drop>(
+    walkers: &mut Vec<Walker<T>>,
+    walker: Walker<T>,
+) -> Result<(), Memory>
+    ensures full { OnOk result (walker.full ≡ false) }
+    ensures walkers { OnOk result (walkers.new.items ≡ walkers.old.items ++ walker ∷ []) }
+{
+    if walker.full {
+        return Err(Memory);
+    }
+    walkers.push(walker)?;
+    Ok(())
+}
+
+/// Puts a timer after others, unless it ran out of memory.
+fn add_timer(timers: &mut Vec<Timer>, timer: Timer) -> Result<(), Memory>
+    ensures full { OnOk result (timer.full ≡ false) }
+    ensures timers { OnOk result (timers.new.items ≡ timers.old.items ++ timer ∷ []) }
+{
+    if timer.full {
+        return Err(Memory);
+    }
+    timers.push(timer)?;
+    Ok(())
+}
+
+/// Puts a feeder after others, unless it ran out of memory.
+fn add_feeder<S: Source>(feeders: &mut Vec<Feeder<S>>, feeder: Feeder<S>) -> Result<(), Memory>
+    ensures full { OnOk result (feeder.full ≡ false) }
+    ensures feeders { OnOk result (feeders.new.items ≡ feeders.old.items ++ feeder ∷ []) }
+{
+    if feeder.full {
+        return Err(Memory);
+    }
+    feeders.push(feeder)?;
+    Ok(())
 }
 
 /// Parts workers by their kinds. The error is also that one of them ran out of memory.

@@ -1,13 +1,20 @@
 -- A desk after a try.
-use Rattle.std.proofs.Common.{◌≡◌, ℕ, ◌+◌, ◌^◌, ◌<◌, ◌≤◌, List, [], ◌∷◌, ◌++◌, length, get_or, sym, ap, ◌∙◌, subst, arith, length-append}
-use Rattle.std.specs.Prelude.{All, slice_set}
+use Rattle.std.proofs.Common.{◌≡◌, ℕ, ◌+◌, ◌^◌, ◌<◌, ◌≤◌, List, [], ◌∷◌, ◌++◌, length, get_or, refl, sym, ap, ◌∙◌, subst, arith, length-append}
+use Rattle.std.specs.Prelude.{All, slice_index_or, slice_set}
+use Rattle.std.proofs.lemmas.List.{get_or_default}
 use Rattle.std.proofs.lemmas.List.Elements.{All-set}
+use Rattle.fanout_group.specs.Desks.{fate_of_put, fate_of_try}
 use Rattle.fanout_group.specs.declared.logs.Try.{Try}
+use Rattle.replay_model.specs.Replay.{fate_of, no_ring, noted_at}
 use Rattle.replay_model.specs.RingSteps.{RingSteps}
+use Rattle.ring_model.specs.Asking.{put_by, try_by}
 use Rattle.ring_model.specs.Rings.{Ring, noted}
+use Rattle.ring_model.specs.Told.{put_told, try_told}
+use Rattle.ring_model.specs.declared.notes.Found.{Found}
+use Rattle.ring_model.specs.declared.notes.Found.TheVariants.{Free, Held, NotAsked}
 use Rattle.ring_model.specs.declared.notes.Note.{Note}
 use Rattle.ring_model.specs.declared.notes.Offer.{Offer}
-use Rattle.replay_machine.specs.Deliveries.{DeskValue, Follows, HasRoomFor, desk_with}
+use Rattle.replay_machine.specs.Deliveries.{AreTried, DeskValue, Follows, HasRoomFor, IsNoteOf, desk_with}
 use Rattle.replay_machine.specs.DeskLaws.{follows_itself}
 use Rattle.replay_machine.proofs.Whole.{set_same}
 
@@ -35,3 +42,38 @@ room_left members tries now t at was x note room within here noted_is more =
     let notes = ap (λ (ring : Ring). length ring.notes) noted_is in
     let one_more = length-append was.notes (note ∷ []) in
     All-set P members at x (omega (arith, old, at_was, notes, one_more, count, sum)) wide
+
+-- one try was made, and the desk with it follows the one before
+pub desk_goes_on : (steps : RingSteps) (now : DeskValue) (offer : Offer) (members : List Ring) (tries more : List Try) (t : Try) (was x : Ring) (note : Note)
+    → desk_with offer members tries ≡ now → t.member < length now.members → was ≡ get_or members t.member was
+    → IsNoteOf steps offer was note → t.fate ≡ fate_of note → x ≡ noted was note → more ≡ tries ++ t ∷ []
+    → Follows steps now (desk_with offer (slice_set members t.member x) more)
+desk_goes_on steps now offer members tries more t was x note view within here note_is fate noted_is tries_are =
+    let inside : t.member < length members = subst (λ (desk : DeskValue). t.member < length desk.members) (sym view) within in
+    let at_ring : was ≡ slice_index_or members t.member no_ring = here ∙ get_or_default members t.member was no_ring inside in
+    let made : AreTried steps offer (t ∷ []) members (slice_set members t.member x) = (
+      noted_at t.member note members,
+      record {
+        within = inside;
+        note = note;
+        note_is = subst (λ (ring : Ring). IsNoteOf steps offer ring note) at_ring note_is;
+        fate_is = fate;
+        rings_are = refl;
+      },
+      ap (λ (ring : Ring). slice_set members t.member ring) (noted_is ∙ ap (λ (ring : Ring). noted ring note) at_ring),
+    ) in
+    let follows : Follows steps (desk_with offer members tries) (desk_with offer (slice_set members t.member x) more) =
+    record { offer_is = refl; more = t ∷ []; tries_are = tries_are; made = made } in
+    subst (λ (desk : DeskValue). Follows steps desk (desk_with offer (slice_set members t.member x) more)) view follows
+
+-- a try tells the fate that its note has
+pub try_tells : (offer : Offer) (found : Found) → fate_of_try (try_told offer (try_by offer found)) ≡ fate_of (try_by offer found)
+try_tells offer NotAsked = refl
+try_tells offer Free = refl
+try_tells offer (Held number) = refl
+
+-- and so does a put
+pub put_tells : (offer : Offer) (found : Found) → fate_of_put (put_told (put_by offer found)) ≡ fate_of (put_by offer found)
+put_tells offer NotAsked = refl
+put_tells offer Free = refl
+put_tells offer (Held number) = refl

@@ -11,3 +11,4 @@ pub mod Lines
 pub mod WholeRuns
 pub mod GroupReports
 pub mod MemberFacts
+pub mod OneMore

@@ -1,5 +1,5 @@
 -- What the proofs about members have in common, of whatever kind their rings are.
-use Rattle.std.proofs.Common.{◌≡◌, ℕ, ◌<◌, ◌≤◌, Some, length, arith}
+use Rattle.std.proofs.Common.{◌≡◌, ℕ, Some, arith}
 use Rattle.std.specs.Prelude.{IfErr, IfOk, Result, Ok, Err}
 use Rattle.ring_model.specs.Offers.{IsSound}
 use Rattle.ring_model.specs.declared.notes.Offer.{Offer}

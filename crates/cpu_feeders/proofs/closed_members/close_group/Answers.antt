@@ -53,7 +53,7 @@ loop-walker-preserved g c =
 pub returns : goal.returns
 returns g c =
     let inv = c.loop-walker.invariant in
-    let count : length c.loop-walker.walker-iterator.rest.items ≡ 0 = search rules in
+    let count : length c.loop-walker.walker-iterator.rest.items ≡ 0 = sym c.loop-walker.walker-iterator.rest.ok.0 ∙ c.in-None.ensures.steps.0 in
     let members = inv.members_left in
     let stands = inv.stands_left in
     let no_walker = empty c.loop-walker.walker-iterator.rest.items count in

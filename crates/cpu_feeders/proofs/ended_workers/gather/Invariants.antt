@@ -15,14 +15,3 @@ invariant-loop-feeder g l = record {
   stands : with_all l.left.stands.items (map (λ feeder. feeder.stands.items) l.feeder-iterator.rest.items)
       ≡ with_all (replicate l.members []) (map (λ feeder. feeder.stands.items) l.fn.feeders.items);
 }
-
-abbrev pub invariant-loop-timer : goal.invariant-loop-timer
-invariant-loop-timer g l = record {
-  cpus : l.left.cpus.items ≡ map (λ feeder. feeder.feed) l.fn.feeders.items;
-  seats : l.left.seats.items ≡ map (λ feeder. feeder.seat) l.fn.feeders.items;
-  count : length l.left.stands.items ≡ l.members;
-  as_many : AllByRecursion (λ timer. length timer.stands.items ≡ l.members) l.timer-iterator.rest.items;
-  stands : with_all l.left.stands.items (map (λ timer. timer.stands.items) l.timer-iterator.rest.items)
-      ≡ with_all (replicate l.members [])
-      (map (λ feeder. feeder.stands.items) l.fn.feeders.items ++ map (λ timer. timer.stands.items) l.fn.timers.items);
-}

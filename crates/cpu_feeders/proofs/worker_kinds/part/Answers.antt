@@ -1,4 +1,4 @@
-use Rattle.std.proofs.Common.{◌≡◌, ◌∷◌, [], List, false, length, rules, refl, sym, subst}
+use Rattle.std.proofs.Common.{◌≡◌, ◌∷◌, [], List, false, length, refl, sym, subst, ◌∙◌}
 use Rattle.std.specs.List.{AllByRecursion}
 use Rattle.cpu_feeders.specs.WorkerKinds.{feeders_in, is_full, timers_in, walkers_in}
 use Rattle.cpu_feeders.specs.declared.worker.Worker.{Worker}
@@ -21,21 +21,21 @@ loop-worker-preserved g c =
 
 pub returns-clause-full : goal.returns-clause-full
 returns-clause-full g c =
-    let count : length c.loop-worker.worker-iterator.rest.items ≡ 0 = search rules in
+    let count : length c.loop-worker.worker-iterator.rest.items ≡ 0 = sym c.loop-worker.worker-iterator.rest.ok.0 ∙ c.in-None.ensures.steps.0 in
     c.loop-worker.invariant.full (subst (λ (ws : List (Worker g.row.S.Denot g.row.T.Denot)).
     AllByRecursion (λ (w : Worker g.row.S.Denot g.row.T.Denot). is_full w ≡ false) ws) (sym (empty c.loop-worker.worker-iterator.rest.items count)) tt)
 
 pub returns-clause-walkers : goal.returns-clause-walkers
 returns-clause-walkers g c =
-    let count : length c.loop-worker.worker-iterator.rest.items ≡ 0 = search rules in
+    let count : length c.loop-worker.worker-iterator.rest.items ≡ 0 = sym c.loop-worker.worker-iterator.rest.ok.0 ∙ c.in-None.ensures.steps.0 in
     last_kind walkers_in walkers_on refl _ _ _ (empty c.loop-worker.worker-iterator.rest.items count) c.loop-worker.invariant.walkers
 
 pub returns-clause-timers : goal.returns-clause-timers
 returns-clause-timers g c =
-    let count : length c.loop-worker.worker-iterator.rest.items ≡ 0 = search rules in
+    let count : length c.loop-worker.worker-iterator.rest.items ≡ 0 = sym c.loop-worker.worker-iterator.rest.ok.0 ∙ c.in-None.ensures.steps.0 in
     last_kind timers_in timers_on refl _ _ _ (empty c.loop-worker.worker-iterator.rest.items count) c.loop-worker.invariant.timers
 
 pub returns-clause-feeders : goal.returns-clause-feeders
 returns-clause-feeders g c =
-    let count : length c.loop-worker.worker-iterator.rest.items ≡ 0 = search rules in
+    let count : length c.loop-worker.worker-iterator.rest.items ≡ 0 = sym c.loop-worker.worker-iterator.rest.ok.0 ∙ c.in-None.ensures.steps.0 in
     last_kind feeders_in feeders_on refl _ _ _ (empty c.loop-worker.worker-iterator.rest.items count) c.loop-worker.invariant.feeders
