@@ -1,8 +1,7 @@
 -- What is left of all members and readers once they are closed.
-use Rattle.std.proofs.Common.{◌≡◌, ◌<◌, ◌+◌, ℕ, zero, suc, List, [], ◌∷◌, ◌++◌, length, get_or, append-nil, append_assoc, refl, sym, ap, ◌∙◌, subst, arith}
+use Rattle.std.proofs.Common.{◌≡◌, ◌<◌, ℕ, zero, suc, List, [], ◌∷◌, length, get_or, refl, sym, ap, ◌∙◌, subst, arith}
 use Rattle.std.specs.Prelude.{map}
 use Rattle.std.specs.List.{AllByRecursion, AllZip}
-use Rattle.capture_model.specs.Threads.{DrewNone}
 use Rattle.capture_reports.specs.Closed.{IsClosedOver, IsRingOf, MemberLeft, locks_of, notes_of_members, rings_of}
 use Rattle.capture_reports.specs.Reported.{taken_of_notes}
 use Rattle.member_turns.specs.Seats.{Lock, Seat}
@@ -11,13 +10,12 @@ use Rattle.ring_model.specs.declared.notes.Note.{Note}
 use Rattle.ring_words.specs.Pendings.{Pends}
 use Rattle.ring_words.specs.Rings.{Entry}
 use Rattle.setup_text.specs.declared.jobs.Job.{Job}
-use Rattle.ticket_dealer.specs.Seats.{DealerValue, IsFreshOf, IsSeatOf, SeatValue}
+use Rattle.ticket_dealer.specs.Seats.{DealerValue, IsFreshOf, SeatValue}
 use Rattle.tp_layout.specs.Writing.{ShapedBytes}
 use Rattle.tp_layout.specs.declared.requests.RingRequest.{RingRequest}
 use Rattle.cpu_feeders.specs.Closings.{AllAtEnd, AllClosedWith, AreAtEnd, IsClosedWith}
 use Rattle.cpu_feeders.specs.FreshWorkers.{IsFreshReader, IsMemberOf}
 use Rattle.cpu_feeders.specs.Runs.{AreTakersOf}
-use Rattle.cpu_feeders.specs.Walks.{taken_of}
 use Rattle.cpu_feeders.specs.WorkerEffects.{IsWalkedOut}
 use Rattle.cpu_feeders.specs.declared.closed_members.Closed.{Closed}
 use Rattle.cpu_feeders.specs.declared.walker.Walker.{Walker}

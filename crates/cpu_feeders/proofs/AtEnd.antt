@@ -1,5 +1,5 @@
 -- Members, their stands and their readers when all threads have ended.
-use Rattle.std.proofs.Common.{◌≡◌, ◌<◌, ◌+◌, ℕ, zero, suc, false, List, [], ◌∷◌, ◌++◌, length, length-append, get_or, refl, sym, ap, ◌∙◌, subst, arith}
+use Rattle.std.proofs.Common.{◌≡◌, ◌<◌, ℕ, zero, suc, false, List, [], ◌∷◌, ◌++◌, length, length-append, get_or, sym, ap, ◌∙◌, subst, arith}
 use Rattle.std.specs.Prelude.{map, replicate}
 use Rattle.std.specs.List.{AllByRecursion, AllZip}
 use Rattle.std.proofs.lemmas.List.{length-map, length-replicate}
@@ -8,9 +8,9 @@ use Rattle.member_turns.specs.Entries.{table_numbers}
 use Rattle.member_turns.specs.Seats.{Lock, Seat}
 use Rattle.reader_walk.specs.Takers.{Base, Taken}
 use Rattle.setup_text.specs.declared.jobs.Job.{Job}
-use Rattle.ticket_dealer.specs.Seats.{DealerValue, IsFreshOf}
+use Rattle.ticket_dealer.specs.Seats.{DealerValue}
 use Rattle.turn_lock.specs.Seats.{IsIdleSeatOf}
-use Rattle.cpu_feeders.specs.Closings.{AllAtEnd, AreAtEnd}
+use Rattle.cpu_feeders.specs.Closings.{AllAtEnd}
 use Rattle.cpu_feeders.specs.FreshWorkers.{IsFreshReader, IsMemberOf, IsReaderAt}
 use Rattle.cpu_feeders.specs.Stands.{with_all}
 use Rattle.cpu_feeders.specs.Walks.{Walks}

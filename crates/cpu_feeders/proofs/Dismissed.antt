@@ -1,15 +1,14 @@
 -- A crew that is dismissed: from what its workers leave to what a run leaves.
-use Rattle.std.proofs.Common.{◌≡◌, ◌<◌, ◌+◌, ℕ, zero, suc, false, List, [], ◌∷◌, ◌++◌, length, length-append, get_or, append_assoc, Option, refl, sym, ap, ◌∙◌, subst, arith}
+use Rattle.std.proofs.Common.{◌≡◌, ◌<◌, ◌+◌, ℕ, false, List, [], ◌∷◌, ◌++◌, length, length-append, get_or, append_assoc, Option, refl, sym, ap, ◌∙◌, subst, arith}
 use Rattle.std.specs.Prelude.{All, IsSome, map, replicate}
 use Rattle.std.specs.List.{AllByRecursion, AllZip}
-use Rattle.std.proofs.lemmas.List.{length-map, map-append}
+use Rattle.std.proofs.lemmas.List.{length-map}
 use Rattle.std.proofs.lemmas.List.Elements.{All-cons, All-nil}
-use Rattle.capture_file.specs.declared.cpu_end.CpuEnd.{CpuEnd}
 use Rattle.capture_model.specs.Threads.{DrewNone}
 use Rattle.capture_reading.specs.Sources.{AllGave}
 use Rattle.capture_reports.specs.Closed.{IsClosedOver, IsLockOf, MemberLeft, locks_of, notes_of_members, rings_of}
 use Rattle.capture_reports.specs.Feeders.{HasFed}
-use Rattle.capture_reports.specs.Left.{AreLeft, CpuLeft, all_stands_at, feeds_of, seats_of}
+use Rattle.capture_reports.specs.Left.{AreLeft, CpuLeft, all_stands_at, feeds_of}
 use Rattle.capture_reports.specs.Reported.{IsGroupRun}
 use Rattle.capture_reports.specs.Timing.{AreTimed}
 use Rattle.cpu_feed.specs.Closing.{AllClose, bytes_of, ends_of, firsts_of}
@@ -26,7 +25,7 @@ use Rattle.ticket_dealer.specs.Seats.{AreDealt, DealerValue, IsFreshOf, IsSeatOf
 use Rattle.tp_layout.specs.Writing.{ShapedBytes}
 use Rattle.cpu_feeders.specs.Closings.{AllAtEnd, AllClosedWith}
 use Rattle.cpu_feeders.specs.Crews.{HaveWorked}
-use Rattle.cpu_feeders.specs.FreshWorkers.{IsFreshReader, IsMemberOf, first_feeds}
+use Rattle.cpu_feeders.specs.FreshWorkers.{IsMemberOf}
 use Rattle.cpu_feeders.specs.WorkerKinds.{feeders_in, is_full, timers_in, walkers_in}
 use Rattle.cpu_feeders.specs.Runs.{AreTakersOf, IsTakerRun}
 use Rattle.cpu_feeders.specs.Stands.{with_all}
@@ -38,10 +37,9 @@ use Rattle.cpu_feeders.specs.declared.timer.Timer.{Timer}
 use Rattle.cpu_feeders.specs.declared.walker.Walker.{Walker}
 use Rattle.cpu_feeders.specs.declared.worker.Worker.{Worker}
 use Rattle.cpu_feeders.proofs.AllClosed as closed
-use Rattle.cpu_feeders.proofs.AtEnd.{all_append, all_at_end, all_back, all_handed_in, at_place, columns_of, row_is, rows_of}
+use Rattle.cpu_feeders.proofs.AtEnd.{all_append, all_at_end, all_back, all_handed_in, columns_of, row_is, rows_of}
 use Rattle.cpu_feeders.proofs.FedFeeders as fed
 use Rattle.cpu_feeders.proofs.StandLists.{items_at}
-use Rattle.cpu_feeders.proofs.Ticking.{item}
 use Rattle.cpu_feeders.proofs.WorkerOrder as order
 
 -- the law on what threads leave, and that on what sources gave

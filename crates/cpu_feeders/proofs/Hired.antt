@@ -1,13 +1,12 @@
 -- The workers of a run before they start.
-use Rattle.std.proofs.Common.{◌≡◌, ◌<◌, ◌+◌, ℕ, zero, suc, false, List, [], ◌∷◌, ◌++◌, length, get_or, take, drop, Option, refl, sym, ap, ◌∙◌, subst, arith}
+use Rattle.std.proofs.Common.{◌≡◌, ◌<◌, ◌+◌, ℕ, zero, suc, false, List, [], ◌∷◌, ◌++◌, length, length-append, get_or, take, drop, Option, refl, sym, ap, ◌∙◌, subst, arith}
 use Rattle.std.specs.Prelude.{map, replicate}
 use Rattle.std.specs.List.{AllByRecursion, AllZip}
 use Rattle.std.proofs.lemmas.List.{get_or-map, length-map, length-replicate}
 use Rattle.capture_model.specs.Ticks.{ticks_of}
 use Rattle.capture_reports.specs.Timing.{AreTimed, IsTimed}
 use Rattle.cpu_feed.specs.Feeding.{Feeding}
-use Rattle.fanout_group.specs.Paths.{Path}
-use Rattle.member_turns.specs.Entries.{may_note, table_numbers}
+use Rattle.member_turns.specs.Entries.{may_note}
 use Rattle.member_turns.specs.Seats.{IsReady, Lock, Seat, own_of}
 use Rattle.member_turns.specs.declared.ring_base.RingBase.{RingBase}
 use Rattle.reader_walk.specs.Takers.{Base, Taken}
@@ -33,6 +32,7 @@ use Rattle.cpu_feeders.specs.declared.feeder.Feeder.{Feeder}
 use Rattle.cpu_feeders.specs.declared.timer.Timer.{Timer}
 use Rattle.cpu_feeders.specs.declared.walker.Walker.{Walker}
 use Rattle.cpu_feeders.specs.declared.worker.Worker.{Worker}
+use Rattle.cpu_feeders.specs.declared.worker.Worker.TheVariants as worker
 use Rattle.cpu_feeders.proofs.AtEnd.{at_place}
 use Rattle.cpu_feeders.proofs.FedFeeders.{feed_in, firsts_long, stands_in}
 use Rattle.cpu_feeders.proofs.WorkerOrder.{all_ready}
@@ -213,6 +213,11 @@ module _ (dealer : DealerValue) (feeders : ℕ) (count : dealer.feeders ≡ feed
       (sym (is ∙ ap (take feeders) are ∙ ap (λ (n : ℕ). take n (mine ++ others)) long ∙ take_whole mine others))
       (all_alike (IsFreshSeat dealer) dealer.feeders (dealt.fresh_seat dealer 1) (record { fresh = ((refl, refl), refl); owes = refl }))
 
+  pub seats_many : (all front : List SeatValue) → all ≡ dealt.fresh_seats dealer → front ≡ take feeders all → length front ≡ feeders
+  seats_many all front are is =
+      ap (λ (seats : List SeatValue). length seats)
+      (is ∙ ap (take feeders) are ∙ ap (λ (n : ℕ). take n (mine ++ others)) long ∙ take_whole mine others) ∙ sym long
+
   pub seats_of_others : (all back : List SeatValue) → all ≡ dealt.fresh_seats dealer → back ≡ drop feeders all
       → AllByRecursion (IsFreshOf dealer) back × (length back ≡ 9)
   seats_of_others all back are is =
@@ -280,3 +285,14 @@ hired_ready {S = S} {T = T} base_of taken_by job firsts takers locks dealer spar
     subst (λ (ws : List (Worker S T)). AllByRecursion (IsReadyWorker {S = S} {T = T} base_of taken_by job locks dealer) ws) (sym hired.workers_are)
     (all_ready base_of taken_by job locks dealer [] hired.walkers hired.timer hired.feeders
     (ready_reader base_of taken_by job.setup.shape dealer hired.walkers hired.fresh_readers) hired.timed hired.fresh_feeders)
+
+-- the timer is among them
+pub some_hired : {S T : Type 0} (base_of : T → Base) (taken_by : T → List Taken) (job : Job) (firsts : List (Option SourceSeen)) (takers : List T)
+    (locks : List Lock) (dealer : DealerValue) (spare : List SeatValue) (workers : List (Worker S T))
+    → AreHired base_of taken_by job firsts takers locks dealer spare workers → 0 < length workers
+some_hired {S = S} {T = T} base_of taken_by job firsts takers locks dealer spare workers crew =
+    let many = ap (λ (ws : List (Worker S T)). length ws) crew.workers_are in
+    let walks : List (Worker S T) = map (λ (w : Walker T). worker.Walks w) crew.walkers in
+    let others : List (Worker S T) = worker.Ticks crew.timer ∷ map (λ (f : Feeder S). worker.Feeds f) crew.feeders in
+    let sum = length-append walks others in
+    omega (arith, many, sum)

@@ -1,5 +1,5 @@
 -- Lists that loops make an item at a time.
-use Rattle.std.proofs.Common.{◌≡◌, ◌<◌, ℕ, zero, suc, ◌+◌, List, [], ◌∷◌, ◌++◌, length, length-append, append_assoc, append-nil, refl, sym, ap, ◌∙◌, subst, arith}
+use Rattle.std.proofs.Common.{◌≡◌, ℕ, ◌+◌, List, [], ◌∷◌, ◌++◌, length, length-append, append_assoc, append-nil, refl, sym, ap, ◌∙◌, subst, arith}
 use Rattle.std.specs.Prelude.{map}
 use Rattle.std.specs.List.{AllByRecursion, AllZip}
 use Rattle.std.proofs.lemmas.List.{map-append}
@@ -20,6 +20,9 @@ pub next_items : {A B : Type 0} (f : A → B) (done now all : List B) (rest afte
 next_items {A = A} {B = B} f done now all rest after x next now_is h =
     ap (λ (ys : List B). ys ++ map f after) now_is ∙ append_assoc done (f x ∷ []) (map f after)
     ∙ ap (λ (xs : List A). done ++ map f xs) (sym next) ∙ h
+
+pub first_items : {A B : Type 0} (f : A → B) (now : List B) (rest all : List A) → now ≡ [] → rest ≡ all → now ++ map f rest ≡ map f all
+first_items {A = A} {B = B} f now rest all none same = ap (λ (ys : List B). ys ++ map f rest) none ∙ ap (λ (xs : List A). map f xs) same
 
 pub last_items : {A B : Type 0} (f : A → B) (done all : List B) (rest : List A) → rest ≡ [] → done ++ map f rest ≡ all → done ≡ all
 last_items {A = A} f done all rest none h = sym (append-nil done) ∙ ap (λ (xs : List A). done ++ map f xs) (sym none) ∙ h
@@ -109,7 +112,6 @@ module _ {A B : Type 0} where
       let sum = length-append less (x ∷ []) in
       let other = ap (λ (zs : List B). length zs) ys_are in
       omega (arith, same, one, sum, other)
-
 
 -- three lists after one another
 pub in_a_row : {A : Type 0} (none one two three first last : List A) (x : A) → none ≡ [] → one ≡ none ++ first → two ≡ one ++ x ∷ [] → three ≡ two ++ last

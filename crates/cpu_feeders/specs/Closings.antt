@@ -1,5 +1,5 @@
 -- Members and readers that are closed after the joins.
-use Rattle.std.specs.Prelude.{◌≡◌, ℕ, false, List, [], ◌∷◌, length, ⊤}
+use Rattle.std.specs.Prelude.{◌≡◌, false, List, [], ◌∷◌, length, ⊤}
 use Rattle.std.specs.List.{AllByRecursion}
 use Rattle.capture_reports.specs.Closed.{IsClosedOver}
 use Rattle.cpu_feeders.specs.Walks.{Walks, taken_of}

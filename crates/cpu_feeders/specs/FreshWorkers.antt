@@ -1,5 +1,5 @@
 -- The workers of a run before they start.
-use Rattle.std.specs.Prelude.{◌≡◌, ℕ, ◌+◌, ◌<◌, false, List, [], ◌∷◌, ◌++◌, length, map, slice_index_or, Option, None}
+use Rattle.std.specs.Prelude.{◌≡◌, ℕ, ◌+◌, List, [], ◌∷◌, ◌++◌, length, map, Option, None}
 use Rattle.std.specs.List.{AllByRecursion, AllZip}
 use Rattle.capture_reports.specs.Closed.{IsLockOf}
 use Rattle.capture_reports.specs.Timing.{AreTimed}

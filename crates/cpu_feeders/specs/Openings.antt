@@ -1,5 +1,5 @@
 -- A group before its threads start.
-use Rattle.std.specs.Prelude.{◌≡◌, ℕ, ◌+◌, List, []}
+use Rattle.std.specs.Prelude.{◌≡◌, ℕ, ◌+◌, []}
 use Rattle.member_turns.specs.Entries.{table_numbers}
 use Rattle.member_turns.specs.Seats.{Lock}
 use Rattle.ring_words.specs.TableEnds.{Walking, fresh_walker}

@@ -5,7 +5,6 @@ use Rattle.cpu_feeders.specs.Feeds.{FeedsOut, HasEnded, IsFreshFeeder}
 use Rattle.cpu_feeders.specs.Timing.{TimesOut}
 use Rattle.cpu_feeders.specs.Walks.{HasWalked, Walks}
 use Rattle.cpu_feeders.specs.declared.feeder.Feeder.{Feeder}
-use Rattle.cpu_feeders.specs.declared.timer.Timer.{Timer}
 use Rattle.cpu_feeders.specs.declared.walker.Walker.{Walker}
 use Rattle.cpu_feeders.specs.declared.worker.Worker.{Worker}
 use Rattle.cpu_feeders.specs.declared.worker.Worker.TheVariants as worker

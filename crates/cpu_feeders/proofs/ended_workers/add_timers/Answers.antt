@@ -1,4 +1,4 @@
-use Rattle.std.proofs.Common.{◌≡◌, ◌∙◌, length, ap, sym}
+use Rattle.std.proofs.Common.{◌≡◌, ◌∙◌, length, ap}
 use Rattle.cpu_feeders.specs.declared.timer.Timer.{Timer}
 use Rattle.cpu_feeders.proofs.OneMore.{next_all, next_rows}
 use Rattle.cpu_feeders.proofs.StandLists.{with_each_long}

@@ -1,4 +1,4 @@
-use Rattle.std.proofs.Common.{◌≡◌, ◌+◌, ◌++◌, ◌∷◌, [], ℕ, false, List, length, length-append, refl, sym, ap, ◌∙◌, subst, arith, append-nil}
+use Rattle.std.proofs.Common.{◌≡◌, ◌++◌, ℕ, false, List, length, sym, ap, ◌∙◌, subst, arith, append-nil}
 use Rattle.std.specs.Prelude.{map, option_map}
 use Rattle.std.specs.List.{AllByRecursion}
 use Rattle.member_turns.specs.Seats.{Seat}
@@ -38,9 +38,11 @@ loop-source-preserved g c =
       seats = λ dealer own.
           let both = inv.seats dealer own in
           let parts = all_but (IsFreshSeat dealer) c.pop.new.self.items c.in-Some-pop.seat
-          (subst (λ (ss : List SeatValue). AllByRecursion (IsFreshSeat dealer) ss) seat both.0) in
-          (parts.0, all_more (λ (f : Feeder g.row.S.Denot). IsFreshSeat dealer f.seat) made now c.in_ok-fresh_feeder.field-0 pushed both.1
-              (subst (λ (s : SeatValue). IsFreshSeat dealer s) (sym fresh.seat) parts.1));
+          (subst (λ (ss : List SeatValue). AllByRecursion (IsFreshSeat dealer) ss) seat both.0) in (
+            parts.0,
+            all_more (λ (f : Feeder g.row.S.Denot). IsFreshSeat dealer f.seat) made now c.in_ok-fresh_feeder.field-0 pushed both.1
+                (subst (λ (s : SeatValue). IsFreshSeat dealer s) (sym fresh.seat) parts.1),
+          );
     }
 
 pub returns-clause-stands : goal.returns-clause-stands

@@ -1,4 +1,4 @@
-use Rattle.std.proofs.Common.{◌≡◌, ◌+◌, ◌++◌, ◌∷◌, [], false, List, length, length-append, rules, refl, sym, ap, ◌∙◌, subst, arith}
+use Rattle.std.proofs.Common.{◌≡◌, false, List, refl, subst}
 use Rattle.std.specs.List.{AllByRecursion}
 use Rattle.ticket_dealer.specs.Seats.{IsFreshOf, SeatValue}
 use Rattle.turn_lock.proofs.SeatLists.{all_but}

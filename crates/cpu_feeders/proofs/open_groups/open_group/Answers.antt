@@ -1,7 +1,5 @@
-use Rattle.std.proofs.Common.{◌≡◌, ◌+◌, [], List, length, refl, sym, ap, ◌∙◌}
-use Rattle.std.specs.List.{AllZip}
+use Rattle.std.proofs.Common.{◌+◌, List, length, sym, ap, ◌∙◌}
 use Rattle.member_turns.specs.Seats.{Lock}
-use Rattle.cpu_feeders.specs.Openings.{IsOpened}
 use Rattle.cpu_feeders.specs.Stands.{fresh_users}
 use Rattle.cpu_feeders.proofs.StandLists.{no_stands}
 use Rattle.cpu_feeders.proofs.open_groups.open_group.Goals as goal

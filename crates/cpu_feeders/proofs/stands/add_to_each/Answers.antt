@@ -1,4 +1,4 @@
-use Rattle.std.proofs.Common.{◌≡◌, [], length, refl, sym, rules, arith}
+use Rattle.std.proofs.Common.{◌≡◌, [], refl, sym, rules}
 use Rattle.cpu_feeders.proofs.StandLists.{next_stand, next_within, with_none}
 use Rattle.cpu_feeders.proofs.stands.add_to_each.Goals as goal
 

@@ -1,9 +1,6 @@
-use Rattle.std.proofs.Common.{◌≡◌, ◌++◌, List, length, refl, sym, ap, ◌∙◌, subst}
+use Rattle.std.proofs.Common.{List, ap, ◌∙◌}
 use Rattle.std.specs.Prelude.{map}
-use Rattle.cpu_feeders.specs.Closings.{AllClosedWith}
-use Rattle.cpu_feeders.specs.Runs.{IsTakerRun}
 use Rattle.cpu_feeders.specs.declared.feeder.Feeder.{Feeder}
-use Rattle.cpu_feeders.proofs.AllClosed as closed
 use Rattle.cpu_feeders.proofs.Dismissed as left
 use Rattle.cpu_feeders.proofs.FedFeeders as fed
 use Rattle.cpu_feeders.proofs.takers.dismiss.Goals as goal

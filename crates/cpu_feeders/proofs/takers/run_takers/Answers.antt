@@ -1,13 +1,16 @@
-use Rattle.std.proofs.Common.{◌≡◌, ◌<◌, ℕ, List}
 use Rattle.std.proofs.lemmas.Result.{IfOk-weaker}
 use Rattle.std.specs.Prelude.{map, option_map}
 use Rattle.tap_outside.specs.Seen.{SourceSeen}
 use Rattle.cpu_feeders.specs.WorkerEffects.{IsReadyWorker}
 use Rattle.cpu_feeders.specs.declared.worker.Worker.{Worker}
 use Rattle.cpu_feeders.proofs.AtEnd.{at_place}
-use Rattle.cpu_feeders.proofs.Hired.{hired_ready}
+use Rattle.cpu_feeders.proofs.Hired.{hired_ready, some_hired}
 use Rattle.cpu_feeders.proofs.WorkedCrew.{have_worked}
 use Rattle.cpu_feeders.proofs.takers.run_takers.Goals as goal
+
+pub run_all-requires-clause-some : goal.run_all-requires-clause-some
+run_all-requires-clause-some g c κs within =
+    rw c.deref_mut.ensures.value (some_hired g.T.Taker.base g.T.Taker.taken c.args.job.now _ _ _ _ _ c.in_ok-crew.crew.workers.items c.in_ok-crew.ensures)
 
 pub run_all-requires-clause-ready : goal.run_all-requires-clause-ready
 run_all-requires-clause-ready g c κs within =

@@ -1,4 +1,4 @@
-use Rattle.std.proofs.Common.{◌≡◌, ◌∷◌, [], List, false, length, refl, sym, subst, ◌∙◌}
+use Rattle.std.proofs.Common.{◌≡◌, List, false, length, refl, sym, subst, ◌∙◌}
 use Rattle.std.specs.List.{AllByRecursion}
 use Rattle.cpu_feeders.specs.WorkerKinds.{feeders_in, is_full, timers_in, walkers_in}
 use Rattle.cpu_feeders.specs.declared.worker.Worker.{Worker}

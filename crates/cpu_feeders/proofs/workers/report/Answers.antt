@@ -1,4 +1,4 @@
-use Rattle.std.proofs.Common.{◌≡◌, ◌++◌, ◌∷◌, [], List, None, Some, length, refl, sym, ap, ◌∙◌, subst, arith, append-nil, append_assoc}
+use Rattle.std.proofs.Common.{◌≡◌, ◌++◌, ◌∷◌, [], List, None, Some, length, sym, ap, ◌∙◌, subst, arith, append-nil, append_assoc}
 use Rattle.capture_reports.specs.Reported.{AreReported}
 use Rattle.cpu_feeders.specs.Readers.{IsReaderOf}
 use Rattle.reader_walk.specs.Readers.{ReaderValue}

@@ -1,15 +1,12 @@
-use Rattle.std.proofs.Common.{◌≡◌, List, Option, length, sym, ap, ◌∙◌, subst}
+use Rattle.std.proofs.Common.{List, Option, sym, ap, subst}
 use Rattle.std.proofs.lemmas.Result.{IfOk-weaker}
-use Rattle.std.specs.Prelude.{map, option_map, replicate}
-use Rattle.std.specs.List.{AllZip}
+use Rattle.std.specs.Prelude.{map, option_map}
 use Rattle.capture_reading.specs.Sources.{AllGave}
-use Rattle.capture_reports.specs.Reported.{AreReported, IsGroupRun}
+use Rattle.capture_reports.specs.Reported.{IsGroupRun}
 use Rattle.fanout_group.specs.declared.runs.CpuLog.{CpuLog}
-use Rattle.reader_walk.specs.Readers.{ReaderValue, base_of, new_reader}
-use Rattle.setup_text.specs.declared.reports.Ran.{Ran}
+use Rattle.reader_walk.specs.Readers.{ReaderValue, base_of}
 use Rattle.tap_outside.specs.Seen.{SourceSeen}
-use Rattle.cpu_feeders.specs.Readers.{IsReaderOf}
-use Rattle.cpu_feeders.specs.Runs.{AreTakersOf, IsCaptureRun}
+use Rattle.cpu_feeders.specs.Runs.{AreTakersOf}
 use Rattle.cpu_feeders.proofs.ReadOut.{all_readers, none_holds, rings_many, taken_in_reader}
 use Rattle.cpu_feeders.proofs.Results.{both_of}
 use Rattle.cpu_feeders.proofs.workers.run_workers.Goals as goal

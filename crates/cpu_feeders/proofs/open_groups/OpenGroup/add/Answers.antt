@@ -1,4 +1,4 @@
-use Rattle.std.proofs.Common.{◌≡◌, ◌+◌, length, sym, ap, ◌∙◌, rules}
+use Rattle.std.proofs.Common.{◌+◌, length, sym, ap, ◌∙◌, rules}
 use Rattle.turn_lock.proofs.SeatLists.{fresh_long}
 use Rattle.cpu_feeders.specs.Openings.{IsOpened}
 use Rattle.cpu_feeders.proofs.OneMore.{grown_users, zip_more}
