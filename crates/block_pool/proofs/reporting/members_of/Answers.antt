@@ -1,4 +1,4 @@
-use Rattle.std.proofs.Common.{◌≡◌, ◌++◌, ◌∷◌, [], List, Some, length, rules, refl, ap, ◌∙◌, subst, arith, append-nil, append_assoc}
+use Rattle.std.proofs.Common.{◌≡◌, ◌++◌, ◌∷◌, [], List, Some, length, refl, ap, ◌∙◌, subst, arith, append-nil, append_assoc, sym}
 use Rattle.block_pool.specs.Reports.{AreOutputsOf}
 use Rattle.capture_reports.specs.Reported.{AreReported}
 use Rattle.setup_text.specs.declared.reports.MemberReport.{MemberReport}
@@ -44,7 +44,7 @@ pub returns : goal.returns
 returns c = λ shape dump outputs.
     let inv = c.loop-notes.invariant in
     let rings = inv.rings in
-    let count : length c.loop-notes.notes-iterator.rest.items ≡ 0 = search rules in
+    let count : length c.loop-notes.notes-iterator.rest.items ≡ 0 = sym c.loop-notes.notes-iterator.rest.ok.0 ∙ c.in-None.ensures.steps.0 in
     let no_notes = empty c.loop-notes.notes-iterator.rest.items count in
     let no_ring = empty c.loop-notes.rings.items (omega (arith, rings, count)) in
     subst (λ (some : List MemberReport). AreReported shape dump c.args.notes.items c.args.rings.items some) (append-nil c.loop-notes.members)

@@ -1,4 +1,4 @@
-use Rattle.std.proofs.Common.{◌≡◌, ◌++◌, ◌∷◌, [], List, Some, length, rules, ap, ◌∙◌, subst, arith, append-nil, append_assoc}
+use Rattle.std.proofs.Common.{◌≡◌, ◌++◌, ◌∷◌, [], List, Some, length, ap, ◌∙◌, subst, arith, append-nil, append_assoc, sym}
 use Rattle.capture_reports.specs.Reported.{AreReported}
 use Rattle.cpu_feeders.proofs.OneMore.{empty}
 use Rattle.cpu_feeders.proofs.ReadOut.{none_reported, reported_next, zip_next}
@@ -52,7 +52,7 @@ pub returns-clause-members : goal.returns-clause-members
 returns-clause-members g c = λ shape tx dump forwarders.
     let inv = c.loop-notes.invariant in
     let rings = inv.rings in
-    let count : length c.loop-notes.notes-iterator.rest.items ≡ 0 = search rules in
+    let count : length c.loop-notes.notes-iterator.rest.items ≡ 0 = sym c.loop-notes.notes-iterator.rest.ok.0 ∙ c.in-None.ensures.steps.0 in
     let no_notes = empty c.loop-notes.notes-iterator.rest.items count in
     let no_ring = empty c.loop-notes.rings.items (omega (arith, rings, count)) in
     subst (λ (some : List MemberReport). AreReported shape dump c.args.workers.notes.items c.args.workers.rings.items some) (append-nil c.loop-notes.members)
