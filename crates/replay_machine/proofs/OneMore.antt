@@ -6,15 +6,7 @@ use Rattle.fanout_group.specs.Plans.{Shape}
 use Rattle.tap_outside.specs.Seen.{SourceSeen}
 use Rattle.replay_machine.specs.RunEffects.{first_feeding, starting_from}
 
--- a made item is that of the next one
-pub next_made : {A B C : Type 0} (f : B → C) (h : A → B) (done now all : List C) (rest after : List A) (x : A) (y : C) → rest ≡ x ∷ after
-    → now ≡ done ++ y ∷ [] → y ≡ f (h x) → done ++ map f (map h rest) ≡ all → now ++ map f (map h after) ≡ all
-next_made {A = A} {B = B} {C = C} f h done now all rest after x y next now_is made before =
-    ap (λ (ys : List C). ys ++ map f (map h after)) now_is ∙ append_assoc done (y ∷ []) (map f (map h after))
-    ∙ ap (λ (z : C). done ++ z ∷ map f (map h after)) made
-    ∙ ap (λ (xs : List A). done ++ map f (map h xs)) (sym next) ∙ before
-
--- and so is the CPU of a source
+-- a made CPU is that of the next source
 pub next_feeding : {A : Type 0} (seen : A → Option SourceSeen) (plan : Shape) (done now all : List Feeding) (rest after : List A) (x : A) (y : Feeding) → rest ≡ x ∷ after
     → now ≡ done ++ y ∷ [] → y ≡ first_feeding plan (length done) (seen x) → done ++ starting_from plan (length done) (map seen rest) ≡ all
     → now ++ starting_from plan (length now) (map seen after) ≡ all
