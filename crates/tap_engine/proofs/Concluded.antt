@@ -67,20 +67,14 @@ ended found old new before after false printed s p =
       cause = inl s.none_or_some;
     })
 
-pub concluded : (found : Finding) (old new : StoreSeen) (before after : SinkSeen)
-    (saved printed : Bool) (outcome : Outcome)
-    → Saved old new (files_of found) saved → Touches old new (names_of found)
-    → IsPrinted before after (lines_of found) printed
-    → outcome.status ≡ status_with saved printed (status_of found)
-    → outcome.report ≡ report_in found
-    → Concludes found outcome old new before after
-concluded found old new before after saved printed outcome s touches p status report = record {
-  report = report;
-  touches = touches;
-  ended = subst (λ (x : Status). IsDone found x old new before after ⊎ IsFailed found x old new
-      before after) (sym status)
-      (ended found old new before after saved printed s p);
-}
+pub ended_by : (found : Finding) (old new : StoreSeen) (before after : SinkSeen)
+    (saved printed : Bool) (status : Status)
+    → Saved old new (files_of found) saved → IsPrinted before after (lines_of found) printed
+    → status ≡ status_with saved printed (status_of found)
+    → IsDone found status old new before after ⊎ IsFailed found status old new before after
+ended_by found old new before after saved printed status s p is =
+    subst (λ (x : Status). IsDone found x old new before after ⊎ IsFailed found x old new before after)
+    (sym is) (ended found old new before after saved printed s p)
 
 -- ---- where memory ran out after all files were tried
 

@@ -1,8 +1,8 @@
 //! The end of a command: its files are saved, its lines are printed, and it has a status.
-ghost use Rattle.std.specs.Prelude.{◌≡◌, ◌&&◌, if◌then◌else◌, IfOk, IsTrue, OnErr};
+ghost use Rattle.std.specs.Prelude.{◌≡◌, ◌⊎◌, ◌&&◌, if◌then◌else◌, IfOk, IsTrue, OnErr};
 ghost use Rattle.std.specs.List.{AllByRecursion};
 ghost use Rattle.tap_saving.specs.Saving.{Saved, SavedSome, Touches};
-ghost use Rattle.tap_engine.specs.Conclusions.{Concludes, IsPrinted};
+ghost use Rattle.tap_engine.specs.Conclusions.{Concludes, IsDone, IsFailed, IsPrinted};
 ghost use Rattle.tap_engine.specs.Findings.{IsReady, files_of, names_of};
 
 use crate::findings::Finding;
@@ -28,13 +28,37 @@ pub(crate) fn conclude<S: Store, O: Sink>(
     ensures early { OnErr result
         (SavedSome (S.seen store.old) (S.seen store.new) (files_of finding)) }
 {
-    let lines = finding.lines(alloc)?;
-    let saved = save(alloc, &finding, store)?;
-    let printed = print(out, lines.as_slice())?;
+    let status = save_and_print(alloc, &finding, store, out)?;
     Ok(Outcome {
-        status: status_with(saved, printed, finding.status()),
+        status,
         report: finding.into_report(),
     })
+}
+
+/// Saves the files of a finding and prints its lines, and gives the status that the command ends
+/// with.
+fn save_and_print<S: Store, O: Sink>(
+    alloc: Global,
+    finding: &Finding,
+    store: &mut S,
+    out: &mut O,
+) -> Result<Status, Memory>
+    requires ready { IsReady finding.now }
+    requires meant { AllByRecursion (λ name. IsTrue ((S.seen store.old).to_save name))
+        (names_of finding.now) }
+    ensures ended { IfOk result (λ status.
+        IsDone finding.now status
+        (S.seen store.old) (S.seen store.new) (O.seen out.old) (O.seen out.new)
+        ⊎ IsFailed finding.now status
+        (S.seen store.old) (S.seen store.new) (O.seen out.old) (O.seen out.new)) }
+    ensures touches { Touches (S.seen store.old) (S.seen store.new) (names_of finding.now) }
+    ensures early { OnErr result
+        (SavedSome (S.seen store.old) (S.seen store.new) (files_of finding.now)) }
+{
+    let lines = finding.lines(alloc)?;
+    let saved = save(alloc, finding, store)?;
+    let printed = print(out, lines.as_slice())?;
+    Ok(status_with(saved, printed, finding.status()))
 }
 
 /// Saves the files of a finding, and says whether all were saved.

@@ -1,27 +1,8 @@
-use Rattle.std.proofs.Common.{ℕ, List, refl, ap, ◌∙◌, subst}
-use Rattle.tap_saving.proofs.Missing.{none_saved}
-use Rattle.tap_engine.specs.Conclusions.{IsPrinted}
-use Rattle.tap_engine.proofs.Concluded.{concluded, early_of, status_with}
-use Rattle.tap_engine.proofs.Found.{err_with}
 use Rattle.tap_engine.proofs.concluding.conclude.Goals as goal
 
-pub returns-in_err-lines-clause-early : goal.returns-in_err-lines-clause-early
-returns-in_err-lines-clause-early g c = err_with _ _ (none_saved _ _ _ refl)
-
-pub returns-in_err-printed-clause-early : goal.returns-in_err-printed-clause-early
-returns-in_err-printed-clause-early g c =
-    err_with _ _ (early_of _ _ _ _ c.in_ok-saved.saved c.save.ensures.touches
-    c.in_ok-saved.ensures.saved)
-
 pub returns-clause-concludes : goal.returns-clause-concludes
-returns-clause-concludes g c =
-    let before = g.O.Sink.seen c.args.out.now in
-    let after = g.O.Sink.seen c.print.new.out in
-    concluded c.args.finding _ _ before after c.in_ok-saved.saved c.in_ok-printed.printed _
-    c.in_ok-saved.ensures.saved
-    c.save.ensures.touches
-    (subst (λ (lines : List ℕ). IsPrinted before after lines c.in_ok-printed.printed)
-    (c.as_slice.ensures ∙ c.in_ok-lines.ensures) c.in_ok-printed.ensures)
-    (c.status_with.ensures ∙ ap (λ status. status_with c.in_ok-saved.saved c.in_ok-printed.printed
-    status) c.status.ensures)
-    c.into_report.ensures
+returns-clause-concludes g c = record {
+  report = c.into_report.ensures;
+  touches = c.save_and_print.ensures.touches;
+  ended = c.in_ok-status.ensures.ended;
+}
