@@ -21,7 +21,7 @@ def header(ident, flags, data, source, dest, ttl=64, protocol=17, options=b""):
 
 
 if __name__ == "__main__":
-    TESTS = "crates/defrag_tests/src/wholes.rt"
+    TESTS = "crates/frame_tests/src/datagrams.rt"
     HERE, THERE = address("10.0.0.1"), address("10.0.0.2")
 
     # Three fragments of 8, 8 and 4 bytes.

@@ -1,5 +1,5 @@
 //! Each write fails in turn.
-use crate::run::CAPTURE;
+use crate::run::RUN;
 use cpu_feeders::NoGate;
 use frame_view::Memory;
 use run_building::{Faults, NO_FAULT, Row, difference_on_threads};
@@ -14,8 +14,8 @@ const TAKEN: usize = 50;
 
 /// The first bytes of the lines, as many as so many writes take.
 fn written(writes: usize) -> &'static str {
-    let count = writes.saturating_mul(TAKEN).min(CAPTURE.printed.len());
-    str::from_utf8(&CAPTURE.printed.as_bytes()[..count]).unwrap_or("")
+    let count = writes.saturating_mul(TAKEN).min(RUN.printed.len());
+    str::from_utf8(&RUN.printed.as_bytes()[..count]).unwrap_or("")
 }
 
 /// What the capture differs in where a write fails after so many: it ends with status 6, its report
@@ -32,14 +32,14 @@ fn unwritten_difference<R: Threads + Wait + Sync>(
         },
         status: "6 WriteFault",
         printed: written(writes),
-        ..CAPTURE
+        ..RUN
     };
     difference_on_threads(rt, alloc, &row, &NoGate)
 }
 
 #[test]
 fn each_write_fails(rt: HostRuntime) -> Result<(), Fail> {
-    for writes in 0..CAPTURE.printed.len().div_ceil(TAKEN) {
+    for writes in 0..RUN.printed.len().div_ceil(TAKEN) {
         let found = unwritten_difference(&rt, rt.alloc(), writes)?;
         assert_eq!(rt; found.as_str(), "", "write {writes}");
     }

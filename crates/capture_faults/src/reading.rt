@@ -1,15 +1,14 @@
 //! Each fetch and each read fails in turn; then each file is read one byte at a time.
-use crate::run::{CAPTURE, NONE, ONE, SAVES, TWO};
-use cpu_feeders::NoGate;
-use frame_view::Memory;
-use run_building::{Faults, Kept, NO_FAULT, Row, difference_on_threads};
+use crate::run::{CAPTURE, NONE, ONE, RUN, SAVES, TWO, check_rows, check_with};
+use run_building::{Faults, NO_FAULT, Row};
 use std::alloc::Global;
+use std::process::Abort;
 use std::sync::Wait;
 use std::test::Fail;
 use std::thread::Threads;
 
 /// A text can't be read: one line, no report, no file.
-const UNREAD: Row<'static> = Row {
+static UNREAD: Row<'static> = Row {
     status: "5 ReadFault",
     printed: "read fault\n",
     cpus: &[],
@@ -18,78 +17,71 @@ const UNREAD: Row<'static> = Row {
     ..CAPTURE
 };
 
-/// What the capture differs in where a read of a text fails.
-fn unread_difference<R: Threads + Wait + Sync>(
+/// A read of a text that fails: a name, the text, and the number of the read. Each read gives at most
+/// 20 bytes, and the last one of a text none.
+type Read = (&'static str, &'static str, &'static [u64]);
+
+static READS: [Read; 11] = [
+    ("read 1 of the setup", "conf", &[1]),
+    ("read 2 of the setup", "conf", &[2]),
+    ("read 3 of the setup", "conf", &[3]),
+    ("read 4 of the setup", "conf", &[4]),
+    ("read 5 of the setup", "conf", &[5]),
+    ("read 6 of the setup", "conf", &[6]),
+    ("read 7 of the setup", "conf", &[7]),
+    ("read 1 of the filter", "f.ddd", &[1]),
+    ("read 2 of the filter", "f.ddd", &[2]),
+    ("read 1 of the moments", "t.txt", &[1]),
+    ("read 2 of the moments", "t.txt", &[2]),
+];
+
+/// Each of these reads fails.
+fn check_reads<R: Threads + Wait + Abort + Sync>(
     rt: &R,
     alloc: Global,
-    file: &'static str,
-    reads: &'static [u64],
-) -> Result<String, Memory> {
-    let row = Row {
-        faults: Faults {
+    all: &[Read],
+) -> Result<(), Fail> {
+    for (name, file, reads) in all {
+        let faults = Faults {
             file,
             piece: 20,
             reads,
             ..NO_FAULT
-        },
-        ..UNREAD
-    };
-    difference_on_threads(rt, alloc, &row, &NoGate)
-}
-
-/// Reads of a file, by their numbers.
-static READS: [&[u64]; 7] = [&[1], &[2], &[3], &[4], &[5], &[6], &[7]];
-
-/// The texts, each with how many reads of at most 20 bytes give it, the last of which gives none.
-static TEXTS: [(&str, usize); 3] = [("conf", 7), ("f.ddd", 2), ("t.txt", 2)];
-
-#[test]
-fn each_read_of_each_text_fails(rt: HostRuntime) -> Result<(), Fail> {
-    for (file, count) in &TEXTS {
-        for reads in READS.get(..*count).unwrap_or(&[]) {
-            let found = unread_difference(&rt, rt.alloc(), file, reads)?;
-            assert_eq!(rt; found.as_str(), "", "reads {reads:?} of {file}");
-        }
+        };
+        check_with(rt, alloc, name, &UNREAD, faults)?;
     }
     Ok(())
 }
 
-/// The fetches of the texts.
-static FETCHES: [&[u64]; 3] = [&[1], &[2], &[3]];
+#[test]
+fn each_read_of_each_text_fails(rt: HostRuntime) -> Result<(), Fail> {
+    check_reads(&rt, rt.alloc(), &READS)
+}
 
-/// What the capture differs in where these fetches fail.
-fn unfetched_difference<R: Threads + Wait + Sync>(
+/// The fetches of the texts.
+type Fetch = (&'static str, &'static [u64]);
+
+static FETCHES: [Fetch; 3] = [("setup", &[1]), ("filter", &[2]), ("moments", &[3])];
+
+/// Each of these fetches fails.
+fn check_fetches<R: Threads + Wait + Abort + Sync>(
     rt: &R,
     alloc: Global,
-    fetches: &'static [u64],
-) -> Result<String, Memory> {
-    let row = Row {
-        faults: Faults {
+    all: &[Fetch],
+) -> Result<(), Fail> {
+    for (name, fetches) in all {
+        let faults = Faults {
             fetches,
             ..NO_FAULT
-        },
-        ..UNREAD
-    };
-    difference_on_threads(rt, alloc, &row, &NoGate)
+        };
+        check_with(rt, alloc, name, &UNREAD, faults)?;
+    }
+    Ok(())
 }
 
 #[test]
 fn each_fetch_of_a_text_fails(rt: HostRuntime) -> Result<(), Fail> {
-    for fetches in &FETCHES {
-        let found = unfetched_difference(&rt, rt.alloc(), fetches)?;
-        assert_eq!(rt; found.as_str(), "", "{fetches:?}");
-    }
-    Ok(())
-}
-
-/// A capture of which a fetch or a read fails: what is printed, logged and kept.
-#[derive(Clone, Copy)]
-struct Ends {
-    faults: Faults<'static>,
-    printed: &'static str,
-    cpus: &'static [&'static str],
-    given: &'static [usize],
-    members: &'static [Kept<'static>],
+    check_fetches(&rt, rt.alloc(), &FETCHES)
 }
 
 /// The second capture of 176 bytes, read by 100 bytes.
@@ -99,12 +91,15 @@ const SECOND: Faults<'static> = Faults {
     ..NO_FAULT
 };
 
-static CAPTURES: [Ends; 6] = [
-    Ends {
+/// A fetch or a read of a capture fails: what is printed, logged and kept.
+static CAPTURES: [Row<'static>; 6] = [
+    Row {
+        name: "the first fetch of a capture",
         faults: Faults {
             fetches: &[4],
             ..NO_FAULT
         },
+        status: "5 ReadFault",
         printed: "cpu 0 frames 0 arrivals 0 end fault\n\
                   cpu 1 frames 2 arrivals 2 end ok\n\
                   member 0 packets 0 drops 0 freezes 0 blocks 0\n\
@@ -113,12 +108,15 @@ static CAPTURES: [Ends; 6] = [
         cpus: &["", "k1.k1."],
         given: &[0, 176],
         members: &[NONE, TWO],
+        ..CAPTURE
     },
-    Ends {
+    Row {
+        name: "the second fetch of a capture",
         faults: Faults {
             fetches: &[5],
             ..NO_FAULT
         },
+        status: "5 ReadFault",
         printed: "cpu 0 frames 2 arrivals 2 end ok\n\
                   cpu 1 frames 0 arrivals 0 end fault\n\
                   member 0 packets 2 drops 0 freezes 0 blocks 1\n\
@@ -127,12 +125,15 @@ static CAPTURES: [Ends; 6] = [
         cpus: &["k0.k0.", ""],
         given: &[176, 0],
         members: &[TWO, NONE],
+        ..CAPTURE
     },
-    Ends {
+    Row {
+        name: "the first read of the second capture",
         faults: Faults {
             reads: &[1],
             ..SECOND
         },
+        status: "5 ReadFault",
         printed: "cpu 0 frames 2 arrivals 2 end ok\n\
                   cpu 1 frames 0 arrivals 0 end fault\n\
                   member 0 packets 2 drops 0 freezes 0 blocks 1\n\
@@ -141,12 +142,15 @@ static CAPTURES: [Ends; 6] = [
         cpus: &["k0.k0.", ""],
         given: &[176, 0],
         members: &[TWO, NONE],
+        ..CAPTURE
     },
-    Ends {
+    Row {
+        name: "its second read",
         faults: Faults {
             reads: &[2],
             ..SECOND
         },
+        status: "5 ReadFault",
         printed: "cpu 0 frames 2 arrivals 2 end ok\n\
                   cpu 1 frames 1 arrivals 1 end fault\n\
                   member 0 packets 2 drops 0 freezes 0 blocks 1\n\
@@ -155,12 +159,15 @@ static CAPTURES: [Ends; 6] = [
         cpus: &["k0.k0.", "k1."],
         given: &[176, 100],
         members: &[TWO, ONE],
+        ..CAPTURE
     },
-    Ends {
+    Row {
+        name: "its last read, which gives none",
         faults: Faults {
             reads: &[3],
             ..SECOND
         },
+        status: "5 ReadFault",
         printed: "cpu 0 frames 2 arrivals 2 end ok\n\
                   cpu 1 frames 2 arrivals 2 end fault\n\
                   member 0 packets 2 drops 0 freezes 0 blocks 1\n\
@@ -169,12 +176,15 @@ static CAPTURES: [Ends; 6] = [
         cpus: &["k0.k0.", "k1.k1."],
         given: &[176, 176],
         members: &[TWO, TWO],
+        ..CAPTURE
     },
-    Ends {
+    Row {
+        name: "both fetches",
         faults: Faults {
             fetches: &[4, 5],
             ..NO_FAULT
         },
+        status: "5 ReadFault",
         printed: "cpu 0 frames 0 arrivals 0 end fault\n\
                   cpu 1 frames 0 arrivals 0 end fault\n\
                   member 0 packets 0 drops 0 freezes 0 blocks 0\n\
@@ -183,58 +193,36 @@ static CAPTURES: [Ends; 6] = [
         cpus: &["", ""],
         given: &[0, 0],
         members: &[NONE, NONE],
+        ..CAPTURE
     },
 ];
 
-/// What the capture differs in that a fault of a capture ends so.
-fn end_difference<R: Threads + Wait + Sync>(
-    rt: &R,
-    alloc: Global,
-    ends: &'static Ends,
-) -> Result<String, Memory> {
-    let row = Row {
-        faults: ends.faults,
-        status: "5 ReadFault",
-        printed: ends.printed,
-        cpus: ends.cpus,
-        given: ends.given,
-        members: ends.members,
-        ..CAPTURE
-    };
-    difference_on_threads(rt, alloc, &row, &NoGate)
-}
-
 #[test]
 fn each_fetch_and_each_read_of_a_capture_fails(rt: HostRuntime) -> Result<(), Fail> {
-    for ends in &CAPTURES {
-        let found = end_difference(&rt, rt.alloc(), ends)?;
-        assert_eq!(rt; found.as_str(), "", "{}", ends.printed);
-    }
-    Ok(())
+    check_rows(&rt, rt.alloc(), &CAPTURES)
 }
 
-/// What the capture differs in where a file is read one byte at a time.
-fn piece_difference<R: Threads + Wait + Sync>(
+/// The files that the capture reads.
+static FILES: [&str; 5] = ["conf", "f.ddd", "t.txt", "a.pcap", "b.pcap"];
+
+/// Each of these files is read one byte at a time.
+fn check_pieces<R: Threads + Wait + Abort + Sync>(
     rt: &R,
     alloc: Global,
-    file: &'static str,
-) -> Result<String, Memory> {
-    let row = Row {
-        faults: Faults {
+    files: &[&'static str],
+) -> Result<(), Fail> {
+    for file in files {
+        let faults = Faults {
             file,
             piece: 1,
             ..NO_FAULT
-        },
-        ..CAPTURE
-    };
-    difference_on_threads(rt, alloc, &row, &NoGate)
+        };
+        check_with(rt, alloc, file, &RUN, faults)?;
+    }
+    Ok(())
 }
 
 #[test]
 fn each_file_is_read_one_byte_at_a_time(rt: HostRuntime) -> Result<(), Fail> {
-    for file in ["conf", "f.ddd", "t.txt", "a.pcap", "b.pcap"] {
-        let found = piece_difference(&rt, rt.alloc(), file)?;
-        assert_eq!(rt; found.as_str(), "", "{file}");
-    }
-    Ok(())
+    check_pieces(&rt, rt.alloc(), &FILES)
 }

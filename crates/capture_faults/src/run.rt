@@ -1,5 +1,11 @@
 //! A capture on threads without a fault, of which nothing hangs on which thread goes first.
-use run_building::{Capture, Kept, NO_FRAME, NOTHING, Row, Shape};
+use cpu_feeders::NoGate;
+use run_building::{Capture, Faults, Kept, NO_FRAME, NOTHING, Row, Shape, difference_on_threads};
+use std::alloc::Global;
+use std::process::Abort;
+use std::sync::Wait;
+use std::test::Fail;
+use std::thread::Threads;
 
 /// A frame of 60 bytes, which needs 144 in a block, after the 48 of the block itself.
 pub(crate) const SMALL: Shape<'static> = (b"", 60);
@@ -53,5 +59,34 @@ pub(crate) const CAPTURE: Row<'static> = Row {
     ..NOTHING
 };
 
+/// The same, of which other rows are made while the tests run.
+pub(crate) static RUN: Row<'static> = CAPTURE;
+
 /// The files that it saves, in order.
 pub(crate) const SAVES: [&str; 4] = ["out.0.pcap", "out.0.blk", "out.1.pcap", "out.1.blk"];
+
+/// Carries out a row on threads where these calls fail: nothing may differ from it.
+pub(crate) fn check_with<'a, R: Threads + Wait + Abort + Sync>(
+    rt: &R,
+    alloc: Global,
+    name: &str,
+    row: &Row<'a>,
+    faults: Faults<'a>,
+) -> Result<(), Fail> {
+    let found = difference_on_threads(rt, alloc, &Row { faults, ..*row }, &NoGate)?;
+    assert_eq!(rt; found.as_str(), "", "{name}");
+    Ok(())
+}
+
+/// Carries out each row on threads: nothing may differ from it.
+pub(crate) fn check_rows<R: Threads + Wait + Abort + Sync>(
+    rt: &R,
+    alloc: Global,
+    rows: &[Row<'_>],
+) -> Result<(), Fail> {
+    for row in rows {
+        let found = difference_on_threads(rt, alloc, row, &NoGate)?;
+        assert_eq!(rt; found.as_str(), "", "{}", row.name);
+    }
+    Ok(())
+}

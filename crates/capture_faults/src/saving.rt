@@ -1,45 +1,56 @@
 //! Each save fails in turn, alone and beside other faults.
-use crate::run::{CAPTURE, NONE, ONE, SMALL, TWO};
-use cpu_feeders::NoGate;
-use frame_view::Memory;
-use run_building::{Capture, Faults, NO_FAULT, NO_FRAME, Row, difference_on_threads};
-use std::alloc::Global;
-use std::sync::Wait;
+use crate::run::{CAPTURE, NONE, ONE, SMALL, TWO, check_rows};
+use run_building::{Capture, Faults, NO_FAULT, NO_FRAME, Row};
 use std::test::Fail;
-use std::thread::Threads;
 
-/// The saves that fail, each by its number and with the file that isn't saved.
-static UNSAVED: [(&[u64], &[&str]); 4] = [
-    (&[1], &["out.0.pcap"]),
-    (&[2], &["out.0.blk"]),
-    (&[3], &["out.1.pcap"]),
-    (&[4], &["out.1.blk"]),
-];
-
-/// What the capture differs in where one save fails: it ends with status 6, its report and its
-/// lines, and every other file is saved.
-fn unsaved_difference<R: Threads + Wait + Sync>(
-    rt: &R,
-    alloc: Global,
-    saves: &'static [u64],
-    absent: &'static [&'static str],
-) -> Result<String, Memory> {
-    let row = Row {
-        faults: Faults { saves, ..NO_FAULT },
+/// One save fails: the capture ends with status 6, its report and its lines, and every other file is
+/// saved.
+static UNSAVED: [Row<'static>; 4] = [
+    Row {
+        name: "save 1",
+        faults: Faults {
+            saves: &[1],
+            ..NO_FAULT
+        },
         status: "6 WriteFault",
-        absent,
+        absent: &["out.0.pcap"],
         ..CAPTURE
-    };
-    difference_on_threads(rt, alloc, &row, &NoGate)
-}
+    },
+    Row {
+        name: "save 2",
+        faults: Faults {
+            saves: &[2],
+            ..NO_FAULT
+        },
+        status: "6 WriteFault",
+        absent: &["out.0.blk"],
+        ..CAPTURE
+    },
+    Row {
+        name: "save 3",
+        faults: Faults {
+            saves: &[3],
+            ..NO_FAULT
+        },
+        status: "6 WriteFault",
+        absent: &["out.1.pcap"],
+        ..CAPTURE
+    },
+    Row {
+        name: "save 4",
+        faults: Faults {
+            saves: &[4],
+            ..NO_FAULT
+        },
+        status: "6 WriteFault",
+        absent: &["out.1.blk"],
+        ..CAPTURE
+    },
+];
 
 #[test]
 fn each_save_fails(rt: HostRuntime) -> Result<(), Fail> {
-    for (saves, absent) in &UNSAVED {
-        let found = unsaved_difference(&rt, rt.alloc(), saves, absent)?;
-        assert_eq!(rt; found.as_str(), "", "{absent:?}");
-    }
-    Ok(())
+    check_rows(&rt, rt.alloc(), &UNSAVED)
 }
 
 /// The first capture is cut in its second record.
@@ -131,9 +142,5 @@ static FAULTS: [Row<'static>; 5] = [
 
 #[test]
 fn two_things_fail(rt: HostRuntime) -> Result<(), Fail> {
-    for row in &FAULTS {
-        let found = difference_on_threads(&rt, rt.alloc(), row, &NoGate)?;
-        assert_eq!(rt; found.as_str(), "", "{}", row.name);
-    }
-    Ok(())
+    check_rows(&rt, rt.alloc(), &FAULTS)
 }

@@ -4,6 +4,7 @@ use crate::spellings::LITTLE_NANO;
 use capture_file::CaptureError;
 use frame_view::{Frames, Memory};
 use std::alloc::Global;
+use std::process::Abort;
 use std::test::Fail;
 
 /// A name, a place, the bytes that stand there, the number of frames, and the answer.
@@ -82,12 +83,12 @@ fn overwritten(alloc: Global, place: usize, field: [u8; 4]) -> Result<Vec<u8>, M
     Ok(bytes)
 }
 
-#[test]
-fn names_damage(rt: HostRuntime) -> Result<(), Fail> {
-    for (name, place, field, count, answer) in &ROWS {
-        let bytes = overwritten(rt.alloc(), *place, *field)?;
-        let mut frames = Frames::new(rt.alloc());
-        let answers = decode(rt.alloc(), &bytes, 7, &mut frames);
+/// Holds the answers and the frames of each row to the row.
+fn check_damage(rt: &impl Abort, alloc: Global, rows: &[Row]) -> Result<(), Fail> {
+    for (name, place, field, count, answer) in rows {
+        let bytes = overwritten(alloc, *place, *field)?;
+        let mut frames = Frames::new(alloc);
+        let answers = decode(alloc, &bytes, 7, &mut frames);
         assert_eq!(rt; answers, (*answer, *answer, 0), "{name}");
         assert_eq!(rt; frames.len(), *count, "{name}");
     }
@@ -95,19 +96,33 @@ fn names_damage(rt: HostRuntime) -> Result<(), Fail> {
 }
 
 #[test]
-fn names_a_cut(rt: HostRuntime) {
-    // a length, the end, and the bytes that are kept
-    for (length, end, rest) in [
-        (0, Err(CaptureError::Truncated(0)), 0),
-        (23, Err(CaptureError::Truncated(0)), 23),
-        (24, Ok(()), 0),
-        (53, Err(CaptureError::Truncated(24)), 29),
-        (54, Ok(()), 0),
-        (104, Err(CaptureError::Truncated(73)), 31),
-    ] {
-        let mut frames = Frames::new(rt.alloc());
-        let cut = LITTLE_NANO.get(..length).unwrap_or(&[]);
-        let answers = decode(rt.alloc(), cut, 65_536, &mut frames);
-        assert_eq!(rt; answers, (Ok(()), end, rest), "{length} bytes");
+fn names_damage(rt: HostRuntime) -> Result<(), Fail> {
+    check_damage(&rt, rt.alloc(), &ROWS)
+}
+
+/// A length, the end, and the bytes that are kept.
+type Cut = (usize, Answer, u32);
+
+static CUTS: [Cut; 6] = [
+    (0, Err(CaptureError::Truncated(0)), 0),
+    (23, Err(CaptureError::Truncated(0)), 23),
+    (24, Ok(()), 0),
+    (53, Err(CaptureError::Truncated(24)), 29),
+    (54, Ok(()), 0),
+    (104, Err(CaptureError::Truncated(73)), 31),
+];
+
+/// Holds the end of the capture at each cut to its row.
+fn check_cuts(rt: &impl Abort, alloc: Global, capture: &[u8], rows: &[Cut]) {
+    for (length, end, rest) in rows {
+        let mut frames = Frames::new(alloc);
+        let cut = capture.get(..*length).unwrap_or(&[]);
+        let answers = decode(alloc, cut, 65_536, &mut frames);
+        assert_eq!(rt; answers, (Ok(()), *end, *rest), "{length} bytes");
     }
+}
+
+#[test]
+fn names_a_cut(rt: HostRuntime) {
+    check_cuts(&rt, rt.alloc(), &LITTLE_NANO, &CUTS);
 }

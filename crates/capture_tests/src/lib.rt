@@ -1,7 +1,21 @@
 //! Tests of captures: files that another program wrote, and what a decoder makes of them piece by
-//! piece.
+//! piece; and the blocks of pcapng, in either byte order, cut at every place, and damaged.
 #![tactic(auto)]
 
+#[cfg(test)]
+mod block_cuts;
+#[cfg(test)]
+mod block_damages;
+#[cfg(test)]
+mod block_feeding;
+#[cfg(test)]
+mod block_orders;
+#[cfg(test)]
+mod block_skips;
+#[cfg(test)]
+mod block_times;
+#[cfg(test)]
+mod block_writing;
 #[cfg(test)]
 mod damaged_captures;
 #[cfg(test)]

@@ -2,25 +2,32 @@
 use crate::feeding::{decode, text_of};
 use crate::spellings::{BIG_MICRO, BIG_NANO, LITTLE_MICRO, LITTLE_NANO, ONE_FRAME, THREE_FRAMES};
 use frame_view::Frames;
+use std::alloc::Global;
+use std::process::Abort;
 use std::test::Fail;
+
+/// A capture that is fed in pieces of this size gives the three frames.
+fn check_spelling(
+    rt: &impl Abort,
+    alloc: Global,
+    name: &str,
+    bytes: &[u8],
+    size: usize,
+) -> Result<(), Fail> {
+    let mut frames = Frames::new(alloc);
+    let answers = decode(alloc, bytes, size, &mut frames);
+    assert_eq!(rt; answers, (Ok(()), Ok(()), 0), "{name}");
+    let text = text_of(alloc, &frames)?;
+    assert_eq!(rt; text.as_slice(), THREE_FRAMES.as_slice(), "{name}");
+    Ok(())
+}
 
 #[test]
 fn reads_one_capture_in_four_spellings(rt: HostRuntime) -> Result<(), Fail> {
-    let alloc = rt.alloc();
-    let rows: [(&str, &[u8], usize); 4] = [
-        ("little, microseconds", &LITTLE_MICRO, 1),
-        ("big, microseconds", &BIG_MICRO, 7),
-        ("little, nanoseconds", &LITTLE_NANO, 65_536),
-        ("big, nanoseconds", &BIG_NANO, 7),
-    ];
-    for (name, bytes, size) in rows {
-        let mut frames = Frames::new(alloc);
-        let answers = decode(alloc, bytes, size, &mut frames);
-        assert_eq!(rt; answers, (Ok(()), Ok(()), 0), "{name}");
-        let text = text_of(alloc, &frames)?;
-        assert_eq!(rt; text.as_slice(), THREE_FRAMES.as_slice(), "{name}");
-    }
-    Ok(())
+    check_spelling(&rt, rt.alloc(), "little, microseconds", &LITTLE_MICRO, 1)?;
+    check_spelling(&rt, rt.alloc(), "big, microseconds", &BIG_MICRO, 7)?;
+    check_spelling(&rt, rt.alloc(), "little, nanoseconds", &LITTLE_NANO, 65_536)?;
+    check_spelling(&rt, rt.alloc(), "big, nanoseconds", &BIG_NANO, 7)
 }
 
 #[test]

@@ -2,7 +2,7 @@
 
 /// Written by another program: three records, the second of a runt, the third with a fraction past
 /// a second and a length on the wire below what was captured.
-pub(crate) const LITTLE_MICRO: [u8; 105] = [
+pub(crate) static LITTLE_MICRO: [u8; 105] = [
     0xd4, 0xc3, 0xb2, 0xa1, 2, 0, 4, 0, 0, 0, 0, 0, 0, 0, 0, 0, 0xff, 0xff, 0, 0, 1, 0, 0, 0, 1, 0,
     0, 0, 2, 0, 0, 0, 0x0e, 0, 0, 0, 0x3c, 0, 0, 0, 0xff, 0xff, 0xff, 0xff, 0xff, 0xff, 2, 0, 0, 0,
     0, 1, 8, 6, 2, 0, 0, 0, 0x3f, 0x42, 0x0f, 0, 3, 0, 0, 0, 3, 0, 0, 0, 9, 8, 7, 0xff, 0xff, 0xff,
@@ -11,7 +11,7 @@ pub(crate) const LITTLE_MICRO: [u8; 105] = [
 ];
 
 /// The same records with the highest byte first.
-pub(crate) const BIG_MICRO: [u8; 105] = [
+pub(crate) static BIG_MICRO: [u8; 105] = [
     0xa1, 0xb2, 0xc3, 0xd4, 0, 2, 0, 4, 0, 0, 0, 0, 0, 0, 0, 0, 0, 0, 0xff, 0xff, 0, 0, 0, 1, 0, 0,
     0, 1, 0, 0, 0, 2, 0, 0, 0, 0x0e, 0, 0, 0, 0x3c, 0xff, 0xff, 0xff, 0xff, 0xff, 0xff, 2, 0, 0, 0,
     0, 1, 8, 6, 0, 0, 0, 2, 0, 0x0f, 0x42, 0x3f, 0, 0, 0, 3, 0, 0, 0, 3, 9, 8, 7, 0xff, 0xff, 0xff,
@@ -20,7 +20,7 @@ pub(crate) const BIG_MICRO: [u8; 105] = [
 ];
 
 /// The same records in nanoseconds.
-pub(crate) const LITTLE_NANO: [u8; 105] = [
+pub(crate) static LITTLE_NANO: [u8; 105] = [
     0x4d, 0x3c, 0xb2, 0xa1, 2, 0, 4, 0, 0, 0, 0, 0, 0, 0, 0, 0, 0xff, 0xff, 0, 0, 1, 0, 0, 0, 1, 0,
     0, 0, 0xd0, 7, 0, 0, 0x0e, 0, 0, 0, 0x3c, 0, 0, 0, 0xff, 0xff, 0xff, 0xff, 0xff, 0xff, 2, 0, 0,
     0, 0, 1, 8, 6, 2, 0, 0, 0, 0x18, 0xc6, 0x9a, 0x3b, 3, 0, 0, 0, 3, 0, 0, 0, 9, 8, 7, 0xff, 0xff,
@@ -29,7 +29,7 @@ pub(crate) const LITTLE_NANO: [u8; 105] = [
 ];
 
 /// The same records in nanoseconds, with the highest byte first.
-pub(crate) const BIG_NANO: [u8; 105] = [
+pub(crate) static BIG_NANO: [u8; 105] = [
     0xa1, 0xb2, 0x3c, 0x4d, 0, 2, 0, 4, 0, 0, 0, 0, 0, 0, 0, 0, 0, 0, 0xff, 0xff, 0, 0, 0, 1, 0, 0,
     0, 1, 0, 0, 7, 0xd0, 0, 0, 0, 0x0e, 0, 0, 0, 0x3c, 0xff, 0xff, 0xff, 0xff, 0xff, 0xff, 2, 0, 0,
     0, 0, 1, 8, 6, 0, 0, 0, 2, 0x3b, 0x9a, 0xc6, 0x18, 0, 0, 0, 3, 0, 0, 0, 3, 9, 8, 7, 0xff, 0xff,
@@ -38,7 +38,7 @@ pub(crate) const BIG_NANO: [u8; 105] = [
 ];
 
 /// The output file of the three frames, written by another program.
-pub(crate) const THREE_FRAMES: [u8; 105] = [
+pub(crate) static THREE_FRAMES: [u8; 105] = [
     0x4d, 0x3c, 0xb2, 0xa1, 2, 0, 4, 0, 0, 0, 0, 0, 0, 0, 0, 0, 0, 0, 4, 0, 1, 0, 0, 0, 1, 0, 0, 0,
     0xd0, 7, 0, 0, 0x0e, 0, 0, 0, 0x3c, 0, 0, 0, 0xff, 0xff, 0xff, 0xff, 0xff, 0xff, 2, 0, 0, 0, 0,
     1, 8, 6, 2, 0, 0, 0, 0x18, 0xc6, 0x9a, 0x3b, 3, 0, 0, 0, 3, 0, 0, 0, 9, 8, 7, 0xff, 0xff, 0xff,
@@ -47,7 +47,7 @@ pub(crate) const THREE_FRAMES: [u8; 105] = [
 ];
 
 /// The output file of one broadcast frame of 14 bytes at 1 second and 2,000 nanoseconds.
-pub(crate) const ONE_FRAME: [u8; 54] = [
+pub(crate) static ONE_FRAME: [u8; 54] = [
     0x4d, 0x3c, 0xb2, 0xa1, 2, 0, 4, 0, 0, 0, 0, 0, 0, 0, 0, 0, 0, 0, 4, 0, 1, 0, 0, 0, 1, 0, 0, 0,
     0xd0, 7, 0, 0, 0x0e, 0, 0, 0, 0x0e, 0, 0, 0, 0xff, 0xff, 0xff, 0xff, 0xff, 0xff, 2, 0, 0, 0, 0,
     1, 8, 6,

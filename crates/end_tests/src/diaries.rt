@@ -134,22 +134,27 @@ fn written_by_all<R: Threads + Wait + Sync>(
     Ok(lock.close(all))
 }
 
+/// How many lines each seat wrote, where each line is the next one of its seat.
+fn lines_of_seats(alloc: Global, diary: &Diary, seats: u32) -> Result<Vec<u32>, Fail> {
+    let mut counts = vec![in alloc; 0u32; seats as usize]?;
+    for line in &diary.lines {
+        match counts.get_mut(line.seat as usize) {
+            Some(count) if *count == line.text => *count = count.wrapping_add(1),
+            _ => return Err("a line that isn't its seat's next".into()),
+        }
+    }
+    Ok(counts)
+}
+
 #[test]
 fn each_line_stands_once_and_in_order(rt: HostRuntime) -> Result<(), Fail> {
     // how many seats there are, how many lines each writes, and how many the diary has in the end
     for (seats, lines, all) in [(1, 3, 3), (2, 2, 4), (3, 1000, 3000)] {
         let diary = written_by_all(&rt, rt.alloc(), seats, lines)?;
         assert_eq!(rt; diary.lines.len(), all, "{seats} seats");
-        let mut next = vec![in rt.alloc(); 0u32; seats as usize]?;
-        for line in &diary.lines {
-            let at = line.seat as usize;
-            assert!(rt; at < next.len(), "seat {at} of {seats}");
-            assert_eq!(rt; line.text, next[at], "seat {at} of {seats}");
-            next[at] = next[at].wrapping_add(1);
-        }
-        for count in &next {
-            assert_eq!(rt; *count, lines, "{seats} seats");
-        }
+        let counts = lines_of_seats(rt.alloc(), &diary, seats)?;
+        let each = vec![in rt.alloc(); lines; seats as usize]?;
+        assert_eq!(rt; counts.as_slice(), each.as_slice(), "{seats} seats");
     }
     Ok(())
 }

@@ -6,6 +6,7 @@ use run_building::{
     difference_on_threads,
 };
 use std::alloc::Global;
+use std::process::Abort;
 use std::sync::Wait;
 use std::test::Fail;
 use std::thread::Threads;
@@ -14,7 +15,7 @@ use std::thread::Threads;
 const SMALL: Shape<'static> = (b"", 60);
 
 /// Two frames for two members with a dump, so that six files are saved.
-const TWO_FRAMES: Row<'static> = Row {
+static TWO_FRAMES: Row<'static> = Row {
     words: &["forward", "conf"],
     lines: "members 2\n",
     dump: true,
@@ -55,23 +56,42 @@ static FILES: [&str; 6] = [
     "out.1.tx.pcap",
 ];
 
-#[test]
-fn a_save_that_fails_costs_its_file_alone(rt: HostRuntime) -> Result<(), Fail> {
-    for (number, file) in FILES.iter().enumerate() {
-        let saves = [number as u64 + 1];
-        let row = Row {
-            faults: Faults {
-                saves: &saves,
-                ..NO_FAULT
-            },
-            status: "6 WriteFault",
-            absent: &[*file],
-            ..TWO_FRAMES
-        };
-        let found = difference_on_threads(&rt, rt.alloc(), &row, &NoGate)?;
+/// What the run differs in where one save fails, which is that of a file: the file isn't there.
+fn unsaved_difference<R: Threads + Wait + Sync>(
+    rt: &R,
+    alloc: Global,
+    save: u64,
+    file: &str,
+) -> Result<String, Memory> {
+    let row = Row {
+        faults: Faults {
+            saves: &[save],
+            ..NO_FAULT
+        },
+        status: "6 WriteFault",
+        absent: &[file],
+        ..TWO_FRAMES
+    };
+    difference_on_threads(rt, alloc, &row, &NoGate)
+}
+
+/// Carries out the run where the save of each file fails.
+fn check_saves<R: Threads + Wait + Abort + Sync>(
+    rt: &R,
+    alloc: Global,
+    files: &[&str],
+) -> Result<(), Fail> {
+    for (number, file) in files.iter().enumerate() {
+        let save = (number as u64).saturating_add(1);
+        let found = unsaved_difference(rt, alloc, save, file)?;
         assert_eq!(rt; found.as_str(), "", "{file}");
     }
     Ok(())
+}
+
+#[test]
+fn a_save_that_fails_costs_its_file_alone(rt: HostRuntime) -> Result<(), Fail> {
+    check_saves(&rt, rt.alloc(), &FILES)
 }
 
 /// What is wrong where a fetch or a save is out of memory: the run ends with status 7, its line and

@@ -3,7 +3,11 @@ use cpu_feeders::NoGate;
 use run_building::{
     Capture, Kept, NO_FRAME, NOTHING, Row, Shape, difference, difference_on_threads,
 };
+use std::alloc::Global;
+use std::process::Abort;
+use std::sync::Wait;
 use std::test::Fail;
+use std::thread::Threads;
 
 const FORWARD: &[&str] = &["forward", "conf"];
 
@@ -203,16 +207,24 @@ static ROWS: [Row<'static>; 8] = [
     },
 ];
 
-#[test]
-fn members_send_what_they_read(rt: HostRuntime) -> Result<(), Fail> {
-    for row in &ROWS {
-        for dump in [false, true] {
-            let row = Row { dump, ..*row };
-            let found = difference_on_threads(&rt, rt.alloc(), &row, &NoGate)?;
-            assert_eq!(rt; found.as_str(), "", "{}", row.name);
-        }
+/// Carries out each row on threads, with a dump or without: nothing may differ from it.
+fn check_rows<R: Threads + Wait + Abort + Sync>(
+    rt: &R,
+    alloc: Global,
+    rows: &[Row<'_>],
+    dump: bool,
+) -> Result<(), Fail> {
+    for row in rows {
+        let found = difference_on_threads(rt, alloc, &Row { dump, ..*row }, &NoGate)?;
+        assert_eq!(rt; found.as_str(), "", "{}", row.name);
     }
     Ok(())
+}
+
+#[test]
+fn members_send_what_they_read(rt: HostRuntime) -> Result<(), Fail> {
+    check_rows(&rt, rt.alloc(), &ROWS, false)?;
+    check_rows(&rt, rt.alloc(), &ROWS, true)
 }
 
 /// Words that are no command where there are no threads.

@@ -12,7 +12,7 @@ const DIGITS: &[u8] =
 /// A row of the suite over IPv4: source, destination, their ports, the hash of the addresses, and with the ports.
 type Ipv4Row = ([u8; 4], [u8; 4], u16, u16, u32, u32);
 
-const OVER_IPV4: [Ipv4Row; 5] = [
+static OVER_IPV4: [Ipv4Row; 5] = [
     (
         [66, 9, 149, 187],
         [161, 142, 100, 80],
@@ -58,7 +58,7 @@ const OVER_IPV4: [Ipv4Row; 5] = [
 /// A row over IPv6, as above.
 type Ipv6Row = (u128, u128, u16, u16, u32, u32);
 
-const OVER_IPV6: [Ipv6Row; 3] = [
+static OVER_IPV6: [Ipv6Row; 3] = [
     (
         0x3ffe_2501_0200_1fff_0000_0000_0000_0007,
         0x3ffe_2501_0200_0003_0000_0000_0000_0001,
@@ -107,17 +107,37 @@ fn hash(rt: &impl Abort, key: &Key, input: &[u8]) -> u32 {
     toeplitz(key, input)
 }
 
+/// Holds the hashes of each row to the row.
+fn check_ipv4(rt: &impl Abort, alloc: Global, key: &Key, rows: &[Ipv4Row]) -> Result<(), Fail> {
+    for (from, to, sport, dport, plain, ported) in rows {
+        let (short, long) = inputs(alloc, from, to, *sport, *dport)?;
+        assert_eq!(rt;
+            hash(rt, key, &short),
+            *plain,
+            "addresses, from port {sport}"
+        );
+        assert_eq!(rt; hash(rt, key, &long), *ported, "from port {sport}");
+    }
+    Ok(())
+}
+
 #[test]
 fn meets_the_published_suite_over_ipv4(rt: HostRuntime) -> Result<(), Fail> {
     let key = Key::from_hex(rt.alloc(), DIGITS)?;
-    for (from, to, sport, dport, plain, ported) in OVER_IPV4 {
-        let (short, long) = inputs(rt.alloc(), &from, &to, sport, dport)?;
+    check_ipv4(&rt, rt.alloc(), &key, &OVER_IPV4)
+}
+
+/// Holds the hashes of each row to the row.
+fn check_ipv6(rt: &impl Abort, alloc: Global, key: &Key, rows: &[Ipv6Row]) -> Result<(), Fail> {
+    for (from, to, sport, dport, plain, ported) in rows {
+        let (from, to) = (from.to_be_bytes(), to.to_be_bytes());
+        let (short, long) = inputs(alloc, &from, &to, *sport, *dport)?;
         assert_eq!(rt;
-            hash(&rt, &key, &short),
-            plain,
+            hash(rt, key, &short),
+            *plain,
             "addresses, from port {sport}"
         );
-        assert_eq!(rt; hash(&rt, &key, &long), ported, "from port {sport}");
+        assert_eq!(rt; hash(rt, key, &long), *ported, "from port {sport}");
     }
     Ok(())
 }
@@ -125,22 +145,7 @@ fn meets_the_published_suite_over_ipv4(rt: HostRuntime) -> Result<(), Fail> {
 #[test]
 fn meets_the_published_suite_over_ipv6(rt: HostRuntime) -> Result<(), Fail> {
     let key = Key::from_hex(rt.alloc(), DIGITS)?;
-    for (from, to, sport, dport, plain, ported) in OVER_IPV6 {
-        let (short, long) = inputs(
-            rt.alloc(),
-            &from.to_be_bytes(),
-            &to.to_be_bytes(),
-            sport,
-            dport,
-        )?;
-        assert_eq!(rt;
-            hash(&rt, &key, &short),
-            plain,
-            "addresses, from port {sport}"
-        );
-        assert_eq!(rt; hash(&rt, &key, &long), ported, "from port {sport}");
-    }
-    Ok(())
+    check_ipv6(&rt, rt.alloc(), &key, &OVER_IPV6)
 }
 
 const LINK: Link = Link {
@@ -166,21 +171,28 @@ fn over_ipv4(from: u32, to: u32, ports: Option<(u16, u16)>) -> Headers {
 }
 
 /// The two ends, with their ports, and the hash of a segment between them, whichever way it goes.
-const FLOWS: [(u32, u16, u32, u16, u32); 3] = [
+type Flow = (u32, u16, u32, u16, u32);
+
+static FLOWS: [Flow; 3] = [
     (0x4209_95bb, 2794, 0xa18e_6450, 1766, 0x51cc_c178),
     (0xc75c_6f02, 14230, 0x4145_8c53, 4739, 0xe53c_74e8),
     (0x0a00_0001, 4000, 0x0a00_0001, 53, 0x8c19_de0a),
 ];
 
+/// Holds the hash of a segment in either direction to each row.
+fn check_flows(rt: &impl Abort, key: &Key, rows: &[Flow]) {
+    for (a, a_port, b, b_port, want) in rows {
+        let there = over_ipv4(*a, *b, Some((*a_port, *b_port)));
+        let back = over_ipv4(*b, *a, Some((*b_port, *a_port)));
+        assert_eq!(rt; flow_hash(key, &there), *want, "from port {a_port}");
+        assert_eq!(rt; flow_hash(key, &back), *want, "to port {a_port}");
+    }
+}
+
 #[test]
 fn hashes_both_directions_of_a_flow_alike(rt: HostRuntime) -> Result<(), Fail> {
     let key = Key::from_hex(rt.alloc(), DIGITS)?;
-    for (a, a_port, b, b_port, want) in FLOWS {
-        let there = over_ipv4(a, b, Some((a_port, b_port)));
-        let back = over_ipv4(b, a, Some((b_port, a_port)));
-        assert_eq!(rt; flow_hash(&key, &there), want, "from port {a_port}");
-        assert_eq!(rt; flow_hash(&key, &back), want, "to port {a_port}");
-    }
+    check_flows(&rt, &key, &FLOWS);
     Ok(())
 }
 

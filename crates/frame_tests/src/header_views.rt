@@ -4,6 +4,7 @@ use crate::captured_frames::{
     UDP, UDP6,
 };
 use frame_view::{ByteList, Headers, Link, Packet, V4Part, V6Part, checksum, pkttype, view};
+use std::process::Abort;
 use std::test::Fail;
 
 /// An IPv4 header without options from the one station to the other: total length, identification, more,
@@ -70,22 +71,42 @@ fn request() -> Headers {
     })
 }
 
+/// What is read of a frame.
+fn check_view(rt: &impl Abort, name: &str, bytes: &[u8], want: Headers) {
+    assert_eq!(rt; view(bytes), want, "{name}");
+}
+
 #[test]
 fn reads_captured_frames(rt: HostRuntime) {
-    let rows: [(&str, &[u8], Headers); 9] = [
-        ("udp", &UDP, v4(33, 15902, false, 0, 17, Some((40001, 53)))),
-        ("first fragment", &FIRST, v4(1396, 15929, true, 0, 17, None)),
-        ("last fragment", &LAST, v4(188, 15929, false, 172, 17, None)),
-        ("tcp", &TCP, v4(60, 24212, false, 0, 6, Some((48170, 443)))),
-        ("udp over ipv6", &UDP6, v6(17, (49988, 53))),
-        ("tcp over ipv6", &TCP6, v6(6, (47556, 8080))),
-        ("multicast report", &REPORT, report()),
-        ("arp request", &ARP, request()),
-        ("13 bytes", &ARP[..13], Headers::Runt),
-    ];
-    for (name, bytes, want) in rows {
-        assert_eq!(rt; view(bytes), want, "{name}");
-    }
+    check_view(
+        &rt,
+        "udp",
+        &UDP,
+        v4(33, 15902, false, 0, 17, Some((40001, 53))),
+    );
+    check_view(
+        &rt,
+        "first fragment",
+        &FIRST,
+        v4(1396, 15929, true, 0, 17, None),
+    );
+    check_view(
+        &rt,
+        "last fragment",
+        &LAST,
+        v4(188, 15929, false, 172, 17, None),
+    );
+    check_view(
+        &rt,
+        "tcp",
+        &TCP,
+        v4(60, 24212, false, 0, 6, Some((48170, 443))),
+    );
+    check_view(&rt, "udp over ipv6", &UDP6, v6(17, (49988, 53)));
+    check_view(&rt, "tcp over ipv6", &TCP6, v6(6, (47556, 8080)));
+    check_view(&rt, "multicast report", &REPORT, report());
+    check_view(&rt, "arp request", &ARP, request());
+    check_view(&rt, "13 bytes", &ARP[..13], Headers::Runt);
 }
 
 #[test]
@@ -98,18 +119,19 @@ fn tells_packet_types(rt: HostRuntime) {
     assert_eq!(rt; pkttype(&UDP, Some(SENDER)), 3, "another host");
 }
 
+/// The sum of a frame's header, which stands after 14 bytes and has 20, is 0.
+fn check_sum(rt: &impl Abort, name: &str, bytes: &[u8]) {
+    let header = bytes.get(14..34).unwrap_or(&[]);
+    assert!(rt; header.len() == 20, "{name}");
+    assert_eq!(rt; checksum(header), 0, "{name}");
+}
+
 #[test]
 fn sums_captured_headers(rt: HostRuntime) {
-    let rows: [(&str, &[u8]); 4] = [
-        ("udp", &UDP[14..34]),
-        ("first fragment", &FIRST[14..34]),
-        ("last fragment", &LAST[14..34]),
-        ("tcp", &TCP[14..34]),
-    ];
-    for (name, header) in rows {
-        assert!(rt; header.len() == 20);
-        assert_eq!(rt; checksum(header), 0, "{name}");
-    }
+    check_sum(&rt, "udp", &UDP);
+    check_sum(&rt, "first fragment", &FIRST);
+    check_sum(&rt, "last fragment", &LAST);
+    check_sum(&rt, "tcp", &TCP);
 }
 
 #[test]

@@ -2,11 +2,14 @@
 use crate::sample_blocks::{PAGES, TEXT, fault, part};
 use frame_view::Memory;
 use std::alloc::Global;
+use std::process::Abort;
 use std::test::Fail;
-use tp_layout::{LayoutKind, walk_text};
+use tp_layout::{LayoutKind, Shape, walk_text};
 
 /// The place of a byte that is changed by an exclusive or with 1, and the fault with its place.
-const CHANGES: [(usize, Option<(LayoutKind, u32)>); 12] = [
+type Change = (usize, Option<(LayoutKind, u32)>);
+
+static CHANGES: [Change; 12] = [
     (0, Some((LayoutKind::Version, 0))),
     (8, Some((LayoutKind::Field, 8))),
     (12, Some((LayoutKind::Count, 12))),
@@ -31,34 +34,56 @@ fn changed(alloc: Global, place: usize) -> Result<Vec<u8>, Memory> {
     Ok(bytes)
 }
 
+/// The fault of a block with one byte changed.
+fn changed_fault(
+    alloc: Global,
+    shape: &Shape,
+    place: usize,
+) -> Result<Option<(LayoutKind, u32)>, Fail> {
+    let bytes = changed(alloc, place)?;
+    if bytes.len() != shape.block_size() as usize {
+        return Err("a page".into());
+    }
+    Ok(fault(bytes.as_slice(), shape))
+}
+
+/// Holds the fault of each change to that of its row.
+fn check_changes(
+    rt: &impl Abort,
+    alloc: Global,
+    shape: &Shape,
+    rows: &[Change],
+) -> Result<(), Fail> {
+    for (place, told) in rows {
+        let found = changed_fault(alloc, shape, *place)?;
+        assert_eq!(rt; found, *told, "the byte at {place}");
+    }
+    Ok(())
+}
+
 #[test]
 fn one_byte_changed(rt: HostRuntime) -> Result<(), Fail> {
     let shape = PAGES.check().ok().ok_or("a valid request")?;
-    for (place, told) in CHANGES {
-        let bytes = changed(rt.alloc(), place)?;
-        if bytes.len() != shape.block_size() as usize {
-            return Err("a page".into());
-        }
-        assert_eq!(rt;
-            fault(bytes.as_slice(), &shape),
-            told,
-            "the byte at {place}"
-        );
+    check_changes(&rt, rt.alloc(), &shape, &CHANGES)
+}
+
+/// The fault of the text's first bytes, which are at least a descriptor and at most a block.
+fn cut_fault(shape: &Shape, size: usize) -> Result<Option<(LayoutKind, u32)>, Fail> {
+    let text = part(&TEXT, 0, size);
+    if text.len() < 48 || text.len() > shape.block_size() as usize {
+        return Err("a descriptor at least and a block at most".into());
     }
-    Ok(())
+    match walk_text(text, shape) {
+        Ok(_) => Ok(None),
+        Err(fault) => Ok(Some((fault.kind, fault.at))),
+    }
 }
 
 #[test]
 fn a_text_that_ends_elsewhere(rt: HostRuntime) -> Result<(), Fail> {
     let shape = PAGES.check().ok().ok_or("a valid request")?;
     for size in [48, 136, 143] {
-        let text = part(&TEXT, 0, size);
-        if text.len() < 48 || text.len() > shape.block_size() as usize {
-            return Err("a descriptor at least and a block at most".into());
-        }
-        let found = walk_text(text, &shape)
-            .err()
-            .map(|fault| (fault.kind, fault.at));
+        let found = cut_fault(&shape, size)?;
         assert_eq!(rt; found, Some((LayoutKind::Length, 20)), "{size} bytes");
     }
     Ok(())

@@ -2,6 +2,7 @@
 use RequestError::{
     BlockCount, BlockSize, Feature, FrameAlign, FrameCount, FrameSmall, Private, Slots, Transmit,
 };
+use std::process::Abort;
 use std::test::Fail;
 use tp_layout::{RequestError, RingRequest, blocks};
 
@@ -26,8 +27,10 @@ fn request(sizes: [u32; 4], extras: [u32; 3]) -> RingRequest {
     }
 }
 
-/// Requests for receive rings, and the first fault of each.
-const RECEIVE: [(&str, [u32; 4], [u32; 3], Option<RequestError>); 22] = [
+/// A request for a receive ring, and its first fault.
+type Receive = (&'static str, [u32; 4], [u32; 3], Option<RequestError>);
+
+static RECEIVE: [Receive; 22] = [
     ("two pages", [4096, 2, 2048, 4], NONE, None),
     ("no byte", [0, 2, 2048, 4], NONE, Some(BlockSize)),
     (
@@ -102,22 +105,28 @@ const RECEIVE: [(&str, [u32; 4], [u32; 3], Option<RequestError>); 22] = [
     ("nothing at all", [0, 0, 0, 0], NONE, Some(BlockSize)),
 ];
 
-#[test]
-fn requests_at_each_limit(rt: HostRuntime) -> Result<(), Fail> {
-    for (name, sizes, extras, fault) in RECEIVE {
-        assert_eq!(rt; request(sizes, extras).check().err(), fault, "{name}");
+/// Holds each request to its row.
+fn check_receive(rt: &impl Abort, rows: &[Receive]) {
+    for (name, sizes, extras, fault) in rows {
+        assert_eq!(rt; request(*sizes, *extras).check().err(), *fault, "{name}");
     }
-    Ok(())
 }
 
-/// Requests for other rings: the first fault of each as a transmit ring, and as one of TPACKET_V2.
-const OTHERS: [(
-    &str,
+#[test]
+fn requests_at_each_limit(rt: HostRuntime) {
+    check_receive(&rt, &RECEIVE);
+}
+
+/// A request for another ring: its first fault as a transmit ring, and as one of TPACKET_V2.
+type Other = (
+    &'static str,
     [u32; 4],
     [u32; 3],
     Option<RequestError>,
     Option<RequestError>,
-); 7] = [
+);
+
+static OTHERS: [Other; 7] = [
     ("two pages", SIZES, NONE, None, None),
     (
         "a time-out",
@@ -157,14 +166,18 @@ const OTHERS: [(
     ),
 ];
 
-#[test]
-fn requests_of_other_rings(rt: HostRuntime) -> Result<(), Fail> {
-    for (name, sizes, extras, transmit, slots) in OTHERS {
-        let request = request(sizes, extras);
-        assert_eq!(rt; request.check_tx().err(), transmit, "{name}");
-        assert_eq!(rt; request.check_v2().err(), slots, "{name}");
+/// Holds each request to its row.
+fn check_others(rt: &impl Abort, rows: &[Other]) {
+    for (name, sizes, extras, transmit, slots) in rows {
+        let request = request(*sizes, *extras);
+        assert_eq!(rt; request.check_tx().err(), *transmit, "{name}");
+        assert_eq!(rt; request.check_v2().err(), *slots, "{name}");
     }
-    Ok(())
+}
+
+#[test]
+fn requests_of_other_rings(rt: HostRuntime) {
+    check_others(&rt, &OTHERS);
 }
 
 #[test]

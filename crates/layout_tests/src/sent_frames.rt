@@ -4,11 +4,11 @@ ghost use Rattle.std.specs.Prelude.{◌≡◌, ◌<◌, IfOk, length};
 use crate::slots::{SLOTS, lengths};
 use frame_view::{ByteList, Frame, Frames};
 use std::alloc::Global;
+use std::process::Abort;
 use std::test::Fail;
 use tx_ring::transmit_frames;
 
 /// The lengths of the frames, those that are sent, how many are skipped, and where the ring stops.
-#[derive(Clone, Copy)]
 struct Row {
     name: &'static str,
     skip_bad: bool,
@@ -18,7 +18,7 @@ struct Row {
     stop: Option<u32>,
 }
 
-const ROWS: [Row; 5] = [
+static ROWS: [Row; 5] = [
     Row {
         name: "a longer frame stops the ring",
         skip_bad: false,
@@ -97,13 +97,18 @@ fn sent_of(alloc: Global, row: &Row) -> Result<(Vec<usize>, Counts), Fail> {
     Ok((sent, (told.sent, told.skipped, told.stop)))
 }
 
-#[test]
-fn frames_through_a_ring(rt: HostRuntime) -> Result<(), Fail> {
-    for row in ROWS {
-        let (sent, counts) = sent_of(rt.alloc(), &row)?;
+/// Holds what is sent of each row's frames to the row.
+fn check_rows(rt: &impl Abort, alloc: Global, rows: &[Row]) -> Result<(), Fail> {
+    for row in rows {
+        let (sent, counts) = sent_of(alloc, row)?;
         assert_eq!(rt; sent.as_slice(), row.sent, "{}", row.name);
         let all = row.sent.len() as u64;
         assert_eq!(rt; counts, (all, row.skipped, row.stop), "{}", row.name);
     }
     Ok(())
+}
+
+#[test]
+fn frames_through_a_ring(rt: HostRuntime) -> Result<(), Fail> {
+    check_rows(&rt, rt.alloc(), &ROWS)
 }

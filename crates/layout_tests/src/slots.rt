@@ -5,6 +5,7 @@ use Act::{Place, Queue, Send, Status};
 use Said::{Bad, Done, Full, Stands, Stopped, TooLong, Took, Wanting};
 use frame_view::Packets;
 use std::alloc::Global;
+use std::process::Abort;
 use std::test::Fail;
 use tp_layout::RingRequest;
 use tx_ring::{SendError, Sent, TxError, TxRing};
@@ -21,7 +22,7 @@ pub(crate) const SLOTS: RingRequest = RingRequest {
 };
 
 /// What is done to a ring.
-#[derive(Clone, Copy, Debug)]
+#[derive(Clone, Copy)]
 enum Act {
     /// So many bytes are queued.
     Queue(usize),
@@ -48,7 +49,6 @@ enum Said {
 }
 
 /// What is done to a new ring, what it says, and the lengths of the packets that it sends.
-#[derive(Clone, Copy)]
 struct Row {
     name: &'static str,
     skip_bad: bool,
@@ -57,7 +57,7 @@ struct Row {
     lengths: &'static [usize],
 }
 
-const ROWS: [Row; 6] = [
+static ROWS: [Row; 6] = [
     Row {
         name: "a fifth frame, and one of 2001 bytes",
         skip_bad: false,
@@ -235,25 +235,30 @@ pub(crate) fn lengths(alloc: Global, packets: &Packets) -> Result<Vec<usize>, Fa
     Ok(all)
 }
 
-#[test]
-fn what_a_ring_says(rt: HostRuntime) -> Result<(), Fail> {
-    let alloc = rt.alloc();
-    for row in ROWS {
-        let mut ring = four_slots(alloc, row.skip_bad)?;
-        let mut out = Packets::new(alloc);
-        if row.acts.len() >= 100 {
-            return Err("few acts".into());
-        }
-        let said = do_all(alloc, &mut ring, row.acts, &mut out)?;
+/// What a new ring says to the acts of a row, and the lengths of the packets that it sends.
+fn said_to(alloc: Global, row: &Row) -> Result<(Vec<Said>, Vec<usize>), Fail> {
+    if row.acts.len() >= 100 {
+        return Err("few acts".into());
+    }
+    let mut ring = four_slots(alloc, row.skip_bad)?;
+    let mut out = Packets::new(alloc);
+    let said = do_all(alloc, &mut ring, row.acts, &mut out)?;
+    Ok((said, lengths(alloc, &out)?))
+}
+
+/// Holds what a ring says and sends to each row.
+fn check_rows(rt: &impl Abort, alloc: Global, rows: &[Row]) -> Result<(), Fail> {
+    for row in rows {
+        let (said, sent) = said_to(alloc, row)?;
         assert_eq!(rt; said.as_slice(), row.said, "{}", row.name);
-        assert_eq!(rt;
-            lengths(alloc, &out)?.as_slice(),
-            row.lengths,
-            "{}",
-            row.name
-        );
+        assert_eq!(rt; sent.as_slice(), row.lengths, "{}", row.name);
     }
     Ok(())
+}
+
+#[test]
+fn what_a_ring_says(rt: HostRuntime) -> Result<(), Fail> {
+    check_rows(&rt, rt.alloc(), &ROWS)
 }
 
 /// What a ring sends of a frame of 16 bytes of which 14 were given, 6 each, after frames that filled its slots.

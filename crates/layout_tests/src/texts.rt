@@ -162,22 +162,35 @@ fn three_frames_one_after_another(rt: HostRuntime) -> Result<(), Fail> {
     Ok(())
 }
 
+/// Where the text ends that fills a block.
+static FILLED: [Bytes; 1] = [(20, &[0, 16, 0, 0])];
+
+/// Of a packet of so many bytes on the wire, of which 3,966 are kept: whether its block's text is said
+/// to end elsewhere, how many bytes the text has, and how many the packet had and has.
+fn filled(
+    alloc: Global,
+    shape: &Shape,
+    wire: u32,
+) -> Result<(Option<usize>, usize, u32, usize), Fail> {
+    if wire < 3_966 || shape.room() < need(3_966) {
+        return Err("so many bytes fit".into());
+    }
+    let bytes = vec![in alloc; 7; 4000]?;
+    let offer = offer(alloc, bytes.as_slice(), 3_966, wire, None)?;
+    let block = block_with(alloc, shape, &offer)?;
+    let other = other_bytes(block.bytes(), &FILLED);
+    let packet = only_packet(walk(block.bytes(), shape)).ok_or("it has a packet")?;
+    let length = packet.bytes.len();
+    Ok((other, text_of(&block).len(), packet.wire, length))
+}
+
 #[test]
 fn a_frame_cut_to_the_room(rt: HostRuntime) -> Result<(), Fail> {
-    let alloc = rt.alloc();
     let shape = PAGES.check().ok().ok_or("a valid request")?;
-    let bytes = vec![in alloc; 7; 4000]?;
     // 9,000 bytes on the wire of which 3,966 are kept, and a frame of 3,966 bytes
     for wire in [9_000, 3_966] {
-        if wire < 3_966 || shape.room() < need(3_966) {
-            return Err("so many bytes fit".into());
-        }
-        let offer = offer(alloc, bytes.as_slice(), 3_966, wire, None)?;
-        let block = block_with(alloc, &shape, &offer)?;
-        assert_eq!(rt; part(block.bytes(), 20, 24), [0, 16, 0, 0].as_slice());
-        assert_eq!(rt; text_of(&block).len(), 4096);
-        let packet = only_packet(walk(block.bytes(), &shape)).ok_or("it has a packet")?;
-        assert_eq!(rt; (packet.wire, packet.bytes.len()), (wire, 3_966));
+        let found = filled(rt.alloc(), &shape, wire)?;
+        assert_eq!(rt; found, (None, 4096, wire, 3_966));
     }
     Ok(())
 }

@@ -4,13 +4,14 @@ use capture_file::{CaptureError, CpuEnd};
 use capture_reading::{Buffer, Reading, read_capture};
 use frame_view::{ByteList, Memory, MomentList};
 use std::alloc::Global;
+use std::process::Abort;
 use std::test::Fail;
 use tap_outside::MemSource;
 
 /// A header of 24 bytes, for times in nanoseconds with the lowest byte first; then three records,
 /// each of 16 bytes and its frame, which end at byte 42, 61 and 78. Seconds and nanoseconds,
 /// captured bytes, bytes on the wire: (1, 5) 2 of 60; (1, 7) 3 of 3; (2, 9) 1 of 64.
-const THREE_FRAMES: [u8; 78] = [
+static THREE_FRAMES: [u8; 78] = [
     0x4d, 0x3c, 0xb2, 0xa1, 2, 0, 4, 0, 0, 0, 0, 0, 0, 0, 0, 0, 0, 0, 4, 0, 1, 0, 0, 0, // header
     1, 0, 0, 0, 5, 0, 0, 0, 2, 0, 0, 0, 60, 0, 0, 0, 21, 22, // first record
     1, 0, 0, 0, 7, 0, 0, 0, 3, 0, 0, 0, 3, 0, 0, 0, 31, 32, 33, // second
@@ -40,35 +41,48 @@ fn read(alloc: Global, count: usize, piece: usize, failing: &[u64]) -> Result<Re
     )
 }
 
+/// What is read of a frame: its CPU and index, its time and its bytes on the wire, and how many were
+/// captured.
+type Seen = ((u32, u32), (u32, u32, u32), usize);
+
+static SEEN: [Seen; 3] = [
+    ((3, 0), (1, 5, 60), 2),
+    ((3, 1), (1, 7, 3), 3),
+    ((3, 2), (2, 9, 64), 1),
+];
+
+/// What is read of each frame.
+fn seen(alloc: Global, reading: &Reading) -> Result<Vec<Seen>, Memory> {
+    let mut seen = Vec::new(alloc);
+    for frame in reading.frames.as_slice() {
+        seen.push((
+            (frame.cpu, frame.index),
+            (frame.sec, frame.nsec, frame.wire),
+            frame.bytes.len(),
+        ))?;
+    }
+    Ok(seen)
+}
+
+/// The capture whose source gives so many bytes at a time is read whole.
+fn check_piece(rt: &impl Abort, alloc: Global, piece: usize) -> Result<(), Fail> {
+    let reading = read(alloc, 78, piece, &[])?;
+    assert_eq!(rt; reading.end, CpuEnd::Whole, "pieces of {piece}");
+    assert_eq!(rt; reading.given, 78, "pieces of {piece}");
+    let seen = seen(alloc, &reading)?;
+    assert_eq!(rt; seen.as_slice(), SEEN.as_slice(), "pieces of {piece}");
+    Ok(())
+}
+
 #[test]
 fn captures_are_read_whole_in_pieces(rt: HostRuntime) -> Result<(), Fail> {
     for piece in [1, 7, 65_536] {
-        let reading = read(rt.alloc(), 78, piece, &[])?;
-        assert_eq!(rt; reading.end, CpuEnd::Whole, "pieces of {piece}");
-        assert_eq!(rt; reading.given, 78);
-        let mut seen = Vec::new(rt.alloc());
-        for frame in reading.frames.as_slice() {
-            seen.push((
-                (frame.cpu, frame.index),
-                (frame.sec, frame.nsec, frame.wire),
-                frame.bytes.len(),
-            ))?;
-        }
-        assert_eq!(rt;
-            seen.as_slice(),
-            [
-                ((3, 0), (1, 5, 60), 2),
-                ((3, 1), (1, 7, 3), 3),
-                ((3, 2), (2, 9, 64), 1),
-            ]
-            .as_slice()
-        );
+        check_piece(&rt, rt.alloc(), piece)?;
     }
     Ok(())
 }
 
 /// A capture that is cut, or whose source fails.
-#[derive(Drop)]
 struct Row {
     name: &'static str,
     /// How many bytes of it there are.
@@ -82,61 +96,79 @@ struct Row {
     read: (u64, usize),
 }
 
-const fn case(
-    name: &'static str,
-    count: usize,
-    piece: usize,
-    failing: &'static [u64],
-    end: CpuEnd,
-    read: (u64, usize),
-) -> Row {
+static ROWS: [Row; 7] = [
     Row {
-        name,
-        count,
-        piece,
-        failing,
-        end,
-        read,
+        name: "cut in the header",
+        count: 23,
+        piece: 7,
+        failing: &[],
+        end: CpuEnd::Damaged(CaptureError::Truncated(0)),
+        read: (23, 0),
+    },
+    Row {
+        name: "a header alone",
+        count: 24,
+        piece: 7,
+        failing: &[],
+        end: CpuEnd::Whole,
+        read: (24, 0),
+    },
+    Row {
+        name: "cut in a record",
+        count: 77,
+        piece: 7,
+        failing: &[],
+        end: CpuEnd::Damaged(CaptureError::Truncated(61)),
+        read: (77, 2),
+    },
+    Row {
+        name: "cut after a record",
+        count: 61,
+        piece: 1,
+        failing: &[],
+        end: CpuEnd::Whole,
+        read: (61, 2),
+    },
+    Row {
+        name: "read 1 fails",
+        count: 78,
+        piece: 65_536,
+        failing: &[1],
+        end: CpuEnd::Fault,
+        read: (0, 0),
+    },
+    Row {
+        name: "read 7 of 7 bytes fails",
+        count: 78,
+        piece: 7,
+        failing: &[7],
+        end: CpuEnd::Fault,
+        read: (42, 1),
+    },
+    Row {
+        name: "the read after all bytes fails",
+        count: 78,
+        piece: 65_536,
+        failing: &[2],
+        end: CpuEnd::Fault,
+        read: (78, 3),
+    },
+];
+
+/// Holds what is read of each row's source to the row.
+fn check_rows(rt: &impl Abort, alloc: Global, rows: &[Row]) -> Result<(), Fail> {
+    for row in rows {
+        let reading = read(alloc, row.count, row.piece, row.failing)?;
+        assert_eq!(rt; reading.end, row.end, "{}", row.name);
+        let count = (reading.given, reading.frames.len());
+        assert_eq!(rt; count, row.read, "{}", row.name);
     }
+    Ok(())
 }
 
 #[test]
 fn cuts_and_faults_keep_the_frames_before_them(rt: HostRuntime) -> Result<(), Fail> {
-    let cut = |at| CpuEnd::Damaged(CaptureError::Truncated(at));
-    let rows = [
-        case("cut in the header", 23, 7, &[], cut(0), (23, 0)),
-        case("a header alone", 24, 7, &[], CpuEnd::Whole, (24, 0)),
-        case("cut in a record", 77, 7, &[], cut(61), (77, 2)),
-        case("cut after a record", 61, 1, &[], CpuEnd::Whole, (61, 2)),
-        case("read 1 fails", 78, 65_536, &[1], CpuEnd::Fault, (0, 0)),
-        case(
-            "read 7 of 7 bytes fails",
-            78,
-            7,
-            &[7],
-            CpuEnd::Fault,
-            (42, 1),
-        ),
-        case(
-            "the read after all bytes fails",
-            78,
-            65_536,
-            &[2],
-            CpuEnd::Fault,
-            (78, 3),
-        ),
-    ];
-    for row in rows {
-        let reading = read(rt.alloc(), row.count, row.piece, row.failing)?;
-        assert_eq!(rt; reading.end, row.end, "{}", row.name);
-        assert_eq!(rt;
-            (reading.given, reading.frames.len()),
-            row.read,
-            "{}",
-            row.name
-        );
-    }
-    Ok(())
+    check_rows(&rt, rt.alloc(), &ROWS)
 }
 
 #[test]

@@ -3,6 +3,7 @@ ghost use Rattle.std.specs.Prelude.{IsTrue};
 
 use frame_view::{ByteList, MomentList};
 use std::alloc::{AllocError, Global};
+use std::process::Abort;
 use std::test::Fail;
 use tap_outside::{
     Failed, MemSink, MemSource, MemStore, OutError, Sink, Source, Store, SureStore, Word,
@@ -46,20 +47,31 @@ fn words_have_their_bytes(rt: HostRuntime) -> Result<(), Fail> {
     Ok(())
 }
 
+/// The most bytes that one read gives, the reads that fail, and the answers of four reads of five bytes.
+type Answers = (usize, &'static [u64], [Result<usize, Failed>; 4]);
+
+static SOURCES: [Answers; 4] = [
+    (2, &[], [Ok(2), Ok(2), Ok(1), Ok(0)]),
+    (9, &[], [Ok(4), Ok(1), Ok(0), Ok(0)]),
+    (3, &[2], [Ok(3), Err(Failed), Ok(2), Ok(0)]),
+    (1, &[3, 1], [Err(Failed), Ok(1), Err(Failed), Ok(1)]),
+];
+
+/// A source in memory answers as its row says.
+fn check_source(rt: &impl Abort, alloc: Global, row: &Answers) -> Result<(), Fail> {
+    let (piece, failing, answers) = row;
+    let bytes = ByteList::from_vec(b"abcde".to_vec(alloc)?);
+    let mut source = MemSource::new(bytes, (*piece).max(1), numbers(alloc, failing)?);
+    for answer in answers {
+        assert_eq!(rt; source.read(&mut [0; 4]), *answer, "pieces of {piece}");
+    }
+    Ok(())
+}
+
 #[test]
 fn sources_give_pieces_and_fail_where_told(rt: HostRuntime) -> Result<(), Fail> {
-    let rows: [(usize, &[u64], [Result<usize, Failed>; 4]); 4] = [
-        (2, &[], [Ok(2), Ok(2), Ok(1), Ok(0)]),
-        (9, &[], [Ok(4), Ok(1), Ok(0), Ok(0)]),
-        (3, &[2], [Ok(3), Err(Failed), Ok(2), Ok(0)]),
-        (1, &[3, 1], [Err(Failed), Ok(1), Err(Failed), Ok(1)]),
-    ];
-    for (piece, failing, answers) in rows {
-        let bytes = ByteList::from_vec(b"abcde".to_vec(rt.alloc())?);
-        let mut source = MemSource::new(bytes, piece, numbers(rt.alloc(), failing)?);
-        for answer in answers {
-            assert_eq!(rt; source.read(&mut [0; 4]), answer, "pieces of {piece}");
-        }
+    for row in &SOURCES {
+        check_source(&rt, rt.alloc(), row)?;
     }
     Ok(())
 }

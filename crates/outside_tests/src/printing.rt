@@ -3,7 +3,7 @@ use std::cell::Cell;
 use std::fmt::Display;
 use std::io;
 use std::io::ErrorKind;
-use std::test::Fail;
+use std::process::Abort;
 use tap_outside::{OutError, StdSink, write_whole};
 
 /// What a printer does at a write.
@@ -28,6 +28,17 @@ struct Printer {
 }
 
 impl Printer {
+    /// A printer that took no byte yet.
+    fn new(first: Does, later: Does) -> Printer {
+        Printer {
+            first,
+            later,
+            writes: Cell::new(0),
+            taken: Cell::new([0; 8]),
+            count: Cell::new(0),
+        }
+    }
+
     /// Keeps a byte, of the first eight.
     fn keep(&self, byte: u8) {
         let mut taken = self.taken.get();
@@ -80,80 +91,78 @@ type Row = (
     u64,
 );
 
-#[test]
-fn standard_output_takes_what_the_system_takes(rt: HostRuntime) -> Result<(), Fail> {
-    let failed = Err(OutError::Failed);
-    let rows: [Row; 7] = [
-        (
-            "at once",
-            Does::Takes(9),
-            Does::Takes(9),
-            Ok(()),
-            b"abcdefg",
-            0,
-        ),
-        (
-            "short writes",
-            Does::Takes(3),
-            Does::Takes(2),
-            Ok(()),
-            b"abcdefg",
-            0,
-        ),
-        (
-            "interrupted once",
-            Does::Fails(ErrorKind::Interrupted),
-            Does::Takes(4),
-            Ok(()),
-            b"abcdefg",
-            0,
-        ),
-        (
-            "interrupted for ever",
-            Does::Takes(1),
-            Does::Fails(ErrorKind::Interrupted),
-            failed,
-            b"a",
-            1,
-        ),
-        (
-            "nothing is taken",
-            Does::Takes(5),
-            Does::Takes(0),
-            failed,
-            b"abcde",
-            1,
-        ),
-        (
-            "a closed pipe",
-            Does::Takes(2),
-            Does::Fails(ErrorKind::BrokenPipe),
-            failed,
-            b"ab",
-            1,
-        ),
-        (
-            "out of memory",
-            Does::Takes(2),
-            Does::Fails(ErrorKind::OutOfMemory),
-            Err(OutError::Memory),
-            b"ab",
-            0,
-        ),
-    ];
+static ROWS: [Row; 7] = [
+    (
+        "at once",
+        Does::Takes(9),
+        Does::Takes(9),
+        Ok(()),
+        b"abcdefg",
+        0,
+    ),
+    (
+        "short writes",
+        Does::Takes(3),
+        Does::Takes(2),
+        Ok(()),
+        b"abcdefg",
+        0,
+    ),
+    (
+        "interrupted once",
+        Does::Fails(ErrorKind::Interrupted),
+        Does::Takes(4),
+        Ok(()),
+        b"abcdefg",
+        0,
+    ),
+    (
+        "interrupted for ever",
+        Does::Takes(1),
+        Does::Fails(ErrorKind::Interrupted),
+        Err(OutError::Failed),
+        b"a",
+        1,
+    ),
+    (
+        "nothing is taken",
+        Does::Takes(5),
+        Does::Takes(0),
+        Err(OutError::Failed),
+        b"abcde",
+        1,
+    ),
+    (
+        "a closed pipe",
+        Does::Takes(2),
+        Does::Fails(ErrorKind::BrokenPipe),
+        Err(OutError::Failed),
+        b"ab",
+        1,
+    ),
+    (
+        "out of memory",
+        Does::Takes(2),
+        Does::Fails(ErrorKind::OutOfMemory),
+        Err(OutError::Memory),
+        b"ab",
+        0,
+    ),
+];
+
+/// Holds what becomes of a whole write to each row.
+fn check_rows(rt: &impl Abort, rows: &[Row]) {
     for (name, first, later, answer, taken, faults) in rows {
-        let printer = Printer {
-            first,
-            later,
-            writes: Cell::new(0),
-            taken: Cell::new([0; 8]),
-            count: Cell::new(0),
-        };
+        let printer = Printer::new(*first, *later);
         let mut sink = StdSink::new(&printer);
-        assert_eq!(rt; write_whole(&mut sink, b"abcdefg"), answer, "{name}");
-        assert_eq!(rt; sink.faults(), faults, "{name}");
+        assert_eq!(rt; write_whole(&mut sink, b"abcdefg"), *answer, "{name}");
+        assert_eq!(rt; sink.faults(), *faults, "{name}");
         let kept = printer.taken.get();
-        assert_eq!(rt; kept.get(..printer.count.get()), Some(taken), "{name}");
+        assert_eq!(rt; kept.get(..printer.count.get()), Some(*taken), "{name}");
     }
-    Ok(())
+}
+
+#[test]
+fn standard_output_takes_what_the_system_takes(rt: HostRuntime) {
+    check_rows(&rt, &ROWS);
 }

@@ -1,10 +1,10 @@
 //! Setups with one fault in a line, or two.
-use crate::answers::answer_to_added;
+use crate::answers::{Reading, Row, check_rows};
 use frame_view::Memory;
 use setup_text::Command;
 
 /// Lines after the five that are needed, and the first fault.
-static ADDED: [(&str, &str); 85] = [
+static ADDED: [Row; 85] = [
     // the byte test comes before the word, and a comment isn't tested
     ("blok\u{e9} 3\n", "setup line 6: bad_line\n"),
     ("tov \u{7f}\n", "setup line 6: bad_line\n"),
@@ -119,9 +119,5 @@ static ADDED: [(&str, &str); 85] = [
 
 #[test]
 fn refuses_added_lines(rt: HostRuntime) -> Result<(), Memory> {
-    for (lines, fault) in &ADDED {
-        let answer = answer_to_added(rt.alloc(), lines, Command::Replay)?;
-        assert_eq!(rt; answer.as_str(), *fault, "{lines}");
-    }
-    Ok(())
+    check_rows(&rt, rt.alloc(), Reading::Added(Command::Replay), &ADDED)
 }

@@ -2,6 +2,7 @@
 use frame_view::Memory;
 use setup_text::{Command, TextError, Which, read_filter, read_schedule, read_setup, read_ticks};
 use std::alloc::Global;
+use std::process::Abort;
 use tap_printing::{setup_refusal, text_refusal};
 
 /// A setup with the lines that each one needs, five of them.
@@ -24,11 +25,7 @@ pub(crate) fn setup_answer(alloc: Global, text: &[u8], command: Command) -> Resu
 }
 
 /// The line that refuses a setup of the five lines that are needed and others after them.
-pub(crate) fn answer_to_added(
-    alloc: Global,
-    lines: &str,
-    command: Command,
-) -> Result<String, Memory> {
+fn answer_to_added(alloc: Global, lines: &str, command: Command) -> Result<String, Memory> {
     let text = joined(alloc, NEEDED, lines)?;
     setup_answer(alloc, &text, command)
 }
@@ -43,9 +40,46 @@ fn text_fault(alloc: Global, which: Which, text: &[u8]) -> Option<TextError> {
 }
 
 /// The line that refuses such a text; empty where it is accepted.
-pub(crate) fn text_answer(alloc: Global, which: Which, text: &[u8]) -> Result<String, Memory> {
+fn text_answer(alloc: Global, which: Which, text: &[u8]) -> Result<String, Memory> {
     match text_fault(alloc, which, text) {
         None => Ok(String::new(alloc)),
         Some(error) => text_refusal(alloc, &error),
     }
+}
+
+/// What a text is read as.
+#[derive(Clone, Copy, Debug)]
+pub(crate) enum Reading {
+    /// The whole setup of a command.
+    Setup(Command),
+    /// Lines after the five that each setup needs.
+    Added(Command),
+    /// A filter, moments or a schedule.
+    Side(Which),
+}
+
+/// A text, and the line that refuses it; empty where it is accepted.
+pub(crate) type Row = (&'static str, &'static str);
+
+/// The line that refuses a text; empty where it is accepted.
+fn answer(alloc: Global, reading: Reading, text: &str) -> Result<String, Memory> {
+    match reading {
+        Reading::Setup(command) => setup_answer(alloc, text.as_bytes(), command),
+        Reading::Added(command) => answer_to_added(alloc, text, command),
+        Reading::Side(which) => text_answer(alloc, which, text.as_bytes()),
+    }
+}
+
+/// Holds what each text is answered to its row.
+pub(crate) fn check_rows(
+    rt: &impl Abort,
+    alloc: Global,
+    reading: Reading,
+    rows: &[Row],
+) -> Result<(), Memory> {
+    for (text, line) in rows {
+        let found = answer(alloc, reading, text)?;
+        assert_eq!(rt; found.as_str(), *line, "{reading:?} {text}");
+    }
+    Ok(())
 }

@@ -1,12 +1,12 @@
 //! Moments, schedules and filters: the first fault of each that is refused, and what the others are
 //! read as.
-use crate::answers::text_answer;
+use crate::answers::{Reading, Row, check_rows};
 use frame_view::Memory;
 use schedule_lines::Line;
 use setup_text::{TextError, Which, read_filter, read_schedule, read_ticks};
 
 /// Texts of moments, and the first fault.
-static MOMENTS: [(&str, &str); 7] = [
+static MOMENTS: [Row; 7] = [
     ("1\n2 3\n", "ticks line 2: bad_line\n"),
     ("1\n\u{e9}\n", "ticks line 2: bad_line\n"),
     ("x\n", "ticks line 1: bad_number\n"),
@@ -18,11 +18,7 @@ static MOMENTS: [(&str, &str); 7] = [
 
 #[test]
 fn refuses_moments(rt: HostRuntime) -> Result<(), Memory> {
-    for (text, fault) in &MOMENTS {
-        let answer = text_answer(rt.alloc(), Which::Ticks, text.as_bytes())?;
-        assert_eq!(rt; answer.as_str(), *fault, "{text}");
-    }
-    Ok(())
+    check_rows(&rt, rt.alloc(), Reading::Side(Which::Ticks), &MOMENTS)
 }
 
 #[test]
@@ -33,7 +29,7 @@ fn reads_moments(rt: HostRuntime) -> Result<(), TextError> {
 }
 
 /// Schedules for two CPUs and three members, and the first fault.
-static SCHEDULES: [(&str, &str); 14] = [
+static SCHEDULES: [Row; 14] = [
     ("feed 0\nfeed 2\n", "schedule line 2: no_such_cpu\n"),
     ("read 3\n", "schedule line 1: no_such_member\n"),
     ("stats 3\n", "schedule line 1: no_such_member\n"),
@@ -55,11 +51,7 @@ static SCHEDULES: [(&str, &str); 14] = [
 
 #[test]
 fn refuses_schedules(rt: HostRuntime) -> Result<(), Memory> {
-    for (text, fault) in &SCHEDULES {
-        let answer = text_answer(rt.alloc(), Which::Schedule, text.as_bytes())?;
-        assert_eq!(rt; answer.as_str(), *fault, "{text}");
-    }
-    Ok(())
+    check_rows(&rt, rt.alloc(), Reading::Side(Which::Schedule), &SCHEDULES)
 }
 
 #[test]
@@ -78,7 +70,7 @@ fn reads_a_schedule(rt: HostRuntime) -> Result<(), TextError> {
 }
 
 /// Filters, and the first fault.
-static FILTERS: [(&str, &str); 10] = [
+static FILTERS: [Row; 10] = [
     ("1\n0 0 0 5\n", "filter line 2: no_return\n"),
     ("2\n0 0 0 5\n0 0 0 6\n", "filter line 3: no_return\n"),
     ("2\n52 0 0 0\n6 0 0 0\n", "filter line 2: bad_constant\n"),
@@ -96,11 +88,7 @@ static FILTERS: [(&str, &str); 10] = [
 
 #[test]
 fn refuses_filters(rt: HostRuntime) -> Result<(), Memory> {
-    for (text, fault) in &FILTERS {
-        let answer = text_answer(rt.alloc(), Which::Filter, text.as_bytes())?;
-        assert_eq!(rt; answer.as_str(), *fault, "{text}");
-    }
-    Ok(())
+    check_rows(&rt, rt.alloc(), Reading::Side(Which::Filter), &FILTERS)
 }
 
 #[test]

@@ -1,10 +1,10 @@
 //! Setups without some line that is needed, and texts and names at their greatest length.
-use crate::answers::{NEEDED, joined, setup_answer};
+use crate::answers::{NEEDED, Reading, Row, check_rows, joined, setup_answer};
 use frame_view::Memory;
 use setup_text::Command;
 
 /// Whole setups, and the first fault.
-static WHOLE: [(&str, &str); 12] = [
+static WHOLE: [Row; 12] = [
     ("", "setup line 0: missing block_size\n"),
     ("block_size 1\n", "setup line 0: missing block_nr\n"),
     (
@@ -36,11 +36,7 @@ static WHOLE: [(&str, &str); 12] = [
 
 #[test]
 fn refuses_whole_setups(rt: HostRuntime) -> Result<(), Memory> {
-    for (text, fault) in &WHOLE {
-        let answer = setup_answer(rt.alloc(), text.as_bytes(), Command::Replay)?;
-        assert_eq!(rt; answer.as_str(), *fault, "{text}");
-    }
-    Ok(())
+    check_rows(&rt, rt.alloc(), Reading::Setup(Command::Replay), &WHOLE)
 }
 
 #[test]

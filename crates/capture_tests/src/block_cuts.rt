@@ -1,0 +1,62 @@
+//! A capture cut at every place: fed in two pieces, and ended there.
+use crate::block_feeding::{Ended, decode};
+use crate::block_orders::LITTLE;
+use frame_view::Frames;
+use pcapng_blocks::{BlockDecoder, BlockError};
+use std::alloc::Global;
+use std::process::Abort;
+use std::test::Fail;
+
+/// A capture that is fed in two pieces gives its frame.
+fn check_pieces(rt: &impl Abort, alloc: Global, first: &[u8], second: &[u8]) -> Result<(), Fail> {
+    let mut frames = Frames::new(alloc);
+    let mut decoder = BlockDecoder::new(alloc, 3);
+    let cut = first.len();
+    assert_eq!(rt; decoder.feed(first, &mut frames)?, None, "{cut}");
+    assert_eq!(rt; decoder.feed(second, &mut frames)?, None, "{cut}");
+    assert_eq!(rt; (decoder.end(), decoder.rest()), (Ok(()), 0), "{cut}");
+    assert_eq!(rt; frames.len(), 1, "{cut}");
+    Ok(())
+}
+
+#[test]
+fn a_cut_between_pieces_changes_nothing(rt: HostRuntime) -> Result<(), Fail> {
+    for cut in 0..97 {
+        let (first, second) = LITTLE.as_slice().split_at(cut);
+        check_pieces(&rt, rt.alloc(), first, second)?;
+    }
+    Ok(())
+}
+
+/// What the end of the capture answers that is cut to a length: its blocks begin at 0, 28 and 48, and
+/// end at 96. What is kept is the part of the block that is cut.
+fn end_at(length: u32) -> Ended {
+    let place: u32 = match length {
+        0..28 => 0,
+        28..48 => 28,
+        _ => 48,
+    };
+    match length {
+        28 | 48 | 96 => (Ok(()), 0),
+        _ => (
+            Err(BlockError::Truncated(u64::from(place))),
+            length.saturating_sub(place),
+        ),
+    }
+}
+
+/// The capture that is cut to a length ends there, with its frame where it is whole.
+fn check_cut(rt: &impl Abort, alloc: Global, start: &[u8], length: u32) {
+    let mut frames = Frames::new(alloc);
+    let answer = decode(alloc, start, 5, &mut frames);
+    assert_eq!(rt; answer, (None, end_at(length)), "{length}");
+    assert_eq!(rt; frames.len(), (length == 96) as usize, "{length}");
+}
+
+#[test]
+fn names_the_block_that_is_cut(rt: HostRuntime) {
+    for length in 4..97 {
+        let (start, _) = LITTLE.as_slice().split_at(length as usize);
+        check_cut(&rt, rt.alloc(), start, length);
+    }
+}

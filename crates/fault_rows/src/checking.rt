@@ -1,0 +1,14 @@
+//! Rows, carried out one after another.
+use run_building::{Row, difference};
+use std::alloc::Global;
+use std::process::Abort;
+use std::test::Fail;
+
+/// Carries out each row: nothing may differ from it.
+pub(crate) fn check_rows(rt: &impl Abort, alloc: Global, rows: &[Row<'_>]) -> Result<(), Fail> {
+    for row in rows {
+        let found = difference(alloc, row)?;
+        assert_eq!(rt; found.as_str(), "", "{}", row.name);
+    }
+    Ok(())
+}

@@ -1,5 +1,0 @@
-use Rattle.pool_tests.specs.Passes.{HasDoneFew}
-use Rattle.pool_tests.proofs.queues.fetch_some.Given as goal
-
-abbrev pub invariant-loop : goal.invariant-loop
-invariant-loop g l = HasDoneFew l.counter l.queue l.pass

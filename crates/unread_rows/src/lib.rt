@@ -1,5 +1,0 @@
-//! Tests of commands of which a text can't be read.
-#![tactic(auto)]
-
-#[cfg(test)]
-mod rows;
