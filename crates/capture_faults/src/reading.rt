@@ -1,4 +1,5 @@
-//! Each fetch and each read fails in turn; then each file is read one byte at a time.
+//! Each fetch and each read fails in turn, those of the texts under `forward` too; then each file is
+//! read one byte at a time.
 use crate::run::{CAPTURE, NONE, ONE, RUN, SAVES, TWO, check_rows, check_with};
 use run_building::{Faults, NO_FAULT, Row};
 use std::alloc::Global;
@@ -9,6 +10,17 @@ use std::thread::Threads;
 
 /// A text can't be read: one line, no report, no file.
 static UNREAD: Row<'static> = Row {
+    status: "5 ReadFault",
+    printed: "read fault\n",
+    cpus: &[],
+    members: &[],
+    absent: &SAVES,
+    ..CAPTURE
+};
+
+/// The same of a `forward`.
+static UNREAD_FORWARD: Row<'static> = Row {
+    words: &["forward", "conf"],
     status: "5 ReadFault",
     printed: "read fault\n",
     cpus: &[],
@@ -35,10 +47,11 @@ static READS: [Read; 11] = [
     ("read 2 of the moments", "t.txt", &[2]),
 ];
 
-/// Each of these reads fails.
+/// Each of these reads fails in the run of a row.
 fn check_reads<R: Threads + Wait + Abort + Sync>(
     rt: &R,
     alloc: Global,
+    row: &Row<'static>,
     all: &[Read],
 ) -> Result<(), Fail> {
     for (name, file, reads) in all {
@@ -48,14 +61,19 @@ fn check_reads<R: Threads + Wait + Abort + Sync>(
             reads,
             ..NO_FAULT
         };
-        check_with(rt, alloc, name, &UNREAD, faults)?;
+        check_with(rt, alloc, name, row, faults)?;
     }
     Ok(())
 }
 
 #[test]
 fn each_read_of_each_text_fails(rt: HostRuntime) -> Result<(), Fail> {
-    check_reads(&rt, rt.alloc(), &READS)
+    check_reads(&rt, rt.alloc(), &UNREAD, &READS)
+}
+
+#[test]
+fn each_read_of_each_text_of_a_forward_fails(rt: HostRuntime) -> Result<(), Fail> {
+    check_reads(&rt, rt.alloc(), &UNREAD_FORWARD, &READS)
 }
 
 /// The fetches of the texts.
