@@ -5,6 +5,7 @@ use run_building::{
     Capture, Kept, NO_FRAME, NOTHING, Row, Shape, carry_out_on_threads, difference_on_threads,
 };
 use std::alloc::Global;
+use std::process::Abort;
 use std::sync::Wait;
 use std::test::Fail;
 use std::thread::Threads;
@@ -143,17 +144,26 @@ static MODES: [Row<'static>; 4] = [
     AT_HASH,
 ];
 
-#[test]
-fn eight_cpus_feed_eight_members(rt: HostRuntime) -> Result<(), Fail> {
-    for row in &MODES {
-        let found = difference_on_threads(&rt, rt.alloc(), row, &NoGate)?;
+/// Carries out each row on threads: nothing may differ from it.
+pub(crate) fn check_rows<R: Threads + Wait + Abort + Sync>(
+    rt: &R,
+    alloc: Global,
+    rows: &[Row<'_>],
+) -> Result<(), Fail> {
+    for row in rows {
+        let found = difference_on_threads(rt, alloc, row, &NoGate)?;
         assert_eq!(rt; found.as_str(), "", "{}", row.name);
     }
     Ok(())
 }
 
+#[test]
+fn eight_cpus_feed_eight_members(rt: HostRuntime) -> Result<(), Fail> {
+    check_rows(&rt, rt.alloc(), &MODES)
+}
+
 /// Five frames of each CPU, dealt out by turns: 40 tickets, of which a member has every eighth.
-const DEALT: Row<'static> = Row {
+static DEALT: Row<'static> = Row {
     lines: "mode lb\n",
     captures: &[Capture {
         frames: &[PING; 5],

@@ -1,4 +1,5 @@
 //! The outside fails under threads: a read, and each call that is out of memory.
+use crate::modes::check_rows;
 use cpu_feeders::NoGate;
 use frame_view::Memory;
 use run_building::{
@@ -6,6 +7,7 @@ use run_building::{
     difference_on_threads,
 };
 use std::alloc::Global;
+use std::process::Abort;
 use std::sync::Wait;
 use std::test::Fail;
 use std::thread::Threads;
@@ -14,7 +16,7 @@ use std::thread::Threads;
 const SMALL: Shape<'static> = (b"", 60);
 
 /// Two captures of two frames each, of which the second fails at its second read.
-const TWO_CAPTURES: Row<'static> = Row {
+static TWO_CAPTURES: [Row<'static>; 1] = [Row {
     words: &["capture", "conf"],
     lines: "cpu b.pcap\nmembers 2\n",
     captures: &[
@@ -55,17 +57,15 @@ const TWO_CAPTURES: Row<'static> = Row {
         },
     ],
     ..NOTHING
-};
+}];
 
 #[test]
 fn of_two_captures_one_cannot_be_read(rt: HostRuntime) -> Result<(), Fail> {
-    let found = difference_on_threads(&rt, rt.alloc(), &TWO_CAPTURES, &NoGate)?;
-    assert_eq!(rt; found.as_str(), "");
-    Ok(())
+    check_rows(&rt, rt.alloc(), &TWO_CAPTURES)
 }
 
 /// Three frames of 60 bytes with a dump and a moment: three fetches, two saves and three writes.
-const THREE_FRAMES: Row<'static> = Row {
+static THREE_FRAMES: Row<'static> = Row {
     words: &["capture", "conf"],
     lines: "ticks t.txt\n",
     dump: true,
@@ -128,11 +128,20 @@ fn poor_difference<R: Threads + Wait + Sync>(
     Ok(format!(in alloc; "{} and {}", answer.status.as_str(), printed.as_str())?)
 }
 
-#[test]
-fn a_call_that_is_out_of_memory_ends_the_capture(rt: HostRuntime) -> Result<(), Fail> {
-    for (call, write) in &POOR {
-        let found = poor_difference(&rt, rt.alloc(), *call, *write)?;
+/// Carries out the capture with each of these calls and writes out of memory.
+fn check_poor<R: Threads + Wait + Abort + Sync>(
+    rt: &R,
+    alloc: Global,
+    calls: &[(u64, u64)],
+) -> Result<(), Fail> {
+    for (call, write) in calls {
+        let found = poor_difference(rt, alloc, *call, *write)?;
         assert_eq!(rt; found.as_str(), "", "call {call} write {write}");
     }
     Ok(())
+}
+
+#[test]
+fn a_call_that_is_out_of_memory_ends_the_capture(rt: HostRuntime) -> Result<(), Fail> {
+    check_poor(&rt, rt.alloc(), &POOR)
 }

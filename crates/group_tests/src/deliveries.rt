@@ -9,6 +9,7 @@ use fanout_group::{ArrivalList, ArrivalRules, Judged, Mode, Plan, ReceivePath};
 use flow_hash::Key;
 use frame_view::{ByteList, Frame, Memory};
 use std::alloc::Global;
+use std::process::Abort;
 use std::test::Fail;
 
 /// The usual key of receive side scaling.
@@ -184,17 +185,35 @@ static ROUNDS: [Row; 4] = [
     ),
 ];
 
+/// Holds the tries of each arrival of a log to what is wanted.
+fn check_tries(
+    rt: &impl Abort,
+    alloc: Global,
+    name: &str,
+    log: &ArrivalList,
+    wants: &[&str],
+) -> Result<(), Fail> {
+    assert_eq!(rt; log.len(), wants.len(), "{name}");
+    for (entry, want) in log.as_slice().iter().zip(wants) {
+        let tries = shown(alloc, entry.tries.as_slice())?;
+        assert_eq!(rt; tries.as_str(), *want, "{name}, arrival {}", entry.index);
+    }
+    Ok(())
+}
+
+/// Holds the tries of nine arrivals to a row.
+fn check_rounds(rt: &impl Abort, alloc: Global, row: &Row) -> Result<(), Fail> {
+    let (name, mode, flags, rounds) = row;
+    assert!(rt; *flags == 0 || *flags == ROLLOVER);
+    let plan = Plan::check(2, *mode, *flags, false)?;
+    let log = log_of(alloc, plan, &OPEN, 4, &[NO_BYTES; 9])?;
+    check_tries(rt, alloc, name, &log, rounds)
+}
+
 #[test]
 fn tries_members_by_mode_and_flag(rt: HostRuntime) -> Result<(), Fail> {
-    for (name, mode, flags, rounds) in &ROUNDS {
-        assert!(rt; *flags == 0 || *flags == ROLLOVER);
-        let plan = Plan::check(2, *mode, *flags, false)?;
-        let log = log_of(rt.alloc(), plan, &OPEN, 4, &[NO_BYTES; 9])?;
-        assert_eq!(rt; log.len(), 9, "{name}");
-        for (entry, want) in log.as_slice().iter().zip(rounds) {
-            let tries = shown(rt.alloc(), entry.tries.as_slice())?;
-            assert_eq!(rt; tries.as_str(), *want, "{name}, arrival {}", entry.index);
-        }
+    for row in &ROUNDS {
+        check_rounds(&rt, rt.alloc(), row)?;
     }
     Ok(())
 }
@@ -211,26 +230,31 @@ const BACK: &[u8] = &[
     142, 100, 80, 66, 9, 149, 187, 0x06, 0xe6, 0x0a, 0xea,
 ];
 
+/// Holds the hash and the tries of both directions at so many members to what is wanted.
+fn check_flow(
+    rt: &impl Abort,
+    alloc: Global,
+    key: &Key,
+    members: u32,
+    want: &str,
+) -> Result<(), Fail> {
+    let rules = ArrivalRules {
+        key: Some(key),
+        ..OPEN
+    };
+    let plan = Plan::check(members, Mode::Hash, 0, true)?;
+    let log = log_of(alloc, plan, &rules, 4, &[THERE, BACK])?;
+    for entry in log.as_slice() {
+        assert_eq!(rt; entry.hash, 0x51cc_c178, "{members} members");
+    }
+    check_tries(rt, alloc, want, &log, &[want; 2])
+}
+
 #[test]
 fn the_flow_hash_chooses_the_member(rt: HostRuntime) -> Result<(), Fail> {
     let key = Key::from_hex(rt.alloc(), DIGITS)?;
-    let rules = ArrivalRules {
-        key: Some(&key),
-        ..OPEN
-    };
-    for (members, want) in [(4, "kept 0 "), (7, "kept 2 ")] {
-        let plan = Plan::check(members, Mode::Hash, 0, true)?;
-        let log = log_of(rt.alloc(), plan, &rules, 4, &[THERE, BACK])?;
-        for entry in log.as_slice() {
-            let tries = shown(rt.alloc(), entry.tries.as_slice())?;
-            assert_eq!(rt;
-                (entry.hash, tries.as_str()),
-                (0x51cc_c178, want),
-                "{members} members"
-            );
-        }
-    }
-    Ok(())
+    check_flow(&rt, rt.alloc(), &key, 4, "kept 0 ")?;
+    check_flow(&rt, rt.alloc(), &key, 7, "kept 2 ")
 }
 
 #[test]

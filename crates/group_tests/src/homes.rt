@@ -9,6 +9,7 @@ use fanout_group::{ArrivalRules, Fate, Mode, Plan, PlanError, ReceivePath, Try};
 use flow_hash::Key;
 use frame_view::{ByteList, Frame, Memory, Parts, build};
 use std::alloc::Global;
+use std::process::Abort;
 use std::test::Fail;
 
 const ROLLOVER: u32 = 0x1000;
@@ -37,14 +38,19 @@ static GROUPS: [Group; 8] = [
     (8, Mode::Qm, ROLLOVER, false, None),
 ];
 
-#[test]
-fn the_first_fault_of_a_group(rt: HostRuntime) -> Result<(), Fail> {
-    for (members, mode, flags, has_key, want) in &GROUPS {
+/// Holds the fault of each group to its row.
+fn check_groups(rt: &impl Abort, groups: &[Group]) {
+    for (members, mode, flags, has_key, want) in groups {
         let flags = *flags;
         assert!(rt; flags == 0 || flags == ROLLOVER || flags == DEFRAG || flags == BOTH);
         let checked = Plan::check(*members, *mode, flags, *has_key);
         assert_eq!(rt; checked.err(), *want, "{members} {mode:?} {flags}");
     }
+}
+
+#[test]
+fn the_first_fault_of_a_group(rt: HostRuntime) -> Result<(), Fail> {
+    check_groups(&rt, &GROUPS);
     let plan = Plan::check(8, Mode::Lb, BOTH, false)?;
     assert_eq!(rt;
         (plan.members(), plan.mode(), plan.flags()),
@@ -89,25 +95,41 @@ fn keeper(tries: &[Try]) -> Option<u32> {
     }
 }
 
-#[test]
-fn homes_by_cpu_and_by_queue(rt: HostRuntime) -> Result<(), Fail> {
-    let alloc = rt.alloc();
-    for (members, cpu, queue, by_cpu, by_queue) in [
-        (3, 0, 5, 0, 2),
-        (3, 1, 6, 1, 0),
-        (3, 5, 1, 2, 1),
-        (1, 7, 7, 0, 0),
-        (8, 7, 4_294_967_295, 7, 7),
-    ] {
-        let rules = ArrivalRules { queue, ..OPEN };
-        let plan = Plan::check(members, Mode::Cpu, 0, false)?;
-        let member = member_of(alloc, plan, &rules, arrival(alloc, cpu, 0, &[])?)?;
-        assert_eq!(rt; member, Some(by_cpu), "by CPU: {members} {cpu}");
-        let plan = Plan::check(members, Mode::Qm, 0, false)?;
-        let member = member_of(alloc, plan, &rules, arrival(alloc, cpu, 0, &[])?)?;
-        assert_eq!(rt; member, Some(by_queue), "by queue: {members} {queue}");
+/// How many members there are, a CPU, its queue, and the members by CPU and by queue.
+type Home = (u32, u32, u32, u32, u32);
+
+static HOMES: [Home; 5] = [
+    (3, 0, 5, 0, 2),
+    (3, 1, 6, 1, 0),
+    (3, 5, 1, 2, 1),
+    (1, 7, 7, 0, 0),
+    (8, 7, 4_294_967_295, 7, 7),
+];
+
+/// The members of an arrival by its CPU and by its queue.
+fn homes_of(alloc: Global, home: &Home) -> Result<(Option<u32>, Option<u32>), Fail> {
+    let (members, cpu, queue, _, _) = *home;
+    let rules = ArrivalRules { queue, ..OPEN };
+    let plan = Plan::check(members, Mode::Cpu, 0, false)?;
+    let by_cpu = member_of(alloc, plan, &rules, arrival(alloc, cpu, 0, &[])?)?;
+    let plan = Plan::check(members, Mode::Qm, 0, false)?;
+    let by_queue = member_of(alloc, plan, &rules, arrival(alloc, cpu, 0, &[])?)?;
+    Ok((by_cpu, by_queue))
+}
+
+/// Holds the members of each row's arrival to the row.
+fn check_homes(rt: &impl Abort, alloc: Global, homes: &[Home]) -> Result<(), Fail> {
+    for home in homes {
+        let (members, cpu, queue, by_cpu, by_queue) = *home;
+        let want = (Some(by_cpu), Some(by_queue));
+        assert_eq!(rt; homes_of(alloc, home)?, want, "{members}: {cpu} {queue}");
     }
     Ok(())
+}
+
+#[test]
+fn homes_by_cpu_and_by_queue(rt: HostRuntime) -> Result<(), Fail> {
+    check_homes(&rt, rt.alloc(), &HOMES)
 }
 
 /// A frame with a UDP datagram from one address and port to another.

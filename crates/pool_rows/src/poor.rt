@@ -6,6 +6,7 @@ use run_building::{
     difference_on_threads,
 };
 use std::alloc::Global;
+use std::process::Abort;
 use std::sync::Wait;
 use std::test::Fail;
 use std::thread::Threads;
@@ -14,7 +15,7 @@ use std::thread::Threads;
 const SMALL: Shape<'static> = (b"", 60);
 
 /// Two captures of two frames each, of which the second fails at its second read.
-const TWO_CAPTURES: Row<'static> = Row {
+static TWO_CAPTURES: Row<'static> = Row {
     words: &["capture", "conf"],
     lines: "cpu b.pcap\nmembers 2\nworkers 3\n",
     captures: &[
@@ -71,7 +72,7 @@ fn of_two_captures_one_cannot_be_read(rt: HostRuntime) -> Result<(), Fail> {
 }
 
 /// Three frames of 60 bytes with a dump and a moment: three fetches, two saves and three writes.
-const THREE_FRAMES: Row<'static> = Row {
+static THREE_FRAMES: Row<'static> = Row {
     words: &["capture", "conf"],
     lines: "ticks t.txt\nworkers 1\n",
     dump: true,
@@ -117,11 +118,20 @@ fn ends_without_memory<R: Threads + Wait + Sync>(
     Ok(ends && answer.status.as_str() == "7 Memory" && answer.report.is_empty())
 }
 
-#[test]
-fn a_call_that_is_out_of_memory_ends_the_capture(rt: HostRuntime) -> Result<(), Fail> {
-    for (call, write) in &POOR {
-        let ends = ends_without_memory(&rt, rt.alloc(), *call, *write)?;
+/// Carries out the capture with each of these calls and writes out of memory.
+fn check_poor<R: Threads + Wait + Abort + Sync>(
+    rt: &R,
+    alloc: Global,
+    calls: &[(u64, u64)],
+) -> Result<(), Fail> {
+    for (call, write) in calls {
+        let ends = ends_without_memory(rt, alloc, *call, *write)?;
         assert!(rt; ends, "call {call} write {write}");
     }
     Ok(())
+}
+
+#[test]
+fn a_call_that_is_out_of_memory_ends_the_capture(rt: HostRuntime) -> Result<(), Fail> {
+    check_poor(&rt, rt.alloc(), &POOR)
 }

@@ -8,7 +8,7 @@ const FULL: Shape<'static> = (b"", 3966);
 
 /// Ten frames, each of which fills a block: 3,966 bytes need the 4,048 that a block has for
 /// packets. The one moment comes before the time-out of 8 milliseconds.
-const TEN_BLOCKS: Row<'static> = Row {
+static TEN_BLOCKS: Row<'static> = Row {
     name: "ten blocks through a ring of two, decoded by two workers",
     words: &["capture", "conf"],
     lines: "ticks t.txt\nworkers 2\n",
