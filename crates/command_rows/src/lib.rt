@@ -1,4 +1,4 @@
-//! Tests of commands other than a replay: those that are refused, those of which a text can't be read,
+//! Tests of commands other than a replay: words and texts that are refused, texts that can't be read,
 //! and what `send` and `make` do.
 #![tactic(auto)]
 

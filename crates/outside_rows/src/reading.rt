@@ -18,6 +18,14 @@ const UNREAD: Row<'static> = Row {
     ..NOTHING
 };
 
+/// Adds a difference, if there is one, with the file and the reads that it was found at.
+fn add(found: &mut String, file: &str, reads: &[u64], difference: &str) -> Result<(), Memory> {
+    if !difference.is_empty() {
+        write!(found, "{file}, reads {reads:?}: {difference}")?;
+    }
+    Ok(())
+}
+
 /// What a command differs in where reads of a text fail.
 fn unread_difference(
     alloc: Global,
@@ -57,7 +65,8 @@ fn text_differences(
 ) -> Result<String, Memory> {
     let mut found = String::new(alloc);
     for reads in READS.get(..count).unwrap_or(&[]) {
-        found.push_str(unread_difference(alloc, command, file, reads)?.as_str())?;
+        let unread = unread_difference(alloc, command, file, reads)?;
+        add(&mut found, file, reads, unread.as_str())?;
     }
     Ok(found)
 }
@@ -106,11 +115,14 @@ fn piece_differences(alloc: Global, command: &Command) -> Result<String, Memory>
     let mut found = String::new(alloc);
     for (file, count) in command.texts {
         let next = READS.get(*count).copied().unwrap_or(&[1]);
-        found.push_str(piece_difference(alloc, command, file, 20, next)?.as_str())?;
-        found.push_str(piece_difference(alloc, command, file, 1, &[])?.as_str())?;
+        let whole = piece_difference(alloc, command, file, 20, next)?;
+        add(&mut found, file, next, whole.as_str())?;
+        let bytes = piece_difference(alloc, command, file, 1, &[])?;
+        add(&mut found, file, &[], bytes.as_str())?;
     }
     for file in command.captures {
-        found.push_str(piece_difference(alloc, command, file, 1, &[])?.as_str())?;
+        let bytes = piece_difference(alloc, command, file, 1, &[])?;
+        add(&mut found, file, &[], bytes.as_str())?;
     }
     Ok(found)
 }
