@@ -1,5 +1,5 @@
 -- The arrivals of each CPU have its number, and indexes that rise.
-use Rattle.std.proofs.Common.{◌≡◌, ℕ, zero, suc, ◌+◌, ◌<◌, Bool, List, [], ◌∷◌, length, get_or, Option, None, refl, ◌∙◌, subst, arith}
+use Rattle.std.proofs.Common.{◌≡◌, ℕ, zero, suc, ◌+◌, ◌<◌, Bool, List, [], ◌∷◌, length, get_or, None, refl, ◌∙◌, subst, arith}
 use Rattle.std.specs.Prelude.{IfSome, map, slice_get}
 use Rattle.capture_file.specs.Capture.{frames_of}
 use Rattle.capture_file.specs.Laws.{IsNumbered}

@@ -5,4 +5,5 @@ mod KeptOffers
 pub mod Shorts
 mod Once
 mod Lasts
-mod Totals
+pub mod GroupTotals
+pub mod Totals

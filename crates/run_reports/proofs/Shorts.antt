@@ -23,7 +23,7 @@ use Rattle.tp_layout.specs.declared.error.RequestError.{RequestError}
 use Rattle.tp_layout.specs.declared.error.RequestError.TheVariants.{BlockSize}
 use Rattle.tp_layout.specs.declared.requests.RingRequest.{RingRequest}
 use Rattle.run_reports.specs.Jobs.{rules_of}
-use Rattle.run_reports.specs.Members.{AreShort, IsMember}
+use Rattle.run_reports.specs.Members.{AreShort}
 use Rattle.run_reports.specs.Reports.{IsReport, logged, notes_of}
 use Rattle.run_reports.proofs.KeptOffers.{IsCut, all_cut}
 

@@ -4,5 +4,4 @@ mod SlotReplayed
 mod ReadSlots
 mod MemberFields
 mod LastReads
-mod GroupTotals
 mod SlotTotals

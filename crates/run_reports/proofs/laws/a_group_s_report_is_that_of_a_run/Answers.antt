@@ -1,4 +1,4 @@
-use Rattle.run_reports.specs.Jobs.{arriving_of, rules_of}
+use Rattle.run_reports.specs.Jobs.{arriving_of}
 use Rattle.run_reports.proofs.laws.a_group_s_report_is_that_of_a_run.Goals as goal
 
 pub returns : goal.returns

@@ -1,9 +1,8 @@
--- The arrivals of a group are those that the filter ended, and those that its members' notes keep or
--- drop, whatever the ring. It goes as in run_reports, which exports its law alone.
-use Rattle.std.proofs.Common.{◌≡◌, ℕ, zero, suc, ◌+◌, ◌<◌, ◌≤◌, Bool, true, false, cond, not, ◌&&◌, eqb, ltb, List, [], ◌∷◌, ◌++◌, length, get_or, inl, inr, refl, sym, ap, subst, ◌∙◌, arith}
+-- The arrivals of a run are those that the filter ended, and those that its members' notes keep or drop: of
+-- a group, whatever its rings, and of a report whose statistics count what notes keep and drop.
+use Rattle.std.proofs.Common.{◌≡◌, ℕ, zero, suc, ◌+◌, ◌-◌, ◌<◌, ◌≤◌, Bool, true, false, cond, not, ◌&&◌, eqb, ltb, List, [], ◌∷◌, ◌++◌, length, get_or, inl, inr, refl, sym, ap, subst, ◌∙◌, arith}
 use Rattle.std.specs.Prelude.{Option, count_by, sum_by}
 use Rattle.std.proofs.lemmas.Bool.{cases_lt, eq-eqb, lt-ltb}
-use Rattle.std.proofs.lemmas.List.{get_or_past}
 use Rattle.std.proofs.lemmas.List.Sums.{sum_by-cons, sum_by-append}
 use Rattle.frame_view.specs.declared.frames.Frame.{Frame}
 use Rattle.ring_model.specs.Fates.{drops_of, frame_note, frame_notes, kept_of}
@@ -20,8 +19,21 @@ use Rattle.fanout_group.specs.declared.logs.Try.{Try}
 use Rattle.fanout_group.proofs.Members.{one_if, sum_below, sum_below-add, sum_below-at, sum_below-same, sum_below-zero, sum_by-below}
 use Rattle.fanout_group.proofs.RouteBounds.{present_is_member, settles_in, tries_end}
 use Rattle.fanout_group.proofs.SettledNotes.{is_settled}
+use Rattle.std.proofs.lemmas.List.{get_or_past, length-map}
+use Rattle.capture_file.specs.declared.cpu_end.CpuEnd.{CpuEnd}
+use Rattle.fanout_group.specs.Arrivals.{arrivals_at, somes}
+use Rattle.fanout_group.specs.Plans.{has_defrag}
+use Rattle.fanout_group.specs.declared.runs.CpuLog.{CpuLog}
+use Rattle.ring_model.specs.declared.notes.Stats.{Stats}
+use Rattle.run_reports.specs.Jobs.{arriving_of, captures_from, rules_of}
+use Rattle.run_reports.specs.Logs.{AreLogsFrom}
+use Rattle.run_reports.specs.Reports.{logged, notes_of}
+use Rattle.run_reports.specs.Totals.{TotalsAddUp, drops_in, kept_in}
+use Rattle.run_reports.proofs.ArrivalOrder.{count_from}
+use Rattle.setup_text.specs.declared.jobs.Job.{Job}
+use Rattle.setup_text.specs.declared.reports.MemberReport.{MemberReport}
+use Rattle.setup_text.specs.declared.reports.RunReport.{RunReport}
 
--- 1 where a note keeps or drops a packet
 abbrev pub settled : Note → ℕ
 settled (Kept offer found) = 1
 settled (Dropped cpu index need number) = 1
@@ -261,3 +273,64 @@ module _ (rules : Rules) (room : ℕ) (cpus : List Logged) (members : List (List
   pub adds_up : sum_by (λ logged. length logged.log) cpus
       ≡ sum_by (λ logged. count_by (λ entry. eqb entry.verdict 0) logged.log) cpus + sum_by (λ notes. sum_by settled notes) members
   adds_up = logs_count cpus ∙ ap (λ n. sum_by (λ (l : Logged). count_by is_ended l.log) cpus + n) (sym all_settled)
+
+-- ---- the logs beside their arrivals, and alone
+
+same_logs : (f : List ArrivalLog → ℕ) (arriving : List (List (Option Frame))) (cpus : List CpuLog)
+    → length cpus ≡ length arriving
+    → sum_by (λ (l : Logged). f l.log) (logged arriving cpus)
+    ≡ sum_by (λ (log : CpuLog). f log.arrivals) cpus
+same_logs f [] [] e = refl
+same_logs f [] (log ∷ cpus) e = absurd (omega (arith, e))
+same_logs f (a ∷ arriving) [] e = refl
+same_logs f (a ∷ arriving) (log ∷ cpus) e =
+    omega (
+      arith,
+      same_logs f arriving cpus (omega (arith, e)),
+      sum_by-cons (λ (l : Logged). f l.log) (record { arrivals = somes a; log = log.arrivals }) (logged arriving cpus),
+      sum_by-cons (λ (log : CpuLog). f log.arrivals) log cpus,
+    )
+
+logs_many : (cpu : ℕ) (bytes : List (List ℕ)) (ends : List CpuEnd) (logs : List CpuLog)
+    → AreLogsFrom cpu bytes ends logs → length logs ≡ length bytes
+logs_many cpu [] [] [] h = refl
+logs_many cpu [] [] (log ∷ logs) h = absurd h
+logs_many cpu [] (end ∷ ends) logs h = absurd h
+logs_many cpu (b ∷ bytes) [] logs h = absurd h
+logs_many cpu (b ∷ bytes) (end ∷ ends) [] h = absurd h
+logs_many cpu (b ∷ bytes) (end ∷ ends) (log ∷ logs) h =
+    let rest = logs_many (cpu + 1) bytes ends logs h.1 in omega (arith, rest)
+
+-- ---- the members and the report, by statistics that count what notes keep and drop
+
+abbrev pub CountsSettled : (List Note → Stats) → Type 0
+CountsSettled totals = (notes : List Note)
+    → sum_by settled notes ≡ (totals notes).packets - (totals notes).drops + (totals notes).drops
+
+module _ (totals : List Note → Stats) (counts : CountsSettled totals) where
+  same_members : (reports : List MemberReport)
+      → sum_by (λ notes. sum_by settled notes) (notes_of reports) ≡ kept_in totals reports + drops_in totals reports
+  same_members [] = refl
+  same_members (report ∷ reports) =
+      omega (
+        arith,
+        same_members reports,
+        counts report.notes,
+        sum_by-cons (λ (notes : List Note). sum_by settled notes) report.notes (notes_of reports),
+        sum_by-cons (λ (r : MemberReport). (totals r.notes).packets - (totals r.notes).drops) report reports,
+        sum_by-cons (λ (r : MemberReport). (totals r.notes).drops) report reports,
+      )
+
+  pub totals_add_up : (job : Job) (room : ℕ) (bytes : List (List ℕ)) (ends : List CpuEnd) (report : RunReport)
+      → AreLogsFrom 0 bytes ends report.cpus
+      → IsGroupReport (rules_of job) room (logged (arriving_of job bytes) report.cpus) (notes_of report.members)
+      → TotalsAddUp totals report
+  totals_add_up job room bytes ends report logs group =
+      let arriving = arriving_of job bytes in
+      let many : length report.cpus ≡ length arriving =
+      logs_many 0 bytes ends report.cpus logs
+      ∙ sym (length-map (captures_from 0 bytes) (arrivals_at (has_defrag job.setup.plan.flags)) ∙ count_from 0 bytes) in
+      let all = adds_up (rules_of job) room (logged arriving report.cpus) (notes_of report.members) group in
+      let arrivals = same_logs (λ (log : List ArrivalLog). length log) arriving report.cpus many in
+      let filtered = same_logs (λ (log : List ArrivalLog). count_by (λ entry. eqb entry.verdict 0) log) arriving report.cpus many in
+      omega (arith, all, arrivals, filtered, same_members report.members)
