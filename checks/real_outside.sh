@@ -205,6 +205,19 @@ filling() {
     fi
 }
 
+# Reads and writes that a signal interrupts, and writes that take half: the run is as without them.
+interrupted() {
+    if ! cc -shared -fPIC -o "$room/interrupt.so" "$top/checks/interrupt.c" -ldl 2>/dev/null; then
+        echo "skipped: the interrupted calls of ${0##*/} need a C compiler"
+        return
+    fi
+    fresh
+    env LD_PRELOAD="$room/interrupt.so" "$room/ringtap" replay conf sched >"$said" 2>"$room/complained"
+    check 'interrupted calls' 0 $?
+    cmp -s "$said" "$room/whole.txt" || wrong "interrupted calls: printed '$(cat "$said")'"
+    saved 'interrupted calls'
+}
+
 # Of the statuses 6, 5 and 4 the first that applies comes.
 two_faults() {
     local cut='cpu 0 frames 2 arrivals 2 end truncated 252
@@ -512,6 +525,7 @@ for program in "${programs[@]}"; do
     [ "$has_rights" = no ] || rights
     saving_and_printing
     filling
+    interrupted
     two_faults
     links
     long_names
