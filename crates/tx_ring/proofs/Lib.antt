@@ -1,4 +1,5 @@
 pub mod Texts
+pub mod Pieces
 pub mod Turns
 pub mod Moves
 pub mod Requests

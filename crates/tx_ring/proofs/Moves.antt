@@ -5,10 +5,10 @@ use Rattle.std.proofs.lemmas.Bool.{cases_eq, eq-eqb, false_from_ne_true, eqb-tru
 use Rattle.std.proofs.lemmas.List.{get_or-set_same, get_or-set_other, get_or-replicate, length-set, length-replicate}
 use Rattle.std.proofs.Math.Nat.{mod-lt}
 use Rattle.tp_layout.specs.declared.requests.RingRequest.{RingRequest}
-use Rattle.tx_ring.specs.Keeping.{HasStopped, BeginsBad, Keeps, requests_in, slot_at, state_in}
+use Rattle.tx_ring.specs.Keeping.{HasStopped, BeginsBad, Keeps, requests_in, state_in}
 use Rattle.tx_ring.specs.Rings.{TxState, is_among, new_ring, room_of, status_by, status_of, with_request}
 use Rattle.tx_ring.specs.Sending.{after_taking, is_good, front_of}
-use Rattle.tx_ring.specs.Slots.{Request, SlotState, empty_slot}
+use Rattle.tx_ring.specs.Slots.{Request, SlotState, empty_slot, slot_at}
 use Rattle.tx_ring.proofs.Turns.{among_more, first_is_past, length-requests_in, next_is_free, other_requests, requests_more, same_requests}
 
 -- a fact of each slot that holds of the one that changed and of the others as they were
@@ -100,6 +100,11 @@ placed_state shape skip slots placed taken slot keeps free =
 -- the slots of the requests after the first one
 pub behind_first : (placed taken : ℕ) → taken < placed → placed - taken ≡ suc (placed - (taken + 1))
 behind_first placed taken some = omega arith
+
+-- the first request is that of its slot
+pub front_request : (places : ℕ) (slots : List SlotState) (placed taken : ℕ) → taken < placed
+    → front_of (requests_in places slots taken (placed - taken)) ≡ (slot_at slots (taken % places)).request
+front_request places slots placed taken some = rw (behind_first placed taken some) refl
 
 -- the mark of the slot that is taken
 taken_here : (places placed taken : ℕ) → taken < placed → placed ≤ taken + places

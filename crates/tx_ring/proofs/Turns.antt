@@ -4,9 +4,9 @@ use Rattle.std.specs.Prelude.{◌||◌, ◌==◌}
 use Rattle.std.proofs.lemmas.Bool.{cases_lt, eqb-true, eqb-false, false_from_ne_true}
 use Rattle.std.proofs.lemmas.List.{get_or-set_other}
 use Rattle.std.proofs.Math.Nat.{div-add-mod, mul-le-mul_left}
-use Rattle.tx_ring.specs.Keeping.{requests_in, slot_at}
+use Rattle.tx_ring.specs.Keeping.{requests_in}
 use Rattle.tx_ring.specs.Rings.{is_among}
-use Rattle.tx_ring.specs.Slots.{Request, SlotState, empty_slot}
+use Rattle.tx_ring.specs.Slots.{Request, SlotState, empty_slot, slot_at}
 
 -- numbers that are less than one round apart have slots of their own
 pub apart : (places from i : ℕ) → 0 < i → i < places → (from + i) % places ≡ from % places → ⊥

@@ -1,13 +1,9 @@
 -- What the slots of a transmit ring keep of its state.
-use Rattle.std.specs.Prelude.{◌≡◌, ℕ, zero, suc, ◌+◌, ◌-◌, ◌%◌, ◌<◌, ◌≤◌, Bool, false, List, [], ◌∷◌, length, slice_index_or, Option, IfSome}
+use Rattle.std.specs.Prelude.{◌≡◌, ℕ, zero, suc, ◌+◌, ◌-◌, ◌%◌, ◌<◌, ◌≤◌, Bool, false, List, [], ◌∷◌, length, Option, IfSome}
 use Rattle.tp_layout.specs.declared.requests.RingRequest.{RingRequest}
 use Rattle.tx_ring.specs.Rings.{TxState, is_among, room_of, slot_of, status_by}
 use Rattle.tx_ring.specs.Sending.{is_good}
-use Rattle.tx_ring.specs.Slots.{Request, SlotState, empty_slot}
-
--- the slot at a place
-abbrev pub slot_at : List SlotState → ℕ → SlotState
-slot_at slots at = slice_index_or slots at (empty_slot 0)
+use Rattle.tx_ring.specs.Slots.{Request, SlotState, slot_at}
 
 -- what so many slots of a ring of `places` ask for, from that of number `from` on
 abbrev pub requests_in : ℕ → List SlotState → ℕ → ℕ → List Request

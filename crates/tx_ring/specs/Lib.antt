@@ -1,4 +1,5 @@
 pub mod Slots
+pub mod SlotsInside
 pub mod Rings
 pub mod Sending
 pub mod Keeping

@@ -1,6 +1,6 @@
 -- A slot of a transmit ring, as bytes: a header of 48 bytes, the bytes that were given, and zeros. Sizes and places are
 -- in bytes.
-use Rattle.std.specs.Prelude.{◌≡◌, ℕ, ◌+◌, ◌-◌, ◌^◌, ◌<◌, ◌≤◌, List, [], ◌++◌, length, take, drop, replicate}
+use Rattle.std.specs.Prelude.{◌≡◌, ℕ, ◌+◌, ◌-◌, ◌^◌, ◌<◌, ◌≤◌, List, [], ◌++◌, length, take, drop, replicate, slice_index_or}
 use Rattle.byteorder.specs.Endian.{little_bytes, little_number}
 
 -- what a slot asks for: the offset to a next frame, the length of the frame and the bytes that it begins with
@@ -22,6 +22,10 @@ no_request = record { next_offset = 0; length = 0; bytes = [] }
 -- a slot that nothing was written into
 abbrev pub empty_slot : ℕ → SlotState
 empty_slot size = record { size = size; status = 0; request = no_request }
+
+-- the slot at a place
+abbrev pub slot_at : List SlotState → ℕ → SlotState
+slot_at slots at = slice_index_or slots at (empty_slot 0)
 
 -- the header of a slot (`struct tpacket3_hdr`): tp_next_offset at 0, tp_snaplen at 12, tp_len at 16 and tp_status at
 -- 20, the lowest byte first; the other fields are 0
@@ -64,3 +68,7 @@ pub record IsSound (slot : SlotState) : Type 0 where
 pub record IsSlot (bytes : List ℕ) : Type 0 where
   pub text : bytes ≡ slot_text (slot_in bytes)
   pub sound : IsSound (slot_in bytes)
+
+-- bytes of which those of the slot of this size at a place are these
+abbrev pub put_slot : ℕ → ℕ → List ℕ → List ℕ → List ℕ
+put_slot from size bytes slot = take from bytes ++ (slot ++ drop (from + size) bytes)

@@ -6,16 +6,15 @@
 //! again. A bad one is skipped where that is asked for (PACKET_LOSS of packet(7)), and is available then; else it
 //! stays where it is, in wrong format, and the ring has stopped for good: nothing more is placed or sent. The kernel lets
 //! the sender mend such a slot.
-ghost use Rattle.std.specs.Prelude.{◌≡◌, ◌+◌, ◌-◌, ◌^◌, ◌<◌, ◌≤◌, ◌++◌, ◌==◌, ℕ, false, true, None, Some, IfOk, is_some, length, replicate};
+ghost use Rattle.std.specs.Prelude.{◌≡◌, ◌+◌, ◌-◌, ◌^◌, ◌<◌, ◌≤◌, ◌++◌, ◌==◌, ℕ, false, true, None, Some, IfOk, is_some, length};
 ghost use Rattle.tp_layout.specs.Requests.{transmit_fault};
 ghost use Rattle.tx_ring.specs.Rings.{after_place, new_ring, place_answer, request_of, room_of, slot_of, status_at, whole_request, with_request};
-ghost use Rattle.tx_ring.specs.Slots.{empty_slot};
 
 mod sending;
 
 use crate::TxError;
 use crate::slot_fields::HEADER;
-use crate::slots::Slot;
+use crate::slots::Slots;
 use frame_view::Memory;
 use std::alloc::Global;
 use std::marker::Model;
@@ -40,7 +39,7 @@ pub struct TxRing {
     /// Whether a bad slot is skipped, in place of stopping the ring (PACKET_LOSS).
     skip_bad: bool,
     /// The slots, as many as the shape says.
-    slots: Vec<Slot>,
+    slots: Slots,
     /// How many slots were placed so far; the next one is that of this number.
     placed: u64,
     /// How many of them were sent or skipped; the next one to send is that of this number.
@@ -56,12 +55,12 @@ impl Model for TxRing {
     ghost Value = { TxState };
 
     ghost view = { λ ring.
-        state_in ring.shape ring.skip_bad ring.slots.items ring.placed ring.taken ring.stopped };
+        state_in ring.shape ring.skip_bad ring.slots ring.placed ring.taken ring.stopped };
 
     ghost invariant = { λ ring.
         Keeps
-        (state_in ring.shape ring.skip_bad ring.slots.items ring.placed ring.taken ring.stopped)
-        ring.slots.items ring.taken };
+        (state_in ring.shape ring.skip_bad ring.slots ring.placed ring.taken ring.stopped)
+        ring.slots ring.taken };
 }
 
 impl TxRing {
@@ -70,7 +69,7 @@ impl TxRing {
         requires { transmit_fault shape ≡ None }
         ensures { IfOk result (λ ring. ring ≡ new_ring shape skip_bad) }
     {
-        let slots = empty_slots(alloc, shape.frame_nr(), shape.frame_size() as usize)?;
+        let slots = Slots::new(alloc, shape)?;
         Ok(TxRing {
             alloc,
             shape,
@@ -120,7 +119,7 @@ impl TxRing {
         ensures { result ≡ status_at self.now slot }
     {
         if slot < self.shape.frame_nr() {
-            Some(self.slots[slot as usize].status())
+            Some(self.slots.status(slot as usize))
         } else {
             None
         }
@@ -160,7 +159,7 @@ impl TxRing {
         ensures { self.new ≡ with_request self.old (request_of next_offset asked bytes.now) }
     {
         let at = self.slot_of(self.placed);
-        self.slots[at].request(next_offset, asked, bytes);
+        self.slots.request(at, next_offset, asked, bytes);
         self.placed += 1;
     }
 
@@ -172,16 +171,4 @@ impl TxRing {
     {
         (number % u64::from(self.shape.frame_nr())) as usize
     }
-}
-
-/// So many slots of this size, all of them available.
-fn empty_slots(alloc: Global, count: u32, size: usize) -> Result<Vec<Slot>, Memory>
-    requires { 48 ≤ size }
-    ensures { IfOk result (λ slots. slots.items ≡ replicate count (empty_slot size)) }
-{
-    let mut slots = Vec::new(alloc);
-    for _ in 0..count {
-        slots.push(Slot::new(alloc, size)?)?;
-    }
-    Ok(slots)
 }

@@ -1,6 +1,8 @@
-//! One slot of a transmit ring.
-ghost use Rattle.std.specs.Prelude.{◌≡◌, ◌+◌, ◌^◌, ◌<◌, ◌≤◌, ◌++◌, IfOk, length, replicate, take};
-ghost use Rattle.tx_ring.specs.Slots.{IsSound, SlotState, empty_slot, header_text, slot_in, slot_text};
+//! The slots of a transmit ring.
+ghost use Rattle.std.specs.Prelude.{◌≡◌, ◌+◌, ◌-◌, ◌*◌, ◌^◌, ◌<◌, ◌≤◌, ◌++◌, ℕ, IfOk, drop, length, replicate, set, take};
+ghost use Rattle.std.specs.Vec.{vec_capacity};
+ghost use Rattle.tx_ring.specs.Sending.{frame_of};
+ghost use Rattle.tx_ring.specs.Slots.{IsSound, SlotState, empty_slot, number_at, put_slot, slot_at, slot_in, slot_text};
 
 use crate::slot_fields::{
     HEADER, LENGTH, NEXT_OFFSET, STATUS, read_u32, write_data, write_header, write_u32,
@@ -8,116 +10,201 @@ use crate::slot_fields::{
 use frame_view::Memory;
 use std::alloc::Global;
 use std::marker::Model;
+use tp_layout::Shape;
 
-/// One slot. Contracts see its size, its status and what it asks for, and nothing else stands in it: after the bytes
-/// that were given there are zeros.
+/// The slots of a ring. Contracts see a list of slots, each by its size, its status and what it asks for, and nothing
+/// else stands in a slot: after the bytes that were given there are zeros.
 #[derive(Debug, Drop)]
-pub(crate) struct Slot {
-    /// Its bytes, header and data.
+pub(crate) struct Slots {
+    /// The shape of the ring.
+    shape: Shape,
+    /// How many slots were written so far, from the first one on. The others are available, and have no bytes yet.
+    written: usize,
+    /// The bytes of those that were written, header and data. There is room for those of the others.
     bytes: Vec<u8>,
 }
 
-impl Model for Slot {
-    ghost use Rattle.tx_ring.specs.Slots.{IsSlot, SlotState, slot_in};
+impl Model for Slots {
+    ghost use Rattle.std.specs.Prelude.{List};
+    ghost use Rattle.tx_ring.specs.Slots.{SlotState};
 
-    ghost Value = { SlotState };
+    ghost Value = { List SlotState };
 
-    ghost view = { λ slot. slot_in slot.bytes.items };
+    ghost use Rattle.tx_ring.specs.SlotsInside.{AreKept, all_slots};
 
-    ghost invariant = { λ slot. IsSlot slot.bytes.items };
+    ghost view = { all_slots };
+
+    ghost invariant = { AreKept };
 }
 
-impl Slot {
-    /// A slot of so many bytes, which are zeros: it is available.
-    pub(crate) fn new(alloc: Global, size: usize) -> Result<Slot, Memory>
-        requires { 48 ≤ size }
-        ensures { IfOk result (λ slot. slot ≡ empty_slot size) }
+impl Slots {
+    /// The slots of a ring of this shape, all of them available. Their bytes have room, and cost nothing more until they
+    /// are written.
+    pub(crate) fn new(alloc: Global, shape: Shape) -> Result<Slots, Memory>
+        ensures empty { IfOk result (λ slots.
+            slots ≡ replicate shape.frame_nr (empty_slot shape.frame_size)) }
+        ensures least { 68 ≤ shape.frame_size }
     {
-        Ok(Slot {
-            bytes: zeros(alloc, size)?,
+        let room = shape.frame_nr() as usize * shape.frame_size() as usize;
+        Ok(Slots {
+            shape,
+            written: 0,
+            bytes: Vec::with_capacity(alloc, room)?,
         })
     }
 
-    /// Writes what is asked for, and requests the slot.
-    pub(crate) fn request(&mut self, next_offset: u32, asked: u32, bytes: &[u8])
-        requires fits { 48 + length bytes.now ≤ self.old.size }
-        requires small { self.old.size < 2 ^ 32 }
-        ensures { self.new ≡ record {
-          size = self.old.size;
+    /// Writes what is asked for into a slot, and requests it. The slots before it that were never written become zeros.
+    pub(crate) fn request(&mut self, at: usize, next_offset: u32, asked: u32, bytes: &[u8])
+        requires within { at < length self.old }
+        requires fits { 48 + length bytes.now ≤ (slot_at self.old at).size }
+        ensures { self.new ≡ set self.old at (record {
+          size = (slot_at self.old at).size;
           status = 1;
           request = record { next_offset = next_offset; length = asked; bytes = bytes.now };
-        } }
+        }) }
     {
-        write_slot(self.bytes.as_mut_slice(), next_offset, asked, bytes);
+        let size = self.shape.frame_size() as usize;
+        self.written = write_zeros(&mut self.bytes, size, self.written, at + 1);
+        write_slot(
+            self.bytes.as_mut_slice(),
+            at * size,
+            size,
+            next_offset,
+            asked,
+            bytes,
+        );
     }
 
-    /// Sets the status.
-    pub(crate) fn set_status(&mut self, status: u32)
-        ensures { self.new ≡ record self.old { status = status } }
+    /// Sets the status of a slot. The slots before it that were never written become zeros.
+    pub(crate) fn set_status(&mut self, at: usize, status: u32)
+        requires { at < length self.old }
+        ensures { self.new ≡ set self.old at (record (slot_at self.old at) { status = status }) }
     {
-        write_status(self.bytes.as_mut_slice(), status);
+        let size = self.shape.frame_size() as usize;
+        self.written = write_zeros(&mut self.bytes, size, self.written, at + 1);
+        write_status(self.bytes.as_mut_slice(), at * size, size, status);
     }
 
-    /// The status.
-    pub(crate) fn status(&self) -> u32
-        ensures { result ≡ self.now.status }
+    /// The status of a slot.
+    pub(crate) fn status(&self, at: usize) -> u32
+        requires { at < length self.now }
+        ensures { result ≡ (slot_at self.now at).status }
     {
-        read_u32(self.bytes.as_slice(), STATUS)
+        self.field(at, STATUS)
     }
 
-    /// The offset to a next frame.
-    pub(crate) fn next_offset(&self) -> u32
-        ensures { result ≡ self.now.request.next_offset }
+    /// The offset to a next frame that a slot asks for.
+    pub(crate) fn next_offset(&self, at: usize) -> u32
+        requires { at < length self.now }
+        ensures { result ≡ (slot_at self.now at).request.next_offset }
     {
-        read_u32(self.bytes.as_slice(), NEXT_OFFSET)
+        self.field(at, NEXT_OFFSET)
     }
 
-    /// The length of the frame that is asked for.
-    pub(crate) fn asked(&self) -> u32
-        ensures { result ≡ self.now.request.length }
+    /// The length of the frame that a slot asks for.
+    pub(crate) fn asked(&self, at: usize) -> u32
+        requires { at < length self.now }
+        ensures { result ≡ (slot_at self.now at).request.length }
     {
-        read_u32(self.bytes.as_slice(), LENGTH)
+        self.field(at, LENGTH)
     }
 
-    /// The first `count` bytes of the data: those that were given, and zeros after them.
-    pub(crate) fn data(&self, count: usize) -> &[u8]
-        requires { 48 + count ≤ self.now.size }
-        ensures { result.now ≡ take count (self.now.request.bytes ++ replicate count 0) }
+    /// The frame that a slot asks for, which isn't empty and fits: the bytes that were given, and zeros after them.
+    pub(crate) fn frame(&self, at: usize) -> &[u8]
+        requires within { at < length self.now }
+        requires some { 0 < (slot_at self.now at).request.length }
+        requires fits { 48 + (slot_at self.now at).request.length ≤ (slot_at self.now at).size }
+        ensures value { result.now ≡ frame_of (slot_at self.now at).request }
+        ensures short { length result.now < 2 ^ 32 }
     {
-        let (_, data) = self.bytes.as_slice().split_at(HEADER);
-        let (front, _) = data.split_at(count);
-        front
+        let count = self.asked(at) as usize;
+        let size = self.shape.frame_size() as usize;
+        let slot = piece_of(self.bytes.as_slice(), at * size, size);
+        piece_of(slot, HEADER, count)
+    }
+
+    /// The number in a field of a slot's header, which is 0 in a slot that was never written.
+    fn field(&self, at: usize, place: usize) -> u32
+        requires within { at < length self.now }
+        requires header { place + 4 ≤ 48 }
+        ensures value { result ≡ number_at place (slot_text (slot_at self.now at)) }
+        ensures sound { IsSound (slot_at self.now at) }
+    {
+        let size = self.shape.frame_size() as usize;
+        if at < self.written {
+            read_u32(piece_of(self.bytes.as_slice(), at * size, size), place)
+        } else {
+            0
+        }
     }
 }
 
-/// So many zeros.
-fn zeros(alloc: Global, count: usize) -> Result<Vec<u8>, Memory>
-    ensures { IfOk result (λ zeros. zeros.items ≡ replicate count 0) }
+/// Makes zeros of the slots of this size up to `least` of them, where fewer were written, and returns how many are
+/// written then. There is room for them.
+fn write_zeros(bytes: &mut Vec<u8>, size: usize, written: usize, least: usize) -> usize
+    requires whole { length bytes.old.items ≡ written * size }
+    requires small { least * size < 2 ^ 64 }
+    requires room { least * size ≤ vec_capacity bytes.old }
+    ensures least { least ≤ result }
+    ensures more { written ≤ result }
+    ensures few { (limit : ℕ) → written ≤ limit → least ≤ limit → result ≤ limit }
+    ensures items { bytes.new.items
+        ≡ bytes.old.items ++ replicate (result * size - length bytes.old.items) 0 }
+    ensures room { vec_capacity bytes.old ≤ vec_capacity bytes.new }
 {
-    let zeros = vec![in alloc; 0; count]?;
-    Ok(zeros)
+    if least <= written {
+        return written;
+    }
+    match bytes.resize(least * size, 0) {
+        Ok(()) => least,
+        Err(_) => unreachable!(),
+    }
 }
 
-/// Writes a slot that is requested.
-fn write_slot(bytes: &mut [u8], next_offset: u32, asked: u32, from: &[u8])
-    requires fits { 48 + length from.now ≤ length bytes.old }
-    requires small { length bytes.old < 2 ^ 32 }
-    ensures { bytes.new ≡ slot_text (record {
-      size = length bytes.old;
+/// So many bytes from a place on.
+fn piece_of(bytes: &[u8], from: usize, count: usize) -> &[u8]
+    requires { from + count ≤ length bytes.now }
+    ensures { result.now ≡ take count (drop from bytes.now) }
+{
+    let (_, rest) = bytes.split_at(from);
+    let (piece, _) = rest.split_at(count);
+    piece
+}
+
+/// Writes the slot of this size at a place, and requests it.
+fn write_slot(
+    bytes: &mut [u8],
+    from: usize,
+    size: usize,
+    next_offset: u32,
+    asked: u32,
+    given: &[u8],
+)
+    requires within { from + size ≤ length bytes.old }
+    requires fits { 48 + length given.now ≤ size }
+    requires small { size < 2 ^ 32 }
+    ensures { bytes.new ≡ put_slot from size bytes.old (slot_text (record {
+      size = size;
       status = 1;
-      request = record { next_offset = next_offset; length = asked; bytes = from.now };
-    }) }
+      request = record { next_offset = next_offset; length = asked; bytes = given.now };
+    })) }
 {
-    let (header, data) = bytes.split_at_mut(HEADER);
-    write_header(header, next_offset, asked, from.len() as u32);
-    write_data(data, from);
+    let (_, rest) = bytes.split_at_mut(from);
+    let (slot, _) = rest.split_at_mut(size);
+    let (header, data) = slot.split_at_mut(HEADER);
+    write_header(header, next_offset, asked, given.len() as u32);
+    write_data(data, given);
 }
 
-/// Writes the status of a slot.
-fn write_status(bytes: &mut [u8], status: u32)
-    requires { 48 ≤ length bytes.old }
-    ensures { bytes.old ≡ slot_text (slot_in bytes.old)
-        → bytes.new ≡ slot_text (record (slot_in bytes.old) { status = status }) }
+/// Writes the status of the slot of this size at a place.
+fn write_status(bytes: &mut [u8], from: usize, size: usize, status: u32)
+    requires within { from + size ≤ length bytes.old }
+    requires least { 48 ≤ size }
+    ensures { take size (drop from bytes.old) ≡ slot_text (slot_in (take size (drop from bytes.old)))
+        → bytes.new ≡ put_slot from size bytes.old
+        (slot_text (record (slot_in (take size (drop from bytes.old))) { status = status })) }
 {
-    write_u32(bytes, STATUS, status);
+    let (_, rest) = bytes.split_at_mut(from);
+    let (slot, _) = rest.split_at_mut(size);
+    write_u32(slot, STATUS, status);
 }

@@ -7,7 +7,6 @@ ghost use Rattle.tx_ring.specs.declared.error.SendError.TheVariants as errors;
 use super::{Sent, TxRing};
 use crate::SendError;
 use crate::slot_fields::{AVAILABLE, WRONG_FORMAT};
-use crate::slots::Slot;
 use frame_view::{ByteList, Memory, Packet, Packets};
 
 /// The fewest bytes of a frame: an Ethernet header.
@@ -66,23 +65,14 @@ impl TxRing {
         Err(SendError::BadSlot(self.stop_front()))
     }
 
-    /// The first requested slot.
-    fn front(&self) -> &Slot
-        requires some { 0 < length self.now.requests }
-        ensures request { result.now.request ≡ front_of self.now.requests }
-        ensures size { result.now.size ≡ self.now.shape.frame_size }
-    {
-        &self.slots[self.slot_of(self.taken)]
-    }
-
     /// Whether the first requested slot is good.
     fn front_is_good(&self) -> bool
         requires some { 0 < length self.now.requests }
         ensures { result ≡ is_good (room_of self.now.shape) (front_of self.now.requests) }
     {
-        let front = self.front();
-        let asked = front.asked() as usize;
-        front.next_offset() == 0 && LEAST <= asked && asked <= self.room()
+        let at = self.slot_of(self.taken);
+        let asked = self.slots.asked(at) as usize;
+        self.slots.next_offset(at) == 0 && LEAST <= asked && asked <= self.room()
     }
 
     /// The packet of the first requested slot, which is good.
@@ -91,8 +81,7 @@ impl TxRing {
         requires good { is_good (room_of self.now.shape) (front_of self.now.requests) ≡ true }
         ensures { IfOk result (λ packet. packet ≡ packet_of (front_of self.now.requests)) }
     {
-        let front = self.front();
-        let frame = Vec::from_slice(self.alloc, front.data(front.asked() as usize))?;
+        let frame = Vec::from_slice(self.alloc, self.slots.frame(self.slot_of(self.taken)))?;
         Ok(Packet::plain(ByteList::from_vec(frame)))
     }
 
@@ -103,7 +92,7 @@ impl TxRing {
         ensures { self.new ≡ after_taking 1 self.old }
     {
         let at = self.slot_of(self.taken);
-        self.slots[at].set_status(AVAILABLE);
+        self.slots.set_status(at, AVAILABLE);
         self.taken += 1;
     }
 
@@ -116,7 +105,7 @@ impl TxRing {
         ensures stopped { self.new ≡ record self.old { stopped = Some result } }
     {
         let at = self.slot_of(self.taken);
-        self.slots[at].set_status(WRONG_FORMAT);
+        self.slots.set_status(at, WRONG_FORMAT);
         let slot = at as u32;
         self.stopped = Some(slot);
         slot

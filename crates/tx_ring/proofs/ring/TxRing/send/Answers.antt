@@ -12,8 +12,8 @@ pub returns-in-Some-clause-answer : goal.returns-in-Some-clause-answer
 returns-in-Some-clause-answer c =
     let inside = c.self.inside in
     let order = c.self.invariant.order in
-    let count = length-requests_in inside.shape.frame_nr inside.slots.items inside.taken (inside.placed - inside.taken) in
-    let ring = state_in inside.shape inside.skip_bad inside.slots.items inside.placed inside.taken inside.stopped in
+    let count = length-requests_in inside.shape.frame_nr inside.slots inside.taken (inside.placed - inside.taken) in
+    let ring = state_in inside.shape inside.skip_bad inside.slots inside.placed inside.taken inside.stopped in
     let stays = stopped_answer ring inside.taken c.in-Some.slot c.self.invariant.stop c.in-Some.is (omega (arith, count, order)) in
     sym (subst (λ (r : TxState). send_answer r ≡ Err (errors.BadSlot c.in-Some.slot)) c.self.view_is stays.0)
 
@@ -21,8 +21,8 @@ pub returns-in-Some-clause-ring : goal.returns-in-Some-clause-ring
 returns-in-Some-clause-ring c =
     let inside = c.self.inside in
     let order = c.self.invariant.order in
-    let count = length-requests_in inside.shape.frame_nr inside.slots.items inside.taken (inside.placed - inside.taken) in
-    let ring = state_in inside.shape inside.skip_bad inside.slots.items inside.placed inside.taken inside.stopped in
+    let count = length-requests_in inside.shape.frame_nr inside.slots inside.taken (inside.placed - inside.taken) in
+    let ring = state_in inside.shape inside.skip_bad inside.slots inside.placed inside.taken inside.stopped in
     let stays = stopped_answer ring inside.taken c.in-Some.slot c.self.invariant.stop c.in-Some.is (omega (arith, count, order)) in
     sym (subst (λ (r : TxState). after_send r ≡ r) c.self.view_is stays.1)
 
