@@ -1,18 +1,11 @@
 //! Whole datagrams: their headers, which another program computed, and their data in order.
+use crate::built_frames::digits;
 use crate::fragments::{FIRST, MORE, Piece, data, fragment, frame, pushed};
 use frame_view::{Frame, Frames, Memory, Tag};
 use ip_defrag::{Defrag, reassemble};
 use std::alloc::Global;
+use std::process::Abort;
 use std::test::Fail;
-
-/// The bytes in hexadecimal digits.
-fn digits(alloc: Global, bytes: &[u8]) -> Result<String, Memory> {
-    let mut text = String::new(alloc);
-    for byte in bytes {
-        text.push_str(&format!(in alloc; "{byte:02x}")?)?;
-    }
-    Ok(text)
-}
 
 /// The IPv4 header of a frame up to a place, and whether the bytes after it are the first of a
 /// datagram.
@@ -30,6 +23,19 @@ fn whole_of(alloc: Global, pieces: &[Piece]) -> Result<Frame, Fail> {
     Ok(whole.ok_or("a whole datagram")?)
 }
 
+/// A frame has this header up to a place, and the first bytes of a datagram after it.
+fn check_shown(
+    rt: &impl Abort,
+    alloc: Global,
+    frame: &Frame,
+    (name, headers, want): (&str, usize, &str),
+) -> Result<(), Fail> {
+    let (header, in_order) = shown(alloc, frame, headers)?;
+    assert_eq!(rt; header.as_str(), want, "{name}");
+    assert!(rt; in_order, "{name}");
+    Ok(())
+}
+
 #[test]
 fn puts_three_fragments_together(rt: HostRuntime) -> Result<(), Fail> {
     let a = Piece {
@@ -40,12 +46,12 @@ fn puts_three_fragments_together(rt: HostRuntime) -> Result<(), Fail> {
     let b = Piece {
         index: 2,
         sec: 102,
-        ..fragment(MORE + 1, 8)
+        place: MORE + 1,
+        ..FIRST
     };
     let whole = whole_of(rt.alloc(), &[fragment(2, 4), a, b])?;
-    let (header, in_order) = shown(rt.alloc(), &whole, 34)?;
-    assert_eq!(rt; header.as_str(), "45000028123400004011548f0a0000010a000002");
-    assert!(rt; in_order);
+    let header = "45000028123400004011548f0a0000010a000002";
+    check_shown(&rt, rt.alloc(), &whole, ("three", 34, header))?;
     assert_eq!(rt;
         (whole.cpu, whole.index, whole.sec, whole.nsec, whole.wire),
         (3, 2, 102, 2, 54)
@@ -53,49 +59,49 @@ fn puts_three_fragments_together(rt: HostRuntime) -> Result<(), Fail> {
     Ok(())
 }
 
-/// Four fragments of 24, 16, 8 and 5 bytes, in several orders.
-fn orders() -> [[Piece; 4]; 4] {
-    [
-        [
-            fragment(MORE, 24),
-            fragment(MORE + 3, 16),
-            fragment(MORE + 5, 8),
-            fragment(6, 5),
-        ],
-        [
-            fragment(6, 5),
-            fragment(MORE + 5, 8),
-            fragment(MORE + 3, 16),
-            fragment(MORE, 24),
-        ],
-        [
-            fragment(MORE + 3, 16),
-            fragment(MORE, 24),
-            fragment(6, 5),
-            fragment(MORE + 5, 8),
-        ],
-        [
-            fragment(MORE + 5, 8),
-            fragment(6, 5),
-            fragment(MORE, 24),
-            fragment(MORE + 3, 16),
-        ],
-    ]
+/// A datagram's four fragments, of 24, 16, 8 and 5 bytes.
+const A: Piece = Piece { len: 24, ..FIRST };
+
+const B: Piece = Piece {
+    place: MORE + 3,
+    len: 16,
+    ..FIRST
+};
+
+const C: Piece = Piece {
+    place: MORE + 5,
+    ..FIRST
+};
+
+const D: Piece = Piece {
+    place: 6,
+    len: 5,
+    ..FIRST
+};
+
+/// A name, and the fragments in some order.
+type Pieces = (&'static str, [Piece; 4]);
+
+static ORDERS: [Pieces; 4] = [
+    ("the first first", [A, B, C, D]),
+    ("the last first", [D, C, B, A]),
+    ("the second first", [B, A, D, C]),
+    ("the third first", [C, D, A, B]),
+];
+
+/// In each order the fragments give the same datagram.
+fn check_orders(rt: &impl Abort, alloc: Global, orders: &[Pieces]) -> Result<(), Fail> {
+    let header = "45000049123400004011546e0a0000010a000002";
+    for (name, order) in orders {
+        let whole = whole_of(alloc, order)?;
+        check_shown(rt, alloc, &whole, (name, 34, header))?;
+    }
+    Ok(())
 }
 
 #[test]
 fn puts_four_fragments_together_in_each_order(rt: HostRuntime) -> Result<(), Fail> {
-    for (at, order) in orders().iter().enumerate() {
-        let whole = whole_of(rt.alloc(), order)?;
-        let (header, in_order) = shown(rt.alloc(), &whole, 34)?;
-        assert_eq!(rt;
-            header.as_str(),
-            "45000049123400004011546e0a0000010a000002",
-            "order {at}"
-        );
-        assert!(rt; in_order, "order {at}");
-    }
-    Ok(())
+    check_orders(&rt, rt.alloc(), &ORDERS)
 }
 
 #[test]
@@ -113,9 +119,8 @@ fn meets_the_worked_example_of_rfc_791(rt: HostRuntime) -> Result<(), Fail> {
         ..first
     };
     let whole = whole_of(rt.alloc(), &[first, last])?;
-    let (header, in_order) = shown(rt.alloc(), &whole, 34)?;
-    assert_eq!(rt; header.as_str(), "450001d8006f000077062daf0a0000010a000002");
-    assert!(rt; in_order);
+    let header = "450001d8006f000077062daf0a0000010a000002";
+    check_shown(&rt, rt.alloc(), &whole, ("rfc 791", 34, header))?;
     assert_eq!(rt; whole.wire, 486);
     Ok(())
 }
@@ -124,15 +129,13 @@ fn meets_the_worked_example_of_rfc_791(rt: HostRuntime) -> Result<(), Fail> {
 fn puts_the_longest_datagram_together(rt: HostRuntime) -> Result<(), Fail> {
     let first = Piece {
         options: 10,
-        ..fragment(MORE, 65_472)
+        len: 65_472,
+        ..FIRST
     };
     let whole = whole_of(rt.alloc(), &[fragment(8184, 3), first])?;
-    let (header, in_order) = shown(rt.alloc(), &whole, 74)?;
-    assert_eq!(rt;
-        header.as_str(),
-        "4f00ffff12340000401136a30a0000010a00000201010101010101010101010101010101010101010101010101010101010101010101010101010101"
-    );
-    assert!(rt; in_order);
+    let header =
+        "4f00ffff12340000401136a30a0000010a00000201010101010101010101010101010101010101010101010101010101010101010101010101010101";
+    check_shown(&rt, rt.alloc(), &whole, ("the longest", 74, header))?;
     assert_eq!(rt; whole.wire, 65_549);
     Ok(())
 }
@@ -157,13 +160,19 @@ fn keeps_flags_and_tag_of_the_first_fragment(rt: HostRuntime) -> Result<(), Fail
     Ok(())
 }
 
+/// The frames of some fragments.
+fn frames_of(alloc: Global, pieces: &[Piece]) -> Result<Frames, Memory> {
+    let mut frames = Frames::new(alloc);
+    for piece in pieces {
+        frames.push(frame(alloc, piece)?)?;
+    }
+    Ok(frames)
+}
+
 #[test]
 fn reassembles_a_list(rt: HostRuntime) -> Result<(), Fail> {
-    let mut frames = Frames::new(rt.alloc());
-    for given in [FIRST, fragment(0, 8), fragment(1, 8), FIRST] {
-        frames.push(frame(rt.alloc(), &given)?)?;
-    }
-    let out = reassemble(rt.alloc(), frames)?;
+    let pieces = [FIRST, fragment(0, 8), fragment(1, 8), FIRST];
+    let out = reassemble(rt.alloc(), frames_of(rt.alloc(), &pieces)?)?;
     let lengths = (
         out.get(0).map(|frame| frame.bytes.len()),
         out.get(1).map(|frame| frame.bytes.len()),

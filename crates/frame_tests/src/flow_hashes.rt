@@ -85,20 +85,17 @@ static OVER_IPV6: [Ipv6Row; 3] = [
     ),
 ];
 
-/// Two addresses, and the same with two ports after them.
-fn inputs(
-    alloc: Global,
-    from: &[u8],
-    to: &[u8],
-    sport: u16,
-    dport: u16,
-) -> Result<(Vec<u8>, Vec<u8>), Memory> {
-    let mut plain = from.to_vec(alloc)?;
-    plain.extend_from_slice(to)?;
-    let mut ported = plain.clone()?;
-    ported.extend_from_slice(&sport.to_be_bytes())?;
-    ported.extend_from_slice(&dport.to_be_bytes())?;
-    Ok((plain, ported))
+/// Some bytes, and others after them.
+fn joined(alloc: Global, first: &[u8], second: &[u8]) -> Result<Vec<u8>, Memory> {
+    let mut bytes = first.to_vec(alloc)?;
+    bytes.extend_from_slice(second)?;
+    Ok(bytes)
+}
+
+/// Two ports, one after the other.
+fn ports(sport: u16, dport: u16) -> [u8; 4] {
+    let (source, dest) = (sport.to_be_bytes(), dport.to_be_bytes());
+    [source[0], source[1], dest[0], dest[1]]
 }
 
 /// The hash of some bytes that fit.
@@ -107,16 +104,31 @@ fn hash(rt: &impl Abort, key: &Key, input: &[u8]) -> u32 {
     toeplitz(key, input)
 }
 
+/// Holds the hashes of two addresses, and of these with two ports after them, to a row's.
+fn check_hashes(
+    rt: &impl Abort,
+    alloc: Global,
+    key: &Key,
+    addresses: &[u8],
+    (sport, dport): (u16, u16),
+    (plain, ported): (u32, u32),
+) -> Result<(), Fail> {
+    let long = joined(alloc, addresses, &ports(sport, dport))?;
+    assert_eq!(rt;
+        hash(rt, key, addresses),
+        plain,
+        "addresses, from port {sport}"
+    );
+    assert_eq!(rt; hash(rt, key, &long), ported, "from port {sport}");
+    Ok(())
+}
+
 /// Holds the hashes of each row to the row.
 fn check_ipv4(rt: &impl Abort, alloc: Global, key: &Key, rows: &[Ipv4Row]) -> Result<(), Fail> {
     for (from, to, sport, dport, plain, ported) in rows {
-        let (short, long) = inputs(alloc, from, to, *sport, *dport)?;
-        assert_eq!(rt;
-            hash(rt, key, &short),
-            *plain,
-            "addresses, from port {sport}"
-        );
-        assert_eq!(rt; hash(rt, key, &long), *ported, "from port {sport}");
+        let addresses = joined(alloc, from, to)?;
+        let hashes = (*plain, *ported);
+        check_hashes(rt, alloc, key, &addresses, (*sport, *dport), hashes)?;
     }
     Ok(())
 }
@@ -130,14 +142,9 @@ fn meets_the_published_suite_over_ipv4(rt: HostRuntime) -> Result<(), Fail> {
 /// Holds the hashes of each row to the row.
 fn check_ipv6(rt: &impl Abort, alloc: Global, key: &Key, rows: &[Ipv6Row]) -> Result<(), Fail> {
     for (from, to, sport, dport, plain, ported) in rows {
-        let (from, to) = (from.to_be_bytes(), to.to_be_bytes());
-        let (short, long) = inputs(alloc, &from, &to, *sport, *dport)?;
-        assert_eq!(rt;
-            hash(rt, key, &short),
-            *plain,
-            "addresses, from port {sport}"
-        );
-        assert_eq!(rt; hash(rt, key, &long), *ported, "from port {sport}");
+        let addresses = joined(alloc, &from.to_be_bytes(), &to.to_be_bytes())?;
+        let hashes = (*plain, *ported);
+        check_hashes(rt, alloc, key, &addresses, (*sport, *dport), hashes)?;
     }
     Ok(())
 }

@@ -1,81 +1,114 @@
 //! Two fragments of one name, copies, conflicts and ages: how many are given up, and how many stay
 //! held.
 use crate::fragments::{FIRST, MORE, Piece, fragment, frame, pushed};
+use frame_view::Memory;
 use ip_defrag::Defrag;
 use std::alloc::Global;
 use std::process::Abort;
 use std::test::Fail;
 
-/// A name, two fragments, how many of them are given up and how many stay held.
+/// A name, two fragments, how many of them are given up and how many stay held. A fragment is the
+/// first eight bytes of the datagram but for the fields that it names.
 type Pair = (&'static str, Piece, Piece, u32, u32);
 
-fn pairs() -> [Pair; 11] {
-    [
-        ("the next eight bytes", FIRST, fragment(MORE + 1, 8), 0, 2),
-        ("a copy", FIRST, FIRST, 1, 1),
-        (
-            "other data at one place",
-            FIRST,
-            Piece { salt: 1, ..FIRST },
-            2,
-            0,
-        ),
-        (
-            "the first reaches into it",
-            fragment(MORE, 16),
-            fragment(MORE + 1, 8),
-            2,
-            0,
-        ),
-        (
-            "within the first",
-            fragment(MORE, 24),
-            fragment(MORE + 1, 8),
-            2,
-            0,
-        ),
-        (
-            "around the first",
-            fragment(MORE + 1, 8),
-            fragment(MORE, 24),
-            2,
-            0,
-        ),
-        (
-            "past a known end",
-            fragment(1, 8),
-            fragment(MORE + 2, 8),
-            2,
-            0,
-        ),
-        ("another end", fragment(1, 8), fragment(2, 8), 2, 0),
-        (
-            "an end before a held one's",
-            fragment(MORE + 2, 8),
-            fragment(1, 8),
-            2,
-            0,
-        ),
-        (
-            "one place, and the end",
-            fragment(MORE + 1, 8),
-            fragment(1, 8),
-            2,
-            0,
-        ),
-        (
-            "another protocol",
-            FIRST,
-            Piece {
-                protocol: 6,
-                place: 1,
-                ..FIRST
-            },
-            0,
-            2,
-        ),
-    ]
-}
+static PAIRS: [Pair; 11] = [
+    (
+        "the next eight bytes",
+        FIRST,
+        Piece {
+            place: MORE + 1,
+            ..FIRST
+        },
+        0,
+        2,
+    ),
+    ("a copy", FIRST, FIRST, 1, 1),
+    (
+        "other data at one place",
+        FIRST,
+        Piece { salt: 1, ..FIRST },
+        2,
+        0,
+    ),
+    (
+        "the first reaches into it",
+        Piece { len: 16, ..FIRST },
+        Piece {
+            place: MORE + 1,
+            ..FIRST
+        },
+        2,
+        0,
+    ),
+    (
+        "within the first",
+        Piece { len: 24, ..FIRST },
+        Piece {
+            place: MORE + 1,
+            ..FIRST
+        },
+        2,
+        0,
+    ),
+    (
+        "around the first",
+        Piece {
+            place: MORE + 1,
+            ..FIRST
+        },
+        Piece { len: 24, ..FIRST },
+        2,
+        0,
+    ),
+    (
+        "past a known end",
+        Piece { place: 1, ..FIRST },
+        Piece {
+            place: MORE + 2,
+            ..FIRST
+        },
+        2,
+        0,
+    ),
+    (
+        "another end",
+        Piece { place: 1, ..FIRST },
+        Piece { place: 2, ..FIRST },
+        2,
+        0,
+    ),
+    (
+        "an end before a held one's",
+        Piece {
+            place: MORE + 2,
+            ..FIRST
+        },
+        Piece { place: 1, ..FIRST },
+        2,
+        0,
+    ),
+    (
+        "one place, and the end",
+        Piece {
+            place: MORE + 1,
+            ..FIRST
+        },
+        Piece { place: 1, ..FIRST },
+        2,
+        0,
+    ),
+    (
+        "another protocol",
+        FIRST,
+        Piece {
+            protocol: 6,
+            place: 1,
+            ..FIRST
+        },
+        0,
+        2,
+    ),
+];
 
 /// Of each pair no datagram comes, and so many fragments are given up and held.
 fn check_pairs(rt: &impl Abort, alloc: Global, pairs: &[Pair]) -> Result<(), Fail> {
@@ -89,7 +122,7 @@ fn check_pairs(rt: &impl Abort, alloc: Global, pairs: &[Pair]) -> Result<(), Fai
 
 #[test]
 fn gives_up_what_conflicts(rt: HostRuntime) -> Result<(), Fail> {
-    check_pairs(&rt, rt.alloc(), &pairs())
+    check_pairs(&rt, rt.alloc(), &PAIRS)
 }
 
 /// The seconds of two fragments that are a datagram, how many are given up, and how many stay held.
@@ -133,20 +166,33 @@ fn gives_up_a_datagram_of_30_seconds(rt: HostRuntime) -> Result<(), Fail> {
     check_ages(&rt, rt.alloc(), &AGES)
 }
 
+/// Pushes the first fragment of each of so many names, and gives how many are given up.
+fn push_names(alloc: Global, defrag: &mut Defrag, count: u16) -> Result<u32, Memory> {
+    let mut discarded = 0_u32;
+    for ident in 0..count {
+        let step = defrag.push(frame(alloc, &Piece { ident, ..FIRST })?)?;
+        discarded = discarded.saturating_add(step.discarded);
+    }
+    Ok(discarded)
+}
+
+/// Pushes the last fragment of a name, and says whether a datagram comes of it.
+fn is_ended(alloc: Global, defrag: &mut Defrag, ident: u16) -> Result<bool, Memory> {
+    let last = Piece {
+        ident,
+        ..fragment(1, 8)
+    };
+    Ok(defrag.push(frame(alloc, &last)?)?.whole.is_some())
+}
+
 #[test]
 fn gives_up_the_oldest_of_65_names(rt: HostRuntime) -> Result<(), Fail> {
     let mut defrag = Defrag::new(rt.alloc());
-    let mut discarded = 0_u32;
-    for ident in 0..65_u16 {
-        let step = defrag.push(frame(rt.alloc(), &Piece { ident, ..FIRST })?)?;
-        discarded = discarded.saturating_add(step.discarded);
-    }
+    let discarded = push_names(rt.alloc(), &mut defrag, 65)?;
     assert_eq!(rt; (discarded, defrag.pending()), (1, 64));
-    let second = Piece {
-        ident: 1,
-        ..fragment(1, 8)
-    };
-    let whole = defrag.push(frame(rt.alloc(), &second)?)?.whole;
-    assert!(rt; whole.is_some(), "the second name is there still");
+    assert!(rt;
+        is_ended(rt.alloc(), &mut defrag, 1)?,
+        "the second name is there still"
+    );
     Ok(())
 }

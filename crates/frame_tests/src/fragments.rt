@@ -92,10 +92,13 @@ pub(crate) fn frame(alloc: Global, piece: &Piece) -> Result<Frame, Memory> {
     })
 }
 
-/// What comes of some fragments, one after the other: what the last one gives, how many were given
-/// up in all, and how many are held.
-pub(crate) fn pushed(alloc: Global, pieces: &[Piece]) -> Result<(Option<Frame>, u32, u32), Memory> {
-    let mut defrag = Defrag::new(alloc);
+/// Pushes some fragments, one after the other: what the last one gives, and how many were given up
+/// in all.
+fn push_all(
+    alloc: Global,
+    defrag: &mut Defrag,
+    pieces: &[Piece],
+) -> Result<(Option<Frame>, u32), Memory> {
     let mut whole = None;
     let mut discarded = 0_u32;
     for piece in pieces {
@@ -103,5 +106,13 @@ pub(crate) fn pushed(alloc: Global, pieces: &[Piece]) -> Result<(Option<Frame>, 
         whole = step.whole;
         discarded = discarded.saturating_add(step.discarded);
     }
+    Ok((whole, discarded))
+}
+
+/// What comes of some fragments, one after the other: what the last one gives, how many were given
+/// up in all, and how many are held.
+pub(crate) fn pushed(alloc: Global, pieces: &[Piece]) -> Result<(Option<Frame>, u32, u32), Memory> {
+    let mut defrag = Defrag::new(alloc);
+    let (whole, discarded) = push_all(alloc, &mut defrag, pieces)?;
     Ok((whole, discarded, defrag.pending()))
 }

@@ -1,4 +1,6 @@
 //! What another program reads in frames that a Linux kernel sent.
+ghost use Rattle.std.specs.Prelude.{◌≤◌, length};
+
 use crate::captured_frames::{
     ARP, FIRST, HERE, HERE6, LAST, LINK, LINK6, RECEIVER, REPORT, SENDER, TCP, TCP6, THERE, THERE6,
     UDP, UDP6,
@@ -109,14 +111,21 @@ fn reads_captured_frames(rt: HostRuntime) {
     check_view(&rt, "13 bytes", &ARP[..13], Headers::Runt);
 }
 
+/// The packet type of a frame, at a host with this address.
+fn check_type(rt: &impl Abort, name: &str, bytes: &[u8], own: Option<[u8; 6]>, want: u8)
+    requires { 14 ≤ length bytes.now }
+{
+    assert_eq!(rt; pkttype(bytes, own), want, "{name}");
+}
+
 #[test]
 fn tells_packet_types(rt: HostRuntime) {
     let own = Some(RECEIVER);
-    assert_eq!(rt; pkttype(&ARP, own), 1, "broadcast");
-    assert_eq!(rt; pkttype(&REPORT, own), 2, "multicast");
-    assert_eq!(rt; pkttype(&UDP, own), 0, "this host");
-    assert_eq!(rt; pkttype(&UDP, None), 0, "no own address");
-    assert_eq!(rt; pkttype(&UDP, Some(SENDER)), 3, "another host");
+    check_type(&rt, "broadcast", &ARP, own, 1);
+    check_type(&rt, "multicast", &REPORT, own, 2);
+    check_type(&rt, "this host", &UDP, own, 0);
+    check_type(&rt, "no own address", &UDP, None, 0);
+    check_type(&rt, "another host", &UDP, Some(SENDER), 3);
 }
 
 /// The sum of a frame's header, which stands after 14 bytes and has 20, is 0.

@@ -3,6 +3,7 @@ ghost use Rattle.std.specs.Prelude.{◌≡◌, ◌≤◌, length, IfOk, None};
 
 use frame_view::{ByteList, Frame, Memory, Packet, Tag, retag, untag};
 use std::alloc::Global;
+use std::process::Abort;
 use std::test::Fail;
 
 /// A frame with a tag of 802.1ad, an inner tag of 802.1Q, and the type of IPv4.
@@ -60,11 +61,15 @@ fn takes_the_first_tag_out(rt: HostRuntime) -> Result<(), Fail> {
     Ok(())
 }
 
+/// What a packet of these bytes is with its tag put back.
+fn check_retag(rt: &impl Abort, alloc: Global, bytes: &[u8], want: &[u8]) -> Result<(), Fail> {
+    let tagged = retag(alloc, &packet(alloc, bytes)?)?;
+    assert_eq!(rt; tagged.as_slice(), want);
+    Ok(())
+}
+
 #[test]
 fn puts_a_tag_back_after_whole_addresses(rt: HostRuntime) -> Result<(), Fail> {
-    let whole = packet(rt.alloc(), &SINGLE)?;
-    assert_eq!(rt; retag(rt.alloc(), &whole)?.as_slice(), DOUBLE.as_slice());
-    let cut = packet(rt.alloc(), &SINGLE[..11])?;
-    assert_eq!(rt; retag(rt.alloc(), &cut)?.as_slice(), &SINGLE[..11]);
-    Ok(())
+    check_retag(&rt, rt.alloc(), &SINGLE, &DOUBLE)?;
+    check_retag(&rt, rt.alloc(), &SINGLE[..11], &SINGLE[..11])
 }
