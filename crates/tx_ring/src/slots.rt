@@ -200,7 +200,8 @@ fn write_slot(
 fn write_status(bytes: &mut [u8], from: usize, size: usize, status: u32)
     requires within { from + size ≤ length bytes.old }
     requires least { 48 ≤ size }
-    ensures { take size (drop from bytes.old) ≡ slot_text (slot_in (take size (drop from bytes.old)))
+    ensures { take size (drop from bytes.old)
+        ≡ slot_text (slot_in (take size (drop from bytes.old)))
         → bytes.new ≡ put_slot from size bytes.old
         (slot_text (record (slot_in (take size (drop from bytes.old))) { status = status })) }
 {
