@@ -475,6 +475,11 @@ words() {
     cp conf $'r\xc3\xa9glage'
     expect 'a name in UTF-8' 0 "$(cat "$room/whole.txt")" replay $'r\xc3\xa9glage' sched
     expect 'a name that no file can have' 5 'read fault' replay "$(printf '%05000d' 0)" sched
+    fresh
+    # Names of 404 and of 70,004 bytes: an argument is read into buffers that double until one holds it.
+    expect 'a setup with a long name' 0 "$(cat "$room/whole.txt")" replay "$(printf './%.0s' {1..200})conf" sched
+    saved 'a setup with a long name'
+    expect 'a setup with a name of 70,004 bytes' 5 'read fault' replay "$(printf './%.0s' {1..35000})conf" sched
 }
 
 # A capture without end, as a pipe that somebody keeps writing to: 127 records of 262,144 bytes fit into what counts.
