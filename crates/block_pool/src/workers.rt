@@ -5,12 +5,12 @@ ghost use Rattle.block_pool.specs.Workers.{HasDecoded, IsFreshDecoder};
 ghost use Rattle.work_queue.specs.Works.{IsLawfulWork};
 
 use crate::pieces::{Piece, piece_of};
-use cpu_feeders::{Gate, Point};
+use cpu_feeders::{Gate, Point, pause};
 use fanout_group::{Dealer, DealerSeat};
 use frame_view::Memory;
 use std::alloc::Global;
 use std::sync::Wait;
-use std::thread;
+use std::thread::Parker;
 use work_queue::{Work, WorkPass, WorkQueue};
 
 /// So many calls of `fetch` a worker makes at most.
@@ -71,6 +71,8 @@ pub fn run_decoder<R: Wait, G: Gate>(
     requires fresh { IsFreshDecoder queue.now dealer.now decoder.old }
     ensures { HasDecoded dumps queue.now decoder.old decoder.new }
 {
+    let sleeper = Parker::new();
+    let mut empty_looks: u32 = 0;
     for _ in rt.forever() {
         if decoder.fetches >= MOST_FETCHES {
             return;
@@ -79,6 +81,7 @@ pub fn run_decoder<R: Wait, G: Gate>(
         decoder.fetches += 1;
         match queue.fetch(rt, &mut decoder.pass) {
             Some(work) => {
+                empty_looks = 0;
                 let kept = keep(alloc, gate, dumps, decoder.index, &mut decoder.pieces, work);
                 if kept.is_err() {
                     decoder.full = true;
@@ -89,7 +92,8 @@ pub fn run_decoder<R: Wait, G: Gate>(
                 if live == 0 {
                     return;
                 }
-                thread::yield_now();
+                empty_looks = empty_looks.saturating_add(1);
+                pause(rt, empty_looks, &sleeper);
             }
         }
     }

@@ -7,6 +7,7 @@ mod feeder;
 mod fresh_workers;
 mod gate;
 mod open_groups;
+mod pausing;
 mod stands;
 mod takers;
 mod timer;
@@ -17,6 +18,7 @@ mod workers;
 
 pub use feeder::{Feeder, run_feeder};
 pub use gate::{Gate, NoGate, Point};
+pub use pausing::pause;
 pub use takers::{Workers, run_takers};
 pub use timer::{Timer, run_timer};
 pub use walker::{Walker, run_walker};
