@@ -14,7 +14,8 @@ that drops. Those of 60 and of 1514 bytes are sent through a ring of 2048 slots,
 
 The captures on threads have 1, 2, 4 and 8 CPUs with 4 MiB each. Of each row all times are taken by turns with a replay whose schedule is
 empty; the least and the middle one are printed, since with threads they lie apart, and the fewest and the most drops. Only rings that
-keep all frames can be compared in time: a frame that is dropped costs less than one that is kept.
+keep all frames can be compared in time: a frame that is dropped costs less than one that is kept. A table before them has how long one to
+four replays of one CPU take at the same time, each a process of its own: the processors of a virtual machine may share what they stand on.
 
 Where there is a C compiler, seven replays of 32 MiB are run by turns with bench/plain_ring.c, which does the same with arrays and keeps no
 notes. Both must save the same files. Page faults are those of one run; instructions are those that valgrind counts of a capture
@@ -304,6 +305,7 @@ def main():
         shutil.rmtree(WORK)
         return
     if asked.threads:
+        times_of_processes(program, asked)
         too_much = times_of_threads(program, asked)
         times_of_forwards(program, asked)
         times_of_pools(program, asked)
@@ -336,6 +338,7 @@ def main():
     found.update(times_of_made(program, asked))
     found.update(times_of_sent(program, asked))
     found.update(times_of_slots(program, asked))
+    times_of_processes(program, asked)
     too_much = times_of_threads(program, asked)
     times_of_forwards(program, asked)
     times_of_pools(program, asked)
@@ -480,11 +483,14 @@ def memory_of_refused(program, asked):
 
 
 # The groups of captures on threads, by the number of CPUs.
+EACH = "a member each"
 SHARED = {
     "hash of four": lambda cpus: f"members 4\nmode hash\nkey {KEY}\n",
     "lb of four": lambda cpus: "members 4\nmode lb\n",
-    "a member each": lambda cpus: f"members {cpus}\nmode cpu\n",
+    EACH: lambda cpus: f"members {cpus}\nmode cpu\n",
 }
+# Smaller blocks, of which the most that a ring may have keep all of one CPU.
+SMALL_BLOCKS = {"block_size": 65536, "block_nr": 256, "frame_size": 2048, "frame_nr": 8192}
 # The captures of 4 MiB on threads, by the bytes of a frame.
 MAKERS = {"60": lambda: make_small_flows("in.pcap", 4 * MIB), "1042": lambda: make_flows("in.pcap", 4 * MIB, "hash")}
 POOLS = (0, 1, 2, 4)
@@ -506,7 +512,7 @@ def times_of_row(program, count, ring, asked, first, second):
         for command in (first, second):
             taken, cpu, printed = one_run([program, *COMMANDS[command]])
             kept, lost = total_of(printed)
-            if kept + lost != count or lost and ring == "keeps":
+            if kept + lost != count or lost and ring != "drops":
                 sys.exit(f"{command}: {count} frames, {kept} kept, {lost} dropped")
             times[command].append((taken, cpu))
             if command == second:
@@ -514,24 +520,57 @@ def times_of_row(program, count, ring, asked, first, second):
     return times[first], times[second], drops
 
 
+def rows_of_threads():
+    """A ring's name and shape, and a group's name and what makes its lines, for each of the captures on threads."""
+    for ring, shape in RINGS.items():
+        for group, of in SHARED.items():
+            yield ring, shape, group, of
+        if ring == "keeps":
+            yield "keeps, 64 KiB", SMALL_BLOCKS, EACH, SHARED[EACH]
+
+
+def time_at_once(program, count):
+    """Seconds from the start of so many replays of one CPU, each a process with a folder of its own, to the end of the last."""
+    begun = time.perf_counter()
+    runs = [subprocess.Popen([program, *COMMANDS["replay"]], cwd=f"apart{number}", stdout=subprocess.DEVNULL) for number in range(count)]
+    if any(run.wait() for run in runs):
+        sys.exit("a replay of one CPU failed")
+    return time.perf_counter() - begun
+
+
+def times_of_processes(program, asked):
+    """Prints how long replays of one CPU take that run at the same time as processes of their own: what the machine gives to work that shares nothing."""
+    print("\n| Frames of | One, s | Two at once | Three | Four | Four to four in a row |")
+    print("|---|---|---|---|---|---|")
+    for kind, maker in MAKERS.items():
+        maker()
+        for number in range(4):
+            os.makedirs(f"apart{number}", exist_ok=True)
+            write_setup(f"apart{number}/conf", SMALL_BLOCKS, 1, SHARED[EACH](1))
+            for name in ("in.pcap", "sched"):
+                shutil.copy(name, f"apart{number}/{name}")
+        times = [min(time_at_once(program, count) for _ in range(asked.runs)) for count in (1, 2, 3, 4)]
+        print(f"| {kind} | " + " | ".join(f"{taken:.3f}" for taken in times) + f" | {times[3] / 4 / times[0]:.2f} |", flush=True)
+
+
 def times_of_threads(program, asked):
     """Prints the tables of captures on threads, and gives whether one of them takes too much CPU time."""
     cores = len(os.sched_getaffinity(0)) if hasattr(os, "sched_getaffinity") else os.cpu_count()
     print(f"\n{cores} processors, load {os.getloadavg()[0]:.1f} before the captures on threads; a run has a thread for each CPU and each")
     print("member and one for the timer, so more than there are processors where CPUs and members together are as many or more.")
-    print("\n| Group | Frames of | CPUs | Ring | Frames | Replay, s | middle | CPU | Capture, s | middle | CPU | Times | CPU times | Drops |")
-    print("|---|---|---|---|---|---|---|---|---|---|---|---|---|---|")
+    print("\n| Group | Frames of | CPUs | Ring | Frames | Replay, s | middle | CPU | Capture, s | middle | CPU | Times | middle | CPU times | Drops |")
+    print("|---|---|---|---|---|---|---|---|---|---|---|---|---|---|---|")
     too_much = False
     for kind, maker in MAKERS.items():
         each = maker()
-        for ring, (group, of) in ((ring, item) for ring in RINGS for item in SHARED.items()):
+        for ring, shape, group, of in rows_of_threads():
             for cpus in (1, 2, 4, 8):
-                write_setup("conf", RINGS[ring], cpus, of(cpus))
+                write_setup("conf", shape, cpus, of(cpus))
                 old, new, drops = times_of_row(program, each * cpus, ring, asked, "replay", "capture")
                 (least, cpu), (least_new, cpu_new) = (map(min, zip(*times)) for times in (old, new))
                 middle, middle_new = (statistics.median(taken for taken, _ in times) for times in (old, new))
-                too_much = too_much or ring == "keeps" and group == "a member each" and cpu_new > MOST_CPU * cpu
-                times = f"{middle_new / middle:.2f} | {cpu_new / cpu:.2f}" if ring == "keeps" else "- | -"
+                too_much = too_much or ring != "drops" and group == EACH and cpu_new > MOST_CPU * cpu
+                times = f"{least_new / least:.2f} | {middle_new / middle:.2f} | {cpu_new / cpu:.2f}" if ring != "drops" else "- | - | -"
                 print(
                     f"| {group} | {kind} | {cpus} | {ring} | {each * cpus:,} | {least:.3f} | {middle:.3f} | {cpu:.3f} | {least_new:.3f}"
                     f" | {middle_new:.3f} | {cpu_new:.3f} | {times} | {min(drops):,} to {max(drops):,} |",
@@ -547,7 +586,7 @@ def times_of_forwards(program, asked):
     for kind, maker in MAKERS.items():
         each = maker()
         for cpus in (1, 2, 4):
-            write_setup("conf", RINGS["keeps"], cpus, SHARED["a member each"](cpus))
+            write_setup("conf", RINGS["keeps"], cpus, SHARED[EACH](cpus))
             old, new, _ = times_of_row(program, each * cpus, "keeps", asked, "capture", "forward")
             (least, cpu), (least_new, cpu_new) = (map(min, zip(*times)) for times in (old, new))
             middle, middle_new = (statistics.median(taken for taken, _ in times) for times in (old, new))
@@ -563,7 +602,7 @@ def runs_with_pools(program, count, ring, asked):
     runs = {workers: [] for workers in POOLS}
     for _ in range(asked.runs):
         for workers, found in runs.items():
-            write_setup("conf", RINGS[ring], 2, SHARED["a member each"](2) + f"workers {workers}\n")
+            write_setup("conf", RINGS[ring], 2, SHARED[EACH](2) + f"workers {workers}\n")
             taken, cpu, printed = one_run([program, *COMMANDS["capture"]])
             kept, lost = total_of(printed)
             if kept + lost != count or lost and ring == "keeps":
