@@ -7,7 +7,7 @@ does is written down here once more, from the documented meaning of its code. A 
 import re
 import sys
 
-TEST = "crates/filter_tests/src/documented_codes.rt"
+TEST = "crates/group_tests/src/documented_codes.rt"
 TABLE = "crates/filter_table/stdin"
 ANSWERS = "crates/filter_table/stdout"
 WORD = 2**32

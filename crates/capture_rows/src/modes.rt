@@ -1,11 +1,9 @@
 //! Eight CPUs and eight members, in each mode. Every CPU has the same capture.
+use crate::run::check_rows;
 use cpu_feeders::NoGate;
 use frame_view::Memory;
-use run_building::{
-    Capture, Kept, NO_FRAME, NOTHING, Row, Shape, carry_out_on_threads, difference_on_threads,
-};
+use run_building::{Capture, Kept, NO_FRAME, NOTHING, Row, Shape, carry_out_on_threads};
 use std::alloc::Global;
-use std::process::Abort;
 use std::sync::Wait;
 use std::test::Fail;
 use std::thread::Threads;
@@ -143,19 +141,6 @@ static MODES: [Row<'static>; 4] = [
     },
     AT_HASH,
 ];
-
-/// Carries out each row on threads: nothing may differ from it.
-pub(crate) fn check_rows<R: Threads + Wait + Abort + Sync>(
-    rt: &R,
-    alloc: Global,
-    rows: &[Row<'_>],
-) -> Result<(), Fail> {
-    for row in rows {
-        let found = difference_on_threads(rt, alloc, row, &NoGate)?;
-        assert_eq!(rt; found.as_str(), "", "{}", row.name);
-    }
-    Ok(())
-}
 
 #[test]
 fn eight_cpus_feed_eight_members(rt: HostRuntime) -> Result<(), Fail> {

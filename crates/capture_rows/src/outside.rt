@@ -1,9 +1,9 @@
 //! The outside fails under threads: a read, and each call that is out of memory.
-use crate::modes::check_rows;
+use crate::run::{check_rows, no_fault};
 use cpu_feeders::NoGate;
 use frame_view::Memory;
 use run_building::{
-    Capture, Faults, Kept, NO_FAULT, NO_FRAME, NOTHING, Row, Shape, carry_out_on_threads,
+    Answer, Capture, Faults, Kept, NO_FAULT, NO_FRAME, NOTHING, Row, Shape, carry_out_on_threads,
     difference_on_threads,
 };
 use std::alloc::Global;
@@ -86,6 +86,12 @@ static THREE_FRAMES: Row<'static> = Row {
     ..NOTHING
 };
 
+/// The three frames, of which other rows are made. Their texts stand in the proof of this function
+/// alone.
+fn three_frames() -> &'static Row<'static> {
+    &THREE_FRAMES
+}
+
 /// The calls of the store that are out of memory, and the writes; the last of each isn't reached.
 static POOR: [(u64, u64); 10] = [
     (1, 0),
@@ -100,32 +106,52 @@ static POOR: [(u64, u64); 10] = [
     (0, 0),
 ];
 
-/// What the capture differs in where a call of the store or a write is out of memory: it ends with
-/// status 7, no report and its line, and where none of them is reached it is as ever.
+/// The three frames where a call of the store or a write is out of memory; 0 for none.
+fn poor_row(poor_call: u64, poor_write: u64) -> Row<'static> {
+    Row {
+        faults: Faults {
+            poor_call,
+            poor_write,
+            ..no_fault()
+        },
+        ..*three_frames()
+    }
+}
+
+/// What of a capture that was out of memory is wrong: it ends with status 7, no report and its line.
+fn wrong_poor(alloc: Global, answer: &Answer, printed: &str) -> Result<String, Memory> {
+    let ends = printed.ends_with("out of memory\n");
+    if ends && answer.status.as_str() == "7 Memory" && answer.report.is_empty() {
+        Ok(String::new(alloc))
+    } else {
+        Ok(format!(in alloc; "{} and {printed}", answer.status.as_str())?)
+    }
+}
+
+/// Carries out a capture that is out of memory: what is wrong.
 fn poor_difference<R: Threads + Wait + Sync>(
     rt: &R,
     alloc: Global,
-    poor_call: u64,
-    poor_write: u64,
+    row: &Row<'_>,
 ) -> Result<String, Memory> {
-    let faults = Faults {
-        poor_call,
-        poor_write,
-        ..NO_FAULT
-    };
-    let row = Row {
-        faults,
-        ..THREE_FRAMES
-    };
-    if poor_call > 5 || poor_call == 0 && poor_write == 0 {
-        return difference_on_threads(rt, alloc, &row, &NoGate);
+    let (answer, printed, _) = carry_out_on_threads(rt, alloc, row, &NoGate)?;
+    wrong_poor(alloc, &answer, printed.as_str())
+}
+
+/// What the capture differs in where a call of the store or a write is out of memory; where none of
+/// them is reached it is as ever.
+fn call_difference<R: Threads + Wait + Sync>(
+    rt: &R,
+    alloc: Global,
+    call: u64,
+    write: u64,
+) -> Result<String, Memory> {
+    let row = poor_row(call, write);
+    if call > 5 || call == 0 && write == 0 {
+        difference_on_threads(rt, alloc, &row, &NoGate)
+    } else {
+        poor_difference(rt, alloc, &row)
     }
-    let (answer, printed, _) = carry_out_on_threads(rt, alloc, &row, &NoGate)?;
-    let ends = printed.as_str().ends_with("out of memory\n");
-    if ends && answer.status.as_str() == "7 Memory" && answer.report.is_empty() {
-        return Ok(String::new(alloc));
-    }
-    Ok(format!(in alloc; "{} and {}", answer.status.as_str(), printed.as_str())?)
 }
 
 /// Carries out the capture with each of these calls and writes out of memory.
@@ -135,7 +161,7 @@ fn check_poor<R: Threads + Wait + Abort + Sync>(
     calls: &[(u64, u64)],
 ) -> Result<(), Fail> {
     for (call, write) in calls {
-        let found = poor_difference(rt, alloc, *call, *write)?;
+        let found = call_difference(rt, alloc, *call, *write)?;
         assert_eq!(rt; found.as_str(), "", "call {call} write {write}");
     }
     Ok(())

@@ -1,9 +1,13 @@
 //! A feeder and a reader that wait for each other, over a ring of two blocks.
 use crate::gates::TwoSided;
+use frame_view::Memory;
 use run_building::{
     Capture, Kept, NO_FRAME, NOTHING, Row, Shape, carry_out_on_threads, difference_on_threads,
 };
+use std::alloc::Global;
+use std::sync::Wait;
 use std::test::Fail;
+use std::thread::Threads;
 
 /// A frame that fills a block.
 const FULL: Shape<'static> = (b"", 3966);
@@ -42,14 +46,31 @@ static TEN_BLOCKS: Row<'static> = Row {
     ..NOTHING
 };
 
+/// The ten blocks. Their texts stand in the proof of this function alone.
+fn ten_blocks() -> &'static Row<'static> {
+    &TEN_BLOCKS
+}
+
+/// What the ten blocks differ in, with a dump or without, and what the gate counted.
+fn side_by_side<R: Threads + Wait + Sync>(
+    rt: &R,
+    alloc: Global,
+    dump: bool,
+) -> Result<(String, (u64, u64, u64)), Memory> {
+    let gate = TwoSided::new();
+    let row = Row {
+        dump,
+        ..*ten_blocks()
+    };
+    let found = difference_on_threads(rt, alloc, &row, &gate)?;
+    Ok((found, gate.counts()))
+}
+
 #[test]
 fn a_feeder_and_a_reader_go_on_side_by_side(rt: HostRuntime) -> Result<(), Fail> {
     for dump in [false, true] {
-        let gate = TwoSided::new();
-        let row = Row { dump, ..TEN_BLOCKS };
-        let found = difference_on_threads(&rt, rt.alloc(), &row, &gate)?;
+        let (found, (called, released, given_up)) = side_by_side(&rt, rt.alloc(), dump)?;
         assert_eq!(rt; found.as_str(), "");
-        let (called, released, given_up) = gate.counts();
         assert_eq!(rt; called, 10);
         // The tenth block is open until the threads have ended.
         assert_eq!(rt; released, 9);
@@ -61,7 +82,7 @@ fn a_feeder_and_a_reader_go_on_side_by_side(rt: HostRuntime) -> Result<(), Fail>
 #[test]
 fn the_moment_is_told_once(rt: HostRuntime) -> Result<(), Fail> {
     let gate = TwoSided::new();
-    let (answer, _, _) = carry_out_on_threads(&rt, rt.alloc(), &TEN_BLOCKS, &gate)?;
+    let (answer, _, _) = carry_out_on_threads(&rt, rt.alloc(), ten_blocks(), &gate)?;
     assert_eq!(rt; answer.report.as_str().matches("t").count(), 1);
     Ok(())
 }

@@ -1,5 +1,5 @@
 //! The commands, each without a fault: what it reads, saves, prints and reports.
-use run_building::{Capture, Kept, NO_FRAME, NOTHING, Row, Shape};
+use run_building::{Capture, Faults, Kept, NO_FAULT, NO_FRAME, NOTHING, Row, Shape};
 
 /// A frame of 60 bytes, which needs 144 in a block, behind the 48 of the block itself.
 const SMALL: Shape<'static> = (b"", 60);
@@ -144,7 +144,7 @@ const MAKE: Command = Command {
 };
 
 /// Three frames that are sent. The setup has 78 bytes.
-pub(crate) const SEND: Command = Command {
+const SEND: Command = Command {
     row: Row {
         name: "send",
         words: &["send", "conf"],
@@ -164,4 +164,21 @@ pub(crate) const SEND: Command = Command {
     saves: &["out.tx.pcap"],
 };
 
-pub(crate) static COMMANDS: [Command; 5] = [CHECK, REPLAY, REPLAY2, MAKE, SEND];
+static COMMANDS: [Command; 5] = [CHECK, REPLAY, REPLAY2, MAKE, SEND];
+
+/// The commands. Their texts stand in the proof of this function alone, as do those of the next ones.
+pub(crate) fn commands() -> &'static [Command] {
+    &COMMANDS
+}
+
+static SENDING: Command = SEND;
+
+/// The `send`.
+pub(crate) fn sending() -> &'static Command {
+    &SENDING
+}
+
+/// No call fails, and every file is read at once.
+pub(crate) fn no_fault() -> Faults<'static> {
+    NO_FAULT
+}

@@ -7,6 +7,8 @@ mod commands;
 #[cfg(test)]
 mod counting;
 #[cfg(test)]
+mod differing;
+#[cfg(test)]
 mod memory;
 #[cfg(test)]
 mod printing;

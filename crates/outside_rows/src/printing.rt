@@ -1,7 +1,8 @@
 //! Each write fails in turn.
-use crate::commands::{COMMANDS, Command};
+use crate::commands::{Command, commands, no_fault};
+use crate::differing::add_difference;
 use frame_view::Memory;
-use run_building::{Faults, NO_FAULT, Row, difference};
+use run_building::{Faults, Row};
 use std::alloc::Global;
 use std::str;
 use std::test::Fail;
@@ -15,35 +16,50 @@ pub(crate) fn written<'a>(lines: &'a str, writes: usize) -> &'a str {
     str::from_utf8(&lines.as_bytes()[..count]).unwrap_or("")
 }
 
-/// What a command differs in where a write fails after so many: it ends with status 6, its report
+/// Adds what a command differs in where a write fails after so many: it ends with status 6, its report
 /// and its files, and what was written before stays.
-fn unwritten_difference(alloc: Global, command: &Command, writes: usize) -> Result<String, Memory> {
+fn add_unwritten(
+    alloc: Global,
+    command: &Command,
+    writes: usize,
+    found: &mut String,
+) -> Result<(), Memory> {
     let row = Row {
         faults: Faults {
             write: (writes as u64).saturating_add(1),
-            ..NO_FAULT
+            ..no_fault()
         },
         status: "6 WriteFault",
         printed: written(command.row.printed, writes),
         ..command.row
     };
-    difference(alloc, &row)
+    add_difference(alloc, &row, found)
 }
 
-/// What a command differs in, for each write that fails in turn.
-fn unwritten_differences(alloc: Global, command: &Command) -> Result<String, Memory> {
-    let mut found = String::new(alloc);
+/// Adds what a command differs in, for each write that fails in turn.
+fn add_each_unwritten(alloc: Global, command: &Command, found: &mut String) -> Result<(), Memory> {
     for writes in 0..command.row.printed.len().div_ceil(TAKEN) {
-        found.push_str(unwritten_difference(alloc, command, writes)?.as_str())?;
+        add_unwritten(alloc, command, writes, found)?;
     }
-    Ok(found)
+    Ok(())
+}
+
+/// Adds what each command differs in, for each write that fails in turn.
+fn add_all_unwritten(
+    alloc: Global,
+    commands: &[Command],
+    found: &mut String,
+) -> Result<(), Memory> {
+    for command in commands {
+        add_each_unwritten(alloc, command, found)?;
+    }
+    Ok(())
 }
 
 #[test]
 fn each_write_fails(rt: HostRuntime) -> Result<(), Fail> {
-    for command in &COMMANDS {
-        let found = unwritten_differences(rt.alloc(), command)?;
-        assert_eq!(rt; found.as_str(), "", "{}", command.row.name);
-    }
+    let mut found = String::new(rt.alloc());
+    add_all_unwritten(rt.alloc(), commands(), &mut found)?;
+    assert_eq!(rt; found.as_str(), "");
     Ok(())
 }

@@ -1,144 +1,146 @@
 //! Each read of each text fails in turn, and each of a capture that is sent; then each file is read
 //! one byte at a time.
-use crate::commands::{COMMANDS, Command, SEND};
+use crate::commands::{Command, commands, no_fault, sending};
+use crate::differing::add_difference;
 use frame_view::Memory;
-use run_building::{Faults, NO_FAULT, NOTHING, Row, difference};
+use run_building::{Faults, Kept, Row};
 use std::alloc::Global;
 use std::test::Fail;
 
 /// Reads of a file, by their numbers.
 static READS: [&[u64]; 8] = [&[1], &[2], &[3], &[4], &[5], &[6], &[7], &[8]];
 
-/// A text can't be read: one line, no report, no file.
-const UNREAD: Row<'static> = Row {
-    status: "5 ReadFault",
-    printed: "read fault\n",
-    cpus: &[],
-    members: &[],
-    ..NOTHING
-};
+/// What a command without a report says of its CPUs and of its members.
+const NO_CPU: &[&str] = &[];
 
-/// Adds a difference, if there is one, with the file and the reads that it was found at.
-fn add(found: &mut String, file: &str, reads: &[u64], difference: &str) -> Result<(), Memory> {
-    if !difference.is_empty() {
-        write!(found, "{file}, reads {reads:?}: {difference}")?;
-    }
-    Ok(())
-}
+const NO_MEMBER: &[Kept<'static>] = &[];
 
-/// What a command differs in where reads of a text fail.
-fn unread_difference(
+/// Adds what a command differs in where reads of a text fail: one line, no report, no file.
+fn add_unread(
     alloc: Global,
     command: &Command,
     file: &'static str,
     reads: &'static [u64],
-) -> Result<String, Memory> {
-    let faults = Faults {
-        file,
-        piece: 20,
-        reads,
-        ..NO_FAULT
-    };
-    let sound = command.row;
-    let ticks = sound.ticks;
+    found: &mut String,
+) -> Result<(), Memory> {
     let row = Row {
-        words: sound.words,
-        lines: sound.lines,
-        dump: sound.dump,
-        filter: sound.filter,
-        schedule: sound.schedule,
-        ticks,
-        captures: sound.captures,
-        faults,
+        faults: Faults {
+            file,
+            piece: 20,
+            reads,
+            ..no_fault()
+        },
+        status: "5 ReadFault",
+        printed: "read fault\n",
+        cpus: NO_CPU,
+        members: NO_MEMBER,
         absent: command.saves,
-        ..UNREAD
+        ..command.row
     };
-    difference(alloc, &row)
+    add_difference(alloc, &row, found)
 }
 
-/// What a command differs in, for the first reads of a text that fail in turn.
-fn text_differences(
+/// Adds what a command differs in, for the first reads of a text that fail in turn.
+fn add_unread_text(
     alloc: Global,
     command: &Command,
     file: &'static str,
     count: usize,
-) -> Result<String, Memory> {
-    let mut found = String::new(alloc);
+    found: &mut String,
+) -> Result<(), Memory> {
     for reads in READS.get(..count).unwrap_or(&[]) {
-        let unread = unread_difference(alloc, command, file, reads)?;
-        add(&mut found, file, reads, unread.as_str())?;
-    }
-    Ok(found)
-}
-
-/// What a command differs in, for all reads of all its texts.
-fn unread_differences(alloc: Global, command: &Command) -> Result<String, Memory> {
-    let mut found = String::new(alloc);
-    for (file, count) in command.texts {
-        found.push_str(text_differences(alloc, command, file, *count)?.as_str())?;
-    }
-    Ok(found)
-}
-
-#[test]
-fn each_read_of_each_text_fails(rt: HostRuntime) -> Result<(), Fail> {
-    for command in &COMMANDS {
-        let found = unread_differences(rt.alloc(), command)?;
-        assert_eq!(rt; found.as_str(), "", "{}", command.row.name);
+        add_unread(alloc, command, file, reads, found)?;
     }
     Ok(())
 }
 
-/// What a command differs in where a file is read in pieces, and reads of it fail that aren't made.
-fn piece_difference(
+/// Adds what a command differs in, for all reads of all its texts.
+fn add_each_unread(alloc: Global, command: &Command, found: &mut String) -> Result<(), Memory> {
+    for (file, count) in command.texts {
+        add_unread_text(alloc, command, file, *count, found)?;
+    }
+    Ok(())
+}
+
+/// Adds what each command differs in, for all reads of all its texts.
+fn add_all_unread(alloc: Global, commands: &[Command], found: &mut String) -> Result<(), Memory> {
+    for command in commands {
+        add_each_unread(alloc, command, found)?;
+    }
+    Ok(())
+}
+
+#[test]
+fn each_read_of_each_text_fails(rt: HostRuntime) -> Result<(), Fail> {
+    let mut found = String::new(rt.alloc());
+    add_all_unread(rt.alloc(), commands(), &mut found)?;
+    assert_eq!(rt; found.as_str(), "");
+    Ok(())
+}
+
+/// Adds what a command differs in where a file is read in pieces, and reads of it fail that aren't
+/// made.
+fn add_piece(
     alloc: Global,
     command: &Command,
     file: &'static str,
     piece: usize,
     reads: &'static [u64],
-) -> Result<String, Memory> {
+    found: &mut String,
+) -> Result<(), Memory> {
     let row = Row {
         faults: Faults {
             file,
             piece,
             reads,
-            ..NO_FAULT
+            ..no_fault()
         },
         ..command.row
     };
-    difference(alloc, &row)
+    add_difference(alloc, &row, found)
 }
 
-/// What a command differs in where each text in turn would fail after its last read, and where each
-/// file in turn is read one byte at a time.
-fn piece_differences(alloc: Global, command: &Command) -> Result<String, Memory> {
-    let mut found = String::new(alloc);
+/// Adds what a command differs in where each text in turn would fail after its last read, and is
+/// read one byte at a time.
+fn add_text_pieces(alloc: Global, command: &Command, found: &mut String) -> Result<(), Memory> {
     for (file, count) in command.texts {
         let next = READS.get(*count).copied().unwrap_or(&[1]);
-        let whole = piece_difference(alloc, command, file, 20, next)?;
-        add(&mut found, file, next, whole.as_str())?;
-        let bytes = piece_difference(alloc, command, file, 1, &[])?;
-        add(&mut found, file, &[], bytes.as_str())?;
+        add_piece(alloc, command, file, 20, next, found)?;
+        add_piece(alloc, command, file, 1, &[], found)?;
     }
+    Ok(())
+}
+
+/// Adds what a command differs in where each capture in turn is read one byte at a time.
+fn add_capture_pieces(alloc: Global, command: &Command, found: &mut String) -> Result<(), Memory> {
     for file in command.captures {
-        let bytes = piece_difference(alloc, command, file, 1, &[])?;
-        add(&mut found, file, &[], bytes.as_str())?;
+        add_piece(alloc, command, file, 1, &[], found)?;
     }
-    Ok(found)
+    Ok(())
+}
+
+/// Adds what each command differs in where its files are read in pieces.
+fn add_all_pieces(alloc: Global, commands: &[Command], found: &mut String) -> Result<(), Memory> {
+    for command in commands {
+        add_text_pieces(alloc, command, found)?;
+        add_capture_pieces(alloc, command, found)?;
+    }
+    Ok(())
 }
 
 #[test]
 fn pieces_of_a_file_are_the_file(rt: HostRuntime) -> Result<(), Fail> {
-    for command in &COMMANDS {
-        let found = piece_differences(rt.alloc(), command)?;
-        assert_eq!(rt; found.as_str(), "", "{}", command.row.name);
-    }
+    let mut found = String::new(rt.alloc());
+    add_all_pieces(rt.alloc(), commands(), &mut found)?;
+    assert_eq!(rt; found.as_str(), "");
     Ok(())
 }
 
 /// The reads of a capture of 252 bytes, by 100 bytes, that fail: how the capture ends, and what is
 /// sent.
-static SENT: [(&[u64], &str, &[u8]); 4] = [
+type Sent = (&'static [u64], &'static str, &'static [u8]);
+
+static SENT: [Sent; 4] = [
     (
         &[1],
         "cpu 0 frames 0 end fault\nsend sent 0 skipped 0 stop none\n",
@@ -161,33 +163,41 @@ static SENT: [(&[u64], &str, &[u8]); 4] = [
     ),
 ];
 
-/// What a `send` differs in where a read of its capture fails.
-fn sent_difference(
+/// Adds what a `send` differs in where a read of its capture fails.
+fn add_sent(
     alloc: Global,
     reads: &'static [u64],
     printed: &'static str,
     numbers: &'static [u8],
-) -> Result<String, Memory> {
+    found: &mut String,
+) -> Result<(), Memory> {
     let row = Row {
         faults: Faults {
             file: "a.pcap",
             piece: 100,
             reads,
-            ..NO_FAULT
+            ..no_fault()
         },
         status: "5 ReadFault",
         printed,
         sent: Some(("out.tx.pcap", numbers)),
-        ..SEND.row
+        ..sending().row
     };
-    difference(alloc, &row)
+    add_difference(alloc, &row, found)
+}
+
+/// Adds what a `send` differs in, for each of these reads.
+fn add_all_sent(alloc: Global, all: &[Sent], found: &mut String) -> Result<(), Memory> {
+    for (reads, printed, numbers) in all {
+        add_sent(alloc, reads, printed, numbers, found)?;
+    }
+    Ok(())
 }
 
 #[test]
 fn each_read_of_a_sent_capture_fails(rt: HostRuntime) -> Result<(), Fail> {
-    for (reads, printed, numbers) in &SENT {
-        let found = sent_difference(rt.alloc(), reads, printed, numbers)?;
-        assert_eq!(rt; found.as_str(), "", "reads {reads:?}");
-    }
+    let mut found = String::new(rt.alloc());
+    add_all_sent(rt.alloc(), &SENT, &mut found)?;
+    assert_eq!(rt; found.as_str(), "");
     Ok(())
 }

@@ -1,5 +1,6 @@
 //! Tests of the texts of a run: setups, moments, schedules and filters, and the lines and words of
-//! which they are made.
+//! which they are made; and of the lines that a program prints, worked out by hand from the events
+//! of rings.
 #![tactic(auto)]
 
 #[cfg(test)]
@@ -12,6 +13,12 @@ mod answers;
 mod commands;
 #[cfg(test)]
 mod lines_and_words;
+#[cfg(test)]
+mod printed_runs;
+#[cfg(test)]
+mod printed_words;
+#[cfg(test)]
+mod reports;
 #[cfg(test)]
 mod side_texts;
 #[cfg(test)]

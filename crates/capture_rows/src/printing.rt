@@ -1,8 +1,8 @@
 //! Each write fails in turn.
-use crate::run::RUN;
+use crate::run::{no_fault, sound};
 use cpu_feeders::NoGate;
 use frame_view::Memory;
-use run_building::{Faults, NO_FAULT, Row, difference_on_threads};
+use run_building::{Faults, Row, difference_on_threads};
 use std::alloc::Global;
 use std::str;
 use std::sync::Wait;
@@ -14,8 +14,9 @@ const TAKEN: usize = 50;
 
 /// The first bytes of the lines, as many as so many writes take.
 fn written(writes: usize) -> &'static str {
-    let count = writes.saturating_mul(TAKEN).min(RUN.printed.len());
-    str::from_utf8(&RUN.printed.as_bytes()[..count]).unwrap_or("")
+    let lines = sound().printed;
+    let count = writes.saturating_mul(TAKEN).min(lines.len());
+    str::from_utf8(&lines.as_bytes()[..count]).unwrap_or("")
 }
 
 /// What the capture differs in where a write fails after so many: it ends with status 6, its report
@@ -28,18 +29,18 @@ fn unwritten_difference<R: Threads + Wait + Sync>(
     let row = Row {
         faults: Faults {
             write: (writes as u64).saturating_add(1),
-            ..NO_FAULT
+            ..no_fault()
         },
         status: "6 WriteFault",
         printed: written(writes),
-        ..RUN
+        ..*sound()
     };
     difference_on_threads(rt, alloc, &row, &NoGate)
 }
 
 #[test]
 fn each_write_fails(rt: HostRuntime) -> Result<(), Fail> {
-    for writes in 0..RUN.printed.len().div_ceil(TAKEN) {
+    for writes in 0..sound().printed.len().div_ceil(TAKEN) {
         let found = unwritten_difference(&rt, rt.alloc(), writes)?;
         assert_eq!(rt; found.as_str(), "", "write {writes}");
     }

@@ -1,7 +1,11 @@
 //! A feeder, a reader and a worker that wait for each other, over a ring of two blocks.
 use crate::gates::ThreeSided;
+use frame_view::Memory;
 use run_building::{Capture, Kept, NO_FRAME, NOTHING, Row, Shape, difference_on_threads};
+use std::alloc::Global;
+use std::sync::Wait;
 use std::test::Fail;
+use std::thread::Threads;
 
 /// A frame that fills a block.
 const FULL: Shape<'static> = (b"", 3966);
@@ -40,14 +44,31 @@ static TEN_BLOCKS: Row<'static> = Row {
     ..NOTHING
 };
 
+/// The ten blocks. Their texts stand in the proof of this function alone.
+fn ten_blocks() -> &'static Row<'static> {
+    &TEN_BLOCKS
+}
+
+/// What the ten blocks differ in, with a dump or without, and what the gate counted.
+fn side_by_side<R: Threads + Wait + Sync>(
+    rt: &R,
+    alloc: Global,
+    dump: bool,
+) -> Result<(String, (u64, u64, u64)), Memory> {
+    let gate = ThreeSided::new();
+    let row = Row {
+        dump,
+        ..*ten_blocks()
+    };
+    let found = difference_on_threads(rt, alloc, &row, &gate)?;
+    Ok((found, gate.counts()))
+}
+
 #[test]
 fn a_worker_decodes_while_frames_come(rt: HostRuntime) -> Result<(), Fail> {
     for dump in [false, true] {
-        let gate = ThreeSided::new();
-        let row = Row { dump, ..TEN_BLOCKS };
-        let found = difference_on_threads(&rt, rt.alloc(), &row, &gate)?;
+        let (found, (called, released, given_up)) = side_by_side(&rt, rt.alloc(), dump)?;
         assert_eq!(rt; found.as_str(), "");
-        let (called, released, given_up) = gate.counts();
         assert_eq!(rt; called, 10);
         // The tenth block is open until the threads have ended.
         assert_eq!(rt; released, 9);

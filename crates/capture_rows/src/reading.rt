@@ -1,6 +1,6 @@
 //! Each fetch and each read fails in turn, those of the texts under `forward` too; then each file is
 //! read one byte at a time.
-use crate::run::{CAPTURE, NONE, ONE, RUN, SAVES, TWO, check_rows, check_with};
+use crate::run::{CAPTURE, NONE, ONE, SAVES, TWO, check_rows, check_with, no_fault, sound};
 use run_building::{Faults, NO_FAULT, Row};
 use std::alloc::Global;
 use std::process::Abort;
@@ -17,6 +17,11 @@ static UNREAD: Row<'static> = Row {
     absent: &SAVES,
     ..CAPTURE
 };
+
+/// The text that can't be read, as a row of which others are made.
+fn unread() -> &'static Row<'static> {
+    &UNREAD
+}
 
 /// The same of a `forward`.
 static UNREAD_FORWARD: Row<'static> = Row {
@@ -47,6 +52,11 @@ static READS: [Read; 11] = [
     ("read 2 of the moments", "t.txt", &[2]),
 ];
 
+/// The reads of the texts.
+fn reads() -> &'static [Read] {
+    &READS
+}
+
 /// Each of these reads fails in the run of a row.
 fn check_reads<R: Threads + Wait + Abort + Sync>(
     rt: &R,
@@ -59,7 +69,7 @@ fn check_reads<R: Threads + Wait + Abort + Sync>(
             file,
             piece: 20,
             reads,
-            ..NO_FAULT
+            ..no_fault()
         };
         check_with(rt, alloc, name, row, faults)?;
     }
@@ -68,12 +78,12 @@ fn check_reads<R: Threads + Wait + Abort + Sync>(
 
 #[test]
 fn each_read_of_each_text_fails(rt: HostRuntime) -> Result<(), Fail> {
-    check_reads(&rt, rt.alloc(), &UNREAD, &READS)
+    check_reads(&rt, rt.alloc(), unread(), reads())
 }
 
 #[test]
 fn each_read_of_each_text_of_a_forward_fails(rt: HostRuntime) -> Result<(), Fail> {
-    check_reads(&rt, rt.alloc(), &UNREAD_FORWARD, &READS)
+    check_reads(&rt, rt.alloc(), &UNREAD_FORWARD, reads())
 }
 
 /// The fetches of the texts.
@@ -90,9 +100,9 @@ fn check_fetches<R: Threads + Wait + Abort + Sync>(
     for (name, fetches) in all {
         let faults = Faults {
             fetches,
-            ..NO_FAULT
+            ..no_fault()
         };
-        check_with(rt, alloc, name, &UNREAD, faults)?;
+        check_with(rt, alloc, name, unread(), faults)?;
     }
     Ok(())
 }
@@ -233,9 +243,9 @@ fn check_pieces<R: Threads + Wait + Abort + Sync>(
         let faults = Faults {
             file,
             piece: 1,
-            ..NO_FAULT
+            ..no_fault()
         };
-        check_with(rt, alloc, file, &RUN, faults)?;
+        check_with(rt, alloc, file, sound(), faults)?;
     }
     Ok(())
 }

@@ -73,9 +73,14 @@ static TOGETHER: [(Command, &[Row]); 7] = [
     ),
 ];
 
+/// `TOGETHER`, whose values stand in the proof of this function alone.
+fn all_together() -> &'static [(Command, &'static [Row])] {
+    &TOGETHER
+}
+
 #[test]
 fn tests_lines_together_for_a_command(rt: HostRuntime) -> Result<(), Memory> {
-    for (command, rows) in &TOGETHER {
+    for (command, rows) in all_together() {
         check_rows(&rt, rt.alloc(), Reading::Added(*command), rows)?;
     }
     Ok(())
@@ -89,7 +94,7 @@ static WITHOUT_CPU: [Row; 1] = [(
 
 #[test]
 fn misses_a_cpu_for_each_command(rt: HostRuntime) -> Result<(), Memory> {
-    for (command, _) in &TOGETHER {
+    for (command, _) in all_together() {
         check_rows(&rt, rt.alloc(), Reading::Setup(*command), &WITHOUT_CPU)?;
     }
     Ok(())

@@ -1,6 +1,8 @@
 //! A capture on threads without a fault, of which nothing hangs on which thread goes first.
 use cpu_feeders::NoGate;
-use run_building::{Capture, Faults, Kept, NO_FRAME, NOTHING, Row, Shape, difference_on_threads};
+use run_building::{
+    Capture, Faults, Kept, NO_FAULT, NO_FRAME, NOTHING, Row, Shape, difference_on_threads,
+};
 use std::alloc::Global;
 use std::process::Abort;
 use std::sync::Wait;
@@ -59,8 +61,18 @@ pub(crate) const CAPTURE: Row<'static> = Row {
     ..NOTHING
 };
 
-/// The same, of which other rows are made while the tests run.
-pub(crate) static RUN: Row<'static> = CAPTURE;
+static RUN: Row<'static> = CAPTURE;
+
+/// The same, of which other rows are made while the tests run. Its texts stand in the proof of this
+/// function alone.
+pub(crate) fn sound() -> &'static Row<'static> {
+    &RUN
+}
+
+/// No call fails, and every file is read at once.
+pub(crate) fn no_fault() -> Faults<'static> {
+    NO_FAULT
+}
 
 /// The files that it saves, in order.
 pub(crate) const SAVES: [&str; 4] = ["out.0.pcap", "out.0.blk", "out.1.pcap", "out.1.blk"];
