@@ -1,6 +1,6 @@
 use Rattle.std.proofs.Common.{◌≡◌, ◌≤◌, false, None}
 use Rattle.tp_layout.specs.Requests.{numbers_of}
-use Rattle.v2_tests.proofs.threads.read_all.Given as goal
+use Rattle.end_tests.proofs.threads.read_all.Given as goal
 
 -- each look took a slot at most, and no slot is in hand
 abbrev pub invariant-loop-look : goal.invariant-loop-look

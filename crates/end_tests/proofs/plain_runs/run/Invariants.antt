@@ -1,7 +1,7 @@
 use Rattle.std.proofs.Common.{◌≡◌, ◌≤◌, false, None, length}
 use Rattle.ring_words.specs.PlainRings.{has_block}
 use Rattle.tp_layout.specs.Requests.{numbers_of}
-use Rattle.v2_tests.proofs.plain_runs.run.Given as goal
+use Rattle.end_tests.proofs.plain_runs.run.Given as goal
 
 -- each act made a note at most and read a slot at most, and no slot is in hand
 abbrev pub invariant-loop-act : goal.invariant-loop-act

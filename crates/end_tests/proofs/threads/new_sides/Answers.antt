@@ -4,8 +4,8 @@ use Rattle.ring_words.specs.TableEnds.{Feeding}
 use Rattle.slot_layout.specs.SlotShapes.{zero_slot}
 use Rattle.slot_layout.proofs.SlotBounds.{slot_bounds}
 use Rattle.tp_layout.specs.Requests.{numbers_of}
-use Rattle.v2_tests.proofs.AllAlike.{one_kind}
-use Rattle.v2_tests.proofs.threads.new_sides.Goals as goal
+use Rattle.end_tests.proofs.AllAlike.{one_kind}
+use Rattle.end_tests.proofs.threads.new_sides.Goals as goal
 
 pub table_ring-requires : goal.table_ring-requires
 table_ring-requires c =

@@ -4,8 +4,8 @@ use Rattle.ring_words.specs.PlainRings.{PlainState}
 use Rattle.slot_layout.specs.SlotShapes.{zero_slot}
 use Rattle.slot_layout.proofs.SlotBounds.{slot_bounds}
 use Rattle.tp_layout.specs.Requests.{numbers_of}
-use Rattle.v2_tests.proofs.AllAlike.{one_kind}
-use Rattle.v2_tests.proofs.ring_calls.new_ring.Goals as goal
+use Rattle.end_tests.proofs.AllAlike.{one_kind}
+use Rattle.end_tests.proofs.ring_calls.new_ring.Goals as goal
 
 pub new-requires : goal.new-requires
 new-requires c =

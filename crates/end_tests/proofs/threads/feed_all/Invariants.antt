@@ -1,5 +1,5 @@
 use Rattle.std.proofs.Common.{◌≡◌, ◌≤◌, length}
-use Rattle.v2_tests.proofs.threads.feed_all.Given as goal
+use Rattle.end_tests.proofs.threads.feed_all.Given as goal
 
 -- each look noted a put at most
 abbrev pub invariant-loop-look : goal.invariant-loop-look
