@@ -351,6 +351,7 @@ impl Reader {
     }
 
     /// Takes in what a block says, and gives the place after it.
+    #[tactic(auto, using(crate::proofs::Sounds::extends_same, crate::proofs::Sounds::extends_more))]
     fn advance(
         self,
         cursor: Cursor,

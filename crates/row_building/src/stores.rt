@@ -50,23 +50,33 @@ fn put_texts(alloc: Global, files: &mut MemStore, row: &Row<'_>) -> Result<(), M
     }
 }
 
-/// The store of a row.
-pub fn store(alloc: Global, row: &Row<'_>) -> Result<MemStore, Memory> {
-    let fetches = numbers(alloc, row.faults.fetches)?;
-    let saves = numbers(alloc, row.faults.saves)?;
-    let mut files = MemStore::new(alloc, fetches, saves);
-    put_texts(alloc, &mut files, row)?;
+/// Puts the captures of a row into a store.
+fn put_captures(alloc: Global, files: &mut MemStore, row: &Row<'_>) -> Result<(), Memory> {
     for capture in row.captures {
         let bytes = capture_bytes(alloc, *capture)?;
-        put(alloc, &mut files, row, capture.name, bytes.as_slice())?;
+        put(alloc, files, row, capture.name, bytes.as_slice())?;
     }
+    Ok(())
+}
+
+/// The store of a row, without its files.
+fn empty_store(alloc: Global, row: &Row<'_>) -> Result<MemStore, Memory> {
+    let fetches = numbers(alloc, row.faults.fetches)?;
+    let saves = numbers(alloc, row.faults.saves)?;
+    Ok(MemStore::new(alloc, fetches, saves))
+}
+
+/// The store of a row.
+pub fn store(alloc: Global, row: &Row<'_>) -> Result<MemStore, Memory> {
+    let mut files = empty_store(alloc, row)?;
+    put_texts(alloc, &mut files, row)?;
+    put_captures(alloc, &mut files, row)?;
     Ok(files)
 }
 
-/// The same files in a store that has no fault.
-pub fn sure_store(alloc: Global, row: &Row<'_>) -> Result<SureStore, Memory> {
+/// Puts the files of a row into a store that has no fault.
+fn put_sure(alloc: Global, files: &mut SureStore, row: &Row<'_>) -> Result<(), Memory> {
     let setup = setup_text(alloc, row)?;
-    let mut files = SureStore::new(alloc);
     files.put(b"conf", setup.as_bytes())?;
     files.put(b"f.ddd", row.filter.as_bytes())?;
     files.put(b"sched", row.schedule.as_bytes())?;
@@ -74,5 +84,12 @@ pub fn sure_store(alloc: Global, row: &Row<'_>) -> Result<SureStore, Memory> {
         let bytes = capture_bytes(alloc, *capture)?;
         files.put(capture.name.as_bytes(), bytes.as_slice())?;
     }
+    Ok(())
+}
+
+/// The same files in a store that has no fault.
+pub fn sure_store(alloc: Global, row: &Row<'_>) -> Result<SureStore, Memory> {
+    let mut files = SureStore::new(alloc);
+    put_sure(alloc, &mut files, row)?;
     Ok(files)
 }

@@ -5,7 +5,7 @@ ghost use Rattle.fanout_group.specs.Plans.{AreFlags};
 ghost use Rattle.tp_layout.specs.Requests.{answer_of};
 ghost use Rattle.setup_text.specs.Answers.{IsOnlyWant, IsRight, is_setup_want, is_want, setup_memory};
 ghost use Rattle.setup_text.specs.Sound.{IsSetup};
-ghost use Rattle.setup_text.specs.Setups.{count_of, draft_of, flags_of, group_fault, group_of, missing, request_fault, request_of, seed_of, setup_after, setup_of};
+ghost use Rattle.setup_text.specs.Setups.{count_of, draft_of, fault_after, flags_of, group_fault, group_of, missing, request_fault, request_of, seed_of, setup_after, setup_from, setup_of};
 ghost use Rattle.setup_text.specs.declared.commands.Command.TheVariants.{Make};
 
 use crate::drafts::Draft;
@@ -113,17 +113,37 @@ fn at_line(number: u32, kind: SetupKind) -> SetupError
     }
 }
 
-/// The setup that lines without a fault say.
+/// The setup that lines without a fault each say, or what is wrong with them together.
 #[tactic(auto, unfolding(crate::specs::Setups::setup_after))]
 fn complete(alloc: Global, draft: Draft, command: Command) -> Result<Setup, SetupKind>
     ensures { IsRight is_want result (setup_after command draft) }
 {
+    let (shape, plan) = accepted(&draft, command)?;
+    Ok(setup_from(alloc, draft, shape, plan)?)
+}
+
+/// The ring's shape and the group that lines ask for, or what is wrong with them together.
+fn accepted(draft: &Draft, command: Command) -> Result<(Shape, Plan), SetupKind>
+    ensures fault { IfErr result (λ kind. fault_after command draft.now ≡ Some kind) }
+    ensures none { IfOk result (λ both. fault_after command draft.now ≡ None) }
+    ensures shape { IfOk result (λ both. both.0 ≡ request_of draft.now) }
+    ensures plan { IfOk result (λ both. both.1 ≡ group_of draft.now) }
+{
     if let Some(needed) = draft.missing(command) {
         return Err(SetupKind::Missing(needed));
     }
-    let request = draft.request();
-    let shape = shape_of(&request, command)?;
+    let shape = shape_of(&draft.request(), command)?;
     let plan = draft.plan()?;
+    Ok((shape, plan))
+}
+
+/// The setup of lines that have no fault, with the ring's shape and the group that they ask for.
+fn setup_from(alloc: Global, draft: Draft, shape: Shape, plan: Plan) -> Result<Setup, Memory>
+    requires shape { shape ≡ request_of draft }
+    requires plan { plan ≡ group_of draft }
+    ensures { IfOk result (λ setup. setup ≡ setup_from draft) }
+{
+    let request = draft.request();
     let (seed, count) = (draft.seed(), draft.count());
     let workers = draft.workers.unwrap_or(0);
     let prefix = prefix_of(alloc, draft.out)?;

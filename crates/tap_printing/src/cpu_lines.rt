@@ -2,6 +2,7 @@
 ghost use Rattle.std.specs.Prelude.{◌≡◌, ◌++◌, IfOk, OnOk, string_bytes};
 ghost use Rattle.tap_printing.specs.Lines.{arrivals_in, cpu_line, cpu_lines, damage_text, end_text, filtered_in};
 
+use crate::pushing::push_line;
 use capture_file::{CaptureError, CpuEnd};
 use fanout_group::CpuLog;
 use frame_view::Memory;
@@ -12,8 +13,7 @@ pub(crate) fn push_cpus(alloc: Global, text: &mut Vec<u8>, logs: &[CpuLog]) -> R
     ensures { OnOk result (text.new.items ≡ text.old.items ++ cpu_lines 0 logs.now) }
 {
     for (cpu, log) in logs.iter().enumerate() {
-        let line = cpu_line(alloc, cpu, log)?;
-        text.extend_from_slice(line.as_bytes())?;
+        push_line(text, cpu_line(alloc, cpu, log)?)?;
     }
     Ok(())
 }
@@ -47,12 +47,12 @@ fn damage_text(alloc: Global, error: CaptureError) -> Result<String, Memory>
     ensures { IfOk result (λ text. string_bytes text ≡ damage_text error) }
 {
     let text = match error {
-        CaptureError::BadMagic => format!(in alloc; "bad_magic 0")?,
-        CaptureError::BadVersion => format!(in alloc; "bad_version 0")?,
-        CaptureError::BadLink(_) => format!(in alloc; "bad_link 0")?,
+        CaptureError::BadMagic => String::from_str(alloc, "bad_magic 0")?,
+        CaptureError::BadVersion => String::from_str(alloc, "bad_version 0")?,
+        CaptureError::BadLink(_) => String::from_str(alloc, "bad_link 0")?,
         CaptureError::BadLength(place) => format!(in alloc; "bad_length {place}")?,
         CaptureError::Truncated(place) => format!(in alloc; "truncated {place}")?,
-        CaptureError::TooLarge => format!(in alloc; "too_large 33554432")?,
+        CaptureError::TooLarge => String::from_str(alloc, "too_large 33554432")?,
         CaptureError::BadInterface(place) => format!(in alloc; "bad_interface {place}")?,
         CaptureError::Memory => String::new(alloc),
     };

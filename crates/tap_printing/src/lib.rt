@@ -4,6 +4,7 @@
 
 mod cpu_lines;
 mod member_lines;
+mod pushing;
 mod refusals;
 mod ring_kind;
 mod sent_lines;

@@ -1,11 +1,12 @@
 //! The lines of members, and the sums over them.
-ghost use Rattle.std.specs.Prelude.{◌≡◌, ◌++◌, ◌≤◌, IfOk, OnOk, flat_map, option_copied, string_bytes};
+ghost use Rattle.std.specs.Prelude.{◌≡◌, ◌+◌, ◌-◌, ◌^◌, ◌<◌, ◌++◌, ◌≤◌, IfOk, OnOk, flat_map, option_copied, string_bytes};
 ghost use Rattle.ring_model.specs.Ring.{AtEachSize};
 ghost use Rattle.tap_printing.specs.Lines.{count_line, drops_in, forward_line, forward_text};
 ghost use Rattle.tap_printing.specs.Lines.{kept_in, lines_at, member_line, member_lines};
 ghost use Rattle.tap_printing.specs.Lines.{member_text, stats_text};
 ghost use Rattle.tap_printing.specs.Statistics.{seen_by, totals_by};
 
+use crate::pushing::push_line;
 use crate::ring_kind::RingKind;
 use frame_view::Memory;
 use ring_model::{Stats, Tally, tally_notes};
@@ -17,6 +18,20 @@ use std::alloc::Global;
 pub(crate) struct Passed {
     pub(crate) kept: u128,
     pub(crate) drops: u128,
+}
+
+impl Passed {
+    /// Counts the packets of a member too.
+    fn add(&mut self, stats: Stats)
+        requires fewer { stats.drops ≤ stats.packets }
+        requires small_kept { self.old.kept < 2 ^ 127 }
+        requires small_drops { self.old.drops < 2 ^ 127 }
+        ensures kept { self.new.kept ≡ self.old.kept + (stats.packets - stats.drops) }
+        ensures drops { self.new.drops ≡ self.old.drops + stats.drops }
+    {
+        self.kept += u128::from(stats.packets - stats.drops);
+        self.drops += u128::from(stats.drops);
+    }
 }
 
 /// Appends the lines of members, from 0 up, and says how many packets they kept and dropped. Where
@@ -42,8 +57,7 @@ pub(crate) fn push_members(
     let mut passed = Passed { kept: 0, drops: 0 };
     for (member, report) in members.iter().enumerate() {
         let stats = push_lines(alloc, text, kind, tov, member, report, forwards)?;
-        passed.kept += u128::from(stats.packets - stats.drops);
-        passed.drops += u128::from(stats.drops);
+        passed.add(stats);
     }
     Ok(passed)
 }
@@ -89,8 +103,7 @@ fn push_member(
 {
     let tally = tally_notes(alloc, tov, &report.notes)?;
     let totals = kind.seen(tally.totals);
-    let line = member_line(alloc, member, totals, report.blocks)?;
-    text.extend_from_slice(line.as_bytes())?;
+    push_line(text, member_line(alloc, member, totals, report.blocks)?)?;
     push_counts(alloc, text, kind, member, tally.counts.as_slice())?;
     Ok(totals)
 }
@@ -111,8 +124,7 @@ fn push_forward(
     };
     let (sent, skipped) = (forwards.sent.get(member), forwards.skipped.get(member));
     if let (Some(sent), Some(skipped)) = (sent, skipped) {
-        let line = forward_line(alloc, member, sent.len(), *skipped)?;
-        text.extend_from_slice(line.as_bytes())?;
+        push_line(text, forward_line(alloc, member, sent.len(), *skipped)?)?;
     }
     Ok(())
 }
@@ -138,8 +150,7 @@ fn push_counts(
         ++ flat_map (λ stats. count_line member (seen_by kind stats)) counts.now) }
 {
     for stats in counts {
-        let line = count_line(alloc, member, kind.seen(*stats))?;
-        text.extend_from_slice(line.as_bytes())?;
+        push_line(text, count_line(alloc, member, kind.seen(*stats))?)?;
     }
     Ok(())
 }

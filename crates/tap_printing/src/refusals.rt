@@ -22,14 +22,12 @@ pub fn setup_refusal(alloc: Global, error: &SetupError) -> Result<String, Memory
 fn setup_kind_text(alloc: Global, kind: SetupKind) -> Result<String, Memory>
     ensures { IfOk result (λ text. string_bytes text ≡ setup_kind_text kind) }
 {
-    let word = kind.word();
-    let text = match kind {
-        SetupKind::Missing(needed) => format!(in alloc; "missing {}", needed.word())?,
-        SetupKind::Request(error) => format!(in alloc; "request {}", error.word())?,
-        SetupKind::Group(error) => format!(in alloc; "group {}", error.word())?,
-        _ => format!(in alloc; "{word}")?,
-    };
-    Ok(text)
+    match kind {
+        SetupKind::Missing(needed) => Ok(format!(in alloc; "missing {}", needed.word())?),
+        SetupKind::Request(error) => Ok(format!(in alloc; "request {}", error.word())?),
+        SetupKind::Group(error) => Ok(format!(in alloc; "group {}", error.word())?),
+        _ => Ok(String::from_str(alloc, kind.word())?),
+    }
 }
 
 /// The line that says why a filter, moments or a schedule are refused, ended by a line feed. The

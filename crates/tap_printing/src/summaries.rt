@@ -5,6 +5,7 @@ ghost use Rattle.tap_printing.specs.Lines.{summary_of, total_line};
 
 use crate::cpu_lines::{arrivals_in, filtered_in, push_cpus};
 use crate::member_lines::{Passed, push_members};
+use crate::pushing::push_line;
 use crate::ring_kind::RingKind;
 use frame_view::{ByteList, Memory};
 use setup_text::{Forwards, RunReport};
@@ -30,8 +31,10 @@ pub fn summary(
     push_cpus(alloc, &mut text, cpus)?;
     let members = report.members.as_slice();
     let passed = push_members(alloc, &mut text, kind, tov, members, forwards)?;
-    let line = total_line(alloc, arrivals_in(cpus), filtered_in(cpus), passed)?;
-    text.extend_from_slice(line.as_bytes())?;
+    push_line(
+        &mut text,
+        total_line(alloc, arrivals_in(cpus), filtered_in(cpus), passed)?,
+    )?;
     Ok(ByteList::from_vec(text))
 }
 

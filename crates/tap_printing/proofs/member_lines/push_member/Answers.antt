@@ -26,8 +26,8 @@ returns-clause-lines c = λ room many.
     let each : Stats → List ℕ = λ stats. count_line c.args.member (seen_by c.args.kind stats) in
     c.in_ok-push_counts.ensures
     ∙ ap (λ (lines : List ℕ). lines ++ flat_map each c.as_slice.result.now)
-    (c.in_ok-extend_from_slice.ensures.items
-    ∙ ap (λ (line : List ℕ). before ++ line) (c.as_bytes.ensures.value ∙ c.in_ok-line.ensures
+    (c.in_ok-push_line.ensures
+    ∙ ap (λ (line : List ℕ). before ++ line) (c.in_ok-member_line.ensures
     ∙ ap (λ (stats : Stats). member_line c.args.member stats report.blocks)
     (returns-clause-stats c room many)))
     ∙ ap (λ (lines : List ℕ). (before ++ own) ++ lines)
