@@ -13,7 +13,7 @@ use ring_model::{Offer, need};
 use tp_layout::{Block, Closing, Shape, close_header, write_header, write_packet};
 
 /// A block that packets are written into.
-#[derive(Debug, Drop)]
+#[derive(Drop)]
 pub(crate) struct OpenBlock {
     block: Block,
     /// What its close will write, but for the status. Its `length` is the place of the next packet, in bytes.

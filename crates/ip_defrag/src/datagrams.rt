@@ -19,7 +19,7 @@ use std::marker::Model;
 const TOO_OLD: u32 = 30;
 
 /// The held fragments of one datagram. Contracts see it as a group of frames.
-#[derive(Debug, Drop)]
+#[derive(Drop)]
 pub(crate) struct Datagram {
     /// The name that its fragments have.
     name: Name,
@@ -46,7 +46,7 @@ impl Model for Datagram {
 }
 
 /// What a new fragment is to those that are held of its datagram.
-#[derive(Clone, Copy, Debug, PartialEq, Eq)]
+#[derive(Clone, Copy, PartialEq, Eq)]
 pub(crate) enum Judgement {
     /// It is a copy of one of them.
     Copy,

@@ -7,7 +7,7 @@ use frame_view::{Frame, Headers, V4Part, view};
 use std::marker::Model;
 
 /// A frame that takes part in reassembly. Contracts see it as that frame.
-#[derive(Debug, Drop)]
+#[derive(Drop)]
 pub(crate) struct Fragment {
     /// The frame.
     frame: Frame,

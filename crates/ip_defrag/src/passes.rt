@@ -19,7 +19,7 @@ use std::alloc::Global;
 const MOST_NAMES: usize = 64;
 
 /// What came of a fragment.
-#[derive(Debug, Drop)]
+#[derive(Drop)]
 struct Answer {
     /// The datagram's frame, where the fragment completed it.
     whole: Option<Frame>,

@@ -7,7 +7,7 @@ use std::alloc::Global;
 use tp_layout::PacketWalk;
 
 /// What is kept of a block beside its packets.
-#[derive(Clone, Copy, Debug)]
+#[derive(Clone, Copy)]
 pub(crate) struct Mark {
     /// Its number.
     pub(crate) number: u64,
@@ -18,7 +18,7 @@ pub(crate) struct Mark {
 }
 
 /// What was read.
-#[derive(Debug, Drop)]
+#[derive(Drop)]
 pub(crate) struct Pile {
     /// The blocks, in order.
     pub(crate) marks: Vec<Mark>,

@@ -83,7 +83,7 @@ fn plus(one: Stats, other: Stats) -> Stats
 }
 
 /// The open block of a ring.
-#[derive(Clone, Copy, Debug, PartialEq, Eq)]
+#[derive(Clone, Copy, PartialEq, Eq)]
 enum Open {
     /// There is none.
     Frozen,
@@ -105,7 +105,7 @@ fn with_packet(block: Open) -> Open
 }
 
 /// What notes leave of a ring, as far as its statistics hang on it.
-#[derive(Clone, Copy, Debug)]
+#[derive(Clone, Copy)]
 struct Ledger {
     open: Open,
     /// The moment that the last tick reported, in milliseconds.

@@ -26,7 +26,7 @@ const LONGEST_TIME_OUT: u32 = 60_000;
 const MOST_WORKERS: u32 = 8;
 
 /// What the lines of a setup say so far; `None` and `false` where no line says it.
-#[derive(Debug, Drop)]
+#[derive(Drop)]
 pub(crate) struct Draft {
     /// The size of a block in bytes.
     pub(crate) block_size: Option<u32>,

@@ -18,7 +18,7 @@ use tap_outside::Store;
 use tx_ring::{Transmitted, transmit_frames};
 
 /// What became of a capture that was sent.
-#[derive(Debug, Drop)]
+#[derive(Drop)]
 pub(crate) struct Sending {
     /// The number of the frames of the capture.
     pub frames: usize,

@@ -14,7 +14,7 @@ use setup_text::{Forwards, MemberReport};
 use std::alloc::Global;
 
 /// Numbers of packets over several members.
-#[derive(Clone, Copy, Debug)]
+#[derive(Clone, Copy)]
 pub(crate) struct Passed {
     pub(crate) kept: u128,
     pub(crate) drops: u128,

@@ -25,7 +25,7 @@ pub struct Transmitted {
 }
 
 /// A run under way.
-#[derive(Debug, Drop)]
+#[derive(Drop)]
 pub(crate) struct Transmitter {
     /// The ring.
     pub(crate) ring: TxRing,

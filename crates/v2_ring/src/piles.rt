@@ -4,7 +4,7 @@ ghost use Rattle.std.specs.Prelude.{◌≡◌, ◌+◌, ◌<◌, ◌^◌, [], �
 use frame_view::{Memory, Packet};
 
 /// What was read.
-#[derive(Debug, Drop)]
+#[derive(Drop)]
 pub(crate) struct SlotPile {
     /// The packets, in order.
     pub(crate) walked: Vec<Packet>,
