@@ -18,7 +18,7 @@ const NANOSECONDS: u32 = 0xa1b2_3c4d;
 const ETHERNET: u32 = 1;
 
 /// The order of the bytes of a number.
-#[derive(Clone, Copy, Debug, PartialEq, Eq)]
+#[derive(Clone, Copy, Debug)]
 pub(crate) enum Order {
     /// The lowest byte first.
     Little,
@@ -55,7 +55,7 @@ impl Order {
 }
 
 /// How the numbers of a capture are read.
-#[derive(Clone, Copy, Debug, PartialEq, Eq)]
+#[derive(Clone, Copy, Debug)]
 pub(crate) struct Format {
     /// The byte order of all fields.
     pub order: Order,

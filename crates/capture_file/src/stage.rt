@@ -6,7 +6,7 @@ use crate::CaptureError;
 use crate::format::Format;
 
 /// What comes next in a capture.
-#[derive(Clone, Copy, Debug, PartialEq, Eq)]
+#[derive(Clone, Copy, Debug)]
 pub(crate) enum Stage {
     /// Its header.
     Header,

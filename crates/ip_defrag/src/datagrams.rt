@@ -46,7 +46,7 @@ impl Model for Datagram {
 }
 
 /// What a new fragment is to those that are held of its datagram.
-#[derive(Clone, Copy, PartialEq, Eq)]
+#[derive(Clone, Copy)]
 pub(crate) enum Judgement {
     /// It is a copy of one of them.
     Copy,

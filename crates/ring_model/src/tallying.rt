@@ -83,7 +83,7 @@ fn plus(one: Stats, other: Stats) -> Stats
 }
 
 /// The open block of a ring.
-#[derive(Clone, Copy, PartialEq, Eq)]
+#[derive(Clone, Copy)]
 enum Open {
     /// There is none.
     Frozen,

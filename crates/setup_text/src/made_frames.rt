@@ -9,7 +9,7 @@ use crate::values::{any_number, count_to};
 const MOST_MADE: u32 = 20_000;
 
 /// What a setup says of the frames that are made.
-#[derive(Clone, Copy, PartialEq, Eq)]
+#[derive(Clone, Copy)]
 pub(crate) struct MadeFrames {
     /// The number that they are made from.
     pub(crate) seed: u32,

@@ -116,7 +116,7 @@ fn line_of(clock: u64, text: &[u8], cpus: u32, members: u32) -> Result<Line, Tex
 }
 
 /// A word with which a line of a schedule begins.
-#[derive(Clone, Copy, PartialEq, Eq)]
+#[derive(Clone, Copy)]
 enum Verb {
     /// A CPU gets its next frame.
     Feed,

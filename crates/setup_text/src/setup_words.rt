@@ -3,7 +3,7 @@ ghost use Rattle.std.specs.Prelude.{◌≡◌};
 ghost use Rattle.setup_text.specs.SetupWords.{name_of, word_named};
 
 /// A word with which a line of a setup begins. What it is worth is said at the field of `Setup`.
-#[derive(Clone, Copy, PartialEq, Eq)]
+#[derive(Clone, Copy)]
 pub(crate) enum SetupWord {
     /// The size of a block.
     BlockSize,

@@ -16,7 +16,7 @@ use crate::{LayoutError, LayoutKind, Shape};
 use ring_model::need;
 
 /// Where the packets of a block may end, in bytes.
-#[derive(Clone, Copy, PartialEq, Eq)]
+#[derive(Clone, Copy)]
 pub(crate) enum Ends {
     /// At most there.
     UpTo(u32),
