@@ -18,7 +18,7 @@ mod workers;
 
 pub use feeder::{Feeder, run_feeder};
 pub use gate::{Gate, NoGate, Point};
-pub use pausing::pause;
+pub use pausing::Idler;
 pub use takers::{Workers, run_takers};
 pub use timer::{Timer, run_timer};
 pub use walker::{Walker, run_walker};
