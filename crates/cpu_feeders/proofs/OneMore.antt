@@ -1,5 +1,5 @@
 -- Lists that loops make an item at a time.
-use Rattle.std.proofs.Common.{◌≡◌, ℕ, ◌+◌, List, [], ◌∷◌, ◌++◌, length, length-append, append_assoc, append-nil, refl, sym, ap, ◌∙◌, subst, arith}
+use Rattle.std.proofs.Common.{◌≡◌, ℕ, ◌+◌, ◌<◌, List, [], ◌∷◌, ◌++◌, length, length-append, append_assoc, append-nil, refl, sym, ap, ◌∙◌, subst, arith}
 use Rattle.std.specs.Prelude.{map}
 use Rattle.std.specs.List.{AllByRecursion, AllZip}
 use Rattle.std.proofs.lemmas.List.{map-append}
@@ -97,6 +97,9 @@ module _ {A B : Type 0} where
       let less = length-append after (x ∷ []) in
       let sum = length-append done (y ∷ []) in
       omega (arith, many, one_less, one_more, less, sum)
+
+  pub some_left : (ys : List B) (rest after : List A) (x : A) → rest ≡ x ∷ after → length ys ≡ length rest → 0 < length ys
+  some_left ys rest after x next same = let one = ap (λ (zs : List A). length zs) next in omega (arith, same, one)
 
   pub both_shorter : (xs less : List A) (ys fewer : List B) (x : A) (y : B) → xs ≡ x ∷ less → ys ≡ y ∷ fewer → length xs ≡ length ys → length less ≡ length fewer
   both_shorter xs less ys fewer x y xs_are ys_are same =

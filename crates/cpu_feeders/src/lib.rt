@@ -2,6 +2,7 @@
 #![tactic(auto)]
 
 mod closed_members;
+mod crews;
 mod ended_workers;
 mod feeder;
 mod fresh_workers;
@@ -10,6 +11,7 @@ mod open_groups;
 mod pausing;
 mod stands;
 mod takers;
+mod taking;
 mod timer;
 mod walker;
 mod worker;

@@ -1,4 +1,4 @@
-use Rattle.std.proofs.Common.{◌≡◌, ◌++◌, ℕ, false, List, length, sym, ap, ◌∙◌, subst, arith, append-nil}
+use Rattle.std.proofs.Common.{◌≡◌, ◌++◌, ℕ, false, List, length, refl, sym, ap, ◌∙◌, subst, arith, append-nil}
 use Rattle.std.specs.Prelude.{map, option_map}
 use Rattle.std.specs.List.{AllByRecursion}
 use Rattle.member_turns.specs.Seats.{Seat}
@@ -20,28 +20,27 @@ loop-source-preserved g c =
     let rest = c.loop-source.source-iterator.rest.items in
     let after = c.next.new.self.rest.items in
     let next = c.in-Some.ensures.steps.0 in
-    let stands = c.in-Some-pop_front.ensures.items in
-    let seat = c.in-Some-pop.ensures.items in
+    let feeder = c.in_ok-fresh_feeder.field-0 in
+    let users = c.fresh_feeder.new.users.items in
+    let seats = c.fresh_feeder.new.seats.items in
     let pushed = c.in_ok-push.ensures.items in
     let fresh = c.in_ok-fresh_feeder.ensures in
     let seen = option_map {T = g.row.S.Denot} {U = SourceSeen} g.S.Source.seen in
     let counted : c.len-number.result ≡ length c.loop-source.feeders.items = c.len-number.ensures ∙ c.loop-source.feeders.ok.0 in
     record {
-      count = as_many _ made now rest after c.in-Some.source c.in_ok-fresh_feeder.field-0 next pushed inv.count;
-      users = both_shorter c.loop-source.users.items c.pop_front.new.self.items rest after c.in-Some-pop_front.stands c.in-Some.source stands next inv.users;
-      left = both_shorter_at_end c.loop-source.seats.items c.pop.new.self.items rest after c.in-Some-pop.seat c.in-Some.source seat next inv.left;
+      count = as_many _ made now rest after c.in-Some.source feeder next pushed inv.count;
+      users = both_shorter c.loop-source.users.items users rest after feeder.stands.items c.in-Some.source fresh.stands next inv.users;
+      left = both_shorter_at_end c.loop-source.seats.items seats rest after feeder.seat c.in-Some.source fresh.seat next inv.left;
       feeds = next_feed seen c.args.plan made now rest after _ c.in-Some.source
-          c.in_ok-fresh_feeder.field-0 next pushed (fresh.feed ∙ ap (λ (n : ℕ). first_feed c.args.plan n (seen c.in-Some.source)) counted) inv.feeds;
-      stands = next_item stands_in made now c.loop-source.users.items c.pop_front.new.self.items _ c.in_ok-fresh_feeder.field-0 c.in-Some-pop_front.stands
-          stands pushed fresh.stands inv.stands;
-      full = all_more (λ (f : Feeder g.row.S.Denot). f.full ≡ false) made now c.in_ok-fresh_feeder.field-0 pushed inv.full fresh.full;
+          feeder next pushed (fresh.feed ∙ ap (λ (n : ℕ). first_feed c.args.plan n (seen c.in-Some.source)) counted) inv.feeds;
+      stands = next_item stands_in made now c.loop-source.users.items users _ feeder feeder.stands.items fresh.stands pushed refl inv.stands;
+      full = all_more (λ (f : Feeder g.row.S.Denot). f.full ≡ false) made now feeder pushed inv.full fresh.full;
       seats = λ dealer own.
           let both = inv.seats dealer own in
-          let parts = all_but (IsFreshSeat dealer) c.pop.new.self.items c.in-Some-pop.seat
-          (subst (λ (ss : List SeatValue). AllByRecursion (IsFreshSeat dealer) ss) seat both.0) in (
+          let parts = all_but (IsFreshSeat dealer) seats feeder.seat
+          (subst (λ (ss : List SeatValue). AllByRecursion (IsFreshSeat dealer) ss) fresh.seat both.0) in (
             parts.0,
-            all_more (λ (f : Feeder g.row.S.Denot). IsFreshSeat dealer f.seat) made now c.in_ok-fresh_feeder.field-0 pushed both.1
-                (subst (λ (s : SeatValue). IsFreshSeat dealer s) (sym fresh.seat) parts.1),
+            all_more (λ (f : Feeder g.row.S.Denot). IsFreshSeat dealer f.seat) made now feeder pushed both.1 parts.1,
           );
     }
 

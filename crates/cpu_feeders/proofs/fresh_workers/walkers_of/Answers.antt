@@ -15,19 +15,19 @@ loop-taker-preserved g c =
     let rest = c.loop-taker.taker-iterator.rest.items in
     let after = c.next.new.self.rest.items in
     let next = c.in-Some.ensures.steps.0 in
-    let end = c.in-Some-pop_front.ensures.items in
-    let seat = c.in-Some-pop.ensures.items in
+    let end = c.first_of.ensures in
+    let seat = c.last_of.ensures in
     let pushed = c.in_ok-push.ensures.items in
     record {
       left = as_many _ made now rest after c.in-Some.taker _ next pushed inv.left;
-      ends_left = both_shorter c.loop-taker.ends.items c.pop_front.new.self.items rest after c.in-Some-pop_front.end c.in-Some.taker end next inv.ends_left;
-      count = as_many_at_end _ made now c.loop-taker.seats.items c.pop.new.self.items c.in-Some-pop.seat _ seat pushed inv.count;
+      ends_left = both_shorter c.loop-taker.ends.items c.first_of.new.list.items rest after c.first_of.result c.in-Some.taker end next inv.ends_left;
+      count = as_many_at_end _ made now c.loop-taker.seats.items c.last_of.new.list.items c.last_of.result _ seat pushed inv.count;
       takers = next_item taker_in made now rest after _ _ c.in-Some.taker next pushed refl inv.takers;
-      ends = next_item end_in made now c.loop-taker.ends.items c.pop_front.new.self.items _ _ c.in-Some-pop_front.end end pushed refl inv.ends;
+      ends = next_item end_in made now c.loop-taker.ends.items c.first_of.new.list.items _ _ c.first_of.result end pushed refl inv.ends;
       fresh = all_more (λ (w : Walker g.row.T.Denot). (w.released ≡ 0) × (w.full ≡ false)) made now _ pushed inv.fresh (refl, refl);
       seats = λ dealer own.
           let both = inv.seats dealer own in
-          let parts = all_but (IsFreshOf dealer) c.pop.new.self.items c.in-Some-pop.seat
+          let parts = all_but (IsFreshOf dealer) c.last_of.new.list.items c.last_of.result
           (subst (λ (ss : List SeatValue). AllByRecursion (IsFreshOf dealer) ss) seat both.0) in
           (parts.0, all_more (λ (w : Walker g.row.T.Denot). IsFreshOf dealer w.seat) made now _ pushed both.1 parts.1);
     }
