@@ -77,6 +77,10 @@ next_item {A = A} {B = B} f made now rest after all x y next now_is is h =
     ap (λ (xs : List A). map f xs ++ after) now_is ∙ ap (λ (ys : List B). ys ++ after) (map-append f made (x ∷ []))
     ∙ append_assoc (map f made) (f x ∷ []) after ∙ ap (λ (b : B). map f made ++ b ∷ after) is ∙ ap (λ (ys : List B). map f made ++ ys) (sym next) ∙ h
 
+-- all were made
+pub made_all : {A B : Type 0} (f : A → B) (made : List A) (rest all : List B) → rest ≡ [] → map f made ++ rest ≡ all → map f made ≡ all
+made_all {B = B} f made rest all none h = sym (append-nil (map f made)) ∙ ap (λ (ys : List B). map f made ++ ys) (sym none) ∙ h
+
 -- ---- how many items there are where one goes over
 
 module _ {A B : Type 0} where

@@ -1,15 +1,14 @@
-use Rattle.std.proofs.Common.{◌≡◌, ◌++◌, ℕ, false, List, length, refl, sym, ap, ◌∙◌, subst, arith, append-nil}
+use Rattle.std.proofs.Common.{◌≡◌, ◌<◌, ◌++◌, ℕ, false, List, Option, length, refl, sym, ap, ◌∙◌, subst, arith}
 use Rattle.std.specs.Prelude.{map, option_map}
 use Rattle.std.specs.List.{AllByRecursion}
-use Rattle.member_turns.specs.Seats.{Seat}
 use Rattle.tap_outside.specs.Seen.{SourceSeen}
 use Rattle.ticket_dealer.specs.Seats.{SeatValue}
 use Rattle.turn_lock.proofs.SeatLists.{all_but}
 use Rattle.cpu_feeders.specs.Feeds.{IsFreshSeat}
-use Rattle.cpu_feeders.specs.FreshWorkers.{first_feed}
+use Rattle.cpu_feeders.specs.FreshWorkers.{first_feed, first_feeds}
 use Rattle.cpu_feeders.specs.declared.feeder.Feeder.{Feeder}
-use Rattle.cpu_feeders.proofs.FedFeeders.{next_feed, stands_in}
-use Rattle.cpu_feeders.proofs.OneMore.{all_more, as_many, both_shorter, both_shorter_at_end, empty, next_item}
+use Rattle.cpu_feeders.proofs.FedFeeders.{feed_in, next_feed, stands_in}
+use Rattle.cpu_feeders.proofs.OneMore.{all_more, as_many, both_shorter, both_shorter_at_end, empty, made_all, next_item, some_left}
 use Rattle.cpu_feeders.proofs.fresh_workers.feeders_of.Goals as goal
 
 pub loop-source-preserved : goal.loop-source-preserved
@@ -44,12 +43,35 @@ loop-source-preserved g c =
           );
     }
 
+pub fresh_feeder-requires-clause-users : goal.fresh_feeder-requires-clause-users
+fresh_feeder-requires-clause-users g c =
+    some_left c.loop-source.users.items c.loop-source.source-iterator.rest.items c.next.new.self.rest.items c.in-Some.source c.in-Some.ensures.steps.0
+    c.loop-source.invariant.users
+
+pub fresh_feeder-requires-clause-seats : goal.fresh_feeder-requires-clause-seats
+fresh_feeder-requires-clause-seats g c =
+    some_left c.loop-source.seats.items c.loop-source.source-iterator.rest.items c.next.new.self.rest.items c.in-Some.source c.in-Some.ensures.steps.0
+    c.loop-source.invariant.left
+
+pub returns-clause-feeds : goal.returns-clause-feeds
+returns-clause-feeds g c =
+    let seen = option_map {T = g.row.S.Denot} {U = SourceSeen} g.S.Source.seen in
+    let rest = c.loop-source.source-iterator.rest in
+    let none = empty rest.items (sym rest.ok.0 ∙ c.in-None.ensures.steps.0) in
+    made_all feed_in c.loop-source.feeders.items (first_feeds c.args.plan (length c.loop-source.feeders.items) (map seen rest.items)) _
+    (ap (λ (some : List (Option g.row.S.Denot)). first_feeds c.args.plan (length c.loop-source.feeders.items) (map seen some)) none)
+    c.loop-source.invariant.feeds
+
 pub returns-clause-stands : goal.returns-clause-stands
 returns-clause-stands g c =
-    let count : length c.loop-source.source-iterator.rest.items ≡ 0 = sym c.loop-source.source-iterator.rest.ok.0 ∙ c.in-None.ensures.steps.0 in
+    let rest = c.loop-source.source-iterator.rest in
+    let count : length rest.items ≡ 0 = sym rest.ok.0 ∙ c.in-None.ensures.steps.0 in
     let users = c.loop-source.invariant.users in
-    let none = empty c.loop-source.users.items (omega (arith, users, count)) in
-    sym (append-nil _) ∙ ap (λ (us : List (List Seat)). map stands_in c.loop-source.feeders.items ++ us) (sym none) ∙ c.loop-source.invariant.stands
+    made_all stands_in c.loop-source.feeders.items c.loop-source.users.items _ (empty c.loop-source.users.items (omega (arith, users, count)))
+    c.loop-source.invariant.stands
+
+pub returns-clause-full : goal.returns-clause-full
+returns-clause-full g c = c.loop-source.invariant.full
 
 pub returns-clause-seats : goal.returns-clause-seats
 returns-clause-seats g c = λ dealer own. (c.loop-source.invariant.seats dealer own).1
