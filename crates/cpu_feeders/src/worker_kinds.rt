@@ -22,17 +22,6 @@ pub(crate) struct Parted<S: Source, T: Taker + Drop> {
     pub(crate) feeders: Vec<Feeder<S>>,
 }
 
-/// Whether a request of a worker for memory was refused.
-fn ran_out<S: Source, T: Taker + Drop>(worker: &Worker<S, T>) -> bool
-    ensures { result ≡ is_full worker.now }
-{
-    match worker {
-        Worker::Walks(walker) => walker.full,
-        Worker::Ticks(timer) => timer.full,
-        Worker::Feeds(feeder) => feeder.full,
-    }
-}
-
 impl<S: Source, T: Taker + Drop> Parted<S, T> {
     /// Puts a worker after those of its kind. The error is also that it ran out of memory.
     fn add(&mut self, worker: Worker<S, T>) -> Result<(), Memory>
@@ -44,16 +33,51 @@ impl<S: Source, T: Taker + Drop> Parted<S, T> {
         ensures feeders { OnOk result (self.new.feeders.items
             ≡ self.old.feeders.items ++ feeders_in (worker ∷ [])) }
     {
-        if ran_out(&worker) {
-            return Err(Memory);
-        }
         match worker {
-            Worker::Walks(walker) => self.walkers.push(walker)?,
-            Worker::Ticks(timer) => self.timers.push(timer)?,
-            Worker::Feeds(feeder) => self.feeders.push(feeder)?,
+            Worker::Walks(walker) => add_walker(&mut self.walkers, walker),
+            Worker::Ticks(timer) => add_timer(&mut self.timers, timer),
+            Worker::Feeds(feeder) => add_feeder(&mut self.feeders, feeder),
         }
-        Ok(())
     }
+}
+
+/// Puts a reader after others, unless it ran out of memory.
+fn add_walker<T: Taker + Drop>(
+    walkers: &mut Vec<Walker<T>>,
+    walker: Walker<T>,
+) -> Result<(), Memory>
+    ensures full { OnOk result (walker.full ≡ false) }
+    ensures walkers { OnOk result (walkers.new.items ≡ walkers.old.items ++ walker ∷ []) }
+{
+    if walker.full {
+        return Err(Memory);
+    }
+    walkers.push(walker)?;
+    Ok(())
+}
+
+/// Puts a timer after others, unless it ran out of memory.
+fn add_timer(timers: &mut Vec<Timer>, timer: Timer) -> Result<(), Memory>
+    ensures full { OnOk result (timer.full ≡ false) }
+    ensures timers { OnOk result (timers.new.items ≡ timers.old.items ++ timer ∷ []) }
+{
+    if timer.full {
+        return Err(Memory);
+    }
+    timers.push(timer)?;
+    Ok(())
+}
+
+/// Puts a feeder after others, unless it ran out of memory.
+fn add_feeder<S: Source>(feeders: &mut Vec<Feeder<S>>, feeder: Feeder<S>) -> Result<(), Memory>
+    ensures full { OnOk result (feeder.full ≡ false) }
+    ensures feeders { OnOk result (feeders.new.items ≡ feeders.old.items ++ feeder ∷ []) }
+{
+    if feeder.full {
+        return Err(Memory);
+    }
+    feeders.push(feeder)?;
+    Ok(())
 }
 
 /// Parts workers by their kinds. The error is also that one of them ran out of memory.

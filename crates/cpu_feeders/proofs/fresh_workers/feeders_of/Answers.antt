@@ -1,4 +1,4 @@
-use Rattle.std.proofs.Common.{◌≡◌, ◌<◌, ◌++◌, ℕ, false, List, Option, length, refl, sym, ap, ◌∙◌, subst, arith}
+use Rattle.std.proofs.Common.{◌≡◌, ℕ, [], false, List, Option, rules, length, refl, sym, ap, ◌∙◌, subst, arith}
 use Rattle.std.specs.Prelude.{map, option_map}
 use Rattle.std.specs.List.{AllByRecursion}
 use Rattle.tap_outside.specs.Seen.{SourceSeen}
@@ -10,6 +10,24 @@ use Rattle.cpu_feeders.specs.declared.feeder.Feeder.{Feeder}
 use Rattle.cpu_feeders.proofs.FedFeeders.{feed_in, next_feed, stands_in}
 use Rattle.cpu_feeders.proofs.OneMore.{all_more, as_many, both_shorter, both_shorter_at_end, empty, made_all, next_item, some_left}
 use Rattle.cpu_feeders.proofs.fresh_workers.feeders_of.Goals as goal
+
+pub loop-source-init : goal.loop-source-init
+loop-source-init g c =
+    let seen = option_map {T = g.row.S.Denot} {U = SourceSeen} g.S.Source.seen in
+    let users : c.from-users.result.items ≡ c.args.users.items = search rules in
+    let none : c.in_ok-feeders.feeders.items ≡ [] = c.in_ok-feeders.ensures.items in
+    let rest : c.into_iter-source-iterator.result.rest.items ≡ c.args.sources.items = c.into_iter-source-iterator.ensures.into_iter_gives.0 in
+    let made = ap length none in
+    let long = ap length rest in
+    record {
+      count = omega (arith, made, long);
+      users = ap length users ∙ c.requires.users ∙ sym long;
+      left = c.requires.seats ∙ sym long;
+      feeds = rw (none, rest) refl;
+      stands = rw (none, users) refl;
+      full = rw none tt;
+      seats = λ dealer own. (own, rw none tt);
+    }
 
 pub loop-source-preserved : goal.loop-source-preserved
 loop-source-preserved g c =
