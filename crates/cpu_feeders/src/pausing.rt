@@ -36,12 +36,12 @@ impl Idler {
         }
     }
 
-    /// Goes on at once after a look that found work.
+    /// Notes a look that found work: the next that finds none is the first in a row.
     pub fn found(&mut self) {
         self.empty_looks = 0;
     }
 
-    /// Lets other threads get on after a look that found none.
+    /// Lets other threads get on, after a look that found none.
     pub fn wait<R: Wait>(&mut self, rt: &R) {
         self.empty_looks = self.empty_looks.saturating_add(1);
         if self.empty_looks > YIELDS {
