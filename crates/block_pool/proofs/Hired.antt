@@ -1,8 +1,8 @@
 -- The passes, the takers and the workers of a run before it starts.
-use Rattle.std.proofs.Common.{◌≡◌, ℕ, zero, suc, ◌+◌, ◌-◌, ◌<◌, ◌≤◌, List, [], ◌∷◌, ◌++◌, length, take, drop, refl, sym, ap, ◌∙◌, subst, arith}
+use Rattle.std.proofs.Common.{◌≡◌, ℕ, zero, suc, ◌+◌, List, [], ◌∷◌, length, take, drop, refl, sym, ap, arith}
 use Rattle.std.specs.List.{AllByRecursion}
 use Rattle.atomic_blocks.specs.Laid.{WebId}
-use Rattle.block_pool.specs.Takers.{HandingValue, first_takers, handing_base, handing_taken, works_taken}
+use Rattle.block_pool.specs.Takers.{first_takers, handing_base, handing_taken, works_taken}
 use Rattle.block_pool.specs.Workers.{IsFreshPassOf}
 use Rattle.cpu_feeders.specs.Runs.{IsFreshTaker}
 use Rattle.tp_layout.specs.declared.requests.RingRequest.{RingRequest}

@@ -1,5 +1,5 @@
 -- A run with a pool: its passes before it starts, and what it leaves after the joins.
-use Rattle.std.proofs.Common.{◌≡◌, ℕ, ◌+◌, ◌≤◌, Bool, false, List, [], ◌∷◌, ◌++◌, length, length-append, take, drop, Option, refl, sym, ap, ◌∙◌, subst, arith}
+use Rattle.std.proofs.Common.{◌≡◌, ℕ, ◌+◌, Bool, false, List, [], ◌∷◌, ◌++◌, length, length-append, take, drop, Option, refl, sym, ap, ◌∙◌, subst, arith}
 use Rattle.std.specs.Prelude.{map}
 use Rattle.std.specs.List.{AllByRecursion, AllZip}
 use Rattle.std.proofs.lemmas.List.{length-drop, length-map, length-take-le}
@@ -10,7 +10,7 @@ use Rattle.block_pool.specs.Takers.{HandingValue, HasNumbered, first_takers, han
 use Rattle.block_pool.specs.Workers.{HasDecoded, IsFreshPassOf}
 use Rattle.block_pool.specs.declared.pieces.Piece.{Piece}
 use Rattle.block_pool.specs.declared.workers.Decoder.{Decoder}
-use Rattle.block_pool.proofs.Hired.{all_drop, all_take, fresh_ones, own_ones, passes_long, takers_long}
+use Rattle.block_pool.proofs.Hired.{all_drop, all_take, fresh_ones, own_ones, passes_long}
 use Rattle.block_pool.proofs.Members.{AreMembers, handed_of, passes_of}
 use Rattle.block_pool.proofs.Pooled.{all_pieces, decoder_passes, decoders_own, empty_for, filled, members_are, outputs_are, pieces_fit, shelves_full, takers_many, takers_own}
 use Rattle.block_pool.proofs.Zips.{all_append, zip_long}

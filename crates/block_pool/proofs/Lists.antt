@@ -1,8 +1,7 @@
 -- Lists that loops of this crate make an item at a time.
-use Rattle.std.proofs.Common.{◌≡◌, ℕ, zero, suc, ◌+◌, ◌-◌, ◌<◌, ◌≤◌, List, [], ◌∷◌, ◌++◌, length, length-set, get_or, set, Option, None, Some, append_assoc, append-nil, length-append, refl, sym, ap, ◌∙◌, subst, arith}
-use Rattle.std.specs.Prelude.{flat_map, map}
+use Rattle.std.proofs.Common.{◌≡◌, ℕ, zero, suc, ◌+◌, ◌-◌, List, [], ◌∷◌, ◌++◌, length, length-set, get_or, set, Option, Some, append_assoc, append-nil, length-append, refl, sym, ap, ◌∙◌, subst}
+use Rattle.std.specs.Prelude.{flat_map}
 use Rattle.std.specs.List.{AllByRecursion}
-use Rattle.std.proofs.lemmas.List.{length-map}
 use Rattle.block_pool.specs.Shelves.{HasPlaceIn, counts_of, packets_at, put_each, put_one, texts_at}
 use Rattle.block_pool.specs.Takers.{HandingValue, first_takers, handing_value}
 use Rattle.block_pool.specs.declared.pieces.Piece.{Piece}

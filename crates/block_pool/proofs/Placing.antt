@@ -1,12 +1,10 @@
 -- Pieces are put to the places of their numbers, until each place has the piece of its work.
-use Rattle.std.proofs.Common.{◌≡◌, ◌≢◌, ℕ, zero, suc, ◌+◌, ◌-◌, ◌<◌, ◌≤◌, Bool, List, [], ◌∷◌, ◌++◌, length, get_or, set, Option, None, Some, refl, sym, ap, ◌∙◌, subst, arith}
+use Rattle.std.proofs.Common.{◌≡◌, ℕ, zero, suc, ◌+◌, ◌-◌, ◌<◌, Bool, List, [], ◌∷◌, length, get_or, set, Option, None, Some, refl, sym, ap, ◌∙◌, subst, arith}
 use Rattle.std.specs.Prelude.{map, replicate, ⊤}
 use Rattle.std.specs.List.{AllByRecursion, AllZip}
 use Rattle.std.proofs.lemmas.List.{length-map}
 use mathlib.Core.Logic.{dite}
-use mathlib.Core.Option.{some, some-injective, some-ne-none}
 use native.Mathlib.Decide.{ℕ_discrete}
-use lib.ListN.{get_elem?}
 use Rattle.block_pool.specs.Pieces.{IsPieceOf}
 use Rattle.block_pool.specs.Shelves.{HasPlaceIn, counts_of, empty_shelf, put_each, put_one}
 use Rattle.block_pool.specs.declared.pieces.Piece.{Piece}

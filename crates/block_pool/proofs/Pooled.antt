@@ -1,29 +1,27 @@
 -- The takers and the workers of a run after the joins, and what is put together of their works.
-use Rattle.std.proofs.Common.{◌≡◌, ◌≢◌, ℕ, zero, suc, ◌+◌, ◌-◌, ◌<◌, ◌≤◌, ◌⊎◌, inl, inr, Bool, false, List, [], ◌∷◌, ◌++◌, length, get_or, Option, None, Some, refl, sym, ap, ap₂, ◌∙◌, subst, ⊎_elim, length-append, arith}
+use Rattle.std.proofs.Common.{◌≡◌, ℕ, ◌+◌, ◌-◌, ◌⊎◌, inl, inr, Bool, false, List, [], ◌∷◌, ◌++◌, length, get_or, Option, None, refl, ap, ◌∙◌, subst, ⊎_elim, arith}
 use Rattle.std.specs.Prelude.{map, flat_map}
 use Rattle.std.specs.List.{AllByRecursion, AllZip}
-use Rattle.std.proofs.lemmas.List.{length-map}
 use mathlib.Core.Option.{some}
 use lib.ListN.{get_elem?}
 use Rattle.block_pool.specs.Pieces.{IsPieceOf}
 use Rattle.block_pool.specs.Shelves.{AreFull, HasPlaceIn, counts_of, empty_shelf, put_each, read_of}
-use Rattle.block_pool.specs.Takers.{AreNumbered, HandingValue, HasNumbered, first_takers, handing_base, handing_taken, handing_value, works_taken}
+use Rattle.block_pool.specs.Takers.{AreNumbered, HandingValue, HasNumbered, first_takers, handing_base, handing_taken, handing_value}
 use Rattle.block_pool.specs.Workers.{HasDecoded}
 use Rattle.block_pool.specs.declared.pieces.Piece.{Piece}
 use Rattle.block_pool.specs.declared.workers.Decoder.{Decoder}
 use Rattle.block_pool.proofs.Members.{AreMembers, IsPlaced, fetched_else, handed_of, numbered_at, passes_of, placed, was_handed}
-use Rattle.block_pool.proofs.Placing.{IsHeldAs, IsThere, all_empty, all_fit, all_held, all_there}
+use Rattle.block_pool.proofs.Placing.{IsThere, all_empty, all_fit, all_held, all_there}
 use Rattle.block_pool.proofs.Reading.{HasAt, IsFilled, blocks_row, dumped_row, filled_all, full_all, walked_row}
-use Rattle.block_pool.proofs.Zips.{all_append, zip_append, zip_long}
+use Rattle.block_pool.proofs.Zips.{zip_append}
 use Rattle.block_pool.specs.Reports.{AreOutputsOf}
-use Rattle.cpu_feeders.specs.Runs.{AreTakersOf, IsTakerOf}
+use Rattle.cpu_feeders.specs.Runs.{AreTakersOf}
 use Rattle.reader_walk.specs.Readers.{dump_by, walked_of}
 use Rattle.reader_walk.specs.Takers.{Base, Taken}
-use Rattle.reader_walk.specs.declared.outputs.Outputs.{Outputs}
 use Rattle.ring_model.specs.declared.notes.Note.{Note}
 use Rattle.tp_layout.specs.declared.requests.RingRequest.{RingRequest}
 use Rattle.work_queue.proofs.Counts.{found_of_handed, handed_of_found}
-use Rattle.work_queue.specs.Passes.{IsAmong, IsFound, IsHistory, IsPassOf, PassValue, QueueValue, WasFetched, WasHanded}
+use Rattle.work_queue.specs.Passes.{IsAmong, IsFound, IsHistory, IsPassOf, PassValue, QueueValue, WasFetched}
 use Rattle.work_queue.specs.declared.works.Work.{Work}
 
 -- ---- the takers

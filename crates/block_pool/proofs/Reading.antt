@@ -1,20 +1,18 @@
 -- What is read out of shelves of which each place has the piece of its work.
-use Rattle.std.proofs.Common.{◌≡◌, ◌≢◌, ℕ, zero, suc, ◌+◌, ◌-◌, ◌<◌, ◌≤◌, Bool, true, false, List, [], ◌∷◌, ◌++◌, length, get_or, set, Option, None, Some, refl, sym, ap, ap₂, ◌∙◌, subst, arith}
-use Rattle.std.specs.Prelude.{map, flat_map, if◌then◌else◌}
-use Rattle.std.specs.List.{AllByRecursion, AllZip}
+use Rattle.std.proofs.Common.{◌≡◌, ℕ, suc, ◌+◌, Bool, true, false, List, [], ◌∷◌, ◌++◌, length, get_or, Option, None, Some, refl, sym, ap, ap₂, ◌∙◌, subst}
+use Rattle.std.specs.List.{AllZip}
 use Rattle.std.proofs.lemmas.List.{length-map}
 use mathlib.Core.Option.{some}
 use lib.ListN.{get_elem?}
 use Rattle.block_pool.specs.Pieces.{IsPieceOf, work_taken}
-use Rattle.block_pool.specs.Shelves.{AreFull, IsFull, packets_at, read_of, texts_at}
+use Rattle.block_pool.specs.Shelves.{AreFull, IsFull, packets_at, texts_at}
 use Rattle.block_pool.specs.Takers.{AreNumbered, works_taken}
 use Rattle.block_pool.specs.declared.pieces.Piece.{Piece}
 use Rattle.block_pool.proofs.Placing.{IsHeldAs}
 use Rattle.block_pool.proofs.Zips.{zip_long}
 use Rattle.frame_view.specs.declared.frames.Packet.{Packet}
 use Rattle.reader_walk.specs.Readers.{dump_by, texts_of, walked_of}
-use Rattle.reader_walk.specs.Takers.{Taken}
-use Rattle.reader_walk.specs.Texts.{text_by, text_of_taken}
+use Rattle.reader_walk.specs.Texts.{text_of_taken}
 use Rattle.tp_layout.specs.declared.requests.RingRequest.{RingRequest}
 use Rattle.work_queue.specs.declared.works.Work.{Work}
 

@@ -1,5 +1,5 @@
 -- Works that were decoded.
-use Rattle.std.specs.Prelude.{◌≡◌, ℕ, Bool}
+use Rattle.std.specs.Prelude.{◌≡◌, Bool}
 use Rattle.block_pool.specs.declared.pieces.Piece.{Piece}
 use Rattle.reader_walk.specs.Takers.{Taken, taken_in}
 use Rattle.reader_walk.specs.Texts.{text_by}

@@ -1,5 +1,5 @@
 -- A worker of the pool.
-use Rattle.std.specs.Prelude.{◌≡◌, ℕ, Bool, false, List, []}
+use Rattle.std.specs.Prelude.{◌≡◌, Bool, false, []}
 use Rattle.std.specs.List.{AllZip}
 use Rattle.block_pool.specs.Pieces.{IsPieceOf}
 use Rattle.block_pool.specs.declared.workers.Decoder.{Decoder}

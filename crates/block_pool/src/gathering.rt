@@ -1,23 +1,35 @@
 //! What takers and workers leave after the joins.
-ghost use Rattle.std.specs.Prelude.{◌≡◌, ◌++◌, [], false, flat_map, length, map, IfOk, OnOk};
+ghost use Rattle.std.specs.Prelude.{◌≡◌, ◌++◌, [], List, false, flat_map, length, map, IfOk, OnOk};
 ghost use Rattle.std.specs.List.{AllByRecursion, AllZip};
 ghost use Rattle.block_pool.specs.Pieces.{IsPieceOf};
-ghost use Rattle.block_pool.specs.Shelves.{empty_shelf};
+ghost use Rattle.block_pool.specs.Shelves.{AreFull, HasPlaceIn, counts_of, empty_shelf, put_each, read_of};
 ghost use Rattle.block_pool.specs.Takers.{HasNumbered};
 ghost use Rattle.work_queue.specs.Works.{IsLawfulWork};
 
 use crate::pieces::Piece;
-use crate::shelves::Shelf;
+use crate::shelves::{Shelf, put_all, read_all};
 use crate::takers::Handing;
 use crate::workers::{Decoder, keep};
 use cpu_feeders::Gate;
 use frame_view::Memory;
+use reader_walk::Outputs;
 use std::alloc::Global;
 use std::sync::Wait;
 use work_queue::{Work, WorkPass};
 
+/// What the takers and the workers of a run leave.
+#[derive(Drop)]
+pub(crate) struct Parted {
+    /// Their passes, those of the takers first.
+    pub(crate) passes: Vec<WorkPass>,
+    /// For each taker a shelf with a place for each of its works.
+    pub(crate) shelves: Vec<Shelf>,
+    /// The pieces of the workers.
+    pub(crate) pieces: Vec<Piece>,
+}
+
 /// Takes the takers of a run apart: their passes, and for each an empty shelf with a place for each of its works.
-pub(crate) fn part_takers<'a, R: Wait>(
+fn part_takers<'a, R: Wait>(
     alloc: Global,
     takers: Vec<Handing<'a, R>>,
     passes: &mut Vec<WorkPass>,
@@ -39,7 +51,7 @@ pub(crate) fn part_takers<'a, R: Wait>(
 
 /// Takes the workers of a run apart: their passes, and their pieces. The error is also that one of them ran out of
 /// memory.
-pub(crate) fn part_decoders(
+fn part_decoders(
     alloc: Global,
     decoders: Vec<Decoder>,
     passes: &mut Vec<WorkPass>,
@@ -63,8 +75,35 @@ pub(crate) fn part_decoders(
     Ok(pieces)
 }
 
+/// Takes the takers and the workers of a run apart. The error is also that a worker ran out of memory.
+pub(crate) fn part_all<'a, R: Wait>(
+    alloc: Global,
+    takers: Vec<Handing<'a, R>>,
+    decoders: Vec<Decoder>,
+) -> Result<Parted, Memory>
+    ensures passes { IfOk result (λ parted. parted.passes.items
+        ≡ map (λ taker. taker.pass) takers.entry.items
+        ++ map (λ decoder. decoder.pass) decoders.items) }
+    ensures shelves { IfOk result (λ parted. parted.shelves.items
+        ≡ map (λ taker. empty_shelf (length taker.pass.handed)) takers.entry.items) }
+    ensures pieces { IfOk result (λ parted. parted.pieces.items
+        ≡ flat_map (λ decoder. decoder.pieces.items) decoders.items) }
+    ensures numbered { OnOk result (AllByRecursion HasNumbered takers.entry.items) }
+    ensures full { OnOk result
+        (AllByRecursion (λ decoder. decoder.full ≡ false) decoders.items) }
+{
+    let mut passes = Vec::new(alloc);
+    let shelves = part_takers(alloc, takers, &mut passes)?;
+    let pieces = part_decoders(alloc, decoders, &mut passes)?;
+    Ok(Parted {
+        passes,
+        shelves,
+        pieces,
+    })
+}
+
 /// Decodes the works that no worker fetched, and puts their pieces after the others.
-pub(crate) fn decode_left<G: Gate>(
+fn decode_left<G: Gate>(
     alloc: Global,
     gate: &G,
     dumps: bool,
@@ -80,4 +119,27 @@ pub(crate) fn decode_left<G: Gate>(
         keep(alloc, gate, dumps, index, pieces, work)?;
     }
     Ok(())
+}
+
+/// Decodes the works that no worker fetched, puts all pieces to their places, and reads them out.
+pub(crate) fn put_together<G: Gate>(
+    alloc: Global,
+    gate: &G,
+    dumps: bool,
+    index: u32,
+    works: Vec<Work>,
+    mut shelves: Vec<Shelf>,
+    mut pieces: Vec<Piece>,
+) -> Result<Vec<Outputs>, Memory>
+    requires lawful { AllByRecursion IsLawfulWork works.items }
+    requires places { (more : List _) → AllZip (IsPieceOf dumps) works.items more
+        → AllByRecursion (HasPlaceIn (counts_of shelves.items)) (pieces.items ++ more) }
+    requires full { (more : List _) → AllZip (IsPieceOf dumps) works.items more
+        → AreFull (put_each shelves.items (pieces.items ++ more)) }
+    ensures { IfOk result (λ outputs. (more : List _) × AllZip (IsPieceOf dumps) works.items more
+        × (outputs.items ≡ map read_of (put_each shelves.items (pieces.items ++ more)))) }
+{
+    decode_left(alloc, gate, dumps, index, works, &mut pieces)?;
+    put_all(&mut shelves, pieces);
+    read_all(alloc, shelves)
 }

@@ -1,22 +1,58 @@
 //! A run of a job on threads with a pool of decoding workers.
-ghost use Rattle.std.specs.Prelude.{◌≡◌, ◌<◌, ◌≤◌, length, map, option_map, IfOk};
+ghost use Rattle.std.specs.Prelude.{◌≡◌, ◌+◌, ◌<◌, ◌≤◌, drop, length, map, option_map, take, IfOk};
+ghost use Rattle.std.specs.List.{AllByRecursion};
+ghost use Rattle.cpu_feeders.specs.Feeds.{IsFreshSeat};
 ghost use Rattle.cpu_feeders.specs.Runs.{IsCaptureRun};
 ghost use Rattle.setup_text.specs.Sound.{AreMoments, IsSetup};
+ghost use Rattle.ticket_dealer.specs.Seats.{IsFreshOf};
+ghost use Rattle.work_queue.specs.Passes.{fresh_passes};
 
 use crate::fresh_workers::{decoders_of, takers_of};
-use crate::gathering::{decode_left, part_decoders, part_takers};
+use crate::gathering::{part_all, put_together};
 use crate::reporting::report_run;
 use crate::serving::{Pool, run_both};
-use crate::shelves::{put_all, read_all};
 use cpu_feeders::{Gate, Workers};
-use fanout_group::Dealer;
+use fanout_group::{Dealer, DealerSeat};
 use frame_view::{Memory, MomentList};
 use setup_text::{Job, Ran};
 use std::alloc::Global;
 use std::sync::Wait;
 use std::thread::Threads;
 use tap_outside::Source;
-use work_queue::WorkQueue;
+use work_queue::{WorkPass, WorkQueue};
+
+/// A queue with a pass for each taker and each worker: the queue, the takers' passes and the workers'.
+fn queue_for(
+    alloc: Global,
+    members: u32,
+    workers: u32,
+) -> Result<(WorkQueue, Vec<WorkPass>, Vec<WorkPass>), Memory>
+    requires some { 0 < workers }
+    requires few { members + workers ≤ 17 }
+    ensures count { IfOk result (λ made. made.0.passes ≡ members + workers) }
+    ensures takers { IfOk result (λ made. made.1.items
+        ≡ take members (fresh_passes made.0.id (members + workers) 0 (members + workers))) }
+    ensures workers { IfOk result (λ made. made.2.items
+        ≡ drop members (fresh_passes made.0.id (members + workers) 0 (members + workers))) }
+{
+    let (queue, mut passes) = WorkQueue::new(alloc, members + workers)?;
+    let others = passes.split_off(members as usize)?;
+    Ok((queue, passes, others))
+}
+
+/// A dealer with one feeder's seat: the dealer, that seat, and the seats of others.
+fn deal_one(alloc: Global) -> Result<(Dealer, DealerSeat, Vec<DealerSeat>), Memory>
+    ensures seat { IfOk result (λ dealt. IsFreshSeat dealt.0 dealt.1) }
+    ensures others { IfOk result (λ dealt. AllByRecursion (IsFreshOf dealt.0) dealt.2.items) }
+    ensures count { IfOk result (λ dealt. length dealt.2.items ≡ 9) }
+{
+    let (dealer, mut seats) = Dealer::new(alloc, 1)?;
+    let others = seats.split_off(1)?;
+    let Some(seat) = seats.pop() else {
+        unreachable!()
+    };
+    Ok((dealer, seat, others))
+}
 
 /// Runs a job on threads with a pool: a reader for each member, which copies the text of each block into a work and hands
 /// it in; so many workers, 1 to 8, which fetch the works and decode them; a timer that reports the moments, and a feeder
@@ -46,15 +82,10 @@ pub fn run_pool<S: Source + Send, G: Gate + Sync, R: Threads + Wait + Sync>(
 {
     let members = job.setup.plan.members();
     let dumps = job.setup.dump;
-    let (queue, mut takers_passes) = WorkQueue::new(alloc, members + workers)?;
-    let decoders_passes = takers_passes.split_off(members as usize)?;
-    let takers = takers_of(rt, alloc, &queue, &job.setup.shape, takers_passes)?;
-    let (dealer, mut seats) = Dealer::new(alloc, 1)?;
-    let others = seats.split_off(1)?;
+    let (dealer, seat, others) = deal_one(alloc)?;
+    let (queue, takers_passes, decoders_passes) = queue_for(alloc, members, workers)?;
     let decoders = decoders_of(alloc, decoders_passes, others)?;
-    let Some(seat) = seats.pop() else {
-        unreachable!()
-    };
+    let takers = takers_of(rt, alloc, &queue, &job.setup.shape, takers_passes)?;
     let pool = Pool {
         alloc,
         queue: &queue,
@@ -70,12 +101,9 @@ pub fn run_pool<S: Source + Send, G: Gate + Sync, R: Threads + Wait + Sync>(
         sources,
         rings,
     } = ran?;
-    let mut passes = Vec::new(alloc);
-    let mut shelves = part_takers(alloc, takers, &mut passes)?;
-    let mut pieces = part_decoders(alloc, decoders, &mut passes)?;
-    let left = queue.close(rt, alloc, passes)?;
-    decode_left(alloc, gate, dumps, workers, left, &mut pieces)?;
-    put_all(&mut shelves, pieces);
-    let outputs = read_all(alloc, shelves)?;
+    let parted = part_all(alloc, takers, decoders)?;
+    let left = queue.close(rt, alloc, parted.passes)?;
+    let (shelves, pieces) = (parted.shelves, parted.pieces);
+    let outputs = put_together(alloc, gate, dumps, workers, left, shelves, pieces)?;
     report_run(alloc, job, cpus, notes, rings, sources, outputs)
 }

@@ -5,12 +5,11 @@ ghost use Rattle.block_pool.specs.Workers.{HasDecoded, IsFreshDecoder};
 ghost use Rattle.work_queue.specs.Works.{IsLawfulWork};
 
 use crate::pieces::{Piece, piece_of};
-use cpu_feeders::{Gate, Point, pause};
+use cpu_feeders::{Gate, Idler, Point};
 use fanout_group::{Dealer, DealerSeat};
 use frame_view::Memory;
 use std::alloc::Global;
 use std::sync::Wait;
-use std::thread::Parker;
 use work_queue::{Work, WorkPass, WorkQueue};
 
 /// So many calls of `fetch` a worker makes at most.
@@ -71,8 +70,7 @@ pub fn run_decoder<R: Wait, G: Gate>(
     requires fresh { IsFreshDecoder queue.now dealer.now decoder.old }
     ensures { HasDecoded dumps queue.now decoder.old decoder.new }
 {
-    let sleeper = Parker::new();
-    let mut empty_looks: u32 = 0;
+    let mut idler = Idler::new();
     for _ in rt.forever() {
         if decoder.fetches >= MOST_FETCHES {
             return;
@@ -81,7 +79,7 @@ pub fn run_decoder<R: Wait, G: Gate>(
         decoder.fetches += 1;
         match queue.fetch(rt, &mut decoder.pass) {
             Some(work) => {
-                empty_looks = 0;
+                idler.found();
                 let kept = keep(alloc, gate, dumps, decoder.index, &mut decoder.pieces, work);
                 if kept.is_err() {
                     decoder.full = true;
@@ -92,8 +90,7 @@ pub fn run_decoder<R: Wait, G: Gate>(
                 if live == 0 {
                     return;
                 }
-                empty_looks = empty_looks.saturating_add(1);
-                pause(rt, empty_looks, &sleeper);
+                idler.wait(rt);
             }
         }
     }

@@ -1,5 +1,5 @@
 -- Lists that loops make an item at a time.
-use Rattle.std.proofs.Common.{◌≡◌, ℕ, ◌+◌, List, [], ◌∷◌, ◌++◌, length, length-append, append_assoc, append-nil, refl, sym, ap, ◌∙◌, subst, arith}
+use Rattle.std.proofs.Common.{◌≡◌, ℕ, ◌+◌, ◌<◌, List, [], ◌∷◌, ◌++◌, length, length-append, append_assoc, append-nil, refl, sym, ap, ◌∙◌, subst, arith}
 use Rattle.std.specs.Prelude.{map}
 use Rattle.std.specs.List.{AllByRecursion, AllZip}
 use Rattle.std.proofs.lemmas.List.{map-append}
@@ -77,6 +77,10 @@ next_item {A = A} {B = B} f made now rest after all x y next now_is is h =
     ap (λ (xs : List A). map f xs ++ after) now_is ∙ ap (λ (ys : List B). ys ++ after) (map-append f made (x ∷ []))
     ∙ append_assoc (map f made) (f x ∷ []) after ∙ ap (λ (b : B). map f made ++ b ∷ after) is ∙ ap (λ (ys : List B). map f made ++ ys) (sym next) ∙ h
 
+-- all were made
+pub made_all : {A B : Type 0} (f : A → B) (made : List A) (rest all : List B) → rest ≡ [] → map f made ++ rest ≡ all → map f made ≡ all
+made_all {B = B} f made rest all none h = sym (append-nil (map f made)) ∙ ap (λ (ys : List B). map f made ++ ys) (sym none) ∙ h
+
 -- ---- how many items there are where one goes over
 
 module _ {A B : Type 0} where
@@ -97,6 +101,9 @@ module _ {A B : Type 0} where
       let less = length-append after (x ∷ []) in
       let sum = length-append done (y ∷ []) in
       omega (arith, many, one_less, one_more, less, sum)
+
+  pub some_left : (ys : List B) (rest after : List A) (x : A) → rest ≡ x ∷ after → length ys ≡ length rest → 0 < length ys
+  some_left ys rest after x next same = let one = ap (λ (zs : List A). length zs) next in omega (arith, same, one)
 
   pub both_shorter : (xs less : List A) (ys fewer : List B) (x : A) (y : B) → xs ≡ x ∷ less → ys ≡ y ∷ fewer → length xs ≡ length ys → length less ≡ length fewer
   both_shorter xs less ys fewer x y xs_are ys_are same =

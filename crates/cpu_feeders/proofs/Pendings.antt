@@ -9,6 +9,13 @@ use Rattle.ring_words.specs.Rings.{Entry}
 use Rattle.tp_layout.specs.Writing.{ShapedBytes}
 use Rattle.cpu_feeders.specs.Walks.{taken_of}
 
+-- the blocks that were taken and those that are left are all that were retired
+pub all_read : (base : Base) (done now : List Taken) (walked left retired : List Entry) → done ≡ taken_of base walked → now ≡ done ++ taken_of base left
+    → walked ++ left ≡ retired → now ≡ taken_of base retired
+all_read base done now walked left retired h more all =
+    more ∙ ap (λ (some : List Taken). some ++ taken_of base left) h
+    ∙ sym (map-append (λ (entry : Entry). taken_in base.shape entry.0) walked left) ∙ ap (taken_of base) all
+
 -- one block more
 pub pending_more : (base was : Base) (first before after : List Taken) (blocks : List (ShapedBytes × ℕ)) (at : ℕ) (block : ShapedBytes) (status : ℕ)
     → slice_get blocks at ≡ Some (block, status) → at < length blocks → was ≡ base

@@ -4,7 +4,7 @@ use Rattle.std.specs.List.{AllByRecursion, AllZip}
 use Rattle.capture_reports.specs.Closed.{IsLockOf}
 use Rattle.capture_reports.specs.Timing.{AreTimed}
 use Rattle.cpu_feed.specs.Feeding.{Feeding}
-use Rattle.cpu_feeders.specs.Feeds.{IsFreshFeeder}
+use Rattle.cpu_feeders.specs.Feeds.{IsFreshFeeder, IsFreshSeat}
 use Rattle.cpu_feeders.specs.Walks.{Walks}
 use Rattle.cpu_feeders.specs.declared.feeder.Feeder.{Feeder}
 use Rattle.cpu_feeders.specs.declared.timer.Timer.{Timer}
@@ -59,6 +59,14 @@ pub record IsFreshReader {T : Type 0} (base_of : T → Base) (taken_by : T → L
   pub shape_is : (base_of walker.taker).shape ≡ shape
   pub walks : Walks base_of taken_by (base_of walker.taker) walker
   pub seat : IsFreshOf dealer walker.seat
+
+-- a dealer for so many feeders, with a fresh seat for each of them, and nine for others
+pub record IsDealt (feeders : ℕ) (dealer : DealerValue) (seats spare : List SeatValue) : Type 0 where
+  pub feeders_are : dealer.feeders ≡ feeders
+  pub count : length seats ≡ feeders
+  pub seats_are : AllByRecursion (IsFreshSeat dealer) seats
+  pub spare_count : length spare ≡ 9
+  pub spare_are : AllByRecursion (IsFreshOf dealer) spare
 
 -- The workers of a job: a reader for each member, with its taker; a timer that has told nothing; a
 -- feeder for each CPU, with its source. The dealer's seats that none of them has are spare.

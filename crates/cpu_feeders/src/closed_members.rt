@@ -7,6 +7,7 @@ ghost use Rattle.tp_layout.specs.Requests.{numbers_of};
 
 use crate::Walker;
 use crate::stands::StandList;
+use crate::taking::first_of;
 use fanout_group::DealerSeat;
 use frame_view::Memory;
 use member_turns::{Member, Stand, close_member};
@@ -90,12 +91,8 @@ pub(crate) fn close_group<T: Taker + Drop>(
     let mut stands = VecDeque::from(stands);
     let mut all = Vec::with_capacity(alloc, walkers.len())?;
     for walker in walkers {
-        let Some(member) = members.pop_front() else {
-            unreachable!()
-        };
-        let Some(list) = stands.pop_front() else {
-            unreachable!()
-        };
+        let member = first_of(&mut members);
+        let list = first_of(&mut stands);
         all.push(close_one(alloc, member, list.into_vec(), walker)?)?;
     }
     Ok(all)

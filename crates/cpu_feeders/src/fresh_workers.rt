@@ -1,5 +1,5 @@
 //! The workers of a run before they start.
-ghost use Rattle.std.specs.Prelude.{◌≡◌, ◌+◌, ◌≤◌, ◌++◌, false, length, map, option_map, IfOk, OnOk};
+ghost use Rattle.std.specs.Prelude.{◌≡◌, ◌+◌, ◌<◌, ◌≤◌, ◌++◌, ◌∷◌, [], false, length, map, option_map, IfOk, OnOk};
 ghost use Rattle.std.specs.List.{AllByRecursion};
 ghost use Rattle.cpu_feeders.specs.Feeds.{IsFreshSeat};
 ghost use Rattle.cpu_feeders.specs.FreshWorkers.{first_feed, first_feeds, in_order};
@@ -8,6 +8,7 @@ ghost use Rattle.ticket_dealer.specs.Seats.{DealerValue, IsFreshOf};
 
 use crate::feeder::Feeder;
 use crate::stands::StandList;
+use crate::taking::{first_of, last_of};
 use crate::worker::Worker;
 use crate::{Timer, Walker};
 use capture_reading::Buffer;
@@ -21,26 +22,30 @@ use std::collections::VecDeque;
 use tap_outside::Source;
 use tp_layout::Block;
 
-/// The feeder of a CPU, of which nothing was read.
+/// The feeder of a CPU, of which nothing was read. Its stands are the first of these, and its seat
+/// the last.
 fn fresh_feeder<S: Source>(
     alloc: Global,
     number: u32,
     plan: Plan,
     source: Option<S>,
-    stands: StandList,
-    seat: DealerSeat,
+    users: &mut VecDeque<StandList>,
+    seats: &mut Vec<DealerSeat>,
 ) -> Result<Feeder<S>, Memory>
+    requires users { 0 < length users.old.items }
+    requires seats { 0 < length seats.old.items }
     ensures feed { IfOk result (λ feeder.
         feeder.feed ≡ first_feed plan number (option_map S.seen source)) }
-    ensures stands { IfOk result (λ feeder. feeder.stands.items ≡ stands) }
-    ensures seat { IfOk result (λ feeder. feeder.seat ≡ seat) }
+    ensures stands { IfOk result (λ feeder.
+        users.old.items ≡ feeder.stands.items ∷ users.new.items) }
+    ensures seat { IfOk result (λ feeder. seats.old.items ≡ seats.new.items ++ feeder.seat ∷ []) }
     ensures full { IfOk result (λ feeder. feeder.full ≡ false) }
 {
     let buffer = Buffer::new(alloc)?;
     Ok(Feeder {
         feed: CpuFeed::new(alloc, number, source, plan),
-        stands: stands.into_vec(),
-        seat,
+        stands: first_of(users).into_vec(),
+        seat: last_of(seats),
         buffer,
         full: false,
     })
@@ -70,14 +75,8 @@ pub(crate) fn feeders_of<S: Source>(
     let mut users = VecDeque::from(users);
     let mut feeders = Vec::with_capacity(alloc, sources.len())?;
     for source in sources {
-        let Some(stands) = users.pop_front() else {
-            unreachable!()
-        };
-        let Some(seat) = seats.pop() else {
-            unreachable!()
-        };
         let number = feeders.len() as u32;
-        feeders.push(fresh_feeder(alloc, number, plan, source, stands, seat)?)?;
+        feeders.push(fresh_feeder(alloc, number, plan, source, &mut users, &mut seats)?)?;
     }
     Ok(feeders)
 }
@@ -107,17 +106,11 @@ pub(crate) fn walkers_of<T: Taker + Drop>(
     let mut ends = VecDeque::from(ends);
     let mut walkers = Vec::with_capacity(alloc, takers.len())?;
     for taker in takers {
-        let Some(end) = ends.pop_front() else {
-            unreachable!()
-        };
-        let Some(seat) = seats.pop() else {
-            unreachable!()
-        };
         walkers.push(Walker {
             member: walkers.len() as u32,
-            end,
+            end: first_of(&mut ends),
             taker,
-            seat,
+            seat: last_of(seats),
             released: 0,
             full: false,
         })?;

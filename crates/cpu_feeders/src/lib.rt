@@ -2,6 +2,7 @@
 #![tactic(auto)]
 
 mod closed_members;
+mod crews;
 mod ended_workers;
 mod feeder;
 mod fresh_workers;
@@ -10,6 +11,7 @@ mod open_groups;
 mod pausing;
 mod stands;
 mod takers;
+mod taking;
 mod timer;
 mod walker;
 mod worker;
@@ -18,7 +20,7 @@ mod workers;
 
 pub use feeder::{Feeder, run_feeder};
 pub use gate::{Gate, NoGate, Point};
-pub use pausing::pause;
+pub use pausing::Idler;
 pub use takers::{Workers, run_takers};
 pub use timer::{Timer, run_timer};
 pub use walker::{Walker, run_walker};

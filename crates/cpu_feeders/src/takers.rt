@@ -2,25 +2,22 @@
 ghost use Rattle.std.specs.Prelude.{◌≡◌, ◌++◌, ◌∷◌, [], ℕ, List, Option, length, map, option_map, IfOk, OnOk};
 ghost use Rattle.std.specs.List.{AllByRecursion};
 ghost use Rattle.cpu_feeders.specs.Crews.{HaveWorked};
-ghost use Rattle.cpu_feeders.specs.FreshWorkers.{AreHired};
 ghost use Rattle.cpu_feeders.specs.Runs.{IsFreshTaker, IsTakerRun};
 ghost use Rattle.setup_text.specs.Sound.{AreMoments, IsSetup};
 ghost use Rattle.tap_outside.specs.Seen.{SourceSeen};
 
+use crate::Gate;
 use crate::closed_members::{Closed, close_group};
+use crate::crews::{Crew, hire};
 use crate::ended_workers::gather;
-use crate::fresh_workers::{feeders_of, walkers_of, workers_of};
-use crate::open_groups::open_group;
-use crate::worker::{Shared, Worker, run_all};
+use crate::worker::{Shared, run_all};
 use crate::worker_kinds::part;
-use crate::{Gate, Timer};
 use capture_reports::{
     blocks_are_read_as_they_were_noted, threads_leave_a_group, threads_leave_what_sources_gave,
 };
 use cpu_feed::{ClosedCpus, close_cpus};
-use fanout_group::{CpuLogList, Dealer, DealerSeat};
+use fanout_group::{CpuLogList, DealerSeat};
 use frame_view::{Memory, MomentList};
-use member_turns::Member;
 use reader_walk::Taker;
 use ring_model::Notes;
 use ring_words::Pending;
@@ -44,56 +41,6 @@ pub struct Workers<S: Source, T: Taker + Drop> {
     pub sources: Vec<Option<S>>,
     /// The ring of each member, as it was finished.
     pub rings: Vec<Pending<Block>>,
-}
-
-/// A run before its threads start, and after the joins.
-#[derive(Drop)]
-struct Crew<S: Source, T: Taker + Drop> {
-    /// The members, from 0 up.
-    members: Vec<Member>,
-    /// Deals tickets, and knows how many feeders go on.
-    dealer: Dealer,
-    /// The seats of the dealer that no worker has.
-    spare: Vec<DealerSeat>,
-    /// The workers: readers, the timer, feeders.
-    workers: Vec<Worker<S, T>>,
-}
-
-/// Opens the group of a job, and makes its workers.
-fn hire<S: Source, T: Taker + Drop>(
-    alloc: Global,
-    job: &Job,
-    sources: Vec<Option<S>>,
-    takers: Vec<T>,
-) -> Result<Crew<S, T>, Memory>
-    requires setup { IsSetup job.now.setup }
-    requires sources { length sources.items ≡ length job.now.setup.cpus }
-    requires takers { length takers.items ≡ job.now.setup.plan.members }
-    requires fresh { AllByRecursion (IsFreshTaker T.base T.taken job.now.setup.shape) takers.items }
-    ensures { IfOk result (λ crew. AreHired T.base T.taken job.now
-        (map (option_map S.seen) sources.items) takers.items
-        crew.members.items crew.dealer crew.spare.items crew.workers.items) }
-{
-    let plan = job.setup.plan;
-    let cpus = sources.len();
-    let mut group = open_group(alloc, &job.setup.shape, plan.members(), cpus as u32)?;
-    let (dealer, mut seats) = Dealer::new(alloc, cpus as u32)?;
-    let mut spare = seats.split_off(cpus)?;
-    let Some(stands) = group.users.pop() else {
-        unreachable!()
-    };
-    let timer = Timer {
-        stands: stands.into_vec(),
-        full: false,
-    };
-    let walkers = walkers_of(alloc, takers, group.ends, &mut spare)?;
-    let feeders = feeders_of(alloc, plan, sources, group.users, seats)?;
-    Ok(Crew {
-        members: group.members,
-        dealer,
-        spare,
-        workers: workers_of(alloc, walkers, timer, feeders)?,
-    })
 }
 
 /// What closed CPUs leave, with room for what so many members leave.

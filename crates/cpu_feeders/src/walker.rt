@@ -4,13 +4,12 @@ ghost use Rattle.cpu_feeders.specs.Walks.{HasWalked, Walks};
 ghost use Rattle.reader_walk.specs.Takers.{IsReadable, taken_in};
 ghost use Rattle.ticket_dealer.specs.Seats.{IsFreshOf};
 
-use crate::{Gate, Point, pause};
+use crate::{Gate, Idler, Point};
 use fanout_group::{Dealer, DealerSeat};
 use frame_view::Memory;
 use reader_walk::Taker;
 use ring_words::{TableWalker, WalkerEnd};
 use std::sync::Wait;
-use std::thread::Parker;
 use tp_layout::Block;
 
 /// The word of a block that is given back: it is the feeder's again (TP_STATUS_KERNEL of
@@ -88,17 +87,15 @@ pub fn run_walker<T: Taker + Drop, R: Wait, G: Gate>(
     ensures walked { HasWalked T.base T.taken (T.base walker.old.taker) walker.old walker.new }
     ensures seat { IsFreshOf dealer.now walker.new.seat }
 {
-    let sleeper = Parker::new();
-    let mut empty_looks: u32 = 0;
+    let mut idler = Idler::new();
     for _ in rt.forever() {
         let live = dealer.live(&mut walker.seat);
         if take_next(gate, walker) {
-            empty_looks = 0;
+            idler.found();
         } else if live == 0 {
             return;
         } else {
-            empty_looks = empty_looks.saturating_add(1);
-            pause(rt, empty_looks, &sleeper);
+            idler.wait(rt);
         }
     }
     unreachable!()

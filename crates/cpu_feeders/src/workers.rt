@@ -8,6 +8,7 @@ ghost use Rattle.reader_walk.specs.Readers.{new_reader};
 ghost use Rattle.setup_text.specs.Sound.{AreMoments, IsSetup};
 ghost use Rattle.tp_layout.specs.declared.requests.RingRequest.{RingRequest};
 
+use crate::taking::first_of;
 use crate::{Gate, Workers, run_takers};
 use capture_reports::{threads_report_a_capture, threads_report_a_run};
 use frame_view::{Memory, MomentList};
@@ -47,13 +48,8 @@ fn report<S: Source>(alloc: Global, workers: Workers<S, Reader>) -> Result<Ran<S
     let mut rings = VecDeque::from(workers.rings);
     let mut readers = VecDeque::from(workers.takers);
     for notes in workers.notes {
-        let Some(reader) = readers.pop_front() else {
-            unreachable!()
-        };
-        let Some(ring) = rings.pop_front() else {
-            unreachable!()
-        };
-        let outputs = reader.outputs();
+        let ring = first_of(&mut rings);
+        let outputs = first_of(&mut readers).outputs();
         members.push(MemberReport {
             notes,
             walked: outputs.walked,

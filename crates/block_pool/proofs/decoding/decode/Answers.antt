@@ -1,5 +1,4 @@
-use Rattle.std.proofs.Common.{◌≡◌, ◌≤◌, List, ℕ, length, ◌∙◌, sym, subst}
-use Rattle.frame_view.specs.declared.frames.Packet.{Packet}
+use Rattle.std.proofs.Common.{List, ℕ, ◌∙◌, subst}
 use Rattle.tp_layout.specs.Reading.{IsTextOf}
 use Rattle.block_pool.proofs.Texts.{found, header, not_refused, within}
 use Rattle.block_pool.proofs.decoding.decode.Goals as goal

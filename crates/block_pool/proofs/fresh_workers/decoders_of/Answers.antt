@@ -1,4 +1,4 @@
-use Rattle.std.proofs.Common.{◌≡◌, ◌+◌, ◌++◌, ◌∷◌, [], List, length, length-append, rules, refl, ap, ◌∙◌, subst, arith}
+use Rattle.std.proofs.Common.{◌≡◌, ◌+◌, [], List, length, length-append, rules, refl, ap, ◌∙◌, subst, arith}
 use Rattle.std.specs.List.{AllByRecursion}
 use Rattle.cpu_feeders.proofs.OneMore.{all_more, next_all, next_item}
 use Rattle.ticket_dealer.specs.Seats.{IsFreshOf, SeatValue}

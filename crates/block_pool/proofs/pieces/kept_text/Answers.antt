@@ -1,4 +1,4 @@
-use Rattle.std.proofs.Common.{◌≡◌, Bool, sym, ap, ◌∙◌}
+use Rattle.std.proofs.Common.{Bool, sym, ap, ◌∙◌}
 use Rattle.reader_walk.specs.Texts.{text_by}
 use Rattle.block_pool.specs.Pieces.{work_taken}
 use Rattle.block_pool.proofs.Texts.{says}

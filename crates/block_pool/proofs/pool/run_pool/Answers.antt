@@ -1,4 +1,4 @@
-use Rattle.std.proofs.Common.{◌≡◌, ◌<◌, ◌++◌, List, length, sym, ap, ◌∙◌, subst, arith}
+use Rattle.std.proofs.Common.{List, length, refl, sym, ap, ◌∙◌, subst, arith}
 use Rattle.std.proofs.lemmas.Result.{IfOk-weaker}
 use Rattle.std.specs.Prelude.{map, option_map}
 use Rattle.std.specs.List.{AllByRecursion}
@@ -8,118 +8,99 @@ use Rattle.block_pool.proofs.Hired.{fresh_takers, takers_long}
 use Rattle.block_pool.proofs.Joined as joins
 use Rattle.block_pool.proofs.Members.{passes_of}
 use Rattle.cpu_feeders.specs.Runs.{IsFreshTaker}
-use Rattle.cpu_feeders.proofs.Hired.{seats_of_others}
 use Rattle.cpu_feeders.proofs.ReadOut.{rings_many}
 use Rattle.tap_outside.specs.Seen.{SourceSeen}
-use Rattle.work_queue.specs.Passes.{PassValue}
 use Rattle.block_pool.proofs.pool.run_pool.Goals as goal
 
-pub split_off-requires : goal.split_off-requires
-split_off-requires g c =
-    let long = joins.all_long c.in_ok-queue.queue c.members-members.result c.args.workers c.in_ok-queue.takers_passes.items c.in_ok-queue.ensures.passes c.in_ok-queue.ensures.fresh in
-    let ok = c.in_ok-queue.takers_passes.ok.0 in
-    omega (arith, long, ok)
-
 pub takers_of-requires-clause-fresh : goal.takers_of-requires-clause-fresh
-takers_of-requires-clause-fresh g c = joins.front_fresh c.in_ok-queue.queue c.members-members.result c.args.workers c.in_ok-queue.takers_passes.items c.in_ok-queue.ensures.passes c.in_ok-queue.ensures.fresh c.split_off.new.self.items c.in_ok-decoders_passes.ensures.items
+takers_of-requires-clause-fresh g c = joins.front_fresh c.in_ok-queue.queue c.members-members.result c.args.workers _ c.in_ok-queue.ensures.count refl c.in_ok-queue.takers_passes.items c.in_ok-queue.ensures.takers
 
 pub decoders_of-requires-clause-few : goal.decoders_of-requires-clause-few
 decoders_of-requires-clause-few g c =
-    let long = joins.back_long c.in_ok-queue.queue c.members-members.result c.args.workers c.in_ok-queue.takers_passes.items c.in_ok-queue.ensures.passes c.in_ok-queue.ensures.fresh c.in_ok-decoders_passes.decoders_passes.items c.in_ok-decoders_passes.ensures.tail in
+    let long = joins.back_long c.in_ok-queue.queue c.members-members.result c.args.workers _ c.in_ok-queue.ensures.count refl c.in_ok-queue.decoders_passes.items c.in_ok-queue.ensures.workers in
     let few = c.requires.few in
     omega (arith, long, few)
 
 pub decoders_of-requires-clause-seats : goal.decoders_of-requires-clause-seats
 decoders_of-requires-clause-seats g c =
-    let long = joins.back_long c.in_ok-queue.queue c.members-members.result c.args.workers c.in_ok-queue.takers_passes.items c.in_ok-queue.ensures.passes c.in_ok-queue.ensures.fresh c.in_ok-decoders_passes.decoders_passes.items c.in_ok-decoders_passes.ensures.tail in
+    let long = joins.back_long c.in_ok-queue.queue c.members-members.result c.args.workers _ c.in_ok-queue.ensures.count refl c.in_ok-queue.decoders_passes.items c.in_ok-queue.ensures.workers in
     let few = c.requires.few in
-    let nine = (seats_of_others c.in_ok-dealer.dealer 1 c.in_ok-dealer.ensures.feeders c.in_ok-dealer.seats.items c.in_ok-others.others.items c.in_ok-dealer.ensures.seats c.in_ok-others.ensures.tail).1 in
+    let nine = c.in_ok-dealer.ensures.count in
     omega (arith, long, few, nine)
 
 pub run_both-decoders-requires-clause-takers : goal.run_both-decoders-requires-clause-takers
 run_both-decoders-requires-clause-takers g c κs within =
-    ap (λ (ts : List HandingValue). length ts) c.in_ok-takers.ensures ∙ takers_long c.args.job.now.setup.shape 0 c.split_off.new.self.items
-    ∙ joins.front_long c.in_ok-queue.queue c.members-members.result c.args.workers c.in_ok-queue.takers_passes.items c.in_ok-queue.ensures.passes c.in_ok-queue.ensures.fresh c.split_off.new.self.items c.in_ok-decoders_passes.ensures.items ∙ c.members-members.ensures.value
+    ap (λ (ts : List HandingValue). length ts) c.in_ok-takers.ensures ∙ takers_long c.args.job.now.setup.shape 0 c.in_ok-queue.takers_passes.items
+    ∙ joins.front_long c.in_ok-queue.queue c.members-members.result c.args.workers _ c.in_ok-queue.ensures.count refl c.in_ok-queue.takers_passes.items c.in_ok-queue.ensures.takers ∙ c.members-members.ensures.value
 
 pub run_both-decoders-requires-clause-fresh : goal.run_both-decoders-requires-clause-fresh
 run_both-decoders-requires-clause-fresh g c κs within =
     subst (λ (ts : List HandingValue). AllByRecursion (IsFreshTaker handing_base handing_taken c.args.job.now.setup.shape) ts) (sym c.in_ok-takers.ensures)
-    (fresh_takers c.in_ok-queue.queue c.args.job.now.setup.shape 0 c.split_off.new.self.items (joins.front_fresh c.in_ok-queue.queue c.members-members.result c.args.workers c.in_ok-queue.takers_passes.items c.in_ok-queue.ensures.passes c.in_ok-queue.ensures.fresh c.split_off.new.self.items c.in_ok-decoders_passes.ensures.items))
+    (fresh_takers c.in_ok-queue.queue c.args.job.now.setup.shape 0 c.in_ok-queue.takers_passes.items (joins.front_fresh c.in_ok-queue.queue c.members-members.result c.args.workers _ c.in_ok-queue.ensures.count refl c.in_ok-queue.takers_passes.items c.in_ok-queue.ensures.takers))
 
 pub run_both-decoders-requires-clause-some : goal.run_both-decoders-requires-clause-some
 run_both-decoders-requires-clause-some g c κs within =
-    let long = joins.decoders_long c.in_ok-decoders.decoders.items c.in_ok-decoders_passes.decoders_passes.items c.in_ok-decoders.ensures.passes in
-    let many = joins.back_long c.in_ok-queue.queue c.members-members.result c.args.workers c.in_ok-queue.takers_passes.items c.in_ok-queue.ensures.passes c.in_ok-queue.ensures.fresh c.in_ok-decoders_passes.decoders_passes.items c.in_ok-decoders_passes.ensures.tail in
+    let long = joins.decoders_long c.in_ok-decoders.decoders.items c.in_ok-queue.decoders_passes.items c.in_ok-decoders.ensures.passes in
+    let many = joins.back_long c.in_ok-queue.queue c.members-members.result c.args.workers _ c.in_ok-queue.ensures.count refl c.in_ok-queue.decoders_passes.items c.in_ok-queue.ensures.workers in
     let some = c.requires.some in
     omega (arith, long, many, some)
 
 pub run_both-decoders-requires-clause-ready : goal.run_both-decoders-requires-clause-ready
 run_both-decoders-requires-clause-ready g c κs within =
-    c.in_ok-decoders.ensures.fresh c.in_ok-queue.queue c.in_ok-dealer.dealer (joins.back_fresh c.in_ok-queue.queue c.members-members.result c.args.workers c.in_ok-queue.takers_passes.items c.in_ok-queue.ensures.passes c.in_ok-queue.ensures.fresh c.in_ok-decoders_passes.decoders_passes.items c.in_ok-decoders_passes.ensures.tail)
-    (seats_of_others c.in_ok-dealer.dealer 1 c.in_ok-dealer.ensures.feeders c.in_ok-dealer.seats.items c.in_ok-others.others.items c.in_ok-dealer.ensures.seats c.in_ok-others.ensures.tail).0
+    c.in_ok-decoders.ensures.fresh c.in_ok-queue.queue c.in_ok-dealer.dealer (joins.back_fresh c.in_ok-queue.queue c.members-members.result c.args.workers _ c.in_ok-queue.ensures.count refl c.in_ok-queue.decoders_passes.items c.in_ok-queue.ensures.workers) c.in_ok-dealer.ensures.others
 
 pub close-requires-clause-all : goal.close-requires-clause-all
 close-requires-clause-all g c =
     let run = ok_of _ c.run_both-decoders.result.1 c.in_ok-cpus.field-0 c.in_ok-cpus.was c.run_both-decoders.ensures.ran in
-    let joined = c.in_ok-shelves.ensures.passes ∙ ap (λ (ps : List PassValue). ps ++ passes_of c.in_ok-cpus.field-0.takers.items) c.new-passes.ensures.items in
-    joins.closes_all c.args.job.now.setup.shape c.args.job.now.setup.dump c.in_ok-queue.queue c.members-members.result c.args.workers c.in_ok-queue.takers_passes.items
-    c.split_off.new.self.items c.in_ok-decoders_passes.decoders_passes.items c.in_ok-queue.ensures.passes c.in_ok-queue.ensures.fresh
-    c.in_ok-decoders_passes.ensures.items c.in_ok-decoders_passes.ensures.tail c.in_ok-decoders.decoders.items c.run_both-decoders.result.0.items
+    joins.closes_all c.args.job.now.setup.shape c.args.job.now.setup.dump c.in_ok-queue.queue c.members-members.result c.args.workers _
+    c.in_ok-queue.takers_passes.items c.in_ok-queue.decoders_passes.items c.in_ok-queue.ensures.count refl
+    c.in_ok-queue.ensures.takers c.in_ok-queue.ensures.workers c.in_ok-decoders.decoders.items c.run_both-decoders.result.0.items
     c.in_ok-takers.takers.items c.in_ok-cpus.field-0.takers.items c.in_ok-cpus.field-0.notes.items c.in_ok-takers.ensures c.in_ok-decoders.ensures.passes
-    c.run_both-decoders.ensures.decoded run.takers c.part_takers.new.passes.items c.part_decoders.new.passes.items joined c.in_ok-pieces.ensures.passes
+    c.run_both-decoders.ensures.decoded run.takers (passes_of c.in_ok-cpus.field-0.takers.items) c.in_ok-parted.parted.passes.items refl c.in_ok-parted.ensures.passes
 
 pub close-requires-clause-own : goal.close-requires-clause-own
 close-requires-clause-own g c =
     let run = ok_of _ c.run_both-decoders.result.1 c.in_ok-cpus.field-0 c.in_ok-cpus.was c.run_both-decoders.ensures.ran in
-    let joined = c.in_ok-shelves.ensures.passes ∙ ap (λ (ps : List PassValue). ps ++ passes_of c.in_ok-cpus.field-0.takers.items) c.new-passes.ensures.items in
-    joins.closes_own c.args.job.now.setup.shape c.args.job.now.setup.dump c.in_ok-queue.queue c.members-members.result c.args.workers c.in_ok-queue.takers_passes.items
-    c.split_off.new.self.items c.in_ok-decoders_passes.decoders_passes.items c.in_ok-queue.ensures.passes c.in_ok-queue.ensures.fresh
-    c.in_ok-decoders_passes.ensures.items c.in_ok-decoders_passes.ensures.tail c.in_ok-decoders.decoders.items c.run_both-decoders.result.0.items
+    joins.closes_own c.args.job.now.setup.shape c.args.job.now.setup.dump c.in_ok-queue.queue c.members-members.result c.args.workers _
+    c.in_ok-queue.takers_passes.items c.in_ok-queue.decoders_passes.items c.in_ok-queue.ensures.count refl
+    c.in_ok-queue.ensures.takers c.in_ok-queue.ensures.workers c.in_ok-decoders.decoders.items c.run_both-decoders.result.0.items
     c.in_ok-takers.takers.items c.in_ok-cpus.field-0.takers.items c.in_ok-cpus.field-0.notes.items c.in_ok-takers.ensures c.in_ok-decoders.ensures.passes
-    c.run_both-decoders.ensures.decoded run.takers c.part_takers.new.passes.items c.part_decoders.new.passes.items joined c.in_ok-pieces.ensures.passes
+    c.run_both-decoders.ensures.decoded run.takers (passes_of c.in_ok-cpus.field-0.takers.items) c.in_ok-parted.parted.passes.items refl c.in_ok-parted.ensures.passes
 
-pub put_all-requires : goal.put_all-requires
-put_all-requires g c =
+pub put_together-requires-clause-places : goal.put_together-requires-clause-places
+put_together-requires-clause-places g c = λ more rest.
     let run = ok_of _ c.run_both-decoders.result.1 c.in_ok-cpus.field-0 c.in_ok-cpus.was c.run_both-decoders.ensures.ran in
-    let joined = c.in_ok-shelves.ensures.passes ∙ ap (λ (ps : List PassValue). ps ++ passes_of c.in_ok-cpus.field-0.takers.items) c.new-passes.ensures.items in
-    let rest = c.in_ok-decode_left.ensures in
-    record {
-      places = joins.fit c.args.job.now.setup.shape c.args.job.now.setup.dump c.in_ok-queue.queue c.members-members.result c.args.workers c.in_ok-queue.takers_passes.items
-          c.split_off.new.self.items c.in_ok-decoders_passes.decoders_passes.items c.in_ok-queue.ensures.passes c.in_ok-queue.ensures.fresh
-          c.in_ok-decoders_passes.ensures.items c.in_ok-decoders_passes.ensures.tail c.in_ok-decoders.decoders.items c.run_both-decoders.result.0.items
-          c.in_ok-takers.takers.items c.in_ok-cpus.field-0.takers.items c.in_ok-cpus.field-0.notes.items c.in_ok-takers.ensures c.in_ok-decoders.ensures.passes
-          c.run_both-decoders.ensures.decoded run.takers c.part_takers.new.passes.items c.part_decoders.new.passes.items joined c.in_ok-pieces.ensures.passes
-          c.in_ok-shelves.ensures.numbered c.in_ok-pieces.ensures.full c.in_ok-left.left.items c.in_ok-left.ensures.left rest.0 rest.1
-          c.in_ok-pieces.pieces.items c.decode_left.new.pieces.items c.in_ok-pieces.ensures.pieces rest.2 c.in_ok-shelves.shelves.items c.in_ok-shelves.ensures.shelves;
-    }
+    joins.fit c.args.job.now.setup.shape c.args.job.now.setup.dump c.in_ok-queue.queue c.members-members.result c.args.workers _
+    c.in_ok-queue.takers_passes.items c.in_ok-queue.decoders_passes.items c.in_ok-queue.ensures.count refl
+    c.in_ok-queue.ensures.takers c.in_ok-queue.ensures.workers c.in_ok-decoders.decoders.items c.run_both-decoders.result.0.items
+    c.in_ok-takers.takers.items c.in_ok-cpus.field-0.takers.items c.in_ok-cpus.field-0.notes.items c.in_ok-takers.ensures c.in_ok-decoders.ensures.passes
+    c.run_both-decoders.ensures.decoded run.takers (passes_of c.in_ok-cpus.field-0.takers.items) c.in_ok-parted.parted.passes.items refl c.in_ok-parted.ensures.passes
+    c.in_ok-parted.ensures.numbered c.in_ok-parted.ensures.full c.in_ok-left.left.items c.in_ok-left.ensures.left more rest
+    c.in_ok-parted.parted.pieces.items _ c.in_ok-parted.ensures.pieces refl c.in_ok-parted.parted.shelves.items c.in_ok-parted.ensures.shelves
 
-pub read_all-requires : goal.read_all-requires
-read_all-requires g c =
+pub put_together-requires-clause-full : goal.put_together-requires-clause-full
+put_together-requires-clause-full g c = λ more rest.
     let run = ok_of _ c.run_both-decoders.result.1 c.in_ok-cpus.field-0 c.in_ok-cpus.was c.run_both-decoders.ensures.ran in
-    let joined = c.in_ok-shelves.ensures.passes ∙ ap (λ (ps : List PassValue). ps ++ passes_of c.in_ok-cpus.field-0.takers.items) c.new-passes.ensures.items in
-    let rest = c.in_ok-decode_left.ensures in
-    record {
-      full = joins.all_full c.args.job.now.setup.shape c.args.job.now.setup.dump c.in_ok-queue.queue c.members-members.result c.args.workers c.in_ok-queue.takers_passes.items
-          c.split_off.new.self.items c.in_ok-decoders_passes.decoders_passes.items c.in_ok-queue.ensures.passes c.in_ok-queue.ensures.fresh
-          c.in_ok-decoders_passes.ensures.items c.in_ok-decoders_passes.ensures.tail c.in_ok-decoders.decoders.items c.run_both-decoders.result.0.items
-          c.in_ok-takers.takers.items c.in_ok-cpus.field-0.takers.items c.in_ok-cpus.field-0.notes.items c.in_ok-takers.ensures c.in_ok-decoders.ensures.passes
-          c.run_both-decoders.ensures.decoded run.takers c.part_takers.new.passes.items c.part_decoders.new.passes.items joined c.in_ok-pieces.ensures.passes
-          c.in_ok-shelves.ensures.numbered c.in_ok-pieces.ensures.full c.in_ok-left.left.items c.in_ok-left.ensures.left rest.0 rest.1
-          c.in_ok-pieces.pieces.items c.decode_left.new.pieces.items c.in_ok-pieces.ensures.pieces rest.2 c.in_ok-shelves.shelves.items c.in_ok-shelves.ensures.shelves c.put_all.new.shelves.items c.put_all.ensures;
-    }
+    joins.all_full c.args.job.now.setup.shape c.args.job.now.setup.dump c.in_ok-queue.queue c.members-members.result c.args.workers _
+    c.in_ok-queue.takers_passes.items c.in_ok-queue.decoders_passes.items c.in_ok-queue.ensures.count refl
+    c.in_ok-queue.ensures.takers c.in_ok-queue.ensures.workers c.in_ok-decoders.decoders.items c.run_both-decoders.result.0.items
+    c.in_ok-takers.takers.items c.in_ok-cpus.field-0.takers.items c.in_ok-cpus.field-0.notes.items c.in_ok-takers.ensures c.in_ok-decoders.ensures.passes
+    c.run_both-decoders.ensures.decoded run.takers (passes_of c.in_ok-cpus.field-0.takers.items) c.in_ok-parted.parted.passes.items refl c.in_ok-parted.ensures.passes
+    c.in_ok-parted.ensures.numbered c.in_ok-parted.ensures.full c.in_ok-left.left.items c.in_ok-left.ensures.left more rest
+    c.in_ok-parted.parted.pieces.items _ c.in_ok-parted.ensures.pieces refl c.in_ok-parted.parted.shelves.items c.in_ok-parted.ensures.shelves _ refl
 
 pub report_run-requires-clause-outputs : goal.report_run-requires-clause-outputs
 report_run-requires-clause-outputs g c =
     let run = ok_of _ c.run_both-decoders.result.1 c.in_ok-cpus.field-0 c.in_ok-cpus.was c.run_both-decoders.ensures.ran in
-    let joined = c.in_ok-shelves.ensures.passes ∙ ap (λ (ps : List PassValue). ps ++ passes_of c.in_ok-cpus.field-0.takers.items) c.new-passes.ensures.items in
-    let rest = c.in_ok-decode_left.ensures in
-    joins.outputs_long c.args.job.now.setup.shape c.args.job.now.setup.dump c.in_ok-queue.queue c.members-members.result c.args.workers c.in_ok-queue.takers_passes.items
-    c.split_off.new.self.items c.in_ok-decoders_passes.decoders_passes.items c.in_ok-queue.ensures.passes c.in_ok-queue.ensures.fresh
-    c.in_ok-decoders_passes.ensures.items c.in_ok-decoders_passes.ensures.tail c.in_ok-decoders.decoders.items c.run_both-decoders.result.0.items
+    let more = c.in_ok-outputs.ensures.0 in
+    let rest = c.in_ok-outputs.ensures.1 in
+    joins.outputs_long c.args.job.now.setup.shape c.args.job.now.setup.dump c.in_ok-queue.queue c.members-members.result c.args.workers _
+    c.in_ok-queue.takers_passes.items c.in_ok-queue.decoders_passes.items c.in_ok-queue.ensures.count refl
+    c.in_ok-queue.ensures.takers c.in_ok-queue.ensures.workers c.in_ok-decoders.decoders.items c.run_both-decoders.result.0.items
     c.in_ok-takers.takers.items c.in_ok-cpus.field-0.takers.items c.in_ok-cpus.field-0.notes.items c.in_ok-takers.ensures c.in_ok-decoders.ensures.passes
-    c.run_both-decoders.ensures.decoded run.takers c.part_takers.new.passes.items c.part_decoders.new.passes.items joined c.in_ok-pieces.ensures.passes
-    c.in_ok-shelves.ensures.numbered c.in_ok-pieces.ensures.full c.in_ok-left.left.items c.in_ok-left.ensures.left rest.0 rest.1
-    c.in_ok-pieces.pieces.items c.decode_left.new.pieces.items c.in_ok-pieces.ensures.pieces rest.2 c.in_ok-shelves.shelves.items c.in_ok-shelves.ensures.shelves c.put_all.new.shelves.items c.put_all.ensures c.in_ok-outputs.outputs.items c.in_ok-outputs.ensures
+    c.run_both-decoders.ensures.decoded run.takers (passes_of c.in_ok-cpus.field-0.takers.items) c.in_ok-parted.parted.passes.items refl c.in_ok-parted.ensures.passes
+    c.in_ok-parted.ensures.numbered c.in_ok-parted.ensures.full c.in_ok-left.left.items c.in_ok-left.ensures.left more rest
+    c.in_ok-parted.parted.pieces.items _ c.in_ok-parted.ensures.pieces refl c.in_ok-parted.parted.shelves.items c.in_ok-parted.ensures.shelves _ refl c.in_ok-outputs.outputs.items c.in_ok-outputs.ensures.2
 
 pub report_run-requires-clause-rings : goal.report_run-requires-clause-rings
 report_run-requires-clause-rings g c =
@@ -129,16 +110,16 @@ report_run-requires-clause-rings g c =
 pub returns : goal.returns
 returns g c =
     let run = ok_of _ c.run_both-decoders.result.1 c.in_ok-cpus.field-0 c.in_ok-cpus.was c.run_both-decoders.ensures.ran in
-    let joined = c.in_ok-shelves.ensures.passes ∙ ap (λ (ps : List PassValue). ps ++ passes_of c.in_ok-cpus.field-0.takers.items) c.new-passes.ensures.items in
-    let rest = c.in_ok-decode_left.ensures in
+    let more = c.in_ok-outputs.ensures.0 in
+    let rest = c.in_ok-outputs.ensures.1 in
     let seen = option_map {T = g.row.S.Denot} {U = SourceSeen} g.S.Source.seen in
-    let outputs = joins.outputs_read c.args.job.now.setup.shape c.args.job.now.setup.dump c.in_ok-queue.queue c.members-members.result c.args.workers c.in_ok-queue.takers_passes.items
-    c.split_off.new.self.items c.in_ok-decoders_passes.decoders_passes.items c.in_ok-queue.ensures.passes c.in_ok-queue.ensures.fresh
-    c.in_ok-decoders_passes.ensures.items c.in_ok-decoders_passes.ensures.tail c.in_ok-decoders.decoders.items c.run_both-decoders.result.0.items
+    let outputs = joins.outputs_read c.args.job.now.setup.shape c.args.job.now.setup.dump c.in_ok-queue.queue c.members-members.result c.args.workers _
+    c.in_ok-queue.takers_passes.items c.in_ok-queue.decoders_passes.items c.in_ok-queue.ensures.count refl
+    c.in_ok-queue.ensures.takers c.in_ok-queue.ensures.workers c.in_ok-decoders.decoders.items c.run_both-decoders.result.0.items
     c.in_ok-takers.takers.items c.in_ok-cpus.field-0.takers.items c.in_ok-cpus.field-0.notes.items c.in_ok-takers.ensures c.in_ok-decoders.ensures.passes
-    c.run_both-decoders.ensures.decoded run.takers c.part_takers.new.passes.items c.part_decoders.new.passes.items joined c.in_ok-pieces.ensures.passes
-    c.in_ok-shelves.ensures.numbered c.in_ok-pieces.ensures.full c.in_ok-left.left.items c.in_ok-left.ensures.left rest.0 rest.1
-    c.in_ok-pieces.pieces.items c.decode_left.new.pieces.items c.in_ok-pieces.ensures.pieces rest.2 c.in_ok-shelves.shelves.items c.in_ok-shelves.ensures.shelves c.put_all.new.shelves.items c.put_all.ensures c.in_ok-outputs.outputs.items c.in_ok-outputs.ensures in
+    c.run_both-decoders.ensures.decoded run.takers (passes_of c.in_ok-cpus.field-0.takers.items) c.in_ok-parted.parted.passes.items refl c.in_ok-parted.ensures.passes
+    c.in_ok-parted.ensures.numbered c.in_ok-parted.ensures.full c.in_ok-left.left.items c.in_ok-left.ensures.left more rest
+    c.in_ok-parted.parted.pieces.items _ c.in_ok-parted.ensures.pieces refl c.in_ok-parted.parted.shelves.items c.in_ok-parted.ensures.shelves _ refl c.in_ok-outputs.outputs.items c.in_ok-outputs.ensures.2 in
     record {
       ran = IfOk-weaker c.report_run.result _ _ (λ ran told.
           told c.args.ticks.now (map seen c.args.sources.items) (record { bytes = run.bytes; ends = run.ends; gave = run.gave; run = run.run }) outputs)

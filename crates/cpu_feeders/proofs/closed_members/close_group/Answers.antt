@@ -24,8 +24,8 @@ loop-walker-init g c =
 pub loop-walker-preserved : goal.loop-walker-preserved
 loop-walker-preserved g c =
     let inv = c.loop-walker.invariant in
-    let lock = c.in-Some-pop_front.ensures.items in
-    let row = c.in-Some-pop_front-2.ensures.items in
+    let lock = c.first_of-member.ensures in
+    let row = c.first_of-list.ensures in
     let walker = c.in-Some.ensures.steps.0 in
     let lock_long = ap length lock in
     let row_long = ap length row in
@@ -37,14 +37,14 @@ loop-walker-preserved g c =
     record {
       members_left = omega (arith, lock_long, walker_long, members);
       stands_left = omega (arith, row_long, walker_long, stands);
-      at_end = (at_end_next g.T.Taker.base g.T.Taker.taken _ _ _ _ _ _ c.in-Some-pop_front.member c.in-Some-pop_front-2.list c.in-Some.walker
+      at_end = (at_end_next g.T.Taker.base g.T.Taker.taken _ _ _ _ _ _ c.first_of-member.result c.first_of-list.result c.in-Some.walker
           lock row walker inv.at_end).1;
       closed = λ more over.
           let pushed : c.push.new.self.items ++ more ≡ c.loop-walker.all.items ++ (c.in_ok-close_one.field-0 ∷ more) =
           ap (λ (some : List (Closed g.row.T.Denot)). some ++ more) c.in_ok-push.ensures.items
           ∙ append_assoc c.loop-walker.all.items (c.in_ok-close_one.field-0 ∷ []) more in
           rw pushed (inv.closed (c.in_ok-close_one.field-0 ∷ more)
-          (closed_next g.T.Taker.base g.T.Taker.taken _ _ _ _ _ _ c.in-Some-pop_front.member c.in-Some-pop_front-2.list c.in-Some.walker
+          (closed_next g.T.Taker.base g.T.Taker.taken _ _ _ _ _ _ c.first_of-member.result c.first_of-list.result c.in-Some.walker
           c.in_ok-close_one.field-0 more lock row walker (rw (← c.into_vec.ensures) one) over));
     }
 

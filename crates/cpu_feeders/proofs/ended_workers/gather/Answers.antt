@@ -1,12 +1,35 @@
-use Rattle.std.proofs.Common.{◌≡◌, ℕ, [], length, sym, ap, ◌∙◌, subst}
+use Rattle.std.proofs.Common.{◌≡◌, ℕ, List, [], length, refl, sym, ap, ◌∙◌, subst}
 use Rattle.std.specs.Prelude.{map, replicate}
 use Rattle.std.specs.List.{AllByRecursion}
+use Rattle.std.proofs.lemmas.List.{length-replicate}
 use Rattle.cpu_feeders.specs.declared.feeder.Feeder.{Feeder}
 use Rattle.cpu_feeders.specs.declared.timer.Timer.{Timer}
 use Rattle.cpu_feeders.proofs.FedFeeders.{feed_in, seat_in, stands_in}
-use Rattle.cpu_feeders.proofs.OneMore.{empty, last_items, next_all, next_items, next_rows, then_rows}
+use Rattle.cpu_feeders.proofs.OneMore.{empty, first_items, last_items, next_all, next_items, next_rows, then_rows}
 use Rattle.cpu_feeders.proofs.StandLists.{with_each_long}
 use Rattle.cpu_feeders.proofs.ended_workers.gather.Goals as goal
+
+pub loop-feeder-init : goal.loop-feeder-init
+loop-feeder-init g c =
+    let made = c.in_ok-left.ensures in
+    let left = c.in_ok-left.left in
+    let rest = c.into_iter-feeder-iterator.result.rest.items in
+    let all = c.args.feeders.items in
+    let same = c.into_iter-feeder-iterator.ensures.into_iter_gives.0 in
+    record {
+      cpus = first_items feed_in left.cpus.items rest all made.cpus same;
+      seats = first_items seat_in left.seats.items rest all made.seats same;
+      count = ap length made.stands ∙ length-replicate c.args.members [];
+      as_many = subst (λ (fs : List (Feeder g.row.S.Denot)). AllByRecursion (λ (f : Feeder g.row.S.Denot). length f.stands.items ≡ c.args.members) fs)
+          (sym same) c.requires.feeders;
+      stands = rw (made.stands, same) refl;
+    }
+
+pub add-requires : goal.add-requires
+add-requires g c =
+    let inv = c.loop-feeder.invariant in
+    let here = next_all (λ (f : Feeder g.row.S.Denot). length f.stands.items ≡ c.args.members) _ _ c.in-Some.feeder c.in-Some.ensures.steps.0 inv.as_many in
+    record { count = here.0 ∙ sym inv.count }
 
 pub loop-feeder-preserved : goal.loop-feeder-preserved
 loop-feeder-preserved g c =

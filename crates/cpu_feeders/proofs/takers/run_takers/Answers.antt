@@ -1,5 +1,7 @@
+use Rattle.std.proofs.Common.{subst, sym}
 use Rattle.std.proofs.lemmas.Result.{IfOk-weaker}
 use Rattle.std.specs.Prelude.{map, option_map}
+use Rattle.setup_text.specs.Sound.{AreMoments}
 use Rattle.tap_outside.specs.Seen.{SourceSeen}
 use Rattle.cpu_feeders.specs.WorkerEffects.{IsReadyWorker}
 use Rattle.cpu_feeders.specs.declared.worker.Worker.{Worker}
@@ -7,6 +9,15 @@ use Rattle.cpu_feeders.proofs.AtEnd.{at_place}
 use Rattle.cpu_feeders.proofs.Hired.{hired_ready, some_hired}
 use Rattle.cpu_feeders.proofs.WorkedCrew.{have_worked}
 use Rattle.cpu_feeders.proofs.takers.run_takers.Goals as goal
+
+pub run_all-requires-clause-setup : goal.run_all-requires-clause-setup
+run_all-requires-clause-setup g c κs within = c.requires.setup
+
+pub run_all-requires-clause-moments : goal.run_all-requires-clause-moments
+run_all-requires-clause-moments g c κs within = subst AreMoments (sym c.as_slice.ensures) c.requires.moments
+
+pub dismiss-requires-clause-setup : goal.dismiss-requires-clause-setup
+dismiss-requires-clause-setup g c = c.requires.setup
 
 pub run_all-requires-clause-some : goal.run_all-requires-clause-some
 run_all-requires-clause-some g c κs within =

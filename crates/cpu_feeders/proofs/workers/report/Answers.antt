@@ -11,8 +11,8 @@ pub loop-notes-preserved : goal.loop-notes-preserved
 loop-notes-preserved g c =
     let inv = c.loop-notes.invariant in
     let notes = c.in-Some.ensures.steps.0 in
-    let reader = c.in-Some-pop_front.ensures.items in
-    let ring = c.in-Some-pop_front-2.ensures.items in
+    let reader = c.first_of.ensures in
+    let ring = c.first_of-ring.ensures in
     let notes_long = ap length notes in
     let reader_long = ap length reader in
     let ring_long = ap length ring in
@@ -24,21 +24,21 @@ loop-notes-preserved g c =
       walked = outputs.walked;
       dump = outputs.dump;
       blocks = outputs.blocks;
-      ring = Some c.in-Some-pop_front-2.ring;
+      ring = Some c.first_of-ring.result;
     } in
     record {
-      held = (next_all (λ (r : ReaderValue). r.held ≡ None) _ _ c.in-Some-pop_front.reader reader inv.held).1;
+      held = (next_all (λ (r : ReaderValue). r.held ≡ None) _ _ c.first_of.result reader inv.held).1;
       many = omega (arith, many, notes_long, reader_long);
       rings = omega (arith, rings, notes_long, ring_long);
       reported = λ shape dump readers.
           let got = inv.reported shape dump readers in
-          let parts = zip_next (IsReaderOf shape dump) _ _ _ _ c.in-Some.notes c.in-Some-pop_front.reader notes reader got.0 in (
+          let parts = zip_next (IsReaderOf shape dump) _ _ _ _ c.in-Some.notes c.first_of.result notes reader got.0 in (
             parts.1,
             λ more are.
                 let pushed : c.push.new.self ++ more ≡ c.loop-notes.members ++ (member ∷ more) =
                 ap (λ (some : List MemberReport). some ++ more) c.in_ok-push.ensures.ok ∙ append_assoc c.loop-notes.members (member ∷ []) more in
-                rw pushed (got.1 (member ∷ more) (reported_next shape dump _ _ _ _ more c.in-Some.notes c.in-Some-pop_front-2.ring member notes ring
-                (one_reported shape dump c.in-Some.notes c.in-Some-pop_front-2.ring c.in-Some-pop_front.reader outputs parts.0 c.outputs-outputs.ensures) are)),
+                rw pushed (got.1 (member ∷ more) (reported_next shape dump _ _ _ _ more c.in-Some.notes c.first_of-ring.result member notes ring
+                (one_reported shape dump c.in-Some.notes c.first_of-ring.result c.first_of.result outputs parts.0 c.outputs-outputs.ensures) are)),
           );
     }
 

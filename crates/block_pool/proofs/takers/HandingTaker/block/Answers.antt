@@ -1,5 +1,4 @@
-use Rattle.std.proofs.Common.{◌≡◌, ◌+◌, ◌++◌, ◌∷◌, [], List, ℕ, length, refl, sym, ap, ◌∙◌, subst, rules}
-use Rattle.std.specs.Prelude.{map}
+use Rattle.std.proofs.Common.{◌≡◌, ◌+◌, ◌++◌, ◌∷◌, [], List, ℕ, refl, sym, ap, ◌∙◌, subst, rules}
 use Rattle.std.proofs.lemmas.List.{map-append}
 use Rattle.reader_walk.specs.Takers.{Taken, taken_in}
 use Rattle.tp_layout.specs.Blocks.{BeginsLawfully}
