@@ -1,29 +1,30 @@
 //! A capture cut at every place: fed in two pieces, and ended there.
 use crate::block_feeding::{Ended, decode};
 use crate::block_orders::LITTLE;
-use frame_view::Frames;
+use frame_view::{Frames, Memory};
 use pcapng_blocks::{BlockDecoder, BlockError};
 use std::alloc::Global;
 use std::process::Abort;
 use std::test::Fail;
 
-/// A capture that is fed in two pieces gives its frame.
-fn check_pieces(rt: &impl Abort, alloc: Global, first: &[u8], second: &[u8]) -> Result<(), Fail> {
+/// What each of two feeds answers, what the end answers, and how many frames there are.
+type Fed = (Option<BlockError>, Option<BlockError>, Ended, usize);
+
+/// Feeds a capture in two pieces.
+fn feed_two(alloc: Global, first: &[u8], second: &[u8]) -> Result<Fed, Memory> {
     let mut frames = Frames::new(alloc);
     let mut decoder = BlockDecoder::new(alloc, 3);
-    let cut = first.len();
-    assert_eq!(rt; decoder.feed(first, &mut frames)?, None, "{cut}");
-    assert_eq!(rt; decoder.feed(second, &mut frames)?, None, "{cut}");
-    assert_eq!(rt; (decoder.end(), decoder.rest()), (Ok(()), 0), "{cut}");
-    assert_eq!(rt; frames.len(), 1, "{cut}");
-    Ok(())
+    let early = decoder.feed(first, &mut frames)?;
+    let late = decoder.feed(second, &mut frames)?;
+    Ok((early, late, (decoder.end(), decoder.rest()), frames.len()))
 }
 
 #[test]
 fn a_cut_between_pieces_changes_nothing(rt: HostRuntime) -> Result<(), Fail> {
     for cut in 0..97 {
         let (first, second) = LITTLE.as_slice().split_at(cut);
-        check_pieces(&rt, rt.alloc(), first, second)?;
+        let fed = feed_two(rt.alloc(), first, second)?;
+        assert_eq!(rt; (cut, fed), (cut, (None, None, (Ok(()), 0), 1)));
     }
     Ok(())
 }
@@ -49,8 +50,11 @@ fn end_at(length: u32) -> Ended {
 fn check_cut(rt: &impl Abort, alloc: Global, start: &[u8], length: u32) {
     let mut frames = Frames::new(alloc);
     let answer = decode(alloc, start, 5, &mut frames);
-    assert_eq!(rt; answer, (None, end_at(length)), "{length}");
-    assert_eq!(rt; frames.len(), (length == 96) as usize, "{length}");
+    let count = (length == 96) as usize;
+    assert_eq!(rt;
+        (length, answer, frames.len()),
+        (length, (None, end_at(length)), count)
+    );
 }
 
 #[test]

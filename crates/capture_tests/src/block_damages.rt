@@ -1,5 +1,5 @@
 //! A capture with one field overwritten: the damage, its place, and the frames before it.
-use crate::block_feeding::decode;
+use crate::block_feeding::{Ended, decode};
 use crate::block_orders::LITTLE;
 use frame_view::{Frames, Memory};
 use pcapng_blocks::BlockError;
@@ -112,20 +112,32 @@ fn overwritten(alloc: Global, place: usize, field: [u8; 4]) -> Result<Vec<u8>, M
     Ok(bytes)
 }
 
+/// What the capture with a field overwritten, fed in pieces of a size, answers.
+fn answer_of(
+    alloc: Global,
+    place: usize,
+    field: [u8; 4],
+    size: usize,
+) -> Result<(Option<BlockError>, Ended), Memory> {
+    let bytes = overwritten(alloc, place, field)?;
+    let mut frames = Frames::new(alloc);
+    Ok(decode(alloc, &bytes, size, &mut frames))
+}
+
 /// Holds the damage of each row, fed in pieces of a size, to the row.
-fn check_damage(rt: &impl Abort, alloc: Global, rows: &[Row], size: usize) -> Result<(), Fail> {
+fn check_damage(rt: &impl Abort, alloc: Global, rows: &[Row], size: usize) -> Result<(), Memory> {
     for (name, place, field, damage) in rows {
-        let bytes = overwritten(alloc, *place, *field)?;
-        let mut frames = Frames::new(alloc);
+        let answer = answer_of(alloc, *place, *field, size)?;
         let end = damage.map_or(Ok(()), Err);
-        let answer = decode(alloc, &bytes, size, &mut frames);
-        assert_eq!(rt; answer, (*damage, (end, 0)), "{name}");
+        assert_eq!(rt; (*name, answer), (*name, (*damage, (end, 0))));
     }
     Ok(())
 }
 
 #[test]
 fn names_damage(rt: HostRuntime) -> Result<(), Fail> {
-    check_damage(&rt, rt.alloc(), &ROWS, 1)?;
-    check_damage(&rt, rt.alloc(), &ROWS, 96)
+    let rows = ROWS.as_slice();
+    check_damage(&rt, rt.alloc(), rows, 1)?;
+    check_damage(&rt, rt.alloc(), rows, 96)?;
+    Ok(())
 }

@@ -66,16 +66,18 @@ fn check_times(rt: &impl Abort, alloc: Global, order: Order, rows: &[Row]) -> Re
         let bytes = timed(alloc, order, row)?;
         let mut frames = Frames::new(alloc);
         let answer = decode(alloc, bytes.as_slice(), 4096, &mut frames);
-        assert_eq!(rt; answer, (None, (Ok(()), 0)), "{}", row.0);
-        assert_eq!(rt; frames.len(), 1, "{}", row.0);
         let time = Some(((3, 0), (row.4, row.5), 4));
-        assert_eq!(rt; seen(frames.get(0)), time, "{}", row.0);
+        assert_eq!(rt;
+            (row.0, answer, frames.len(), seen(frames.get(0))),
+            (row.0, (None, (Ok(()), 0)), 1, time)
+        );
     }
     Ok(())
 }
 
 #[test]
 fn reads_each_unit(rt: HostRuntime) -> Result<(), Fail> {
-    check_times(&rt, rt.alloc(), Order::Little, &ROWS)?;
-    check_times(&rt, rt.alloc(), Order::Big, &ROWS)
+    let rows = ROWS.as_slice();
+    check_times(&rt, rt.alloc(), Order::Little, rows)?;
+    check_times(&rt, rt.alloc(), Order::Big, rows)
 }

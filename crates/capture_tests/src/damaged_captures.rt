@@ -83,21 +83,32 @@ fn overwritten(alloc: Global, place: usize, field: [u8; 4]) -> Result<Vec<u8>, M
     Ok(bytes)
 }
 
+/// What the capture with a field overwritten answers, and how many frames it gives.
+fn read_of(
+    alloc: Global,
+    place: usize,
+    field: [u8; 4],
+) -> Result<((Answer, Answer, u32), usize), Memory> {
+    let bytes = overwritten(alloc, place, field)?;
+    let mut frames = Frames::new(alloc);
+    let answers = decode(alloc, &bytes, 7, &mut frames);
+    Ok((answers, frames.len()))
+}
+
 /// Holds the answers and the frames of each row to the row.
-fn check_damage(rt: &impl Abort, alloc: Global, rows: &[Row]) -> Result<(), Fail> {
+fn check_damage(rt: &impl Abort, alloc: Global, rows: &[Row]) -> Result<(), Memory> {
     for (name, place, field, count, answer) in rows {
-        let bytes = overwritten(alloc, *place, *field)?;
-        let mut frames = Frames::new(alloc);
-        let answers = decode(alloc, &bytes, 7, &mut frames);
-        assert_eq!(rt; answers, (*answer, *answer, 0), "{name}");
-        assert_eq!(rt; frames.len(), *count, "{name}");
+        let read = read_of(alloc, *place, *field)?;
+        let wanted = ((*answer, *answer, 0), *count);
+        assert_eq!(rt; (*name, read), (*name, wanted));
     }
     Ok(())
 }
 
 #[test]
 fn names_damage(rt: HostRuntime) -> Result<(), Fail> {
-    check_damage(&rt, rt.alloc(), &ROWS)
+    check_damage(&rt, rt.alloc(), &ROWS)?;
+    Ok(())
 }
 
 /// A length, the end, and the bytes that are kept.
@@ -118,7 +129,7 @@ fn check_cuts(rt: &impl Abort, alloc: Global, capture: &[u8], rows: &[Cut]) {
         let mut frames = Frames::new(alloc);
         let cut = capture.get(..*length).unwrap_or(&[]);
         let answers = decode(alloc, cut, 65_536, &mut frames);
-        assert_eq!(rt; answers, (Ok(()), *end, *rest), "{length} bytes");
+        assert_eq!(rt; (*length, answers), (*length, (Ok(()), *end, *rest)));
     }
 }
 

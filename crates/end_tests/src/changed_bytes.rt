@@ -7,6 +7,7 @@ use crate::texts::filled;
 use frame_view::Memory;
 use slot_layout::read_slot;
 use std::alloc::Global;
+use std::process::Abort;
 use std::test::Fail;
 use tp_layout::{LayoutKind, Shape};
 
@@ -56,35 +57,30 @@ fn changed(alloc: Global, shape: &Shape, slot: &[u8], place: u32) -> Result<Faul
     Ok(read.err().map(|error| (error.kind, error.at)))
 }
 
-/// The first place whose change gives another fault than is expected, and that fault.
-fn first_other(
+/// Each byte of a slot that is changed gives the fault that is expected.
+fn check_bytes(
+    rt: &impl Abort,
     alloc: Global,
     shape: &Shape,
     slot: &[u8],
     tagged: bool,
-) -> Result<Option<(u32, Fault)>, Memory>
+) -> Result<(), Memory>
     requires { length slot.now ≡ shape.now.frame_size }
 {
     for place in 0..84 {
         let fault = changed(alloc, shape, slot, place)?;
-        if fault != fault_with_tag(place, tagged) {
-            return Ok(Some((place, fault)));
-        }
+        assert_eq!(rt; (place, fault), (place, fault_with_tag(place, tagged)));
     }
-    Ok(None)
+    Ok(())
 }
 
 /// The same of a slot that is written with a tag or without.
-fn first_other_of(
-    alloc: Global,
-    shape: &Shape,
-    tagged: bool,
-) -> Result<Option<(u32, Fault)>, Memory>
+fn check_slot(rt: &impl Abort, alloc: Global, shape: &Shape, tagged: bool) -> Result<(), Memory>
     requires checked { IsSlotShape shape.now }
     requires room { 80 ≤ shape.now.frame_size }
 {
     let (slot, _) = filled(alloc, shape, tagged, false)?;
-    first_other(alloc, shape, slot.bytes(), tagged)
+    check_bytes(rt, alloc, shape, slot.bytes(), tagged)
 }
 
 #[test]
@@ -94,7 +90,7 @@ fn each_byte_of_a_slot_changed(rt: HostRuntime) -> Result<(), Fail> {
     if shape.frame_size() < 80 {
         return Err("a slot has room for a frame".into());
     }
-    assert_eq!(rt; first_other_of(alloc, &shape, false)?, None);
-    assert_eq!(rt; first_other_of(alloc, &shape, true)?, None);
+    check_slot(&rt, alloc, &shape, false)?;
+    check_slot(&rt, alloc, &shape, true)?;
     Ok(())
 }

@@ -151,10 +151,12 @@ fn each_line_stands_once_and_in_order(rt: HostRuntime) -> Result<(), Fail> {
     // how many seats there are, how many lines each writes, and how many the diary has in the end
     for (seats, lines, all) in [(1, 3, 3), (2, 2, 4), (3, 1000, 3000)] {
         let diary = written_by_all(&rt, rt.alloc(), seats, lines)?;
-        assert_eq!(rt; diary.lines.len(), all, "{seats} seats");
         let counts = lines_of_seats(rt.alloc(), &diary, seats)?;
         let each = vec![in rt.alloc(); lines; seats as usize]?;
-        assert_eq!(rt; counts.as_slice(), each.as_slice(), "{seats} seats");
+        assert_eq!(rt;
+            (seats, diary.lines.len(), counts.as_slice()),
+            (seats, all, each.as_slice())
+        );
     }
     Ok(())
 }

@@ -10,6 +10,7 @@ use frame_view::{ByteList, Memory};
 use reader_walk::Outputs;
 use ring_model::Put;
 use std::alloc::Global;
+use std::process::Abort;
 use std::test::Fail;
 use tp_layout::Shape;
 use v2_ring::SlotReader;
@@ -118,6 +119,19 @@ fn run(alloc: Global, shape: &Shape, acts: &[(Act, Came)]) -> Result<(u32, Outpu
     Ok((others, reader.outputs()))
 }
 
+/// Five slots were read, and the one after a drop has TP_STATUS_LOSING.
+fn check_outputs(rt: &impl Abort, outputs: &Outputs) {
+    let dump = &outputs.dump;
+    assert_eq!(rt;
+        (outputs.walked.len(), dump.len(), outputs.blocks),
+        (5, 630, 5)
+    );
+    assert_eq!(rt;
+        (status(dump, 0), status(dump, 3), status(dump, 4)),
+        (Some(1), Some(1), Some(5))
+    );
+}
+
 #[test]
 fn a_full_ring_drops_and_goes_on(rt: HostRuntime) -> Result<(), Fail> {
     let alloc = rt.alloc();
@@ -127,15 +141,6 @@ fn a_full_ring_drops_and_goes_on(rt: HostRuntime) -> Result<(), Fail> {
     }
     let (others, outputs) = run(alloc, &shape, &ACTS)?;
     assert_eq!(rt; others, 0);
-    let dump = outputs.dump;
-    assert_eq!(rt;
-        (outputs.walked.len(), dump.len(), outputs.blocks),
-        (5, 630, 5)
-    );
-    // the slot after a drop has TP_STATUS_LOSING
-    assert_eq!(rt;
-        (status(&dump, 0), status(&dump, 3), status(&dump, 4)),
-        (Some(1), Some(1), Some(5))
-    );
+    check_outputs(&rt, &outputs);
     Ok(())
 }

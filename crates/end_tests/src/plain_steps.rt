@@ -41,15 +41,17 @@ fn a_place_is_free_once_its_block_was_released(rt: HostRuntime) -> Result<(), Fa
     let alloc = rt.alloc();
     let blocks = Vec::from_array(alloc, [Letter(0), Letter(0)])?;
     let mut ring = PlainRing::new(alloc, blocks)?;
-    assert_eq!(rt; read(&mut ring), None);
-    assert_eq!(rt; fill(&mut ring, b'a'), None);
-    assert_eq!(rt; fill(&mut ring, b'b'), None);
-    assert_eq!(rt; fill(&mut ring, b'c'), Some(1));
-    assert_eq!(rt; read(&mut ring), Some(b'a'));
-    assert_eq!(rt; fill(&mut ring, b'c'), None);
-    assert_eq!(rt; fill(&mut ring, b'd'), Some(2));
-    assert_eq!(rt; read(&mut ring), Some(b'b'));
-    assert_eq!(rt; read(&mut ring), Some(b'c'));
-    assert_eq!(rt; read(&mut ring), None);
+    let empty = read(&mut ring);
+    let filled = [
+        fill(&mut ring, b'a'),
+        fill(&mut ring, b'b'),
+        fill(&mut ring, b'c'),
+    ];
+    let first = read(&mut ring);
+    let again = [fill(&mut ring, b'c'), fill(&mut ring, b'd')];
+    let rest = [read(&mut ring), read(&mut ring), read(&mut ring)];
+    assert_eq!(rt; (empty, filled), (None, [None, None, Some(1)]));
+    assert_eq!(rt; (first, again), (Some(b'a'), [None, Some(2)]));
+    assert_eq!(rt; rest, [Some(b'b'), Some(b'c'), None]);
     Ok(())
 }

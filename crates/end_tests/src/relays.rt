@@ -6,6 +6,7 @@ use crate::table_steps::{fill, read};
 use frame_view::Memory;
 use ring_words::{Pending, TableFeeder, TableWalker, finish, table_ring};
 use std::alloc::Global;
+use std::process::Abort;
 use std::sync::Wait;
 use std::test::Fail;
 use std::thread;
@@ -106,6 +107,20 @@ fn relay<R: Threads + Wait + Sync>(
     Ok((letters, pending))
 }
 
+/// Appends the letters of what is left in a ring, each with the status 1.
+fn push_pending(
+    rt: &impl Abort,
+    pending: &Pending<Letter>,
+    letters: &mut Vec<u8>,
+) -> Result<(), Fail> {
+    for at in 0..pending.len() {
+        let (letter, status) = pending.get(at).ok_or("a pending block")?;
+        assert_eq!(rt; (at, status), (at, 1));
+        letters.push(letter.0)?;
+    }
+    Ok(())
+}
+
 #[test]
 fn what_one_thread_retires_another_takes(rt: HostRuntime) -> Result<(), Fail> {
     let alloc = rt.alloc();
@@ -117,11 +132,7 @@ fn what_one_thread_retires_another_takes(rt: HostRuntime) -> Result<(), Fail> {
         return Err("a thousand letters".into());
     }
     let (mut letters, pending) = relay(&rt, alloc, all.as_slice(), 998)?;
-    for at in 0..pending.len() {
-        let (letter, status) = pending.get(at).ok_or("a pending block")?;
-        assert_eq!(rt; status, 1, "pending block {at}");
-        letters.push(letter.0)?;
-    }
+    push_pending(&rt, &pending, &mut letters)?;
     assert_eq!(rt; letters.as_slice(), all.as_slice());
     Ok(())
 }

@@ -2,7 +2,12 @@
 ghost use Rattle.std.specs.Prelude.{◌≡◌, ◌<◌, ◌≤◌, ◌+◌, false, length, IfSome};
 
 use crate::letters::Letter;
-use ring_words::{FeederEnd, Next, TableFeeder, TableWalker, WalkerEnd, finish, table_ring};
+use frame_view::Memory;
+use ring_words::{
+    FeederEnd, Next, Pending, TableFeeder, TableWalker, WalkerEnd, finish, table_ring,
+};
+use std::alloc::Global;
+use std::process::Abort;
 use std::test::Fail;
 
 /// Fills the next block with a letter and retires it; or the number of the block that is still there.
@@ -40,23 +45,27 @@ fn a_place_is_held_until_its_block_was_released(rt: HostRuntime) -> Result<(), F
     let alloc = rt.alloc();
     let blocks = Vec::from_array(alloc, [Letter(0), Letter(0)])?;
     let (mut feeder, mut walker) = table_ring(alloc, blocks)?;
-    assert_eq!(rt; read(&mut walker), None);
-    assert_eq!(rt; fill(&mut feeder, b'a'), None);
-    assert_eq!(rt; fill(&mut feeder, b'b'), None);
-    assert_eq!(rt; fill(&mut feeder, b'c'), Some(1));
-    assert_eq!(rt; read(&mut walker), Some(b'a'));
+    let empty = read(&mut walker);
+    let filled = [
+        fill(&mut feeder, b'a'),
+        fill(&mut feeder, b'b'),
+        fill(&mut feeder, b'c'),
+    ];
+    let first = read(&mut walker);
     let free = matches!(feeder.next(), Next::Free { .. });
-    assert!(rt; free);
+    assert_eq!(rt; (empty, filled), (None, [None, None, Some(1)]));
+    assert_eq!(rt; (first, free), (Some(b'a'), true));
     let pending = finish(alloc, feeder, walker)?;
-    assert_eq!(rt; pending.len(), 1);
-    assert_eq!(rt;
-        format!(in alloc; "{pending:?}")?.as_str(),
-        "Pending { blocks: 1, .. }"
-    );
-    let Some((letter, status)) = pending.get(0) else {
-        panic!(rt; "no block is pending")
-    };
-    assert_eq!(rt; (letter.0, status), (b'b', 1));
+    check_pending(&rt, alloc, &pending)?;
+    Ok(())
+}
+
+/// One block with the letter b is pending.
+fn check_pending(rt: &impl Abort, alloc: Global, pending: &Pending<Letter>) -> Result<(), Memory> {
+    let text = format!(in alloc; "{pending:?}")?;
+    assert_eq!(rt; text.as_str(), "Pending { blocks: 1, .. }");
+    let first = pending.get(0).map(|(letter, status)| (letter.0, status));
+    assert_eq!(rt; (pending.len(), first), (1, Some((b'b', 1))));
     assert!(rt; pending.get(1).is_none());
     Ok(())
 }

@@ -101,7 +101,7 @@ fn a_slot_is_read_as_it_was_written(rt: HostRuntime) -> Result<(), Fail> {
     ] {
         let bytes = expected(alloc, status, tagged)?;
         let seen = seen(alloc, &shape, tagged, losing, bytes.as_slice())?;
-        assert_eq!(rt; seen, (u32::from(status), true, true), "{status}");
+        assert_eq!(rt; seen, (u32::from(status), true, true));
     }
     Ok(())
 }

@@ -10,6 +10,7 @@ use reader_walk::Outputs;
 use ring_model::Put;
 use ring_words::{TableFeeder, TableWalker, finish, table_ring};
 use std::alloc::Global;
+use std::process::Abort;
 use std::test::Fail;
 use std::thread;
 use std::thread::Threads;
@@ -113,6 +114,15 @@ fn pass_on<R: Threads + Sync>(
     Ok((outputs, pending.len()))
 }
 
+/// Each of the first hundred packets that were read has its place for its seconds.
+fn check_packets(rt: &impl Abort, outputs: &Outputs) -> Result<(), Fail> {
+    for at in 0..100 {
+        let packet = outputs.walked.get(at).ok_or("there is a packet")?;
+        assert_eq!(rt; packet.sec as usize, at);
+    }
+    Ok(())
+}
+
 #[test]
 fn a_hundred_slots_from_one_thread_to_another(rt: HostRuntime) -> Result<(), Fail> {
     let alloc = rt.alloc();
@@ -122,9 +132,5 @@ fn a_hundred_slots_from_one_thread_to_another(rt: HostRuntime) -> Result<(), Fai
     }
     let (outputs, left) = pass_on(&rt, alloc, &shape, 100)?;
     assert_eq!(rt; (outputs.blocks, outputs.walked.len(), left), (100, 100, 0));
-    for at in 0..100 {
-        let packet = outputs.walked.get(at).ok_or("there is a packet")?;
-        assert_eq!(rt; packet.sec as usize, at, "packet {at}");
-    }
-    Ok(())
+    check_packets(&rt, &outputs)
 }

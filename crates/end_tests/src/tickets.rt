@@ -4,6 +4,7 @@ ghost use Rattle.ticket_dealer.specs.Seats.{IsFreshOf, IsSeatOf, fresh_seat};
 
 use frame_view::Memory;
 use std::alloc::Global;
+use std::process::Abort;
 use std::test::Fail;
 use std::thread;
 use std::thread::Threads;
@@ -73,37 +74,52 @@ fn drawn_by_two<R: Threads + Sync>(
     Ok((dealer.close(seats), mine, yours))
 }
 
+/// Tickets that were drawn one after another stand in order.
+fn check_order(rt: &impl Abort, tickets: &[u64]) {
+    for k in 1..tickets.len() {
+        assert!(rt; tickets[k - 1] < tickets[k], "in order at {k}");
+    }
+}
+
+/// Each of these tickets is its place.
+fn check_places(rt: &impl Abort, tickets: &[u64]) {
+    for (place, ticket) in tickets.iter().enumerate() {
+        assert_eq!(rt; *ticket, place as u64);
+    }
+}
+
+/// All tickets in order.
+fn sorted(alloc: Global, mine: &[u64], yours: &[u64]) -> Result<Vec<u64>, Memory> {
+    let mut all = mine.to_vec(alloc)?;
+    all.extend_from_slice(yours)?;
+    all.sort()?;
+    Ok(all)
+}
+
 #[test]
 fn each_ticket_is_drawn_once(rt: HostRuntime) -> Result<(), Fail> {
     let (count, mine, yours) = drawn_by_two(&rt, rt.alloc(), 1000)?;
-    assert_eq!(rt; count, 2000);
-    let mut all = Vec::with_capacity(rt.alloc(), 2000)?;
-    for tickets in [&mine, &yours] {
-        for k in 1..tickets.len() {
-            assert!(rt; tickets[k - 1] < tickets[k], "in order at {k}");
-        }
-        for ticket in tickets {
-            all.push(*ticket)?;
-        }
-    }
-    all.sort()?;
-    for k in 0..all.len() {
-        assert_eq!(rt; all[k], k as u64);
-    }
+    check_order(&rt, mine.as_slice());
+    check_order(&rt, yours.as_slice());
+    let all = sorted(rt.alloc(), mine.as_slice(), yours.as_slice())?;
+    assert_eq!(rt; (count, all.len()), (2000, 2000));
+    check_places(&rt, all.as_slice());
     Ok(())
 }
 
 #[test]
 fn feeders_end(rt: HostRuntime) -> Result<(), Fail> {
     let (dealer, mut first, mut second, mut seats) = two_feeders(rt.alloc())?;
-    assert_eq!(rt; dealer.live(&mut first), 2);
+    let both = dealer.live(&mut first);
     dealer.done(&mut second);
-    assert_eq!(rt; dealer.live(&mut first), 1);
-    assert_eq!(rt; dealer.draw(&mut second), 0);
+    let one = dealer.live(&mut first);
+    let ticket = dealer.draw(&mut second);
     dealer.done(&mut first);
-    assert_eq!(rt; dealer.live(&mut second), 0);
+    let none = dealer.live(&mut second);
     seats.push(first)?;
     seats.push(second)?;
-    assert_eq!(rt; dealer.close(seats), 1);
+    let drawn = dealer.close(seats);
+    assert_eq!(rt; (both, one, none), (2, 1, 0));
+    assert_eq!(rt; (ticket, drawn), (0, 1));
     Ok(())
 }

@@ -5,6 +5,7 @@ ghost use Rattle.capture_file.specs.Laws.{IsCaptured};
 use fanout_group::{Mode, Plan, ReceivePath};
 use frame_view::{ByteList, Frame, Memory, Tag};
 use std::alloc::Global;
+use std::process::Abort;
 use std::test::Fail;
 
 /// The link header of an IPv4 frame after a customer tag, and an IPv4 header from 10.0.0.1 to
@@ -39,24 +40,48 @@ fn fragment(alloc: Global, index: u32, place: u16, content: &[u8]) -> Result<Fra
     })
 }
 
-#[test]
-fn tagged_fragments_arrive_as_one_datagram(rt: HostRuntime) -> Result<(), Fail> {
-    let alloc = rt.alloc();
-    let mut path = ReceivePath::new(alloc, Plan::check(1, Mode::Cpu, 0x8000, false)?);
-    let last = path.arrive(fragment(alloc, 0, 2, &[20, 21, 22, 23])?)?;
-    let first = path.arrive(fragment(alloc, 1, 0x2000, &[1; 8])?)?;
-    assert!(rt; last.is_none() && first.is_none());
-    let whole = path.arrive(fragment(alloc, 2, 0x2001, &[2; 8])?)?;
-    let whole = whole.ok_or("the third fragment makes it whole")?;
+/// What arrives at a fragment.
+fn arrive(
+    alloc: Global,
+    path: &mut ReceivePath,
+    index: u32,
+    place: u16,
+    content: &[u8],
+) -> Result<Option<Frame>, Memory>
+    requires few { length content.now ≤ 100 }
+{
+    path.arrive(fragment(alloc, index, place, content)?)
+}
+
+/// Whether something arrives at the last fragment of a datagram, at its first after that, and at a copy once it is whole;
+/// and what arrives at the second, which makes it whole.
+fn arrivals(alloc: Global, plan: Plan) -> Result<([bool; 3], Option<Frame>), Memory> {
+    let mut path = ReceivePath::new(alloc, plan);
+    let last = arrive(alloc, &mut path, 0, 2, &[20, 21, 22, 23])?.is_some();
+    let first = arrive(alloc, &mut path, 1, 0x2000, &[1; 8])?.is_some();
+    let whole = arrive(alloc, &mut path, 2, 0x2001, &[2; 8])?;
+    let late = arrive(alloc, &mut path, 3, 0x2001, &[2; 8])?.is_some();
+    Ok(([last, first, late], whole))
+}
+
+/// Holds the datagram of 40 bytes, with the tag of its frames, to what is wanted.
+fn check_whole(rt: &impl Abort, whole: &Frame) {
     let tag = Tag {
         tpid: 0x8100,
         tci: 0x2007,
     };
     assert_eq!(rt; (whole.index, whole.wire, whole.tag), (2, 54, Some(tag)));
-    let header = [0x45, 0, 0, 40, 0x12, 0x34, 0, 0, 64, 17, 0x54, 0x8f];
-    assert_eq!(rt; whole.bytes.as_slice().get(14..26), Some(&header[..]));
-    let late = path.arrive(fragment(alloc, 3, 0x2001, &[2; 8])?)?;
-    assert!(rt; late.is_none());
+    let header = b"\x45\x00\x00\x28\x12\x34\x00\x00\x40\x11\x54\x8f";
+    assert_eq!(rt; whole.bytes.as_slice().get(14..26), Some(header.as_slice()));
+}
+
+#[test]
+fn tagged_fragments_arrive_as_one_datagram(rt: HostRuntime) -> Result<(), Fail> {
+    let plan = Plan::check(1, Mode::Cpu, 0x8000, false)?;
+    let (others, whole) = arrivals(rt.alloc(), plan)?;
+    assert_eq!(rt; others, [false; 3]);
+    let whole = whole.ok_or("the third fragment makes it whole")?;
+    check_whole(&rt, &whole);
     Ok(())
 }
 
@@ -77,6 +102,15 @@ fn cut(alloc: Global, length: usize) -> Result<Frame, Memory>
     })
 }
 
+/// How many bytes arrive of such a frame, and whether with a tag.
+fn arrived(alloc: Global, plan: Plan, length: usize) -> Result<Option<(usize, bool)>, Memory> {
+    let mut path = ReceivePath::new(alloc, plan);
+    match path.arrive(cut(alloc, length)?)? {
+        Some(frame) => Ok(Some((frame.bytes.len(), frame.tag.is_some()))),
+        None => Ok(None),
+    }
+}
+
 #[test]
 fn a_runt_is_no_arrival_and_a_short_tag_stays(rt: HostRuntime) -> Result<(), Fail> {
     for (defrag, length, want) in [
@@ -89,10 +123,8 @@ fn a_runt_is_no_arrival_and_a_short_tag_stays(rt: HostRuntime) -> Result<(), Fai
     ] {
         let flags = if defrag { 0x8000 } else { 0 };
         let plan = Plan::check(1, Mode::Cpu, flags, false)?;
-        let mut path = ReceivePath::new(rt.alloc(), plan);
-        let arrival = path.arrive(cut(rt.alloc(), length)?)?;
-        let shape = arrival.map(|frame| (frame.bytes.len(), frame.tag.is_some()));
-        assert_eq!(rt; shape, want, "defrag {defrag}, {length} bytes");
+        let shape = arrived(rt.alloc(), plan, length)?;
+        assert_eq!(rt; (defrag, length, shape), (defrag, length, want));
     }
     Ok(())
 }

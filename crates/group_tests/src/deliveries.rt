@@ -193,10 +193,11 @@ fn check_tries(
     log: &ArrivalList,
     wants: &[&str],
 ) -> Result<(), Fail> {
-    assert_eq!(rt; log.len(), wants.len(), "{name}");
+    assert_eq!(rt; (name, log.len()), (name, wants.len()));
     for (entry, want) in log.as_slice().iter().zip(wants) {
         let tries = shown(alloc, entry.tries.as_slice())?;
-        assert_eq!(rt; tries.as_str(), *want, "{name}, arrival {}", entry.index);
+        let at = entry.index;
+        assert_eq!(rt; (name, at, tries.as_str()), (name, at, *want));
     }
     Ok(())
 }
@@ -230,6 +231,13 @@ const BACK: &[u8] = &[
     142, 100, 80, 66, 9, 149, 187, 0x06, 0xe6, 0x0a, 0xea,
 ];
 
+/// Each entry of a log has the hash of that flow.
+fn check_hashes(rt: &impl Abort, log: &ArrivalList) {
+    for entry in log.as_slice() {
+        assert_eq!(rt; (entry.index, entry.hash), (entry.index, 0x51cc_c178));
+    }
+}
+
 /// Holds the hash and the tries of both directions at so many members to what is wanted.
 fn check_flow(
     rt: &impl Abort,
@@ -244,9 +252,7 @@ fn check_flow(
     };
     let plan = Plan::check(members, Mode::Hash, 0, true)?;
     let log = log_of(alloc, plan, &rules, 4, &[THERE, BACK])?;
-    for entry in log.as_slice() {
-        assert_eq!(rt; entry.hash, 0x51cc_c178, "{members} members");
-    }
+    check_hashes(rt, &log);
     check_tries(rt, alloc, want, &log, &[want; 2])
 }
 
@@ -260,8 +266,8 @@ fn the_flow_hash_chooses_the_member(rt: HostRuntime) -> Result<(), Fail> {
 #[test]
 fn without_a_key_the_hash_is_zero(rt: HostRuntime) -> Result<(), Fail> {
     let judged = OPEN.judge(rt.alloc(), arrival(rt.alloc(), 0, 0, THERE)?, None);
-    assert_eq!(rt; judged.entry.hash, 0);
-    assert_eq!(rt; judged.offer.map(|offer| offer.hash), Some(0));
+    let offered = judged.offer.map(|offer| offer.hash);
+    assert_eq!(rt; (judged.entry.hash, offered), (0, Some(0)));
     Ok(())
 }
 
@@ -270,6 +276,14 @@ const IP_96: &[u8] = b"4\n40 0 0 12\n21 0 1 2048\n6 0 0 96\n6 0 0 0\n";
 
 /// An ARP frame.
 const ARP: &[u8] = &[2, 0, 0, 0, 0, 2, 2, 0, 0, 0, 0, 1, 0x08, 0x06];
+
+/// Each entry of a log has its place for its ticket, and the verdict that is wanted.
+fn check_tickets(rt: &impl Abort, log: &ArrivalList, verdicts: &[u32]) {
+    for (entry, verdict) in log.as_slice().iter().zip(verdicts) {
+        let ticket = Some(u64::from(entry.index));
+        assert_eq!(rt; (entry.ticket, entry.verdict), (ticket, *verdict));
+    }
+}
 
 #[test]
 fn a_filtered_arrival_draws_a_ticket(rt: HostRuntime) -> Result<(), Fail> {
@@ -280,19 +294,7 @@ fn a_filtered_arrival_draws_a_ticket(rt: HostRuntime) -> Result<(), Fail> {
     };
     let plan = Plan::check(2, Mode::Lb, 0, false)?;
     let log = log_of(rt.alloc(), plan, &rules, 4, &[THERE, ARP, BACK])?;
-    for (entry, (verdict, want)) in log
-        .as_slice()
-        .iter()
-        .zip([(96, "kept 0 "), (0, ""), (96, "kept 0 ")])
-    {
-        let tries = shown(rt.alloc(), entry.tries.as_slice())?;
-        assert_eq!(rt; entry.ticket, Some(u64::from(entry.index)));
-        assert_eq!(rt;
-            (entry.verdict, tries.as_str()),
-            (verdict, want),
-            "at {}",
-            entry.index
-        );
-    }
-    Ok(())
+    check_tickets(&rt, &log, &[96, 0, 96]);
+    let wants = ["kept 0 ", "", "kept 0 "];
+    check_tries(&rt, rt.alloc(), "filtered", &log, &wants)
 }

@@ -220,7 +220,8 @@ fn gives_the_documented_verdicts(rt: HostRuntime) {
     let bytes = [0x12, 0x34, 0x56, 0x78, 0x9a, 0xbc, 0xde, 0xf0];
     let packet = packet(&bytes);
     for (name, text, verdict) in &VERDICTS {
-        assert_eq!(rt; judged(rt.alloc(), text, &packet), Ok(*verdict), "{name}");
+        let found = judged(rt.alloc(), text, &packet);
+        assert_eq!(rt; (*name, found), (*name, Ok(*verdict)));
     }
 }
 

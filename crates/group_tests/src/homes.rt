@@ -44,7 +44,10 @@ fn check_groups(rt: &impl Abort, groups: &[Group]) {
         let flags = *flags;
         assert!(rt; flags == 0 || flags == ROLLOVER || flags == DEFRAG || flags == BOTH);
         let checked = Plan::check(*members, *mode, flags, *has_key);
-        assert_eq!(rt; checked.err(), *want, "{members} {mode:?} {flags}");
+        assert_eq!(rt;
+            (*members, *mode, flags, checked.err()),
+            (*members, *mode, flags, *want)
+        );
     }
 }
 
@@ -121,8 +124,11 @@ fn homes_of(alloc: Global, home: &Home) -> Result<(Option<u32>, Option<u32>), Fa
 fn check_homes(rt: &impl Abort, alloc: Global, homes: &[Home]) -> Result<(), Fail> {
     for home in homes {
         let (members, cpu, queue, by_cpu, by_queue) = *home;
-        let want = (Some(by_cpu), Some(by_queue));
-        assert_eq!(rt; homes_of(alloc, home)?, want, "{members}: {cpu} {queue}");
+        let (at_cpu, at_queue) = homes_of(alloc, home)?;
+        assert_eq!(rt;
+            (members, cpu, queue, at_cpu, at_queue),
+            (members, cpu, queue, Some(by_cpu), Some(by_queue))
+        );
     }
     Ok(())
 }
@@ -150,6 +156,24 @@ fn datagram(alloc: Global, source: (u32, u16), dest: (u32, u16)) -> Result<Frame
     arrival(alloc, 0, 0, bytes.as_slice())
 }
 
+/// The members of a flow's datagrams, there and back.
+fn members_of(
+    alloc: Global,
+    plan: Plan,
+    rules: &ArrivalRules<'_>,
+    flow: u16,
+) -> Result<(Option<u32>, Option<u32>), Memory>
+    requires room { 82 < rules.now.room }
+    requires mode { HasTicket plan.mode None }
+    requires few { flow < 100 }
+{
+    let host = (0x0a00_0001 + u32::from(flow), 1000 + flow);
+    let port = (0x0a00_0032, 80);
+    let out = member_of(alloc, plan, rules, datagram(alloc, host, port)?)?;
+    let back = member_of(alloc, plan, rules, datagram(alloc, port, host)?)?;
+    Ok((out, back))
+}
+
 #[test]
 fn both_directions_of_a_flow_have_one_member(rt: HostRuntime) -> Result<(), Fail> {
     let alloc = rt.alloc();
@@ -160,10 +184,7 @@ fn both_directions_of_a_flow_have_one_member(rt: HostRuntime) -> Result<(), Fail
     };
     let plan = Plan::check(4, Mode::Hash, 0, true)?;
     for flow in 0..100_u16 {
-        let host = (0x0a00_0001 + u32::from(flow), 1000 + flow);
-        let port = (0x0a00_0032, 80);
-        let out = member_of(alloc, plan, &rules, datagram(alloc, host, port)?)?;
-        let back = member_of(alloc, plan, &rules, datagram(alloc, port, host)?)?;
+        let (out, back) = members_of(alloc, plan, &rules, flow)?;
         assert!(rt; out.is_some() && out == back, "flow {flow}");
     }
     Ok(())

@@ -72,7 +72,7 @@ pub(crate) fn shown(alloc: Global, tries: &[Try]) -> Result<String, Memory> {
             Fate::Refused => "refused",
             Fate::Dropped => "dropped",
         };
-        text.push_str(&format!(in alloc; "{word} {} ", one.member)?)?;
+        write!(text, "{word} {} ", one.member)?;
     }
     Ok(text)
 }

@@ -72,7 +72,8 @@ static TEXTS: [(&str, Result<u32, FilterError>); 37] = [
 fn names_the_first_fault(rt: HostRuntime) {
     let packet = packet(&[]);
     for (text, answer) in &TEXTS {
-        assert_eq!(rt; judged(rt.alloc(), text, &packet), *answer, "{text}");
+        let found = judged(rt.alloc(), text, &packet);
+        assert_eq!(rt; (*text, found), (*text, *answer));
     }
 }
 
@@ -101,7 +102,8 @@ fn accepts_4096_instructions_and_no_more(rt: HostRuntime) -> Result<(), Fail> {
     };
     for (count, fault) in [(4096, None), (4097, Some(FilterError::BadCount))] {
         let code = vec![in rt.alloc(); last; count]?;
-        assert_eq!(rt; Program::check(rt.alloc(), code).err(), fault, "{count}");
+        let found = Program::check(rt.alloc(), code).err();
+        assert_eq!(rt; (count, found), (count, fault));
     }
     Ok(())
 }

@@ -56,7 +56,7 @@ fn check_changes(
 ) -> Result<(), Fail> {
     for (place, told) in rows {
         let found = changed_fault(alloc, shape, *place)?;
-        assert_eq!(rt; found, *told, "the byte at {place}");
+        assert_eq!(rt; (*place, found), (*place, *told));
     }
     Ok(())
 }
@@ -69,7 +69,7 @@ fn one_byte_changed(rt: HostRuntime) -> Result<(), Fail> {
 
 /// The fault of the text's first bytes, which are at least a descriptor and at most a block.
 fn cut_fault(shape: &Shape, size: usize) -> Result<Option<(LayoutKind, u32)>, Fail> {
-    let text = part(&TEXT, 0, size);
+    let text = part(TEXT, 0, size);
     if text.len() < 48 || text.len() > shape.block_size() as usize {
         return Err("a descriptor at least and a block at most".into());
     }
@@ -84,7 +84,8 @@ fn a_text_that_ends_elsewhere(rt: HostRuntime) -> Result<(), Fail> {
     let shape = PAGES.check().ok().ok_or("a valid request")?;
     for size in [48, 136, 143] {
         let found = cut_fault(&shape, size)?;
-        assert_eq!(rt; found, Some((LayoutKind::Length, 20)), "{size} bytes");
+        let want = Some((LayoutKind::Length, 20));
+        assert_eq!(rt; (size, found), (size, want));
     }
     Ok(())
 }

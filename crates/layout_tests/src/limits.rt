@@ -2,9 +2,11 @@
 use RequestError::{
     BlockCount, BlockSize, Feature, FrameAlign, FrameCount, FrameSmall, Private, Slots, Transmit,
 };
+use frame_view::Memory;
+use std::alloc::Global;
 use std::process::Abort;
 use std::test::Fail;
-use tp_layout::{RequestError, RingRequest, blocks};
+use tp_layout::{RequestError, RingRequest, Shape, blocks};
 
 /// Block size, number of blocks, frame size and number of frames of two pages.
 const SIZES: [u32; 4] = [4096, 2, 2048, 4];
@@ -108,7 +110,8 @@ static RECEIVE: [Receive; 22] = [
 /// Holds each request to its row.
 fn check_receive(rt: &impl Abort, rows: &[Receive]) {
     for (name, sizes, extras, fault) in rows {
-        assert_eq!(rt; request(*sizes, *extras).check().err(), *fault, "{name}");
+        let found = request(*sizes, *extras).check().err();
+        assert_eq!(rt; (*name, found), (*name, *fault));
     }
 }
 
@@ -170,8 +173,8 @@ static OTHERS: [Other; 7] = [
 fn check_others(rt: &impl Abort, rows: &[Other]) {
     for (name, sizes, extras, transmit, slots) in rows {
         let request = request(*sizes, *extras);
-        assert_eq!(rt; request.check_tx().err(), *transmit, "{name}");
-        assert_eq!(rt; request.check_v2().err(), *slots, "{name}");
+        let (sent, held) = (request.check_tx().err(), request.check_v2().err());
+        assert_eq!(rt; (*name, sent, held), (*name, *transmit, *slots));
     }
 }
 
@@ -180,18 +183,30 @@ fn requests_of_other_rings(rt: HostRuntime) {
     check_others(&rt, &OTHERS);
 }
 
-#[test]
-fn a_private_area_of_13_bytes(rt: HostRuntime) -> Result<(), Fail> {
-    let asked = request(SIZES, [0, 13, 1]);
-    let shape = asked.check().ok().ok_or("a valid request")?;
-    assert_eq!(rt; (shape.block_size(), shape.block_nr()), (4096, 2));
-    assert_eq!(rt; (shape.frame_size(), shape.frame_nr()), (2048, 4));
-    assert_eq!(rt; (shape.first(), shape.room()), (64, 4032));
+/// Holds what is worked out of a request for a private area of 13 bytes to its numbers.
+fn check_numbers(rt: &impl Abort, shape: &Shape) {
+    let blocks = [shape.block_size(), shape.block_nr()];
+    let frames = [shape.frame_size(), shape.frame_nr()];
+    let room = [shape.first(), shape.room()];
+    assert_eq!(rt; (blocks, frames, room), ([4096, 2], [2048, 4], [64, 4032]));
     assert_eq!(rt; (shape.tov(), shape.fill_hash()), (8, true));
-    let all = blocks(rt.alloc(), &shape)?;
+}
+
+/// There are two blocks of a page.
+fn check_blocks(rt: &impl Abort, alloc: Global, shape: &Shape) -> Result<(), Memory> {
+    let all = blocks(alloc, shape)?;
     assert_eq!(rt; all.len(), 2);
     for block in &all {
         assert_eq!(rt; block.bytes().len(), 4096);
     }
+    Ok(())
+}
+
+#[test]
+fn a_private_area_of_13_bytes(rt: HostRuntime) -> Result<(), Fail> {
+    let asked = request(SIZES, [0, 13, 1]);
+    let shape = asked.check().ok().ok_or("a valid request")?;
+    check_numbers(&rt, &shape);
+    check_blocks(&rt, rt.alloc(), &shape)?;
     Ok(())
 }

@@ -30,14 +30,15 @@ pub(crate) const PAGES: RingRequest = RingRequest {
 pub(crate) const FRAME: [u8; 14] = [0xff, 0xff, 0xff, 0xff, 0xff, 0xff, 2, 0, 0, 0, 0, 1, 8, 6];
 
 /// Block 1 with that frame alone, at 1 second and 2,000 nanoseconds, written by another program.
-pub(crate) const TEXT: [u8; 144] = [
-    2, 0, 0, 0, 0x30, 0, 0, 0, 1, 0, 0, 0, 1, 0, 0, 0, 0x30, 0, 0, 0, 0x90, 0, 0, 0, 1, 0, 0, 0, 0,
-    0, 0, 0, 1, 0, 0, 0, 0xd0, 7, 0, 0, 1, 0, 0, 0, 0xd0, 7, 0, 0, 0, 0, 0, 0, 1, 0, 0, 0, 0xd0, 7,
-    0, 0, 0x0e, 0, 0, 0, 0x0e, 0, 0, 0, 1, 0, 0, 0, 0x52, 0, 0x60, 0, 0, 0, 0, 0, 0, 0, 0, 0, 0, 0,
-    0, 0, 0, 0, 0, 0, 0, 0, 0, 0, 0x11, 0, 8, 6, 1, 0, 0, 0, 1, 0, 1, 6, 2, 0, 0, 0, 0, 1, 0, 0, 0,
-    0, 0, 0, 0, 0, 0, 0, 0, 0, 0, 0, 0, 0, 0xff, 0xff, 0xff, 0xff, 0xff, 0xff, 2, 0, 0, 0, 0, 1, 8,
-    6,
-];
+pub(crate) const TEXT: &[u8] = b"\x02\x00\x00\x00\x30\x00\x00\x00\x01\x00\x00\x00\x01\x00\x00\x00\
+    \x30\x00\x00\x00\x90\x00\x00\x00\x01\x00\x00\x00\x00\x00\x00\x00\
+    \x01\x00\x00\x00\xd0\x07\x00\x00\x01\x00\x00\x00\xd0\x07\x00\x00\
+    \x00\x00\x00\x00\x01\x00\x00\x00\xd0\x07\x00\x00\x0e\x00\x00\x00\
+    \x0e\x00\x00\x00\x01\x00\x00\x00\x52\x00\x60\x00\x00\x00\x00\x00\
+    \x00\x00\x00\x00\x00\x00\x00\x00\x00\x00\x00\x00\x00\x00\x00\x00\
+    \x11\x00\x08\x06\x01\x00\x00\x00\x01\x00\x01\x06\x02\x00\x00\x00\
+    \x00\x01\x00\x00\x00\x00\x00\x00\x00\x00\x00\x00\x00\x00\x00\x00\
+    \x00\x00\xff\xff\xff\xff\xff\xff\x02\x00\x00\x00\x00\x01\x08\x06";
 
 /// The offer of a frame of these bytes, of which so many are kept.
 pub(crate) fn offer(

@@ -279,8 +279,8 @@ fn padded(alloc: Global) -> Result<Packets, Fail> {
 fn zeros_stand_after_the_bytes_that_were_given(rt: HostRuntime) -> Result<(), Fail> {
     let out = padded(rt.alloc())?;
     let packet = out.get(4).ok_or("a fifth packet")?;
-    let bytes = [6, 6, 6, 6, 6, 6, 6, 6, 6, 6, 6, 6, 6, 6, 0, 0];
-    assert_eq!(rt; packet.bytes.as_slice(), &bytes[..]);
+    let bytes = b"\x06\x06\x06\x06\x06\x06\x06\x06\x06\x06\x06\x06\x06\x06\x00\x00";
+    assert_eq!(rt; packet.bytes.as_slice(), bytes.as_slice());
     let told = (packet.wire, packet.protocol, packet.pkttype);
     assert_eq!(rt; told, (16, 0x0606, 0));
     Ok(())

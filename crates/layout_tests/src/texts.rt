@@ -54,12 +54,12 @@ fn a_block_with_one_frame(rt: HostRuntime) -> Result<(), Fail> {
     let shape = PAGES.check().ok().ok_or("a valid request")?;
     let offer = offer(alloc, &FRAME, 14, 14, None)?;
     let block = block_with(alloc, &shape, &offer)?;
-    assert_eq!(rt; text_of(&block), TEXT.as_slice());
+    assert_eq!(rt; text_of(&block), TEXT);
     let bytes = block.bytes();
-    assert_eq!(rt; part(bytes, 144, 4096).len(), 3952);
-    assert_eq!(rt; fault(bytes, &shape), None);
+    let rest = part(bytes, 144, 4096).len();
+    assert_eq!(rt; (rest, fault(bytes, &shape)), (3952, None));
     assert!(rt; is_the_frame(only_packet(walk(bytes, &shape))));
-    assert!(rt; is_the_frame(only_packet(walk_text(&TEXT, &shape))));
+    assert!(rt; is_the_frame(only_packet(walk_text(TEXT, &shape))));
     Ok(())
 }
 

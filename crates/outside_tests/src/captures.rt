@@ -6,7 +6,7 @@ use frame_view::{ByteList, Memory, MomentList};
 use std::alloc::Global;
 use std::process::Abort;
 use std::test::Fail;
-use tap_outside::MemSource;
+use tap_outside::{Failed, MemSource};
 
 /// A header of 24 bytes, for times in nanoseconds with the lowest byte first; then three records,
 /// each of 16 bytes and its frame, which end at byte 42, 61 and 78. Seconds and nanoseconds,
@@ -67,10 +67,11 @@ fn seen(alloc: Global, reading: &Reading) -> Result<Vec<Seen>, Memory> {
 /// The capture whose source gives so many bytes at a time is read whole.
 fn check_piece(rt: &impl Abort, alloc: Global, piece: usize) -> Result<(), Fail> {
     let reading = read(alloc, 78, piece, &[])?;
-    assert_eq!(rt; reading.end, CpuEnd::Whole, "pieces of {piece}");
-    assert_eq!(rt; reading.given, 78, "pieces of {piece}");
     let seen = seen(alloc, &reading)?;
-    assert_eq!(rt; seen.as_slice(), SEEN.as_slice(), "pieces of {piece}");
+    assert_eq!(rt;
+        (piece, reading.end, reading.given, seen.as_slice()),
+        (piece, CpuEnd::Whole, 78, SEEN.as_slice())
+    );
     Ok(())
 }
 
@@ -159,9 +160,11 @@ static ROWS: [Row; 7] = [
 fn check_rows(rt: &impl Abort, alloc: Global, rows: &[Row]) -> Result<(), Fail> {
     for row in rows {
         let reading = read(alloc, row.count, row.piece, row.failing)?;
-        assert_eq!(rt; reading.end, row.end, "{}", row.name);
         let count = (reading.given, reading.frames.len());
-        assert_eq!(rt; count, row.read, "{}", row.name);
+        assert_eq!(rt;
+            (row.name, reading.end, count),
+            (row.name, row.end, row.read)
+        );
     }
     Ok(())
 }
@@ -176,8 +179,10 @@ fn damage_ends_a_capture(rt: HostRuntime) -> Result<(), Fail> {
     let bytes = ByteList::from_vec([0; 40].to_vec(rt.alloc())?);
     let mut source = Some(MemSource::new(bytes, 30, MomentList::new(rt.alloc())));
     let reading = read_capture(rt.alloc(), 0, &mut source)?;
-    assert_eq!(rt; reading.end, CpuEnd::Damaged(CaptureError::BadMagic));
-    assert_eq!(rt; (reading.given, reading.frames.len()), (30, 0));
+    assert_eq!(rt;
+        (reading.end, reading.given, reading.frames.len()),
+        (CpuEnd::Damaged(CaptureError::BadMagic), 30, 0)
+    );
     assert!(rt; source.is_some());
     Ok(())
 }
@@ -185,8 +190,24 @@ fn damage_ends_a_capture(rt: HostRuntime) -> Result<(), Fail> {
 #[test]
 fn no_source_is_a_fault(rt: HostRuntime) -> Result<(), Fail> {
     let reading = read_capture::<MemSource>(rt.alloc(), 0, &mut None)?;
-    assert_eq!(rt; reading.end, CpuEnd::Fault);
-    assert_eq!(rt; (reading.given, reading.frames.len()), (0, 0));
+    assert_eq!(rt;
+        (reading.end, reading.given, reading.frames.len()),
+        (CpuEnd::Fault, 0, 0)
+    );
+    Ok(())
+}
+
+/// The pieces that are read of a source have these lengths, one after another.
+fn check_lengths(
+    rt: &impl Abort,
+    buffer: &mut Buffer,
+    source: &mut MemSource,
+    lengths: &[usize],
+) -> Result<(), Failed> {
+    for length in lengths {
+        buffer.read(source)?;
+        assert_eq!(rt; buffer.piece().len(), *length);
+    }
     Ok(())
 }
 
@@ -195,9 +216,6 @@ fn a_piece_has_65536_bytes_where_the_source_has_more(rt: HostRuntime) -> Result<
     let bytes = ByteList::from_vec(vec![in rt.alloc(); 7; 70_000]?);
     let mut source = MemSource::new(bytes, 1_000_000, MomentList::new(rt.alloc()));
     let mut buffer = Buffer::new(rt.alloc())?;
-    for count in [65_536, 4_464, 0] {
-        buffer.read(&mut source)?;
-        assert_eq!(rt; buffer.piece().len(), count);
-    }
+    check_lengths(&rt, &mut buffer, &mut source, &[65_536, 4_464, 0])?;
     Ok(())
 }

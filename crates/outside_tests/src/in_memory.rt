@@ -62,9 +62,13 @@ fn check_source(rt: &impl Abort, alloc: Global, row: &Answers) -> Result<(), Fai
     let (piece, failing, answers) = row;
     let bytes = ByteList::from_vec(b"abcde".to_vec(alloc)?);
     let mut source = MemSource::new(bytes, (*piece).max(1), numbers(alloc, failing)?);
-    for answer in answers {
-        assert_eq!(rt; source.read(&mut [0; 4]), *answer, "pieces of {piece}");
-    }
+    let found = [
+        source.read(&mut [0; 4]),
+        source.read(&mut [0; 4]),
+        source.read(&mut [0; 4]),
+        source.read(&mut [0; 4]),
+    ];
+    assert_eq!(rt; (*piece, found), (*piece, *answers));
     Ok(())
 }
 
@@ -79,42 +83,70 @@ fn sources_give_pieces_and_fail_where_told(rt: HostRuntime) -> Result<(), Fail> 
 #[test]
 fn sinks_keep_what_they_take(rt: HostRuntime) -> Result<(), Fail> {
     let mut sink = MemSink::new(rt.alloc(), numbers(rt.alloc(), &[2])?);
-    assert_eq!(rt; write_whole(&mut sink, b"abc"), Ok(()));
-    assert_eq!(rt; write_whole(&mut sink, b"de"), Err(OutError::Failed));
-    assert_eq!(rt; sink.write(b"fg"), Ok(2));
+    let whole = write_whole(&mut sink, b"abc");
+    let failed = write_whole(&mut sink, b"de");
+    let part = sink.write(b"fg");
+    assert_eq!(rt;
+        (whole, failed, part),
+        (Ok(()), Err(OutError::Failed), Ok(2))
+    );
     assert_eq!(rt; sink.written(), b"abcfg".as_slice());
     Ok(())
 }
 
-#[test]
-fn a_store_in_memory_fails_where_told(rt: HostRuntime) -> Result<(), Fail> {
-    let alloc = rt.alloc();
-    let mut store = MemStore::new(alloc, numbers(alloc, &[2])?, numbers(alloc, &[1])?);
-    assert_eq!(rt; store.put(b"a", b"first", 3, numbers(alloc, &[])?), Ok(()));
-    assert_eq!(rt;
-        fetched(alloc, &mut store, b"a")?.as_slice(),
-        b"first".as_slice()
-    );
-    assert_eq!(rt;
-        fetched(alloc, &mut store, b"a").err(),
-        Some(OutError::Failed)
-    );
-    assert_eq!(rt; store.save(b"a", b"second"), Err(OutError::Failed));
-    assert_eq!(rt; store.save(b"b", b"third"), Ok(()));
+/// A store whose second fetch and whose first save fail.
+fn failing_store(alloc: Global) -> Result<MemStore, AllocError> {
+    Ok(MemStore::new(alloc, numbers(alloc, &[2])?, numbers(alloc, &[1])?))
+}
+
+/// The first fetch gives what was put, and the second one fails.
+fn check_fetches(rt: &impl Abort, alloc: Global, store: &mut MemStore) -> Result<(), OutError> {
+    let bytes = fetched(alloc, store, b"a")?;
+    assert_eq!(rt; bytes.as_slice(), b"first".as_slice());
+    let failed = fetched(alloc, store, b"a").err();
+    assert_eq!(rt; failed, Some(OutError::Failed));
+    Ok(())
+}
+
+/// A save that failed left the file, and the other one stands.
+fn check_files(rt: &impl Abort, store: &MemStore) {
     assert_eq!(rt; store.file(b"a"), Some(b"first".as_slice()));
     assert_eq!(rt; store.file(b"b"), Some(b"third".as_slice()));
     assert_eq!(rt; store.file(b"c"), None);
+}
+
+#[test]
+fn a_store_in_memory_fails_where_told(rt: HostRuntime) -> Result<(), Fail> {
+    let mut store = failing_store(rt.alloc())?;
+    let put = store.put(b"a", b"first", 3, MomentList::new(rt.alloc()));
+    assert_eq!(rt; put, Ok(()));
+    check_fetches(&rt, rt.alloc(), &mut store)?;
+    let saves = [store.save(b"a", b"second"), store.save(b"b", b"third")];
+    assert_eq!(rt; saves, [Err(OutError::Failed), Ok(())]);
+    check_files(&rt, &store);
+    Ok(())
+}
+
+/// A name of a store gives these bytes.
+fn check_held(
+    rt: &impl Abort,
+    alloc: Global,
+    store: &mut SureStore,
+    name: &str,
+    held: &str,
+) -> Result<(), OutError> {
+    let bytes = fetched(alloc, store, name.as_bytes())?;
+    assert_eq!(rt; bytes.as_slice(), held.as_bytes());
     Ok(())
 }
 
 #[test]
 fn a_sure_store_has_every_name(rt: HostRuntime) -> Result<(), Fail> {
     let mut store = SureStore::new(rt.alloc());
-    assert_eq!(rt; store.put(b"a", b"first"), Ok(()));
-    assert_eq!(rt; store.save(b"b", b"second"), Ok(()));
+    let kept = (store.put(b"a", b"first"), store.save(b"b", b"second"));
+    assert_eq!(rt; kept, (Ok(()), Ok(())));
     for (name, held) in [("a", "first"), ("b", "second"), ("c", "")] {
-        let bytes = fetched(rt.alloc(), &mut store, name.as_bytes())?;
-        assert_eq!(rt; bytes.as_slice(), held.as_bytes());
+        check_held(&rt, rt.alloc(), &mut store, name, held)?;
     }
     Ok(())
 }

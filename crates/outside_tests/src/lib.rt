@@ -1,11 +1,13 @@
-//! Tests of the outside: sources, sinks and stores in memory, real files, standard output, and captures that
-//! are read out of sources.
+//! Tests of the outside: sources, sinks and stores in memory, real files, standard output, captures that are
+//! read out of sources, and made captures with the schedule that replays them.
 #![tactic(auto)]
 
 #[cfg(test)]
 mod captures;
 #[cfg(test)]
 mod in_memory;
+#[cfg(test)]
+mod made;
 #[cfg(test)]
 mod printing;
 #[cfg(test)]

@@ -155,8 +155,8 @@ fn check_rows(rt: &impl Abort, rows: &[Row]) {
     for (name, first, later, answer, taken, faults) in rows {
         let printer = Printer::new(*first, *later);
         let mut sink = StdSink::new(&printer);
-        assert_eq!(rt; write_whole(&mut sink, b"abcdefg"), *answer, "{name}");
-        assert_eq!(rt; sink.faults(), *faults, "{name}");
+        let written = write_whole(&mut sink, b"abcdefg");
+        assert_eq!(rt; (*name, written, sink.faults()), (*name, *answer, *faults));
         let kept = printer.taken.get();
         assert_eq!(rt; kept.get(..printer.count.get()), Some(*taken), "{name}");
     }

@@ -10,13 +10,13 @@ fn files_that_are_there_and_not(rt: HostRuntime) -> Result<(), Fail> {
     let names: [&[u8]; 5] = [b"tap_outside.none", b".", b"", b"a\0b", b"\xff"];
     for name in names {
         let failed = fetched(rt.alloc(), &mut store, name).err();
-        assert_eq!(rt; failed, Some(OutError::Failed), "{name:?}");
+        assert_eq!(rt; (name, failed), (name, Some(OutError::Failed)));
     }
+    let saved = store.save(b"tap_outside.none/file", b"x");
     assert_eq!(rt;
-        store.save(b"tap_outside.none/file", b"x"),
-        Err(OutError::Failed)
+        (saved, store.read_faults(), store.save_faults()),
+        (Err(OutError::Failed), 5, 1)
     );
-    assert_eq!(rt; (store.read_faults(), store.save_faults()), (5, 1));
     Ok(())
 }
 
@@ -24,13 +24,10 @@ fn files_that_are_there_and_not(rt: HostRuntime) -> Result<(), Fail> {
 fn what_is_saved_is_read_back(rt: HostRuntime) -> Result<(), Fail> {
     let mut store = DiskStore::new(&rt);
     for bytes in ["a longer file", "saved bytes", ""] {
-        assert_eq!(rt;
-            store.save(b"tap_outside.saved", bytes.as_bytes()),
-            Ok(()),
-            "{bytes}"
-        );
+        let saved = store.save(b"tap_outside.saved", bytes.as_bytes());
+        assert_eq!(rt; (bytes, saved), (bytes, Ok(())));
         let read = fetched(rt.alloc(), &mut store, b"tap_outside.saved")?;
-        assert_eq!(rt; read.as_slice(), bytes.as_bytes(), "{bytes}");
+        assert_eq!(rt; read.as_slice(), bytes.as_bytes());
     }
     fs::remove_file(&rt, "tap_outside.saved")?;
     assert_eq!(rt; (store.read_faults(), store.save_faults()), (0, 0));

@@ -6,35 +6,47 @@ use std::alloc::Global;
 use tap_printing::setup_refusal;
 use text_lines::Word;
 
+/// Appends words, each with a number behind it.
+fn push_numbers(text: &mut String, parts: &[(&str, u64)]) -> Result<(), Memory> {
+    for (word, number) in parts {
+        write!(text, "{word}{number}")?;
+    }
+    Ok(())
+}
+
+/// Appends a word, and whether it holds.
+fn push_answer(text: &mut String, word: &str, holds: bool) -> Result<(), Memory> {
+    text.push_str(word)?;
+    Ok(text.push_str(if holds { "true" } else { "false" })?)
+}
+
 /// Appends the numbers of the ring.
 fn push_ring(text: &mut String, setup: &Setup) -> Result<(), Memory> {
     let shape = &setup.shape;
-    write!(
+    push_numbers(
         text,
-        "blocks {} of {}\n",
-        shape.block_nr(),
-        shape.block_size()
-    )?;
-    write!(
-        text,
-        "frames {} of {}\n",
-        shape.frame_nr(),
-        shape.frame_size()
-    )?;
-    write!(text, "first {} room {}\n", shape.first(), shape.room())?;
-    Ok(())
+        &[
+            ("blocks ", u64::from(shape.block_nr())),
+            (" of ", u64::from(shape.block_size())),
+            ("\nframes ", u64::from(shape.frame_nr())),
+            (" of ", u64::from(shape.frame_size())),
+            ("\nfirst ", u64::from(shape.first())),
+            (" room ", u64::from(shape.room())),
+        ],
+    )
 }
 
 /// Appends the frames and the time-out that are asked for, the time-out that counts, and the feature.
 fn push_asked(text: &mut String, setup: &Setup) -> Result<(), Memory> {
-    write!(
+    push_numbers(
         text,
-        "asked {} tov {}\n",
-        setup.request.frame_nr, setup.request.tov
+        &[
+            ("\nasked ", u64::from(setup.request.frame_nr)),
+            (" tov ", u64::from(setup.request.tov)),
+            ("\ntov ", setup.shape.tov()),
+        ],
     )?;
-    write!(text, "tov {}\n", setup.shape.tov())?;
-    write!(text, "hash {}\n", setup.shape.fill_hash())?;
-    Ok(())
+    push_answer(text, "\nhash ", setup.shape.fill_hash())
 }
 
 /// Appends the numbers of the group.
@@ -42,7 +54,7 @@ fn push_group(text: &mut String, setup: &Setup) -> Result<(), Memory> {
     let plan = &setup.plan;
     write!(
         text,
-        "group {} {:?} {}\n",
+        "\ngroup {} {:?} {}\n",
         plan.members(),
         plan.mode(),
         plan.flags()
@@ -70,8 +82,8 @@ fn push_name(text: &mut String, name: &Option<Word>) -> Result<(), Memory> {
 /// Appends the capture of a CPU and its queue.
 fn push_cpu(text: &mut String, cpu: &CpuSetup) -> Result<(), Memory> {
     push_word(text, &cpu.file)?;
-    write!(text, " {}\n", cpu.queue)?;
-    Ok(())
+    push_numbers(text, &[(" ", u64::from(cpu.queue))])?;
+    Ok(text.push_str("\n")?)
 }
 
 /// Appends the CPUs and the names of files.
@@ -88,7 +100,7 @@ fn push_files(text: &mut String, setup: &Setup) -> Result<(), Memory> {
 fn push_address(text: &mut String, setup: &Setup) -> Result<(), Memory> {
     if let Some(mac) = setup.mac {
         for byte in &mac {
-            write!(text, " {byte}")?;
+            push_numbers(text, &[(" ", u64::from(*byte))])?;
         }
     }
     Ok(())
@@ -97,27 +109,44 @@ fn push_address(text: &mut String, setup: &Setup) -> Result<(), Memory> {
 /// Appends what is chosen besides: a key, an address, a dump, frames that are skipped and made, and
 /// workers.
 fn push_choices(text: &mut String, setup: &Setup) -> Result<(), Memory> {
-    write!(text, "\nkey {} mac", setup.key.is_some())?;
+    push_answer(text, "\nkey ", setup.key.is_some())?;
+    text.push_str(" mac")?;
     push_address(text, setup)?;
-    write!(text, "\ndump {} skip {}\n", setup.dump, setup.skip_bad)?;
-    write!(text, "make {} {}\n", setup.seed, setup.count)?;
-    write!(text, "workers {}\n", setup.workers)?;
-    Ok(())
+    push_answer(text, "\ndump ", setup.dump)?;
+    push_answer(text, " skip ", setup.skip_bad)?;
+    push_numbers(
+        text,
+        &[
+            ("\nmake ", setup.seed),
+            (" ", u64::from(setup.count)),
+            ("\nworkers ", u64::from(setup.workers)),
+        ],
+    )?;
+    Ok(text.push_str("\n")?)
+}
+
+/// Appends what a setup is read as, line by line.
+fn push_setup(text: &mut String, setup: &Setup) -> Result<(), Memory> {
+    push_ring(text, setup)?;
+    push_asked(text, setup)?;
+    push_group(text, setup)?;
+    push_files(text, setup)?;
+    push_choices(text, setup)
+}
+
+/// The same as a text of its own.
+fn shown_setup(alloc: Global, setup: &Setup) -> Result<String, Memory> {
+    let mut text = String::new(alloc);
+    push_setup(&mut text, setup)?;
+    Ok(text)
 }
 
 /// What a setup is read as, line by line, or the line that refuses it.
 fn shown(alloc: Global, setup: &str, command: Command) -> Result<String, Memory> {
-    let setup = match read_setup(alloc, setup.as_bytes(), command) {
-        Ok(setup) => setup,
-        Err(error) => return setup_refusal(alloc, &error),
-    };
-    let mut text = String::new(alloc);
-    push_ring(&mut text, &setup)?;
-    push_asked(&mut text, &setup)?;
-    push_group(&mut text, &setup)?;
-    push_files(&mut text, &setup)?;
-    push_choices(&mut text, &setup)?;
-    Ok(text)
+    match read_setup(alloc, setup.as_bytes(), command) {
+        Ok(setup) => shown_setup(alloc, &setup),
+        Err(error) => setup_refusal(alloc, &error),
+    }
 }
 
 /// What is read of the lines that each setup needs.

@@ -83,7 +83,7 @@ fn reads_numbers(rt: HostRuntime) {
         ("1a", None),
         ("1 ", None),
     ] {
-        assert_eq!(rt; number(word.as_bytes()), *value, "{word}");
+        assert_eq!(rt; (*word, number(word.as_bytes())), (*word, *value));
     }
 }
 
@@ -96,7 +96,7 @@ fn knows_plain_lines(rt: HostRuntime) {
         ("tov 8\x00", false),
         ("tov \u{e9}", false),
     ] {
-        assert_eq!(rt; is_plain(line.as_bytes()), *plain, "{line}");
+        assert_eq!(rt; (*line, is_plain(line.as_bytes())), (*line, *plain));
     }
 }
 
@@ -110,6 +110,7 @@ fn knows_lines_that_are_skipped(rt: HostRuntime) {
         ("feed 0 # first", false),
         ("\r", false),
     ] {
-        assert_eq!(rt; is_passed_over(line.as_bytes()), *skipped, "{line}");
+        let found = is_passed_over(line.as_bytes());
+        assert_eq!(rt; (*line, found), (*line, *skipped));
     }
 }

@@ -37,9 +37,10 @@ static ENDS: [(CpuEnd, &str); 9] = [
 
 /// The lines of a run in which a CPU has two arrivals that no filter ends, and no member is there.
 fn lines_with(alloc: Global, end: &str) -> Result<String, Memory> {
-    Ok(format!(in alloc;
-        "cpu 0 frames 2 arrivals 2 end {end}\ntotal arrivals 2 filtered 0 kept 0 drops 0\n"
-    )?)
+    let mut lines = String::from_str(alloc, "cpu 0 frames 2 arrivals 2 end ")?;
+    lines.push_str(end)?;
+    lines.push_str("\ntotal arrivals 2 filtered 0 kept 0 drops 0\n")?;
+    Ok(lines)
 }
 
 #[test]
