@@ -19,16 +19,19 @@ four replays of one CPU take at the same time, each a process of its own: the pr
 
 Where there is a C compiler, seven replays of 32 MiB are run by turns with bench/plain_ring.c, which does the same with arrays and keeps no
 notes. Both must save the same files. Page faults are those of one run; instructions are those that valgrind counts of a capture
-of 2 MiB, by frame, where valgrind is there.
+of 2 MiB, by frame, where valgrind is there. Then replays of 32 MiB as they are and with large pages, which the C library asks for by
+a word of the environment.
 
 Time is that from start to end, CPU that of the processor for user and system, each the least of some runs. Memory is the
-largest resident size; the system counts no less than this script's own, about 14 MiB.
+largest resident size; the system counts no less than this script's own, about 14 MiB. Each run saves into new files: over old ones
+it would take the time too that the system needs to empty them.
 
 It ends with status 1 where a run fails, where CPU time or memory grows by more than 2.2 times from 16 to 32 MiB or from 10,000
 to 20,000 made frames, where memory grows by more than 256 bytes for each frame that a filter refuses, or where a capture on threads that
 keeps all frames, with a member for each CPU, takes more than 2.5 times the CPU time of the replay.
 """
 import argparse
+import glob
 import os
 import shutil
 import statistics
@@ -251,10 +254,36 @@ def times_of_plain(program, asked):
         )
 
 
+def remove_outputs(words, folder="."):
+    """Removes what an earlier run of the same program saved in a folder."""
+    prefix = "plain" if "plain" in words else "out"
+    for path in glob.glob(os.path.join(folder, f"{prefix}.*")):
+        os.remove(path)
+
+
+def times_of_large_pages(program, asked):
+    """Prints what replays of 32 MiB take, and what they take where the C library asks the system for large pages."""
+    print("\n| Frames, 32 MiB | Time, s | Large pages | CPU, s | Large pages | Page faults | Large pages | Memory, MiB | Large pages |")
+    print("|---|---|---|---|---|---|---|---|---|")
+    write_setup("conf", RINGS["keeps"])
+    for kind, lengths in FRAMES.items():
+        make_capture("in.pcap", 32 * MIB, lengths)
+        taken = {"": [], "GLIBC_TUNABLES=glibc.malloc.hugetlb=1": []}
+        for _ in range(asked.runs):
+            for word, times in taken.items():
+                times.append(measure(["env", *word.split(), program, *COMMANDS["replay"]], 1)[:2])
+        usage = [faults_of(["env", *word.split(), program, *COMMANDS["replay"]]) for word in taken]
+        least = [[min(times) for times in zip(*runs)] for runs in taken.values()]
+        numbers = [f"{one[at]:.3f}" for at in (0, 1) for one in least]
+        numbers += [f"{one[0]:,}" for one in usage] + [f"{one[1] / MIB:.0f}" for one in usage]
+        print(f"| {kind} | " + " | ".join(numbers) + " |", flush=True)
+
+
 def measure(words, runs):
     """Of some runs the least time and CPU time in seconds, the largest memory in bytes, and what the last one printed."""
     best, least, memory, printed = float("inf"), float("inf"), 0, b""
     for _ in range(runs):
+        remove_outputs(words)
         with open("printed", "wb") as out:
             start = time.monotonic()
             process = subprocess.Popen(words, stdout=out, stderr=subprocess.DEVNULL)
@@ -343,6 +372,7 @@ def main():
     times_of_forwards(program, asked)
     times_of_pools(program, asked)
     times_of_plain(program, asked)
+    times_of_large_pages(program, asked)
     is_large = memory_of_refused(program, asked)
     shutil.rmtree(WORK)
     sys.exit(1 if grows(found) or is_large or too_much else 0)
@@ -531,6 +561,8 @@ def rows_of_threads():
 
 def time_at_once(program, count):
     """Seconds from the start of so many replays of one CPU, each a process with a folder of its own, to the end of the last."""
+    for number in range(count):
+        remove_outputs(COMMANDS["replay"], f"apart{number}")
     begun = time.perf_counter()
     runs = [subprocess.Popen([program, *COMMANDS["replay"]], cwd=f"apart{number}", stdout=subprocess.DEVNULL) for number in range(count)]
     if any(run.wait() for run in runs):
