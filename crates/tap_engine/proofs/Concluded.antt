@@ -11,7 +11,7 @@ use Rattle.tap_saving.specs.Files.{File}
 use Rattle.tap_saving.specs.Saving.{AllUnless, HoldAll, HoldUnless, HoldsNow, HoldsOldOrNew}
 use Rattle.tap_saving.specs.Saving.{KeepsAllBut, Saved, SavedSome, Touches, marked}
 use Rattle.tap_engine.specs.Conclusions.{Concludes, IsDone, IsFailed, IsPrinted}
-use Rattle.tap_engine.specs.Findings.{files_of, lines_of, names_of, report_in, status_by_end}
+use Rattle.tap_engine.specs.Findings.{files_of, lines_of, status_by_end}
 use Rattle.tap_engine.specs.Findings.{status_of, status_of_logs}
 use Rattle.tap_engine.specs.declared.findings.Finding.{Finding}
 use Rattle.tap_engine.specs.declared.findings.Finding.TheVariants as finding

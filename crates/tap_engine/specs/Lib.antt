@@ -5,6 +5,7 @@ pub mod Headline
 pub mod Replays
 pub mod Sendings
 pub mod Findings
+pub mod Dones
 pub mod Conclusions
 pub mod Sources
 pub mod Complete

@@ -38,11 +38,21 @@ pub(crate) fn plain_command(words: &[Word]) -> Option<Asked<'_>>
     ensures plain { IfSome result (λ asked. is_threaded asked.command ≡ false) }
 {
     let asked = command_of(words)?;
-    match asked.command {
-        Command::Capture | Command::Forward => None,
-        Command::Check | Command::Replay | Command::Replay2 | Command::Send | Command::Make => Some(
-            asked,
-        ),
+    if is_threaded(asked.command) {
+        return None;
+    }
+    Some(asked)
+}
+
+/// Whether a command runs on threads.
+pub(crate) fn is_threaded(command: Command) -> bool
+    ensures { result ≡ is_threaded command }
+{
+    match command {
+        Command::Capture | Command::Forward => true,
+        Command::Check | Command::Replay | Command::Replay2 | Command::Send | Command::Make => {
+            false
+        }
     }
 }
 

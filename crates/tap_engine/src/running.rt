@@ -4,20 +4,22 @@ ghost use Rattle.setup_text.specs.Setups.{request_fault};
 ghost use Rattle.setup_text.specs.Sound.{IsSetup};
 ghost use Rattle.tap_outside.specs.Seen.{OnlyReads};
 ghost use Rattle.tap_engine.specs.Commands.{command_of, is_threaded, named_by, plain_command};
+ghost use Rattle.tap_engine.specs.Commands.{rings_of};
 ghost use Rattle.tap_engine.specs.Conclusions.{IsSearched};
+ghost use Rattle.tap_engine.specs.Dones.{finding_by};
 ghost use Rattle.tap_engine.specs.Findings.{IsFound, IsReady, finding_of};
 ghost use Rattle.tap_engine.specs.Jobs.{HasJob, Stops};
 ghost use Rattle.tap_engine.specs.Names.{AreMeantToRead};
 
 use crate::capturing::{ThreadedRun, run_timed};
-use crate::commands::{Asked, command_of, plain_command, rings_of, sends};
+use crate::commands::{Asked, command_of, is_threaded, plain_command, rings_of, sends};
 use crate::findings::Finding;
 use crate::jobs::{load_job, load_moments};
 use crate::making::{replay_made, replay_scheduled};
-use crate::sending::send_capture;
+use crate::sending::{Sending, send_capture};
 use cpu_feeders::Gate;
 use frame_view::Memory;
-use setup_text::{Command, Job};
+use setup_text::{Command, Job, RunReport, Setup};
 use std::alloc::Global;
 use std::sync::Wait;
 use std::thread::Threads;
@@ -43,12 +45,10 @@ pub(crate) fn find<S: Store, G: Gate + Sync, R: Threads + Wait + Sync>(
     let Some(asked) = command_of(words) else {
         return Ok(Finding::NoCommand);
     };
-    match asked.command {
-        Command::Capture | Command::Forward => {
-            finding_of(run_threads(rt, alloc, asked, store, gate))
-        }
-        Command::Check | Command::Replay | Command::Replay2 | Command::Send | Command::Make =>
-            finding_of(carry_out(alloc, asked, store)),
+    if is_threaded(asked.command) {
+        finding_of(run_threads(rt, alloc, asked, store, gate))
+    } else {
+        finding_of(carry_out(alloc, asked, store))
     }
 }
 
@@ -96,43 +96,64 @@ fn carry_out<S: Store>(alloc: Global, asked: Asked<'_>, store: &mut S) -> Result
     ensures store { OnlyReads (S.seen store.old) (S.seen store.new) }
 {
     let job = load_job(alloc, asked, store)?;
-    work(alloc, asked, job, store)
+    let done = work(alloc, asked, &job, store)?;
+    Ok(done.into_finding(rings_of(asked.command), job.setup))
+}
+
+/// What a command does on one thread, after its setup and its filter.
+#[derive(Drop)]
+enum Done {
+    /// There was nothing to run.
+    Checked,
+    /// A run was made, over rings of the command's kind.
+    Ran(RunReport),
+    /// A capture was sent.
+    Sent(Sending),
+}
+
+impl Done {
+    /// What that is, with the setup, as a finding.
+    fn into_finding(self, rings: RingKind, setup: Setup) -> Finding
+        ensures { result ≡ finding_by rings setup self }
+    {
+        match self {
+            Done::Checked => Finding::Checked,
+            Done::Ran(report) => Finding::Ran(rings, setup, report, None),
+            Done::Sent(sending) => Finding::Sent(setup, sending),
+        }
+    }
 }
 
 /// Does what a command asks for on one thread, after its setup and its filter.
-fn work<S: Store>(alloc: Global, asked: Asked<'_>, job: Job, store: &mut S) -> Result<Finding, Stop>
+fn work<S: Store>(alloc: Global, asked: Asked<'_>, job: &Job, store: &mut S) -> Result<Done, Stop>
     requires plain { is_threaded asked.command ≡ false }
     requires job { HasJob (S.seen store.old).held
-        (named_by asked.command asked.setup.now asked.schedule.now) job }
-    requires setup { IsSetup job.setup }
-    requires ring { request_fault asked.command job.setup.request ≡ None }
+        (named_by asked.command asked.setup.now asked.schedule.now) job.now }
+    requires setup { IsSetup job.now.setup }
+    requires ring { request_fault asked.command job.now.setup.request ≡ None }
     requires reads { AreMeantToRead
         (Some (named_by asked.command asked.setup.now asked.schedule.now)) (S.seen store.old) }
-    ensures found { IfOk result (IsFound
+    ensures found { IfOk result (λ done. IsFound
         (Some (named_by asked.entry.command asked.entry.setup.now asked.entry.schedule.now))
-        (S.seen store.old) (S.seen store.new)) }
+        (S.seen store.old) (S.seen store.new)
+        (finding_by (rings_of asked.entry.command) job.now.setup done)) }
     ensures stop { IfErr result (Stops (S.seen store.old) (S.seen store.new)
         (named_by asked.entry.command asked.entry.setup.now asked.entry.schedule.now)) }
-    ensures ready { IfOk result IsReady }
+    ensures ready { IfOk result (λ done.
+        IsReady (finding_by (rings_of asked.entry.command) job.now.setup done)) }
     ensures store { OnlyReads (S.seen store.old) (S.seen store.new) }
 {
     match asked.command {
         Command::Check => {
             load_moments(alloc, store, &job.setup.ticks)?;
-            Ok(Finding::Checked)
+            Ok(Done::Checked)
         }
-        Command::Make => {
-            let report = replay_made(alloc, &job)?;
-            Ok(Finding::Ran(RingKind::Blocks, job.setup, report, None))
-        }
+        Command::Make => Ok(Done::Ran(replay_made(alloc, job)?)),
         Command::Replay | Command::Replay2 => {
-            let report = replay_scheduled(alloc, asked.command, &job, asked.schedule, store)?;
-            Ok(Finding::Ran(rings_of(asked.command), job.setup, report, None))
+            let report = replay_scheduled(alloc, asked.command, job, asked.schedule, store)?;
+            Ok(Done::Ran(report))
         }
-        Command::Send => {
-            let sending = send_capture(alloc, &job.setup, store)?;
-            Ok(Finding::Sent(job.setup, sending))
-        }
+        Command::Send => Ok(Done::Sent(send_capture(alloc, &job.setup, store)?)),
         Command::Capture | Command::Forward => unreachable!(),
     }
 }

@@ -8,8 +8,7 @@ ghost use Rattle.tap_saving.specs.Files.{output_names, packets_file, sent_by};
 ghost use Rattle.tap_saving.specs.Saving.{Saved, SavedSome, Touches};
 
 use crate::names::file_name;
-use crate::saves::save_file;
-use capture_file::pcap_text;
+use crate::saves::{save_capture, save_file};
 use frame_view::{Memory, Packets};
 use setup_text::{Forwards, MemberReport, Setup};
 use std::alloc::Global;
@@ -132,8 +131,7 @@ fn save_packets<S: Store>(
     ensures memory { OnErr result (S.seen store.new ≡ S.seen store.old) }
 {
     let name = file_name(alloc, &setup.prefix, member, ".pcap")?;
-    let text = pcap_text(alloc, &report.walked)?;
-    save_file(store, &name, text.as_slice())
+    save_capture(alloc, store, &name, &report.walked)
 }
 
 /// Saves the bytes of the blocks of a member.
@@ -173,6 +171,5 @@ fn save_forwarded<S: Store>(
     ensures memory { OnErr result (S.seen store.new ≡ S.seen store.old) }
 {
     let name = file_name(alloc, &setup.prefix, member, ".tx.pcap")?;
-    let text = pcap_text(alloc, packets)?;
-    save_file(store, &name, text.as_slice())
+    save_capture(alloc, store, &name, packets)
 }

@@ -4,8 +4,7 @@ ghost use Rattle.tap_saving.specs.Files.{CanBeOutput, sent_file, sent_name};
 ghost use Rattle.tap_saving.specs.Saving.{Saved, Touches};
 
 use crate::names::sent_name;
-use crate::saves::save_file;
-use capture_file::pcap_text;
+use crate::saves::save_capture;
 use frame_view::{Memory, Packets};
 use setup_text::Setup;
 use std::alloc::Global;
@@ -28,6 +27,5 @@ pub fn save_sent<S: Store>(
     ensures memory { OnErr result (S.seen store.new ≡ S.seen store.old) }
 {
     let name = sent_name(alloc, &setup.prefix)?;
-    let text = pcap_text(alloc, packets)?;
-    save_file(store, &name, text.as_slice())
+    save_capture(alloc, store, &name, packets)
 }

@@ -1,10 +1,11 @@
 use Rattle.std.proofs.Common.{sym, subst}
 use Rattle.std.specs.Prelude.{Option, Some}
+use Rattle.std.proofs.lemmas.Result.{err_from_is_err_and}
 use Rattle.tap_outside.specs.Contents.{Contents}
 use Rattle.tap_engine.specs.Commands.{Named, named_by}
 use Rattle.tap_engine.specs.Jobs.{HasJob}
 use Rattle.tap_engine.proofs.Fetched.{held_same}
-use Rattle.tap_engine.proofs.Found.{found_earlier, if_err, if_ok, meant_later, stops_earlier}
+use Rattle.tap_engine.proofs.Found.{found_earlier, meant_later, stops_earlier}
 use Rattle.tap_engine.proofs.running.carry_out.Goals as goal
 
 pub work-requires-clause-job : goal.work-requires-clause-job
@@ -24,14 +25,14 @@ pub returns-clause-found : goal.returns-clause-found
 returns-clause-found g c =
     let named : Named = named_by c.args.asked.command c.args.asked.setup.now
     c.args.asked.schedule.now in
-    if_ok _ _ c.work.result
-    (λ found is. found_earlier _ _ _ named found c.in_ok-job.ensures.faultless is)
-    c.work.ensures.found
+    rw (c.into_finding.ensures, c.rings_of.ensures) (found_earlier _ _ _ named _ c.in_ok-job.ensures.faultless
+    c.in_ok-done.ensures.found)
 
-pub returns-clause-stop : goal.returns-clause-stop
-returns-clause-stop g c =
+pub returns-in_err-done-clause-stop : goal.returns-in_err-done-clause-stop
+returns-in_err-done-clause-stop g c =
     let named : Named = named_by c.args.asked.command c.args.asked.setup.now
     c.args.asked.schedule.now in
-    if_err _ _ c.work.result
-    (λ stop is. stops_earlier _ _ _ named stop c.in_ok-job.ensures.faultless is)
-    c.work.ensures.stop
+    let p = err_from_is_err_and c.from_residual-in_err-done.result
+    c.from_residual-in_err-done.ensures.1 in
+    rw (p.1, p.2) (stops_earlier _ _ _ named _ c.in_ok-job.ensures.faultless
+    c.in_err-done.ensures.stop)

@@ -12,7 +12,7 @@ load_moments-requires-after_bounds g c κs within =
     let store = g.S.Store.seen c.args.store.now in
     let named : Named = named_by c.args.asked.command c.args.asked.setup.now
     c.args.asked.schedule.now in
-    let setup = c.args.job.setup in
+    let setup = c.args.job.now.setup in
     ticks_meant store.to_read named setup (ticks_are named setup c.in-Check.is)
     (names_meant store.held store.to_read named setup (g.met.S.Store.untold_reads c.args.store.now)
     c.requires.reads c.requires.job.setup)
@@ -24,15 +24,15 @@ returns-in_err-load_moments-in-Check-clause-stop g c =
     c.args.asked.schedule.now in
     let p = err_from_is_err_and c.from_residual.result
     c.from_residual.ensures.1 in
-    rw (p.1, p.2) (c.in_err-load_moments-in-Check.ensures.stop named c.args.job c.requires.job
-    (ticks_are named c.args.job.setup c.in-Check.is))
+    rw (p.1, p.2) (c.in_err-load_moments-in-Check.ensures.stop named c.args.job.now c.requires.job
+    (ticks_are named c.args.job.now.setup c.in-Check.is))
 
 pub replay_scheduled-requires-clause-schedule : goal.replay_scheduled-requires-clause-schedule
 replay_scheduled-requires-clause-schedule g c κs within =
     let store = g.S.Store.seen c.args.store.now in
     let named : Named = named_by c.args.asked.command c.args.asked.setup.now
     c.args.asked.schedule.now in
-    let setup = c.args.job.setup in
+    let setup = c.args.job.now.setup in
     schedule_meant store.to_read named setup (replays_scheduled named.command c.in-Replay.is)
     (names_meant store.held store.to_read named setup (g.met.S.Store.untold_reads c.args.store.now)
     c.requires.reads c.requires.job.setup)
@@ -42,7 +42,7 @@ replay_scheduled-requires-clause-captures g c κs within =
     let store = g.S.Store.seen c.args.store.now in
     let named : Named = named_by c.args.asked.command c.args.asked.setup.now
     c.args.asked.schedule.now in
-    let setup = c.args.job.setup in
+    let setup = c.args.job.now.setup in
     run_meant store.to_read named setup (replays_scheduled named.command c.in-Replay.is)
     (names_meant store.held store.to_read named setup (g.met.S.Store.untold_reads c.args.store.now)
     c.requires.reads c.requires.job.setup)
@@ -60,7 +60,7 @@ send_capture-requires-clause-meant g c κs within =
     let store = g.S.Store.seen c.args.store.now in
     let named : Named = named_by c.args.asked.command c.args.asked.setup.now
     c.args.asked.schedule.now in
-    let setup = c.args.job.setup in
+    let setup = c.args.job.now.setup in
     first_meant store.to_read named setup c.in-Send.is
     (names_meant store.held store.to_read named setup (g.met.S.Store.untold_reads c.args.store.now)
     c.requires.reads c.requires.job.setup)
@@ -72,7 +72,7 @@ returns-in_ok-report-in-Replay-clause-found g c =
     let report = c.in_ok-report-in-Replay.report in (
       c.in_ok-report-in-Replay.ensures.reported named refl refl c.requires.job,
       c.in_ok-report-in-Replay.ensures.faults,
-      subst (λ (sent : Bool). IsSentBy sent c.args.job.setup report None)
+      subst (λ (sent : Bool). IsSentBy sent c.args.job.now.setup report None)
           (sym (replays_unsent named.command c.in-Replay.is)) tt,
-      c.rings_of.ensures,
+      refl,
     )

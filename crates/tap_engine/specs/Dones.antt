@@ -1,0 +1,14 @@
+-- What a command does on one thread, as a finding.
+use Rattle.std.specs.Prelude.{None}
+use Rattle.setup_text.specs.declared.setups.Setup.{Setup}
+use Rattle.tap_printing.specs.declared.ring_kind.RingKind.{RingKind}
+use Rattle.tap_engine.specs.declared.findings.Finding.{Finding}
+use Rattle.tap_engine.specs.declared.findings.Finding.TheVariants as finding
+use Rattle.tap_engine.specs.declared.running.Done.{Done}
+use Rattle.tap_engine.specs.declared.running.Done.TheVariants as done
+
+-- with the setup and what the rings are made of, where a run was made
+abbrev pub finding_by : RingKind → Setup → Done → Finding
+finding_by rings setup done.Checked = finding.Checked
+finding_by rings setup (done.Ran report) = finding.Ran rings setup report None
+finding_by rings setup (done.Sent sending) = finding.Sent setup sending
