@@ -189,14 +189,8 @@ fn packets(alloc: Global, count: usize) -> Result<Packets, Memory> {
     Ok(packets)
 }
 
-/// The lines of a run whose members send, with the numbers of packets that each sent and skipped.
-pub(crate) fn printed_forward(
-    alloc: Global,
-    cpus: &[Cpu<'_>],
-    members: &[Member<'_>],
-    numbers: &[(usize, u64)],
-) -> Result<ByteList, Memory> {
-    let report = report_of(alloc, cpus, members)?;
+/// What members sent, by the numbers of packets that each sent and skipped.
+fn forwards_of(alloc: Global, numbers: &[(usize, u64)]) -> Result<Forwards, Memory> {
     let mut forwards = Forwards {
         sent: ItemList::new(alloc),
         skipped: ItemList::new(alloc),
@@ -205,5 +199,17 @@ pub(crate) fn printed_forward(
         forwards.sent.push(packets(alloc, *sent)?)?;
         forwards.skipped.push(*skipped)?;
     }
+    Ok(forwards)
+}
+
+/// The lines of a run whose members send, with the numbers of packets that each sent and skipped.
+pub(crate) fn printed_forward(
+    alloc: Global,
+    cpus: &[Cpu<'_>],
+    members: &[Member<'_>],
+    numbers: &[(usize, u64)],
+) -> Result<ByteList, Memory> {
+    let report = report_of(alloc, cpus, members)?;
+    let forwards = forwards_of(alloc, numbers)?;
     summary(alloc, RingKind::Blocks, 0, &report, Some(&forwards))
 }

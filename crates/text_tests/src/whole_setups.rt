@@ -2,6 +2,7 @@
 use crate::answers::{NEEDED, Reading, Row, check_rows, joined, setup_answer};
 use frame_view::Memory;
 use setup_text::Command;
+use std::alloc::Global;
 
 /// Whole setups, and the first fault.
 static WHOLE: [Row; 12] = [
@@ -39,27 +40,44 @@ fn refuses_whole_setups(rt: HostRuntime) -> Result<(), Memory> {
     check_rows(&rt, rt.alloc(), Reading::Setup(Command::Replay), &WHOLE)
 }
 
+/// Whether the answer to a setup is this.
+fn answers(alloc: Global, text: Vec<u8>, wanted: &str) -> Result<bool, Memory> {
+    let answer = setup_answer(alloc, &text, Command::Replay)?;
+    Ok(answer.as_str() == wanted)
+}
+
+/// A setup whose last line is a word and a name of so many bytes, 256 at most.
+fn named(alloc: Global, word: &str, size: usize) -> Result<Vec<u8>, Memory> {
+    let mut text = joined(alloc, NEEDED, word)?;
+    text.extend_from_slice(&[b'n'; 256][..size.min(256)])?;
+    Ok(text)
+}
+
 #[test]
 fn measures_names(rt: HostRuntime) -> Result<(), Memory> {
     for word in ["cpu ", "filter ", "ticks ", "out "] {
-        let mut text = joined(rt.alloc(), NEEDED, word)?;
-        text.extend_from_slice(&[b'n'; 255])?;
-        let longest = setup_answer(rt.alloc(), &text, Command::Replay)?;
-        assert_eq!(rt; longest.as_str(), "", "{word}");
-        text.push(b'n')?;
-        let longer = setup_answer(rt.alloc(), &text, Command::Replay)?;
-        assert_eq!(rt; longer.as_str(), "setup line 6: bad_number\n", "{word}");
+        let longest = named(rt.alloc(), word, 255)?;
+        let is_accepted = answers(rt.alloc(), longest, "")?;
+        let longer = named(rt.alloc(), word, 256)?;
+        let is_refused = answers(rt.alloc(), longer, "setup line 6: bad_number\n")?;
+        assert_eq!(rt; (word, is_accepted, is_refused), (word, true, true));
     }
     Ok(())
 }
 
+/// A comment of 1,048,576 bytes, and these bytes after it.
+fn large(alloc: Global, rest: &[u8]) -> Result<Vec<u8>, Memory> {
+    let mut text = vec![in alloc; b'#'; 1_048_576]?;
+    text.extend_from_slice(rest)?;
+    Ok(text)
+}
+
 #[test]
 fn measures_texts(rt: HostRuntime) -> Result<(), Memory> {
-    let mut text = vec![in rt.alloc(); b'#'; 1_048_576]?;
-    let longest = setup_answer(rt.alloc(), &text, Command::Replay)?;
-    assert_eq!(rt; longest.as_str(), "setup line 0: missing block_size\n");
-    text.push(b'\n')?;
-    let longer = setup_answer(rt.alloc(), &text, Command::Replay)?;
-    assert_eq!(rt; longer.as_str(), "setup line 0: too_large\n");
+    let longest = large(rt.alloc(), b"")?;
+    let is_read = answers(rt.alloc(), longest, "setup line 0: missing block_size\n")?;
+    let longer = large(rt.alloc(), b"\n")?;
+    let is_refused = answers(rt.alloc(), longer, "setup line 0: too_large\n")?;
+    assert_eq!(rt; (is_read, is_refused), (true, true));
     Ok(())
 }
