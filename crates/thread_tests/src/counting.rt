@@ -1,14 +1,13 @@
 //! A fault is counted at each fetch and each save that succeeds: nothing fails.
-use crate::run::{CAPTURE, SAVES};
+use crate::run::{CAPTURE, check_same, run_over};
 use cpu_feeders::NoGate;
-use frame_view::{Memory, MomentList};
+use frame_view::Memory;
 use row_building::{CountingStore, report_of, store, wrong_files};
-use run_building::{Answer, Row, answer_on_threads};
+use run_building::{Answer, Row};
 use std::alloc::Global;
 use std::sync::Wait;
 use std::test::Fail;
 use std::thread::Threads;
-use tap_outside::{MemSink, Sink};
 
 /// The capture without moments, so that its report says no tick.
 static UNTIMED: Row<'static> = Row {
@@ -17,78 +16,43 @@ static UNTIMED: Row<'static> = Row {
     ..CAPTURE
 };
 
+/// What is compared of a run: whether the files after it, its status, its report and its lines are
+/// those of the row, and how many fetches and saves were counted.
+type Seen = ([bool; 4], u64, u64);
+
+/// What is seen of the run of a row, of which these are the answer, the lines and the store.
+fn seen_of(
+    alloc: Global,
+    row: &Row<'_>,
+    (answer, printed): &(Answer, String),
+    counting: &CountingStore,
+) -> Result<Seen, Memory> {
+    let files = wrong_files(alloc, row, &counting.files)?.is_empty();
+    let report = report_of(alloc, row)?;
+    let as_said = [
+        files,
+        answer.status.as_str() == "0 Fine",
+        answer.report.as_str() == report.as_str(),
+        printed.as_str() == row.printed,
+    ];
+    Ok((as_said, counting.fetches, counting.saves))
+}
+
 /// Carries out a row over a store that counts what succeeds.
 fn run_counting<R: Threads + Wait + Sync>(
     rt: &R,
     alloc: Global,
     row: &Row<'_>,
-) -> Result<(Answer, CountingStore, MemSink), Memory> {
+) -> Result<Seen, Memory> {
     let mut counting = CountingStore::new(store(alloc, row)?);
-    let mut out = MemSink::new(alloc, MomentList::new(alloc));
-    let answer = answer_on_threads(rt, alloc, row.words, &mut counting, &mut out, &NoGate)?;
-    Ok((answer, counting, out))
+    let ran = run_over(rt, alloc, row.words, &mut counting, &NoGate)?;
+    seen_of(alloc, row, &ran, &counting)
 }
 
-/// Adds the counts of the store that aren't those of the calls: setup, filter and two captures are
-/// fetched, an output and a dump of each member saved.
-fn add_wrong_counts(counting: &CountingStore, found: &mut String) -> Result<(), Memory> {
-    if counting.fetches != 4 || counting.saves != SAVES.len() as u64 {
-        write!(found, "counts {} {}\n", counting.fetches, counting.saves)?;
-    }
-    Ok(())
-}
-
-/// Adds an answer that isn't that of the row.
-fn add_wrong_answer(
-    alloc: Global,
-    row: &Row<'_>,
-    answer: &Answer,
-    found: &mut String,
-) -> Result<(), Memory> {
-    let report = report_of(alloc, row)?;
-    let (status, given) = (answer.status.as_str(), answer.report.as_str());
-    if status != "0 Fine" || given != report.as_str() {
-        write!(found, "status {status}, report {given}\n")?;
-    }
-    Ok(())
-}
-
-/// Adds what was printed, where that isn't what the row says.
-fn add_wrong_lines(row: &Row<'_>, printed: &[u8], found: &mut String) -> Result<(), Memory> {
-    if printed != row.printed.as_bytes() {
-        write!(found, "printed {printed:?}\n")?;
-    }
-    Ok(())
-}
-
-/// What of a run over such a store is wrong; empty where nothing is.
-fn wrong_run(
-    alloc: Global,
-    row: &Row<'_>,
-    answer: &Answer,
-    counting: &CountingStore,
-    printed: &[u8],
-) -> Result<String, Memory> {
-    let mut found = wrong_files(alloc, row, &counting.files)?;
-    add_wrong_counts(counting, &mut found)?;
-    add_wrong_answer(alloc, row, answer, &mut found)?;
-    add_wrong_lines(row, printed, &mut found)?;
-    Ok(found)
-}
-
-/// What the run of a row over such a store differs in.
-fn counting_difference<R: Threads + Wait + Sync>(
-    rt: &R,
-    alloc: Global,
-    row: &Row<'_>,
-) -> Result<String, Memory> {
-    let (answer, counting, out) = run_counting(rt, alloc, row)?;
-    wrong_run(alloc, row, &answer, &counting, out.written())
-}
-
+/// Setup, filter and two captures are fetched, an output and a dump of each member saved.
 #[test]
 fn what_succeeds_is_counted_as_a_fault(rt: HostRuntime) -> Result<(), Fail> {
-    let found = counting_difference(&rt, rt.alloc(), &UNTIMED)?;
-    assert_eq!(rt; found.as_str(), "");
+    let seen = run_counting(&rt, rt.alloc(), &UNTIMED)?;
+    check_same(&rt, &seen, &([true; 4], 4, 4));
     Ok(())
 }

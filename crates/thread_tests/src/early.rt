@@ -3,13 +3,14 @@ ghost use Rattle.std.specs.Prelude.{◌≡◌, ◌<◌, ◌≤◌, length, refl,
 ghost use Rattle.tap_outside.specs.Seen.{meant_store};
 
 use crate::gates::FirstDelivery;
-use frame_view::{Memory, MomentList};
-use run_building::{Answer, PAGES, answer_on_threads, push_fields};
+use crate::run::{check_same, run_over};
+use frame_view::Memory;
+use run_building::{Answer, PAGES, push_fields};
 use std::alloc::Global;
 use std::sync::Wait;
 use std::test::Fail;
 use std::thread::Threads;
-use tap_outside::{Failed, MemSink, OutError, Source, Store};
+use tap_outside::{Failed, OutError, Source, Store};
 
 /// Bytes that are given 100 by one read. The third read waits until the first frame was to be
 /// delivered, and fails if it isn't.
@@ -103,34 +104,37 @@ impl<'a> Store for WaitingStore<'a> {
     ghost untold_saves = { λ store name untold. refl };
 }
 
-const LINES: &[u8] = b"cpu 0 frames 3 arrivals 3 end ok
-member 0 packets 3 drops 0 freezes 0 blocks 1
-total arrivals 3 filtered 0 kept 3 drops 0
-";
+/// The status, the report and the lines.
+const WANTED: (&str, &str, &str) = (
+    "0 Fine",
+    "k0.k0.k0. 252\nkkk. 3 1\n",
+    "cpu 0 frames 3 arrivals 3 end ok\n\
+     member 0 packets 3 drops 0 freezes 0 blocks 1\n\
+     total arrivals 3 filtered 0 kept 3 drops 0\n",
+);
 
 /// The capture over that store, and what it prints.
 fn run_waiting<R: Threads + Wait + Sync>(
     rt: &R,
     alloc: Global,
-) -> Result<(Answer, Vec<u8>), Memory> {
+) -> Result<(Answer, String), Memory> {
     let gate = FirstDelivery::new();
     let mut files = WaitingStore {
         alloc,
         gate: &gate,
         read_faults: 0,
     };
-    let mut out = MemSink::new(alloc, MomentList::new(alloc));
-    let words = ["capture", "conf"];
-    let answer = answer_on_threads(rt, alloc, &words, &mut files, &mut out, &gate)?;
-    let printed = out.written().to_vec(alloc)?;
-    Ok((answer, printed))
+    run_over(rt, alloc, &["capture", "conf"], &mut files, &gate)
 }
 
 #[test]
 fn a_frame_is_delivered_before_the_end(rt: HostRuntime) -> Result<(), Fail> {
     let (answer, printed) = run_waiting(&rt, rt.alloc())?;
-    assert_eq!(rt; answer.status.as_str(), "0 Fine");
-    assert_eq!(rt; answer.report.as_str(), "k0.k0.k0. 252\nkkk. 3 1\n");
-    assert_eq!(rt; printed.as_slice(), LINES);
+    let seen = (
+        answer.status.as_str(),
+        answer.report.as_str(),
+        printed.as_str(),
+    );
+    check_same(&rt, &seen, &WANTED);
     Ok(())
 }

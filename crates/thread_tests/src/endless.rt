@@ -2,14 +2,13 @@
 ghost use Rattle.std.specs.Prelude.{◌≤◌, ◌<◌, length, refl, None};
 ghost use Rattle.tap_outside.specs.Seen.{meant_store};
 
+use crate::run::{check_same, run_over};
 use cpu_feeders::NoGate;
 use frame_view::{Memory, MomentList};
-use run_building::{Answer, PAGES, answer_on, answer_on_threads, push_fields};
+use run_building::{Answer, PAGES, answer_on, push_fields};
 use std::alloc::Global;
-use std::str;
-use std::sync::Wait;
+use std::process::Abort;
 use std::test::Fail;
-use std::thread::Threads;
 use tap_outside::{Failed, MemSink, OutError, Source, Store};
 
 /// Bytes that are read to their end, and then again from a place on; without end, where that lies
@@ -142,38 +141,44 @@ fn run_endless(alloc: Global, words: &[&str]) -> Result<(Answer, Vec<u8>), Memor
     Ok((answer, printed))
 }
 
-#[test]
-fn a_capture_without_end_is_too_large(rt: HostRuntime) -> Result<(), Fail> {
-    for (words, lines, ends) in &RUNS {
-        let (answer, printed) = run_endless(rt.alloc(), words)?;
-        assert_eq!(rt; answer.status.as_str(), TOO_LARGE);
-        assert!(rt; answer.report.as_str().ends_with(ends));
-        assert_eq!(rt; printed.as_slice(), *lines);
+/// Whether a command ended with its status, its lines and the end of its report.
+fn ended((_, lines, ends): &Run, (answer, printed): &(Answer, Vec<u8>)) -> bool {
+    let report = answer.report.as_str();
+    answer.status.as_str() == TOO_LARGE && printed.as_slice() == *lines && report.ends_with(ends)
+}
+
+/// Carries out a command over that store: whether it ended as it must.
+fn ends_as_said(alloc: Global, run: &Run) -> Result<bool, Memory> {
+    let ran = run_endless(alloc, run.0)?;
+    Ok(ended(run, &ran))
+}
+
+/// Each command ends as it must.
+fn check_runs(rt: &impl Abort, alloc: Global, runs: &[Run]) -> Result<(), Fail> {
+    for run in runs {
+        let ends = ends_as_said(alloc, run)?;
+        check_same(rt, &(run.0, ends), &(run.0, true));
     }
     Ok(())
 }
 
-/// The capture on threads over that store, and what it prints.
-fn capture_endless<R: Threads + Wait + Sync>(
-    rt: &R,
-    alloc: Global,
-) -> Result<(Answer, Vec<u8>), Memory> {
-    let mut files = EndlessStore { alloc };
-    let mut out = MemSink::new(alloc, MomentList::new(alloc));
-    let words = ["capture", "conf"];
-    let answer = answer_on_threads(rt, alloc, &words, &mut files, &mut out, &NoGate)?;
-    let printed = out.written().to_vec(alloc)?;
-    Ok((answer, printed))
+#[test]
+fn a_capture_without_end_is_too_large(rt: HostRuntime) -> Result<(), Fail> {
+    check_runs(&rt, rt.alloc(), &RUNS)
 }
 
-/// How many of the frames are dropped hangs on the threads.
+/// Whether the lines of the capture on threads begin and end as they must. How many of the frames are
+/// dropped hangs on the threads.
+fn is_told(lines: &str) -> bool {
+    let first = "cpu 0 frames 127 arrivals 127 end too_large 33554432\nmember 0 packets 127 drops ";
+    lines.starts_with(first) && lines.contains("\ntotal arrivals 127 filtered 0 kept ")
+}
+
 #[test]
 fn on_threads_it_is_too_large(rt: HostRuntime) -> Result<(), Fail> {
-    let (answer, printed) = capture_endless(&rt, rt.alloc())?;
-    assert_eq!(rt; answer.status.as_str(), TOO_LARGE);
-    let text = str::from_utf8(printed.as_slice()).unwrap_or("no text");
-    let first = "cpu 0 frames 127 arrivals 127 end too_large 33554432\nmember 0 packets 127 drops ";
-    assert!(rt; text.starts_with(first));
-    assert!(rt; text.contains("\ntotal arrivals 127 filtered 0 kept "));
+    let mut files = EndlessStore { alloc: rt.alloc() };
+    let (answer, printed) = run_over(&rt, rt.alloc(), &["capture", "conf"], &mut files, &NoGate)?;
+    let seen = (answer.status.as_str(), is_told(printed.as_str()));
+    check_same(&rt, &seen, &(TOO_LARGE, true));
     Ok(())
 }

@@ -2,16 +2,16 @@
 ghost use Rattle.std.specs.Prelude.{◌≡◌, ◌<◌, ◌≤◌, length, refl, None};
 ghost use Rattle.tap_outside.specs.Seen.{meant_store};
 
+use crate::run::{check_same, run_over};
 use cpu_feeders::NoGate;
-use frame_view::{ByteList, Memory, MomentList};
+use frame_view::{ByteList, Memory};
 use made_captures::made_sources;
-use run_building::{Answer, answer_on_threads};
+use run_building::Answer;
 use std::alloc::Global;
-use std::str;
 use std::sync::Wait;
 use std::test::Fail;
 use std::thread::Threads;
-use tap_outside::{MemSink, OutError, Store, SureSource};
+use tap_outside::{OutError, Store, SureSource};
 
 const SETUP: &str = "block_size 65536\nblock_nr 64\nframe_size 2048\nframe_nr 2048\npriv 16\n\
     cpu a.pcap\ncpu b.pcap\nmembers 4\nmode hash\n\
@@ -69,39 +69,52 @@ fn capture_made<R: Threads + Wait + Sync>(
         alloc,
         sources: made_sources(alloc, 1, 20_000, 2)?,
     };
-    let mut out = MemSink::new(alloc, MomentList::new(alloc));
-    let words = ["capture", "conf"];
-    let answer = answer_on_threads(rt, alloc, &words, &mut files, &mut out, &NoGate)?;
-    let printed = str::from_utf8(out.written()).unwrap_or("no text");
-    Ok((answer, String::from_str(alloc, printed)?))
+    run_over(rt, alloc, &["capture", "conf"], &mut files, &NoGate)
+}
+
+/// The number after a word of a line; 0 where the line hasn't the word.
+fn number_after(line: &str, word: &str) -> usize {
+    let (_, rest) = line.split_once(word).unwrap_or(("", ""));
+    rest.split(' ')
+        .next()
+        .unwrap_or("")
+        .parse::<usize>()
+        .unwrap_or(0)
 }
 
 /// The sum of the numbers after a word, over the lines that begin with another one.
-fn sum_of(text: &str, first: &str, name: &str) -> usize {
+fn sum_of(text: &str, first: &str, word: &str) -> usize {
     let mut sum: usize = 0;
     for line in text.lines() {
-        let mut words = line.split(' ');
-        if words.next() == Some(first) && words.any(|word| word == name) {
-            let number = words.next().unwrap_or("");
-            sum = sum.saturating_add(number.parse::<usize>().unwrap_or(0));
+        if line.starts_with(first) {
+            sum = sum.saturating_add(number_after(line, word));
         }
     }
     sum
 }
 
+/// What is printed first, and how the last line begins.
+const FIRST: &str =
+    "cpu 0 frames 10000 arrivals 10000 end ok\ncpu 1 frames 10000 arrivals 10000 end ok\n";
+
+const TOTAL: &str = "\ntotal arrivals 20000 filtered 0 kept ";
+
+/// Whether the lines begin and end as they must, how many packets the members have, how many frames
+/// were kept or dropped, and whether the members dropped as many as all.
+fn seen_of(printed: &str) -> (bool, usize, usize, bool) {
+    let drops = sum_of(printed, "total ", " drops ");
+    (
+        printed.starts_with(FIRST) && printed.contains(TOTAL),
+        sum_of(printed, "member ", " packets "),
+        sum_of(printed, "total ", " kept ").saturating_add(drops),
+        sum_of(printed, "member ", " drops ") == drops,
+    )
+}
+
 #[test]
 fn made_frames_are_kept_or_dropped(rt: HostRuntime) -> Result<(), Fail> {
     let (answer, printed) = capture_made(&rt, rt.alloc())?;
-    let printed = printed.as_str();
-    assert_eq!(rt; answer.status.as_str(), "0 Fine");
-    let first =
-        "cpu 0 frames 10000 arrivals 10000 end ok\ncpu 1 frames 10000 arrivals 10000 end ok\n";
-    assert!(rt; printed.starts_with(first));
-    assert!(rt; printed.contains("\ntotal arrivals 20000 filtered 0 kept "));
-    assert_eq!(rt; sum_of(printed, "member", "packets"), 20_000);
-    let drops = sum_of(printed, "total", "drops");
-    assert_eq!(rt; sum_of(printed, "member", "drops"), drops);
-    let kept = sum_of(printed, "total", "kept");
-    assert_eq!(rt; kept.saturating_add(drops), 20_000);
+    let seen = (answer.status.as_str(), seen_of(printed.as_str()));
+    check_same(&rt, &seen, &("0 Fine", (true, 20_000, 20_000, true)));
     Ok(())
 }

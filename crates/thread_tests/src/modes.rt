@@ -1,8 +1,8 @@
 //! Eight CPUs and eight members, in each mode. Every CPU has the same capture.
-use crate::run::check_rows;
+use crate::run::{check_rows, check_same};
 use cpu_feeders::NoGate;
 use frame_view::Memory;
-use run_building::{Capture, Kept, NO_FRAME, NOTHING, Row, Shape, carry_out_on_threads};
+use run_building::{Capture, Kept, NO_FRAME, NOTHING, Ran, Row, Shape, carry_out_on_threads};
 use std::alloc::Global;
 use std::sync::Wait;
 use std::test::Fail;
@@ -121,9 +121,9 @@ const AT_HASH: Row<'static> = Row {
     ..EACH
 };
 
-/// In mode qm a CPU's queue is its number where its line says no other; with the flag rollover no
-/// member is tried but the home, since each home has room.
-static MODES: [Row<'static>; 4] = [
+/// Each member gets a frame. In mode qm a CPU's queue is its number where its line says no other; with
+/// the flag rollover no member is tried but the home, since each home has room.
+static SPREAD: [Row<'static>; 2] = [
     Row {
         name: "mode cpu",
         dump: true,
@@ -134,6 +134,15 @@ static MODES: [Row<'static>; 4] = [
         lines: "mode qm\nflag rollover\n",
         ..EACH
     },
+];
+
+/// The rows of which each member gets a frame. Their texts stand in the proof of this function alone.
+fn spread() -> &'static [Row<'static>] {
+    &SPREAD
+}
+
+/// One member gets all frames.
+static GATHERED: [Row<'static>; 2] = [
     Row {
         name: "mode rollover",
         lines: "mode rollover\n",
@@ -142,9 +151,15 @@ static MODES: [Row<'static>; 4] = [
     AT_HASH,
 ];
 
+/// The rows of which one member gets all frames.
+fn gathered() -> &'static [Row<'static>] {
+    &GATHERED
+}
+
 #[test]
 fn eight_cpus_feed_eight_members(rt: HostRuntime) -> Result<(), Fail> {
-    check_rows(&rt, rt.alloc(), &MODES)
+    check_rows(&rt, rt.alloc(), spread())?;
+    check_rows(&rt, rt.alloc(), gathered())
 }
 
 /// Five frames of each CPU, dealt out by turns: 40 tickets, of which a member has every eighth.
@@ -170,30 +185,41 @@ fn count_of(report: &str, arrival: &str) -> usize {
     count
 }
 
-/// How many of the tickets 0 to 39 a capture drew once, each for the member that it is for, and what
-/// it printed.
-fn dealt<R: Threads + Wait + Sync>(rt: &R, alloc: Global) -> Result<(usize, String), Memory> {
-    let (answer, printed, _) = carry_out_on_threads(rt, alloc, &DEALT, &NoGate)?;
+/// How many of the tickets 0 to 39 a report has once, each for the member that it is for.
+fn drawn_once(alloc: Global, report: &str) -> Result<usize, Memory> {
     let mut once: usize = 0;
     for ticket in 0..40u32 {
         let arrival = format!(in alloc; "{ticket}k{}", ticket % 8)?;
-        if count_of(answer.report.as_str(), arrival.as_str()) == 1 {
+        if count_of(report, arrival.as_str()) == 1 {
             once = once.saturating_add(1);
         }
     }
-    Ok((once, printed))
+    Ok(once)
+}
+
+/// What is compared of a run: how many tickets were drawn once, how many members have five packets,
+/// and whether the last line has all frames.
+fn seen_of(alloc: Global, (answer, printed, _): &Ran) -> Result<(usize, usize, bool), Memory> {
+    let lines = printed.as_str();
+    let five = " packets 5 drops 0 freezes 0 blocks 1\n";
+    let last = "\ntotal arrivals 40 filtered 0 kept 40 drops 0\n";
+    let once = drawn_once(alloc, answer.report.as_str())?;
+    Ok((once, lines.matches(five).count(), lines.ends_with(last)))
+}
+
+/// Deals the frames out.
+fn dealt<R: Threads + Wait + Sync>(
+    rt: &R,
+    alloc: Global,
+    row: &Row<'_>,
+) -> Result<(usize, usize, bool), Memory> {
+    let ran = carry_out_on_threads(rt, alloc, row, &NoGate)?;
+    seen_of(alloc, &ran)
 }
 
 #[test]
 fn every_ticket_is_drawn_once(rt: HostRuntime) -> Result<(), Fail> {
-    let (once, printed) = dealt(&rt, rt.alloc())?;
-    assert_eq!(rt; once, 40);
-    let five = printed
-        .as_str()
-        .matches(" packets 5 drops 0 freezes 0 blocks 1\n")
-        .count();
-    assert_eq!(rt; five, 8);
-    let last = "\ntotal arrivals 40 filtered 0 kept 40 drops 0\n";
-    assert!(rt; printed.as_str().ends_with(last));
+    let seen = dealt(&rt, rt.alloc(), &DEALT)?;
+    check_same(&rt, &seen, &(40, 8, true));
     Ok(())
 }

@@ -1,10 +1,9 @@
 //! The outside fails under threads: a read, and each call that is out of memory.
-use crate::run::{check_rows, no_fault};
+use crate::run::{check_row, check_rows, check_same, no_fault};
 use cpu_feeders::NoGate;
 use frame_view::Memory;
 use run_building::{
-    Answer, Capture, Faults, Kept, NO_FAULT, NO_FRAME, NOTHING, Row, Shape, carry_out_on_threads,
-    difference_on_threads,
+    Capture, Faults, Kept, NO_FAULT, NO_FRAME, NOTHING, Ran, Row, Shape, carry_out_on_threads,
 };
 use std::alloc::Global;
 use std::process::Abort;
@@ -118,40 +117,37 @@ fn poor_row(poor_call: u64, poor_write: u64) -> Row<'static> {
     }
 }
 
-/// What of a capture that was out of memory is wrong: it ends with status 7, no report and its line.
-fn wrong_poor(alloc: Global, answer: &Answer, printed: &str) -> Result<String, Memory> {
-    let ends = printed.ends_with("out of memory\n");
-    if ends && answer.status.as_str() == "7 Memory" && answer.report.is_empty() {
-        Ok(String::new(alloc))
-    } else {
-        Ok(format!(in alloc; "{} and {printed}", answer.status.as_str())?)
-    }
+/// Whether a capture ended with status 7, no report and its line.
+fn is_out_of_memory((answer, printed, _): &Ran) -> bool {
+    let ends = printed.as_str().ends_with("out of memory\n");
+    ends && answer.status.as_str() == "7 Memory" && answer.report.is_empty()
 }
 
-/// Carries out a capture that is out of memory: what is wrong.
-fn poor_difference<R: Threads + Wait + Sync>(
+/// Whether the capture of a row ends out of memory.
+fn ends_without_memory<R: Threads + Wait + Sync>(
     rt: &R,
     alloc: Global,
     row: &Row<'_>,
-) -> Result<String, Memory> {
-    let (answer, printed, _) = carry_out_on_threads(rt, alloc, row, &NoGate)?;
-    wrong_poor(alloc, &answer, printed.as_str())
+) -> Result<bool, Memory> {
+    let ran = carry_out_on_threads(rt, alloc, row, &NoGate)?;
+    Ok(is_out_of_memory(&ran))
 }
 
-/// What the capture differs in where a call of the store or a write is out of memory; where none of
-/// them is reached it is as ever.
-fn call_difference<R: Threads + Wait + Sync>(
+/// Carries out the capture where a call of the store or a write is out of memory; where none of them
+/// is reached it is as ever.
+fn check_call<R: Threads + Wait + Abort + Sync>(
     rt: &R,
     alloc: Global,
     call: u64,
     write: u64,
-) -> Result<String, Memory> {
+) -> Result<(), Fail> {
     let row = poor_row(call, write);
     if call > 5 || call == 0 && write == 0 {
-        difference_on_threads(rt, alloc, &row, &NoGate)
-    } else {
-        poor_difference(rt, alloc, &row)
+        return check_row(rt, alloc, &row, &NoGate);
     }
+    let ends = ends_without_memory(rt, alloc, &row)?;
+    check_same(rt, &(call, write, ends), &(call, write, true));
+    Ok(())
 }
 
 /// Carries out the capture with each of these calls and writes out of memory.
@@ -161,8 +157,7 @@ fn check_poor<R: Threads + Wait + Abort + Sync>(
     calls: &[(u64, u64)],
 ) -> Result<(), Fail> {
     for (call, write) in calls {
-        let found = call_difference(rt, alloc, *call, *write)?;
-        assert_eq!(rt; found.as_str(), "", "call {call} write {write}");
+        check_call(rt, alloc, *call, *write)?;
     }
     Ok(())
 }

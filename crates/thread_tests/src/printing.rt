@@ -1,13 +1,9 @@
 //! Each write fails in turn.
-use crate::run::{no_fault, sound};
+use crate::run::{check_row, no_fault, sound};
 use cpu_feeders::NoGate;
-use frame_view::Memory;
-use run_building::{Faults, Row, difference_on_threads};
-use std::alloc::Global;
+use run_building::{Faults, Row};
 use std::str;
-use std::sync::Wait;
 use std::test::Fail;
-use std::thread::Threads;
 
 /// What one write takes of the lines.
 const TAKEN: usize = 50;
@@ -19,30 +15,26 @@ fn written(writes: usize) -> &'static str {
     str::from_utf8(&lines.as_bytes()[..count]).unwrap_or("")
 }
 
-/// What the capture differs in where a write fails after so many: it ends with status 6, its report
-/// and its files, and what was written before stays.
-fn unwritten_difference<R: Threads + Wait + Sync>(
-    rt: &R,
-    alloc: Global,
-    writes: usize,
-) -> Result<String, Memory> {
-    let row = Row {
+/// The capture where a write fails after so many: it ends with status 6, its report and its files,
+/// and what was written before stays.
+fn unwritten(writes: usize) -> Row<'static> {
+    let printed = written(writes);
+    Row {
+        name: printed,
         faults: Faults {
             write: (writes as u64).saturating_add(1),
             ..no_fault()
         },
         status: "6 WriteFault",
-        printed: written(writes),
+        printed,
         ..*sound()
-    };
-    difference_on_threads(rt, alloc, &row, &NoGate)
+    }
 }
 
 #[test]
 fn each_write_fails(rt: HostRuntime) -> Result<(), Fail> {
     for writes in 0..sound().printed.len().div_ceil(TAKEN) {
-        let found = unwritten_difference(&rt, rt.alloc(), writes)?;
-        assert_eq!(rt; found.as_str(), "", "write {writes}");
+        check_row(&rt, rt.alloc(), &unwritten(writes), &NoGate)?;
     }
     Ok(())
 }

@@ -34,46 +34,54 @@ static UNREAD_FORWARD: Row<'static> = Row {
     ..CAPTURE
 };
 
-/// A read of a text that fails: a name, the text, and the number of the read. Each read gives at most
-/// 20 bytes, and the last one of a text none.
-type Read = (&'static str, &'static str, &'static [u64]);
+/// A name, a file, the most bytes that one read of it gives, the reads of it that fail, and the fetches
+/// that fail.
+type Reading = (
+    &'static str,
+    &'static str,
+    usize,
+    &'static [u64],
+    &'static [u64],
+);
 
-static READS: [Read; 11] = [
-    ("read 1 of the setup", "conf", &[1]),
-    ("read 2 of the setup", "conf", &[2]),
-    ("read 3 of the setup", "conf", &[3]),
-    ("read 4 of the setup", "conf", &[4]),
-    ("read 5 of the setup", "conf", &[5]),
-    ("read 6 of the setup", "conf", &[6]),
-    ("read 7 of the setup", "conf", &[7]),
-    ("read 1 of the filter", "f.ddd", &[1]),
-    ("read 2 of the filter", "f.ddd", &[2]),
-    ("read 1 of the moments", "t.txt", &[1]),
-    ("read 2 of the moments", "t.txt", &[2]),
-];
-
-/// The reads of the texts.
-fn reads() -> &'static [Read] {
-    &READS
-}
-
-/// Each of these reads fails in the run of a row.
+/// Each of these reads and fetches fails in the run of a row.
 fn check_reads<R: Threads + Wait + Abort + Sync>(
     rt: &R,
     alloc: Global,
     row: &Row<'static>,
-    all: &[Read],
+    all: &[Reading],
 ) -> Result<(), Fail> {
-    for (name, file, reads) in all {
+    for (name, file, piece, reads, fetches) in all {
         let faults = Faults {
+            fetches,
             file,
-            piece: 20,
+            piece: *piece,
             reads,
             ..no_fault()
         };
         check_with(rt, alloc, name, row, faults)?;
     }
     Ok(())
+}
+
+/// The reads of the texts. Each gives at most 20 bytes, and the last one of a text none.
+static READS: [Reading; 11] = [
+    ("read 1 of the setup", "conf", 20, &[1], &[]),
+    ("read 2 of the setup", "conf", 20, &[2], &[]),
+    ("read 3 of the setup", "conf", 20, &[3], &[]),
+    ("read 4 of the setup", "conf", 20, &[4], &[]),
+    ("read 5 of the setup", "conf", 20, &[5], &[]),
+    ("read 6 of the setup", "conf", 20, &[6], &[]),
+    ("read 7 of the setup", "conf", 20, &[7], &[]),
+    ("read 1 of the filter", "f.ddd", 20, &[1], &[]),
+    ("read 2 of the filter", "f.ddd", 20, &[2], &[]),
+    ("read 1 of the moments", "t.txt", 20, &[1], &[]),
+    ("read 2 of the moments", "t.txt", 20, &[2], &[]),
+];
+
+/// The reads of the texts.
+fn reads() -> &'static [Reading] {
+    &READS
 }
 
 #[test]
@@ -87,29 +95,15 @@ fn each_read_of_each_text_of_a_forward_fails(rt: HostRuntime) -> Result<(), Fail
 }
 
 /// The fetches of the texts.
-type Fetch = (&'static str, &'static [u64]);
-
-static FETCHES: [Fetch; 3] = [("setup", &[1]), ("filter", &[2]), ("moments", &[3])];
-
-/// Each of these fetches fails.
-fn check_fetches<R: Threads + Wait + Abort + Sync>(
-    rt: &R,
-    alloc: Global,
-    all: &[Fetch],
-) -> Result<(), Fail> {
-    for (name, fetches) in all {
-        let faults = Faults {
-            fetches,
-            ..no_fault()
-        };
-        check_with(rt, alloc, name, unread(), faults)?;
-    }
-    Ok(())
-}
+static FETCHES: [Reading; 3] = [
+    ("setup", "", 65_536, &[], &[1]),
+    ("filter", "", 65_536, &[], &[2]),
+    ("moments", "", 65_536, &[], &[3]),
+];
 
 #[test]
 fn each_fetch_of_a_text_fails(rt: HostRuntime) -> Result<(), Fail> {
-    check_fetches(&rt, rt.alloc(), &FETCHES)
+    check_reads(&rt, rt.alloc(), unread(), &FETCHES)
 }
 
 /// The second capture of 176 bytes, read by 100 bytes.
@@ -119,8 +113,8 @@ const SECOND: Faults<'static> = Faults {
     ..NO_FAULT
 };
 
-/// A fetch or a read of a capture fails: what is printed, logged and kept.
-static CAPTURES: [Row<'static>; 6] = [
+/// A fetch of a capture fails: what is printed, logged and kept.
+static UNFETCHED: [Row<'static>; 3] = [
     Row {
         name: "the first fetch of a capture",
         faults: Faults {
@@ -155,6 +149,32 @@ static CAPTURES: [Row<'static>; 6] = [
         members: &[TWO, NONE],
         ..CAPTURE
     },
+    Row {
+        name: "both fetches",
+        faults: Faults {
+            fetches: &[4, 5],
+            ..NO_FAULT
+        },
+        status: "5 ReadFault",
+        printed: "cpu 0 frames 0 arrivals 0 end fault\n\
+                  cpu 1 frames 0 arrivals 0 end fault\n\
+                  member 0 packets 0 drops 0 freezes 0 blocks 0\n\
+                  member 1 packets 0 drops 0 freezes 0 blocks 0\n\
+                  total arrivals 0 filtered 0 kept 0 drops 0\n",
+        cpus: &["", ""],
+        given: &[0, 0],
+        members: &[NONE, NONE],
+        ..CAPTURE
+    },
+];
+
+/// The fetches of the captures. Their texts stand in the proof of this function alone.
+fn unfetched() -> &'static [Row<'static>] {
+    &UNFETCHED
+}
+
+/// A read of the second capture fails.
+static TORN: [Row<'static>; 3] = [
     Row {
         name: "the first read of the second capture",
         faults: Faults {
@@ -206,51 +226,29 @@ static CAPTURES: [Row<'static>; 6] = [
         members: &[TWO, TWO],
         ..CAPTURE
     },
-    Row {
-        name: "both fetches",
-        faults: Faults {
-            fetches: &[4, 5],
-            ..NO_FAULT
-        },
-        status: "5 ReadFault",
-        printed: "cpu 0 frames 0 arrivals 0 end fault\n\
-                  cpu 1 frames 0 arrivals 0 end fault\n\
-                  member 0 packets 0 drops 0 freezes 0 blocks 0\n\
-                  member 1 packets 0 drops 0 freezes 0 blocks 0\n\
-                  total arrivals 0 filtered 0 kept 0 drops 0\n",
-        cpus: &["", ""],
-        given: &[0, 0],
-        members: &[NONE, NONE],
-        ..CAPTURE
-    },
 ];
+
+/// The reads of the second capture.
+fn torn() -> &'static [Row<'static>] {
+    &TORN
+}
 
 #[test]
 fn each_fetch_and_each_read_of_a_capture_fails(rt: HostRuntime) -> Result<(), Fail> {
-    check_rows(&rt, rt.alloc(), &CAPTURES)
+    check_rows(&rt, rt.alloc(), unfetched())?;
+    check_rows(&rt, rt.alloc(), torn())
 }
 
-/// The files that the capture reads.
-static FILES: [&str; 5] = ["conf", "f.ddd", "t.txt", "a.pcap", "b.pcap"];
-
-/// Each of these files is read one byte at a time.
-fn check_pieces<R: Threads + Wait + Abort + Sync>(
-    rt: &R,
-    alloc: Global,
-    files: &[&'static str],
-) -> Result<(), Fail> {
-    for file in files {
-        let faults = Faults {
-            file,
-            piece: 1,
-            ..no_fault()
-        };
-        check_with(rt, alloc, file, sound(), faults)?;
-    }
-    Ok(())
-}
+/// The files that the capture reads, each one byte at a time.
+static FILES: [Reading; 5] = [
+    ("conf", "conf", 1, &[], &[]),
+    ("f.ddd", "f.ddd", 1, &[], &[]),
+    ("t.txt", "t.txt", 1, &[], &[]),
+    ("a.pcap", "a.pcap", 1, &[], &[]),
+    ("b.pcap", "b.pcap", 1, &[], &[]),
+];
 
 #[test]
 fn each_file_is_read_one_byte_at_a_time(rt: HostRuntime) -> Result<(), Fail> {
-    check_pieces(&rt, rt.alloc(), &FILES)
+    check_reads(&rt, rt.alloc(), sound(), &FILES)
 }

@@ -1,13 +1,20 @@
 //! A capture on threads without a fault, of which nothing hangs on which thread goes first.
-use cpu_feeders::NoGate;
+ghost use Rattle.std.specs.Prelude.{List, ℕ, IsTrue};
+
+use cpu_feeders::{Gate, NoGate};
+use frame_view::{Memory, MomentList};
 use run_building::{
-    Capture, Faults, Kept, NO_FAULT, NO_FRAME, NOTHING, Row, Shape, difference_on_threads,
+    Answer, Capture, Faults, Kept, NO_FAULT, NO_FRAME, NOTHING, Row, Shape, answer_on_threads,
+    difference_on_threads,
 };
 use std::alloc::Global;
+use std::fmt::Debug;
 use std::process::Abort;
+use std::str;
 use std::sync::Wait;
 use std::test::Fail;
 use std::thread::Threads;
+use tap_outside::{MemSink, Sink, Store};
 
 /// A frame of 60 bytes, which needs 144 in a block, after the 48 of the block itself.
 pub(crate) const SMALL: Shape<'static> = (b"", 60);
@@ -77,28 +84,65 @@ pub(crate) fn no_fault() -> Faults<'static> {
 /// The files that it saves, in order.
 pub(crate) const SAVES: [&str; 4] = ["out.0.pcap", "out.0.blk", "out.1.pcap", "out.1.blk"];
 
-/// Carries out a row on threads where these calls fail: nothing may differ from it.
-pub(crate) fn check_with<'a, R: Threads + Wait + Abort + Sync>(
+/// What was seen is what is wanted. Where tests call this, the assertion is proved once for all of them.
+pub(crate) fn check_same<T: PartialEq + Debug>(rt: &impl Abort, seen: &T, wanted: &T) {
+    assert_eq!(rt; seen, wanted);
+}
+
+/// Carries out a row on threads, by a gate: nothing may differ from it.
+pub(crate) fn check_row<G: Gate + Sync, R: Threads + Wait + Abort + Sync>(
     rt: &R,
     alloc: Global,
-    name: &str,
-    row: &Row<'a>,
-    faults: Faults<'a>,
+    row: &Row<'_>,
+    gate: &G,
 ) -> Result<(), Fail> {
-    let found = difference_on_threads(rt, alloc, &Row { faults, ..*row }, &NoGate)?;
-    assert_eq!(rt; found.as_str(), "", "{name}");
+    let found = difference_on_threads(rt, alloc, row, gate)?;
+    check_same(rt, &(row.name, found.as_str()), &(row.name, ""));
     Ok(())
 }
 
-/// Carries out each row on threads: nothing may differ from it.
+/// Carries out a row on threads under this name where these calls fail.
+pub(crate) fn check_with<'a, R: Threads + Wait + Abort + Sync>(
+    rt: &R,
+    alloc: Global,
+    name: &'a str,
+    row: &Row<'a>,
+    faults: Faults<'a>,
+) -> Result<(), Fail> {
+    let row = Row {
+        name,
+        faults,
+        ..*row
+    };
+    check_row(rt, alloc, &row, &NoGate)
+}
+
+/// Carries out each row on threads.
 pub(crate) fn check_rows<R: Threads + Wait + Abort + Sync>(
     rt: &R,
     alloc: Global,
     rows: &[Row<'_>],
 ) -> Result<(), Fail> {
     for row in rows {
-        let found = difference_on_threads(rt, alloc, row, &NoGate)?;
-        assert_eq!(rt; found.as_str(), "", "{}", row.name);
+        check_row(rt, alloc, row, &NoGate)?;
     }
     Ok(())
+}
+
+/// Carries out a command on threads over a store that means every name: its answer, and what it
+/// prints.
+pub(crate) fn run_over<S: Store, G: Gate + Sync, R: Threads + Wait + Sync>(
+    rt: &R,
+    alloc: Global,
+    words: &[&str],
+    store: &mut S,
+    gate: &G,
+) -> Result<(Answer, String), Memory>
+    requires reads { (name : List ℕ) → IsTrue ((S.seen store.old).to_read name) }
+    requires saves { (name : List ℕ) → IsTrue ((S.seen store.old).to_save name) }
+{
+    let mut out = MemSink::new(alloc, MomentList::new(alloc));
+    let answer = answer_on_threads(rt, alloc, words, store, &mut out, gate)?;
+    let printed = str::from_utf8(out.written()).unwrap_or("no text");
+    Ok((answer, String::from_str(alloc, printed)?))
 }

@@ -1,10 +1,10 @@
 //! A feeder and a reader that wait for each other, over a ring of two blocks.
 use crate::gates::TwoSided;
+use crate::run::{check_row, check_same};
 use frame_view::Memory;
-use run_building::{
-    Capture, Kept, NO_FRAME, NOTHING, Row, Shape, carry_out_on_threads, difference_on_threads,
-};
+use run_building::{Capture, Kept, NO_FRAME, NOTHING, Ran, Row, Shape, carry_out_on_threads};
 use std::alloc::Global;
+use std::process::Abort;
 use std::sync::Wait;
 use std::test::Fail;
 use std::thread::Threads;
@@ -14,7 +14,7 @@ const FULL: Shape<'static> = (b"", 3966);
 
 /// Ten frames, each of which fills a block: 3,966 bytes need the 4,048 that a block has for
 /// packets. The one moment comes before the time-out of 8 milliseconds.
-static TEN_BLOCKS: Row<'static> = Row {
+const TEN_BLOCKS: Row<'static> = Row {
     name: "ten blocks through a ring of two",
     words: &["capture", "conf"],
     lines: "ticks t.txt\n",
@@ -46,43 +46,56 @@ static TEN_BLOCKS: Row<'static> = Row {
     ..NOTHING
 };
 
-/// The ten blocks. Their texts stand in the proof of this function alone.
-fn ten_blocks() -> &'static Row<'static> {
-    &TEN_BLOCKS
+/// The ten blocks without a dump and with one.
+static ROWS: [Row<'static>; 2] = [
+    TEN_BLOCKS,
+    Row {
+        dump: true,
+        ..TEN_BLOCKS
+    },
+];
+
+/// The rows. Their texts stand in the proof of this function alone.
+fn rows() -> &'static [Row<'static>; 2] {
+    &ROWS
 }
 
-/// What the ten blocks differ in, with a dump or without, and what the gate counted.
-fn side_by_side<R: Threads + Wait + Sync>(
+/// Carries out a row: what the gate counted.
+fn side_by_side<R: Threads + Wait + Abort + Sync>(
     rt: &R,
     alloc: Global,
-    dump: bool,
-) -> Result<(String, (u64, u64, u64)), Memory> {
+    row: &Row<'_>,
+) -> Result<(u64, u64, u64), Fail> {
     let gate = TwoSided::new();
-    let row = Row {
-        dump,
-        ..*ten_blocks()
-    };
-    let found = difference_on_threads(rt, alloc, &row, &gate)?;
-    Ok((found, gate.counts()))
+    check_row(rt, alloc, row, &gate)?;
+    Ok(gate.counts())
 }
 
 #[test]
 fn a_feeder_and_a_reader_go_on_side_by_side(rt: HostRuntime) -> Result<(), Fail> {
-    for dump in [false, true] {
-        let (found, (called, released, given_up)) = side_by_side(&rt, rt.alloc(), dump)?;
-        assert_eq!(rt; found.as_str(), "");
-        assert_eq!(rt; called, 10);
-        // The tenth block is open until the threads have ended.
-        assert_eq!(rt; released, 9);
-        assert_eq!(rt; given_up, 0, "a side waited in vain");
+    for row in rows() {
+        let counts = side_by_side(&rt, rt.alloc(), row)?;
+        // The tenth block is open until the threads have ended, and no side waited in vain.
+        check_same(&rt, &counts, &(10, 9, 0));
     }
     Ok(())
 }
 
+/// How often the report of a run has the letter of a moment.
+fn moments_of((answer, _, _): &Ran) -> usize {
+    answer.report.as_str().matches("t").count()
+}
+
+/// How often the ten blocks tell a moment.
+fn moments_told<R: Threads + Wait + Sync>(rt: &R, alloc: Global) -> Result<usize, Memory> {
+    let gate = TwoSided::new();
+    let ran = carry_out_on_threads(rt, alloc, &rows()[0], &gate)?;
+    Ok(moments_of(&ran))
+}
+
 #[test]
 fn the_moment_is_told_once(rt: HostRuntime) -> Result<(), Fail> {
-    let gate = TwoSided::new();
-    let (answer, _, _) = carry_out_on_threads(&rt, rt.alloc(), ten_blocks(), &gate)?;
-    assert_eq!(rt; answer.report.as_str().matches("t").count(), 1);
+    let told = moments_told(&rt, rt.alloc())?;
+    check_same(&rt, &told, &1);
     Ok(())
 }
