@@ -1,10 +1,7 @@
 //! A save of a `forward` that fails, and one that is out of memory.
+use crate::rows::{check_row, check_same, ends_without_memory};
 use cpu_feeders::NoGate;
-use frame_view::Memory;
-use run_building::{
-    Capture, Faults, Kept, NO_FAULT, NO_FRAME, NOTHING, Row, Shape, carry_out_on_threads,
-    difference_on_threads,
-};
+use run_building::{Capture, Faults, Kept, NO_FAULT, NO_FRAME, NOTHING, Row, Shape};
 use std::alloc::Global;
 use std::process::Abort;
 use std::sync::Wait;
@@ -46,45 +43,43 @@ static TWO_FRAMES: Row<'static> = Row {
     ..NOTHING
 };
 
+/// The two frames, of which other rows are made. Their texts stand in the proof of this function alone.
+fn two_frames() -> &'static Row<'static> {
+    &TWO_FRAMES
+}
+
+/// A file, the number of its save, and what isn't there after that save failed.
+type Unsaved = (&'static str, &'static [u64], &'static [&'static str]);
+
 /// The files in the order in which they are saved.
-static FILES: [&str; 6] = [
-    "out.0.pcap",
-    "out.0.blk",
-    "out.0.tx.pcap",
-    "out.1.pcap",
-    "out.1.blk",
-    "out.1.tx.pcap",
+static FILES: [Unsaved; 6] = [
+    ("out.0.pcap", &[1], &["out.0.pcap"]),
+    ("out.0.blk", &[2], &["out.0.blk"]),
+    ("out.0.tx.pcap", &[3], &["out.0.tx.pcap"]),
+    ("out.1.pcap", &[4], &["out.1.pcap"]),
+    ("out.1.blk", &[5], &["out.1.blk"]),
+    ("out.1.tx.pcap", &[6], &["out.1.tx.pcap"]),
 ];
 
-/// What the run differs in where one save fails, which is that of a file: the file isn't there.
-fn unsaved_difference<R: Threads + Wait + Sync>(
-    rt: &R,
-    alloc: Global,
-    save: u64,
-    file: &str,
-) -> Result<String, Memory> {
-    let row = Row {
-        faults: Faults {
-            saves: &[save],
-            ..NO_FAULT
-        },
+/// The two frames where the save of a file fails: the file isn't there.
+fn unsaved_row((name, saves, absent): Unsaved) -> Row<'static> {
+    Row {
+        name,
+        faults: Faults { saves, ..NO_FAULT },
         status: "6 WriteFault",
-        absent: &[file],
-        ..TWO_FRAMES
-    };
-    difference_on_threads(rt, alloc, &row, &NoGate)
+        absent,
+        ..*two_frames()
+    }
 }
 
 /// Carries out the run where the save of each file fails.
 fn check_saves<R: Threads + Wait + Abort + Sync>(
     rt: &R,
     alloc: Global,
-    files: &[&str],
+    files: &[Unsaved],
 ) -> Result<(), Fail> {
-    for (number, file) in files.iter().enumerate() {
-        let save = (number as u64).saturating_add(1);
-        let found = unsaved_difference(rt, alloc, save, file)?;
-        assert_eq!(rt; found.as_str(), "", "{file}");
+    for file in files {
+        check_row(rt, alloc, &unsaved_row(*file), &NoGate)?;
     }
     Ok(())
 }
@@ -94,33 +89,23 @@ fn a_save_that_fails_costs_its_file_alone(rt: HostRuntime) -> Result<(), Fail> {
     check_saves(&rt, rt.alloc(), &FILES)
 }
 
-/// What is wrong where a fetch or a save is out of memory: the run ends with status 7, its line and
-/// no report. Two files are fetched and six saved.
-fn poor_difference<R: Threads + Wait + Sync>(
-    rt: &R,
-    alloc: Global,
-    poor_call: u64,
-) -> Result<String, Memory> {
-    let row = Row {
+/// The two frames where a fetch or a save is out of memory.
+fn poor_row(poor_call: u64) -> Row<'static> {
+    Row {
         faults: Faults {
             poor_call,
             ..NO_FAULT
         },
-        ..TWO_FRAMES
-    };
-    let (answer, printed, _) = carry_out_on_threads(rt, alloc, &row, &NoGate)?;
-    let ends = printed.as_str().ends_with("out of memory\n");
-    if ends && answer.status.as_str() == "7 Memory" && answer.report.is_empty() {
-        return Ok(String::new(alloc));
+        ..*two_frames()
     }
-    Ok(format!(in alloc; "{} and {}", answer.status.as_str(), printed.as_str())?)
 }
 
+/// The run ends with status 7, its line and no report. Two files are fetched and six saved.
 #[test]
 fn a_call_that_is_out_of_memory_ends_the_run(rt: HostRuntime) -> Result<(), Fail> {
     for call in 1..=8 {
-        let found = poor_difference(&rt, rt.alloc(), call)?;
-        assert_eq!(rt; found.as_str(), "", "call {call}");
+        let ends = ends_without_memory(&rt, rt.alloc(), &poor_row(call))?;
+        check_same(&rt, &(call, ends), &(call, true));
     }
     Ok(())
 }

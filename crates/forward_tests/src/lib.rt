@@ -12,6 +12,8 @@ mod made;
 #[cfg(test)]
 mod poor;
 #[cfg(test)]
+mod rows;
+#[cfg(test)]
 mod sent_frames;
 #[cfg(test)]
 mod side_by_side;

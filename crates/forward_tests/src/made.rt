@@ -2,18 +2,20 @@
 ghost use Rattle.std.specs.Prelude.{◌≡◌, ◌<◌, ◌≤◌, length, refl, None};
 ghost use Rattle.tap_outside.specs.Seen.{meant_store};
 
+use crate::rows::check_same;
 use cpu_feeders::NoGate;
 use frame_view::{ByteList, Memory, MomentList};
 use made_captures::made_sources;
 use ring_model::{Note, Notes, Offer};
 use run_building::{outcome_on_threads, push_fields};
 use std::alloc::Global;
+use std::process::Abort;
 use std::str;
 use std::sync::Wait;
 use std::test::Fail;
 use std::thread::Threads;
 use tap_engine::Outcome;
-use tap_outside::{MemSink, OutError, Store, SureSource};
+use tap_outside::{MemSink, OutError, Sink, Store, SureSource};
 
 const SETUP: &str = "block_size 65536\nblock_nr 64\nframe_size 2048\nframe_nr 2048\npriv 16\n\
     cpu a.pcap\ncpu b.pcap\nmembers 4\nmode hash\n\
@@ -88,8 +90,8 @@ impl Store for MadeStore {
 #[derive(Drop)]
 struct Captured {
     outcome: Outcome,
-    printed: String,
-    saved: Vec<Vec<u8>>,
+    out: MemSink,
+    files: MadeStore,
 }
 
 /// The capture of the made frames with so many workers.
@@ -107,11 +109,10 @@ fn capture_made<R: Threads + Wait + Sync>(
     let mut out = MemSink::new(alloc, MomentList::new(alloc));
     let words = ["capture", "conf"];
     let outcome = outcome_on_threads(rt, alloc, &words, &mut files, &mut out, &NoGate)?;
-    let printed = str::from_utf8(out.written()).unwrap_or("no text");
     Ok(Captured {
         outcome,
-        printed: String::from_str(alloc, printed)?,
-        saved: files.saved,
+        out,
+        files,
     })
 }
 
@@ -138,13 +139,13 @@ fn output_of(alloc: Global, notes: &Notes) -> Result<(Vec<u8>, usize), Memory> {
     Ok((bytes, kept))
 }
 
-/// The number after a word of the last line.
-fn total(printed: &str, name: &str) -> usize {
-    let mut words = printed.lines().last().unwrap_or("").split(' ');
-    if words.any(|word| word == name) {
-        words.next().unwrap_or("").parse::<usize>().unwrap_or(0)
+/// How many packets a member's notes keep; none where its file isn't that of its notes.
+fn kept_of(alloc: Global, notes: &Notes, saved: &[u8]) -> Result<Option<usize>, Memory> {
+    let (output, kept) = output_of(alloc, notes)?;
+    if output.as_slice() == saved {
+        Ok(Some(kept))
     } else {
-        0
+        Ok(None)
     }
 }
 
@@ -154,44 +155,75 @@ fn kept_and_saved(alloc: Global, captured: &Captured) -> Result<Option<usize>, M
         return Ok(None);
     };
     let mut sum: usize = 0;
-    for (member, saved) in report.members.as_slice().iter().zip(&captured.saved) {
-        let (output, kept) = output_of(alloc, &member.notes)?;
-        if output.as_slice() != saved.as_slice() {
+    for (member, saved) in report.members.as_slice().iter().zip(&captured.files.saved) {
+        let Some(kept) = kept_of(alloc, &member.notes, saved.as_slice())? else {
             return Ok(None);
-        }
+        };
         sum = sum.saturating_add(kept);
     }
     Ok(Some(sum))
 }
 
-/// What is wrong of the capture of the made frames with so many workers; empty where nothing is.
-fn difference<R: Threads + Wait + Sync>(
+/// The number after a word of a line; 0 where the line hasn't the word.
+fn number_after(line: &str, word: &str) -> usize {
+    let (_, rest) = line.split_once(word).unwrap_or(("", ""));
+    rest.split(' ')
+        .next()
+        .unwrap_or("")
+        .parse::<usize>()
+        .unwrap_or(0)
+}
+
+/// Whether the lines begin and end as they must, and how many frames were kept and dropped.
+fn told_of(printed: &str) -> (bool, usize, usize) {
+    let last = printed.lines().last().unwrap_or("");
+    (
+        printed.starts_with(FIRST) && printed.contains(TOTAL),
+        number_after(last, " kept "),
+        number_after(last, " drops "),
+    )
+}
+
+/// What is compared of a capture: whether its lines begin and end as they must, how many frames were
+/// kept or dropped, how many files were saved, and whether they hold what the notes keep.
+type Seen = (bool, usize, usize, bool);
+
+/// What is seen of a capture.
+fn seen_of(alloc: Global, captured: &Captured) -> Result<Seen, Memory> {
+    let printed = str::from_utf8(captured.out.written()).unwrap_or("no text");
+    let (told, kept, drops) = told_of(printed);
+    let saved = kept_and_saved(alloc, captured)?;
+    Ok((
+        told,
+        kept.saturating_add(drops),
+        captured.files.saved.len(),
+        saved == Some(kept),
+    ))
+}
+
+/// Captures the made frames with so many workers.
+fn run_made<R: Threads + Wait + Sync>(rt: &R, alloc: Global, workers: u32) -> Result<Seen, Memory> {
+    let captured = capture_made(rt, alloc, workers)?;
+    seen_of(alloc, &captured)
+}
+
+/// A capture of the made frames with so many workers is as it must be.
+fn check_made<R: Threads + Wait + Abort + Sync>(
     rt: &R,
     alloc: Global,
     workers: u32,
-) -> Result<String, Memory> {
-    let captured = capture_made(rt, alloc, workers)?;
-    let printed = captured.printed.as_str();
-    let kept = total(printed, "kept");
-    let saved = kept_and_saved(alloc, &captured)?;
-    let begins = printed.starts_with(FIRST) && printed.contains(TOTAL);
-    let all = kept.saturating_add(total(printed, "drops")) == 20_000;
-    if begins && all && captured.saved.len() == 4 && saved == Some(kept) {
-        return Ok(String::new(alloc));
-    }
-    Ok(format!(in alloc; "saved {saved:?} of {kept}: {printed}")?)
+) -> Result<(), Fail> {
+    let seen = run_made(rt, alloc, workers)?;
+    check_same(rt, &seen, &(true, 20_000, 4, true));
+    Ok(())
 }
 
 #[test]
 fn readers_save_what_was_kept(rt: HostRuntime) -> Result<(), Fail> {
-    let found = difference(&rt, rt.alloc(), 0)?;
-    assert_eq!(rt; found.as_str(), "");
-    Ok(())
+    check_made(&rt, rt.alloc(), 0)
 }
 
 #[test]
 fn a_pool_saves_what_was_kept(rt: HostRuntime) -> Result<(), Fail> {
-    let found = difference(&rt, rt.alloc(), 8)?;
-    assert_eq!(rt; found.as_str(), "");
-    Ok(())
+    check_made(&rt, rt.alloc(), 8)
 }

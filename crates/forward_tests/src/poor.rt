@@ -1,10 +1,6 @@
 //! The outside fails under a pool: a read, and each call that is out of memory.
-use cpu_feeders::NoGate;
-use frame_view::Memory;
-use run_building::{
-    Capture, Faults, Kept, NO_FAULT, NO_FRAME, NOTHING, Row, Shape, carry_out_on_threads,
-    difference_on_threads,
-};
+use crate::rows::{check_rows, check_same, ends_without_memory};
+use run_building::{Capture, Faults, Kept, NO_FAULT, NO_FRAME, NOTHING, Row, Shape};
 use std::alloc::Global;
 use std::process::Abort;
 use std::sync::Wait;
@@ -15,7 +11,7 @@ use std::thread::Threads;
 const SMALL: Shape<'static> = (b"", 60);
 
 /// Two captures of two frames each, of which the second fails at its second read.
-static TWO_CAPTURES: Row<'static> = Row {
+static TWO_CAPTURES: [Row<'static>; 1] = [Row {
     words: &["capture", "conf"],
     lines: "cpu b.pcap\nmembers 2\nworkers 3\n",
     captures: &[
@@ -56,19 +52,11 @@ static TWO_CAPTURES: Row<'static> = Row {
         },
     ],
     ..NOTHING
-};
+}];
 
 #[test]
 fn of_two_captures_one_cannot_be_read(rt: HostRuntime) -> Result<(), Fail> {
-    for dump in [false, true] {
-        let row = Row {
-            dump,
-            ..TWO_CAPTURES
-        };
-        let found = difference_on_threads(&rt, rt.alloc(), &row, &NoGate)?;
-        assert_eq!(rt; found.as_str(), "");
-    }
-    Ok(())
+    check_rows(&rt, rt.alloc(), &TWO_CAPTURES)
 }
 
 /// Three frames of 60 bytes with a dump and a moment: three fetches, two saves and three writes.
@@ -96,37 +84,33 @@ static POOR: [(u64, u64); 8] = [
     (0, 3),
 ];
 
-/// Whether the capture ends with status 7, no report and its line where a call of the store or a
-/// write is out of memory.
-fn ends_without_memory<R: Threads + Wait + Sync>(
-    rt: &R,
-    alloc: Global,
-    poor_call: u64,
-    poor_write: u64,
-) -> Result<bool, Memory> {
-    let faults = Faults {
-        poor_call,
-        poor_write,
-        ..NO_FAULT
-    };
-    let row = Row {
-        faults,
-        ..THREE_FRAMES
-    };
-    let (answer, printed, _) = carry_out_on_threads(rt, alloc, &row, &NoGate)?;
-    let ends = printed.as_str().ends_with("out of memory\n");
-    Ok(ends && answer.status.as_str() == "7 Memory" && answer.report.is_empty())
+/// The three frames, of which other rows are made. Their texts stand in the proof of this function alone.
+fn three_frames() -> &'static Row<'static> {
+    &THREE_FRAMES
 }
 
-/// Carries out the capture with each of these calls and writes out of memory.
+/// The three frames where a call of the store or a write is out of memory.
+fn poor_row(poor_call: u64, poor_write: u64) -> Row<'static> {
+    Row {
+        faults: Faults {
+            poor_call,
+            poor_write,
+            ..NO_FAULT
+        },
+        ..*three_frames()
+    }
+}
+
+/// The capture ends with status 7, no report and its line where one of these calls and writes is out
+/// of memory.
 fn check_poor<R: Threads + Wait + Abort + Sync>(
     rt: &R,
     alloc: Global,
     calls: &[(u64, u64)],
 ) -> Result<(), Fail> {
     for (call, write) in calls {
-        let ends = ends_without_memory(rt, alloc, *call, *write)?;
-        assert!(rt; ends, "call {call} write {write}");
+        let ends = ends_without_memory(rt, alloc, &poor_row(*call, *write))?;
+        check_same(rt, &(*call, *write, ends), &(*call, *write, true));
     }
     Ok(())
 }

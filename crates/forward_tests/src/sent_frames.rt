@@ -1,13 +1,7 @@
 //! What members send, and which packets they skip.
-use cpu_feeders::NoGate;
-use run_building::{
-    Capture, Kept, NO_FRAME, NOTHING, Row, Shape, difference, difference_on_threads,
-};
-use std::alloc::Global;
-use std::process::Abort;
-use std::sync::Wait;
+use crate::rows::check_rows;
+use run_building::{Capture, Kept, NO_FRAME, NOTHING, Row, Shape, difference};
 use std::test::Fail;
-use std::thread::Threads;
 
 const FORWARD: &[&str] = &["forward", "conf"];
 
@@ -27,8 +21,8 @@ const TAGGED: Shape<'static> = (
 const NO_PACKET: &[u8] =
     b"\x4d\x3c\xb2\xa1\x02\x00\x04\x00\x00\x00\x00\x00\x00\x00\x00\x00\x00\x00\x04\x00\x01\x00\x00\x00";
 
-/// The captures, what each member sends, and the lines.
-static ROWS: [Row<'static>; 8] = [
+/// Every frame is sent: the captures, what each member sends, and the lines.
+static SENT: [Row<'static>; 3] = [
     Row {
         name: "three frames are sent",
         words: FORWARD,
@@ -48,26 +42,6 @@ static ROWS: [Row<'static>; 8] = [
         }],
         sent: Some(("out.0.tx.pcap", &[0, 1, 2])),
         absent: &["out.tx.pcap"],
-        ..NOTHING
-    },
-    Row {
-        name: "a frame that is longer than a slot is skipped",
-        words: FORWARD,
-        captures: &[Capture {
-            frames: &[SMALL, LONG, SMALL],
-            ..NO_FRAME
-        }],
-        printed: "cpu 0 frames 3 arrivals 3 end ok\n\
-                  member 0 packets 3 drops 0 freezes 0 blocks 1\n\
-                  forward 0 sent 2 skipped 1\n\
-                  total arrivals 3 filtered 0 kept 3 drops 0\n",
-        cpus: &["k0.k0.k0."],
-        members: &[Kept {
-            frames: &[(0, 60), (1, 3000), (2, 60)],
-            blocks: &[(1, 3424)],
-            notes: "kkk.",
-        }],
-        sent: Some(("out.0.tx.pcap", &[0, 2])),
         ..NOTHING
     },
     Row {
@@ -110,6 +84,35 @@ static ROWS: [Row<'static>; 8] = [
         sent: Some(("out.0.tx.pcap", &[0])),
         ..NOTHING
     },
+];
+
+/// The rows of which every frame is sent. Their texts stand in the proof of this function alone.
+fn sent() -> &'static [Row<'static>] {
+    &SENT
+}
+
+/// Some frames aren't sent.
+static UNSENT: [Row<'static>; 3] = [
+    Row {
+        name: "a frame that is longer than a slot is skipped",
+        words: FORWARD,
+        captures: &[Capture {
+            frames: &[SMALL, LONG, SMALL],
+            ..NO_FRAME
+        }],
+        printed: "cpu 0 frames 3 arrivals 3 end ok\n\
+                  member 0 packets 3 drops 0 freezes 0 blocks 1\n\
+                  forward 0 sent 2 skipped 1\n\
+                  total arrivals 3 filtered 0 kept 3 drops 0\n",
+        cpus: &["k0.k0.k0."],
+        members: &[Kept {
+            frames: &[(0, 60), (1, 3000), (2, 60)],
+            blocks: &[(1, 3424)],
+            notes: "kkk.",
+        }],
+        sent: Some(("out.0.tx.pcap", &[0, 2])),
+        ..NOTHING
+    },
     Row {
         name: "a frame of which the filter keeps 10 bytes is skipped",
         words: FORWARD,
@@ -132,6 +135,37 @@ static ROWS: [Row<'static>; 8] = [
         files: &[("out.0.tx.pcap", NO_PACKET)],
         ..NOTHING
     },
+    Row {
+        name: "what precedes a cut is sent",
+        words: FORWARD,
+        captures: &[Capture {
+            frames: &[SMALL; 3],
+            cut: 200,
+            ..NO_FRAME
+        }],
+        status: "4 Damaged",
+        printed: "cpu 0 frames 2 arrivals 2 end truncated 176\n\
+                  member 0 packets 2 drops 0 freezes 0 blocks 1\n\
+                  forward 0 sent 2 skipped 0\n\
+                  total arrivals 2 filtered 0 kept 2 drops 0\n",
+        cpus: &["k0.k0."],
+        members: &[Kept {
+            frames: &[(0, 60), (1, 60)],
+            blocks: &[(1, 336)],
+            notes: "kk.",
+        }],
+        sent: Some(("out.0.tx.pcap", &[0, 1])),
+        ..NOTHING
+    },
+];
+
+/// The rows of which some frames aren't sent.
+fn unsent() -> &'static [Row<'static>] {
+    &UNSENT
+}
+
+/// A member reads nothing, or nothing is to be sent.
+static SILENT: [Row<'static>; 2] = [
     Row {
         name: "two members send what each reads, and one reads nothing",
         words: FORWARD,
@@ -165,28 +199,6 @@ static ROWS: [Row<'static>; 8] = [
         ..NOTHING
     },
     Row {
-        name: "what precedes a cut is sent",
-        words: FORWARD,
-        captures: &[Capture {
-            frames: &[SMALL; 3],
-            cut: 200,
-            ..NO_FRAME
-        }],
-        status: "4 Damaged",
-        printed: "cpu 0 frames 2 arrivals 2 end truncated 176\n\
-                  member 0 packets 2 drops 0 freezes 0 blocks 1\n\
-                  forward 0 sent 2 skipped 0\n\
-                  total arrivals 2 filtered 0 kept 2 drops 0\n",
-        cpus: &["k0.k0."],
-        members: &[Kept {
-            frames: &[(0, 60), (1, 60)],
-            blocks: &[(1, 336)],
-            notes: "kk.",
-        }],
-        sent: Some(("out.0.tx.pcap", &[0, 1])),
-        ..NOTHING
-    },
-    Row {
         name: "a capture sends nothing",
         words: &["capture", "conf"],
         captures: &[Capture {
@@ -207,29 +219,16 @@ static ROWS: [Row<'static>; 8] = [
     },
 ];
 
-/// The rows. Their texts stand in the proof of this function alone.
-fn all_rows() -> &'static [Row<'static>] {
-    &ROWS
-}
-
-/// Carries out each row on threads, with a dump or without: nothing may differ from it.
-fn check_rows<R: Threads + Wait + Abort + Sync>(
-    rt: &R,
-    alloc: Global,
-    rows: &[Row<'_>],
-    dump: bool,
-) -> Result<(), Fail> {
-    for row in rows {
-        let found = difference_on_threads(rt, alloc, &Row { dump, ..*row }, &NoGate)?;
-        assert_eq!(rt; found.as_str(), "", "{}", row.name);
-    }
-    Ok(())
+/// The rows of which a member sends nothing.
+fn silent() -> &'static [Row<'static>] {
+    &SILENT
 }
 
 #[test]
 fn members_send_what_they_read(rt: HostRuntime) -> Result<(), Fail> {
-    check_rows(&rt, rt.alloc(), all_rows(), false)?;
-    check_rows(&rt, rt.alloc(), all_rows(), true)
+    check_rows(&rt, rt.alloc(), sent())?;
+    check_rows(&rt, rt.alloc(), unsent())?;
+    check_rows(&rt, rt.alloc(), silent())
 }
 
 /// Words that are no command where there are no threads.

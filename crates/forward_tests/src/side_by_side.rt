@@ -1,8 +1,9 @@
 //! A feeder, a reader and a worker that wait for each other, over a ring of two blocks.
 use crate::gates::ThreeSided;
-use frame_view::Memory;
-use run_building::{Capture, Kept, NO_FRAME, NOTHING, Row, Shape, difference_on_threads};
+use crate::rows::{check_row, check_same};
+use run_building::{Capture, Kept, NO_FRAME, NOTHING, Row, Shape};
 use std::alloc::Global;
+use std::process::Abort;
 use std::sync::Wait;
 use std::test::Fail;
 use std::thread::Threads;
@@ -12,7 +13,7 @@ const FULL: Shape<'static> = (b"", 3966);
 
 /// Ten frames, each of which fills a block: 3,966 bytes need the 4,048 that a block has for
 /// packets. The one moment comes before the time-out of 8 milliseconds.
-static TEN_BLOCKS: Row<'static> = Row {
+const TEN_BLOCKS: Row<'static> = Row {
     name: "ten blocks through a ring of two, decoded by two workers",
     words: &["capture", "conf"],
     lines: "ticks t.txt\nworkers 2\n",
@@ -44,35 +45,41 @@ static TEN_BLOCKS: Row<'static> = Row {
     ..NOTHING
 };
 
-/// The ten blocks. Their texts stand in the proof of this function alone.
-fn ten_blocks() -> &'static Row<'static> {
-    &TEN_BLOCKS
-}
+/// The ten blocks without a dump and with one.
+static ROWS: [Row<'static>; 2] = [
+    TEN_BLOCKS,
+    Row {
+        dump: true,
+        ..TEN_BLOCKS
+    },
+];
 
-/// What the ten blocks differ in, with a dump or without, and what the gate counted.
-fn side_by_side<R: Threads + Wait + Sync>(
+/// Carries out a row: what the gate counted.
+fn side_by_side<R: Threads + Wait + Abort + Sync>(
     rt: &R,
     alloc: Global,
-    dump: bool,
-) -> Result<(String, (u64, u64, u64)), Memory> {
+    row: &Row<'_>,
+) -> Result<(u64, u64, u64), Fail> {
     let gate = ThreeSided::new();
-    let row = Row {
-        dump,
-        ..*ten_blocks()
-    };
-    let found = difference_on_threads(rt, alloc, &row, &gate)?;
-    Ok((found, gate.counts()))
+    check_row(rt, alloc, row, &gate)?;
+    Ok(gate.counts())
+}
+
+/// Carries out each row: of ten frames the tenth block is open until the threads have ended, and no
+/// side waits in vain.
+fn check_sides<R: Threads + Wait + Abort + Sync>(
+    rt: &R,
+    alloc: Global,
+    rows: &[Row<'_>],
+) -> Result<(), Fail> {
+    for row in rows {
+        let counts = side_by_side(rt, alloc, row)?;
+        check_same(rt, &counts, &(10, 9, 0));
+    }
+    Ok(())
 }
 
 #[test]
 fn a_worker_decodes_while_frames_come(rt: HostRuntime) -> Result<(), Fail> {
-    for dump in [false, true] {
-        let (found, (called, released, given_up)) = side_by_side(&rt, rt.alloc(), dump)?;
-        assert_eq!(rt; found.as_str(), "");
-        assert_eq!(rt; called, 10);
-        // The tenth block is open until the threads have ended.
-        assert_eq!(rt; released, 9);
-        assert_eq!(rt; given_up, 0, "a side waited in vain");
-    }
-    Ok(())
+    check_sides(&rt, rt.alloc(), &ROWS)
 }
