@@ -13,7 +13,7 @@ use std::test::Fail;
 use tp_layout::{RingRequest, Shape};
 
 /// What is done to a ring.
-#[derive(Clone, Copy, Debug)]
+#[derive(Clone, Copy)]
 pub(crate) enum Act {
     /// A frame of this number and length is put.
     Put(u32, u32),
@@ -85,7 +85,7 @@ fn do_act(
 pub(crate) fn run(alloc: Global, request: RingRequest, acts: &[Act]) -> Result<Ran, Fail>
     requires { length acts.now < 100 }
 {
-    let shape = request.check().ok().ok_or("a shape")?;
+    let shape = request.check()?;
     let mut ring = new_ring(alloc, &shape)?;
     let mut ran = Ran {
         notes: Notes::new(alloc),

@@ -3,13 +3,12 @@ ghost use Rattle.std.specs.Prelude.{◌≡◌, ◌+◌, ◌<◌, ◌≤◌, IfOk
 ghost use Rattle.tp_layout.specs.Requests.{room_of};
 ghost use Rattle.tp_layout.specs.Writing.{IsWritable};
 
-use block_ring::Producer;
-use frame_view::{ByteList, Frame, Memory};
+use crate::producer_calls::{Ring, new_ring, offer};
+use frame_view::Memory;
 use ring_model::{Offer, Put};
-use ring_words::PlainRing;
 use std::alloc::Global;
 use std::test::Fail;
-use tp_layout::{Block, RingRequest, Shape, blocks};
+use tp_layout::{RingRequest, Shape};
 
 /// Two blocks of a page.
 pub(crate) const PAGES: RingRequest = RingRequest {
@@ -22,37 +21,15 @@ pub(crate) const PAGES: RingRequest = RingRequest {
     features: 0,
 };
 
-type Ring = Producer<PlainRing<Block>>;
-
-/// A ring with both its ends.
-fn new_ring(alloc: Global, shape: &Shape) -> Result<Ring, Memory>
-    ensures shape { IfOk result (λ ring. ring.shape ≡ shape.now) }
-    ensures notes { IfOk result (λ ring. ring.notes ≡ []) }
+/// Their shape. A block has room for a frame of 60 bytes.
+pub(crate) fn page_shape() -> Result<Shape, Fail>
+    ensures { IfOk result (λ shape. 144 ≤ room_of shape) }
 {
-    let _size = shape.block_size();
-    let end = PlainRing::new(alloc, blocks(alloc, shape)?)?;
-    Producer::new(alloc, *shape, end)
-}
-
-/// The offer of a frame of 60 zeros.
-pub(crate) fn offer(alloc: Global, index: u32) -> Result<Offer, Memory>
-    ensures { IfOk result (λ offer. IsWritable offer × (offer.snap ≡ 60)) }
-{
-    let bytes = vec![in alloc; 0; 60]?;
-    Ok(Offer {
-        frame: Frame {
-            cpu: 0,
-            index,
-            sec: index,
-            nsec: 0,
-            wire: 60,
-            bytes: ByteList::from_vec(bytes),
-            tag: None,
-        },
-        snap: 60,
-        hash: 0,
-        pkttype: 0,
-    })
+    let shape = PAGES.check()?;
+    if shape.room() < 144 {
+        return Err("a block has room for a frame".into());
+    }
+    Ok(shape)
 }
 
 /// Puts a frame into a ring that has reserved room for a note: it allocates nothing.
@@ -71,21 +48,29 @@ fn put_reserved(ring: &mut Ring, offer: Offer) -> Put
     }
 }
 
+/// What a ring that reserves room for three notes answers to three frames.
+fn put_three(alloc: Global, ring: &mut Ring) -> Result<[Put; 3], Memory>
+    requires room { 142 ≤ room_of ring.old.shape }
+    requires notes { ring.old.notes ≡ [] }
+{
+    ring.reserve(3)?;
+    Ok([
+        put_reserved(ring, offer(alloc, 0, 60)?),
+        put_reserved(ring, offer(alloc, 1, 60)?),
+        put_reserved(ring, offer(alloc, 2, 60)?),
+    ])
+}
+
+/// The same of a new ring.
+fn three_puts(alloc: Global) -> Result<[Put; 3], Fail> {
+    let shape = page_shape()?;
+    let mut ring = new_ring(alloc, &shape)?;
+    Ok(put_three(alloc, &mut ring)?)
+}
+
 #[test]
 fn reserved_room_is_there(rt: HostRuntime) -> Result<(), Fail> {
-    let alloc = rt.alloc();
-    let shape = PAGES.check().ok().ok_or("a shape")?;
-    let _size = shape.block_size();
-    if shape.room() < 142 {
-        return Err("a block has room for a frame".into());
-    }
-    let mut ring = new_ring(alloc, &shape)?;
-    let first = offer(alloc, 0)?;
-    let second = offer(alloc, 1)?;
-    let third = offer(alloc, 2)?;
-    ring.reserve(3)?;
-    assert_eq!(rt; put_reserved(&mut ring, first), Put::Kept);
-    assert_eq!(rt; put_reserved(&mut ring, second), Put::Kept);
-    assert_eq!(rt; put_reserved(&mut ring, third), Put::Kept);
+    let puts = three_puts(rt.alloc())?;
+    assert_eq!(rt; puts, [Put::Kept, Put::Kept, Put::Kept]);
     Ok(())
 }

@@ -160,6 +160,11 @@ static ROWS: [Row; 7] = [
     },
 ];
 
+/// Holds notes and the blocks that were read to a row.
+fn check_row(rt: &impl Abort, row: &Row, notes: &[Said], read: &[Seen]) {
+    assert_eq!(rt; (row.name, notes, read), (row.name, row.notes, row.read));
+}
+
 /// Holds the notes and the blocks of each row's ring to the row.
 fn check_rows(rt: &impl Abort, alloc: Global, rows: &[Row]) -> Result<(), Fail> {
     for row in rows {
@@ -168,8 +173,7 @@ fn check_rows(rt: &impl Abort, alloc: Global, rows: &[Row]) -> Result<(), Fail> 
         }
         let ran = run(alloc, PAGES, row.acts)?;
         let notes = says(alloc, &ran.notes)?;
-        assert_eq!(rt; notes.as_slice(), row.notes, "{}", row.name);
-        assert_eq!(rt; ran.read.as_slice(), row.read, "{}", row.name);
+        check_row(rt, row, notes.as_slice(), ran.read.as_slice());
     }
     Ok(())
 }
@@ -179,25 +183,34 @@ fn notes_and_blocks(rt: HostRuntime) -> Result<(), Fail> {
     check_rows(&rt, rt.alloc(), &ROWS)
 }
 
+/// Statistics are taken once a packet has opened a block anew.
+static COUNTED: [Act; 9] = [
+    Put(0, 1514),
+    Put(1, 1514),
+    Put(2, 1514),
+    Put(3, 1514),
+    Put(4, 1514),
+    Read,
+    Put(5, 1514),
+    Stats,
+    Put(6, 1514),
+];
+
+/// The packets, drops and freezes that are counted until then, and the blocks that are read.
+fn check_counted(rt: &impl Abort, stats: &[(u64, u64, u64)], read: &[Seen]) {
+    assert_eq!(rt;
+        (stats, read),
+        (
+            &[(6, 1, 1)][..],
+            &[(1, 1, 3248), (2, 1, 3248), (3, 1, 3248)][..]
+        )
+    );
+}
+
 #[test]
 fn statistics_taken_in_between_start_anew(rt: HostRuntime) -> Result<(), Fail> {
-    let acts = &[
-        Put(0, 1514),
-        Put(1, 1514),
-        Put(2, 1514),
-        Put(3, 1514),
-        Put(4, 1514),
-        Read,
-        Put(5, 1514),
-        Stats,
-        Put(6, 1514),
-    ][..];
-    let ran = run(rt.alloc(), PAGES, acts)?;
-    assert_eq!(rt; ran.stats.as_slice(), &[(6, 1, 1)][..]);
-    assert_eq!(rt;
-        ran.read.as_slice(),
-        &[(1, 1, 3248), (2, 1, 3248), (3, 1, 3248)][..]
-    );
+    let ran = run(rt.alloc(), PAGES, &COUNTED)?;
+    check_counted(&rt, ran.stats.as_slice(), ran.read.as_slice());
     Ok(())
 }
 
@@ -212,12 +225,19 @@ fn a_private_area_comes_before_the_packets(rt: HostRuntime) -> Result<(), Fail> 
     Ok(())
 }
 
+/// The answer to a tick.
+type Answer = Result<(), TickError>;
+
+/// What a new ring answers to ticks that go back by a millisecond and on again.
+fn ticked(alloc: Global) -> Result<(Answer, Answer, Answer), Fail> {
+    let shape = PAGES.check()?;
+    let mut ring = new_ring(alloc, &shape)?;
+    Ok((ring.tick(9), ring.tick(8), ring.tick(9)))
+}
+
 #[test]
 fn the_clock_does_not_go_back(rt: HostRuntime) -> Result<(), Fail> {
-    let shape = PAGES.check().ok().ok_or("a shape")?;
-    let mut ring = new_ring(rt.alloc(), &shape)?;
-    assert_eq!(rt; ring.tick(9), Ok(()));
-    assert_eq!(rt; ring.tick(8), Err(TickError::Backwards(9)));
-    assert_eq!(rt; ring.tick(9), Ok(()));
+    let answers = ticked(rt.alloc())?;
+    assert_eq!(rt; answers, (Ok(()), Err(TickError::Backwards(9)), Ok(())));
     Ok(())
 }

@@ -2,28 +2,16 @@
 ghost use Rattle.std.specs.Prelude.{◌≡◌, ◌+◌, ◌≤◌, IfOk};
 ghost use Rattle.reader_walk.specs.Takers.{IsReadable};
 ghost use Rattle.ring_model.specs.Sizes.{need_of};
-ghost use Rattle.tp_layout.specs.Requests.{first_of};
+ghost use Rattle.tp_layout.specs.Requests.{first_of, room_of};
 ghost use Rattle.tp_layout.specs.Writing.{IsWritable, zero_block};
 
+use crate::blocks::page_shape;
 use frame_view::{ByteList, Frame, Memory, Packet};
 use reader_walk::{Outputs, Reader, Taker};
 use ring_model::{Offer, need};
 use std::alloc::Global;
 use std::test::Fail;
-use tp_layout::{
-    Block, Closing, RingRequest, Shape, blocks, close_header, write_header, write_packet,
-};
-
-/// Two blocks of a page.
-const PAGES: RingRequest = RingRequest {
-    block_size: 4096,
-    block_nr: 2,
-    frame_size: 2048,
-    frame_nr: 4,
-    tov: 0,
-    sizeof_priv: 0,
-    features: 0,
-};
+use tp_layout::{Block, Closing, Shape, blocks, close_header, write_header, write_packet};
 
 /// A broadcast frame of 14 bytes.
 const FRAME: [u8; 14] = [0xff, 0xff, 0xff, 0xff, 0xff, 0xff, 2, 0, 0, 0, 0, 1, 8, 6];
@@ -88,27 +76,9 @@ fn block_with(alloc: Global, shape: &Shape, offer: &Offer) -> Result<Block, Memo
     Ok(block)
 }
 
-/// What a reader reads of two blocks, one handed to it as a reader and one as a taker.
-fn read_two(
-    alloc: Global,
-    shape: &Shape,
-    dump: bool,
-    first: &Block,
-    second: &Block,
-) -> Result<Outputs, Memory>
-    requires first { IsReadable shape.now first.now }
-    requires second { IsReadable shape.now second.now }
-{
-    let mut reader = Reader::new(alloc, *shape, dump);
-    reader.walk_block(first)?;
-    Taker::block(&mut reader, second)?;
-    Ok(reader.outputs())
-}
-
-/// How many blocks and packets were read, and how many bytes of them are kept.
-fn sizes(outputs: &Outputs) -> (u64, usize, usize) {
-    (outputs.blocks, outputs.walked.len(), outputs.dump.len())
-}
+/// What was read: how many blocks and packets, how many bytes of them are kept, and whether each of two packets is that
+/// frame.
+type Seen = ((u64, usize, usize), [bool; 2]);
 
 /// Whether a packet is that frame, with its time, its length on the wire, its hash, and its sender's address.
 fn is_that_packet(packet: &Packet) -> bool {
@@ -118,28 +88,53 @@ fn is_that_packet(packet: &Packet) -> bool {
         && packet.bytes.as_slice() == FRAME.as_slice()
 }
 
+/// What is seen of what was read.
+fn seen_of(outputs: &Outputs) -> Seen {
+    let packets = &outputs.walked;
+    let sizes = (outputs.blocks, packets.len(), outputs.dump.len());
+    let are_that = [
+        packets.get(0).is_some_and(is_that_packet),
+        packets.get(1).is_some_and(is_that_packet),
+    ];
+    (sizes, are_that)
+}
+
+/// What a reader reads of two blocks, one handed to it as a reader and one as a taker.
+fn read_two(
+    alloc: Global,
+    shape: &Shape,
+    dump: bool,
+    first: &Block,
+    second: &Block,
+) -> Result<Seen, Memory>
+    requires first { IsReadable shape.now first.now }
+    requires second { IsReadable shape.now second.now }
+{
+    let mut reader = Reader::new(alloc, *shape, dump);
+    reader.walk_block(first)?;
+    Taker::block(&mut reader, second)?;
+    Ok(seen_of(&reader.outputs()))
+}
+
+/// What a reader reads of two blocks with that frame alone, with their texts kept or without.
+fn seen_with(alloc: Global, shape: &Shape, dump: bool) -> Result<Seen, Memory>
+    requires { 144 ≤ room_of shape.now }
+{
+    let offer = frame_offered(alloc)?;
+    let first = block_with(alloc, shape, &offer)?;
+    let second = block_with(alloc, shape, &offer)?;
+    read_two(alloc, shape, dump, &first, &second)
+}
+
 #[test]
 fn two_blocks_of_a_packet_each(rt: HostRuntime) -> Result<(), Fail> {
-    let alloc = rt.alloc();
-    let shape = PAGES.check().ok().ok_or("a shape")?;
-    if shape.room() < 144 {
-        return Err("a block has room for a frame".into());
-    }
-    let offer = frame_offered(alloc)?;
-    let first = block_with(alloc, &shape, &offer)?;
-    let second = block_with(alloc, &shape, &offer)?;
-    // whether the texts are kept, and their size: a descriptor of 48 bytes and a packet of 96 in each
-    for (dump, size) in [(true, 288), (false, 0)] {
-        let outputs = read_two(alloc, &shape, dump, &first, &second)?;
-        assert_eq!(rt; sizes(&outputs), (2, 2, size), "{dump}");
-        assert!(rt;
-            outputs.walked.get(0).is_some_and(is_that_packet),
-            "packet 0, {dump}"
-        );
-        assert!(rt;
-            outputs.walked.get(1).is_some_and(is_that_packet),
-            "packet 1, {dump}"
-        );
-    }
+    let shape = page_shape()?;
+    let kept = seen_with(rt.alloc(), &shape, true)?;
+    let read = seen_with(rt.alloc(), &shape, false)?;
+    // the texts' size: a descriptor of 48 bytes and a packet of 96 in each
+    assert_eq!(rt;
+        (kept, read),
+        (((2, 2, 288), [true, true]), ((2, 2, 0), [true, true]))
+    );
     Ok(())
 }

@@ -2,9 +2,10 @@
 ghost use Rattle.std.specs.Prelude.{◌≡◌, ◌+◌, ◌*◌, ◌<◌, ◌≤◌, false, None, IfOk, [], length};
 ghost use Rattle.tp_layout.specs.Requests.{numbers_of, room_of};
 
-use crate::blocks::{PAGES, offer};
+use crate::blocks::page_shape;
+use crate::producer_calls::offer;
 use block_ring::{Producer, TickError};
-use frame_view::Memory;
+use frame_view::{Memory, Packets};
 use reader_walk::{Outputs, Reader};
 use ring_model::Put;
 use ring_words::{TableFeeder, TableWalker, finish, table_ring};
@@ -38,29 +39,6 @@ fn new_sides(alloc: Global, shape: &Shape) -> Result<(Ring, TableWalker<Block>),
     Ok((ring, walker))
 }
 
-/// Puts so many frames, each into a block of its own, and gives the end back.
-fn feed_all(alloc: Global, mut ring: Ring, count: u32) -> Result<TableFeeder<Block>, Memory>
-    requires room { 142 ≤ room_of ring.shape }
-    requires notes { ring.notes ≡ [] }
-    ensures { IfOk result (λ end. end.id ≡ ring.end.id) }
-{
-    let mut put = 0;
-    for look in 0..LOOKS {
-        if put >= count {
-            break;
-        }
-        match ring.put(offer(alloc, put)?) {
-            Ok(Put::Kept) => {
-                put += 1;
-                retire_open(&mut ring, put)?;
-            }
-            Ok(Put::Dropped(_)) => thread::yield_now(),
-            Err(_) => return Err(Memory),
-        }
-    }
-    Ok(ring.finish().0)
-}
-
 /// Lets so many time-outs pass: a block that is open is retired.
 fn retire_open(ring: &mut Ring, passed: u32) -> Result<(), Memory>
     requires few { length ring.old.notes < 2 * 1000000000 }
@@ -75,12 +53,61 @@ fn retire_open(ring: &mut Ring, passed: u32) -> Result<(), Memory>
     }
 }
 
-/// Reads so many blocks, and gives what was read, and the end.
+/// Puts so many frames, each into a block of its own.
+fn feed(alloc: Global, ring: &mut Ring, count: u32) -> Result<(), Memory>
+    requires room { 142 ≤ room_of ring.old.shape }
+    requires notes { ring.old.notes ≡ [] }
+    ensures { IfOk result (λ done. ring.new.end.id ≡ ring.old.end.id) }
+{
+    let mut put = 0;
+    for look in 0..LOOKS {
+        if put >= count {
+            break;
+        }
+        match ring.put(offer(alloc, put, 60)?) {
+            Ok(Put::Kept) => {
+                put += 1;
+                retire_open(ring, put)?;
+            }
+            Ok(Put::Dropped(_)) => thread::yield_now(),
+            Err(_) => return Err(Memory),
+        }
+    }
+    Ok(())
+}
+
+/// The same, and gives the end back.
+fn feed_all(alloc: Global, mut ring: Ring, count: u32) -> Result<TableFeeder<Block>, Memory>
+    requires room { 142 ≤ room_of ring.shape }
+    requires notes { ring.notes ≡ [] }
+    ensures { IfOk result (λ end. end.id ≡ ring.end.id) }
+{
+    feed(alloc, &mut ring, count)?;
+    Ok(ring.finish().0)
+}
+
+/// Whether each packet has its place for its seconds.
+fn are_in_place(packets: &Packets) -> bool {
+    for (at, packet) in packets.as_slice().iter().enumerate() {
+        if packet.sec as usize != at {
+            return false;
+        }
+    }
+    true
+}
+
+/// How many blocks and packets were read, and whether each packet has its place for its seconds.
+fn seen_of(outputs: &Outputs) -> (u64, usize, bool) {
+    let packets = &outputs.walked;
+    (outputs.blocks, packets.len(), are_in_place(packets))
+}
+
+/// Reads so many blocks, and gives what is seen of them, and the end.
 fn read_all(
     mut reader: Reader,
     mut walker: TableWalker<Block>,
     count: u64,
-) -> Result<(Outputs, TableWalker<Block>), Memory>
+) -> Result<((u64, usize, bool), TableWalker<Block>), Memory>
     requires kind { walker.kind ≡ numbers_of reader.shape }
     requires held { reader.held ≡ None }
     requires hand { walker.in_hand ≡ false }
@@ -99,16 +126,16 @@ fn read_all(
             thread::yield_now();
         }
     }
-    Ok((reader.outputs(), walker))
+    Ok((seen_of(&reader.outputs()), walker))
 }
 
-/// What a reader in a thread of its own reads of so many blocks, and how many blocks are then left.
+/// What is seen of so many blocks by a reader in a thread of its own, and how many blocks are then left.
 fn pass_on<R: Threads + Sync>(
     rt: &R,
     alloc: Global,
     shape: &Shape,
     count: u32,
-) -> Result<(Outputs, usize), Memory>
+) -> Result<((u64, usize, bool), usize), Memory>
     requires room { 142 ≤ room_of shape.now }
 {
     let (ring, walker) = new_sides(alloc, shape)?;
@@ -119,31 +146,22 @@ fn pass_on<R: Threads + Sync>(
             requires { (142 ≤ room_of ring.shape) × (ring.notes ≡ []) }
             ensures { IfOk result (λ end. end.id ≡ ring.end.id) }
         { feed_all(alloc, ring, count) },
-        move || -> Result<(Outputs, TableWalker<Block>), Memory>
+        move || -> Result<((u64, usize, bool), TableWalker<Block>), Memory>
             requires { (walker.kind ≡ numbers_of reader.shape) × (reader.held ≡ None)
                 × (walker.in_hand ≡ false) × (reader.taken ≡ []) }
             ensures { IfOk result (λ read. (read.1.id ≡ walker.id) × (read.1.in_hand ≡ false)) }
         { read_all(reader, walker, count as u64) },
     );
     let feeder = fed?;
-    let (outputs, walker) = read?;
+    let (seen, walker) = read?;
     let pending = finish(alloc, feeder, walker)?;
-    Ok((outputs, pending.len()))
+    Ok((seen, pending.len()))
 }
 
 #[test]
 fn a_hundred_blocks_from_one_thread_to_another(rt: HostRuntime) -> Result<(), Fail> {
-    let alloc = rt.alloc();
-    let shape = PAGES.check().ok().ok_or("a shape")?;
-    let _size = shape.block_size();
-    if shape.room() < 142 {
-        return Err("a block has room for a frame".into());
-    }
-    let (outputs, left) = pass_on(&rt, alloc, &shape, 100)?;
-    assert_eq!(rt; (outputs.blocks, outputs.walked.len(), left), (100, 100, 0));
-    for at in 0..100 {
-        let packet = outputs.walked.get(at).ok_or("there is a packet")?;
-        assert_eq!(rt; packet.sec as usize, at, "packet {at}");
-    }
+    let shape = page_shape()?;
+    let seen = pass_on(&rt, rt.alloc(), &shape, 100)?;
+    assert_eq!(rt; seen, ((100, 100, true), 0));
     Ok(())
 }

@@ -1,4 +1,4 @@
-use Rattle.std.proofs.Common.{◌≡◌, ◌+◌, ◌∙◌, ap, length, refl}
+use Rattle.std.proofs.Common.{◌∙◌, ap, length}
 use Rattle.std.proofs.Math.ListN.{length-replicate}
 use Rattle.ring_words.specs.PlainRings.{PlainState}
 use Rattle.tp_layout.specs.Requests.{numbers_of}

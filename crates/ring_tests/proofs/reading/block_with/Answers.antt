@@ -1,8 +1,8 @@
-use Rattle.std.proofs.Common.{◌≡◌, ◌+◌, ◌≤◌, ◌<◌, ◌++◌, ◌∷◌, [], ◌∙◌, ap, sym, subst, refl, arith, length}
+use Rattle.std.proofs.Common.{◌≡◌, ◌∷◌, [], ◌∙◌, ap, refl, arith}
 use Rattle.std.proofs.lemmas.List.{length-take-le}
 use Rattle.ring_model.specs.Offers.{packet_of}
 use Rattle.ring_model.specs.Sizes.{need_of}
-use Rattle.tp_layout.specs.Requests.{fills_hash, first_of}
+use Rattle.tp_layout.specs.Requests.{fills_hash}
 use Rattle.tp_layout.specs.Blocks.{needs_of}
 use Rattle.tp_layout.specs.Packets.{need_of_packet}
 use Rattle.tp_layout.specs.Writing.{ShapedBytes, end_of}

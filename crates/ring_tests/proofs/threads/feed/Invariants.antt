@@ -1,6 +1,6 @@
 use Rattle.std.proofs.Common.{◌≡◌, ◌*◌, ◌≤◌, length}
 use Rattle.tp_layout.specs.Requests.{room_of}
-use Rattle.ring_tests.proofs.threads.feed_all.Given as goal
+use Rattle.ring_tests.proofs.threads.feed.Given as goal
 
 -- each look noted a put at most, and a tick
 abbrev pub invariant-loop-look : goal.invariant-loop-look
