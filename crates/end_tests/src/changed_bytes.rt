@@ -2,7 +2,7 @@
 ghost use Rattle.std.specs.Prelude.{◌≡◌, ◌≤◌, length};
 ghost use Rattle.slot_layout.specs.SlotShapes.{IsSlotShape};
 
-use crate::sample_slots::slot_shape;
+use crate::sample_slots::sample_shape;
 use crate::texts::filled;
 use frame_view::Memory;
 use slot_layout::read_slot;
@@ -86,10 +86,7 @@ fn check_slot(rt: &impl Abort, alloc: Global, shape: &Shape, tagged: bool) -> Re
 #[test]
 fn each_byte_of_a_slot_changed(rt: HostRuntime) -> Result<(), Fail> {
     let alloc = rt.alloc();
-    let shape = slot_shape().ok_or("a shape")?;
-    if shape.frame_size() < 80 {
-        return Err("a slot has room for a frame".into());
-    }
+    let shape = sample_shape()?;
     check_slot(&rt, alloc, &shape, false)?;
     check_slot(&rt, alloc, &shape, true)?;
     Ok(())

@@ -5,18 +5,17 @@ ghost use Rattle.slot_layout.specs.SlotShapes.{IsSlotShape};
 ghost use Rattle.tp_layout.specs.Requests.{numbers_of};
 
 use crate::ring_calls::{Ring, new_ring, put, try_put};
-use crate::sample_slots::slot_shape;
+use crate::sample_slots::sample_shape;
 use frame_view::{ByteList, Memory};
 use reader_walk::Outputs;
 use ring_model::Put;
 use std::alloc::Global;
-use std::process::Abort;
 use std::test::Fail;
 use tp_layout::Shape;
 use v2_ring::SlotReader;
 
 /// What is done to a ring.
-#[derive(Clone, Copy, Debug)]
+#[derive(Clone, Copy)]
 enum Act {
     /// A frame of 60 bytes with this number is put.
     Put(u32),
@@ -29,7 +28,7 @@ enum Act {
 }
 
 /// What came of it.
-#[derive(Clone, Copy, Debug, PartialEq, Eq)]
+#[derive(Clone, Copy, PartialEq, Eq)]
 enum Came {
     /// The frame was kept, or a slot was read.
     Done,
@@ -102,8 +101,18 @@ fn status(dump: &ByteList, at: usize) -> Option<u8> {
     dump.get(TEXT.checked_mul(at)?).copied()
 }
 
-/// Does these things to a new ring, and gives how many of them came out otherwise, and what was read.
-fn run(alloc: Global, shape: &Shape, acts: &[(Act, Came)]) -> Result<(u32, Outputs), Memory>
+/// How many packets, bytes of a dump and slots were read, and the status of the first slot, the fourth and the fifth.
+type Seen = ((usize, usize, u64), [Option<u8>; 3]);
+
+/// What is seen of what was read.
+fn seen_of(outputs: Outputs) -> Seen {
+    let dump = &outputs.dump;
+    let sizes = (outputs.walked.len(), dump.len(), outputs.blocks);
+    (sizes, [status(dump, 0), status(dump, 3), status(dump, 4)])
+}
+
+/// Does these things to a new ring, and gives how many of them came out otherwise, and what is seen of what was read.
+fn run(alloc: Global, shape: &Shape, acts: &[(Act, Came)]) -> Result<(u32, Seen), Memory>
     requires checked { IsSlotShape shape.now }
     requires fits { 126 ≤ shape.now.frame_size }
     requires few { length acts.now < 100 }
@@ -116,31 +125,14 @@ fn run(alloc: Global, shape: &Shape, acts: &[(Act, Came)]) -> Result<(u32, Outpu
             others += 1;
         }
     }
-    Ok((others, reader.outputs()))
-}
-
-/// Five slots were read, and the one after a drop has TP_STATUS_LOSING.
-fn check_outputs(rt: &impl Abort, outputs: &Outputs) {
-    let dump = &outputs.dump;
-    assert_eq!(rt;
-        (outputs.walked.len(), dump.len(), outputs.blocks),
-        (5, 630, 5)
-    );
-    assert_eq!(rt;
-        (status(dump, 0), status(dump, 3), status(dump, 4)),
-        (Some(1), Some(1), Some(5))
-    );
+    Ok((others, seen_of(reader.outputs())))
 }
 
 #[test]
 fn a_full_ring_drops_and_goes_on(rt: HostRuntime) -> Result<(), Fail> {
-    let alloc = rt.alloc();
-    let shape = slot_shape().ok_or("a shape")?;
-    if shape.frame_size() < 126 {
-        return Err("a slot has room for a frame".into());
-    }
-    let (others, outputs) = run(alloc, &shape, &ACTS)?;
-    assert_eq!(rt; others, 0);
-    check_outputs(&rt, &outputs);
+    let shape = sample_shape()?;
+    let seen = run(rt.alloc(), &shape, &ACTS)?;
+    // five slots were read, and the one after a drop has TP_STATUS_LOSING
+    assert_eq!(rt; seen, (0, ((5, 630, 5), [Some(1), Some(1), Some(5)])));
     Ok(())
 }

@@ -3,7 +3,9 @@ ghost use Rattle.std.specs.Prelude.{◌≡◌, ◌<◌, ◌≤◌, ◌+◌, fals
 ghost use Rattle.ring_words.specs.PlainRings.{has_block};
 
 use crate::letters::Letter;
+use frame_view::Memory;
 use ring_words::{FeederEnd, Next, PlainRing, WalkerEnd};
+use std::alloc::Global;
 use std::test::Fail;
 
 /// Fills the next block with a letter and retires it; or the number of the block that is still there.
@@ -36,22 +38,45 @@ fn read(ring: &mut PlainRing<Letter>) -> Option<u8>
     Some(read)
 }
 
-#[test]
-fn a_place_is_free_once_its_block_was_released(rt: HostRuntime) -> Result<(), Fail> {
-    let alloc = rt.alloc();
+/// What is read of an empty ring, how three blocks are filled, what is read then, how two more are filled, and what is
+/// read in the end.
+type Steps = (
+    Option<u8>,
+    [Option<u64>; 3],
+    Option<u8>,
+    [Option<u64>; 2],
+    [Option<u8>; 3],
+);
+
+/// These steps with a new ring.
+fn steps(alloc: Global) -> Result<Steps, Memory> {
     let blocks = Vec::from_array(alloc, [Letter(0), Letter(0)])?;
     let mut ring = PlainRing::new(alloc, blocks)?;
-    let empty = read(&mut ring);
-    let filled = [
-        fill(&mut ring, b'a'),
-        fill(&mut ring, b'b'),
-        fill(&mut ring, b'c'),
-    ];
-    let first = read(&mut ring);
-    let again = [fill(&mut ring, b'c'), fill(&mut ring, b'd')];
-    let rest = [read(&mut ring), read(&mut ring), read(&mut ring)];
-    assert_eq!(rt; (empty, filled), (None, [None, None, Some(1)]));
-    assert_eq!(rt; (first, again), (Some(b'a'), [None, Some(2)]));
-    assert_eq!(rt; rest, [Some(b'b'), Some(b'c'), None]);
+    Ok((
+        read(&mut ring),
+        [
+            fill(&mut ring, b'a'),
+            fill(&mut ring, b'b'),
+            fill(&mut ring, b'c'),
+        ],
+        read(&mut ring),
+        [fill(&mut ring, b'c'), fill(&mut ring, b'd')],
+        [read(&mut ring), read(&mut ring), read(&mut ring)],
+    ))
+}
+
+#[test]
+fn a_place_is_free_once_its_block_was_released(rt: HostRuntime) -> Result<(), Fail> {
+    let answers = steps(rt.alloc())?;
+    assert_eq!(rt;
+        answers,
+        (
+            None,
+            [None, None, Some(1)],
+            Some(b'a'),
+            [None, Some(2)],
+            [Some(b'b'), Some(b'c'), None]
+        )
+    );
     Ok(())
 }

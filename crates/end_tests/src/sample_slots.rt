@@ -6,6 +6,7 @@ ghost use Rattle.tp_layout.specs.Writing.{IsWritable};
 use frame_view::{ByteList, Frame, Memory, Tag};
 use ring_model::Offer;
 use std::alloc::Global;
+use std::test::Fail;
 use tp_layout::{RingRequest, Shape};
 
 /// Four slots of 2,048 bytes.
@@ -20,13 +21,25 @@ pub(crate) const SLOTS: RingRequest = RingRequest {
 };
 
 /// Their shape.
-pub(crate) fn slot_shape() -> Option<Shape>
+fn slot_shape() -> Option<Shape>
     ensures { IfSome result IsSlotShape }
 {
     match SLOTS.check_v2() {
         Ok(shape) => Some(shape),
         Err(_) => None,
     }
+}
+
+/// The same. A slot has room for a frame of 60 bytes.
+pub(crate) fn sample_shape() -> Result<Shape, Fail>
+    ensures checked { IfOk result IsSlotShape }
+    ensures room { IfOk result (λ shape. 126 ≤ shape.frame_size) }
+{
+    let shape = slot_shape().ok_or("a shape")?;
+    if shape.frame_size() < 126 {
+        return Err("a slot has room for a frame".into());
+    }
+    Ok(shape)
 }
 
 /// A broadcast frame of 14 bytes.

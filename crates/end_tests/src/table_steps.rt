@@ -40,32 +40,53 @@ pub(crate) fn read(walker: &mut TableWalker<Letter>) -> Option<u8>
     Some(read)
 }
 
-#[test]
-fn a_place_is_held_until_its_block_was_released(rt: HostRuntime) -> Result<(), Fail> {
-    let alloc = rt.alloc();
+/// What is read of an empty ring, how three blocks are filled, what is read then, and whether the next block is free.
+type Steps = (Option<u8>, [Option<u64>; 3], Option<u8>, bool);
+
+/// These steps with a new ring, and what is pending then.
+fn steps(alloc: Global) -> Result<(Steps, Pending<Letter>), Memory> {
     let blocks = Vec::from_array(alloc, [Letter(0), Letter(0)])?;
     let (mut feeder, mut walker) = table_ring(alloc, blocks)?;
-    let empty = read(&mut walker);
-    let filled = [
-        fill(&mut feeder, b'a'),
-        fill(&mut feeder, b'b'),
-        fill(&mut feeder, b'c'),
-    ];
-    let first = read(&mut walker);
-    let free = matches!(feeder.next(), Next::Free { .. });
-    assert_eq!(rt; (empty, filled), (None, [None, None, Some(1)]));
-    assert_eq!(rt; (first, free), (Some(b'a'), true));
-    let pending = finish(alloc, feeder, walker)?;
-    check_pending(&rt, alloc, &pending)?;
-    Ok(())
+    let steps = (
+        read(&mut walker),
+        [
+            fill(&mut feeder, b'a'),
+            fill(&mut feeder, b'b'),
+            fill(&mut feeder, b'c'),
+        ],
+        read(&mut walker),
+        matches!(feeder.next(), Next::Free { .. }),
+    );
+    Ok((steps, finish(alloc, feeder, walker)?))
 }
 
-/// One block with the letter b is pending.
-fn check_pending(rt: &impl Abort, alloc: Global, pending: &Pending<Letter>) -> Result<(), Memory> {
-    let text = format!(in alloc; "{pending:?}")?;
-    assert_eq!(rt; text.as_str(), "Pending { blocks: 1, .. }");
-    let first = pending.get(0).map(|(letter, status)| (letter.0, status));
-    assert_eq!(rt; (pending.len(), first), (1, Some((b'b', 1))));
-    assert!(rt; pending.get(1).is_none());
+/// The letter and the status of a block that is pending.
+fn letter_at(pending: &Pending<Letter>, at: usize) -> Option<(u8, u32)> {
+    let (letter, status) = pending.get(at)?;
+    Some((letter.0, status))
+}
+
+/// The third block isn't filled, and once the first was read its place is free; then one block with the letter b is
+/// pending.
+fn check_steps(rt: &impl Abort, steps: Steps, pending: &Pending<Letter>, text: &str) {
+    let first = letter_at(pending, 0);
+    let second = letter_at(pending, 1);
+    assert_eq!(rt;
+        (steps, text, pending.len(), first, second),
+        (
+            (None, [None, None, Some(1)], Some(b'a'), true),
+            "Pending { blocks: 1, .. }",
+            1,
+            Some((b'b', 1)),
+            None
+        )
+    );
+}
+
+#[test]
+fn a_place_is_held_until_its_block_was_released(rt: HostRuntime) -> Result<(), Fail> {
+    let (steps, pending) = steps(rt.alloc())?;
+    let text = format!(in rt.alloc(); "{pending:?}")?;
+    check_steps(&rt, steps, &pending, text.as_str());
     Ok(())
 }

@@ -4,13 +4,12 @@ ghost use Rattle.slot_layout.specs.SlotShapes.{IsSlotShape};
 ghost use Rattle.tp_layout.specs.Requests.{numbers_of};
 
 use crate::ring_calls::offer;
-use crate::sample_slots::slot_shape;
-use frame_view::Memory;
+use crate::sample_slots::sample_shape;
+use frame_view::{Memory, Packets};
 use reader_walk::Outputs;
 use ring_model::Put;
 use ring_words::{TableFeeder, TableWalker, finish, table_ring};
 use std::alloc::Global;
-use std::process::Abort;
 use std::test::Fail;
 use std::thread;
 use std::thread::Threads;
@@ -57,12 +56,28 @@ fn feed_all(alloc: Global, mut ring: Ring, count: u32) -> Result<TableFeeder<Slo
     Ok(ring.finish().0)
 }
 
-/// Reads so many slots, and gives what was read, and the end.
+/// Whether each packet has its place for its seconds.
+fn are_in_place(packets: &Packets) -> bool {
+    for (at, packet) in packets.as_slice().iter().enumerate() {
+        if packet.sec as usize != at {
+            return false;
+        }
+    }
+    true
+}
+
+/// How many slots and packets were read, and whether each packet has its place for its seconds.
+fn seen_of(outputs: Outputs) -> (u64, usize, bool) {
+    let packets = &outputs.walked;
+    (outputs.blocks, packets.len(), are_in_place(packets))
+}
+
+/// Reads so many slots, and gives what is seen of them, and the end.
 fn read_all(
     mut reader: SlotReader,
     mut walker: TableWalker<Slot>,
     count: u64,
-) -> Result<(Outputs, TableWalker<Slot>), Memory>
+) -> Result<((u64, usize, bool), TableWalker<Slot>), Memory>
     requires kind { walker.kind ≡ numbers_of reader.shape }
     requires held { reader.held ≡ None }
     requires hand { walker.in_hand ≡ false }
@@ -81,16 +96,16 @@ fn read_all(
             thread::yield_now();
         }
     }
-    Ok((reader.outputs(), walker))
+    Ok((seen_of(reader.outputs()), walker))
 }
 
-/// What a reader in a thread of its own reads of so many slots, and how many are then left.
+/// What is seen of so many slots by a reader in a thread of its own, and how many are then left.
 fn pass_on<R: Threads + Sync>(
     rt: &R,
     alloc: Global,
     shape: &Shape,
     count: u32,
-) -> Result<(Outputs, usize), Memory>
+) -> Result<((u64, usize, bool), usize), Memory>
     requires checked { IsSlotShape shape.now }
     requires fits { 126 ≤ shape.now.frame_size }
 {
@@ -102,35 +117,22 @@ fn pass_on<R: Threads + Sync>(
             requires { (126 ≤ ring.shape.frame_size) × (ring.notes ≡ []) }
             ensures { IfOk result (λ end. end.id ≡ ring.end.id) }
         { feed_all(alloc, ring, count) },
-        move || -> Result<(Outputs, TableWalker<Slot>), Memory>
+        move || -> Result<((u64, usize, bool), TableWalker<Slot>), Memory>
             requires { (walker.kind ≡ numbers_of reader.shape) × (reader.held ≡ None)
                 × (walker.in_hand ≡ false) × (reader.outputs.blocks ≡ 0) }
             ensures { IfOk result (λ read. (read.1.id ≡ walker.id) × (read.1.in_hand ≡ false)) }
         { read_all(reader, walker, count as u64) },
     );
     let feeder = fed?;
-    let (outputs, walker) = read?;
+    let (seen, walker) = read?;
     let pending = finish(alloc, feeder, walker)?;
-    Ok((outputs, pending.len()))
-}
-
-/// Each of the first hundred packets that were read has its place for its seconds.
-fn check_packets(rt: &impl Abort, outputs: &Outputs) -> Result<(), Fail> {
-    for at in 0..100 {
-        let packet = outputs.walked.get(at).ok_or("there is a packet")?;
-        assert_eq!(rt; packet.sec as usize, at);
-    }
-    Ok(())
+    Ok((seen, pending.len()))
 }
 
 #[test]
 fn a_hundred_slots_from_one_thread_to_another(rt: HostRuntime) -> Result<(), Fail> {
-    let alloc = rt.alloc();
-    let shape = slot_shape().ok_or("a shape")?;
-    if shape.frame_size() < 126 {
-        return Err("a slot has room for a frame".into());
-    }
-    let (outputs, left) = pass_on(&rt, alloc, &shape, 100)?;
-    assert_eq!(rt; (outputs.blocks, outputs.walked.len(), left), (100, 100, 0));
-    check_packets(&rt, &outputs)
+    let shape = sample_shape()?;
+    let seen = pass_on(&rt, rt.alloc(), &shape, 100)?;
+    assert_eq!(rt; seen, ((100, 100, true), 0));
+    Ok(())
 }

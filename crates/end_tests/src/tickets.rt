@@ -46,6 +46,23 @@ fn two_feeders(alloc: Global) -> Result<(Dealer, DealerSeat, DealerSeat, Vec<Dea
     Ok((dealer, first, second, seats))
 }
 
+/// Closes a dealer with all its seats, and gives the number of tickets that were drawn.
+fn close(
+    dealer: Dealer,
+    first: DealerSeat,
+    second: DealerSeat,
+    mut seats: Vec<DealerSeat>,
+) -> Result<u64, Memory>
+    requires feeders { dealer.feeders ≡ 2 }
+    requires first { IsSeatOf dealer first }
+    requires second { IsSeatOf dealer second }
+    requires others { seats.items ≡ replicate 9 (fresh_seat dealer 0) }
+{
+    seats.push(first)?;
+    seats.push(second)?;
+    Ok(dealer.close(seats))
+}
+
 /// What two threads draw, each so many, and the number of all.
 fn drawn_by_two<R: Threads + Sync>(
     rt: &R,
@@ -56,7 +73,7 @@ fn drawn_by_two<R: Threads + Sync>(
 {
     let one = vec![in alloc; 0u64; each]?;
     let two = vec![in alloc; 0u64; each]?;
-    let (dealer, first, second, mut seats) = two_feeders(alloc)?;
+    let (dealer, first, second, seats) = two_feeders(alloc)?;
     let held = &dealer;
     let ((first, mine), (second, yours)) = thread::join(
         rt,
@@ -69,9 +86,8 @@ fn drawn_by_two<R: Threads + Sync>(
             ensures { IsSeatOf held.entry.now result.0 × (result.0.drawn ≡ result.1.items) }
         { draw_all(held, second, two) },
     );
-    seats.push(first)?;
-    seats.push(second)?;
-    Ok((dealer.close(seats), mine, yours))
+    let count = close(dealer, first, second, seats)?;
+    Ok((count, mine, yours))
 }
 
 /// Tickets that were drawn one after another stand in order.
@@ -107,19 +123,23 @@ fn each_ticket_is_drawn_once(rt: HostRuntime) -> Result<(), Fail> {
     Ok(())
 }
 
-#[test]
-fn feeders_end(rt: HostRuntime) -> Result<(), Fail> {
-    let (dealer, mut first, mut second, mut seats) = two_feeders(rt.alloc())?;
+/// How many feeders are live at first, once one has ended and once both have, a ticket that is drawn after a feeder has
+/// ended, and the number of tickets that were drawn.
+fn ended(alloc: Global) -> Result<([u64; 3], u64, u64), Memory> {
+    let (dealer, mut first, mut second, seats) = two_feeders(alloc)?;
     let both = dealer.live(&mut first);
     dealer.done(&mut second);
     let one = dealer.live(&mut first);
     let ticket = dealer.draw(&mut second);
     dealer.done(&mut first);
     let none = dealer.live(&mut second);
-    seats.push(first)?;
-    seats.push(second)?;
-    let drawn = dealer.close(seats);
-    assert_eq!(rt; (both, one, none), (2, 1, 0));
-    assert_eq!(rt; (ticket, drawn), (0, 1));
+    let drawn = close(dealer, first, second, seats)?;
+    Ok(([both, one, none], ticket, drawn))
+}
+
+#[test]
+fn feeders_end(rt: HostRuntime) -> Result<(), Fail> {
+    let answers = ended(rt.alloc())?;
+    assert_eq!(rt; answers, ([2, 1, 0], 0, 1));
     Ok(())
 }
