@@ -61,20 +61,35 @@ fn program_of(alloc: Global, text: &str) -> Result<Option<Program>, Fail> {
     Ok(Some(Program::check(alloc, code)?))
 }
 
-/// Carries a capture of frames over a bridge with this setup and this filter.
+/// The job of the texts of a setup with one CPU and of a filter.
+pub(crate) fn job_of(alloc: Global, setup: &str, filter: &str) -> Result<Job, Fail>
+    ensures sound { IfOk result (λ job. IsSetup job.setup) }
+    ensures one { IfOk result (λ job. length job.setup.cpus ≡ 1) }
+{
+    let program = program_of(alloc, filter)?;
+    let setup = setup_of(alloc, setup)?;
+    Ok(Job { setup, program })
+}
+
+/// The sources of one CPU, whose capture this is.
+pub(crate) fn sources_of(alloc: Global, capture: ByteList) -> Result<Vec<Option<MemSource>>, Memory>
+    ensures { IfOk result (λ sources. length sources.items ≡ 1) }
+{
+    let source = MemSource::new(capture, 65_536, MomentList::new(alloc));
+    Ok(vec![in alloc; Some(source)]?)
+}
+
+/// Carries a capture of frames over a bridge by this job.
 pub(crate) fn carry<R: Threads + Wait + Sync>(
     rt: &R,
     alloc: Global,
-    setup: &str,
-    filter: &str,
+    job: &Job,
     frames: &[Shape<'_>],
-) -> Result<ForwardRan<MemSource>, Fail> {
-    let job = Job {
-        setup: setup_of(alloc, setup)?,
-        program: program_of(alloc, filter)?,
-    };
-    let source = MemSource::new(capture(alloc, frames)?, 65_536, MomentList::new(alloc));
-    let sources = vec![in alloc; Some(source)]?;
+) -> Result<ForwardRan<MemSource>, Fail>
+    requires sound { IsSetup job.now.setup }
+    requires one { length job.now.setup.cpus ≡ 1 }
+{
+    let sources = sources_of(alloc, capture(alloc, frames)?)?;
     let ticks = MomentList::new(alloc);
-    Ok(forward_workers(rt, alloc, &job, sources, &ticks, &NoGate)?)
+    Ok(forward_workers(rt, alloc, job, sources, &ticks, &NoGate)?)
 }

@@ -1,11 +1,17 @@
 //! What is sent and what is skipped, row by row.
-use crate::bridged::{Shape, carry, frame};
+ghost use Rattle.std.specs.Prelude.{◌≡◌, length, IfOk};
+ghost use Rattle.setup_text.specs.Sound.{IsSetup};
+
+use crate::bridged::{Shape, carry, frame, job_of};
 use frame_view::{Memory, Packet, Packets};
+use setup_text::Job;
 use std::alloc::Global;
 use std::process::Abort;
 use std::sync::Wait;
 use std::test::Fail;
 use std::thread::Threads;
+use tap_forward::ForwardRan;
+use tap_outside::MemSource;
 
 /// A capture of CPU 0, and what a bridge makes of it.
 struct Row {
@@ -165,22 +171,53 @@ fn are_sent(
     Ok(packets.len() == sent.len())
 }
 
+/// The job of a row.
+fn row_job(alloc: Global, row: &Row) -> Result<Job, Fail>
+    ensures sound { IfOk result (λ job. IsSetup job.setup) }
+    ensures one { IfOk result (λ job. length job.setup.cpus ≡ 1) }
+{
+    let setup = format!(in alloc; "{PAGES}{}", row.more)?;
+    job_of(alloc, setup.as_str(), row.filter)
+}
+
+/// What a bridge makes of a row's capture.
+fn carried<R: Threads + Wait + Sync>(
+    rt: &R,
+    alloc: Global,
+    row: &Row,
+) -> Result<ForwardRan<MemSource>, Fail> {
+    let job = row_job(alloc, row)?;
+    carry(rt, alloc, &job, row.frames)
+}
+
+/// Holds the numbers of members, and of the packets that are skipped, to a row.
+fn check_counts(rt: &impl Abort, row: &Row, ran: &ForwardRan<MemSource>) {
+    let counts = (ran.sent.len(), ran.report.members.len());
+    let wanted = (row.sent.len(), row.sent.len());
+    assert_eq!(rt;
+        (row.name, counts, ran.skipped.as_slice()),
+        (row.name, wanted, row.skipped)
+    );
+}
+
+/// Holds what is sent for each member to a row.
+fn check_sent(rt: &impl Abort, alloc: Global, row: &Row, sent: &[Packets]) -> Result<(), Fail> {
+    for (packets, wanted) in sent.iter().zip(row.sent) {
+        let are_sent = are_sent(alloc, packets, row.frames, wanted)?;
+        assert_eq!(rt; (row.name, are_sent), (row.name, true));
+    }
+    Ok(())
+}
+
 /// Holds what is sent for each member, and what is skipped, to a row.
 fn check_row<R: Threads + Wait + Abort + Sync>(
     rt: &R,
     alloc: Global,
     row: &Row,
 ) -> Result<(), Fail> {
-    let name = row.name;
-    let setup = format!(in alloc; "{PAGES}{}", row.more)?;
-    let ran = carry(rt, alloc, setup.as_str(), row.filter, row.frames)?;
-    let counts = (ran.sent.len(), ran.report.members.len());
-    assert_eq!(rt; counts, (row.sent.len(), row.sent.len()), "{name}");
-    assert_eq!(rt; ran.skipped.as_slice(), row.skipped, "{name}");
-    for (packets, sent) in ran.sent.iter().zip(row.sent) {
-        assert!(rt; are_sent(alloc, packets, row.frames, sent)?, "{name}");
-    }
-    Ok(())
+    let ran = carried(rt, alloc, row)?;
+    check_counts(rt, row, &ran);
+    check_sent(rt, alloc, row, ran.sent.as_slice())
 }
 
 #[test]

@@ -1,12 +1,13 @@
 //! Runs with pools of one, two and eight workers.
-ghost use Rattle.std.specs.Prelude.{◌≡◌, ◌<◌, ◌≤◌, length, IfOk};
+ghost use Rattle.std.specs.Prelude.{◌≡◌, ◌<◌, ◌≤◌, length};
 ghost use Rattle.setup_text.specs.Sound.{IsSetup};
 
+use crate::bridged::{job_of, sources_of};
 use block_pool::run_pool;
 use cpu_feeders::NoGate;
 use frame_view::{ByteList, Memory, MomentList, Packet};
 use row_building::push_fields;
-use setup_text::{Command, Job, MemberReport, Ran, Setup, read_setup};
+use setup_text::{Job, MemberReport, Ran};
 use std::alloc::Global;
 use std::sync::Wait;
 use std::test::Fail;
@@ -34,37 +35,6 @@ fn capture(alloc: Global) -> Result<ByteList, Memory> {
     Ok(ByteList::from_vec(bytes))
 }
 
-/// The setup, with its one CPU.
-fn setup(alloc: Global) -> Result<Setup, Fail>
-    ensures sound { IfOk result IsSetup }
-    ensures one { IfOk result (λ setup. length setup.cpus ≡ 1) }
-{
-    let setup = read_setup(alloc, SETUP.as_bytes(), Command::Capture)?;
-    if setup.cpus.len() != 1 {
-        return Err("a setup with one CPU".into());
-    }
-    Ok(setup)
-}
-
-/// Runs the capture with so many workers.
-fn capture_with<R: Threads + Wait + Sync>(
-    rt: &R,
-    alloc: Global,
-    workers: u32,
-) -> Result<Ran<MemSource>, Fail>
-    requires some { 0 < workers }
-    requires few { workers ≤ 8 }
-{
-    let job = Job {
-        setup: setup(alloc)?,
-        program: None,
-    };
-    let source = MemSource::new(capture(alloc)?, 65_536, MomentList::new(alloc));
-    let sources = vec![in alloc; Some(source)]?;
-    let ticks = MomentList::new(alloc);
-    Ok(run_pool(rt, alloc, &job, sources, &ticks, &NoGate, workers)?)
-}
-
 /// Whether a packet is the frame of this number.
 fn is_frame(packet: &Packet, number: u8) -> bool {
     let bytes = packet.bytes.as_slice();
@@ -85,15 +55,48 @@ fn has_all(member: &MemberReport) -> bool {
     next == FRAMES && member.blocks == 20 && member.dump.len() == 20 * (48 + 2 * 1_600)
 }
 
+/// How many members a run has, and whether the first read all.
+fn seen_of(ran: Ran<MemSource>) -> (usize, bool) {
+    let members = ran.report.members.as_slice();
+    (members.len(), members.first().is_some_and(has_all))
+}
+
+/// Runs the capture by this job with so many workers.
+fn run_job<R: Threads + Wait + Sync>(
+    rt: &R,
+    alloc: Global,
+    job: &Job,
+    workers: u32,
+) -> Result<(usize, bool), Fail>
+    requires sound { IsSetup job.now.setup }
+    requires one { length job.now.setup.cpus ≡ 1 }
+    requires some { 0 < workers }
+    requires few { workers ≤ 8 }
+{
+    let sources = sources_of(alloc, capture(alloc)?)?;
+    let ticks = MomentList::new(alloc);
+    let ran = run_pool(rt, alloc, job, sources, &ticks, &NoGate, workers)?;
+    Ok(seen_of(ran))
+}
+
+/// The same by the setup's job.
+fn capture_with<R: Threads + Wait + Sync>(
+    rt: &R,
+    alloc: Global,
+    workers: u32,
+) -> Result<(usize, bool), Fail>
+    requires some { 0 < workers }
+    requires few { workers ≤ 8 }
+{
+    let job = job_of(alloc, SETUP, "")?;
+    run_job(rt, alloc, &job, workers)
+}
+
 #[test]
 fn a_pool_decodes_what_readers_would(rt: HostRuntime) -> Result<(), Fail> {
     for workers in [1, 2, 8] {
-        let ran = capture_with(&rt, rt.alloc(), workers)?;
-        let members = ran.report.members.as_slice();
-        assert_eq!(rt; members.len(), 1, "{workers} workers");
-        for member in members {
-            assert!(rt; has_all(member), "{workers} workers");
-        }
+        let seen = capture_with(&rt, rt.alloc(), workers)?;
+        assert_eq!(rt; (workers, seen), (workers, (1, true)));
     }
     Ok(())
 }
