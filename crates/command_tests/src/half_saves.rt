@@ -127,23 +127,32 @@ fn length_of(files: &MemStore, name: &str) -> usize {
 }
 
 /// The status, the first file that isn't whole, and the lengths of output and dump.
-fn end_of(alloc: Global, answer: &Answer, files: &MemStore) -> Result<String, Memory> {
+fn files_end(alloc: Global, status: &str, files: &MemStore) -> Result<String, Memory> {
     let wrong = wrong_files(alloc, &THREE, files)?;
     let (output, dump) = (
         length_of(files, "out.0.pcap"),
         length_of(files, "out.0.blk"),
     );
-    let status = answer.status.as_str();
     Ok(format!(in alloc; "{status}, {}, {output} {dump}", wrong.as_str())?)
 }
 
-/// How a run over such a store ends, where it has its report and all its lines.
-fn half_end(alloc: Global, how: (u64, usize, u64)) -> Result<String, Memory> {
-    let (answer, out, files) = run_half(alloc, how)?;
-    if answer.report.is_empty() || out.written() != THREE.printed.as_bytes() {
+/// How a run ends, where it has its report and all its lines.
+fn end_of(
+    alloc: Global,
+    answer: &Answer,
+    printed: &[u8],
+    files: &MemStore,
+) -> Result<String, Memory> {
+    if answer.report.is_empty() || printed != THREE.printed.as_bytes() {
         return Ok(String::from_str(alloc, "no report, or other lines")?);
     }
-    end_of(alloc, &answer, &files)
+    files_end(alloc, answer.status.as_str(), files)
+}
+
+/// How a run over such a store ends.
+fn half_end(alloc: Global, how: (u64, usize, u64)) -> Result<String, Memory> {
+    let (answer, out, files) = run_half(alloc, how)?;
+    end_of(alloc, &answer, out.written(), &files)
 }
 
 /// Holds how each run ends to its row.

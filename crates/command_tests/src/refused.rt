@@ -1,7 +1,6 @@
 //! Commands that make no run: what is refused, by which line and status, and what `check` accepts.
 use crate::checking::{check_row, check_rows};
-use frame_view::Memory;
-use run_building::{Faults, NO_FAULT, NO_FRAME, NOTHING, Row, difference};
+use run_building::{Faults, NO_FAULT, NO_FRAME, NOTHING, PAGES, Row};
 use std::alloc::Global;
 use std::process::Abort;
 use std::test::Fail;
@@ -20,232 +19,260 @@ const REFUSED: Row<'static> = Row {
     ..NOTHING
 };
 
-/// The words, the texts, the status and the line.
-static ROWS: [Row<'static>; 24] = [
-    Row {
-        name: "no word",
-        words: &[],
-        status: "1 Usage",
-        printed: USAGE,
-        ..REFUSED
-    },
-    Row {
+/// A command, and what it answers.
+#[derive(Clone, Copy)]
+struct Command {
+    /// What it shows.
+    name: &'static str,
+    /// Its words.
+    words: &'static [&'static str],
+    /// The first lines of the setup.
+    setup: &'static str,
+    /// Its further lines.
+    lines: &'static str,
+    /// The schedule.
+    schedule: &'static str,
+    /// The status.
+    status: &'static str,
+    /// The line that is printed.
+    printed: &'static str,
+}
+
+/// Words that are no command.
+const UNKNOWN: Command = Command {
+    name: "no word",
+    words: &[],
+    setup: PAGES,
+    lines: "",
+    schedule: "",
+    status: "1 Usage",
+    printed: USAGE,
+};
+
+static COMMANDS: [Command; 24] = [
+    UNKNOWN,
+    Command {
         name: "check without a setup",
         words: &["check"],
-        status: "1 Usage",
-        printed: USAGE,
-        ..REFUSED
+        ..UNKNOWN
     },
-    Row {
+    Command {
         name: "check with an empty name",
         words: &["check", ""],
-        status: "1 Usage",
-        printed: USAGE,
-        ..REFUSED
+        ..UNKNOWN
     },
-    Row {
+    Command {
         name: "check with a schedule",
         words: &["check", "conf", "sched"],
-        status: "1 Usage",
-        printed: USAGE,
-        ..REFUSED
+        ..UNKNOWN
     },
-    Row {
+    Command {
         name: "capture, which runs on threads",
         words: &["capture", "conf"],
-        status: "1 Usage",
-        printed: USAGE,
-        ..REFUSED
+        ..UNKNOWN
     },
-    Row {
+    Command {
         name: "forward, which runs on threads",
         words: &["forward", "conf"],
-        status: "1 Usage",
-        printed: USAGE,
-        ..REFUSED
+        ..UNKNOWN
     },
-    Row {
+    Command {
         name: "forward with a schedule",
         words: &["forward", "conf", "sched"],
-        status: "1 Usage",
-        printed: USAGE,
-        ..REFUSED
+        ..UNKNOWN
     },
-    Row {
+    Command {
         name: "replay without a schedule",
         words: &["replay", "conf"],
-        status: "1 Usage",
-        printed: USAGE,
-        ..REFUSED
+        ..UNKNOWN
     },
-    Row {
+    Command {
         name: "replay with an empty setup",
         words: &["replay", "", "sched"],
-        status: "1 Usage",
-        printed: USAGE,
-        ..REFUSED
+        ..UNKNOWN
     },
-    Row {
+    Command {
         name: "replay with an empty schedule",
         words: &["replay", "conf", ""],
-        status: "1 Usage",
-        printed: USAGE,
-        ..REFUSED
+        ..UNKNOWN
     },
-    Row {
+    Command {
         name: "a command in the wrong case",
         words: &["Replay", "conf", "sched"],
-        status: "1 Usage",
-        printed: USAGE,
-        ..REFUSED
+        ..UNKNOWN
     },
-    Row {
+    Command {
         name: "replay with a further word",
         words: &["replay", "conf", "sched", "x"],
-        status: "1 Usage",
-        printed: USAGE,
-        ..REFUSED
+        ..UNKNOWN
     },
-    Row {
+    Command {
         name: "a setup that is accepted",
         words: CHECK,
         status: "0 Fine",
         printed: "ok\n",
-        ..REFUSED
+        ..UNKNOWN
     },
-    Row {
+    Command {
         name: "replay of an unknown word",
         words: REPLAY,
         lines: "blok 3\n",
         status: "2 Setup",
         printed: "setup line 6: unknown_word\n",
-        ..REFUSED
+        ..UNKNOWN
     },
-    Row {
+    Command {
         name: "check of an unknown word",
         words: CHECK,
         lines: "blok 3\n",
         status: "2 Setup",
         printed: "setup line 6: unknown_word\n",
-        ..REFUSED
+        ..UNKNOWN
     },
-    Row {
+    Command {
         name: "no member",
         words: REPLAY,
         lines: "members 0\n",
         status: "2 Setup",
         printed: "setup line 0: group no_member\n",
-        ..REFUSED
+        ..UNKNOWN
     },
-    Row {
+    Command {
         name: "rollover as mode and as backup",
         words: REPLAY,
         lines: "mode rollover\nflag rollover\n",
         status: "2 Setup",
         printed: "setup line 0: group backup_of_rollover\n",
-        ..REFUSED
+        ..UNKNOWN
     },
-    Row {
+    Command {
         name: "a CPU that isn't there",
         words: REPLAY,
         schedule: "feed 1\n",
         status: "3 Text",
         printed: "schedule line 1: no_such_cpu\n",
-        ..REFUSED
+        ..UNKNOWN
     },
-    Row {
+    Command {
         name: "a member that isn't there",
         words: REPLAY,
         schedule: "read 1\n",
         status: "3 Text",
         printed: "schedule line 1: no_such_member\n",
-        ..REFUSED
+        ..UNKNOWN
     },
-    Row {
+    Command {
         name: "moments that descend",
         words: REPLAY,
         schedule: "tick 5\ntick 4\n",
         status: "3 Text",
         printed: "schedule line 2: not_ascending\n",
-        ..REFUSED
+        ..UNKNOWN
     },
-    Row {
+    Command {
         name: "a setup that isn't there",
         words: &["check", "none"],
         status: "5 ReadFault",
         printed: "read fault\n",
-        ..REFUSED
+        ..UNKNOWN
     },
-    Row {
+    Command {
         name: "a schedule as setup",
         words: &["check", "sched"],
         status: "2 Setup",
         printed: "setup line 0: missing block_size\n",
-        ..REFUSED
+        ..UNKNOWN
     },
-    Row {
+    Command {
         name: "a number of frames that isn't the blocks'",
         words: REPLAY,
         setup: "block_size 4096\nblock_nr 2\nframe_size 2048\nframe_nr 5\ncpu a.pcap\n",
         status: "2 Setup",
         printed: "setup line 0: request frame_count\n",
-        ..REFUSED
+        ..UNKNOWN
     },
-    Row {
+    Command {
         name: "a setup without its number of frames",
         words: REPLAY,
         setup: "block_size 4096\nblock_nr 2\nframe_size 2048\ncpu a.pcap\n",
         status: "2 Setup",
         printed: "setup line 0: missing frame_nr\n",
-        ..REFUSED
+        ..UNKNOWN
     },
 ];
 
-/// The first line can't be written.
-const UNWRITTEN: Faults<'static> = Faults {
-    write: 1,
-    ..NO_FAULT
-};
-
-/// There is no memory for the first line.
-const POOR: Faults<'static> = Faults {
-    poor_write: 1,
-    ..NO_FAULT
-};
-
-/// The three runs of a row: as it is, where its line can't be written, and where there is no
-/// memory for it.
-fn all_differences(alloc: Global, row: &Row<'_>) -> Result<String, Memory> {
-    let mut found = difference(alloc, row)?;
-    let unwritten = Row {
-        faults: UNWRITTEN,
+/// A row whose line can't be written.
+fn unwritten<'a>(row: &Row<'a>) -> Row<'a> {
+    Row {
+        faults: Faults {
+            write: 1,
+            ..NO_FAULT
+        },
         status: "6 WriteFault",
         printed: "",
         ..*row
-    };
-    found.push_str(difference(alloc, &unwritten)?.as_str())?;
-    let poor = Row {
-        faults: POOR,
+    }
+}
+
+/// A row without memory for its line.
+fn poor<'a>(row: &Row<'a>) -> Row<'a> {
+    Row {
+        faults: Faults {
+            poor_write: 1,
+            ..NO_FAULT
+        },
         status: "7 Memory",
         printed: "out of memory\n",
         ..*row
-    };
-    found.push_str(difference(alloc, &poor)?.as_str())?;
-    Ok(found)
+    }
 }
 
-/// Carries out the three runs of each row: nothing may differ.
-fn check_refused(rt: &impl Abort, alloc: Global, rows: &[Row<'_>]) -> Result<(), Fail> {
-    for row in rows {
-        let found = all_differences(alloc, row)?;
-        assert_eq!(rt; found.as_str(), "", "{}", row.name);
+/// The three runs of a row: as it is, where its line can't be written, and where there is no
+/// memory for it.
+fn check_thrice(rt: &impl Abort, alloc: Global, name: &str, row: &Row<'_>) -> Result<(), Fail> {
+    check_row(rt, alloc, name, row)?;
+    check_row(rt, alloc, name, &unwritten(row))?;
+    check_row(rt, alloc, name, &poor(row))
+}
+
+/// The row of a command, made of one that gives no report and saves no file.
+fn row_of(command: &Command, row: &Row<'static>) -> Row<'static> {
+    Row {
+        name: command.name,
+        words: command.words,
+        setup: command.setup,
+        lines: command.lines,
+        schedule: command.schedule,
+        status: command.status,
+        printed: command.printed,
+        ..*row
+    }
+}
+
+/// Carries out the three runs of each command: nothing may differ.
+fn check_refused(
+    rt: &impl Abort,
+    alloc: Global,
+    row: &Row<'static>,
+    commands: &[Command],
+) -> Result<(), Fail> {
+    for command in commands {
+        check_thrice(rt, alloc, command.name, &row_of(command, row))?;
     }
     Ok(())
 }
 
+/// The commands. Their table stands in the proof of this function alone.
+fn commands() -> &'static [Command] {
+    &COMMANDS
+}
+
+/// The row of which those of the commands are made.
+static NO_RUN: Row<'static> = REFUSED;
+
 #[test]
 fn commands_that_are_refused(rt: HostRuntime) -> Result<(), Fail> {
-    check_refused(&rt, rt.alloc(), &ROWS)
+    check_refused(&rt, rt.alloc(), &NO_RUN, commands())
 }
 
 /// A filter, and the line that refuses it.

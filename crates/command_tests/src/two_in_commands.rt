@@ -54,7 +54,7 @@ const UNREAD: Faults<'static> = Faults {
     ..NO_FAULT
 };
 
-static COMMANDS: [Row<'static>; 14] = [
+static CHECKS: [Row<'static>; 5] = [
     Row {
         name: "check: a fetch and a write",
         faults: Faults {
@@ -111,6 +111,9 @@ static COMMANDS: [Row<'static>; 14] = [
         printed: "filter line 2: no_return\n",
         ..CHECK
     },
+];
+
+static REPLAYS: [Row<'static>; 5] = [
     Row {
         name: "replay: a schedule that is refused, and a filter that can't be fetched",
         faults: Faults {
@@ -173,6 +176,9 @@ static COMMANDS: [Row<'static>; 14] = [
         printed: "out of memory\n",
         ..REPLAY
     },
+];
+
+static SENDS: [Row<'static>; 4] = [
     Row {
         name: "send: a cut and a save",
         faults: Faults {
@@ -212,7 +218,25 @@ static COMMANDS: [Row<'static>; 14] = [
     },
 ];
 
+/// The rows of `check`. Each table stands in the proof of one function alone, since that grows faster
+/// than the table.
+fn checks() -> &'static [Row<'static>] {
+    &CHECKS
+}
+
+/// The rows of `replay`.
+fn replays() -> &'static [Row<'static>] {
+    &REPLAYS
+}
+
+/// The rows of `send`.
+fn sends() -> &'static [Row<'static>] {
+    &SENDS
+}
+
 #[test]
 fn two_things_fail_in_a_command(rt: HostRuntime) -> Result<(), Fail> {
-    check_rows(&rt, rt.alloc(), &COMMANDS)
+    check_rows(&rt, rt.alloc(), checks())?;
+    check_rows(&rt, rt.alloc(), replays())?;
+    check_rows(&rt, rt.alloc(), sends())
 }

@@ -1,5 +1,5 @@
 //! Two things fail at once in a replay: of the statuses 7, 6, 5 and 4 the first that applies comes.
-use crate::checking::check_rows;
+use crate::checking::{Case, check_cases, check_rows};
 use run_building::{Capture, Faults, Kept, NO_FAULT, NO_FRAME, NOTHING, Row, Shape};
 use std::test::Fail;
 
@@ -52,8 +52,19 @@ const PAIR: Row<'static> = Row {
     ..NOTHING
 };
 
-/// The first capture is cut in its second record, and the second can't be read beyond its first.
-const CUT_AND_UNREAD: Row<'static> = Row {
+/// The second read of the second capture fails.
+const UNREAD: Faults<'static> = Faults {
+    file: "b.pcap",
+    piece: 124,
+    reads: &[2],
+    ..NO_FAULT
+};
+
+/// Two captures that are whole.
+static WHOLE: Row<'static> = PAIR;
+
+/// The first capture is cut in its second record.
+static CUT: Row<'static> = Row {
     captures: &[
         Capture {
             frames: &[SMALL; 2],
@@ -66,6 +77,40 @@ const CUT_AND_UNREAD: Row<'static> = Row {
             ..NO_FRAME
         },
     ],
+    ..PAIR
+};
+
+/// What comes of the captures that are whole, where nothing fails.
+const ALL_KEPT: Case<'static> = Case {
+    name: "no fault",
+    faults: NO_FAULT,
+    status: "0 Fine",
+    printed: "cpu 0 frames 2 arrivals 2 end ok\n\
+              cpu 1 frames 2 arrivals 2 end ok\n\
+              member 0 packets 2 drops 0 freezes 0 blocks 1\n\
+              member 1 packets 2 drops 0 freezes 0 blocks 1\n\
+              total arrivals 4 filtered 0 kept 4 drops 0\n",
+    cpus: &["k0.k0.", "k1.k1."],
+    given: &[],
+    members: &[TWO, TWO],
+    absent: &[],
+};
+
+/// What comes of the capture that is cut and the other, where nothing fails.
+const CUT_KEPT: Case<'static> = Case {
+    status: "4 Damaged { cpu: 0, fault: Truncated(100) }",
+    printed: "cpu 0 frames 1 arrivals 1 end truncated 100\n\
+              cpu 1 frames 2 arrivals 2 end ok\n\
+              member 0 packets 1 drops 0 freezes 0 blocks 1\n\
+              member 1 packets 2 drops 0 freezes 0 blocks 1\n\
+              total arrivals 3 filtered 0 kept 3 drops 0\n",
+    cpus: &["k0.", "k1.k1."],
+    members: &[ONE, TWO],
+    ..ALL_KEPT
+};
+
+/// The first capture is cut, and the second can't be read beyond its first record.
+const CUT_AND_UNREAD: Case<'static> = Case {
     faults: UNREAD,
     status: "5 ReadFault",
     printed: "cpu 0 frames 1 arrivals 1 end truncated 100\n\
@@ -76,50 +121,12 @@ const CUT_AND_UNREAD: Row<'static> = Row {
     cpus: &["k0.", "k1."],
     given: &[110, 124],
     members: &[ONE, ONE],
-    ..PAIR
+    ..ALL_KEPT
 };
 
-/// The second read of the second capture fails.
-const UNREAD: Faults<'static> = Faults {
-    file: "b.pcap",
-    piece: 124,
-    reads: &[2],
-    ..NO_FAULT
-};
-
-/// The first capture is cut in its second record.
-const CUT: Row<'static> = Row {
-    captures: &[
-        Capture {
-            frames: &[SMALL; 2],
-            cut: 110,
-            ..NO_FRAME
-        },
-        Capture {
-            name: "b.pcap",
-            frames: &[SMALL; 2],
-            ..NO_FRAME
-        },
-    ],
-    status: "4 Damaged { cpu: 0, fault: Truncated(100) }",
-    printed: "cpu 0 frames 1 arrivals 1 end truncated 100\n\
-              cpu 1 frames 2 arrivals 2 end ok\n\
-              member 0 packets 1 drops 0 freezes 0 blocks 1\n\
-              member 1 packets 2 drops 0 freezes 0 blocks 1\n\
-              total arrivals 3 filtered 0 kept 3 drops 0\n",
-    cpus: &["k0.", "k1.k1."],
-    members: &[ONE, TWO],
-    ..PAIR
-};
-
-/// One capture, for one member with a dump.
-const ALONE: Row<'static> = Row {
-    dump: true,
-    ..NOTHING
-};
-
-static RUNS: [Row<'static>; 11] = [
-    Row {
+/// Of two captures one is cut.
+static CUT_CASES: [Case<'static>; 6] = [
+    Case {
         name: "a cut and a save",
         faults: Faults {
             saves: &[3],
@@ -127,9 +134,9 @@ static RUNS: [Row<'static>; 11] = [
         },
         status: "6 WriteFault",
         absent: &["out.1.pcap"],
-        ..CUT
+        ..CUT_KEPT
     },
-    Row {
+    Case {
         name: "a cut and a write",
         faults: Faults {
             write: 2,
@@ -137,13 +144,13 @@ static RUNS: [Row<'static>; 11] = [
         },
         status: "6 WriteFault",
         printed: "cpu 0 frames 1 arrivals 1 end truncated 100\ncpu 1 ",
-        ..CUT
+        ..CUT_KEPT
     },
-    Row {
+    Case {
         name: "a cut and a read",
         ..CUT_AND_UNREAD
     },
-    Row {
+    Case {
         name: "a cut, a read and a save",
         faults: Faults {
             saves: &[2],
@@ -153,14 +160,30 @@ static RUNS: [Row<'static>; 11] = [
         absent: &["out.0.blk"],
         ..CUT_AND_UNREAD
     },
-    Row {
+    Case {
         name: "a cut, a read and a write",
         faults: Faults { write: 1, ..UNREAD },
         status: "6 WriteFault",
         printed: "",
         ..CUT_AND_UNREAD
     },
-    Row {
+    Case {
+        name: "no file can be saved and no line printed",
+        faults: Faults {
+            saves: &[1, 2, 3, 4],
+            write: 1,
+            ..UNREAD
+        },
+        status: "6 WriteFault",
+        printed: "",
+        absent: &["out.0.pcap", "out.0.blk", "out.1.pcap", "out.1.blk"],
+        ..CUT_AND_UNREAD
+    },
+];
+
+/// Two captures that are whole.
+static WHOLE_CASES: [Case<'static>; 2] = [
+    Case {
         name: "a fetch, a read and a save",
         faults: Faults {
             fetches: &[3],
@@ -177,9 +200,9 @@ static RUNS: [Row<'static>; 11] = [
         given: &[0, 124],
         members: &[NONE, ONE],
         absent: &["out.0.pcap"],
-        ..PAIR
+        ..ALL_KEPT
     },
-    Row {
+    Case {
         name: "two saves and a write",
         faults: Faults {
             saves: &[1, 4],
@@ -191,8 +214,18 @@ static RUNS: [Row<'static>; 11] = [
                   cpu 1 frames 2 arrivals 2 end ok\n\
                   member 0 packets 2 drops 0 freezes",
         absent: &["out.0.pcap", "out.1.blk"],
-        ..PAIR
+        ..ALL_KEPT
     },
+];
+
+/// One capture, for one member with a dump.
+const ALONE: Row<'static> = Row {
+    dump: true,
+    ..NOTHING
+};
+
+/// Other captures.
+static RUNS: [Row<'static>; 3] = [
     Row {
         name: "damage at a later place of the lower CPU",
         captures: &[
@@ -260,21 +293,27 @@ static RUNS: [Row<'static>; 11] = [
         members: &[ONE],
         ..ALONE
     },
-    Row {
-        name: "no file can be saved and no line printed",
-        faults: Faults {
-            saves: &[1, 2, 3, 4],
-            write: 1,
-            ..UNREAD
-        },
-        status: "6 WriteFault",
-        printed: "",
-        absent: &["out.0.pcap", "out.0.blk", "out.1.pcap", "out.1.blk"],
-        ..CUT_AND_UNREAD
-    },
 ];
+
+/// The cases of the capture that is cut. Each table stands in the proof of one function alone, since
+/// that grows faster than the table.
+fn cut_cases() -> &'static [Case<'static>] {
+    &CUT_CASES
+}
+
+/// The cases of the captures that are whole.
+fn whole_cases() -> &'static [Case<'static>] {
+    &WHOLE_CASES
+}
+
+/// The rows of other captures.
+fn runs() -> &'static [Row<'static>] {
+    &RUNS
+}
 
 #[test]
 fn two_things_fail_in_a_replay(rt: HostRuntime) -> Result<(), Fail> {
-    check_rows(&rt, rt.alloc(), &RUNS)
+    check_cases(&rt, rt.alloc(), &CUT, cut_cases())?;
+    check_cases(&rt, rt.alloc(), &WHOLE, whole_cases())?;
+    check_rows(&rt, rt.alloc(), runs())
 }
