@@ -4,12 +4,17 @@ use std::alloc::Global;
 use std::process::Abort;
 use std::test::Fail;
 
+/// Holds what was found at a row to nothing.
+pub(crate) fn check_found(rt: &impl Abort, name: &str, found: &str) {
+    assert_eq!(rt; found, "", "{name}");
+}
+
 /// Carries out each row as it is, with its blocks dumped, and over a store that has no fault:
 /// nothing may differ from it.
 pub(crate) fn check_rows(rt: &impl Abort, alloc: Global, rows: &[Row<'_>]) -> Result<(), Fail> {
     for row in rows {
         let found = differences(alloc, row)?;
-        assert_eq!(rt; found.as_str(), "", "{}", row.name);
+        check_found(rt, row.name, found.as_str());
     }
     Ok(())
 }
@@ -18,7 +23,7 @@ pub(crate) fn check_rows(rt: &impl Abort, alloc: Global, rows: &[Row<'_>]) -> Re
 pub(crate) fn check_once(rt: &impl Abort, alloc: Global, rows: &[Row<'_>]) -> Result<(), Fail> {
     for row in rows {
         let found = difference(alloc, row)?;
-        assert_eq!(rt; found.as_str(), "", "{}", row.name);
+        check_found(rt, row.name, found.as_str());
     }
     Ok(())
 }

@@ -1,4 +1,5 @@
 //! A pcapng capture of one frame, replayed.
+use crate::checking::check_found;
 use frame_view::{Memory, MomentList};
 use row_building::{report_of, store, wrong_files};
 use run_building::{Answer, Kept, NOTHING, Row, answer_on};
@@ -99,6 +100,24 @@ fn replayed(
     Ok((answer, out, files))
 }
 
+/// Which part of an answer is wrong, and what was found; empty where none is.
+fn wrong_part<'a>(
+    row: &Row<'_>,
+    report: &str,
+    answer: &'a Answer,
+    written: &'a [u8],
+) -> (&'static str, &'a str) {
+    if !answer.status.as_str().starts_with(row.status) {
+        ("status ", answer.status.as_str())
+    } else if written != row.printed.as_bytes() {
+        ("printed ", str::from_utf8(written).unwrap_or("no text"))
+    } else if answer.report.as_str() != report {
+        ("report ", answer.report.as_str())
+    } else {
+        ("", "")
+    }
+}
+
 /// What of an answer is wrong, with what was found; empty where nothing is.
 fn wrong_answer(
     alloc: Global,
@@ -107,17 +126,33 @@ fn wrong_answer(
     written: &[u8],
 ) -> Result<String, Memory> {
     let report = report_of(alloc, row)?;
-    if !answer.status.as_str().starts_with(row.status) {
-        return Ok(format!(in alloc; "status {}", answer.status.as_str())?);
-    }
-    if written != row.printed.as_bytes() {
-        let printed = str::from_utf8(written).unwrap_or("no text");
-        return Ok(format!(in alloc; "printed {printed}")?);
-    }
-    if answer.report.as_str() != report.as_str() {
-        return Ok(format!(in alloc; "report {}", answer.report.as_str())?);
-    }
-    Ok(String::new(alloc))
+    let (part, found) = wrong_part(row, report.as_str(), answer, written);
+    Ok(format!(in alloc; "{part}{found}")?)
+}
+
+/// Adds which files aren't as a row says.
+fn add_wrong_files(
+    alloc: Global,
+    row: &Row<'_>,
+    files: &MemStore,
+    found: &mut String,
+) -> Result<(), Memory> {
+    let wrong = wrong_files(alloc, row, files)?;
+    found.push_str(wrong.as_str())?;
+    Ok(())
+}
+
+/// What an answer, its lines and its files differ in from a row, with what was found.
+fn wrong_end(
+    alloc: Global,
+    row: &Row<'_>,
+    answer: &Answer,
+    written: &[u8],
+    files: &MemStore,
+) -> Result<String, Memory> {
+    let mut found = wrong_answer(alloc, row, answer, written)?;
+    add_wrong_files(alloc, row, files, &mut found)?;
+    Ok(found)
 }
 
 /// What such a replay differs in from a row, with what was found; empty where it doesn't.
@@ -128,9 +163,7 @@ fn difference_of(
     piece: usize,
 ) -> Result<String, Memory> {
     let (answer, out, files) = replayed(alloc, row, capture, piece)?;
-    let mut found = wrong_answer(alloc, row, &answer, out.written())?;
-    found.push_str(wrong_files(alloc, row, &files)?.as_str())?;
-    Ok(found)
+    wrong_end(alloc, row, &answer, out.written(), &files)
 }
 
 /// Carries out a replay of a capture, of which one read gives at most `piece`: nothing may differ from
@@ -143,8 +176,7 @@ fn check_capture(
     piece: usize,
 ) -> Result<(), Fail> {
     let found = difference_of(alloc, row, capture, piece)?;
-    let length = capture.len();
-    assert_eq!(rt; found.as_str(), "", "{length} bytes, {piece} at a time");
+    check_found(rt, row.name, found.as_str());
     Ok(())
 }
 
@@ -164,14 +196,20 @@ fn a_big_endian_frame(rt: HostRuntime) -> Result<(), Fail> {
     Ok(())
 }
 
-/// A capture with a block of 1,000,000 bytes before its packet that is skipped.
-fn with_long_block(alloc: Global, capture: &[u8]) -> Result<Vec<u8>, Memory> {
-    let (start, packet) = capture.split_at(48.min(capture.len()));
-    let mut bytes = start.to_vec(alloc)?;
+/// Adds a block of 1,000,000 bytes that is skipped, and the packet after it.
+fn push_long_block(alloc: Global, packet: &[u8], bytes: &mut Vec<u8>) -> Result<(), Memory> {
     bytes.extend_from_slice(b"\x00\x0b\x00\x00\x40\x42\x0f\x00")?;
     bytes.extend_from_slice(vec![in alloc; 0; 999_988]?.as_slice())?;
     bytes.extend_from_slice(b"\x40\x42\x0f\x00")?;
     bytes.extend_from_slice(packet)?;
+    Ok(())
+}
+
+/// A capture with a block of 1,000,000 bytes before its packet that is skipped.
+fn with_long_block(alloc: Global, capture: &[u8]) -> Result<Vec<u8>, Memory> {
+    let (start, packet) = capture.split_at(48.min(capture.len()));
+    let mut bytes = start.to_vec(alloc)?;
+    push_long_block(alloc, packet, &mut bytes)?;
     Ok(bytes)
 }
 
