@@ -1,6 +1,6 @@
 //! A fault is counted at each fetch and each save that succeeds: nothing fails.
 use crate::commands::{Command, commands};
-use crate::differing::{add, add_answer, add_printed, add_wrong_files};
+use crate::differing::{add, add_answer, add_printed, add_wrong_files, check_none};
 use frame_view::{Memory, MomentList};
 use row_building::{CountingStore, Row, report_of, store};
 use run_building::{Answer, answer_on};
@@ -89,6 +89,6 @@ fn add_all_counted(alloc: Global, commands: &[Command], found: &mut String) -> R
 fn what_succeeds_is_counted_as_a_fault(rt: HostRuntime) -> Result<(), Fail> {
     let mut found = String::new(rt.alloc());
     add_all_counted(rt.alloc(), commands(), &mut found)?;
-    assert_eq!(rt; found.as_str(), "");
+    check_none(&rt, found.as_str());
     Ok(())
 }

@@ -1,8 +1,10 @@
 //! What differs from a row, added to what was found before.
+use crate::commands::Command;
 use frame_view::Memory;
 use row_building::wrong_files;
-use run_building::{Row, difference};
+use run_building::{Faults, Row, difference};
 use std::alloc::Global;
+use std::process::Abort;
 use std::str;
 use tap_outside::MemStore;
 
@@ -36,6 +38,27 @@ pub(crate) fn add_difference(
     add_any(row, wrong.as_str(), found)
 }
 
+/// Carries out a command with calls that fail: its status, its lines, and the files that aren't there
+/// are these. Adds what differs from that.
+pub(crate) fn add_faulty(
+    alloc: Global,
+    command: &Command,
+    faults: Faults<'static>,
+    status: &'static str,
+    printed: &'static str,
+    absent: &'static [&'static str],
+    found: &mut String,
+) -> Result<(), Memory> {
+    let row = Row {
+        faults,
+        status,
+        printed,
+        absent,
+        ..command.row
+    };
+    add_difference(alloc, &row, found)
+}
+
 /// Adds what of the files isn't as a row says.
 pub(crate) fn add_wrong_files(
     alloc: Global,
@@ -61,4 +84,9 @@ pub(crate) fn add_answer(
 /// Adds printed bytes that are wrong.
 pub(crate) fn add_printed(row: &Row<'_>, printed: &[u8], found: &mut String) -> Result<(), Memory> {
     add(row, str::from_utf8(printed).unwrap_or("no text"), found)
+}
+
+/// Holds all that was found to nothing.
+pub(crate) fn check_none(rt: &impl Abort, found: &str) {
+    assert_eq!(rt; found, "");
 }

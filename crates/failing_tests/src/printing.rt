@@ -1,8 +1,8 @@
 //! Each write fails in turn.
 use crate::commands::{Command, commands, no_fault};
-use crate::differing::add_difference;
+use crate::differing::{add_faulty, check_none};
 use frame_view::Memory;
-use run_building::{Faults, Row};
+use run_building::Faults;
 use std::alloc::Global;
 use std::str;
 use std::test::Fail;
@@ -24,16 +24,21 @@ fn add_unwritten(
     writes: usize,
     found: &mut String,
 ) -> Result<(), Memory> {
-    let row = Row {
-        faults: Faults {
-            write: (writes as u64).saturating_add(1),
-            ..no_fault()
-        },
-        status: "6 WriteFault",
-        printed: written(command.row.printed, writes),
-        ..command.row
+    let faults = Faults {
+        write: (writes as u64).saturating_add(1),
+        ..no_fault()
     };
-    add_difference(alloc, &row, found)
+    let printed = written(command.row.printed, writes);
+    let absent = command.row.absent;
+    add_faulty(
+        alloc,
+        command,
+        faults,
+        "6 WriteFault",
+        printed,
+        absent,
+        found,
+    )
 }
 
 /// Adds what a command differs in, for each write that fails in turn.
@@ -60,6 +65,6 @@ fn add_all_unwritten(
 fn each_write_fails(rt: HostRuntime) -> Result<(), Fail> {
     let mut found = String::new(rt.alloc());
     add_all_unwritten(rt.alloc(), commands(), &mut found)?;
-    assert_eq!(rt; found.as_str(), "");
+    check_none(&rt, found.as_str());
     Ok(())
 }

@@ -1,7 +1,7 @@
 //! Each read of each text fails in turn, and each of a capture that is sent; then each file is read
 //! one byte at a time.
 use crate::commands::{Command, commands, no_fault, sending};
-use crate::differing::add_difference;
+use crate::differing::{add_difference, add_faulty, check_none};
 use frame_view::Memory;
 use run_building::{Faults, Kept, Row};
 use std::alloc::Global;
@@ -15,7 +15,20 @@ const NO_CPU: &[&str] = &[];
 
 const NO_MEMBER: &[Kept<'static>] = &[];
 
-/// Adds what a command differs in where reads of a text fail: one line, no report, no file.
+/// What a command ends with where calls fail and a text isn't read: one line, no report, no file.
+fn without_text(command: &Command, faults: Faults<'static>) -> Row<'static> {
+    Row {
+        faults,
+        status: "5 ReadFault",
+        printed: "read fault\n",
+        cpus: NO_CPU,
+        members: NO_MEMBER,
+        absent: command.saves,
+        ..command.row
+    }
+}
+
+/// Adds what a command differs in where reads of a text fail.
 fn add_unread(
     alloc: Global,
     command: &Command,
@@ -23,21 +36,13 @@ fn add_unread(
     reads: &'static [u64],
     found: &mut String,
 ) -> Result<(), Memory> {
-    let row = Row {
-        faults: Faults {
-            file,
-            piece: 20,
-            reads,
-            ..no_fault()
-        },
-        status: "5 ReadFault",
-        printed: "read fault\n",
-        cpus: NO_CPU,
-        members: NO_MEMBER,
-        absent: command.saves,
-        ..command.row
+    let faults = Faults {
+        file,
+        piece: 20,
+        reads,
+        ..no_fault()
     };
-    add_difference(alloc, &row, found)
+    add_difference(alloc, &without_text(command, faults), found)
 }
 
 /// Adds what a command differs in, for the first reads of a text that fail in turn.
@@ -74,7 +79,7 @@ fn add_all_unread(alloc: Global, commands: &[Command], found: &mut String) -> Re
 fn each_read_of_each_text_fails(rt: HostRuntime) -> Result<(), Fail> {
     let mut found = String::new(rt.alloc());
     add_all_unread(rt.alloc(), commands(), &mut found)?;
-    assert_eq!(rt; found.as_str(), "");
+    check_none(&rt, found.as_str());
     Ok(())
 }
 
@@ -88,16 +93,22 @@ fn add_piece(
     reads: &'static [u64],
     found: &mut String,
 ) -> Result<(), Memory> {
-    let row = Row {
-        faults: Faults {
-            file,
-            piece,
-            reads,
-            ..no_fault()
-        },
-        ..command.row
+    let faults = Faults {
+        file,
+        piece,
+        reads,
+        ..no_fault()
     };
-    add_difference(alloc, &row, found)
+    let row = &command.row;
+    add_faulty(
+        alloc,
+        command,
+        faults,
+        row.status,
+        row.printed,
+        row.absent,
+        found,
+    )
 }
 
 /// Adds what a command differs in where each text in turn would fail after its last read, and is
@@ -132,7 +143,7 @@ fn add_all_pieces(alloc: Global, commands: &[Command], found: &mut String) -> Re
 fn pieces_of_a_file_are_the_file(rt: HostRuntime) -> Result<(), Fail> {
     let mut found = String::new(rt.alloc());
     add_all_pieces(rt.alloc(), commands(), &mut found)?;
-    assert_eq!(rt; found.as_str(), "");
+    check_none(&rt, found.as_str());
     Ok(())
 }
 
@@ -162,6 +173,11 @@ static SENT: [Sent; 4] = [
         &[0, 1, 2],
     ),
 ];
+
+/// Those reads. The table stands in the proof of this function alone.
+fn sent() -> &'static [Sent] {
+    &SENT
+}
 
 /// Adds what a `send` differs in where a read of its capture fails.
 fn add_sent(
@@ -197,7 +213,7 @@ fn add_all_sent(alloc: Global, all: &[Sent], found: &mut String) -> Result<(), M
 #[test]
 fn each_read_of_a_sent_capture_fails(rt: HostRuntime) -> Result<(), Fail> {
     let mut found = String::new(rt.alloc());
-    add_all_sent(rt.alloc(), &SENT, &mut found)?;
-    assert_eq!(rt; found.as_str(), "");
+    add_all_sent(rt.alloc(), sent(), &mut found)?;
+    check_none(&rt, found.as_str());
     Ok(())
 }

@@ -1,40 +1,56 @@
 //! Each save fails in turn.
 use crate::commands::{Command, commands, no_fault};
-use crate::differing::add_difference;
+use crate::differing::{add_faulty, check_none};
 use frame_view::Memory;
-use run_building::{Faults, Row};
+use run_building::Faults;
 use std::alloc::Global;
 use std::test::Fail;
 
-/// Adds what a command differs in where one save fails: it ends with status 6, its report and its
-/// lines, and every other file is saved.
+/// Saves, by their numbers.
+static SAVES: [&[u64]; 4] = [&[1], &[2], &[3], &[4]];
+
+/// Adds what a command differs in where saves fail: it ends with status 6, its report and its lines,
+/// and every file but these is saved.
 fn add_unsaved(
     alloc: Global,
     command: &Command,
-    save: u64,
-    file: &str,
+    saves: &'static [u64],
+    absent: &'static [&'static str],
     found: &mut String,
 ) -> Result<(), Memory> {
-    let saves = [save];
-    let absent = [file];
-    let row = Row {
-        faults: Faults {
-            saves: &saves,
-            ..no_fault()
-        },
-        status: "6 WriteFault",
-        absent: &absent,
-        ..command.row
+    let faults = Faults {
+        saves,
+        ..no_fault()
     };
-    add_difference(alloc, &row, found)
+    let printed = command.row.printed;
+    add_faulty(
+        alloc,
+        command,
+        faults,
+        "6 WriteFault",
+        printed,
+        absent,
+        found,
+    )
+}
+
+/// Adds what a command differs in where the save at a place, from 0, fails.
+fn add_unsaved_file(
+    alloc: Global,
+    command: &Command,
+    place: usize,
+    found: &mut String,
+) -> Result<(), Memory> {
+    let saves = SAVES.get(place).copied().unwrap_or(&[]);
+    let next = place.saturating_add(1);
+    let absent = command.saves.get(place..next).unwrap_or(&[]);
+    add_unsaved(alloc, command, saves, absent, found)
 }
 
 /// Adds what a command differs in, for each save that fails in turn.
 fn add_each_unsaved(alloc: Global, command: &Command, found: &mut String) -> Result<(), Memory> {
-    let mut save: u64 = 0;
-    for file in command.saves {
-        save = save.saturating_add(1);
-        add_unsaved(alloc, command, save, file, found)?;
+    for place in 0..command.saves.len() {
+        add_unsaved_file(alloc, command, place, found)?;
     }
     Ok(())
 }
@@ -51,25 +67,19 @@ fn add_all_unsaved(alloc: Global, commands: &[Command], found: &mut String) -> R
 fn each_save_fails(rt: HostRuntime) -> Result<(), Fail> {
     let mut found = String::new(rt.alloc());
     add_all_unsaved(rt.alloc(), commands(), &mut found)?;
-    assert_eq!(rt; found.as_str(), "");
+    check_none(&rt, found.as_str());
     Ok(())
 }
+
+/// All saves.
+static ALL: [u64; 4] = [1, 2, 3, 4];
 
 /// Adds what a command differs in where all its saves fail, if it has any.
 fn add_lost(alloc: Global, command: &Command, found: &mut String) -> Result<(), Memory> {
     if command.saves.is_empty() {
         return Ok(());
     }
-    let row = Row {
-        faults: Faults {
-            saves: &[1, 2, 3, 4],
-            ..no_fault()
-        },
-        status: "6 WriteFault",
-        absent: command.saves,
-        ..command.row
-    };
-    add_difference(alloc, &row, found)
+    add_unsaved(alloc, command, &ALL, command.saves, found)
 }
 
 /// Adds what each command differs in where all its saves fail.
@@ -84,6 +94,6 @@ fn add_all_lost(alloc: Global, commands: &[Command], found: &mut String) -> Resu
 fn all_saves_fail(rt: HostRuntime) -> Result<(), Fail> {
     let mut found = String::new(rt.alloc());
     add_all_lost(rt.alloc(), commands(), &mut found)?;
-    assert_eq!(rt; found.as_str(), "");
+    check_none(&rt, found.as_str());
     Ok(())
 }
