@@ -31,6 +31,7 @@ to 20,000 made frames, where memory grows by more than 256 bytes for each frame 
 keeps all frames, with a member for each CPU, takes more than 2.5 times the CPU time of the replay.
 """
 import argparse
+import filecmp
 import glob
 import os
 import shutil
@@ -212,11 +213,7 @@ def instructions_of(words):
 
 def same_files(members):
     """Whether both programs saved the same packets."""
-    for member in range(members):
-        with open(f"out.{member}.pcap", "rb") as one, open(f"plain.{member}.pcap", "rb") as other:
-            if one.read() != other.read():
-                return False
-    return True
+    return all(filecmp.cmp(f"out.{member}.pcap", f"plain.{member}.pcap", shallow=False) for member in range(members))
 
 
 def times_of_plain(program, asked):
