@@ -504,8 +504,7 @@ fn ends_poor(alloc: Global, poor_call: u64, poor_write: u64) -> Result<bool, Mem
         ..REPLAY
     };
     let (answer, printed) = carry_out(alloc, &row)?;
-    let ends = printed.as_str().ends_with("out of memory\n");
-    Ok(ends && answer.status.as_str() == "7 Memory" && answer.report.is_empty())
+    Ok(answer.is_out_of_memory(printed.as_str()))
 }
 
 /// Each of these calls of the store and writes ends the command where it is out of memory.

@@ -1,7 +1,9 @@
 //! A save of a `forward` that fails, and one that is out of memory.
-use crate::rows::{check_row, check_same, ends_without_memory};
+use crate::rows::{check_row, check_same};
 use cpu_feeders::NoGate;
-use run_building::{Capture, Faults, Kept, NO_FAULT, NO_FRAME, NOTHING, Row, Shape};
+use run_building::{
+    Capture, Faults, Kept, NO_FAULT, NO_FRAME, NOTHING, Row, Shape, ends_out_of_memory,
+};
 use std::alloc::Global;
 use std::process::Abort;
 use std::sync::Wait;
@@ -104,7 +106,7 @@ fn poor_row(poor_call: u64) -> Row<'static> {
 #[test]
 fn a_call_that_is_out_of_memory_ends_the_run(rt: HostRuntime) -> Result<(), Fail> {
     for call in 1..=8 {
-        let ends = ends_without_memory(&rt, rt.alloc(), &poor_row(call))?;
+        let ends = ends_out_of_memory(&rt, rt.alloc(), &poor_row(call))?;
         check_same(&rt, &(call, ends), &(call, true));
     }
     Ok(())

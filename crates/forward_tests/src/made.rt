@@ -7,7 +7,7 @@ use cpu_feeders::NoGate;
 use frame_view::{ByteList, Memory, MomentList};
 use made_captures::made_sources;
 use ring_model::{Note, Notes, Offer};
-use run_building::{outcome_on_threads, push_fields};
+use run_building::{number_after, outcome_on_threads, push_fields};
 use std::alloc::Global;
 use std::process::Abort;
 use std::str;
@@ -162,16 +162,6 @@ fn kept_and_saved(alloc: Global, captured: &Captured) -> Result<Option<usize>, M
         sum = sum.saturating_add(kept);
     }
     Ok(Some(sum))
-}
-
-/// The number after a word of a line; 0 where the line hasn't the word.
-fn number_after(line: &str, word: &str) -> usize {
-    let (_, rest) = line.split_once(word).unwrap_or(("", ""));
-    rest.split(' ')
-        .next()
-        .unwrap_or("")
-        .parse::<usize>()
-        .unwrap_or(0)
 }
 
 /// Whether the lines begin and end as they must, and how many frames were kept and dropped.

@@ -1,6 +1,8 @@
 //! The outside fails under a pool: a read, and each call that is out of memory.
-use crate::rows::{check_rows, check_same, ends_without_memory};
-use run_building::{Capture, Faults, Kept, NO_FAULT, NO_FRAME, NOTHING, Row, Shape};
+use crate::rows::{check_rows, check_same};
+use run_building::{
+    Capture, Faults, Kept, NO_FAULT, NO_FRAME, NOTHING, Row, Shape, ends_out_of_memory,
+};
 use std::alloc::Global;
 use std::process::Abort;
 use std::sync::Wait;
@@ -109,7 +111,7 @@ fn check_poor<R: Threads + Wait + Abort + Sync>(
     calls: &[(u64, u64)],
 ) -> Result<(), Fail> {
     for (call, write) in calls {
-        let ends = ends_without_memory(rt, alloc, &poor_row(*call, *write))?;
+        let ends = ends_out_of_memory(rt, alloc, &poor_row(*call, *write))?;
         check_same(rt, &(*call, *write, ends), &(*call, *write, true));
     }
     Ok(())

@@ -1,7 +1,6 @@
 //! Rows, carried out on threads, and what they come to.
 use cpu_feeders::{Gate, NoGate};
-use frame_view::Memory;
-use run_building::{Ran, Row, carry_out_on_threads, difference_on_threads};
+use run_building::{Row, difference_on_threads};
 use std::alloc::Global;
 use std::fmt::Debug;
 use std::process::Abort;
@@ -37,20 +36,4 @@ pub(crate) fn check_rows<R: Threads + Wait + Abort + Sync>(
         check_row(rt, alloc, &Row { dump: true, ..*row }, &NoGate)?;
     }
     Ok(())
-}
-
-/// Whether a run ended with status 7, its line and no report.
-fn is_out_of_memory((answer, printed, _): &Ran) -> bool {
-    let ends = printed.as_str().ends_with("out of memory\n");
-    ends && answer.status.as_str() == "7 Memory" && answer.report.is_empty()
-}
-
-/// Whether the run of a row ends out of memory.
-pub(crate) fn ends_without_memory<R: Threads + Wait + Sync>(
-    rt: &R,
-    alloc: Global,
-    row: &Row<'_>,
-) -> Result<bool, Memory> {
-    let ran = carry_out_on_threads(rt, alloc, row, &NoGate)?;
-    Ok(is_out_of_memory(&ran))
 }

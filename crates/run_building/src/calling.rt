@@ -70,6 +70,14 @@ pub(crate) fn text_of(alloc: Global, bytes: &[u8]) -> Result<String, Memory> {
     Ok(String::from_str(alloc, text)?)
 }
 
+impl Answer {
+    /// Whether a command that prints this ended with status 7, no report and its line.
+    pub fn is_out_of_memory(&self, printed: &str) -> bool {
+        let ends = printed.ends_with("out of memory\n");
+        ends && self.status.as_str() == "7 Memory" && self.report.is_empty()
+    }
+}
+
 /// What a row's command answers, what it prints, and the files after it.
 pub type Ran = (Answer, String, MemStore);
 

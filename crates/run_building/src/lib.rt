@@ -4,13 +4,16 @@
 
 mod calling;
 mod comparing;
+mod numbers;
 mod threads;
 
 pub use calling::{Answer, Ran, answer_on, carry_out};
 pub use comparing::{difference, differences};
+pub use numbers::number_after;
 pub use row_building::{
     Capture, Faults, Kept, NO_FAULT, NO_FRAME, NOTHING, PAGES, Row, Shape, push_fields,
 };
 pub use threads::{
-    answer_on_threads, carry_out_on_threads, difference_on_threads, outcome_on_threads,
+    answer_on_threads, carry_out_on_threads, difference_on_threads, ends_out_of_memory,
+    outcome_on_threads,
 };

@@ -3,7 +3,7 @@ ghost use Rattle.std.specs.Prelude.{List, ℕ, IsTrue};
 
 use crate::calling::{Answer, Ran, answer_of, faulty_sink, is_faulty, text_of, words_of};
 use crate::comparing::wrong_answer;
-use cpu_feeders::Gate;
+use cpu_feeders::{Gate, NoGate};
 use frame_view::{Memory, MomentList};
 use row_building::{PoorStore, Row, store, wrong_files};
 use std::alloc::Global;
@@ -116,4 +116,14 @@ pub fn difference_on_threads<G: Gate + Sync, R: Threads + Wait + Sync>(
     let mut found = wrong_answer(alloc, row, &untimed, printed.as_str())?;
     found.push_str(wrong_files(alloc, row, &files)?.as_str())?;
     Ok(found)
+}
+
+/// Whether a row's command ends with status 7, no report and its line.
+pub fn ends_out_of_memory<R: Threads + Wait + Sync>(
+    rt: &R,
+    alloc: Global,
+    row: &Row<'_>,
+) -> Result<bool, Memory> {
+    let (answer, printed, _) = carry_out_on_threads(rt, alloc, row, &NoGate)?;
+    Ok(answer.is_out_of_memory(printed.as_str()))
 }

@@ -6,7 +6,7 @@ use crate::run::{check_same, run_over};
 use cpu_feeders::NoGate;
 use frame_view::{ByteList, Memory};
 use made_captures::made_sources;
-use run_building::Answer;
+use run_building::{Answer, number_after};
 use std::alloc::Global;
 use std::sync::Wait;
 use std::test::Fail;
@@ -70,16 +70,6 @@ fn capture_made<R: Threads + Wait + Sync>(
         sources: made_sources(alloc, 1, 20_000, 2)?,
     };
     run_over(rt, alloc, &["capture", "conf"], &mut files, &NoGate)
-}
-
-/// The number after a word of a line; 0 where the line hasn't the word.
-fn number_after(line: &str, word: &str) -> usize {
-    let (_, rest) = line.split_once(word).unwrap_or(("", ""));
-    rest.split(' ')
-        .next()
-        .unwrap_or("")
-        .parse::<usize>()
-        .unwrap_or(0)
 }
 
 /// The sum of the numbers after a word, over the lines that begin with another one.

@@ -1,9 +1,8 @@
 //! The outside fails under threads: a read, and each call that is out of memory.
 use crate::run::{check_row, check_rows, check_same, no_fault};
 use cpu_feeders::NoGate;
-use frame_view::Memory;
 use run_building::{
-    Capture, Faults, Kept, NO_FAULT, NO_FRAME, NOTHING, Ran, Row, Shape, carry_out_on_threads,
+    Capture, Faults, Kept, NO_FAULT, NO_FRAME, NOTHING, Row, Shape, ends_out_of_memory,
 };
 use std::alloc::Global;
 use std::process::Abort;
@@ -117,22 +116,6 @@ fn poor_row(poor_call: u64, poor_write: u64) -> Row<'static> {
     }
 }
 
-/// Whether a capture ended with status 7, no report and its line.
-fn is_out_of_memory((answer, printed, _): &Ran) -> bool {
-    let ends = printed.as_str().ends_with("out of memory\n");
-    ends && answer.status.as_str() == "7 Memory" && answer.report.is_empty()
-}
-
-/// Whether the capture of a row ends out of memory.
-fn ends_without_memory<R: Threads + Wait + Sync>(
-    rt: &R,
-    alloc: Global,
-    row: &Row<'_>,
-) -> Result<bool, Memory> {
-    let ran = carry_out_on_threads(rt, alloc, row, &NoGate)?;
-    Ok(is_out_of_memory(&ran))
-}
-
 /// Carries out the capture where a call of the store or a write is out of memory; where none of them
 /// is reached it is as ever.
 fn check_call<R: Threads + Wait + Abort + Sync>(
@@ -145,7 +128,7 @@ fn check_call<R: Threads + Wait + Abort + Sync>(
     if call > 5 || call == 0 && write == 0 {
         return check_row(rt, alloc, &row, &NoGate);
     }
-    let ends = ends_without_memory(rt, alloc, &row)?;
+    let ends = ends_out_of_memory(rt, alloc, &row)?;
     check_same(rt, &(call, write, ends), &(call, write, true));
     Ok(())
 }
