@@ -54,7 +54,7 @@ pub fn close_member(
 {
     let seats = as_seats(alloc, stands)?;
     let ring = member.lock.close(seats);
-    let (feeder, notes) = ring.producer.finish();
+    let (feeder, notes) = Box::into_inner(ring.producer).finish();
     let pending = finish(alloc, feeder, walker)?;
     Ok(ClosedMember { notes, pending })
 }

@@ -16,12 +16,12 @@ use turn_lock::Kept;
 /// the timer's, those of ticks.
 #[derive(Drop)]
 pub struct MemberRing {
-    /// The feeder's side of the ring.
-    pub(crate) producer: Producer<TableFeeder<Block>>,
+    /// The feeder's side of the ring. It stands in a box, so that a turn hands on a pointer.
+    pub(crate) producer: Box<Producer<TableFeeder<Block>>>,
     /// How many CPUs put frames into it.
     pub(crate) cpus: u32,
     // The blocks of the ring are of the producer's shape.
-    pub(crate) ghost kind: { producer.end.kind ≡ numbers_of producer.shape },
+    pub(crate) ghost kind: { producer.value.end.kind ≡ numbers_of producer.value.shape },
 }
 
 impl Kept for MemberRing {
@@ -29,12 +29,12 @@ impl Kept for MemberRing {
 
     type Base = RingBase;
 
-    ghost stored = { λ ring. ring.producer.notes };
+    ghost stored = { λ ring. ring.producer.value.notes };
 
     ghost base = { λ ring. record {
-      shape = ring.producer.shape;
+      shape = ring.producer.value.shape;
       cpus = ring.cpus;
-      table = table_numbers ring.producer.end.id;
+      table = table_numbers ring.producer.value.end.id;
     } };
 
     ghost may_add = { may_note };

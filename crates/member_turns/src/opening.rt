@@ -45,17 +45,17 @@ fn new_ring(
     shape: &Shape,
     cpus: u32,
 ) -> Result<(MemberRing, TableWalker<Block>), Memory>
-    ensures shape { IfOk result (λ made. made.0.producer.shape ≡ shape.now) }
-    ensures notes { IfOk result (λ made. made.0.producer.notes ≡ []) }
+    ensures shape { IfOk result (λ made. made.0.producer.value.shape ≡ shape.now) }
+    ensures notes { IfOk result (λ made. made.0.producer.value.notes ≡ []) }
     ensures cpus { IfOk result (λ made. made.0.cpus ≡ cpus) }
-    ensures ring { IfOk result (λ made. made.1.id ≡ made.0.producer.end.id) }
+    ensures ring { IfOk result (λ made. made.1.id ≡ made.0.producer.value.end.id) }
     ensures walker { IfOk result (λ made. made.1
         ≡ fresh_walker made.1.id shape.now.block_nr (numbers_of shape.now)) }
 {
     let _size = shape.block_size();
     let _few = shape.block_nr();
     let (feeder, walker) = table_ring(alloc, blocks(alloc, shape)?)?;
-    let producer = Producer::new(alloc, *shape, feeder)?;
+    let producer = Box::new(alloc, Producer::new(alloc, *shape, feeder)?)?;
     Ok((MemberRing { producer, cpus }, walker))
 }
 
