@@ -1,17 +1,24 @@
 /* The measure of bench/run.py: what `ringtap replay` does with an empty schedule, as a plain C program does it with arrays.
  *
- *     plain_ring IN.pcap PREFIX BLOCK_SIZE BLOCK_NR MEMBERS [key HEX] [filter FILE] [defrag]
+ *     plain_ring IN.pcap PREFIX BLOCK_SIZE BLOCK_NR MEMBERS [key HEX] [filter FILE] [defrag] [records] [cpus N [threads]]
  *
  * It reads a little-endian capture in microseconds in pieces of 64 KiB, takes VLAN tags out, puts IPv4 fragments together
  * where asked, runs a filter, chooses a member by flow hash where there is a key (else member 0), and writes each frame into
  * the member's ring of TPACKET_V3 blocks, which nobody reads until the capture has ended. Then it walks the retired blocks
- * and saves PREFIX.M.pcap in nanoseconds. It keeps no note, no log and no statistics but three counts, and proves nothing. */
+ * and saves PREFIX.M.pcap in nanoseconds. It keeps no note, no log and no statistics but three counts, and proves nothing.
+ *
+ * With `records` it keeps what the report of a replay holds of each frame: the log's entry of its arrival, the note of its offer
+ * with its bytes, and the packet that was read with its bytes, from which the output is then made. A block is freed once it is read.
+ *
+ * With `cpus N` it reads the capture N times, each time for members of its own, one after the other or, with `threads`, each on a
+ * thread, which shares nothing with the others. All is saved by one thread at the end. */
+#include <pthread.h>
 #include <stdint.h>
 #include <stdio.h>
 #include <stdlib.h>
 #include <string.h>
 
-enum { PIECE = 65536, DESCRIPTOR = 48, MAC = 82, NET = 96, MOST_MEMBERS = 8, MOST_DATAGRAMS = 64, MOST_CODES = 4096 };
+enum { PIECE = 65536, DESCRIPTOR = 48, MAC = 82, NET = 96, MOST_CPUS = 8, MOST_MEMBERS = 8, MOST_DATAGRAMS = 64, MOST_CODES = 4096 };
 
 static void fail(const char *why) { fprintf(stderr, "plain_ring: %s\n", why); exit(1); }
 static uint16_t be16(const uint8_t *at) { return (uint16_t)(at[0] << 8 | at[1]); }
@@ -181,8 +188,9 @@ struct datagram {
     uint8_t head[14 + 60];
     struct fragment *fragments;
 };
-static struct datagram held[MOST_DATAGRAMS];
-static int held_count, puts_together;
+static _Thread_local struct datagram held[MOST_DATAGRAMS];
+static _Thread_local int held_count;
+static int puts_together;
 
 static void drop_datagram(int at)
 {
@@ -252,10 +260,62 @@ static int pass(struct frame *f, uint8_t *whole)
     return 1;
 }
 
+/* ---- the records of a report, kept where asked: the fields of ringtap's public types */
+
+enum found { NOT_ASKED, FREE, HELD };
+enum fate { NONE, KEPT, DROPPED };
+struct bytes { uint8_t *at; size_t length, room; };
+struct tag { uint16_t tpid, tci, is_there; };
+struct arrival { uint32_t index, has_ticket; uint64_t ticket; uint32_t hash, verdict, member; enum fate fate; void *more_tries; };
+struct note {
+    uint32_t cpu, index, sec, nsec, wire;
+    struct bytes bytes;
+    struct tag tag;
+    uint32_t snap, hash;
+    uint8_t type;
+    enum found found;
+    uint64_t number;
+};
+struct packet {
+    uint32_t sec, nsec, wire, hash;
+    uint16_t protocol;
+    uint8_t type, from[6];
+    struct bytes bytes;
+    struct tag tag;
+};
+struct list { void *items; size_t count, room; };
+static _Thread_local struct list arrivals_of_cpu;
+static int keeps_records;
+
+static void *push(struct list *list, size_t size)
+{
+    if (list->count == list->room) {
+        list->room = list->room ? 2 * list->room : 4;
+        if (!(list->items = realloc(list->items, size * list->room))) fail("memory");
+    }
+    return (uint8_t *)list->items + size * list->count++;
+}
+
+static struct bytes copy(const uint8_t *from, size_t length)
+{
+    struct bytes bytes = {malloc(length), length, length};
+    if (!bytes.at) fail("memory");
+    memcpy(bytes.at, from, length);
+    return bytes;
+}
+
+static struct tag tag_of(uint32_t tag) { return (struct tag){(uint16_t)(tag >> 16), (uint16_t)tag, tag != 0}; }
+
 /* ---- a member's ring: blocks that nobody reads until the end */
 
-struct ring { uint8_t **blocks; uint64_t opened; uint32_t at, last, packets, first_sec, first_nsec, last_sec, last_nsec; int is_frozen; uint64_t drops; };
-static struct ring rings[MOST_MEMBERS];
+struct ring {
+    uint8_t **blocks;
+    uint64_t opened, drops;
+    uint32_t at, last, packets, first_sec, first_nsec, last_sec, last_nsec;
+    int is_frozen;
+    struct list notes, read;
+};
+static _Thread_local struct ring *rings;
 static uint32_t block_size, block_nr, members;
 
 static void open_block(struct ring *r)
@@ -276,15 +336,22 @@ static void retire(struct ring *r)
     put32(b + 32, r->first_sec); put32(b + 36, r->first_nsec); put32(b + 40, r->last_sec); put32(b + 44, r->last_nsec);
 }
 
-static void put(struct ring *r, const struct frame *f, uint32_t keep, uint32_t hash)
+static uint32_t snap_of(const struct frame *f, uint32_t keep)
 {
-    uint32_t snap = f->length < keep ? f->length : keep;
-    if (snap > block_size - DESCRIPTOR - MAC) snap = block_size - DESCRIPTOR - MAC;
+    uint32_t snap = f->length < keep ? f->length : keep, most = block_size - DESCRIPTOR - MAC;
+    return snap < most ? snap : most;
+}
+
+static uint8_t packet_type(const uint8_t *bytes) { return !memcmp(bytes, "\xff\xff\xff\xff\xff\xff", 6) ? 1 : bytes[0] & 1 ? 2 : 0; }
+
+/* Whether the frame was kept. */
+static int put(struct ring *r, const struct frame *f, uint32_t snap, uint32_t hash)
+{
     uint32_t need = (MAC + snap + 7) / 8 * 8;
-    if (r->is_frozen) { r->drops++; return; }
+    if (r->is_frozen) { r->drops++; return 0; }
     if (r->at + need > block_size) {
         retire(r);
-        if (r->opened == block_nr) { r->is_frozen = 1; r->drops++; return; }
+        if (r->opened == block_nr) { r->is_frozen = 1; r->drops++; return 0; }
         open_block(r);
     }
     uint8_t *p = r->blocks[(r->opened - 1) % block_nr] + r->at;
@@ -297,7 +364,7 @@ static void put(struct ring *r, const struct frame *f, uint32_t keep, uint32_t h
     uint16_t protocol = type >= 0x600 ? type : f->length >= 16 && be16(f->bytes + 14) == 0xffff ? 1 : 4;
     put16(p + 50, __builtin_bswap16(protocol));
     put32(p + 52, 1); put16(p + 56, 1);
-    p[58] = !memcmp(f->bytes, "\xff\xff\xff\xff\xff\xff", 6) ? 1 : f->bytes[0] & 1 ? 2 : 0;
+    p[58] = packet_type(f->bytes);
     p[59] = 6;
     memcpy(p + 60, f->bytes + 6, 6);
     memcpy(p + MAC, f->bytes, snap);
@@ -306,56 +373,140 @@ static void put(struct ring *r, const struct frame *f, uint32_t keep, uint32_t h
     r->last_sec = f->sec; r->last_nsec = f->nsec;
     r->last = r->at;
     r->at += need;
+    return 1;
+}
+
+/* The log's entry of an arrival, and the note of its offer where there was one. */
+static void record(struct ring *r, const struct frame *f, uint32_t index, uint32_t verdict, uint32_t hash, enum fate fate, enum found found)
+{
+    struct arrival *arrival = push(&arrivals_of_cpu, sizeof *arrival);
+    *arrival = (struct arrival){.index = index, .hash = hash, .verdict = verdict, .member = (uint32_t)(r - rings), .fate = fate};
+    if (fate == NONE) return;
+    struct note *note = push(&r->notes, sizeof *note);
+    *note = (struct note){.index = index, .found = found, .number = r->opened, .snap = snap_of(f, verdict), .hash = hash};
+    if (fate == DROPPED) return;
+    note->sec = f->sec; note->nsec = f->nsec; note->wire = f->wire;
+    note->bytes = copy(f->bytes, f->length);
+    note->tag = tag_of(f->tag);
+    note->type = packet_type(f->bytes);
+}
+
+/* One record of an output, after which the next one stands. */
+static uint8_t *write_record(uint8_t *to, uint32_t sec, uint32_t nsec, uint32_t wire, uint32_t snap, struct tag tag, const uint8_t *bytes)
+{
+    uint32_t back = tag.is_there && snap >= 12, head = back ? 12 : 0;
+    put32(to, sec); put32(to + 4, nsec); put32(to + 8, snap + (back ? 4 : 0)); put32(to + 12, wire + (tag.is_there ? 4 : 0));
+    to += 16;
+    memcpy(to, bytes, head); to += head;
+    if (back) { put16(to, __builtin_bswap16(tag.tpid)); put16(to + 2, __builtin_bswap16(tag.tci)); to += 4; }
+    memcpy(to, bytes + head, snap - head);
+    return to + (snap - head);
+}
+
+static struct tag tag_in(const uint8_t *p)
+{
+    uint16_t tpid;
+    memcpy(&tpid, p + 36, 2);
+    return (struct tag){tpid, (uint16_t)le32(p + 32), le32(p + 20) == 81};
+}
+
+/* The blocks that are to be read once the capture has ended. */
+static uint64_t finish(struct ring *r)
+{
+    if (!r->is_frozen && r->packets) retire(r);
+    return r->is_frozen || r->packets ? r->opened : r->opened - 1;
+}
+
+/* Walks the retired blocks into the list of packets, and frees each. */
+static void read_blocks(struct ring *r)
+{
+    uint64_t blocks = finish(r);
+    for (uint64_t s = 0; s < blocks; s++) {
+        uint8_t *b = r->blocks[s % block_nr];
+        for (uint32_t i = 0, at = DESCRIPTOR; i < le32(b + 12); i++, at += le32(b + at)) {
+            const uint8_t *p = b + at;
+            struct packet *packet = push(&r->read, sizeof *packet);
+            uint16_t protocol;
+            memcpy(&protocol, p + 50, 2);
+            *packet = (struct packet){.sec = le32(p + 4), .nsec = le32(p + 8), .wire = le32(p + 16), .hash = le32(p + 28),
+                .protocol = __builtin_bswap16(protocol), .type = p[58], .bytes = copy(p + MAC, le32(p + 12)), .tag = tag_in(p)};
+            memcpy(packet->from, p + 60, 6);
+        }
+        free(b);
+    }
+}
+
+static const uint32_t header[6] = {0xa1b23c4d, 0x00040002, 0, 0, 262144, 1};
+
+static uint8_t *begin(size_t size)
+{
+    uint8_t *out = malloc(size);
+    if (!out) fail("memory");
+    memcpy(out, header, 24);
+    return out;
+}
+
+static void save(const char *name, const uint8_t *out, const uint8_t *to)
+{
+    FILE *file = fopen(name, "wb");
+    if (!file || fwrite(out, 1, (size_t)(to - out), file) != (size_t)(to - out) || fclose(file)) fail("output");
 }
 
 /* Walks the retired blocks into an output file. */
-static uint64_t save(struct ring *r, const char *name)
+static uint64_t save_blocks(struct ring *r, const char *name)
 {
-    static const uint32_t header[6] = {0xa1b23c4d, 0x00040002, 0, 0, 262144, 1};
-    if (!r->is_frozen && r->packets) retire(r);
-    uint64_t blocks = r->is_frozen || r->packets ? r->opened : r->opened - 1, kept = 0, size = 24;
+    uint64_t blocks = finish(r), kept = 0, size = 24;
     for (uint64_t s = 0; s < blocks; s++) {
         const uint8_t *b = r->blocks[s % block_nr];
         for (uint32_t i = 0, at = DESCRIPTOR; i < le32(b + 12); i++, at += le32(b + at)) size += 16 + le32(b + at + 12) + 4;
     }
-    uint8_t *out = malloc(size), *to = out;
-    if (!out) fail("memory");
-    memcpy(to, header, 24); to += 24;
+    uint8_t *out = begin(size), *to = out + 24;
     for (uint64_t s = 0; s < blocks; s++) {
         const uint8_t *b = r->blocks[s % block_nr];
         for (uint32_t i = 0, at = DESCRIPTOR; i < le32(b + 12); i++, kept++) {
             const uint8_t *p = b + at;
-            uint32_t snap = le32(p + 12), is_tagged = le32(p + 20) == 81, back = is_tagged && snap >= 12;
-            put32(to, le32(p + 4)); put32(to + 4, le32(p + 8));
-            put32(to + 8, snap + (back ? 4 : 0)); put32(to + 12, le32(p + 16) + (is_tagged ? 4 : 0));
-            to += 16;
-            uint32_t head = back ? 12 : 0;
-            memcpy(to, p + MAC, head); to += head;
-            if (back) { put16(to, __builtin_bswap16(*(uint16_t *)(p + 36))); put16(to + 2, __builtin_bswap16((uint16_t)le32(p + 32))); to += 4; }
-            memcpy(to, p + MAC + head, snap - head); to += snap - head;
+            to = write_record(to, le32(p + 4), le32(p + 8), le32(p + 16), le32(p + 12), tag_in(p), p + MAC);
             at += le32(p);
         }
     }
-    FILE *file = fopen(name, "wb");
-    if (!file || fwrite(out, 1, (size_t)(to - out), file) != (size_t)(to - out) || fclose(file)) fail("output");
+    save(name, out, to);
     return kept;
 }
 
-/* ---- the run */
+/* Makes an output file of the packets that were read. */
+static uint64_t save_packets(struct ring *r, const char *name)
+{
+    const struct packet *packets = r->read.items;
+    uint64_t size = 24;
+    for (size_t i = 0; i < r->read.count; i++) size += 16 + packets[i].bytes.length + 4;
+    uint8_t *out = begin(size), *to = out + 24;
+    for (size_t i = 0; i < r->read.count; i++) {
+        const struct packet *p = &packets[i];
+        to = write_record(to, p->sec, p->nsec, p->wire, (uint32_t)p->bytes.length, p->tag, p->bytes.at);
+    }
+    save(name, out, to);
+    free(out);
+    return r->read.count;
+}
 
-static uint64_t frames, arrivals, filtered;
+/* ---- the run of a CPU: what is its own belongs to the thread */
+
+static _Thread_local uint64_t frames, arrivals, filtered;
 
 static void deliver(struct frame f, uint8_t *bytes)
 {
-    static uint8_t whole[14 + 60 + 65536];
+    static _Thread_local uint8_t whole[14 + 60 + 65536];
     frames++;
     untag(&f, bytes);
     if (puts_together && !pass(&f, whole)) return;
     if (f.length < 14) return;
     arrivals++;
     uint32_t hash = has_key ? flow_hash(&f) : 0, keep = verdict(&f);
-    if (!keep) { filtered++; return; }
-    put(&rings[hash % members], &f, keep, hash);
+    struct ring *r = &rings[hash % members];
+    uint64_t opened = r->opened;
+    enum fate fate = !keep ? NONE : put(r, &f, snap_of(&f, keep), hash) ? KEPT : DROPPED;
+    filtered += fate == NONE;
+    if (keeps_records) record(r, &f, (uint32_t)frames - 1, keep, hash, fate, fate == DROPPED ? HELD : r->opened != opened ? FREE : NOT_ASKED);
 }
 
 /* The records of a piece after what was left of the pieces before it; the number of bytes that are left. */
@@ -374,35 +525,75 @@ static size_t decode(uint8_t *bytes, size_t count)
     return count - at;
 }
 
+struct run { const char *capture; struct ring *rings; uint64_t frames, arrivals, filtered; };
+
+static void *run_cpu(void *of)
+{
+    static _Thread_local uint8_t bytes[PIECE + 262144 + 16];
+    struct run *run = of;
+    rings = run->rings;
+    arrivals_of_cpu = (struct list){0};
+    frames = arrivals = filtered = 0;
+    held_count = 0;
+    for (uint32_t m = 0; m < members; m++) {
+        if (!(rings[m].blocks = calloc(block_nr, sizeof *rings[m].blocks))) fail("memory");
+        open_block(&rings[m]);
+    }
+    FILE *in = fopen(run->capture, "rb");
+    if (!in) fail("capture");
+    setvbuf(in, NULL, _IONBF, 0);
+    if (fread(bytes, 1, 24, in) != 24 || le32(bytes) != 0xa1b2c3d4) fail("capture");
+    size_t left = 0, got;
+    while ((got = fread(bytes + left, 1, PIECE, in)) > 0) left = decode(bytes, left + got);
+    fclose(in);
+    for (uint32_t m = 0; keeps_records && m < members; m++) read_blocks(&rings[m]);
+    *run = (struct run){run->capture, rings, frames, arrivals, filtered};
+    return NULL;
+}
+
+static void run_all(struct run *runs, uint32_t cpus, int has_threads)
+{
+    pthread_t threads[MOST_CPUS];
+    for (uint32_t c = 0; c < cpus; c++)
+        if (!has_threads) run_cpu(&runs[c]);
+        else if (pthread_create(&threads[c], NULL, run_cpu, &runs[c])) fail("thread");
+    for (uint32_t c = 0; has_threads && c < cpus; c++) pthread_join(threads[c], NULL);
+}
+
 int main(int count, char **words)
 {
-    if (count < 6) fail("usage: IN PREFIX BLOCK_SIZE BLOCK_NR MEMBERS [key HEX] [filter FILE] [defrag]");
+    if (count < 6) fail("usage: IN PREFIX BLOCK_SIZE BLOCK_NR MEMBERS [key HEX] [filter FILE] [defrag] [records] [cpus N [threads]]");
+    uint32_t cpus = 1;
+    int has_threads = 0;
     block_size = (uint32_t)atoi(words[3]); block_nr = (uint32_t)atoi(words[4]); members = (uint32_t)atoi(words[5]);
-    if (!members || members > MOST_MEMBERS) fail("members");
     for (int i = 6; i < count; i++)
         if (!strcmp(words[i], "key") && i + 1 < count) set_key(words[++i]);
         else if (!strcmp(words[i], "filter") && i + 1 < count) read_filter(words[++i]);
         else if (!strcmp(words[i], "defrag")) puts_together = 1;
+        else if (!strcmp(words[i], "records")) keeps_records = 1;
+        else if (!strcmp(words[i], "cpus") && i + 1 < count) cpus = (uint32_t)atoi(words[++i]);
+        else if (!strcmp(words[i], "threads")) has_threads = 1;
         else fail("an unknown word");
-    for (uint32_t m = 0; m < members; m++) {
-        rings[m].blocks = calloc(block_nr, sizeof *rings[m].blocks);
-        open_block(&rings[m]);
-    }
-    FILE *in = fopen(words[1], "rb");
-    static uint8_t bytes[PIECE + 262144 + 16];
-    setvbuf(in, NULL, _IONBF, 0);
-    if (!in || fread(bytes, 1, 24, in) != 24 || le32(bytes) != 0xa1b2c3d4) fail("capture");
-    size_t left = 0, got;
-    while ((got = fread(bytes + left, 1, PIECE, in)) > 0) left = decode(bytes, left + got);
+    if (!members || members > MOST_MEMBERS || !cpus || cpus > MOST_CPUS) fail("members or CPUs");
+    struct run runs[MOST_CPUS] = {0};
+    for (uint32_t c = 0; c < cpus; c++)
+        if (!(runs[c] = (struct run){words[1], calloc(members, sizeof *rings), 0, 0, 0}).rings) fail("memory");
+    run_all(runs, cpus, has_threads);
     uint64_t kept = 0, drops = 0;
-    for (uint32_t m = 0; m < members; m++) {
-        char name[4096];
-        snprintf(name, sizeof name, "%s.%u.pcap", words[2], m);
-        kept += save(&rings[m], name);
-        drops += rings[m].drops;
+    struct run sum = {0};
+    for (uint32_t c = 0; c < cpus; c++) {
+        for (uint32_t m = 0; m < members; m++) {
+            struct ring *r = &runs[c].rings[m];
+            char name[4096];
+            snprintf(name, sizeof name, "%s.%u.pcap", words[2], c * members + m);
+            kept += keeps_records ? save_packets(r, name) : save_blocks(r, name);
+            drops += r->drops;
+        }
+        sum.arrivals += runs[c].arrivals;
+        sum.filtered += runs[c].filtered;
+        printf("cpu %u frames %llu\n", c, (unsigned long long)runs[c].frames);
     }
-    printf("cpu 0 frames %llu\n", (unsigned long long)frames);
-    printf("total arrivals %llu filtered %llu kept %llu drops %llu\n", (unsigned long long)arrivals,
-           (unsigned long long)filtered, (unsigned long long)kept, (unsigned long long)drops);
+    printf("total arrivals %llu filtered %llu kept %llu drops %llu\n", (unsigned long long)sum.arrivals,
+           (unsigned long long)sum.filtered, (unsigned long long)kept, (unsigned long long)drops);
     return 0;
 }

@@ -17,10 +17,12 @@ empty; the least and the middle one are printed, since with threads they lie apa
 keep all frames can be compared in time: a frame that is dropped costs less than one that is kept. A table before them has how long one to
 four replays of one CPU take at the same time, each a process of its own: the processors of a virtual machine may share what they stand on.
 
-Where there is a C compiler, seven replays of 32 MiB are run by turns with bench/plain_ring.c, which does the same with arrays and keeps no
-notes. Both must save the same files. Page faults are those of one run; instructions are those that valgrind counts of a capture
-of 2 MiB, by frame, where valgrind is there. Then replays of 32 MiB as they are and with large pages, which the C library asks for by
-a word of the environment.
+Where there is a C compiler, seven replays of 32 MiB are run by turns with bench/plain_ring.c, which does the same with arrays, once without
+notes and once with what a replay's report holds of each frame. All must save the same files. Page faults are those of one run; instructions
+are those that valgrind counts of a capture of 2 MiB, by frame, where valgrind is there. The same program, with records and four CPUs in a row
+or on threads that share nothing, stands beside replays and captures of four CPUs: a measure of what threads can give on a machine. Then
+replays of 32 MiB and captures of four CPUs as they are, and where the C library is told by a word of the environment to ask for large
+pages, to keep its heap, or both.
 
 Time is that from start to end, CPU that of the processor for user and system, each the least of some runs. Memory is the
 largest resident size; the system counts no less than this script's own, about 14 MiB. Each run saves into new files: over old ones
@@ -216,39 +218,85 @@ def same_files(members):
     return all(filecmp.cmp(f"out.{member}.pcap", f"plain.{member}.pcap", shallow=False) for member in range(members))
 
 
-def times_of_plain(program, asked):
-    """Prints the table of the program in C, and how many times its time each case takes."""
+def built_plain():
+    """Builds the program in C and gives its path, or says that there is no compiler."""
     compiler = shutil.which("cc") or shutil.which("gcc")
     if not compiler:
         print("\nno C compiler, so nothing is compared with a program in C")
-        return
+        return None
     plain = os.path.join(WORK, "plain_ring")
-    subprocess.run([compiler, "-O2", "-o", plain, os.path.join(TOP, "bench", "plain_ring.c")], check=True)
+    subprocess.run([compiler, "-O2", "-pthread", "-o", plain, os.path.join(TOP, "bench", "plain_ring.c")], check=True)
+    return plain
+
+
+def words_of_plain(plain, ring, words):
+    return [plain, "in.pcap", "plain", str(ring["block_size"]), str(ring["block_nr"]), *words]
+
+
+def times_by_turns(runs, asked, members):
+    """Of some runs, each by its name, the times by turns. What the runs of the program in C save is compared with what ringtap saved."""
+    times = {name: [] for name in runs}
+    for turn in range(asked.runs):
+        for name, words in runs.items():
+            times[name].append(measure(words, 1)[0])
+            if not turn and "plain" in words and not same_files(members):
+                sys.exit(f"{' '.join(words)} saved other files than ringtap")
+    return times
+
+
+def row_beside_plain(program, plain, case, asked):
+    """Of a case the number of frames, and of ringtap, of C and of C with records: the least time in ms, the page faults, the memory in MiB and the instructions a frame."""
+    kind, group, words = CASES[case]
+    words = words or ["1"]
+    theirs = words_of_plain(plain, RINGS["keeps"], words)
+    runs = {"ringtap": [program, *COMMANDS["replay"]], "C": theirs, "C with records": [*theirs, "records"]}
+    write_setup("conf", RINGS["keeps"], 1, group)
+    few = make_case(kind, 2 * MIB)
+    counted = [instructions_of(one) for one in runs.values()]
+    count = make_case(kind, 32 * MIB)
+    times = [min(taken) * 1000 for taken in times_by_turns(runs, asked, int(words[0])).values()]
+    faults, memory = zip(*map(faults_of, runs.values()))
+    return count, times, faults, [size / MIB for size in memory], [number and number / few for number in counted]
+
+
+def times_of_plain(program, asked):
+    """Prints the tables of the program in C, without records and with them, and how many times its time each case takes."""
+    plain = built_plain()
+    if not plain:
+        return
     with open("large.ddd", "w", encoding="ascii") as file:
         file.write(PASSES_LARGE)
-    ring = RINGS["keeps"]
-    print("\n| Case, 32 MiB | Frames | Time, ms | C, ms | Times | Page faults | C | Memory, MiB | C | Instructions a frame | C |")
-    print("|---|---|---|---|---|---|---|---|---|---|---|")
-    for case, (kind, group, words) in CASES.items():
-        ours = [program, "replay", "conf", "sched"]
-        theirs = [plain, "in.pcap", "plain", str(ring["block_size"]), str(ring["block_nr"]), *(words or ["1"])]
-        write_setup("conf", ring, 1, group)
-        few = make_case(kind, 2 * MIB)
-        counts = [instructions_of(one) for one in (ours, theirs)]
-        count = make_case(kind, 32 * MIB)
-        least = [float("inf"), float("inf")]
-        for _ in range(asked.runs):
-            for at, one in enumerate((ours, theirs)):
-                least[at] = min(least[at], measure(one, 1)[0])
-        if not same_files(int((words or ["1"])[0])):
-            sys.exit(f"{case}: the program in C saved other files")
-        (faults, memory), (c_faults, c_memory) = faults_of(ours), faults_of(theirs)
-        each = [f"{number / few:,.0f}" if number else "-" for number in counts]
-        print(
-            f"| {case} | {count:,} | {least[0] * 1000:.0f} | {least[1] * 1000:.0f} | {least[0] / least[1]:.2f} | {faults:,}"
-            f" | {c_faults:,} | {memory / MIB:.0f} | {c_memory / MIB:.0f} | {each[0]} | {each[1]} |",
-            flush=True,
-        )
+    rows = {case: row_beside_plain(program, plain, case, asked) for case in CASES}
+    print("\n| Case, 32 MiB | Frames | Time, ms | C, ms | C with records, ms | To C | C with records to C | To C with records |")
+    print("|---|---|---|---|---|---|---|---|")
+    for case, (count, (ours, bare, full), *_) in rows.items():
+        print(f"| {case} | {count:,} | {ours:.0f} | {bare:.0f} | {full:.0f} | {ours / bare:.2f} | {full / bare:.2f} | {ours / full:.2f} |")
+    print("\n| Case, 32 MiB | Page faults | C | C with records | Memory, MiB | C | C with records | Instructions a frame | C | C with records |")
+    print("|---|---|---|---|---|---|---|---|---|---|")
+    for case, (_, _, *counts) in rows.items():
+        numbers = [f"{number:,.0f}" if number else "-" for count in counts for number in count]
+        print(f"| {case} | " + " | ".join(numbers) + " |", flush=True)
+
+
+def times_of_plain_threads(program, asked):
+    """Prints what four CPUs with a member each gain on threads, in ringtap and in C, where a thread shares nothing with the others."""
+    plain = built_plain()
+    if not plain:
+        return
+    print("\n| Frames of | Blocks | Replay, s | middle | Capture, s | middle | Times | middle | C in a row, s | middle | C on threads, s | middle | Times | middle |")
+    print("|---|---|---|---|---|---|---|---|---|---|---|---|---|---|")
+    for kind, maker in MAKERS.items():
+        maker()
+        for ring in (RINGS["keeps"], SMALL_BLOCKS):
+            write_setup("conf", ring, 4, SHARED[EACH](4))
+            theirs = words_of_plain(plain, ring, ["1", "records", "cpus", "4"])
+            ours = {command: [program, *COMMANDS[command]] for command in ("replay", "capture")}
+            runs = {**ours, "in a row": theirs, "on threads": [*theirs, "threads"]}
+            times = [(min(taken), statistics.median(taken)) for taken in times_by_turns(runs, asked, 4).values()]
+            cells = [f"{ring['block_size'] // 1024:,} KiB"]
+            for before, after in (times[:2], times[2:]):
+                cells += [f"{taken:.3f}" for taken in before + after] + [f"{new / old:.2f}" for old, new in zip(before, after)]
+            print(f"| {kind} | " + " | ".join(cells) + " |", flush=True)
 
 
 def remove_outputs(words, folder="."):
@@ -258,22 +306,40 @@ def remove_outputs(words, folder="."):
         os.remove(path)
 
 
-def times_of_large_pages(program, asked):
-    """Prints what replays of 32 MiB take, and what they take where the C library asks the system for large pages."""
-    print("\n| Frames, 32 MiB | Time, s | Large pages | CPU, s | Large pages | Page faults | Large pages | Memory, MiB | Large pages |")
-    print("|---|---|---|---|---|---|---|---|---|")
-    write_setup("conf", RINGS["keeps"])
+# What the C library can be told by a word of the environment: to grow its heap by 16 MiB at a time and to keep there what is given back, but
+# for pieces of 4 MiB and more; and to ask the system for large pages.
+KEPT = "glibc.malloc.top_pad=16777216:glibc.malloc.mmap_threshold=4194304:glibc.malloc.trim_threshold=268435456"
+LARGE = "glibc.malloc.hugetlb=1"
+SETTINGS = {"as it is": [], "large pages": [LARGE], "kept heap": [KEPT], "both": [LARGE, KEPT]}
+
+
+def row_of_settings(name, words, asked):
+    """Prints what a run takes under each setting of the C library, by turns."""
+    runs = {setting: ["env", *(["GLIBC_TUNABLES=" + ":".join(told)] if told else []), *words] for setting, told in SETTINGS.items()}
+    times = {setting: [] for setting in runs}
+    for _ in range(asked.runs):
+        for setting, one in runs.items():
+            times[setting].append(measure(one, 1)[:2])
+    least = [[min(numbers) for numbers in zip(*taken)] for taken in times.values()]
+    usage = [faults_of(one) for one in runs.values()]
+    numbers = [f"{one[at]:.3f}" for at in (0, 1) for one in least]
+    numbers += [f"{faults:,}" for faults, _ in usage] + [f"{memory / MIB:.0f}" for _, memory in usage]
+    print(f"| {name} | " + " | ".join(numbers) + " |", flush=True)
+
+
+def times_of_settings(program, asked):
+    """Prints what replays of 32 MiB and captures of four CPUs with a member each take, as they are and where the C library is told something."""
+    heads = [setting if at else what for what in ("Time, s", "CPU, s", "Page faults", "Memory, MiB") for at, setting in enumerate(SETTINGS)]
+    print("\n| Run | " + " | ".join(heads) + " |\n|" + "---|" * (len(heads) + 1))
     for kind, lengths in FRAMES.items():
+        write_setup("conf", RINGS["keeps"])
         make_capture("in.pcap", 32 * MIB, lengths)
-        taken = {"": [], "GLIBC_TUNABLES=glibc.malloc.hugetlb=1": []}
-        for _ in range(asked.runs):
-            for word, times in taken.items():
-                times.append(measure(["env", *word.split(), program, *COMMANDS["replay"]], 1)[:2])
-        usage = [faults_of(["env", *word.split(), program, *COMMANDS["replay"]]) for word in taken]
-        least = [[min(times) for times in zip(*runs)] for runs in taken.values()]
-        numbers = [f"{one[at]:.3f}" for at in (0, 1) for one in least]
-        numbers += [f"{one[0]:,}" for one in usage] + [f"{one[1] / MIB:.0f}" for one in usage]
-        print(f"| {kind} | " + " | ".join(numbers) + " |", flush=True)
+        row_of_settings(f"replay, {kind}", [program, *COMMANDS["replay"]], asked)
+    for kind, maker in MAKERS.items():
+        maker()
+        for ring in (RINGS["keeps"], SMALL_BLOCKS):
+            write_setup("conf", ring, 4, SHARED[EACH](4))
+            row_of_settings(f"capture, {kind}, blocks of {ring['block_size'] // 1024:,} KiB", [program, *COMMANDS["capture"]], asked)
 
 
 def measure(words, runs):
@@ -332,6 +398,7 @@ def main():
         return
     if asked.threads:
         times_of_processes(program, asked)
+        times_of_plain_threads(program, asked)
         too_much = times_of_threads(program, asked)
         times_of_forwards(program, asked)
         times_of_pools(program, asked)
@@ -365,11 +432,12 @@ def main():
     found.update(times_of_sent(program, asked))
     found.update(times_of_slots(program, asked))
     times_of_processes(program, asked)
+    times_of_plain_threads(program, asked)
     too_much = times_of_threads(program, asked)
     times_of_forwards(program, asked)
     times_of_pools(program, asked)
     times_of_plain(program, asked)
-    times_of_large_pages(program, asked)
+    times_of_settings(program, asked)
     is_large = memory_of_refused(program, asked)
     shutil.rmtree(WORK)
     sys.exit(1 if grows(found) or is_large or too_much else 0)
