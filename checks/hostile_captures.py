@@ -1,20 +1,23 @@
 #!/usr/bin/env python3
 """Captures that somebody made to do harm: a program answers each of them with the end and the place that by_hand.py works out,
-and within a time that the bytes allow.
+and by work that the bytes allow.
 
     hostile_captures.py PROGRAM [COUNT]
 
 Each length field of each record is put to its extremes, and each header of the file and of a record is cut at each byte; each of
 these captures is replayed, sent and captured on threads. COUNT captures (10,000 if it isn't said) have some bytes changed at random,
 and are replayed, sent or captured by turns. Then captures of the forms that ask most of each byte (records without a byte,
-fragments that are never put together, and others) are replayed and sent at one size and at twice that size: the processor's time for
-the second is at most GROWTH times that for the first. On threads they have to end.
+fragments that are never put together, and others) are replayed and sent at one size and at twice that size: the processor's
+instructions for the second, as valgrind counts them, and the pages of memory that it touches are at most GROWTH times those for the
+first. Both are counts, so the machine's load changes neither. On threads these captures have to end.
 
 A run on threads has a ring that holds everything, with the frames of one CPU for each member, so it gives what a replay gives.
 """
 import multiprocessing
 import os
 import random
+import re
+import shutil
 import struct
 import subprocess
 import sys
@@ -34,9 +37,12 @@ COMMANDS = ["replay", "send", "capture", "replay2"]
 # A ring that holds all frames of a capture of less than 10,000 bytes.
 ROOMY = (65536, 16, 2048, 512)
 
-# The larger of the two sizes whose times are compared; the most that the time may grow by, where it is more than some seconds; and how
-# often each is run. A thread that waits takes time too, so of a run on threads only the end is tested, within so many seconds.
-LARGE, GROWTH, LEAST, RUNS, ENDS = 16_777_216, 3, 0.3, 2, 120
+# The larger of the two sizes whose work is compared, the most that the work may grow by, and the pages by which it may grow in any
+# case, since a list that doubles touches more at once. A thread that waits works too, so of a run on threads only the end is tested.
+LARGE, GROWTH, FEW_PAGES = 8_388_608, 2.2, 100
+
+# The seconds after which a run on threads counts as one that doesn't end.
+ENDS = 120
 
 
 def base(order):
@@ -226,11 +232,17 @@ def write_form(data_of):
     by_hand.save(".", {"half.pcap": whole[:half], "whole.pcap": whole})
 
 
-def processor_time(words):
-    """The seconds that a run takes of the processor, and its status."""
+def instructions_of(words):
+    """The instructions of a run as valgrind counts them, or None where the run fails."""
+    tool = ["valgrind", "--tool=cachegrind", "--cache-sim=no", "--cachegrind-out-file=/dev/null"]
+    ran = subprocess.run([*tool, *words], stdout=subprocess.DEVNULL, stderr=subprocess.PIPE, text=True, check=False)
+    return None if ran.returncode else int(re.search(r"I\s+refs:\s+([\d,]+)", ran.stderr)[1].replace(",", ""))
+
+
+def pages_of(words):
+    """The pages of memory that a run touches first."""
     child = os.posix_spawn(words[0], words, os.environ, file_actions=[(os.POSIX_SPAWN_OPEN, 1, os.devnull, os.O_WRONLY, 0)])
-    _, status, usage = os.wait4(child, 0)
-    return usage.ru_utime + usage.ru_stime, os.waitstatus_to_exitcode(status)
+    return os.wait4(child, 0)[2].ru_minflt
 
 
 def write_texts(capture, lines):
@@ -239,18 +251,22 @@ def write_texts(capture, lines):
 
 
 def grows(program, command, name, lines):
-    """What is wrong with the times of a form, if something is."""
-    times = []
+    """What is wrong with the work for a form, if something is."""
+    counts, pages = [], []
     for capture in ("half.pcap", "whole.pcap"):
         write_texts(capture, lines)
         words = [program, command, "conf"] + ["sched"] * (command == "replay")
-        found = [processor_time(words) for _ in range(RUNS)]
-        if {status for _, status in found} != {0}:
-            return f"{name}, {command}: statuses {[status for _, status in found]}"
-        times.append(min(seconds for seconds, _ in found))
-    print(f"hostile_captures.py: {name}, {command}: {times[0]:.2f} s of {LARGE >> 21} MiB, {times[1]:.2f} s of {LARGE >> 20}", flush=True)
-    if times[1] > max(GROWTH * times[0], LEAST):
-        return f"{name}, {command}: the time grows by {times[1] / times[0]:.1f}"
+        counts.append(instructions_of(words))
+        pages.append(pages_of(words))
+    if None in counts:
+        return f"{name}, {command}: a run fails"
+    told = ", ".join(
+        f"{count / 1_000_000:.0f} million instructions and {touched} pages of {size >> 20} MiB"
+        for count, touched, size in zip(counts, pages, (LARGE // 2, LARGE))
+    )
+    print(f"hostile_captures.py: {name}, {command}: {told}", flush=True)
+    if counts[1] > GROWTH * counts[0] or pages[1] > GROWTH * pages[0] + FEW_PAGES:
+        return f"{name}, {command}: the work grows by {counts[1] / counts[0]:.2f}, the pages by {pages[1] / pages[0]:.2f}"
     return None
 
 
@@ -262,14 +278,18 @@ def ends_on_threads(program, name, lines):
 
 
 def growing(program):
-    """How many forms take a time that grows faster than their bytes."""
+    """How many forms take work that grows faster than their bytes, or don't end on threads."""
+    counts = shutil.which("valgrind")
+    if not counts:
+        print("skipped: the growth of the work needs valgrind")
     wrong = 0
     with tempfile.TemporaryDirectory() as room:
         os.chdir(room)
         for name, (data_of, lines) in FORMS.items():
             write_form(data_of)
             # A `send` reads no line of a group.
-            whys = [grows(program, command, name, lines) for command in ["replay", *["send"] * (not lines)]]
+            commands = ["replay", *["send"] * (not lines)] if counts else []
+            whys = [grows(program, command, name, lines) for command in commands]
             for why in [*whys, ends_on_threads(program, name, lines)]:
                 if why:
                     wrong += 1

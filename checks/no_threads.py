@@ -21,7 +21,7 @@ from captures import Case, capture_of, faults, inputs_of
 from replays import KEY, SIZES, setup_text
 
 NOBODY = 61_234  # a user who has no process
-LIMIT = 10  # the seconds within which a run has to end
+LIMIT = 60  # the seconds after which a run counts as one that doesn't end
 
 # What the setups have beside their ring and their CPUs.
 GROUPS = [
