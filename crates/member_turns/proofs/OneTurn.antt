@@ -1,5 +1,5 @@
 -- One turn of a seat at a member.
-use Rattle.std.proofs.Common.{◌≡◌, ℕ, true, List, [], ◌∷◌, ◌++◌, refl, sym, ap, ap₂, ◌∙◌, subst, ◌<◌}
+use Rattle.std.proofs.Common.{◌≡◌, ℕ, true, List, [], ◌∷◌, ◌++◌, Result, Ok, Err, IfOk, IfErr, refl, sym, ap, ap₂, ◌∙◌, subst, ◌<◌}
 use Rattle.std.proofs.lemmas.Bool.{and_from, eq-eqb, lt-ltb}
 use Rattle.block_ring.specs.Machines.{KeepsEnd}
 use Rattle.ring_model.specs.Asking.{put_by, try_by}
@@ -50,16 +50,28 @@ adds_in base seat entered before stored added in_turn more turn = (
   (added, more, subst (λ (s : Seat). IsTurn (may_note base) s.number added) (sym in_turn) turn),
 )
 
+-- what is known of a seat once it has entered
+pub record Entered (lock : Lock) (seat entered : Seat) (before : List Note) : Type 0 where
+  pub goes : GoesOn (may_note lock.base) seat.number seat.last before
+  pub in_turn : entered ≡ inside seat before
+
+-- the same of the lock and the seat that the caller sees
+pub entered_at : (within lock : Lock) (own_seat seat entered : Seat) (before : List Note) → within ≡ lock → own_seat ≡ seat
+    → GoesOn (may_note within.base) own_seat.number own_seat.last before → entered ≡ inside own_seat before → Entered lock seat entered before
+entered_at within lock own_seat seat entered before same_lock same_seat goes in_turn =
+    subst (λ (l : Lock). Entered l seat entered before) same_lock
+    (subst (λ (s : Seat). Entered within s entered before) same_seat (record { goes = goes; in_turn = in_turn }))
+
 -- and this is what the turn leaves
 pub turn_done : (lock : Lock) (seat entered after : Seat) (number : ℕ) (before stored added : List Note) → IsReady lock number seat
-    → GoesOn (may_note lock.base) seat.number seat.last before → entered ≡ inside seat before → stored ≡ before ++ added
+    → Entered lock seat entered before → stored ≡ before ++ added
     → IsTurn (may_note lock.base) seat.number added → after ≡ outside entered stored → Turned lock seat after added
-turn_done lock seat entered after number before stored added ready goes in_turn more turn left =
-    let is : after ≡ outside (inside seat before) (before ++ added) = left ∙ ap₂ (λ (s : Seat) (xs : List Note). outside s xs) in_turn more in
+turn_done lock seat entered after number before stored added ready at more turn left =
+    let is : after ≡ outside (inside seat before) (before ++ added) = left ∙ ap₂ (λ (s : Seat) (xs : List Note). outside s xs) at.in_turn more in
     subst (λ (s : Seat). Turned lock seat s added) (sym is) (record {
       ready = record { idle = (ready.idle.0, refl); number_is = refl };
       entered = refl;
-      own = own_turn (may_note lock.base) (one_seat lock.base) seat.number seat.last before added goes turn;
+      own = own_turn (may_note lock.base) (one_seat lock.base) seat.number seat.last before added at.goes turn;
     })
 
 -- the timer knows the clock of the ring
@@ -73,3 +85,9 @@ clock_known lock seat size before ready goes =
 -- a call of the ring leaves the kind of its blocks
 pub same_kind : (before after : Feeding) → KeepsEnd (feed_of before) (feed_of after) → after.kind ≡ before.kind
 same_kind before after keeps = ap (λ ring. ring.kind) keeps.ring
+
+-- what follows from each of the two answers of a call follows from the call
+pub of_both : {T E : Type 0} {C : Type 0} (answer : Result T E) (P : T → Type 0) (Q : E → Type 0) → IfOk answer P → IfErr answer Q
+    → ((x : T) → P x → C) → ((e : E) → Q e → C) → C
+of_both (Ok x) P Q ok err by_ok by_err = by_ok x ok
+of_both (Err e) P Q ok err by_ok by_err = by_err e err

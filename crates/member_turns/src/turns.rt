@@ -34,16 +34,9 @@ pub fn try_turn<R: Wait>(
     ensures err { OnErr result (Turned member.now stand.old stand.new []) }
 {
     let mut ring = member.lock.enter(rt, &mut stand.seat);
-    match ring.producer.try_put(offer) {
-        Ok(tried) => {
-            member.lock.leave(&mut stand.seat, ring);
-            Ok(tried)
-        }
-        Err(unput) => {
-            member.lock.leave(&mut stand.seat, ring);
-            Err(unput)
-        }
-    }
+    let tried = ring.producer.try_put(offer);
+    member.lock.leave(&mut stand.seat, ring);
+    tried
 }
 
 /// Keeps a packet at a member, or drops it where the ring has no room for it and the next block is
@@ -68,16 +61,9 @@ pub fn put_turn<R: Wait>(
     ensures err { OnErr result (Turned member.now stand.old stand.new []) }
 {
     let mut ring = member.lock.enter(rt, &mut stand.seat);
-    match ring.producer.put(offer) {
-        Ok(put) => {
-            member.lock.leave(&mut stand.seat, ring);
-            Ok(put)
-        }
-        Err(unput) => {
-            member.lock.leave(&mut stand.seat, ring);
-            Err(unput)
-        }
-    }
+    let put = ring.producer.put(offer);
+    member.lock.leave(&mut stand.seat, ring);
+    put
 }
 
 /// Brings a member's clock forward to a moment, in milliseconds, which isn't before the last one
@@ -94,15 +80,11 @@ pub fn tick_turn<R: Wait>(rt: &R, member: &Member, stand: &mut Stand, ms: u64) -
     ensures err { OnErr result (Turned member.now stand.old stand.new []) }
 {
     let mut ring = member.lock.enter(rt, &mut stand.seat);
-    match ring.producer.tick(ms) {
-        Ok(()) => {
-            member.lock.leave(&mut stand.seat, ring);
-            Ok(())
-        }
-        Err(TickError::Memory) => {
-            member.lock.leave(&mut stand.seat, ring);
-            Err(Memory)
-        }
+    let ticked = ring.producer.tick(ms);
+    member.lock.leave(&mut stand.seat, ring);
+    match ticked {
+        Ok(()) => Ok(()),
+        Err(TickError::Memory) => Err(Memory),
         Err(TickError::Backwards(_)) => unreachable!(),
     }
 }

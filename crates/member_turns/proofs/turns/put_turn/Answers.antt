@@ -1,55 +1,50 @@
-use Rattle.std.proofs.Common.{◌≡◌, ◌<◌, [], ◌∷◌, ◌++◌, ap, sym, ◌∙◌, subst, append-nil}
+use Rattle.std.proofs.Common.{◌<◌, [], ◌∷◌, ◌++◌, ap, sym, ◌∙◌, subst, append-nil}
+use Rattle.std.proofs.lemmas.Result.{IfOk-weaker, IfErr-weaker}
 use Rattle.ring_model.specs.Asking.{put_by}
-use Rattle.turn_lock.specs.Histories.{GoesOn}
-use Rattle.turn_lock.specs.Seats.{inside}
-use Rattle.member_turns.specs.Entries.{may_note}
 use Rattle.member_turns.specs.Seats.{Lock, Seat}
-use Rattle.member_turns.proofs.OneTurn.{adds_in, put_may, turn_done}
+use Rattle.member_turns.specs.TurnEffects.{IsPutTurn, Turned}
+use Rattle.member_turns.proofs.OneTurn.{adds_in, entered_at, of_both, put_may, turn_done}
 use Rattle.member_turns.proofs.turns.put_turn.Goals as goal
 
 pub leave-requires-clause-turn : goal.leave-requires-clause-turn
 leave-requires-clause-turn g c =
-    let lock = c.member.inside.lock in
+    let base = c.member.inside.lock.base in
     let seat = c.stand.inside.seat in
-    let found = c.in-Ok.ensures.put in
-    let adds = found.1.adds.notes ∙ ap (λ p. p.notes ++ put_by c.args.offer found.0 ∷ []) c.deref_mut.ensures.value in
+    let before = c.enter-ring.result.producer.value.notes in
     let number = ap (λ (s : Seat). s.number) c.stand.view_is ∙ c.requires.ready.number_is in
     let few = subst (λ (l : Lock). c.args.offer.frame.cpu < l.base.cpus) (sym c.member.view_is) c.requires.cpu in
-    adds_in lock.base seat c.enter-ring.new.seat c.enter-ring.result.producer.value.notes c.put.new.self.notes (put_by c.args.offer found.0 ∷ [])
-    c.enter-ring.ensures.seat adds (put_may lock.base seat.number c.args.offer found.0 number few)
+    let leaves = adds_in base seat c.enter-ring.new.seat before c.put-put.new.self.notes in
+    of_both c.put-put.result _ _ c.put-put.ensures.put c.put-put.ensures.unput
+    (λ put found. leaves (put_by c.args.offer found.0 ∷ []) c.enter-ring.ensures.seat
+        (found.1.adds.notes ∙ ap (λ p. p.notes ++ put_by c.args.offer found.0 ∷ []) c.deref_mut.ensures.value)
+        (put_may base seat.number c.args.offer found.0 number few))
+    (λ unput stays. leaves [] c.enter-ring.ensures.seat
+        (ap (λ r. r.notes) stays.1 ∙ ap (λ p. p.notes) c.deref_mut.ensures.value ∙ sym (append-nil before)) tt)
 
-pub leave-requires-in-Err-clause-turn : goal.leave-requires-in-Err-clause-turn
-leave-requires-in-Err-clause-turn g c =
-    let before = c.enter-ring.result.producer.value.notes in
-    adds_in c.member.inside.lock.base c.stand.inside.seat c.enter-ring.new.seat before c.put.new.self.notes []
-    c.enter-ring.ensures.seat (ap (λ r. r.notes) c.in-Err.ensures.unput.1 ∙ ap (λ p. p.notes) c.deref_mut.ensures.value ∙ sym (append-nil before)) tt
-
-pub returns-in-Ok-clause-put : goal.returns-in-Ok-clause-put
-returns-in-Ok-clause-put g c =
+pub returns-clause-put : goal.returns-clause-put
+returns-clause-put g c =
     let lock = c.args.member.now in
     let seat = c.args.stand.now in
     let before = c.enter-ring.result.producer.value.notes in
-    let found = c.in-Ok.ensures.put in
-    let adds = found.1.adds.notes ∙ ap (λ p. p.notes ++ put_by c.args.offer found.0 ∷ []) c.deref_mut.ensures.value in
-    let goes : GoesOn (may_note lock.base) seat.number seat.last before =
-    subst (λ (l : Lock). GoesOn (may_note l.base) seat.number seat.last before) c.member.view_is
-    (subst (λ (s : Seat). GoesOn (may_note c.member.inside.lock.base) s.number s.last before) c.stand.view_is c.enter-ring.ensures.goes_on) in
-    let in_turn : c.enter-ring.new.seat ≡ inside seat before = c.enter-ring.ensures.seat ∙ ap (λ (s : Seat). inside s before) c.stand.view_is in
-    record {
+    let at = entered_at c.member.inside.lock lock c.stand.inside.seat seat c.enter-ring.new.seat before c.member.view_is c.stand.view_is
+        c.enter-ring.ensures.goes_on c.enter-ring.ensures.seat in
+    IfOk-weaker c.put-put.result _ (IsPutTurn lock seat c.leave.new.seat c.args.offer) (λ put found. record {
       found = found.0;
       told = found.1.told;
-      turned = turn_done lock seat c.enter-ring.new.seat c.leave.new.seat c.args.offer.frame.cpu before c.put.new.self.notes (put_by c.args.offer found.0 ∷ [])
-          c.requires.ready goes in_turn adds (put_may lock.base seat.number c.args.offer found.0 c.requires.ready.number_is c.requires.cpu) c.leave.ensures.seat;
-    }
+      turned = turn_done lock seat c.enter-ring.new.seat c.leave.new.seat c.args.offer.frame.cpu before c.put-put.new.self.notes
+          (put_by c.args.offer found.0 ∷ []) c.requires.ready at
+          (found.1.adds.notes ∙ ap (λ p. p.notes ++ put_by c.args.offer found.0 ∷ []) c.deref_mut.ensures.value)
+          (put_may lock.base seat.number c.args.offer found.0 c.requires.ready.number_is c.requires.cpu) c.leave.ensures.seat;
+    }) c.put-put.ensures.put
 
-pub returns-in-Err-clause-err : goal.returns-in-Err-clause-err
-returns-in-Err-clause-err g c =
+pub returns-clause-err : goal.returns-clause-err
+returns-clause-err g c =
     let lock = c.args.member.now in
     let seat = c.args.stand.now in
     let before = c.enter-ring.result.producer.value.notes in
-    let goes : GoesOn (may_note lock.base) seat.number seat.last before =
-    subst (λ (l : Lock). GoesOn (may_note l.base) seat.number seat.last before) c.member.view_is
-    (subst (λ (s : Seat). GoesOn (may_note c.member.inside.lock.base) s.number s.last before) c.stand.view_is c.enter-ring.ensures.goes_on) in
-    let in_turn : c.enter-ring.new.seat ≡ inside seat before = c.enter-ring.ensures.seat ∙ ap (λ (s : Seat). inside s before) c.stand.view_is in
-    turn_done lock seat c.enter-ring.new.seat c.leave-in-Err.new.seat c.args.offer.frame.cpu before c.put.new.self.notes [] c.requires.ready goes in_turn
-    (ap (λ r. r.notes) c.in-Err.ensures.unput.1 ∙ ap (λ p. p.notes) c.deref_mut.ensures.value ∙ sym (append-nil before)) tt c.leave-in-Err.ensures.seat
+    let at = entered_at c.member.inside.lock lock c.stand.inside.seat seat c.enter-ring.new.seat before c.member.view_is c.stand.view_is
+        c.enter-ring.ensures.goes_on c.enter-ring.ensures.seat in
+    IfErr-weaker c.put-put.result _ (λ _. Turned lock seat c.leave.new.seat []) (λ unput stays.
+      turn_done lock seat c.enter-ring.new.seat c.leave.new.seat c.args.offer.frame.cpu before c.put-put.new.self.notes [] c.requires.ready at
+          (ap (λ r. r.notes) stays.1 ∙ ap (λ p. p.notes) c.deref_mut.ensures.value ∙ sym (append-nil before)) tt c.leave.ensures.seat)
+    c.put-put.ensures.unput
