@@ -237,7 +237,8 @@ def test_ring_of():
     for inode, mode in {"137757": "cpu", "137758": "rollover", "139291": "qm", "139287": "lb"}.items():
         expect(mode, f"mode {mode}" in ring_of("--inode", inode)[0].split("\n"), True)
     said = {
-        "137706": "inode 137706: is a TPACKET_V2 ring of tcpdump (pid 12967) on lo, and ringtap has TPACKET_V3 rings",
+        "137706": "inode 137706: is a TPACKET_V2 ring of tcpdump (pid 12967) on lo; "
+                  "for `replay2` write a setup by hand: these tools run `replay`",
         "139288": "fanout group 84: has type random, which ringtap has not",
         "139292": "the ring has blocks of 2097152 bytes in place of at most 1048576, which ringtap has not: --fit takes the nearest one",
         "134820": "the ring has 512 blocks of 4096 bytes in place of 2 to 256, which ringtap has not: --fit takes the nearest one",

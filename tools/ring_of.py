@@ -20,7 +20,7 @@ from ringtap_runs import table
 SS = ["ss", "-0", "-e", "-i", "-b", "-p", "-n", "-H"]
 MODES = {"hash": "hash", "lb": "lb", "cpu": "cpu", "roll": "rollover", "qm": "qm"}
 VERSION_NAMES = {0: "TPACKET_V1", 1: "TPACKET_V2", 2: "TPACKET_V3"}
-V3 = 2
+V2, V3 = 1, 2
 # The key that Microsoft published with the verification suite of receive side scaling.
 KEY = "6d5a56da255b0ec24167253d43a38fb0d0ca2bcbae7b30b477cb2da38030f20c6a42b73bbeac01fa"
 LARGEST_BLOCK, LARGEST_RING = 1_048_576, 67_108_864
@@ -144,7 +144,8 @@ def setup_of(group: list[Socket], captures: list[str], filter_name: str | None, 
     first = group[0]
     if first.version != V3:
         name = VERSION_NAMES.get(first.version, f"version {first.version}")
-        raise Fault(f"inode {first.inode}: is a {name} ring of {first.words()}, and ringtap has TPACKET_V3 rings")
+        what = "for `replay2` write a setup by hand: these tools run `replay`" if first.version == V2 else f"ringtap has no {name} rings"
+        raise Fault(f"inode {first.inode}: is a {name} ring of {first.words()}; {what}")
     if len(group) > MOST_MEMBERS:
         raise Fault(f"the group has {len(group)} members, and ringtap has at most {MOST_MEMBERS}")
     ring, changes = fitted(first.ring, is_fit)
