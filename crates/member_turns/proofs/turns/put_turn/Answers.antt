@@ -16,10 +16,10 @@ leave-requires-clause-turn g c =
     let leaves = adds_in base seat c.enter-ring.new.seat before c.put-put.new.self.notes in
     of_both c.put-put.result _ _ c.put-put.ensures.put c.put-put.ensures.unput
     (λ put found. leaves (put_by c.args.offer found.0 ∷ []) c.enter-ring.ensures.seat
-        (found.1.adds.notes ∙ ap (λ p. p.notes ++ put_by c.args.offer found.0 ∷ []) c.deref_mut.ensures.value)
-        (put_may base seat.number c.args.offer found.0 number few))
+    (found.1.adds.notes ∙ ap (λ p. p.notes ++ put_by c.args.offer found.0 ∷ []) c.deref_mut.ensures.value)
+    (put_may base seat.number c.args.offer found.0 number few))
     (λ unput stays. leaves [] c.enter-ring.ensures.seat
-        (ap (λ r. r.notes) stays.1 ∙ ap (λ p. p.notes) c.deref_mut.ensures.value ∙ sym (append-nil before)) tt)
+    (ap (λ r. r.notes) stays.1 ∙ ap (λ p. p.notes) c.deref_mut.ensures.value ∙ sym (append-nil before)) tt)
 
 pub returns-clause-put : goal.returns-clause-put
 returns-clause-put g c =
@@ -27,7 +27,7 @@ returns-clause-put g c =
     let seat = c.args.stand.now in
     let before = c.enter-ring.result.producer.value.notes in
     let at = entered_at c.member.inside.lock lock c.stand.inside.seat seat c.enter-ring.new.seat before c.member.view_is c.stand.view_is
-        c.enter-ring.ensures.goes_on c.enter-ring.ensures.seat in
+    c.enter-ring.ensures.goes_on c.enter-ring.ensures.seat in
     IfOk-weaker c.put-put.result _ (IsPutTurn lock seat c.leave.new.seat c.args.offer) (λ put found. record {
       found = found.0;
       told = found.1.told;
@@ -43,8 +43,8 @@ returns-clause-err g c =
     let seat = c.args.stand.now in
     let before = c.enter-ring.result.producer.value.notes in
     let at = entered_at c.member.inside.lock lock c.stand.inside.seat seat c.enter-ring.new.seat before c.member.view_is c.stand.view_is
-        c.enter-ring.ensures.goes_on c.enter-ring.ensures.seat in
+    c.enter-ring.ensures.goes_on c.enter-ring.ensures.seat in
     IfErr-weaker c.put-put.result _ (λ _. Turned lock seat c.leave.new.seat []) (λ unput stays.
-      turn_done lock seat c.enter-ring.new.seat c.leave.new.seat c.args.offer.frame.cpu before c.put-put.new.self.notes [] c.requires.ready at
-          (ap (λ r. r.notes) stays.1 ∙ ap (λ p. p.notes) c.deref_mut.ensures.value ∙ sym (append-nil before)) tt c.leave.ensures.seat)
+    turn_done lock seat c.enter-ring.new.seat c.leave.new.seat c.args.offer.frame.cpu before c.put-put.new.self.notes [] c.requires.ready at
+    (ap (λ r. r.notes) stays.1 ∙ ap (λ p. p.notes) c.deref_mut.ensures.value ∙ sym (append-nil before)) tt c.leave.ensures.seat)
     c.put-put.ensures.unput

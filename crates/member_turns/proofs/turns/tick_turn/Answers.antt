@@ -22,10 +22,10 @@ leave-requires-clause-turn g c =
     let leaves = adds_in base seat c.enter-ring.new.seat before c.tick-ticked.new.self.notes in
     of_both c.tick-ticked.result _ _ c.tick-ticked.ensures.ticked c.tick-ticked.ensures.err
     (λ _ found. leaves (Ticked c.args.ms found.0 ∷ []) c.enter-ring.ensures.seat
-        (found.1.adds.notes ∙ ap (λ p. p.notes ++ Ticked c.args.ms found.0 ∷ []) c.deref_mut.ensures.value)
-        (tick_may base seat.number c.args.ms found.0 number))
+    (found.1.adds.notes ∙ ap (λ p. p.notes ++ Ticked c.args.ms found.0 ∷ []) c.deref_mut.ensures.value)
+    (tick_may base seat.number c.args.ms found.0 number))
     (λ _ stays. leaves [] c.enter-ring.ensures.seat
-        (ap (λ r. r.notes) stays ∙ ap (λ p. p.notes) c.deref_mut.ensures.value ∙ sym (append-nil before)) tt)
+    (ap (λ r. r.notes) stays ∙ ap (λ p. p.notes) c.deref_mut.ensures.value ∙ sym (append-nil before)) tt)
 
 pub unreachable-requires : goal.unreachable-requires
 unreachable-requires g c =
@@ -33,7 +33,7 @@ unreachable-requires g c =
     let seat = c.args.stand.now in
     let before = c.enter-ring.result.producer.value.notes in
     let at = entered_at c.member.inside.lock lock c.stand.inside.seat seat c.enter-ring.new.seat before c.member.view_is c.stand.view_is
-        c.enter-ring.ensures.goes_on c.enter-ring.ensures.seat in
+    c.enter-ring.ensures.goes_on c.enter-ring.ensures.seat in
     let size = size_of c.deref_mut.result.now.shape in
     let now = c.deref_mut.result.now.notes in
     let clock = clock_known lock seat size now c.requires.ready
@@ -51,18 +51,18 @@ returns-clause-ticked g c =
     let seat = c.args.stand.now in
     let before = c.enter-ring.result.producer.value.notes in
     let at = entered_at c.member.inside.lock lock c.stand.inside.seat seat c.enter-ring.new.seat before c.member.view_is c.stand.view_is
-        c.enter-ring.ensures.goes_on c.enter-ring.ensures.seat in
+    c.enter-ring.ensures.goes_on c.enter-ring.ensures.seat in
     elim c.match-ticked.branch [
-      in-Ok w ↦
-        let found = IfOk-at_ok _ w.in-Ok.is c.tick-ticked.ensures.ticked in
-        subst (λ r. OnOk r (IsTickTurn lock seat c.leave.new.seat c.args.ms)) (sym w.result-is) (record {
-          found = found.0;
-          turned = turn_done lock seat c.enter-ring.new.seat c.leave.new.seat lock.base.cpus before c.tick-ticked.new.self.notes
-              (Ticked c.args.ms found.0 ∷ []) c.requires.ready at
-              (found.1.adds.notes ∙ ap (λ p. p.notes ++ Ticked c.args.ms found.0 ∷ []) c.deref_mut.ensures.value)
-              (tick_may lock.base seat.number c.args.ms found.0 c.requires.ready.number_is) c.leave.ensures.seat;
-        })
-    | in-Err-Memory w ↦ subst (λ r. OnOk r (IsTickTurn lock seat c.leave.new.seat c.args.ms)) (sym w.result-is) tt
+      | in-Ok w ↦
+          let found = IfOk-at_ok _ w.in-Ok.is c.tick-ticked.ensures.ticked in
+          subst (λ r. OnOk r (IsTickTurn lock seat c.leave.new.seat c.args.ms)) (sym w.result-is) (record {
+            found = found.0;
+            turned = turn_done lock seat c.enter-ring.new.seat c.leave.new.seat lock.base.cpus before c.tick-ticked.new.self.notes
+                (Ticked c.args.ms found.0 ∷ []) c.requires.ready at
+                (found.1.adds.notes ∙ ap (λ p. p.notes ++ Ticked c.args.ms found.0 ∷ []) c.deref_mut.ensures.value)
+                (tick_may lock.base seat.number c.args.ms found.0 c.requires.ready.number_is) c.leave.ensures.seat;
+          })
+      | in-Err-Memory w ↦ subst (λ r. OnOk r (IsTickTurn lock seat c.leave.new.seat c.args.ms)) (sym w.result-is) tt
     ]
 
 pub returns-clause-err : goal.returns-clause-err
@@ -71,12 +71,12 @@ returns-clause-err g c =
     let seat = c.args.stand.now in
     let before = c.enter-ring.result.producer.value.notes in
     let at = entered_at c.member.inside.lock lock c.stand.inside.seat seat c.enter-ring.new.seat before c.member.view_is c.stand.view_is
-        c.enter-ring.ensures.goes_on c.enter-ring.ensures.seat in
+    c.enter-ring.ensures.goes_on c.enter-ring.ensures.seat in
     elim c.match-ticked.branch [
-      in-Ok w ↦ subst (λ r. OnErr r (Turned lock seat c.leave.new.seat [])) (sym w.result-is) tt
-    | in-Err-Memory w ↦
-        let stays = IfErr-at_err _ w.in-Err-Memory.is c.tick-ticked.ensures.err in
-        subst (λ r. OnErr r (Turned lock seat c.leave.new.seat [])) (sym w.result-is)
-        (turn_done lock seat c.enter-ring.new.seat c.leave.new.seat lock.base.cpus before c.tick-ticked.new.self.notes [] c.requires.ready at
+      | in-Ok w ↦ subst (λ r. OnErr r (Turned lock seat c.leave.new.seat [])) (sym w.result-is) tt
+      | in-Err-Memory w ↦
+          let stays = IfErr-at_err _ w.in-Err-Memory.is c.tick-ticked.ensures.err in
+          subst (λ r. OnErr r (Turned lock seat c.leave.new.seat [])) (sym w.result-is)
+          (turn_done lock seat c.enter-ring.new.seat c.leave.new.seat lock.base.cpus before c.tick-ticked.new.self.notes [] c.requires.ready at
           (ap (λ r. r.notes) stays ∙ ap (λ p. p.notes) c.deref_mut.ensures.value ∙ sym (append-nil before)) tt c.leave.ensures.seat)
     ]

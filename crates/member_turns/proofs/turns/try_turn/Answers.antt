@@ -16,10 +16,10 @@ leave-requires-clause-turn g c =
     let leaves = adds_in base seat c.enter-ring.new.seat before c.try_put-tried.new.self.notes in
     of_both c.try_put-tried.result _ _ c.try_put-tried.ensures.tried c.try_put-tried.ensures.unput
     (λ tried found. leaves (try_by c.args.offer found.0 ∷ []) c.enter-ring.ensures.seat
-        (found.1.adds.notes ∙ ap (λ p. p.notes ++ try_by c.args.offer found.0 ∷ []) c.deref_mut.ensures.value)
-        (try_may base seat.number c.args.offer found.0 number few))
+    (found.1.adds.notes ∙ ap (λ p. p.notes ++ try_by c.args.offer found.0 ∷ []) c.deref_mut.ensures.value)
+    (try_may base seat.number c.args.offer found.0 number few))
     (λ unput stays. leaves [] c.enter-ring.ensures.seat
-        (ap (λ r. r.notes) stays.1 ∙ ap (λ p. p.notes) c.deref_mut.ensures.value ∙ sym (append-nil before)) tt)
+    (ap (λ r. r.notes) stays.1 ∙ ap (λ p. p.notes) c.deref_mut.ensures.value ∙ sym (append-nil before)) tt)
 
 pub returns-clause-tried : goal.returns-clause-tried
 returns-clause-tried g c =
@@ -27,7 +27,7 @@ returns-clause-tried g c =
     let seat = c.args.stand.now in
     let before = c.enter-ring.result.producer.value.notes in
     let at = entered_at c.member.inside.lock lock c.stand.inside.seat seat c.enter-ring.new.seat before c.member.view_is c.stand.view_is
-        c.enter-ring.ensures.goes_on c.enter-ring.ensures.seat in
+    c.enter-ring.ensures.goes_on c.enter-ring.ensures.seat in
     IfOk-weaker c.try_put-tried.result _ (IsTryTurn lock seat c.leave.new.seat c.args.offer) (λ tried found. record {
       found = found.0;
       told = found.1.told;
@@ -43,8 +43,8 @@ returns-clause-err g c =
     let seat = c.args.stand.now in
     let before = c.enter-ring.result.producer.value.notes in
     let at = entered_at c.member.inside.lock lock c.stand.inside.seat seat c.enter-ring.new.seat before c.member.view_is c.stand.view_is
-        c.enter-ring.ensures.goes_on c.enter-ring.ensures.seat in
+    c.enter-ring.ensures.goes_on c.enter-ring.ensures.seat in
     IfErr-weaker c.try_put-tried.result _ (λ _. Turned lock seat c.leave.new.seat []) (λ unput stays.
-      turn_done lock seat c.enter-ring.new.seat c.leave.new.seat c.args.offer.frame.cpu before c.try_put-tried.new.self.notes [] c.requires.ready at
-          (ap (λ r. r.notes) stays.1 ∙ ap (λ p. p.notes) c.deref_mut.ensures.value ∙ sym (append-nil before)) tt c.leave.ensures.seat)
+    turn_done lock seat c.enter-ring.new.seat c.leave.new.seat c.args.offer.frame.cpu before c.try_put-tried.new.self.notes [] c.requires.ready at
+    (ap (λ r. r.notes) stays.1 ∙ ap (λ p. p.notes) c.deref_mut.ensures.value ∙ sym (append-nil before)) tt c.leave.ensures.seat)
     c.try_put-tried.ensures.unput
