@@ -19,10 +19,6 @@ pub record Rules : Type 0 where
   -- how many bytes of an arrival the filter keeps; 0 refuses it
   pub verdict : Frame → ℕ
 
--- the verdict without a filter
-abbrev pub keep_all : ℕ
-keep_all = 4294967295
-
 -- the member that an arrival is for first, where the CPU's present member is this
 abbrev pub home_by : Mode → ℕ → ℕ → ℕ → ℕ → ℕ → ℕ → ℕ
 home_by Hash members hash ticket cpu queue present = hash % members

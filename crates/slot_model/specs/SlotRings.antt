@@ -1,6 +1,6 @@
 -- A ring of slots with its reader, as far as reports speak of it: the record of a ring of blocks, with a slot in a
 -- block's place. Its size has the number of slots as `blocks`. No time-out counts.
-use Rattle.std.specs.Prelude.{ℕ, ◌+◌, length, nat_lt, if◌then◌else◌}
+use Rattle.std.specs.Prelude.{ℕ, ◌+◌}
 use Rattle.ring_model.specs.Rings.{Ring}
 use Rattle.ring_model.specs.declared.notes.Offer.{Offer}
 use Rattle.ring_model.specs.declared.notes.Note.{Note}
@@ -22,9 +22,3 @@ slot_note_of_put ring offer = slot_put_note ring.size.blocks ring.released (slot
 
 abbrev pub slot_note_of_try : Ring → Offer → Note
 slot_note_of_try ring offer = slot_try_note ring.size.blocks ring.released (slot_state ring) offer
-
--- the ring after the reader has read a slot, if one is filled and not yet released
-abbrev pub slot_read_once : Ring → Ring
-slot_read_once ring =
-    if nat_lt ring.released (length (slot_state ring).done)
-    then record ring { released = ring.released + 1 } else ring
