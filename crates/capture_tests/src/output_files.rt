@@ -6,28 +6,41 @@ use std::alloc::Global;
 use std::process::Abort;
 use std::test::Fail;
 
-/// A capture that is fed in pieces of this size gives the three frames.
+/// The sizes of pieces in which captures are fed.
+static SIZES: [usize; 3] = [1, 7, 65_536];
+
+/// A capture gives the three frames, in pieces of each of some sizes.
 fn check_spelling(
     rt: &impl Abort,
     alloc: Global,
     name: &str,
     bytes: &[u8],
-    size: usize,
+    sizes: &[usize],
 ) -> Result<(), Fail> {
-    let mut frames = Frames::new(alloc);
-    let answers = decode(alloc, bytes, size, &mut frames);
-    assert_eq!(rt; (name, answers), (name, (Ok(()), Ok(()), 0)));
-    let text = text_of(alloc, &frames)?;
-    assert_eq!(rt; text.as_slice(), THREE_FRAMES.as_slice(), "{name}");
+    for size in sizes {
+        let mut frames = Frames::new(alloc);
+        let answers = decode(alloc, bytes, *size, &mut frames);
+        let text = text_of(alloc, &frames)?;
+        assert_eq!(rt;
+            (name, *size, answers, text.as_slice()),
+            (name, *size, (Ok(()), Ok(()), 0), THREE_FRAMES.as_slice())
+        );
+    }
     Ok(())
 }
 
 #[test]
 fn reads_one_capture_in_four_spellings(rt: HostRuntime) -> Result<(), Fail> {
-    check_spelling(&rt, rt.alloc(), "little, microseconds", &LITTLE_MICRO, 1)?;
-    check_spelling(&rt, rt.alloc(), "big, microseconds", &BIG_MICRO, 7)?;
-    check_spelling(&rt, rt.alloc(), "little, nanoseconds", &LITTLE_NANO, 65_536)?;
-    check_spelling(&rt, rt.alloc(), "big, nanoseconds", &BIG_NANO, 7)
+    check_spelling(
+        &rt,
+        rt.alloc(),
+        "little, microseconds",
+        &LITTLE_MICRO,
+        &SIZES,
+    )?;
+    check_spelling(&rt, rt.alloc(), "big, microseconds", &BIG_MICRO, &SIZES)?;
+    check_spelling(&rt, rt.alloc(), "little, nanoseconds", &LITTLE_NANO, &SIZES)?;
+    check_spelling(&rt, rt.alloc(), "big, nanoseconds", &BIG_NANO, &SIZES)
 }
 
 #[test]

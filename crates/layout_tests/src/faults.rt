@@ -1,10 +1,12 @@
 //! The text of a block with one byte changed, and texts that end elsewhere.
+ghost use Rattle.std.specs.Prelude.{◌≡◌, length};
+
 use crate::sample_blocks::{PAGES, TEXT, fault, part};
 use frame_view::Memory;
 use std::alloc::Global;
 use std::process::Abort;
 use std::test::Fail;
-use tp_layout::{LayoutKind, Shape, walk_text};
+use tp_layout::{LayoutKind, Shape, walk, walk_text};
 
 /// The place of a byte that is changed by an exclusive or with 1, and the fault with its place.
 type Change = (usize, Option<(LayoutKind, u32)>);
@@ -65,6 +67,39 @@ fn check_changes(
 fn one_byte_changed(rt: HostRuntime) -> Result<(), Fail> {
     let shape = PAGES.check().ok().ok_or("a valid request")?;
     check_changes(&rt, rt.alloc(), &shape, &CHANGES)
+}
+
+/// A place that is changed, and what is then read of the packet: its length on the wire, and the first byte of its data.
+type Read = (usize, u32, u8);
+
+static READS: [Read; 2] = [(64, 15, 0xff), (130, 14, 0xfe)];
+
+/// What is read of the first packet of a block.
+fn first_packet(bytes: &[u8], shape: &Shape) -> Option<(u32, u8)>
+    requires { length bytes.now ≡ shape.now.block_size }
+{
+    let mut packets = walk(bytes, shape).ok()?;
+    let packet = packets.next()?;
+    Some((packet.wire, *packet.bytes.first()?))
+}
+
+/// What is read of a block's packet with one byte changed.
+fn changed_packet(alloc: Global, shape: &Shape, place: usize) -> Result<Option<(u32, u8)>, Fail> {
+    let bytes = changed(alloc, place)?;
+    if bytes.len() != shape.block_size() as usize {
+        return Err("a page".into());
+    }
+    Ok(first_packet(bytes.as_slice(), shape))
+}
+
+#[test]
+fn one_byte_changed_that_is_read(rt: HostRuntime) -> Result<(), Fail> {
+    let shape = PAGES.check().ok().ok_or("a valid request")?;
+    for (place, wire, first) in &READS {
+        let found = changed_packet(rt.alloc(), &shape, *place)?;
+        assert_eq!(rt; (*place, found), (*place, Some((*wire, *first))));
+    }
+    Ok(())
 }
 
 /// The fault of the text's first bytes, which are at least a descriptor and at most a block.
