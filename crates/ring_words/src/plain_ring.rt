@@ -225,7 +225,7 @@ pub fn ownership_holds<B: Content + Drop>(ring: &PlainRing<B>)
     let _ring = &ring.given;
 }
 
-/// AllByRecursion blocks as free ones with the word 0, and room for as many.
+/// All blocks as free ones with the word 0, and room for as many.
 fn all_vacant<B: Drop>(alloc: Global, blocks: Vec<B>) -> Result<VecDeque<Vacant<B>>, Memory>
     ensures items { IfOk result (λ vacant. vacant.items
         ≡ map (λ block. record { block = block; mark = 0 }) blocks.items) }

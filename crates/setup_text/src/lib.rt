@@ -24,6 +24,7 @@ pub use jobs::Job;
 pub use laws::{a_written_setup_is_read_back, lines_may_change_places, the_first_fault_answers};
 pub use moments::read_ticks;
 pub use reports::{Forwards, MemberList, MemberReport, Ran, RunReport};
+pub use schedule_lines::{Line, Schedule};
 pub use schedules::read_schedule;
 pub use setup_error::{Needed, SetupError, SetupKind};
 pub use setups::{Setup, read_setup};

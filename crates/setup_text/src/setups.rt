@@ -51,7 +51,7 @@ pub struct Setup {
     pub workers: u32,
 }
 
-/// Reads a setup for a command. docs/setup.md says what its lines are.
+/// Reads a setup for a command. docs/reference.md says what its lines are.
 ///
 /// `TooLarge` comes for more than 1,048,576 bytes, with line 0. Then the first line with a fault
 /// answers, with its number from 1. Where no line has one, `Missing` comes for the first line that
