@@ -8,7 +8,7 @@ ghost use Rattle.work_queue.specs.Works.{IsLawfulWork};
 use frame_view::{ByteList, Memory, Packet, Packets};
 use reader_walk::a_text_is_read_as_it_was_written;
 use std::alloc::Global;
-use tp_layout::{PacketRef, PacketWalk, walk_text};
+use tp_layout::{PacketRef, PacketWalk, a_shape_is_sound, walk_text};
 use work_queue::Work;
 
 /// A copy of a packet that is read in place.
@@ -47,7 +47,7 @@ pub fn decode(alloc: Global, work: &Work) -> Result<Packets, Memory>
         packets ≡ (taken_in work.now.shape work.now.text).packets) }
 {
     a_text_is_read_as_it_was_written();
-    let _size = work.shape.block_size();
+    a_shape_is_sound(&work.shape);
     match walk_text(work.text.as_slice(), &work.shape) {
         Ok(walk) => Ok(Packets::from_vec(copies(alloc, walk)?)),
         Err(_) => unreachable!(),

@@ -8,6 +8,7 @@ use crate::decode;
 use frame_view::{ByteList, Memory, Packets};
 use reader_walk::a_text_is_read_as_it_was_written;
 use std::alloc::Global;
+use tp_layout::a_shape_is_sound;
 use work_queue::Work;
 
 /// A work that was decoded.
@@ -29,7 +30,7 @@ fn kept_text(alloc: Global, work: Work, dumps: bool) -> ByteList
     ensures { result ≡ text_by dumps work.shape (work_taken work) }
 {
     a_text_is_read_as_it_was_written();
-    let _size = work.shape.block_size();
+    a_shape_is_sound(&work.shape);
     if dumps {
         work.text
     } else {

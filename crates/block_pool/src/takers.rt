@@ -7,7 +7,7 @@ use reader_walk::{Taker, a_text_is_read_as_it_was_written};
 use std::alloc::Global;
 use std::marker::Model;
 use std::sync::Wait;
-use tp_layout::{Block, Shape, text_of};
+use tp_layout::{Block, Shape, a_shape_is_sound, text_of};
 use work_queue::{Work, WorkPass, WorkQueue};
 
 /// A taker that copies the text of each block into a work, with its member and the next number.
@@ -62,7 +62,7 @@ impl<'a, R: Wait> Taker for Handing<'a, R> {
 
     fn block(&mut self, block: &Block) -> Result<(), Memory> {
         a_text_is_read_as_it_was_written();
-        let _size = self.shape.block_size();
+        a_shape_is_sound(&self.shape);
         let text = ByteList::from_vec(text_of(block).to_vec(self.alloc)?);
         let work = Work {
             member: self.member,

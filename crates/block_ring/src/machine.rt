@@ -32,7 +32,7 @@ mod filling;
 use crate::open_block::OpenBlock;
 use ring_model::{Found, Note, Offer, Stats, due};
 use ring_words::{FeederEnd, Next};
-use tp_layout::{Block, Shape};
+use tp_layout::{Block, Shape, a_shape_is_sound};
 
 /// A ring between two notes.
 #[derive(Drop)]
@@ -72,7 +72,7 @@ impl<E: FeederEnd<Block> + Drop> Machine<E> {
         ensures clock { result.clock ≡ 0 }
         ensures end { E.feed result.end ≡ record (E.feed end) { given = 1 } }
     {
-        let _size = shape.block_size();
+        a_shape_is_sound(&shape);
         match end.next() {
             Next::Free { block, .. } => Machine {
                 shape,

@@ -10,7 +10,9 @@ ghost use Rattle.tp_layout.specs.Writing.{IsWritable};
 ghost use Rattle.block_ring.specs.OpenBlocks.{Holds, OpenText, with_packet};
 
 use ring_model::{Offer, need};
-use tp_layout::{Block, Closing, Shape, close_header, write_header, write_packet};
+use tp_layout::{
+    Block, Closing, Shape, a_shape_is_sound, close_header, write_header, write_packet,
+};
 
 /// A block that packets are written into.
 #[derive(Drop)]
@@ -27,7 +29,6 @@ impl OpenBlock {
         ensures { Holds shape.now (record { number = number; offers = [] }) result }
     {
         write_header(&mut block, shape, number);
-        let _size = shape.block_size();
         let first = shape.first();
         OpenBlock {
             block,
@@ -60,9 +61,8 @@ impl OpenBlock {
         requires need { need ≤ 1048576 }
         ensures { result ≡ fits (room_of shape.now) text.offers need }
     {
-        let size = shape.block_size();
-        let _room = shape.room();
-        self.closing.length + need <= size
+        a_shape_is_sound(shape);
+        self.closing.length + need <= shape.block_size()
     }
 
     /// Writes the packet of an offer after the others.
@@ -73,7 +73,7 @@ impl OpenBlock {
         requires room { self.old.closing.length + need_of offer.now.snap ≤ shape.now.block_size }
         ensures { Holds shape.now (with_packet text offer.now) self.new }
     {
-        let _size = shape.block_size();
+        a_shape_is_sound(shape);
         let at = self.closing.length;
         let (first_sec, first_nsec) = self.first_time(offer);
         write_packet(&mut self.block, shape, at, offer);
@@ -101,7 +101,7 @@ impl OpenBlock {
         ensures text { BeginsWith shape.now text.number status
             (packets_of_offers shape.now text.offers) result.bytes }
     {
-        let _size = shape.block_size();
+        a_shape_is_sound(shape);
         let closing = Closing {
             status,
             ..self.closing

@@ -16,7 +16,7 @@ use ring_model::{Found, Note, Notes, Offer, Put, Stats, Tried, Unput, need};
 use ring_words::FeederEnd;
 use std::alloc::Global;
 use std::marker::Model;
-use tp_layout::{Block, Shape};
+use tp_layout::{Block, Shape, a_shape_is_sound};
 
 /// A receive ring: the feeder's side, which keeps, refuses or drops packets. Contracts see its shape, its notes, its
 /// end, and how many more notes need no memory.
@@ -92,8 +92,7 @@ impl<E: FeederEnd<Block> + Drop> Producer<E> {
         let Ok(()) = self.reserve(1) else {
             return Err(Unput { offer });
         };
-        let _room = self.machine.shape.room();
-        let _size = self.machine.shape.block_size();
+        a_shape_is_sound(&self.machine.shape);
         let found = self.machine.try_put(&offer);
         let (note, tried) = noted_try(offer, found);
         self.machine.notes.push_reserved(note);
@@ -116,8 +115,7 @@ impl<E: FeederEnd<Block> + Drop> Producer<E> {
         let Ok(()) = self.reserve(1) else {
             return Err(Unput { offer });
         };
-        let _room = self.machine.shape.room();
-        let _size = self.machine.shape.block_size();
+        a_shape_is_sound(&self.machine.shape);
         let found = self.machine.put(&offer);
         let (note, put) = noted_put(offer, found);
         self.machine.notes.push_reserved(note);

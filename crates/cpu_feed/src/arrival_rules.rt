@@ -8,6 +8,7 @@ ghost use Rattle.tp_layout.specs.Requests.{room_of};
 
 use fanout_group::ArrivalRules;
 use setup_text::Job;
+use tp_layout::a_shape_is_sound;
 
 /// What the arrivals of a CPU are looked at with: the job's key, filter and address, the CPU's
 /// receive queue, and the room of a block.
@@ -23,8 +24,7 @@ pub fn rules_at(job: &Job, cpu: usize) -> ArrivalRules
         Some(cpu) => cpu.queue,
         None => 0,
     };
-    let _first = job.setup.shape.first();
-    let _size = job.setup.shape.block_size();
+    a_shape_is_sound(&job.setup.shape);
     ArrivalRules {
         key: job.setup.key.as_ref(),
         filter: job.program.as_ref(),

@@ -10,7 +10,7 @@ use block_ring::Producer;
 use frame_view::Memory;
 use ring_words::{TableWalker, table_ring};
 use std::alloc::Global;
-use tp_layout::{Block, Shape, blocks};
+use tp_layout::{Block, Shape, a_shape_is_sound, blocks};
 use turn_lock::{TurnLock, TurnSeat};
 
 /// A member with an empty ring of this shape, the stands at it, and the reader's end of its ring.
@@ -52,8 +52,7 @@ fn new_ring(
     ensures walker { IfOk result (λ made. made.1
         ≡ fresh_walker made.1.id shape.now.block_nr (numbers_of shape.now)) }
 {
-    let _size = shape.block_size();
-    let _few = shape.block_nr();
+    a_shape_is_sound(shape);
     let (feeder, walker) = table_ring(alloc, blocks(alloc, shape)?)?;
     let producer = Box::new(alloc, Producer::new(alloc, *shape, feeder)?)?;
     Ok((MemberRing { producer, cpus }, walker))

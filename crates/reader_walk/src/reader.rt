@@ -18,7 +18,7 @@ use frame_view::{ByteList, Memory, Packets};
 use ring_words::WalkerEnd;
 use std::alloc::Global;
 use std::marker::Model;
-use tp_layout::{Block, PacketWalk, Shape, text_of, walk};
+use tp_layout::{Block, PacketWalk, Shape, a_shape_is_sound, text_of, walk};
 
 /// TP_STATUS_KERNEL of `linux/if_packet.h`: the word of a free block.
 const FREE: u32 = 0;
@@ -215,7 +215,7 @@ fn packets_in<'a>(block: &'a Block, shape: &Shape) -> PacketWalk<'a>
     requires { IsReadable shape.now block.now }
     ensures { result ≡ packets_of shape.now block.now.bytes }
 {
-    let _size = shape.block_size();
+    a_shape_is_sound(shape);
     match walk(block.bytes(), shape) {
         Ok(packets) => packets,
         Err(_) => unreachable!(),
@@ -236,7 +236,7 @@ fn whole_text<'a>(block: &'a Block, shape: &Shape) -> &'a [u8]
     ensures { result.now ≡ text_of_taken shape.now (taken_in shape.now block.now.bytes) }
 {
     // A block has at most 1 MiB, so its lengths are what its fields say.
-    let _size = shape.block_size();
+    a_shape_is_sound(shape);
     text_of(block)
 }
 
@@ -247,7 +247,7 @@ fn head_of(block: &Block, shape: &Shape) -> (u64, u32)
     ensures status { result.1 ≡ number_at 4 8 block.now.bytes }
 {
     // A block has whole pages, so its descriptor is there.
-    let _size = shape.block_size();
+    a_shape_is_sound(shape);
     let bytes = block.bytes();
     let (_, status) = bytes.split_at(8);
     let (_, number) = bytes.split_at(24);

@@ -10,7 +10,7 @@ use frame_view::{ByteList, Frame, Memory};
 use ring_model::Offer;
 use ring_words::PlainRing;
 use std::alloc::Global;
-use tp_layout::{Block, Shape, blocks};
+use tp_layout::{Block, Shape, a_shape_is_sound, blocks};
 
 pub(crate) type Ring = Producer<PlainRing<Block>>;
 
@@ -41,8 +41,7 @@ pub(crate) fn fitting(shape: &Shape, length: u32) -> u32
     ensures least { 14 ≤ result }
     ensures room { 82 + result ≤ room_of shape.now }
 {
-    let _size = shape.block_size();
-    let _first = shape.first();
+    a_shape_is_sound(shape);
     length.min(shape.room() - 82).max(14)
 }
 
@@ -115,7 +114,7 @@ pub(crate) fn new_ring(alloc: Global, shape: &Shape) -> Result<Ring, Memory>
     ensures hand { IfOk result (λ ring. has_block ring.end ≡ false) }
     ensures notes { IfOk result (λ ring. ring.notes ≡ []) }
 {
-    let _size = shape.block_size();
+    a_shape_is_sound(shape);
     let end = PlainRing::new(alloc, blocks(alloc, shape)?)?;
     Producer::new(alloc, *shape, end)
 }

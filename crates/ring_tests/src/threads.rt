@@ -13,7 +13,7 @@ use std::alloc::Global;
 use std::test::Fail;
 use std::thread;
 use std::thread::Threads;
-use tp_layout::{Block, Shape, blocks};
+use tp_layout::{Block, Shape, a_shape_is_sound, blocks};
 
 /// How often a side looks again where it finds nothing, before it gives up.
 const LOOKS: u64 = 100_000_000;
@@ -32,8 +32,7 @@ fn new_sides(alloc: Global, shape: &Shape) -> Result<(Ring, TableWalker<Block>),
     ensures kind { IfOk result (λ sides. sides.1.kind ≡ numbers_of shape.now) }
     ensures hand { IfOk result (λ sides. sides.1.in_hand ≡ false) }
 {
-    let _size = shape.block_size();
-    let _few = shape.block_nr();
+    a_shape_is_sound(shape);
     let (feeder, walker) = table_ring(alloc, blocks(alloc, shape)?)?;
     let ring = Producer::new(alloc, *shape, feeder)?;
     Ok((ring, walker))

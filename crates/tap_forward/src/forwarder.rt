@@ -13,7 +13,7 @@ use frame_view::{Memory, Packets};
 use reader_walk::{Outputs, Reader, Taker, a_text_is_read_as_it_was_written};
 use std::alloc::Global;
 use std::marker::Model;
-use tp_layout::{Block, Shape};
+use tp_layout::{Block, Shape, a_shape_is_sound};
 
 /// What a forwarder leaves.
 #[derive(Debug, Drop)]
@@ -122,7 +122,7 @@ fn packets_in(alloc: Global, shape: Shape, block: &Block) -> Result<Packets, Mem
 {
     a_text_is_read_as_it_was_written();
     // A block has at most 1 MiB, and each packet takes at least 88 bytes of it.
-    let _size = shape.block_size();
+    a_shape_is_sound(&shape);
     let mut reader = Reader::new(alloc, shape, false);
     reader.walk_block(block)?;
     Ok(reader.outputs().walked)

@@ -18,7 +18,7 @@ use ring_words::PlainRing;
 use setup_text::MemberReport;
 use std::alloc::Global;
 use std::marker::{Model, PhantomData};
-use tp_layout::{Block, Shape, blocks};
+use tp_layout::{Block, Shape, a_shape_is_sound, blocks};
 
 /// A ring of blocks with its reader. Contracts see the ring: its size, its notes, and how many
 /// blocks its reader has released.
@@ -57,7 +57,7 @@ impl<K: Setting> BlockMember<K> {
         requires dump { dump ≡ K.dumps }
         ensures { IfOk result (λ member. member ≡ fresh (size_of shape.now)) }
     {
-        let _size = shape.block_size();
+        a_shape_is_sound(shape);
         let ring = PlainRing::new(alloc, blocks(alloc, shape)?)?;
         Ok(BlockMember {
             producer: Producer::new(alloc, *shape, ring)?,

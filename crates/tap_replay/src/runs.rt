@@ -23,7 +23,7 @@ use setup_text::{Job, Ran};
 use std::alloc::Global;
 use std::marker::Brand;
 use tap_outside::Source;
-use tp_layout::Shape;
+use tp_layout::{Shape, a_shape_is_sound};
 
 /// Replays a job over rings of blocks: the lines of the schedule in order, and then each CPU from 0
 /// up to its end. The sources are one for each CPU, and come back less the bytes that they gave; a
@@ -76,8 +76,7 @@ fn replay_as<S: Source, K: Setting>(
 fn room_of_blocks(shape: &Shape) -> u32
     ensures { IsRoomOf (block_steps (size_of shape.now)) result }
 {
-    let _first = shape.first();
-    let _size = shape.block_size();
+    a_shape_is_sound(shape);
     shape.room()
 }
 

@@ -23,6 +23,6 @@ pub use packet_refs::PacketRef;
 pub use packet_walks::PacketWalk;
 pub use requests::RingRequest;
 pub use ring_blocks::{Block, blocks};
-pub use shapes::Shape;
+pub use shapes::{Shape, a_shape_is_sound};
 pub use walking::{text_of, walk, walk_text};
 pub use writing::{Closing, close_header, write_header, write_packet};

@@ -109,3 +109,13 @@ impl Shape {
         self.request.features == 1
     }
 }
+
+/// A law: a shape passed the tests of its request, and the room of its blocks is what they have after the place of the
+/// first packet. The call does nothing.
+pub fn a_shape_is_sound(shape: &Shape)
+    ensures sound { IsShape shape.now }
+    ensures room { first_of shape.now + room_of shape.now ≡ shape.now.block_size }
+    ensures aligned { room_of shape.now % 8 ≡ 0 }
+{
+    let _ = &shape.request;
+}

@@ -23,7 +23,7 @@ use slot_layout::a_checked_ring_is_bounded;
 use std::alloc::Global;
 use std::marker::Brand;
 use tap_outside::Source;
-use tp_layout::Shape;
+use tp_layout::{Shape, a_shape_is_sound};
 
 /// Replays a job over rings of slots (TPACKET_V2 of packet_mmap.rst): the lines of the schedule in
 /// order, and then each CPU from 0 up to its end. A `tick` line does nothing, since such a ring has
@@ -85,7 +85,7 @@ fn room_of_slots(shape: &Shape) -> u32
     ensures { IsRoomOf (slot_steps (slot_size_of shape.now)) result }
 {
     a_checked_ring_is_bounded();
-    let _size = shape.block_size();
+    a_shape_is_sound(shape);
     shape.frame_size() + NEARER
 }
 

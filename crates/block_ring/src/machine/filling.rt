@@ -13,7 +13,7 @@ use super::Machine;
 use crate::open_block::OpenBlock;
 use ring_model::{Found, Offer, need};
 use ring_words::FeederEnd;
-use tp_layout::Block;
+use tp_layout::{Block, a_shape_is_sound};
 
 /// TP_STATUS_USER of `linux/if_packet.h`: the block is the reader's.
 const USER: u32 = 1;
@@ -46,7 +46,7 @@ impl<E: FeederEnd<Block> + Drop> Machine<E> {
         requires room { need_of offer.now.snap ≤ room_of self.now.shape }
         ensures { result ≡ has_room (size_of self.now.shape) (need_of offer.now.snap) state.now }
     {
-        let _size = self.shape.block_size();
+        a_shape_is_sound(&self.shape);
         match &self.current {
             Some(block) => block.has_room(&self.shape, need(offer.snap)),
             None => false,

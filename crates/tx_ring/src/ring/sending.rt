@@ -8,6 +8,7 @@ use super::{Sent, TxRing};
 use crate::SendError;
 use crate::slot_fields::{AVAILABLE, WRONG_FORMAT};
 use frame_view::{ByteList, Memory, Packet, Packets};
+use tp_layout::a_shape_is_sound;
 
 /// The fewest bytes of a frame: an Ethernet header.
 const LEAST: usize = 14;
@@ -43,7 +44,7 @@ impl TxRing {
     fn requested(&self) -> u32
         ensures { result ≡ length self.now.requests }
     {
-        let _most = self.shape.frame_nr();
+        a_shape_is_sound(&self.shape);
         (self.placed - self.taken) as u32
     }
 

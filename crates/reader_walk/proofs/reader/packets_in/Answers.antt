@@ -12,5 +12,5 @@ unreachable-requires c =
     (subst (λ (bytes : List ℕ). BeginsWith c.args.shape.now t.0 t.1 x.0 bytes) (sym c.bytes.ensures.value) x.1)))
 
 pub returns : goal.returns
-returns c = packets_told c.args.shape.now c.args.block.now.bytes c.in-Ok.packets c.block_size-size.ensures.sound.small
+returns c = packets_told c.args.shape.now c.args.block.now.bytes c.in-Ok.packets c.a_shape_is_sound.ensures.sound.small
     (subst (λ (bytes : List ℕ). HasText c.args.shape.now bytes c.in-Ok.packets) c.bytes.ensures.value c.in-Ok.ensures.found)

@@ -18,7 +18,7 @@ returns c =
     let t = c.requires.text in
     let shape = c.args.shape.now in
     let bytes = c.args.block.now.bytes in
-    let small = c.block_size-size.ensures.sound.small in
+    let small = c.a_shape_is_sound.ensures.sound.small in
     ∥∥₁_elim t.2 (search props) (λ x.
     c.text_of.ensures t.0 t.1 x.0 (subst (λ (s : RingRequest). BeginsWith s t.0 t.1 x.0 bytes) (sym c.requires.shape_is) x.1)
     ∙ ap (λ (s : RingRequest). block_text s t.0 t.1 x.0) c.requires.shape_is

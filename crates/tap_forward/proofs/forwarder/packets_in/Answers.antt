@@ -23,4 +23,4 @@ returns-clause-few c =
     ∙ ap (λ (r : ReaderValue). walked_of (r.taken ++ taken_in r.shape bytes ∷ [])) c.new-reader.ensures
     ∙ one_block (taken_in c.args.shape bytes) in
     subst (λ (packets : List Packet). length packets ≤ 16383) (sym same)
-    (few_packets c.a_text_is_read_as_it_was_written.ensures c.args.shape c.args.block.now c.block_size-size.ensures.sound.small c.requires)
+    (few_packets c.a_text_is_read_as_it_was_written.ensures c.args.shape c.args.block.now c.a_shape_is_sound.ensures.sound.small c.requires)

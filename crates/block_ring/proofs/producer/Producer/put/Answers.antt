@@ -14,7 +14,7 @@ put-found-requires g c κs within =
     let count = ap (λ (p : Producing g.row.E.Denot). length p.notes) same in
     let few : length c.self.inside.machine.notes.items < 2 ^ 39 = omega (arith, c.requires.few, count) in
     let room = subst (λ s. 82 + c.args.offer.snap ≤ room_of s) (sym (ap (λ (p : Producing g.row.E.Denot). p.shape) same)) c.requires.room in
-    let aligned = c.room-room.ensures.aligned in
+    let aligned = c.a_shape_is_sound.ensures.aligned in
     (within, (c.self.invariant.at, (c.self.invariant.few, (omega arith, c.requires.sound))))
 
 pub invariant_of-self : goal.invariant_of-self
