@@ -1,4 +1,5 @@
 pub mod Datagrams
+pub mod Extents
 pub mod Fold
 pub mod Fragments
 pub mod Grouped

@@ -1,12 +1,11 @@
 //! The fragments of one datagram, as far as they were pushed.
 ghost use Rattle.std.specs.Prelude.{◌≡◌, ◌+◌, ◌≤◌, ◌++◌, ◌∷◌, [], IfErr, IfOk, OnErr, OnOk, true, false, length};
-ghost use Rattle.std.specs.List.{list_any};
 ghost use Rattle.ip_defrag.specs.Fragments.{takes_part};
-ghost use Rattle.ip_defrag.specs.Fold.{conflicts};
+ghost use Rattle.ip_defrag.specs.Extents.{AreKept};
 ghost use Rattle.ip_defrag.specs.Grouped.{FitsIn, completed_with, is_fresh, is_live, judgement, opened_by, with_frame};
-ghost use Rattle.ip_defrag.specs.Held.{AreHeld};
 
 use crate::NoPush;
+use crate::extents::Extent;
 use crate::fragments::Fragment;
 use crate::names::Name;
 use crate::rules::{one_conflicts, one_is_copy};
@@ -27,6 +26,8 @@ pub(crate) struct Datagram {
     opened: u32,
     /// The fragments, in the order in which they were pushed.
     fragments: Vec<Fragment>,
+    /// What they are in all.
+    extent: Extent,
 }
 
 impl Model for Datagram {
@@ -34,7 +35,7 @@ impl Model for Datagram {
 
     ghost Value = { Group };
 
-    ghost use Rattle.ip_defrag.specs.Held.{AreHeld};
+    ghost use Rattle.ip_defrag.specs.Extents.{AreKept};
 
     ghost view = { λ it. record {
       name = it.name;
@@ -42,7 +43,7 @@ impl Model for Datagram {
       fragments = it.fragments.items;
     } };
 
-    ghost invariant = { λ it. AreHeld it.fragments.items };
+    ghost invariant = { λ it. AreKept it.fragments.items it.extent };
 }
 
 /// What a new fragment is to those that are held of its datagram.
@@ -64,6 +65,7 @@ impl Datagram {
     {
         let name = fragment.name();
         let opened = fragment.frame().sec;
+        let extent = Extent::new().with(&fragment);
         let mut fragments = Vec::new(alloc);
         if let Err(refused) = fragments.push(fragment) {
             return Err(NoPush {
@@ -74,6 +76,7 @@ impl Datagram {
             name,
             opened,
             fragments,
+            extent,
         })
     }
 
@@ -123,22 +126,23 @@ impl Datagram {
         ensures unchanged { OnErr result (self.new ≡ self.old) }
         ensures handed_back { IfErr result (λ no. no.frame ≡ fragment) }
     {
-        add_to(alloc, &mut self.fragments, fragment)
+        let extent = self.extent.with(&fragment);
+        let whole = add_to(alloc, &mut self.fragments, extent, fragment)?;
+        self.extent = extent;
+        Ok(whole)
     }
 }
 
-/// Adds a fragment after others, and gives their datagram's frame where that completes it. After `NoPush`
-/// nothing has changed, and the fragment's frame is handed back.
+/// Adds a fragment after others, and gives their datagram's frame where that completes it. The extent is that
+/// of all of them. After `NoPush` nothing has changed, and the fragment's frame is handed back.
 fn add_to(
     alloc: Global,
     fragments: &mut Vec<Fragment>,
+    extent: Extent,
     fragment: Fragment,
 ) -> Result<Option<Frame>, NoPush>
-    requires taken { takes_part fragment ≡ true }
-    requires held { AreHeld fragments.old.items }
-    requires fits { list_any (conflicts fragment) fragments.old.items ≡ false }
+    requires kept { AreKept (fragments.old.items ++ fragment ∷ []) extent }
     ensures added { OnOk result (fragments.new.items ≡ fragments.old.items ++ fragment ∷ []) }
-    ensures held { AreHeld fragments.new.items }
     ensures whole { IfOk result (λ it. it ≡ completed_with fragment fragments.old.items) }
     ensures unchanged { OnErr result (fragments.new.items ≡ fragments.old.items) }
     ensures handed_back { IfErr result (λ no. no.frame ≡ fragment) }
@@ -149,7 +153,7 @@ fn add_to(
         });
     }
     let newest = &fragments[fragments.len() - 1];
-    if let Ok(whole) = completed(alloc, fragments, newest) {
+    if let Ok(whole) = completed(alloc, fragments, extent, newest) {
         return Ok(whole);
     }
     Err(NoPush {

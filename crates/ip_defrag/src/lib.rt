@@ -3,6 +3,7 @@
 
 mod datagrams;
 mod defrag;
+mod extents;
 mod fragments;
 mod laws;
 mod names;

@@ -1,38 +1,21 @@
 //! The datagram that its fragments make.
 ghost use Rattle.std.specs.Prelude.{◌≡◌, ◌+◌, ◌-◌, ◌%◌, ◌≤◌, length, find, option_copied, IfOk, replicate};
 ghost use Rattle.std.specs.List.{AllByRecursion};
-ghost use Rattle.ip_defrag.specs.Fragments.{is_last, to_of};
+ghost use Rattle.ip_defrag.specs.Extents.{AreKept};
+ghost use Rattle.ip_defrag.specs.Fragments.{to_of};
 ghost use Rattle.ip_defrag.specs.Datagrams.{bytes_from, completed, data_from, framed, is_first, put_u16, summed, unsummed};
-ghost use Rattle.ip_defrag.specs.Held.{AreHeld, filled, written};
+ghost use Rattle.ip_defrag.specs.Held.{AreHeld, written};
 
+use crate::extents::Extent;
 use crate::fragments::Fragment;
 use frame_view::{ByteList, Frame, Memory, checksum};
 use std::alloc::Global;
-
-/// The first of some fragments after which no more follow.
-fn last(fragments: &[Fragment]) -> Option<&Fragment>
-    ensures { option_copied result ≡ find is_last fragments.now }
-{
-    fragments.iter().find(|fragment| fragment.is_last())
-}
 
 /// The first of some fragments whose data begins their datagram.
 fn first(fragments: &[Fragment]) -> Option<&Fragment>
     ensures { option_copied result ≡ find is_first fragments.now }
 {
     fragments.iter().find(|fragment| fragment.from() == 0)
-}
-
-/// The number of bytes of data that some fragments have in all.
-fn filled(fragments: &[Fragment]) -> usize
-    requires { AreHeld fragments.now }
-    ensures { result ≡ filled fragments.now }
-{
-    let mut count = 0_usize;
-    for fragment in fragments {
-        count += fragment.to() - fragment.from();
-    }
-    count
 }
 
 /// Writes a number over the two bytes at a place, the high byte first.
@@ -104,25 +87,28 @@ fn whole_bytes(
     Ok(ByteList::from_vec(bytes))
 }
 
-/// The frame of a datagram, where some of its fragments are all of them: one is last, and every place below its
-/// end lies in one of them. It has the CPU, the index and the time of the newest.
+/// The frame of a datagram, where some of its fragments, whose extent is given, are all of them: one is last, and
+/// every place below its end lies in one of them. It has the CPU, the index and the time of the newest.
 #[tactic(auto, unfolding(crate::specs::Datagrams::completed, crate::specs::Datagrams::datagram_from))]
 pub(crate) fn completed(
     alloc: Global,
     fragments: &[Fragment],
+    extent: Extent,
     newest: &Fragment,
 ) -> Result<Option<Frame>, Memory>
-    requires { AreHeld fragments.now }
+    requires { AreKept fragments.now extent }
     ensures { IfOk result (λ whole. whole ≡ completed fragments.now newest.now) }
 {
-    let (Some(last), Some(first)) = (last(fragments), first(fragments)) else {
+    let Some(end) = extent.end else {
         return Ok(None);
     };
-    let len = last.to();
-    if filled(fragments) != len {
+    if extent.filled != end {
         return Ok(None);
     }
-    let bytes = whole_bytes(alloc, first, len, fragments)?;
+    let Some(first) = first(fragments) else {
+        return Ok(None);
+    };
+    let bytes = whole_bytes(alloc, first, end, fragments)?;
     Ok(Some(framed(newest.frame(), first.frame(), bytes)))
 }
 

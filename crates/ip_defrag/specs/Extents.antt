@@ -1,0 +1,31 @@
+-- What the code keeps of a datagram's fragments in all, so that a push needn't look at each. In bytes, from 0.
+use Rattle.std.specs.Prelude.{◌≡◌, ℕ, ◌+◌, ◌-◌, List, find, Option, None, Some, option_map, if◌then◌else◌}
+use Rattle.frame_view.specs.declared.frames.Frame.{Frame}
+use Rattle.ip_defrag.specs.Fragments.{from_of, to_of, is_last}
+use Rattle.ip_defrag.specs.Held.{AreHeld, filled}
+use Rattle.ip_defrag.specs.declared.extents.Extent.{Extent}
+
+-- where a datagram ends, if one of its frames is last
+abbrev pub end_of : List Frame → Option ℕ
+end_of frames = option_map to_of (find is_last frames)
+
+-- the extent of some frames
+unfoldable pub extent_of : List Frame → Extent
+extent_of frames = record { filled = filled frames; end = end_of frames }
+
+-- the end of a datagram with a frame more
+abbrev pub end_with : Frame → Option ℕ → Option ℕ
+end_with new None = if is_last new then Some (to_of new) else None
+end_with new (Some end) = Some end
+
+-- an extent with a frame more
+abbrev pub extended : Frame → Extent → Extent
+extended new extent = record {
+  filled = extent.filled + (to_of new - from_of new);
+  end = end_with new extent.end;
+}
+
+-- the frames of a datagram are kept with their extent
+pub record AreKept (frames : List Frame) (extent : Extent) : Type 0 where
+  pub held : AreHeld frames
+  pub counted : extent ≡ extent_of frames
