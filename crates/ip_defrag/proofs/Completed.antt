@@ -1,10 +1,10 @@
 -- When the frames of a name are a whole datagram.
-use Rattle.std.proofs.Common.{◌≡◌, ◌≤◌, ℕ, Bool, true, false, nat_eq, List, find, Option, None, Some, option_map, cond, refl, ap, ◌∙◌, sym, subst}
+use Rattle.std.proofs.Common.{◌≡◌, ◌≤◌, ℕ, Bool, false, nat_eq, List, find, Option, None, Some, option_map, cond, refl, ap, ◌∙◌, sym, subst}
 use Rattle.std.specs.List.{AllByRecursion}
 use Rattle.std.proofs.lemmas.Option.{same_Some, none-some}
 use Rattle.frame_view.specs.declared.frames.Frame.{Frame}
 use Rattle.ip_defrag.specs.Fragments.{to_of, is_last}
-use Rattle.ip_defrag.specs.Datagrams.{completed, completed_at, covers_all, datagram_from, is_first}
+use Rattle.ip_defrag.specs.Datagrams.{completed, completed_at, datagram_from, is_first}
 use Rattle.ip_defrag.specs.Extents.{AreKept, extent_of}
 use Rattle.ip_defrag.specs.Held.{AreHeld, filled}
 use Rattle.ip_defrag.specs.declared.extents.Extent.{Extent}

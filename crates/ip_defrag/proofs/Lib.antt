@@ -3,6 +3,7 @@ pub mod Covers
 pub mod Filled
 pub mod Groups
 pub mod JoinedFrames
+pub mod Judged
 pub mod Kept
 pub mod Passed
 pub mod Places

@@ -13,8 +13,8 @@ use Rattle.ip_defrag.specs.Fragments.{takes_part, name_of, from_of, to_of, is_la
 use Rattle.ip_defrag.specs.Datagrams.{completed, completed_at}
 use Rattle.ip_defrag.specs.Fold.{same_name, is_named, of_name, without, without_first, names_of, is_stale, fresh, with_room, kept_for, most_names, is_copy, conflicts, Passed, join_by, judge, pass}
 use Rattle.ip_defrag.specs.Grouped.{Group, group_of, groups, has_name, is_fresh, is_live, with_frame, updated, opened_by, with_place, after_opening, Agrees, joined, joined_by, held_by, joined_whole, completed_with, judgement}
-use Rattle.ip_defrag.specs.declared.datagrams.Judgement.{Judgement}
-use Rattle.ip_defrag.specs.declared.datagrams.Judgement.TheVariants.{Copy, Conflict, Fits}
+use Rattle.ip_defrag.specs.declared.rules.Judgement.{Judgement}
+use Rattle.ip_defrag.specs.declared.rules.Judgement.TheVariants.{Copy, Conflict, Fits}
 use Rattle.ip_defrag.specs.Held.{filled}
 use Rattle.ip_defrag.specs.declared.names.Name.{Name}
 use Rattle.ip_defrag.proofs.Completed.{not_completed}

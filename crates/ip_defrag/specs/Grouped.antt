@@ -5,8 +5,8 @@ use Rattle.ip_defrag.specs.Fragments.{name_of}
 use Rattle.std.specs.List.{list_any}
 use Rattle.ip_defrag.specs.Fold.{same_name, of_name, names_of, opened_at, most_names, Passed, pass, is_copy, conflicts}
 use Rattle.ip_defrag.specs.Datagrams.{completed}
-use Rattle.ip_defrag.specs.declared.datagrams.Judgement.{Judgement}
-use Rattle.ip_defrag.specs.declared.datagrams.Judgement.TheVariants.{Copy, Conflict, Fits}
+use Rattle.ip_defrag.specs.declared.rules.Judgement.{Judgement}
+use Rattle.ip_defrag.specs.declared.rules.Judgement.TheVariants.{Copy, Conflict, Fits}
 use Rattle.ip_defrag.specs.declared.passes.Answer.{Answer}
 use Rattle.ip_defrag.specs.declared.names.Name.{Name}
 

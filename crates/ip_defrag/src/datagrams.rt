@@ -8,7 +8,7 @@ use crate::NoPush;
 use crate::extents::Extent;
 use crate::fragments::Fragment;
 use crate::names::Name;
-use crate::rules::{one_conflicts, one_is_copy};
+use crate::rules::{Judgement, apart, judge};
 use crate::wholes::completed;
 use frame_view::Frame;
 use std::alloc::Global;
@@ -44,17 +44,6 @@ impl Model for Datagram {
     } };
 
     ghost invariant = { λ it. AreKept it.fragments.items it.extent };
-}
-
-/// What a new fragment is to those that are held of its datagram.
-#[derive(Clone, Copy)]
-pub(crate) enum Judgement {
-    /// It is a copy of one of them.
-    Copy,
-    /// It conflicts with one of them.
-    Conflict,
-    /// It can be held beside them.
-    Fits,
 }
 
 impl Datagram {
@@ -103,16 +92,17 @@ impl Datagram {
         self.fragments.len() as u32
     }
 
-    /// What a new fragment is to its fragments.
+    /// What a new fragment is to its fragments. One after all of them, or before all of them, shares no place with
+    /// any, so that only the end decides, and none is looked at.
     pub(crate) fn judge(&self, new: &Fragment) -> Judgement
         ensures { result ≡ judgement new.now self.now.fragments }
     {
-        if one_is_copy(new, &self.fragments) {
-            Judgement::Copy
-        } else if one_conflicts(new, &self.fragments) {
-            Judgement::Conflict
+        if new.from() >= self.extent.reach {
+            apart(self.extent.end.is_some())
+        } else if new.to() <= self.extent.begin {
+            apart(new.is_last())
         } else {
-            Judgement::Fits
+            judge(new, &self.fragments)
         }
     }
 

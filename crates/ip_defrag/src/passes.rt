@@ -7,9 +7,10 @@ ghost use Rattle.ip_defrag.specs.Fold.{pass};
 ghost use Rattle.ip_defrag.specs.Fragments.{takes_part};
 ghost use Rattle.ip_defrag.specs.Grouped.{FitsIn, IsHeld, IsJoined, Passes, after_opening, groups, is_fresh, is_live, total};
 
-use crate::datagrams::{Datagram, Judgement};
+use crate::datagrams::Datagram;
 use crate::fragments::Fragment;
 use crate::names::Name;
+use crate::rules::Judgement;
 use crate::trace::Trace;
 use crate::{NoPush, Step};
 use frame_view::Frame;

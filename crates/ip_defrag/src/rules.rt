@@ -1,10 +1,23 @@
 //! What a new fragment is to those that are held of its datagram.
-ghost use Rattle.std.specs.Prelude.{◌≡◌};
-ghost use Rattle.std.specs.List.{list_any};
+ghost use Rattle.std.specs.Prelude.{◌≡◌, if◌then◌else◌, find, option_copied};
 ghost use Rattle.ip_defrag.specs.Fold.{conflicts, contradicts, is_copy};
 ghost use Rattle.ip_defrag.specs.Datagrams.{shares};
+ghost use Rattle.ip_defrag.specs.Grouped.{judgement};
+ghost use Rattle.ip_defrag.specs.Held.{AreHeld};
+ghost use Rattle.ip_defrag.specs.declared.rules.Judgement.TheVariants.{Conflict, Fits};
 
 use crate::fragments::Fragment;
+
+/// What a new fragment is to those that are held of its datagram.
+#[derive(Clone, Copy)]
+pub(crate) enum Judgement {
+    /// It is a copy of one of them.
+    Copy,
+    /// It conflicts with one of them.
+    Conflict,
+    /// It can be held beside them.
+    Fits,
+}
 
 /// Whether a held fragment has the same place, end, more bit and data as a new one.
 #[tactic(auto, unfolding(crate::specs::Fold::is_copy))]
@@ -49,16 +62,32 @@ fn conflicts(new: &Fragment, held: &Fragment) -> bool
     shares(new, held) || contradicts(new, held)
 }
 
-/// Whether one of the held fragments has the same place, end, more bit and data as a new one.
-pub(crate) fn one_is_copy(new: &Fragment, held: &[Fragment]) -> bool
-    ensures { result ≡ list_any (is_copy new.now) held.now }
+/// The first of the held fragments that a new one conflicts with.
+fn first_conflict<'a>(new: &Fragment, held: &'a [Fragment]) -> Option<&'a Fragment>
+    ensures { option_copied result ≡ find (conflicts new.now) held.now }
 {
-    held.iter().any(|fragment| is_copy(new, fragment))
+    held.iter().find(|fragment| conflicts(new, fragment))
 }
 
-/// Whether a new fragment conflicts with one of the held ones.
-pub(crate) fn one_conflicts(new: &Fragment, held: &[Fragment]) -> bool
-    ensures { result ≡ list_any (conflicts new.now) held.now }
+/// What a new fragment is to the held ones. A copy conflicts with the one that it is a copy of, and with no other.
+pub(crate) fn judge(new: &Fragment, held: &[Fragment]) -> Judgement
+    requires { AreHeld held.now }
+    ensures { result ≡ judgement new.now held.now }
 {
-    held.iter().any(|fragment| conflicts(new, fragment))
+    match first_conflict(new, held) {
+        None => Judgement::Fits,
+        Some(one) if is_copy(new, one) => Judgement::Copy,
+        Some(_) => Judgement::Conflict,
+    }
+}
+
+/// What a new fragment is that shares no byte place with a held one, by whether one contradicts the other's end.
+pub(crate) fn apart(contradicts: bool) -> Judgement
+    ensures { result ≡ (if contradicts then Conflict else Fits) }
+{
+    if contradicts {
+        Judgement::Conflict
+    } else {
+        Judgement::Fits
+    }
 }

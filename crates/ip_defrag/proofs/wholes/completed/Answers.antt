@@ -1,5 +1,5 @@
 -- The count of bytes decides.
-use Rattle.std.proofs.Common.{◌≡◌, ◌≤◌, arith, ℕ, Bool, sym, ap, ◌∙◌, find, Option, Some, None, option_map, option_copied, true, false, nat_eq, List, cond}
+use Rattle.std.proofs.Common.{◌≡◌, arith, ℕ, Bool, sym, ap, ◌∙◌, find, Some, None, option_map, option_copied, List, cond}
 use Rattle.std.proofs.lemmas.Bool.{ne_eqb, eq-eqb}
 use Rattle.frame_view.specs.declared.frames.Frame.{Frame}
 use Rattle.ip_defrag.specs.Datagrams.{is_first, datagram_from, bytes_from, framed}

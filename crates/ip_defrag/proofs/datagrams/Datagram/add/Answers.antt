@@ -1,8 +1,6 @@
 -- One fragment more, which conflicts with none.
-use Rattle.std.proofs.Common.{◌≡◌, ◌∙◌, ap, sym, subst, false, List, [], ◌∷◌, ◌++◌}
+use Rattle.std.proofs.Common.{◌≡◌, ◌∙◌, ap, false}
 use Rattle.std.specs.List.{list_any}
-use Rattle.frame_view.specs.declared.frames.Frame.{Frame}
-use Rattle.ip_defrag.specs.Extents.{AreKept}
 use Rattle.ip_defrag.specs.Fold.{conflicts}
 use Rattle.ip_defrag.specs.Grouped.{Group}
 use Rattle.ip_defrag.proofs.Kept.{kept_most, kept_push}

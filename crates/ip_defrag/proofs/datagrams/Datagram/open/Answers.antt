@@ -1,6 +1,5 @@
 -- The first fragment, after none.
-use Rattle.std.proofs.Common.{rules, ◌≡◌, ◌∙◌, sym, subst, refl, [], ◌∷◌, ◌++◌, true}
-use Rattle.ip_defrag.specs.Extents.{AreKept}
+use Rattle.std.proofs.Common.{rules, ◌≡◌, refl, [], true}
 use Rattle.ip_defrag.specs.Fragments.{takes_part}
 use Rattle.ip_defrag.proofs.Kept.{kept_most, kept_none, kept_push}
 use Rattle.ip_defrag.proofs.datagrams.Datagram.open.Goals as goal
