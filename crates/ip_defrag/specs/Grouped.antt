@@ -120,7 +120,13 @@ pub record IsHeld (frame : Frame) (at : ℕ) (some left : List Group) (answer : 
 abbrev pub Passes : List Frame → Frame → List Group → Answer → Type 0
 Passes held frame left answer = Agrees (pass held frame) (length held) left answer.whole answer.used
 
--- the datagrams that the code keeps are the groups of a flat list, and few
-pub record AreGroups (some : List Group) (held : List Frame) : Type 0 where
+-- how many frames are held, and that many at most can be
+pub record IsCount (count : ℕ) (held : List Frame) : Type 0 where
+  pub counted : count ≡ length held
+  pub most : count ≤ 4190400
+
+-- the datagrams that the code keeps are the groups of a flat list, and few, and the number is that of its frames
+pub record AreGroups (some : List Group) (held : List Frame) (count : ℕ) : Type 0 where
   pub grouped : some ≡ groups held
   pub few : length some ≤ most_names
+  pub counted : IsCount count held

@@ -5,7 +5,7 @@ ghost use Rattle.ip_defrag.specs.Fragments.{takes_part};
 
 use crate::datagrams::Datagram;
 use crate::fragments::Fragment;
-use crate::passes::{pass, pending};
+use crate::passes::pass;
 use crate::trace::Trace;
 use crate::{NoPush, Step};
 use frame_view::Frame;
@@ -20,6 +20,8 @@ pub struct Defrag {
     alloc: Global,
     /// The datagrams of which fragments are held, in the order in which they were opened.
     datagrams: Vec<Datagram>,
+    /// The number of those fragments.
+    pending: u32,
     /// The same fragments as one list.
     trace: Trace,
 }
@@ -34,7 +36,7 @@ impl Model for Defrag {
 
     ghost view = { λ defrag. defrag.trace.held };
 
-    ghost invariant = { λ defrag. AreGroups defrag.datagrams.items defrag.trace.held };
+    ghost invariant = { λ defrag. AreGroups defrag.datagrams.items defrag.trace.held defrag.pending };
 }
 
 impl Defrag {
@@ -46,6 +48,7 @@ impl Defrag {
         Defrag {
             alloc,
             datagrams: Vec::new(alloc),
+            pending: 0,
             trace: Trace::new(),
         }
     }
@@ -76,7 +79,13 @@ impl Defrag {
             }
         };
         let trace = self.trace.after(fragment.frame());
-        let step = pass(self.alloc, &self.trace, &mut self.datagrams, fragment)?;
+        let step = pass(
+            self.alloc,
+            &self.trace,
+            &mut self.datagrams,
+            &mut self.pending,
+            fragment,
+        )?;
         self.trace = trace;
         Ok(step)
     }
@@ -85,6 +94,6 @@ impl Defrag {
     pub fn pending(&self) -> u32
         ensures { result ≡ length self.now }
     {
-        pending(&self.datagrams)
+        self.pending
     }
 }

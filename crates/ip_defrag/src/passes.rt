@@ -5,7 +5,7 @@ ghost use Rattle.std.specs.Prelude.{◌≡◌, ◌≤◌, ◌<◌, IfErr, IfOk, 
 ghost use Rattle.std.specs.List.{position_from};
 ghost use Rattle.ip_defrag.specs.Fold.{pass};
 ghost use Rattle.ip_defrag.specs.Fragments.{takes_part};
-ghost use Rattle.ip_defrag.specs.Grouped.{FitsIn, IsHeld, IsJoined, Passes, after_opening, groups, is_fresh, is_live, total};
+ghost use Rattle.ip_defrag.specs.Grouped.{FitsIn, IsCount, IsHeld, IsJoined, Passes, after_opening, groups, is_fresh, is_live, total};
 
 use crate::datagrams::Datagram;
 use crate::fragments::Fragment;
@@ -30,7 +30,7 @@ struct Answer {
 
 /// The number of fragments that are held.
 #[tactic(auto, unfolding(crate::specs::Grouped::total))]
-pub(crate) fn pending(datagrams: &[Datagram]) -> u32
+fn pending(datagrams: &[Datagram]) -> u32
     requires { length datagrams.now ≤ 64 }
     ensures count { result ≡ total datagrams.now }
     ensures most { result ≤ 4190400 }
@@ -134,32 +134,36 @@ fn hold(
     Ok(Answer { whole, used })
 }
 
-/// Passes a fragment over the datagrams. The trace reports which frames they hold. After `NoPush` nothing has
-/// changed, and the fragment's frame is handed back.
+/// Passes a fragment over the datagrams, and counts what they hold anew. The trace reports which frames that are.
+/// After `NoPush` nothing has changed, and the fragment's frame is handed back.
 pub(crate) fn pass(
     alloc: Global,
     trace: &Trace,
     datagrams: &mut Vec<Datagram>,
+    count: &mut u32,
     fragment: Fragment,
 ) -> Result<Step, NoPush>
     requires taken { takes_part fragment ≡ true }
     requires held { datagrams.old.items ≡ groups trace.now.held }
     requires few { length datagrams.old.items ≤ 64 }
+    requires counted { IsCount count.old trace.now.held }
     ensures held { OnOk result (datagrams.new.items ≡ groups (pass trace.now.held fragment).held) }
     ensures few { length datagrams.new.items ≤ 64 }
+    ensures counted { OnOk result (IsCount count.new (pass trace.now.held fragment).held) }
     ensures whole { IfOk result (λ it. it.whole ≡ (pass trace.now.held fragment).whole) }
     ensures discarded { IfOk result (λ it.
         it.discarded ≡ (pass trace.now.held fragment).discarded) }
     ensures unchanged { OnErr result (datagrams.new.items ≡ datagrams.old.items) }
+    ensures same_count { OnErr result (count.new ≡ count.old) }
     ensures handed_back { IfErr result (λ no. no.frame ≡ fragment) }
 {
-    let before = pending(datagrams);
+    let before = *count;
     let joined = pass_by(alloc, trace, datagrams, fragment)?;
-    let after = pending(datagrams);
+    *count = pending(datagrams);
     // Each frame that was held, and this one, is held still, is in what came out, or was given up.
     Ok(Step {
         whole: joined.whole,
-        discarded: before + 1 - after - joined.used,
+        discarded: before + 1 - *count - joined.used,
     })
 }
 
