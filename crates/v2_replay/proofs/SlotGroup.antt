@@ -1,5 +1,5 @@
 -- The report of a replay over rings of slots is that of a run over such rings.
-use Rattle.std.proofs.Common.{◌≡◌, ℕ, ◌≤◌, Bool, false, List, length, refl, arith}
+use Rattle.std.proofs.Common.{◌≡◌, ℕ, ◌≤◌, Bool, false, List, length, All, refl, arith}
 use Rattle.capture_file.specs.declared.cpu_end.CpuEnd.{CpuEnd}
 use Rattle.fanout_group.specs.Joined.{Logged}
 use Rattle.fanout_group.specs.Once.{IsGroupReport}
@@ -68,6 +68,9 @@ module _ (law : AreNumbered) (once : EachOnce) (job : Job) (lines : List Line) (
         short = short_members (rules_of job) size.room false (logged (arriving_of job all) of.cpus) of.members (small slots) group
             (λ at d within. let member = members at d within in member.walked);
       }
+
+  pub rings_are : All (IsSlotRingReport size) (slot_replay_of job lines all).members
+  rings_are = report.rings
 
   pub is_slot_run : IsSlotRunReport job all ends (slot_report_of job lines all ends)
   unfolding slot_report_of

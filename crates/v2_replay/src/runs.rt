@@ -1,5 +1,5 @@
 //! The replay of a job over rings of slots.
-ghost use Rattle.std.specs.Prelude.{◌≡◌, ◌^◌, ◌<◌, ℕ, List, length, map, option_map, IfOk};
+ghost use Rattle.std.specs.Prelude.{◌≡◌, ◌^◌, ◌<◌, ℕ, List, length, map, option_map, All, IfOk};
 ghost use Rattle.capture_file.specs.declared.cpu_end.CpuEnd.{CpuEnd};
 ghost use Rattle.replay_machine.specs.RunStates.{IsRoomOf};
 ghost use Rattle.schedule_lines.specs.Ascending.{IsSchedule};
@@ -8,8 +8,8 @@ ghost use Rattle.setup_text.specs.Sound.{IsSetup};
 ghost use Rattle.setup_text.specs.declared.jobs.Job.{Job};
 ghost use Rattle.slot_layout.specs.SlotShapes.{IsSlotShape, slot_size_of};
 ghost use Rattle.v2_replay.specs.SlotReplays.{slot_steps};
-ghost use Rattle.v2_replay.specs.SlotReports.{IsSlotRunReport};
-ghost use Rattle.v2_replay.specs.SlotRuns.{IsSlotReplayed, slot_report_of};
+ghost use Rattle.v2_replay.specs.SlotReports.{IsSlotRingReport, IsSlotRunReport};
+ghost use Rattle.v2_replay.specs.SlotRuns.{IsSlotReplayed, slot_replay_of, slot_report_of};
 
 use crate::member::SlotMember;
 use crate::new_members::open_members;
@@ -92,12 +92,18 @@ fn room_of_slots(shape: &Shape) -> u32
 /// The report of a replay over rings of slots is that of a run over such rings, whatever the
 /// schedule: its logs are lawful over the arrivals of what the sources gave, logs and notes are
 /// joined, each arrival that passes stands exactly once, each member's notes are a run of its ring
-/// of slots from its opening to its close, and what a member's reader read is what was kept.
+/// of slots from its opening to its close, and what a member's reader read is what was kept. A note
+/// that says that a slot was still the reader's names one that wasn't released.
 pub fn a_job_over_slots_reports_a_group()
     ensures run { (job : Job) (lines : List Line) (all : List (List ℕ)) (ends : List CpuEnd)
         → IsSetup job.setup → IsSlotShape job.setup.shape → IsSchedule lines
         → length ends ≡ length all
         → IsSlotRunReport job all ends (slot_report_of job lines all ends) }
+    ensures rings { (job : Job) (lines : List Line) (all : List (List ℕ)) (ends : List CpuEnd)
+        → IsSetup job.setup → IsSlotShape job.setup.shape → IsSchedule lines
+        → length ends ≡ length all
+        → All (IsSlotRingReport (slot_size_of job.setup.shape))
+            (slot_replay_of job lines all).members }
 {
     frames_are_numbered();
     each_arrival_stands_exactly_once();
