@@ -385,7 +385,7 @@ def some_outcome(case, numbers):
     return by_hand.replay(by_hand.Setup(case.setup), "".join(lines), case.captures, code)
 
 
-def made_wrong(case, lines, files):
+def made_wrong(lines, files):
     """The outcome, wrong in one thing each."""
     name, other = "out.0.pcap", "out.1.pcap"
     data = files[name]
@@ -419,7 +419,7 @@ def tests_differ():
     data = [header() + b"".join(record(frame(60, fill=at), sec=cpu, fraction=at) for at in range(9)) for cpu in range(2)]
     case = Case(text, data, None, [])
     lines, files = by_hand.replay(by_hand.Setup(text), "", data)
-    return wrong + passing(faults, case, made_wrong(case, lines, files))
+    return wrong + passing(faults, case, made_wrong(lines, files))
 
 
 def main():

@@ -197,7 +197,8 @@ def test_lost_of_earlier():
     lines = printed.split("\n")
     expect("lost of two", [line.split()[:2] for line in lines[1:45]], [["1", str(number)] for number in range(12, 100, 2)])
     expect("unsure", {line.split()[5:] == ["?"] for line in lines[1:45]}, {True})
-    expect("sums of two", [" ".join(line.split()) for line in lines[47:49]], ["0 100 100 50 50 0", "1 100 100 50 6 44"])
+    sums = [" ".join(line.split()) for line in lines[47:49]]
+    expect("sums of two", (sums, said, status), (["0 100 100 50 50 0", "1 100 100 50 6 44"], "", 0))
     capture("even.0.pcap", [(7, frame(99))])
     expect("another run's", with_program("lost.py", setup)[1],
            "lost.py: even.0.pcap, packet 0 from 0: is no frame of the captures that passes: is it of another run?\n")

@@ -10,7 +10,7 @@ from __future__ import annotations
 
 import argparse
 from collections import defaultdict
-from dataclasses import dataclass, field
+from dataclasses import dataclass
 from pathlib import Path
 
 from ringtap_files import NANOSECONDS, Capture, Fault, Frame, Setup, output_names, read_capture, read_captures, read_setup, run_main
@@ -52,8 +52,8 @@ class Bin:
     lost: int = 0
 
 
-def room_of(setup: Setup, captures: list[Capture]) -> None:
-    """Tests that a ring of 64 blocks has room for each capture, without a reader."""
+def require_room(captures: list[Capture]) -> None:
+    """A capture for which a ring of 64 blocks has no room, without a reader, is a fault."""
     for capture in captures:
         needs = sum(-(-(PACKET_HEADER + len(frame.data)) // 8) * 8 for frame in capture.frames)
         largest = max((len(frame.data) for frame in capture.frames), default=0)
@@ -63,7 +63,7 @@ def room_of(setup: Setup, captures: list[Capture]) -> None:
 
 def passing(room: Room, captures: list[Capture]) -> tuple[list[list[Frame]], Report]:
     """What passes the filter, CPU by CPU, and what the program printed of it: a run with a member for each CPU, whose ring keeps all."""
-    room_of(room.setup, captures)
+    require_room(captures)
     roomy = {
         "block_size": str(LARGEST_BLOCK), "block_nr": str(ROOMY_BLOCKS), "frame_size": "2048",
         "frame_nr": str(LARGEST_BLOCK // 2048 * ROOMY_BLOCKS), "members": str(len(captures)), "mode": "cpu", "out": "all",

@@ -222,7 +222,7 @@ def cpu_line(path: Path, line: int, values: list[str], cpu: int) -> CpuLine:
 def read_captures(setup: Setup) -> list[Capture]:
     """The captures of a setup. One that is damaged or cut is used up to there, as ringtap does, and that is said."""
     captures = [read_capture(path) for path in setup.capture_paths()]
-    for cpu, capture in enumerate(captures):
+    for capture in captures:
         if capture.end != "ok":
             print(f"{capture.path}: ends {capture.end}; the {len(capture.frames)} frames before that are used", file=sys.stderr)
     return captures

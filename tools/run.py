@@ -14,7 +14,6 @@ from ringtap_files import LARGEST_NAME, Fault, Setup, output_names, read_setup, 
 from ringtap_runs import add_program, program_of, run_program, status_words
 
 LINES, SETUP = "lines.txt", "setup.txt"
-REFUSED = 1  # the status of a refusal of this tool's own
 
 
 def new_folder(asked: Path | None) -> Path:

@@ -9,7 +9,7 @@ from __future__ import annotations
 
 import argparse
 import heapq
-from dataclasses import dataclass, replace
+from dataclasses import dataclass
 from fractions import Fraction
 from pathlib import Path
 from typing import Iterable, Iterator
