@@ -21,15 +21,16 @@ are made wrong in one thing each, and have to be refused.
 import os
 import random
 import struct
-import subprocess
 import sys
 import threading
 from collections import namedtuple
 
 import by_hand
 import filter_verdicts
-from outcomes import passing, refused, wrong_runs
-from replays import FILTERS, KEY, SIZES, datagram, frame, header, record, setup_text
+import outcomes
+from hash_values import KEY
+from outcomes import outcome_of, passing, refused, save_alone, wrong_runs
+from replays import FILTERS, SIZES, datagram, frame, header, record, setup_text
 
 # A run: its setup, the captures of the CPUs from 0 up (None for one that isn't there), and the texts of its filter and moments.
 Case = namedtuple("Case", "setup captures listing moments")
@@ -38,7 +39,6 @@ Passing = namedtuple("Passing", "cpu index home offer")
 
 LARGE = [(65536, 16, 2048, 512), (8192, 256, 2048, 1024)]
 TIMES = 8  # the seconds of CPU C's frames are C more than a multiple of this
-LIMIT = 60  # the seconds after which a run counts as one that doesn't end
 
 
 class Arriving(by_hand.Replay):
@@ -308,12 +308,11 @@ def random_case(numbers):
 def sum_cases():
     """The largest made frames, written to two captures, for four members: 20,000 packets in all, kept or dropped."""
     frames = list(by_hand.made_frames(1, 20_000))
-    head = struct.pack("<IHHiIII", 0xA1B23C4D, 2, 4, 0, 0, 65535, 1)
     captures = []
     for cpu in range(2):
         data = [frame.bytes for frame in frames[cpu::2]]
         times = ((TIMES * (at // 1000) + cpu, 1000 * at) for at in range(len(data)))
-        captures.append(head + b"".join(record(one, sec=s, fraction=n) for one, (s, n) in zip(data, times)))
+        captures.append(header(magic=0xA1B23C4D) + b"".join(record(one, sec=s, fraction=n) for one, (s, n) in zip(data, times)))
     group = f"priv 16\nmembers 4\nmode hash\nkey {KEY}\nflag defrag\n"
     for size in ((65536, 64, 2048, 2048), (65536, 4, 2048, 128)):
         for pool in ("", "workers 2\n", "workers 8\n"):
@@ -322,10 +321,7 @@ def sum_cases():
 
 def inputs_of(case):
     """The files that a run reads."""
-    inputs = {"conf": case.setup.encode()}
-    inputs.update((f"in{cpu}.pcap", data) for cpu, data in enumerate(case.captures) if data is not None)
-    if case.listing:
-        inputs["filter.ddd"] = case.listing.encode()
+    inputs = outcomes.inputs_of(case)
     if case.moments:
         inputs["ticks.txt"] = "".join(f"{ms}\n" for ms in case.moments).encode()
     return inputs
@@ -350,25 +346,14 @@ def make_pipes(inputs, numbers):
 
 
 def run_of(program, case, numbers, command="capture"):
-    """What a run in the present folder gives: lines, files and status; or what is wrong with how it ends. Some have one processor,
-    and some read their captures from pipes."""
-    for old in os.listdir("."):
-        os.remove(old)
-    inputs = inputs_of(case)
-    by_hand.save(".", inputs)
-    words, chance = [program, command, "conf"], numbers.random()
+    """The outcome of a run in the present folder. Some have one processor, and some read their captures from pipes."""
+    inputs, chance = inputs_of(case), numbers.random()
+    save_alone(inputs)
     if chance < 0.2:
         make_pipes(inputs, random.Random(numbers.random()))
     one = chance > 0.8 and hasattr(os, "sched_setaffinity")
     limit = (lambda: os.sched_setaffinity(0, [min(os.sched_getaffinity(0))])) if one else None
-    try:
-        ran = subprocess.run(words, capture_output=True, check=False, timeout=LIMIT, preexec_fn=limit)
-    except subprocess.TimeoutExpired:
-        return None, f"it doesn't end within {LIMIT} seconds"
-    if ran.stderr:
-        return None, f"standard error: {ran.stderr!r}"
-    files = {name: by_hand.bytes_of(name) for name in os.listdir(".") if name not in inputs}
-    return (ran.stdout.decode(errors="replace"), files, ran.returncode), None
+    return outcome_of([program, command, "conf"], inputs, preexec_fn=limit)
 
 
 def some_outcome(case, numbers):
@@ -426,8 +411,7 @@ def main():
     program, runs = os.path.abspath(sys.argv[1]), int(sys.argv[2]) if len(sys.argv) > 2 else 300
     numbers, wrong = random.Random(4), tests_differ()
     cases = [*sum_cases(), *(random_case(numbers) for _ in range(runs))]
-    wrong += wrong_runs(faults, cases, lambda case: run_of(program, case, numbers))
-    print(f"captures.py: {len(cases)} runs on threads, {wrong} of them wrong")
+    wrong += wrong_runs("runs on threads", faults, cases, lambda case: run_of(program, case, numbers))
     sys.exit(1 if wrong else 0)
 
 

@@ -1,6 +1,6 @@
 #!/usr/bin/env bash
 # Captures that run on threads, a few hundred of random setups, have the lines and files that such a run may have, whichever thread
-# goes first; and so have some that may make no thread, which have to end within seconds.
+# goes first; and so have some that may make no thread, which have to end as well.
 set -u
 . "$(dirname "${BASH_SOURCE[0]}")/common.bash"
 wants python3

@@ -38,6 +38,17 @@ make_room() {
     chmod 755 "$room"
 }
 
+# Runs a command to its end. Where it doesn't end within `limit` seconds, more than the slowest machine needs, the status is 124; a
+# check that has found one such run fails in any case, so those after it have less.
+limit=600
+in_time() {
+    local status
+    timeout "$limit" "$@"
+    status=$?
+    [ "$status" -ne 124 ] || limit=20
+    return "$status"
+}
+
 # Says what is wrong, and remembers it.
 failed=0
 wrong() {

@@ -27,9 +27,9 @@ for name in setup small group make send capture; do
     words_of "$name"
     for program in "${programs[@]}"; do
         rm -rf made && mkdir made
-        "$program" check "demo/$name.txt" >checked.txt || wrong "$name isn't accepted"
+        in_time "$program" check "demo/$name.txt" >checked.txt || wrong "$name isn't accepted"
         [ "$(cat checked.txt)" = ok ] || wrong "$name: check printed '$(cat checked.txt)'"
-        "$program" "${words[@]}" >made/lines.txt
+        in_time "$program" "${words[@]}" >made/lines.txt
         status=$?
         [ "$status" -eq 0 ] || wrong "$name ended with status $status"
         for file in *.pcap *.blk; do

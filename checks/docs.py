@@ -15,10 +15,11 @@ import shutil
 import subprocess
 import sys
 
+import runs
+
 TOP = pathlib.Path.cwd()
 REFERENCE = TOP / "docs/reference.md"
 COLUMNS = 110  # of a line of README.md
-SECONDS = 300  # that a command of a document may take
 
 # Where the program's words come from: a file, and what finds them there, each group a word or a line.
 WORDS = [
@@ -218,14 +219,15 @@ def lacks(command):
     return None
 
 
-def run(command, room, program):
-    """What a command prints on standard output."""
+def differs(command, expected, room, program):
+    """What is wrong with what a command prints on standard output, if something is."""
     path = f"{pathlib.Path(program).resolve().parent}:{os.environ['PATH']}"
     environment = {**os.environ, "PATH": path, "LC_ALL": "C.UTF-8", "TZ": "UTC"}
-    done = subprocess.run(
-        ["bash", "-c", command], cwd=room, env=environment, stdout=subprocess.PIPE, stderr=subprocess.PIPE, stdin=subprocess.DEVNULL, timeout=SECONDS
-    )
-    return done.stdout.decode("utf-8", "replace"), done.stderr.decode("utf-8", "replace")
+    done, why = runs.run(["bash", "-c", command], cwd=room, env=environment, stdin=subprocess.DEVNULL)
+    if why:
+        return why
+    printed, complained = done.stdout.decode("utf-8", "replace"), done.stderr.decode("utf-8", "replace")
+    return None if agrees(printed, expected) else f"it printed\n{printed}{complained}in place of\n" + "\n".join(expected)
 
 
 def commands(program, room, name):
@@ -239,9 +241,9 @@ def commands(program, room, name):
                 print(f"skipped: the rest of '{heading.strip('# ')}' of {name} needs {tool}")
                 break
             found += 1
-            printed, complained = run(command, room, program)
-            if not agrees(printed, expected):
-                wrong.append(f"{name}: '{command}' printed\n{printed}{complained}in place of\n" + "\n".join(expected))
+            why = differs(command, expected, room, program)
+            if why:
+                wrong.append(f"{name}: '{command}': {why}")
     return found, wrong
 
 

@@ -127,8 +127,7 @@ def main():
     program, runs = os.path.abspath(sys.argv[1]), int(sys.argv[2]) if len(sys.argv) > 2 else 200
     numbers, wrong = random.Random(7), tests_differ()
     cases = [*captures.sum_cases(), *(captures.random_case(numbers) for _ in range(runs))]
-    wrong += wrong_runs(faults, cases, lambda case: captures.run_of(program, case, numbers, "forward"))
-    print(f"forwards.py: {len(cases)} runs on threads that send, {wrong} of them wrong")
+    wrong += wrong_runs("runs on threads that send", faults, cases, lambda case: captures.run_of(program, case, numbers, "forward"))
     sys.exit(1 if wrong else 0)
 
 

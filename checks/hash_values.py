@@ -6,18 +6,19 @@ Each line is the path of a test and a text that must stand in it: `test_values.s
 import ipaddress
 import struct
 
-KEY = int("6d5a56da255b0ec24167253d43a38fb0d0ca2bcbae7b30b477cb2da38030f20c6a42b73bbeac01fa", 16)
+# The key that was published with the verification suite of receive side scaling.
+KEY = "6d5a56da255b0ec24167253d43a38fb0d0ca2bcbae7b30b477cb2da38030f20c6a42b73bbeac01fa"
 TESTS = "crates/frame_tests/src/flow_hashes.rt"
 
 
 def toeplitz(data):
     """For each set bit the 32 key bits from its place on."""
-    value = int.from_bytes(data, "big")
+    value, key = int.from_bytes(data, "big"), int(KEY, 16)
     size = 8 * len(data)
     result = 0
     for place in range(size):
         if value >> (size - 1 - place) & 1:
-            result ^= KEY >> (320 - 32 - place) & 0xFFFFFFFF
+            result ^= key >> (320 - 32 - place) & 0xFFFFFFFF
     return result
 
 
@@ -52,18 +53,19 @@ SUITE = [
     ("3ffe:501:8::260:97ff:fe40:efab", "ff02::1", 14230, 4739, 0x0F0C461C, 0xDDE51BBF),
     ("3ffe:1900:4545:3:200:f8ff:fe21:67cf", "fe80::200:f8ff:fe21:67cf", 44251, 38024, 0x4B61E985, 0x02D1FEEF),
 ]
-for source, dest, sport, dport, plain, ported in SUITE:
-    assert toeplitz(raw(source, dest)) == plain, source
-    assert toeplitz(raw(source, dest, sport, dport)) == ported, source
-    say(plain)
-    say(ported)
-
 # Flows: in the order of their ends.
 FLOWS = [
     ("199.92.111.2", "65.69.140.83", 14230, 4739),
     ("10.0.0.1", "10.0.0.1", 4000, 53),
     ("3ffe:2501:200:1fff::7", "3ffe:2501:200:3::1", 2794, 1766),
 ]
-for source, dest, sport, dport in FLOWS:
-    assert ends(source, dest, sport, dport) == ends(dest, source, dport, sport)
-    say(toeplitz(ends(source, dest, sport, dport)))
+
+if __name__ == "__main__":
+    for source, dest, sport, dport, plain, ported in SUITE:
+        assert toeplitz(raw(source, dest)) == plain, source
+        assert toeplitz(raw(source, dest, sport, dport)) == ported, source
+        say(plain)
+        say(ported)
+    for source, dest, sport, dport in FLOWS:
+        assert ends(source, dest, sport, dport) == ends(dest, source, dport, sport)
+        say(toeplitz(ends(source, dest, sport, dport)))

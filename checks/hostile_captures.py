@@ -13,24 +13,23 @@ first. Both are counts, so the machine's load changes neither. On threads these 
 
 A run on threads has a ring that holds everything, with the frames of one CPU for each member, so it gives what a replay gives.
 """
+import ctypes
 import multiprocessing
 import os
 import random
 import re
 import shutil
 import struct
-import subprocess
 import sys
 import tempfile
 
 import by_hand
 import replays
+import runs
+from outcomes import found_wrong
 from replays import SIZES, Case, frame, header, record, setup_text
 
 EXTREMES = [0, 1, 13, 14, 17, 18, 262_143, 262_144, 262_145, 2**31 - 1, 2**31, 2**32 - 16, 2**32 - 1]
-
-# The time that a run may take: its captures have less than 10,000 bytes, of which it needs milliseconds.
-SECONDS = 20
 
 COMMANDS = ["replay", "send", "capture", "replay2"]
 
@@ -40,9 +39,6 @@ ROOMY = (65536, 16, 2048, 512)
 # The larger of the two sizes whose work is compared, the most that the work may grow by, and the pages by which it may grow in any
 # case, since a list that doubles touches more at once. A thread that waits works too, so of a run on threads only the end is tested.
 LARGE, GROWTH, FEW_PAGES = 8_388_608, 2.2, 100
-
-# The seconds after which a run on threads counts as one that doesn't end.
-ENDS = 120
 
 
 def base(order):
@@ -164,18 +160,18 @@ def cases(count):
 
 def run_share(program, share, number):
     """Runs the cases whose number leaves this rest, in a folder of its own: how many, how their first captures end, and what is wrong."""
-    runs, ends, wrong = 0, {}, []
+    count, ends, wrong = 0, {}, []
     with tempfile.TemporaryDirectory() as room:
         os.chdir(room)
         for case in share[number::WORKERS]:
-            why = replays.differs(program, case, SECONDS)
+            whys = found_wrong(replays.faults, case, lambda case: replays.run_of(program, case))
             end = by_hand.frames_of(case.captures[0])[1].split()[0]
             ends[end] = ends.get(end, 0) + 1
-            runs += 1
-            if why:
-                wrong.append(f"{case.command}, setup {case.setup!r}, capture {case.captures[0].hex()}: {why}")
+            count += 1
+            if whys:
+                wrong.append(f"{case.command}, setup {case.setup!r}, capture {case.captures[0].hex()}: {'; '.join(whys[:3])}")
         os.chdir("/")
-    return runs, ends, wrong
+    return count, ends, wrong
 
 
 WORKERS = min(4, os.cpu_count() or 1)
@@ -194,7 +190,7 @@ def run_all(program, count):
             print(line)
     wrong = sum(len(lines) for _, _, lines in answers)
     told = ", ".join(f"{number} {end}" for end, number in sorted(ends.items()))
-    print(f"hostile_captures.py: {sum(runs for runs, _, _ in answers)} runs ({told}), {wrong} of them wrong")
+    print(f"hostile_captures.py: {sum(count for count, _, _ in answers)} runs ({told}), {wrong} of them wrong")
     return wrong
 
 
@@ -233,10 +229,13 @@ def write_form(data_of):
 
 
 def instructions_of(words):
-    """The instructions of a run as valgrind counts them, or None where the run fails."""
-    tool = ["valgrind", "--tool=cachegrind", "--cache-sim=no", "--cachegrind-out-file=/dev/null"]
-    ran = subprocess.run([*tool, *words], stdout=subprocess.DEVNULL, stderr=subprocess.PIPE, text=True, check=False)
-    return None if ran.returncode else int(re.search(r"I\s+refs:\s+([\d,]+)", ran.stderr)[1].replace(",", ""))
+    """The instructions of a run as valgrind counts them, and None; or None, and what is wrong with how it ends."""
+    tool = ["valgrind", "--tool=cachegrind", "--cache-sim=no", "--cachegrind-out-file=/dev/null", "--vgdb=no"]
+    ran, why = runs.run([*tool, *words], text=True)
+    if why or ran.returncode:
+        return None, why or f"status {ran.returncode}"
+    counted = re.search(r"I\s+refs:\s+([\d,]+)", ran.stderr)
+    return (int(counted[1].replace(",", "")), None) if counted else (None, "valgrind counts nothing of it")
 
 
 def pages_of(words):
@@ -256,10 +255,11 @@ def grows(program, command, name, lines):
     for capture in ("half.pcap", "whole.pcap"):
         write_texts(capture, lines)
         words = [program, command, "conf"] + ["sched"] * (command == "replay")
-        counts.append(instructions_of(words))
+        count, why = instructions_of(words)
+        if why:
+            return f"{name}, {command}: {why}"
+        counts.append(count)
         pages.append(pages_of(words))
-    if None in counts:
-        return f"{name}, {command}: a run fails"
     told = ", ".join(
         f"{count / 1_000_000:.0f} million instructions and {touched} pages of {size >> 20} MiB"
         for count, touched, size in zip(counts, pages, (LARGE // 2, LARGE))
@@ -273,8 +273,10 @@ def grows(program, command, name, lines):
 def ends_on_threads(program, name, lines):
     """What is wrong with a form on threads, if something is."""
     write_texts("whole.pcap", lines)
-    status = subprocess.run([program, "capture", "conf"], stdout=subprocess.DEVNULL, check=False, timeout=ENDS).returncode
-    return f"{name}, capture: status {status}" if status else None
+    ran, why = runs.run([program, "capture", "conf"])
+    if why or ran.returncode:
+        return f"{name}, capture: {why or f'status {ran.returncode}'}"
+    return None
 
 
 def growing(program):
@@ -298,7 +300,14 @@ def growing(program):
     return wrong
 
 
+def refuse_huge_pages():
+    """Gives this process and those that it starts pages of one size alone. The system makes huge pages of as many as are free at the
+    moment, so with them the pages that a run touches would be a matter of the machine's load."""
+    ctypes.CDLL(None).prctl(41, 1, 0, 0, 0)  # PR_SET_THP_DISABLE, which processes that are started inherit
+
+
 def main():
+    refuse_huge_pages()
     program = os.path.abspath(sys.argv[1])
     count = int(sys.argv[2]) if len(sys.argv) > 2 else 10_000
     wrong = run_all(program, count) + growing(program)

@@ -1,6 +1,6 @@
 #!/usr/bin/env python3
-"""Runs captures with a program that may make no thread, by a limit of one process for its user: each has to end within some seconds,
-with the lines and files that it may have with threads.
+"""Runs captures with a program that may make no thread, by a limit of one process for its user: each has to end, with the lines and
+files that it may have with threads.
 
     no_threads.py PROGRAM
 
@@ -16,12 +16,12 @@ import sys
 import tempfile
 
 import captures
-from by_hand import bytes_of, save
 from captures import Case, capture_of, faults, inputs_of
-from replays import KEY, SIZES, setup_text
+from hash_values import KEY
+from outcomes import outcome_of, save_alone, wrong_runs
+from replays import SIZES, setup_text
 
 NOBODY = 61_234  # a user who has no process
-LIMIT = 60  # the seconds after which a run counts as one that doesn't end
 
 # What the setups have beside their ring and their CPUs.
 GROUPS = [
@@ -76,41 +76,23 @@ def is_alone():
         return False
 
 
-def what_is_wrong(program, case):
-    for old in os.listdir("."):
-        os.remove(old)
+def run_alone(program, case):
+    """The outcome of a run without threads in the present folder, which is of use to every user."""
+    os.chmod(".", 0o777)
     inputs = inputs_of(case)
-    save(".", inputs)
-    try:
-        ran = subprocess.run(
-            [program, "capture", "conf"], capture_output=True, check=False, timeout=LIMIT, preexec_fn=alone
-        )
-    except subprocess.TimeoutExpired:
-        return [f"it doesn't end within {LIMIT} seconds"]
-    files = {name: bytes_of(name) for name in os.listdir(".") if name not in inputs}
-    return list(faults(case, ran.stdout.decode(errors="replace"), files, ran.returncode))
+    save_alone(inputs)
+    return outcome_of([program, "capture", "conf"], inputs, preexec_fn=alone)
 
 
 def main():
     if not is_alone():
         print("skipped: no_threads.py can't forbid a program to start threads here")
         return
-    wrong, count = 0, 0
     with tempfile.TemporaryDirectory() as room:
         program = shutil.copy(sys.argv[1], os.path.join(room, "program"))
-        here = os.path.join(room, "here")
-        os.mkdir(here)
         os.chmod(room, 0o755)
         os.chmod(program, 0o755)
-        os.chmod(here, 0o777)
-        os.chdir(here)
-        for count, case in enumerate(cases(), 1):
-            found = what_is_wrong(program, case)
-            if found:
-                wrong += 1
-                print(f"run {count}, setup {case.setup!r}: {'; '.join(found[:3])}")
-        os.chdir("/")
-    print(f"no_threads.py: {count} runs without threads, {wrong} of them wrong")
+        wrong = wrong_runs("runs without threads", faults, cases(), lambda case: run_alone(program, case))
     sys.exit(1 if wrong else 0)
 
 

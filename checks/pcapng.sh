@@ -36,7 +36,7 @@ for capture in micro nano cut merged comments sections lo; do
     python3 -B "$top/checks/by_hand.py" --frames copy.pcap >copy.txt
     for program in "${programs[@]}"; do
         rm -f out.0.pcap
-        "$program" replay conf sched >lines.txt || wrong "$name ended with status $?: $(head -1 lines.txt)"
+        in_time "$program" replay conf sched >lines.txt || wrong "$name ended with status $?: $(head -1 lines.txt)"
         python3 -B "$top/checks/by_hand.py" --frames out.0.pcap >out.txt
         cut -d ' ' -f 1-3 out.txt | cmp - theirs.txt || wrong "$name: other times or lengths than tshark's"
         cmp out.txt copy.txt || wrong "$name: other frames than editcap's"
@@ -47,7 +47,7 @@ done
 head -c -1 micro.pcapng >short.pcapng
 setup short.pcapng >conf
 for program in "${programs[@]}"; do
-    "$program" replay conf sched >lines.txt
+    in_time "$program" replay conf sched >lines.txt
     status=$?
     [ "$status" -eq 4 ] || wrong "a capture that is cut ended with status $status"
     head -1 lines.txt | grep -q 'end truncated' || wrong "a capture that is cut: $(head -1 lines.txt)"

@@ -41,7 +41,7 @@ said=$room/said
 expect() {
     local what=$1 wanted=$2 text=$3
     shift 3
-    timeout 60 "${as_nobody[@]}" "$room/ringtap" "$@" >"$said" 2>"$room/complained"
+    in_time "${as_nobody[@]}" "$room/ringtap" "$@" >"$said" 2>"$room/complained"
     check "$what" "$wanted" $?
     if [ "$text" != - ] && [ "$(cat "$said")" != "$text" ]; then
         wrong "$what: printed '$(cat "$said")' in place of '$text'"
@@ -154,7 +154,7 @@ saving_and_printing() {
     fresh
     mkfifo gone
     exec 3<>gone 4>gone 3>&-
-    timeout 60 "${as_nobody[@]}" "$room/ringtap" replay conf sched >&4 2>"$room/complained"
+    in_time "${as_nobody[@]}" "$room/ringtap" replay conf sched >&4 2>"$room/complained"
     check 'a pipe without a reader' 6 $?
     saved 'a pipe without a reader'
     exec 4>&-
@@ -162,10 +162,10 @@ saving_and_printing() {
         fresh
         printf 'tick 2\ntick 1\n' >ticks
         # shellcheck disable=SC2086
-        timeout 60 "${as_nobody[@]}" "$room/ringtap" $line >/dev/full 2>"$room/complained"
+        in_time "${as_nobody[@]}" "$room/ringtap" $line >/dev/full 2>"$room/complained"
         check "$line, standard output full" 6 $?
         # shellcheck disable=SC2086
-        timeout 60 "${as_nobody[@]}" "$room/ringtap" $line >&- 2>"$room/complained"
+        in_time "${as_nobody[@]}" "$room/ringtap" $line >&- 2>"$room/complained"
         check "$line, standard output closed" 6 $?
         [ "$line" != 'replay conf sched' ] || saved 'standard output closed'
     done
@@ -186,7 +186,7 @@ filling() {
     (
         trap '' XFSZ
         ulimit -f 1
-        exec timeout 60 "${as_nobody[@]}" "$room/ringtap" replay conf sched >"$said" 2>"$room/complained"
+        in_time "${as_nobody[@]}" "$room/ringtap" replay conf sched >"$said" 2>"$room/complained"
     )
     check 'a limit of 1024 bytes for a file' 6 $?
     cmp -s "$said" "$room/whole.txt" || wrong "a limit for files: printed '$(cat "$said")'"
@@ -212,7 +212,7 @@ interrupted() {
         return
     fi
     fresh
-    env LD_PRELOAD="$room/interrupt.so" "$room/ringtap" replay conf sched >"$said" 2>"$room/complained"
+    in_time env LD_PRELOAD="$room/interrupt.so" "$room/ringtap" replay conf sched >"$said" 2>"$room/complained"
     check 'interrupted calls' 0 $?
     cmp -s "$said" "$room/whole.txt" || wrong "interrupted calls: printed '$(cat "$said")'"
     saved 'interrupted calls'
@@ -235,7 +235,7 @@ cpu 1 frames 0 arrivals 0 end fault'
         [ "$(head -n 2 "$said")" = "$cut" ] || wrong "$command: three faults: printed '$(cat "$said")'"
         [ -s out.0.pcap ] || wrong "$command: three faults: the other output isn't saved"
         # shellcheck disable=SC2086
-        timeout 60 "${as_nobody[@]}" "$room/ringtap" $command >/dev/full 2>"$room/complained"
+        in_time "${as_nobody[@]}" "$room/ringtap" $command >/dev/full 2>"$room/complained"
         check "$command: four faults" 6 $?
     done
 }
@@ -378,7 +378,7 @@ sending() {
     ln -s /dev/full out.tx.pcap
     expect 'a full device as the output of a send' 6 "$whole_send" send conf
     fresh
-    timeout 60 "${as_nobody[@]}" "$room/ringtap" send conf >/dev/full 2>"$room/complained"
+    in_time "${as_nobody[@]}" "$room/ringtap" send conf >/dev/full 2>"$room/complained"
     check 'a send, standard output full' 6 $?
     sent 'a send, standard output full'
 }
@@ -448,7 +448,7 @@ capturing() {
     expect 'a folder as the output of a capture on threads' 6 "$lines" capture conf
     fresh
     roomy in.pcap
-    timeout 60 "${as_nobody[@]}" "$room/ringtap" capture conf >/dev/full 2>"$room/complained"
+    in_time "${as_nobody[@]}" "$room/ringtap" capture conf >/dev/full 2>"$room/complained"
     check 'a capture on threads, standard output full' 6 $?
     cmp -s out.0.pcap "$expected/out.0.pcap" || wrong 'a capture on threads, standard output full: another output'
 }

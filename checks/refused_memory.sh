@@ -1,8 +1,8 @@
 #!/usr/bin/env bash
-# Refuses each request for memory of a run in turn: of a check, of a replay with a dump, of one over slots, of a few frames that are made, of a capture
-# that is sent, and of captures on threads, without a pool of workers and with one. Every such run ends within a minute, with status 7,
-# or with the status, the lines and the files of a run with ample memory; what it saved before status 7 is what that run saves; and no
-# thread is left. On threads the number of a request may be another one at each run; what the runs here give is the same. Then each
+# Refuses each request for memory of a run in turn: of a check, of a replay with a dump, of one over slots, of a few frames that are
+# made, of a capture that is sent, and of captures on threads, without a pool of workers and with one. Every such run ends, with status
+# 7, or with the status, the lines and the files of a run with ample memory; what it saved before status 7 is what that run saves; and
+# no thread is left. On threads the number of a request may be another one at each run; what the runs here give is the same. Then each
 # thread in turn can't be started: such a run gives what every other gives.
 set -u
 source "$(dirname "${BASH_SOURCE[0]}")/common.bash"
@@ -23,7 +23,7 @@ printf '1\n6 0 0 262144\n' >pass.ddd
 # Runs the program with these words, with nothing refused, and keeps what it gives. Its files begin with `out.`.
 run_amply() {
     rm -rf out.* ample && mkdir ample
-    timeout 60 "$program" "$@" >ample/lines.txt || wrong "$1: the run with ample memory fails"
+    in_time "$program" "$@" >ample/lines.txt || wrong "$1: the run with ample memory fails"
     for file in out.*; do
         [ ! -e "$file" ] || mv "$file" ample
     done
@@ -34,11 +34,12 @@ run_refused() {
     local variable=$1 number=$2
     shift 2
     rm -rf told left now out.* && mkdir now
-    timeout 60 env "$variable=$number" TOLD="$room/told" LEFT="$room/left" LD_PRELOAD="$room/refuse.so" "$program" "$@" >now/lines.txt
+    in_time env "$variable=$number" TOLD="$room/told" LEFT="$room/left" LD_PRELOAD="$room/refuse.so" "$program" "$@" >now/lines.txt
     status=$?
     for file in out.*; do
         [ ! -e "$file" ] || mv "$file" now
     done
+    [ "$status" -ne 124 ] || wrong "$1: $variable=$number: it doesn't end"
     [ ! -e left ] || wrong "$1: $variable=$number: a thread is left"
 }
 

@@ -9,14 +9,14 @@ Tables of runs that were worked out with pencil and paper stand before them, so 
 import os
 import random
 import struct
-import subprocess
 import sys
-import tempfile
 from collections import namedtuple
 
 import by_hand
 import filter_verdicts
 import made_values
+import outcomes
+from hash_values import KEY
 
 # A run: its command, its setup and schedule, the captures of the CPUs from 0 up, and the text of its filter, if it has one.
 Case = namedtuple("Case", "command setup schedule captures listing", defaults=("", [], None))
@@ -182,7 +182,6 @@ def group_capture(numbers):
     return header() + b"".join(record(data, sec=at * numbers.choice([0, 1, 9])) for at, data in enumerate(frames))
 
 
-KEY = "6d5a56da255b0ec24167253d43a38fb0d0ca2bcbae7b30b477cb2da38030f20c6a42b73bbeac01fa"
 FILTERS = [
     "4\n40 0 0 12\n21 0 1 2048\n6 0 0 96\n6 0 0 0\n",
     "6\n40 0 0 12\n21 0 3 2048\n48 0 0 23\n21 0 1 17\n6 0 0 262144\n6 0 0 0\n",
@@ -351,52 +350,34 @@ def worked_out(case):
     return by_hand.replay(setup, case.schedule, case.captures, code, kind)
 
 
-def differs(program, case, seconds=None):
-    """What is wrong with a run in the present folder, if something is. No more files are there than the command reads. A run that
-    takes more than so many seconds ends the check."""
-    for old in os.listdir("."):
-        os.remove(old)
-    inputs = {"conf": case.setup.encode()}
-    inputs.update((f"in{cpu}.pcap", capture) for cpu, capture in enumerate(case.captures))
-    if case.listing:
-        inputs["filter.ddd"] = case.listing.encode()
-    words = [case.command, "conf"]
+def run_of(program, case):
+    """The outcome of a run in the present folder, in which there are no more files than the command reads."""
+    inputs, words = outcomes.inputs_of(case), [program, case.command, "conf"]
     if case.command in ("replay", "replay2"):
         inputs["sched"] = case.schedule.encode()
         words.append("sched")
-    by_hand.save(".", inputs)
-    lines, files = worked_out(case)
-    ends = [line.split(" end ")[1] for line in lines.splitlines() if line.startswith("cpu")]
-    status = 0 if set(ends) == {"ok"} else 4
-    pipe = subprocess.PIPE
-    ran = subprocess.run([program, *words], stdout=pipe, stderr=pipe, check=False, timeout=seconds)
-    if ran.returncode != status:
-        return f"status {ran.returncode} in place of {status}"
-    if ran.stderr:
-        return f"standard error: {ran.stderr!r}"
-    if ran.stdout != lines.encode():
-        return f"printed {ran.stdout.decode(errors='replace')!r} in place of {lines!r}"
-    if sorted(os.listdir(".")) != sorted([*inputs, *files]):
-        return f"other files: {sorted(os.listdir('.'))}"
-    for name, data in files.items():
-        if by_hand.bytes_of(name) != data:
-            return f"another {name}"
-    return None
+    outcomes.save_alone(inputs)
+    return outcomes.outcome_of(words, inputs)
+
+
+def faults(case, lines, files, status):
+    """What is wrong with a run: its status, its lines and the files that it saved."""
+    expected, wanted = worked_out(case)
+    ends = {line.split(" end ")[1] for line in expected.splitlines() if line.startswith("cpu")}
+    if status != (0 if ends == {"ok"} else 4):
+        yield f"status {status}, where the captures end {sorted(ends)}"
+    if lines != expected:
+        yield f"printed {lines!r} in place of {expected!r}"
+    if files.keys() != wanted.keys():
+        yield f"saved {sorted(files)} in place of {sorted(wanted)}"
+    for name in files.keys() & wanted.keys():
+        if files[name] != wanted[name]:
+            yield f"another {name}"
 
 
 def main():
     program = os.path.abspath(sys.argv[1])
-    wrong, count = by_hand_differs(), 0
-    with tempfile.TemporaryDirectory() as room:
-        os.chdir(room)
-        for count, case in enumerate(cases(), 1):
-            why = differs(program, case)
-            if why:
-                wrong += 1
-                sizes = [len(capture) for capture in case.captures]
-                print(f"run {count}, {case.command}, setup {case.setup!r}, captures of {sizes} bytes: {why}")
-        os.chdir("/")
-    print(f"replays.py: {count} runs, {wrong} of them wrong")
+    wrong = by_hand_differs() + outcomes.wrong_runs("runs", faults, cases(), lambda case: run_of(program, case))
     sys.exit(1 if wrong else 0)
 
 

@@ -1,7 +1,8 @@
 """Reads the tables of docs/reference.md, has a program answer each text that stands there, and compares what it prints."""
 import re
-import subprocess
 import sys
+
+import runs
 
 program, document, room = sys.argv[1:]
 
@@ -55,12 +56,12 @@ def line_of(which, cell):
 
 
 def answer(words, texts):
-    """What the program prints for words, where these texts stand under their names."""
+    """The status of the program for words, where these texts stand under their names, and what it prints; or that it doesn't end."""
     for name, text in texts.items():
         with open(f"{room}/{name}", "wb") as file:
             file.write(text)
-    done = subprocess.run([program, *words], cwd=room, capture_output=True, timeout=60)
-    return done.returncode, done.stdout.decode(), done.stderr.decode()
+    done, why = runs.run([program, *words], cwd=room)
+    return (done.returncode, done.stdout.decode(), done.stderr.decode()) if done else why
 
 
 def expect(what, status, printed, words, texts):

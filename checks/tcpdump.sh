@@ -20,7 +20,7 @@ total() {
 for name in setup small; do
     for program in "${programs[@]}"; do
         rm -f out.0.pcap copy.pcap
-        "$program" replay "demo/$name.txt" demo/schedule.txt >lines.txt || wrong "$name ended with status $?"
+        in_time "$program" replay "demo/$name.txt" demo/schedule.txt >lines.txt || wrong "$name ended with status $?"
         kept=$(total kept)
         [ "${kept:-0}" -gt 0 ] || wrong "$name kept nothing"
 
@@ -56,12 +56,12 @@ reads() {
 
 for program in "${programs[@]}"; do
     rm -f lo.tx.pcap made.*.pcap
-    "$program" send demo/send.txt >lines.txt || wrong "send ended with status $?"
+    in_time "$program" send demo/send.txt >lines.txt || wrong "send ended with status $?"
     count=$(sed -n 's/^send sent \([0-9]*\) .*/\1/p' lines.txt)
     reads lo.tx.pcap "${count:-0}" 'greater 0'
     python3 -B "$top/checks/by_hand.py" --frames lo.tx.pcap >out.txt
     cmp copy.txt out.txt || wrong 'send: tcpdump reads other frames'
-    "$program" make demo/make.txt >lines.txt || wrong "make ended with status $?"
+    in_time "$program" make demo/make.txt >lines.txt || wrong "make ended with status $?"
     for member in 0 1; do
         count=$(sed -n "s/^member $member packets \([0-9]*\) drops 0 .*/\1/p" lines.txt)
         reads "made.$member.pcap" "${count:-0}" 'udp dst port 53 and src net 10.0.0.0/16 and dst net 10.1.0.0/24'

@@ -10,16 +10,17 @@ import os
 import re
 import socket
 import struct
-import subprocess
 import sys
 import xml.etree.ElementTree
 from pathlib import Path
+
+import runs
+from hash_values import KEY
 
 program, room = Path(sys.argv[1]).resolve(), Path(sys.argv[2]).resolve()
 TOP = Path(__file__).resolve().parent.parent
 TOOLS = ("schedule.py", "ring_size.py", "lost.py", "ring_of.py", "run.py", "make_man.py")
 BLOCK = "block_size 4096\nblock_nr 2\nframe_size 2048\nframe_nr 4\n"
-KEY = "key 6d5a56da255b0ec24167253d43a38fb0d0ca2bcbae7b30b477cb2da38030f20c6a42b73bbeac01fa\n"
 failures = tests = 0
 
 
@@ -31,12 +32,14 @@ def expect(what, given, wanted):
         print(f"{what}: {given!r} in place of {wanted!r}")
 
 
+def answer(words, folder=room):
+    """What a run prints, what it says on standard error, and its status or that it doesn't end."""
+    done, why = runs.run(words, cwd=folder, text=True)
+    return (done.stdout, done.stderr, done.returncode) if done else ("", "", why)
+
+
 def tool(name, *words):
-    """What a tool prints, what it says on standard error, and its status."""
-    done = subprocess.run(
-        [sys.executable, "-B", TOP / "tools" / name, *map(str, words)], cwd=room, capture_output=True, text=True, timeout=300
-    )
-    return done.stdout, done.stderr, done.returncode
+    return answer([sys.executable, "-B", TOP / "tools" / name, *map(str, words)])
 
 
 def with_program(name, *words):
@@ -102,9 +105,9 @@ def test_schedule():
     printed, _, _ = tool("schedule.py", members, "--blocks", "100", "--stats", "0.02")
     expect("two members", printed.split("\n"), "feed 0;feed 0;read 0;read 1;tick 20;feed 0;read 0;read 1;stats 0;stats 1;".split(";"))
     expect("to a file", tool("schedule.py", setup, "-o", "made.sched"), ("", "", 0))
-    done = subprocess.run([program, "replay", setup, "made.sched"], cwd=room, capture_output=True, text=True)
+    printed, said, status = answer([program, "replay", setup, "made.sched"])
     # Tick 8 retires the block of the first two frames and tick 16 that of the next two; nobody reads, so the last one is dropped.
-    expect("the program takes it", (done.returncode, done.stdout.split("\n")[-2]), (0, "total arrivals 5 filtered 0 kept 4 drops 1"))
+    expect("the program takes it", (printed.split("\n")[-2:], said, status), (["total arrivals 5 filtered 0 kept 4 drops 1", ""], "", 0))
 
 
 def test_old_frames():
@@ -176,11 +179,9 @@ def test_lost():
     # 100 microseconds in two: 50 frames in each, of which 6 more are kept.
     expect("bins", [" ".join(line.split()[1:]) for line in lines[50:52]], ["50 0", "6 44"])
     expect("lost.svg", [title.split(": ")[1] for title in titles("lost.svg")], ["50 kept", "6 kept", "44 lost"])
-    demo = subprocess.run(
-        [sys.executable, "-B", "tools/lost.py", "demo/small.txt", "demo/schedule.txt", "--program", program], cwd=TOP,
-        capture_output=True, text=True,
-    )
-    lost = [line.split()[:2] for line in demo.stdout.split("\n")[1:10]]
+    words = ["tools/lost.py", "demo/small.txt", "demo/schedule.txt", "--program", program]
+    printed, _, _ = answer([sys.executable, "-B", *words], TOP)
+    lost = [line.split()[:2] for line in printed.split("\n")[1:10]]
     expect("lost of the demo", lost, [["0", str(number)] for number in [31, *range(44, 52)]])
 
 
@@ -191,7 +192,7 @@ def test_lost_of_earlier():
     setup = text("even.txt", BLOCK + "cpu many.pcap\ncpu many.pcap\nfilter even.ddd\nout even\n")
     refuses_run = with_program("lost.py", setup)
     expect("no outputs", refuses_run[1], "lost.py: even.0.pcap: isn't there: run ringtap first, or name a schedule, and the run is made here\n")
-    subprocess.run([program, "replay", setup, "none.sched"], cwd=room, capture_output=True)
+    answer([program, "replay", setup, "none.sched"])
     printed, said, status = with_program("lost.py", setup)
     # CPU after CPU: the 50 even frames of CPU 0 and the first 6 of CPU 1 are kept, and none says of which CPU those six are.
     lines = printed.split("\n")
@@ -231,10 +232,9 @@ def test_ring_of():
     filtered = (room / "dump.txt.ddd").read_text().split("\n")
     # As `tcpdump -ddd 'udp port 53 and net 10.0.0.0/8'` begins, and ends with its 262144 bytes, and none.
     expect("its filter", (filtered[:3], filtered[-3:]), (["20", "40 0 0 12", "21 17 0 34525"], ["6 0 0 262144", "6 0 0 0", ""]))
-    done = subprocess.run([program, "check", "dump.txt"], cwd=room, capture_output=True, text=True)
-    expect("the program takes it", (done.stdout, done.returncode), ("ok\n", 0))
+    expect("the program takes it", answer([program, "check", "dump.txt"]), ("ok\n", "", 0))
     expect("a group", ring_of("--inode", "137755")[0].split("\n")[5:11],
-           ["tov 60", "features 1", "cpu x.pcap", "members 3", "mode hash", KEY.strip()])
+           ["tov 60", "features 1", "cpu x.pcap", "members 3", "mode hash", f"key {KEY}"])
     for inode, mode in {"137757": "cpu", "137758": "rollover", "139291": "qm", "139287": "lb"}.items():
         expect(mode, f"mode {mode}" in ring_of("--inode", inode)[0].split("\n"), True)
     said = {
@@ -270,19 +270,19 @@ def test_live_ring():
 
 def test_run():
     """Lines and statuses are the program's, and files land in a new folder."""
-    plain = subprocess.run([program, "replay", "many.txt", "none.sched"], cwd=room, capture_output=True, text=True)
+    lines, _, _ = answer([program, "replay", "many.txt", "none.sched"])
     kept = (room / "out.0.pcap").read_bytes()
     (room / "out.0.pcap").unlink()
     said = "ringtap: status 0: done; outputs are in run-1\n"
-    expect("run", with_program("run.py", "replay", "many.txt", "none.sched"), (plain.stdout, said, 0))
+    expect("run", with_program("run.py", "replay", "many.txt", "none.sched"), (lines, said, 0))
     expect("its files", sorted(path.name for path in (room / "run-1").iterdir()), ["lines.txt", "out.0.pcap", "setup.txt"])
     expect("its output", (room / "run-1" / "out.0.pcap").read_bytes() == kept, True)
-    expect("its lines", (room / "run-1" / "lines.txt").read_text(), plain.stdout)
+    expect("its lines", (room / "run-1" / "lines.txt").read_text(), lines)
     expect("nothing beside", (room / "out.0.pcap").exists(), False)
     expect("the next", with_program("run.py", "replay", "many.txt", "none.sched")[1], "ringtap: status 0: done; outputs are in run-2\n")
     expect("not twice", with_program("run.py", "replay", "many.txt", "none.sched", "--into", "run-1"),
            ("", "run.py: run-1: is there already; outputs go into a new folder\n", 1))
-    expect("here", with_program("run.py", "replay", "many.txt", "none.sched", "--here"), (plain.stdout, "ringtap: status 0: done\n", 0))
+    expect("here", with_program("run.py", "replay", "many.txt", "none.sched", "--here"), (lines, "ringtap: status 0: done\n", 0))
     expect("check", with_program("run.py", "check", "many.txt"), ("ok\n", "ringtap: status 0: done\n", 0))
 
 
@@ -396,8 +396,8 @@ def test_examples():
         if words[0] == "python3":
             has_program = words[1] in ("tools/ring_size.py", "tools/lost.py", "tools/run.py")
             words = [sys.executable, "-B", TOP / words[1], *words[2:], *["--program", program] * has_program]
-        done = subprocess.run(words, cwd=here, capture_output=True, text=True, timeout=300)
-        given = (done.stdout + done.stderr).rstrip("\n")
+        printed, said, status = answer(words, here)
+        given = (printed + said).rstrip("\n") if isinstance(status, int) else status
         if "schedule.py" in what:
             given = "\n".join(given.split("\n")[: wanted.count("\n") + 1])
         expect(what, given, wanted)

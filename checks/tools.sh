@@ -34,7 +34,7 @@ export PROGRAM=${programs[0]}
 
 # Runs a demo of the copy, and compares its lines and files with those that are expected.
 demo() {
-    (cd "$copy" && PATH=$room/fake:$PATH sh demo/run.sh "$1" >"$room/lines.txt" 2>"$room/said.txt") || wrong "$2, $1: $(cat "$room/said.txt")"
+    (cd "$copy" && PATH=$room/fake:$PATH in_time sh demo/run.sh "$1" >"$room/lines.txt" 2>"$room/said.txt") || wrong "$2, $1: $(cat "$room/said.txt")"
     while read -r line; do
         grep -qxF -e "$line" "$room/lines.txt" || wrong "$2, $1: no line '$line'"
     done <"demo/expected/$1/lines.txt"
@@ -44,13 +44,13 @@ demo() {
     done
 }
 
-said=$(cd "$copy" && PATH=$room/fake:$PATH sh demo/run.sh nothing 2>&1) && wrong 'demo/run.sh takes an unknown demo'
+said=$(cd "$copy" && PATH=$room/fake:$PATH in_time sh demo/run.sh nothing 2>&1) && wrong 'demo/run.sh takes an unknown demo'
 [[ $said == usage:* ]] || wrong "demo/run.sh says '$said' to an unknown demo"
 for name in setup group send; do
     demo "$name" unproved
     grep -q '^unproved try' "$room/said.txt" || wrong "$name: nothing says that the try is unproved"
 done
-(cd "$copy" && PATH=$room/fake:$PATH sh demo/build.sh) 2>"$room/said.txt" || wrong "demo/build.sh: $(cat "$room/said.txt")"
+(cd "$copy" && PATH=$room/fake:$PATH in_time sh demo/build.sh) 2>"$room/said.txt" || wrong "demo/build.sh: $(cat "$room/said.txt")"
 grep -q '^[0-9]* of [0-9]* libraries are proved.* min so far$' "$room/said.txt" || wrong "demo/build.sh shows '$(cat "$room/said.txt")'"
 [ "$(readlink -f "$copy/bin/ringtap")" = "$(realpath "$copy")/crates/ringtap/out/ringtap" ] || wrong 'bin/ringtap is no link to the program'
 demo small built
