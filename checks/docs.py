@@ -45,7 +45,7 @@ LINES = [
     ("tap_engine/src/calls.rt", r'b"([a-z][^"]*)"'),
     ("tx_ring/src/error.rt", r'"( ?[a-z][^"]*)"'),
 ]
-STATUSES = "tap_engine/src/outcomes.rt"
+STATUSES, STATUS = "tap_engine/src/outcomes.rt", r"Status::\w+(?:\([^)]*\)| \{[^}]*\})? => (\d+)"
 ENDINGS = ["tap_saving/src/members.rt", "tap_saving/src/names.rt"]
 
 
@@ -67,30 +67,29 @@ def stands(phrase, document):
     return re.search(r".+?".join(parts), document) is not None
 
 
-def words():
-    """The words, lines, statuses and files of the sources that the reference lacks."""
-    text = REFERENCE.read_text(encoding="utf-8")
+def printable(text):
+    """What the sources can print: where it stands, what finds it there, what of that is never printed, what it is, and whether the
+    reference, whose text this is, has it."""
     document = shown(text)
-    missing = []
-    found = 0
     for name, pattern, never in WORDS:
-        all_words = set(re.findall(pattern, source(name))) - never
-        found += len(all_words)
-        missing += [f"the word {word} of {name}" for word in sorted(all_words) if not re.search(rf"\b{word}\b", document)]
+        yield name, pattern, never, "the word", lambda word: re.search(rf"\b{word}\b", document)
     for name, pattern in LINES:
-        phrases = set(re.findall(pattern, source(name)))
-        found += len(phrases)
-        missing += [f"the line '{phrase}' of {name}" for phrase in sorted(phrases) if not stands(phrase, document)]
-    for number in re.findall(r"Status::\w+(?:\([^)]*\)| \{[^}]*\})? => (\d+)", source(STATUSES)):
-        found += 1
-        if not re.search(rf"^\| {number} \| ", text, re.M):
-            missing.append(f"the status {number}")
+        yield name, pattern, set(), "the line", lambda phrase: stands(phrase, document)
+    yield STATUSES, STATUS, set(), "the status", lambda number: re.search(rf"^\| {number} \| ", text, re.M)
     for name in ENDINGS:
-        for ending in re.findall(r'"(\.[a-z.]+)"', source(name)):
-            found += 1
-            if ending not in document:
-                missing.append(f"the file {ending} of {name}")
-    return found, [f"docs/reference.md lacks {what}" for what in missing]
+        yield name, r'"(\.[a-z.]+)"', set(), "the file", lambda ending: ending in document
+
+
+def words():
+    """The words, lines, statuses and files of the sources that the reference lacks, and the sources in which none is found."""
+    found, wrong = 0, []
+    for name, pattern, never, what, has in printable(REFERENCE.read_text(encoding="utf-8")):
+        texts = sorted(set(re.findall(pattern, source(name))) - never)
+        found += len(texts)
+        wrong += [f"docs/reference.md lacks {what} '{text}' of {name}" for text in texts if not has(text)]
+        if not texts:
+            wrong.append(f"{name} has nothing that {pattern} finds, so nothing of it is looked for")
+    return found, wrong
 
 
 def documents():

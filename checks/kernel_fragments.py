@@ -16,6 +16,7 @@ import sys
 
 PROTOCOL = 253  # for experiments, RFC 3692
 HERE = socket.inet_aton("127.0.0.1")
+SECONDS = 60  # that a datagram may take, which the kernel gives at once
 
 
 def places(length):
@@ -48,7 +49,10 @@ def check(out, socket_in, ident, ttl, options, sizes, order):
     pieces = list(fragments(ident, ttl, options, sizes))
     for place in order:
         out.sendto(pieces[place], ("127.0.0.1", 0))
-    whole = received(socket_in, ident)
+    try:
+        whole = received(socket_in, ident)
+    except socket.timeout:
+        sys.exit(f"within {SECONDS} seconds the kernel gives no datagram of {sizes} in the order {order}: a fragment of it was lost")
     size = (whole[0] & 0xF) * 4
     length, _, flags = struct.unpack(">HHH", whole[2:8])
     told = (size, length, flags, whole[8], whole[size:])
@@ -65,7 +69,7 @@ def main():
         socket_in = socket.socket(socket.AF_INET, socket.SOCK_RAW, PROTOCOL)
     except PermissionError:
         sys.exit(77)
-    socket_in.settimeout(5)
+    socket_in.settimeout(SECONDS)
     ident = 0x1234
     cases = [(64, b"", [24, 16, 8, 5], order) for order in itertools.permutations(range(4))]
     cases += [(119, b"", [256, 196], (0, 1)), (119, b"", [256, 196], (1, 0)), (64, b"", [8, 8, 4], (2, 0, 1))]

@@ -8,7 +8,7 @@ status=$?
 if [ "$status" -eq 77 ]; then
     echo "skipped: ${0##*/} needs the right to open a raw socket"
 elif [ "$status" -ne 0 ]; then
-    wrong "another datagram"
+    wrong "kernel_fragments.py ended with status $status"
 elif [ "$table" != "$(cat checks/kernel_fragments.txt)" ]; then
     wrong "another table than kernel_fragments.txt"
 else

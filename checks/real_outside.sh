@@ -100,6 +100,10 @@ texts() {
     expect 'a setup that is checked' 0 ok check conf
     { cat conf && printf 'filter none\n'; } >filtered
     expect 'a filter that is not there' 5 'read fault' check filtered
+    { cat conf && printf 'filter /dev/zero\n'; } >filtered
+    expect '/dev/zero as the filter' 3 'filter line 0: too_large' check filtered
+    { cat conf && printf 'ticks /dev/zero\n'; } >ticking
+    expect '/dev/zero as the moments' 3 'ticks line 0: too_large' check ticking
     { cat conf && printf 'out none/out\n'; } >elsewhere
     expect 'an output folder that is not there' 6 - replay elsewhere sched
     expect '/dev/null as the schedule' 0 - replay conf /dev/null
