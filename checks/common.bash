@@ -34,8 +34,14 @@ find_programs() {
 # Makes a folder of this check's own, `room`, that is gone at its end.
 make_room() {
     room=$(mktemp -d) || exit 1
-    trap 'rm -rf "$room"' EXIT
+    trap remove_room EXIT
     chmod 755 "$room"
+}
+
+# Removes it, with folders that nobody may write to.
+remove_room() {
+    chmod -R u+rwx "$room"
+    rm -rf "$room"
 }
 
 # Runs a command to its end. Where it doesn't end within `limit` seconds, more than the slowest machine needs, the status is 124; a

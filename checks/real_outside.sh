@@ -4,6 +4,9 @@ set -u
 . "$(dirname "${BASH_SOURCE[0]}")/common.bash"
 find_programs
 make_room
+# Wherever the check ends, nobody writes to a pipe of the room any more, and nothing is mounted in it.
+writer=
+trap 'stop_writing; umount "$room/here/small" 2>/dev/null; remove_room' EXIT
 
 # Without root the checks run as they are; root reads every file, so there they run as nobody, if that can be had.
 as_nobody=()
@@ -522,8 +525,10 @@ PYTHON
 }
 
 stop_writing() {
+    [ -n "$writer" ] || return
     kill "$writer" 2>/dev/null
     wait "$writer" 2>/dev/null
+    writer=
 }
 
 for program in "${programs[@]}"; do
@@ -546,6 +551,5 @@ for program in "${programs[@]}"; do
     words
 done
 cd "$top" || exit 1
-chmod -R u+rwx "$room"
 [ "$has_rights" = yes ] || echo "skipped: in ${0##*/} the cases on rights, as root runs it and setpriv is missing"
 exit "$failed"
