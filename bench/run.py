@@ -56,6 +56,8 @@ SLOTS = {"block_size": 65536, "block_nr": 64, "frame_size": 2048, "frame_nr": 20
 GROWTH = 2.2
 # The pairs of sizes between which CPU time and memory are compared.
 DOUBLES = {"MiB": (16, 32), "made frames": (10_000, 20_000)}
+# The header of a pcap capture in microseconds, little-endian.
+HEADER = struct.pack("<IHHiIII", 0xA1B2C3D4, 2, 4, 0, 0, 65535, 1)
 
 
 def make_capture(path, size, lengths):
@@ -67,7 +69,7 @@ def make_capture(path, size, lengths):
         bodies.append(struct.pack("<II", length, length) + data)
     left, count = size - 24, 0
     with open(path, "wb") as file:
-        file.write(struct.pack("<IHHiIII", 0xA1B2C3D4, 2, 4, 0, 0, 65535, 1))
+        file.write(HEADER)
         while left >= 8 + len(bodies[count % len(bodies)]):
             body = bodies[count % len(bodies)]
             file.write(struct.pack("<II", count // 100_000, count % 100_000 * 10) + body)
@@ -132,7 +134,7 @@ def make_flows(path, size, kind):
     no IPv4, of `defrag` half of the datagrams are two fragments each."""
     left, number, count = size - 24, 0, 0
     with open(path, "wb") as file:
-        file.write(struct.pack("<IHHiIII", 0xA1B2C3D4, 2, 4, 0, 0, 65535, 1))
+        file.write(HEADER)
         while left >= 1100:
             if kind == "defrag" and number % 2:
                 frames = [datagram(number, 0), datagram(number, 1)]
@@ -180,7 +182,7 @@ def make_small_flows(path, size):
     """Writes a capture of UDP flows in frames of 60 bytes of at most so many bytes, and gives the number of its frames."""
     count = (size - 24) // 76
     with open(path, "wb") as file:
-        file.write(struct.pack("<IHHiIII", 0xA1B2C3D4, 2, 4, 0, 0, 65535, 1))
+        file.write(HEADER)
         for number in range(count):
             frame = bytearray(datagram(number)[:60])
             struct.pack_into(">H", frame, 16, 46)
@@ -196,10 +198,7 @@ def make_case(kind, size):
 
 def faults_of(words):
     """The page faults of a run, and its largest memory in bytes."""
-    with open(os.devnull, "wb") as out:
-        process = subprocess.Popen(words, stdout=out)
-        _, _, usage = os.wait4(process.pid, 0)
-        process.returncode = 0
+    _, usage = usage_of(words, subprocess.DEVNULL)
     return usage.ru_minflt, usage.ru_maxrss * 1024
 
 
@@ -342,20 +341,26 @@ def times_of_settings(program, asked):
             row_of_settings(f"capture, {kind}, blocks of {ring['block_size'] // 1024:,} KiB", [program, *COMMANDS["capture"]], asked)
 
 
+def usage_of(words, out):
+    """How many seconds a run takes, and what the system counts of it. One that fails ends the benchmark."""
+    start = time.monotonic()
+    process = subprocess.Popen(words, stdout=out, stderr=subprocess.DEVNULL)
+    _, status, usage = os.wait4(process.pid, 0)
+    taken = time.monotonic() - start
+    process.returncode = os.waitstatus_to_exitcode(status)
+    if process.returncode != 0:
+        sys.exit(f"{' '.join(words)} ended with status {process.returncode}")
+    return taken, usage
+
+
 def measure(words, runs):
     """Of some runs the least time and CPU time in seconds, the largest memory in bytes, and what the last one printed."""
     best, least, memory, printed = float("inf"), float("inf"), 0, b""
     for _ in range(runs):
         remove_outputs(words)
         with open("printed", "wb") as out:
-            start = time.monotonic()
-            process = subprocess.Popen(words, stdout=out, stderr=subprocess.DEVNULL)
-            _, status, usage = os.wait4(process.pid, 0)
-            best = min(best, time.monotonic() - start)
-            least = min(least, usage.ru_utime + usage.ru_stime)
-            process.returncode = os.waitstatus_to_exitcode(status)
-        if process.returncode != 0:
-            sys.exit(f"{' '.join(words)} ended with status {process.returncode}")
+            taken, usage = usage_of(words, out)
+        best, least = min(best, taken), min(least, usage.ru_utime + usage.ru_stime)
         memory = max(memory, usage.ru_maxrss * 1024)
         with open("printed", "rb") as out:
             printed = out.read()
@@ -376,38 +381,62 @@ def tested(kind, ring, count, printed):
     return kept, drops
 
 
-def main():
+def asked_for():
+    """What the command line asks for."""
     words = argparse.ArgumentParser(description=__doc__, formatter_class=argparse.RawDescriptionHelpFormatter)
     words.add_argument("--sizes", default="4,8,16,32")
     words.add_argument("--runs", type=int, default=5)
-    words.add_argument("--beside")
+    words.add_argument("--beside", type=os.path.abspath)
     words.add_argument("--threads", action="store_true")
-    words.add_argument("program", nargs="?", default=PROGRAM)
-    asked = words.parse_args()
-    program = os.path.abspath(asked.program)
-    if not os.path.exists(program):
+    words.add_argument("program", nargs="?", default=PROGRAM, type=os.path.abspath)
+    return words.parse_args()
+
+
+def main():
+    asked = asked_for()
+    if not os.path.exists(asked.program):
         subprocess.run(["sh", os.path.join(TOP, "demo", "build.sh")], check=True)
-    other = asked.beside and os.path.abspath(asked.beside)
     os.makedirs(WORK, exist_ok=True)
-    os.chmod(WORK, 0o777)  # tcpdump may write as another user
-    os.chdir(WORK)
-    open("sched", "wb").close()
-    if other:
-        times_beside(program, other, asked)
+    try:
+        os.chmod(WORK, 0o777)  # tcpdump may write as another user
+        os.chdir(WORK)
+        open("sched", "wb").close()
+        times = times_beside if asked.beside else all_times_on_threads if asked.threads else all_times
+        too_much = times(asked.program, asked)
+    finally:
+        os.chdir(TOP)
         shutil.rmtree(WORK)
-        return
-    if asked.threads:
-        times_of_processes(program, asked)
-        times_of_plain_threads(program, asked)
-        too_much = times_of_threads(program, asked)
-        times_of_forwards(program, asked)
-        times_of_pools(program, asked)
-        shutil.rmtree(WORK)
-        sys.exit(1 if too_much else 0)
+    sys.exit(1 if too_much else 0)
+
+
+def all_times_on_threads(program, asked):
+    """Prints the tables of captures on threads and of what stands beside them, and gives whether one takes too much CPU time."""
+    times_of_processes(program, asked)
+    times_of_plain_threads(program, asked)
+    too_much = times_of_threads(program, asked)
+    times_of_forwards(program, asked)
+    times_of_pools(program, asked)
+    return too_much
+
+
+def all_times(program, asked):
+    """Prints all tables, and gives whether something takes or grows too much."""
+    found = times_of_replays(program, asked)
+    times_of_blocks(program, asked)
+    for times in (times_of_groups, times_of_made, times_of_sent, times_of_slots):
+        found.update(times(program, asked))
+    too_much = all_times_on_threads(program, asked)
+    times_of_plain(program, asked)
+    times_of_settings(program, asked)
+    is_large = memory_of_refused(program, asked)
+    return grows(found) or is_large or too_much
+
+
+def times_of_replays(program, asked):
+    """Prints the table of replays, beside tcpdump where it is there, and gives their CPU times and memory."""
     dump = shutil.which("tcpdump")
     if not dump:
         print("no tcpdump, so there is no ratio to it")
-
     print("| Frames | MiB | Ring | Kept | Dropped | Time, s | CPU, s | MiB/s | Memory, MiB | To tcpdump |")
     print("|---|---|---|---|---|---|---|---|---|---|")
     found = {}
@@ -417,7 +446,7 @@ def main():
             by_dump = measure([dump, "-n", "-r", "in.pcap", "-w", "out.pcap"], asked.runs)[0] if dump else None
             for ring, numbers in RINGS.items():
                 write_setup("conf", numbers)
-                taken, cpu, memory, printed = measure([program, "replay", "conf", "sched"], asked.runs)
+                taken, cpu, memory, printed = measure([program, *COMMANDS["replay"]], asked.runs)
                 kept, drops = tested(kind, ring, count, printed)
                 found[f"{kind}, ring that {ring}", size] = cpu, memory
                 ratio = f"{taken / by_dump:.1f}" if by_dump else "-"
@@ -426,25 +455,12 @@ def main():
                     f" | {memory / MIB:.0f} | {ratio} |",
                     flush=True,
                 )
-    times_of_blocks(program, asked)
-    found.update(times_of_groups(program, asked))
-    found.update(times_of_made(program, asked))
-    found.update(times_of_sent(program, asked))
-    found.update(times_of_slots(program, asked))
-    times_of_processes(program, asked)
-    times_of_plain_threads(program, asked)
-    too_much = times_of_threads(program, asked)
-    times_of_forwards(program, asked)
-    times_of_pools(program, asked)
-    times_of_plain(program, asked)
-    times_of_settings(program, asked)
-    is_large = memory_of_refused(program, asked)
-    shutil.rmtree(WORK)
-    sys.exit(1 if grows(found) or is_large or too_much else 0)
+    return found
 
 
-def times_beside(program, other, asked):
+def times_beside(program, asked):
     """Prints how long the replays of another program take and how long ours, by turns, so that both meet the same machine."""
+    other = asked.beside
     print("| Frames | MiB | Ring | Other, s | Time, s | Times | Other, CPU s | CPU, s | Times |")
     print("|---|---|---|---|---|---|---|---|---|")
     for kind, lengths in FRAMES.items():
@@ -630,7 +646,7 @@ def time_at_once(program, count):
         remove_outputs(COMMANDS["replay"], f"apart{number}")
     begun = time.perf_counter()
     runs = [subprocess.Popen([program, *COMMANDS["replay"]], cwd=f"apart{number}", stdout=subprocess.DEVNULL) for number in range(count)]
-    if any(run.wait() for run in runs):
+    if any([run.wait() for run in runs]):
         sys.exit("a replay of one CPU failed")
     return time.perf_counter() - begun
 
