@@ -9,7 +9,8 @@ these captures is replayed, sent and captured on threads. COUNT captures (10,000
 and are replayed, sent or captured by turns. Then captures of the forms that ask most of each byte (records without a byte,
 fragments that are never put together, and others) are replayed and sent at one size and at twice that size: the processor's
 instructions for the second, as valgrind counts them, and the pages of memory that it touches are at most GROWTH times those for the
-first. Both are counts, so the machine's load changes neither. On threads these captures have to end.
+first. Both are counts, so the machine's load changes neither. On threads these captures have to end. At last a fragment of a datagram
+of MANY may take at most DEARER times the instructions of a fragment of a datagram of FEW.
 
 A run on threads has a ring that holds everything, with the frames of one CPU for each member, so it gives what a replay gives.
 """
@@ -39,6 +40,9 @@ ROOMY = (65536, 16, 2048, 512)
 # The larger of the two sizes whose work is compared, the most that the work may grow by, and the pages by which it may grow in any
 # case, since a list that doubles touches more at once. A thread that waits works too, so of a run on threads only the end is tested.
 LARGE, GROWTH, FEW_PAGES = 8_388_608, 2.2, 100
+
+# The fragments of the datagrams that are compared, how many fragments each capture of them has, and how much dearer one may be.
+FEW, MANY, FRAGMENTS, DEARER = 500, 8_000, 16_000, 3
 
 
 def base(order):
@@ -200,6 +204,11 @@ def fragment(ident, offset, more, data):
     return frame(14) + head + bytes.fromhex("0a0000010a000002") + data
 
 
+def first_lost(count):
+    """Datagrams of so many fragments of eight bytes, in order, each without its first: the frame of a number."""
+    return lambda at: fragment(at // count, 1 + at % count, at % count < count - 1, bytes(8))
+
+
 # The forms that ask most of each byte of a capture: the frame of a number, and the lines of the setup.
 FORMS = {
     "records without a byte": (lambda at: b"", ""),
@@ -208,9 +217,7 @@ FORMS = {
     "tagged frames": (lambda at: frame(18, b"\x81\x00\x00\x64\x08\x00"), "members 8\nmode lb\nflag rollover\n"),
     "fragments of datagrams that never end": (lambda at: fragment(at, 1, True, bytes(8)), "flag defrag\n"),
     "fragments that overlap": (lambda at: fragment(at // 3, at % 3, True, bytes(16)), "flag defrag\n"),
-    "datagrams of 500 fragments of which the first is lost": (
-        lambda at: fragment(at // 500, 1 + at % 500, at % 500 < 499, bytes(8)), "flag defrag\n"
-    ),
+    f"datagrams of {FEW} fragments of which the first is lost": (first_lost(FEW), "flag defrag\n"),
 }
 
 
@@ -279,23 +286,45 @@ def ends_on_threads(program, name, lines):
     return None
 
 
+def long_datagrams_cost(program):
+    """What is wrong with the instructions for fragments of long datagrams beside those for as many of short ones, if something is."""
+    each = []
+    for size in (FEW, MANY):
+        frames = map(first_lost(size), range(FRAGMENTS))
+        by_hand.save(".", {"whole.pcap": header() + b"".join(map(record, frames))})
+        write_texts("whole.pcap", "flag defrag\n")
+        count, why = instructions_of([program, "replay", "conf", "sched"])
+        if why:
+            return f"datagrams of {size:,} fragments, replay: {why}"
+        each.append(count // FRAGMENTS)
+    told = f"{each[0]:,} instructions for a fragment of a datagram of {FEW}, {each[1]:,} for one of {MANY:,}"
+    print(f"hostile_captures.py: {told}", flush=True)
+    return f"{told}: more than {DEARER} times as many" if each[1] > DEARER * each[0] else None
+
+
+def whys_of_forms(program, counts):
+    """What is wrong with the forms, of which each is written into the present folder; None where nothing is."""
+    for name, (data_of, lines) in FORMS.items():
+        write_form(data_of)
+        # A `send` reads no line of a group.
+        for command in ["replay", *["send"] * (not lines)] if counts else []:
+            yield grows(program, command, name, lines)
+        yield ends_on_threads(program, name, lines)
+    if counts:
+        yield long_datagrams_cost(program)
+
+
 def growing(program):
-    """How many forms take work that grows faster than their bytes, or don't end on threads."""
+    """How many forms take work that grows faster than their bytes, or than their fragments, or don't end on threads."""
     counts = shutil.which("valgrind")
     if not counts:
         print("skipped: the growth of the work needs valgrind")
     wrong = 0
     with tempfile.TemporaryDirectory() as room:
         os.chdir(room)
-        for name, (data_of, lines) in FORMS.items():
-            write_form(data_of)
-            # A `send` reads no line of a group.
-            commands = ["replay", *["send"] * (not lines)] if counts else []
-            whys = [grows(program, command, name, lines) for command in commands]
-            for why in [*whys, ends_on_threads(program, name, lines)]:
-                if why:
-                    wrong += 1
-                    print(f"hostile_captures.py: {why}")
+        for why in filter(None, whys_of_forms(program, counts)):
+            wrong += 1
+            print(f"hostile_captures.py: {why}")
         os.chdir("/")
     return wrong
 
