@@ -3,7 +3,7 @@ use Rattle.std.proofs.Common.{◌≡◌, ◌≢◌, ◌<◌, ◌≤◌, ◌+◌,
 use Rattle.std.proofs.Common.{inl, inr}
 use Rattle.std.proofs.Math.Seq.{take-suc}
 use Rattle.std.proofs.lemmas.List.{take-append-drop}
-use Rattle.std.specs.Prelude.{◌&&◌, MatchBool, if◌then◌else◌, Option, None, Some, is_some}
+use Rattle.std.specs.Prelude.{◌&&◌, MatchBool, if◌then◌else◌, ⊤, Option, None, Some, is_some}
 use Rattle.frame_view.specs.declared.frames.Packet.{Packet}
 use Rattle.setup_text.specs.declared.reports.Forwards.{Forwards}
 use Rattle.setup_text.specs.declared.reports.MemberReport.{MemberReport}
@@ -15,9 +15,9 @@ use Rattle.tap_outside.specs.Seen.{OnlySaves, StoreSeen}
 use Rattle.tap_outside.specs.declared.causes.OutError.{OutError}
 use Rattle.tap_outside.specs.declared.causes.OutError.TheVariants.{Failed, Memory}
 use Rattle.tap_saving.specs.Files.{File, files_at, files_from, forward_file, forward_name, names_at, names_from, output_files, output_names, sent_by}
-use Rattle.tap_saving.specs.Saving.{AllUnless, HoldsNow, HoldsOldOrNew, IsApart, KeepsAllBut, Saved, SavedSome, Touches, marked}
+use Rattle.tap_saving.specs.Saving.{AllUnless, HoldsNow, HoldsOldOrNew, IsApart, KeepsAllBut, NoSaveFailed, Saved, SavedSome, Touches, marked}
 use Rattle.tap_saving.proofs.Naming.{AreApart, apart_back, apart_fewer, apart_front, apart_none, apart_of, apart_sent, are_apart_from, files_apart, files_append, files_more, member_apart, name_apart, sent_apart}
-use Rattle.tap_saving.proofs.Stores.{touches_more, touches_none, touches_then}
+use Rattle.tap_saving.proofs.Stores.{exact_touched, touches_more, touches_none, touches_then}
 
 -- ---- files and marks
 
@@ -143,6 +143,17 @@ rose_both xs ys a b c h k =
 rose_none : (files : List File) (a b : ℕ) → a ≤ b → RoseBy (marked (unmarked files)) a b
 rose_none files a b h = subst (λ n. RoseBy n a b) (sym (none_marked files)) (omega (arith, h))
 
+-- ---- faults
+
+-- where both were saved no save failed
+faultless_both : (a b c : StoreSeen) (s t : Bool) → b.exact ≡ a.exact
+    → MatchBool s (NoSaveFailed a b) ⊤ → MatchBool t (NoSaveFailed b c) ⊤
+    → MatchBool (s && t) (NoSaveFailed a c) ⊤
+faultless_both a b c true true same h k = λ exact. k (same ∙ exact) ∙ h exact
+faultless_both a b c true false same h k = tt
+faultless_both a b c false true same h k = tt
+faultless_both a b c false false same h k = tt
+
 -- ---- files that were saved
 
 -- some files, and then others
@@ -160,11 +171,18 @@ saved_then a b c fs gs s t names more first h second k apart = record {
   none_or_some =
       subst (λ n. MatchBool (s && t) (n ≡ 0) (1 ≤ n)) (sym (marked_append h.missed k.missed))
       (both_of s t (marked h.missed) (marked k.missed) h.none_or_some k.none_or_some);
+  faultless = faultless_both a b c s t (exact_touched first) h.faultless k.faultless;
 }
 
 -- nothing was saved yet
 pub saved_none : (a : StoreSeen) → Saved a a [] true
-saved_none a = record { missed = []; hold = tt; rose = omega arith; none_or_some = refl }
+saved_none a = record {
+  missed = [];
+  hold = tt;
+  rose = omega arith;
+  none_or_some = refl;
+  faultless = λ exact. refl;
+}
 
 holds_now : (before after : Option Contents) (file : File)
     → HoldsFile after file.name file.bytes → HoldsNow before after file
@@ -173,19 +191,27 @@ holds_now (Some files) after file holds = holds
 
 -- one file was saved
 pub saved_one : (a b : StoreSeen) (file : File)
-    → OnlySaves a b file.name → HoldsFile b.held file.name file.bytes → Saved a b (file ∷ []) true
-saved_one a b file only holds = record {
+    → OnlySaves a b file.name → HoldsFile b.held file.name file.bytes → NoSaveFailed a b
+    → Saved a b (file ∷ []) true
+saved_one a b file only holds faultless = record {
   missed = false ∷ [];
   hold = (holds_now a.held b.held file holds, tt);
   rose = let later = only.later in omega (arith, later);
   none_or_some = refl;
+  faultless = faultless;
 }
 
 -- or it wasn't
 pub missed_one : (a b : StoreSeen) (file : File)
     → RoseBy 1 a.save_faults b.save_faults → Saved a b (file ∷ []) false
 missed_one a b file rose =
-    record { missed = true ∷ []; hold = tt; rose = rose; none_or_some = omega arith }
+    record {
+      missed = true ∷ [];
+      hold = tt;
+      rose = rose;
+      none_or_some = omega arith;
+      faultless = tt;
+    }
 
 pub failed_by : (e : OutError) (P : Type 0) → e ≡ Failed → IfFailed e P → P
 failed_by Failed P e h = h

@@ -47,6 +47,10 @@ pub read_faults_touched : {old new : StoreSeen} {names : List (List ℕ)}
     → Touches old new names → new.read_faults ≡ old.read_faults
 read_faults_touched t = ap (λ (s : StoreSeen). s.read_faults) t.same
 
+pub exact_touched : {old new : StoreSeen} {names : List (List ℕ)}
+    → Touches old new names → new.exact ≡ old.exact
+exact_touched t = ap (λ (s : StoreSeen). s.exact) t.same
+
 -- ---- what is touched
 
 -- one saving touches its name

@@ -1,5 +1,5 @@
 -- What saving does to a store.
-use Rattle.std.specs.Prelude.{◌≡◌, ◌≢◌, ◌≤◌, ℕ, ◌+◌, Bool, true, false, MatchBool, List, [], ◌∷◌, ⊤, Option, None, Some, ◌⊎◌}
+use Rattle.std.specs.Prelude.{◌≡◌, ◌≢◌, ◌≤◌, ℕ, ◌+◌, Bool, true, false, IsTrue, MatchBool, List, [], ◌∷◌, ⊤, Option, None, Some, ◌⊎◌}
 use Rattle.tap_outside.specs.Contents.{Contents, HoldsFile}
 use Rattle.tap_outside.specs.Counts.{RoseBy}
 use Rattle.tap_outside.specs.Seen.{StoreSeen}
@@ -65,6 +65,10 @@ pub record Touches (old new : StoreSeen) (names : List (List ℕ)) : Type 0 wher
   pub others : KeepsAllBut old.held new.held names
   pub later : old.save_faults ≤ new.save_faults
 
+-- no save failed: an exact store's count of faults of saving stands still
+abbrev pub NoSaveFailed : StoreSeen → StoreSeen → Type 0
+NoSaveFailed old new = IsTrue old.exact → new.save_faults ≡ old.save_faults
+
 -- the files were saved, or not all of them; a file is missed only where the count of faults rose
 -- for it
 pub record Saved (old new : StoreSeen) (files : List File) (all : Bool) : Type 0 where
@@ -72,6 +76,8 @@ pub record Saved (old new : StoreSeen) (files : List File) (all : Bool) : Type 0
   pub hold : HoldUnless missed old.held new.held files
   pub rose : RoseBy (marked missed) old.save_faults new.save_faults
   pub none_or_some : MatchBool all (marked missed ≡ 0) (1 ≤ marked missed)
+  -- where all were saved no save failed
+  pub faultless : MatchBool all (NoSaveFailed old new) ⊤
 
 -- saving ended early: each name holds what it held or its file's bytes; a name is missed, and may
 -- hold anything, only where the count of faults rose for it
