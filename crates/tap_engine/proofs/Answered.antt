@@ -14,6 +14,7 @@ use Rattle.tap_engine.specs.declared.outcomes.Status.{Status}
 use Rattle.tap_engine.specs.declared.outcomes.Status.TheVariants as statuses
 use Rattle.tap_engine.proofs.Complete.{complete_of, worth_of}
 use Rattle.tap_engine.proofs.Concluded.{no_memory}
+use Rattle.tap_engine.proofs.Faultless.{faultless_of}
 use Rattle.tap_engine.proofs.InnerErrors.{told_of_texts}
 
 pub told : (command : Option Named) (outcome : Outcome) (old new : StoreSeen)
@@ -25,6 +26,7 @@ told command outcome old new before after tells = record {
   gave_up = λ memory. absurd (no_memory _ _ _ _ _ _ tells.concludes memory);
   no_memory = told_of_texts command outcome old new before after tells;
   complete = complete_of command outcome old new before after tells;
+  faultless = faultless_of command outcome old new before after tells;
 }
 
 pub gave_up : (command : Option Named) (outcome : Outcome) (old new : StoreSeen)
@@ -42,4 +44,5 @@ gave_up command outcome old new before after memory none cut = record {
         (λ log. IsOfCapture log.end) report.cpus)) (sym none) tt;
   };
   complete = λ files named held is sound sane. inr memory;
+  faultless = λ read write other. absurd (other memory);
 }

@@ -357,11 +357,11 @@ fine_found files named old new finding.Checked is sound sane h = refl
 fine_found files named old new (finding.Ran rings setup report forwards) is sound sane h =
     fine_report files named report sound (subst (λ (o : Option Contents). IsHeadline o named report)
     is h.0.headline)
-    (none_rose (faults_in report.cpus) old.read_faults new.read_faults sane h.1)
+    (none_rose (faults_in report.cpus) old.read_faults new.read_faults sane h.1.rose)
 fine_found files named old new (finding.Sent setup sending) is sound sane h =
     fine_sending files named setup sending sound (subst (λ (o : Option Contents). IsSent o named
     setup sending) is h.0)
-    (none_rose (fault_at sending.end) old.read_faults new.read_faults sane h.1)
+    (none_rose (fault_at sending.end) old.read_faults new.read_faults sane h.1.rose)
 
 unprinted : (before after : SinkSeen) (lines : List ℕ) (printed : Bool) → printed ≡ false
     → IsPrinted before after lines printed

@@ -41,8 +41,10 @@ ended : (found : Finding) (old new : StoreSeen) (before after : SinkSeen) (saved
 ended found old new before after true true s p =
     inl (record {
       status_is = refl;
-      lines = p;
+      lines = p.0;
       files = hold_all s.missed old.held new.held (files_of found) s.none_or_some s.hold;
+      saves = s.faultless;
+      prints = p.1;
     })
 ended found old new before after true false s p =
     inr (record {

@@ -262,45 +262,6 @@ pub map_more : {A B : Type 0} (f : A → B) (xs : List A) (x : A)
 map_more f [] x = refl
 map_more f (y ∷ xs) x = ap (λ rest. f y ∷ rest) (map_more f xs x)
 
--- the captures of the CPUs so far, and of one more
-pub goes_on : {Input : Type 0} (seen : Option Input → Option SourceSeen)
-    (held now : Option Contents) (cpus : List CpuSetup) (at : ℕ) (cpu : CpuSetup)
-    (sources more : List (Option Input)) (source : Option Input) (a b c : ℕ)
-    → now ≡ held → cpu ≡ get_or cpus at cpu → at < length cpus → more ≡ sources ++ source ∷ []
-    → AreFetched held (take at cpus) (map seen sources)
-    → AreFetched now (cpu ∷ []) (seen source ∷ [])
-    → RoseBy (missing_in (map seen sources)) a b → RoseBy (missing_in (seen source ∷ [])) b c
-    → AreFetched held (take (at + 1) cpus) (map seen more) × RoseBy (missing_in (map seen more)) a c
-goes_on seen held now cpus at cpu sources more source a b c same is less added all one h k =
-    let mapped = ap (λ xs. map seen xs) added ∙ map_more seen sources source in
-    let one_held : AreFetched held (cpu ∷ []) (seen source ∷ []) = subst
-    (λ (o : Option Contents). AreFetched o (cpu ∷ []) (seen source ∷ [])) same one in (
-      rw (one_more cpus at cpu is less, mapped) (fetched_more held (take at cpus) (map seen sources)
-          cpu (seen source) all one_held),
-      rw (mapped, missing_more (map seen sources) (seen source))
-          (rose_then (missing_in (map seen sources)) (missing_in (seen source ∷ [])) a b c h k),
-    )
-
--- one source more is closed
-faulty_front : (source : Option SourceSeen) (rest : List (Option SourceSeen))
-    → faulty_in (source ∷ rest) ≡ faulty_in (source ∷ []) + faulty_in rest
-faulty_front None rest = omega arith
-faulty_front (Some source) rest = omega arith
-
-pub closes_one : {Input : Type 0} (seen : Option Input → Option SourceSeen)
-    (all left rest : List (Option Input)) (source : Option Input) (n a b c : ℕ)
-    → faulty_in (map seen all) ≡ n + faulty_in (map seen left) → left ≡ source ∷ rest → RoseBy n a b
-    → RoseBy (faulty_in (seen source ∷ [])) b c
-    → (m : ℕ) × (faulty_in (map seen all) ≡ m + faulty_in (map seen rest)) × RoseBy m a c
-closes_one seen all left rest source n a b c counted is h k =
-    let front = faulty_front (seen source) (map seen rest) in
-    let here = ap (λ xs. faulty_in (map seen xs)) is ∙ front in (
-      n + faulty_in (seen source ∷ []),
-      omega (arith, counted, here),
-      rose_then n
-          (faulty_in (seen source ∷ [])) a b c h k,
-    )
-
 -- ---- a store that is only read
 
 pub reads_then : (a b c : StoreSeen) → OnlyReads a b → OnlyReads b c → OnlyReads a c

@@ -32,6 +32,7 @@ use Rattle.tap_engine.specs.declared.findings.Finding.{Finding}
 use Rattle.tap_engine.specs.declared.findings.Finding.TheVariants as finding
 use Rattle.tap_engine.specs.Names.{AreMeant, AreMeantToRead, AreMeantToSave, filter_for}
 use Rattle.tap_engine.specs.Names.{names_to_read, saved_for, ticks_for}
+use Rattle.tap_engine.proofs.Counted.{counts_later}
 use Rattle.tap_engine.proofs.Ends.{report_members}
 use Rattle.tap_engine.proofs.Fetched.{held_same, rose_earlier, to_read_same, to_save_same}
 use Rattle.tap_engine.proofs.Fetched.{unfailed_then}
@@ -172,19 +173,21 @@ found_earlier old mid new named (finding.BadSetup error) before h =
     refuses_earlier (setup_for named.command) is_setup_want old mid new named.setup error before h
 found_earlier old mid new named (finding.BadText error) before h =
     bad_text_earlier old mid new named error before h
-found_earlier old mid new named finding.Checked before h =
-    subst (λ (held : Option Contents). IsChecked held named) (held_same old mid before.only) h
+found_earlier old mid new named finding.Checked before h = (
+  subst (λ (held : Option Contents). IsChecked held named) (held_same old mid before.only) h.0,
+  unfailed_then old mid new before h.1,
+)
 found_earlier old mid new named (finding.Ran rings setup report forwards) before h = (
   subst (λ (held : Option Contents). IsReported held named setup report)
       (held_same old mid before.only) h.0,
-  rose_earlier (faults_in report.cpus) old mid new before.only h.1,
+  counts_later (faults_in report.cpus) old mid new before h.1,
   h.2,
   h.3,
 )
 found_earlier old mid new named (finding.Sent setup sending) before h = (
   subst (λ (held : Option Contents). IsSent held named setup sending)
       (held_same old mid before.only) h.0,
-  rose_earlier (fault_at sending.end) old mid new before.only h.1,
+  counts_later (fault_at sending.end) old mid new before h.1,
 )
 
 -- what is found where a text stops the command

@@ -1,11 +1,13 @@
 pub mod Texts
 pub mod Ends
 pub mod Fetched
+pub mod Counted
 pub mod Meant
 pub mod Concluded
 pub mod Found
 pub mod Sent
 pub mod Complete
+pub mod Faultless
 pub mod Made
 pub mod MadeRuns
 pub mod InnerErrors

@@ -1,5 +1,5 @@
 -- A job that was replayed: what its report is worth.
-use Rattle.std.proofs.Common.{◌≡◌, ℕ, ◌+◌, ◌≤◌, Bool, true, false, List, length, refl, sym, ap}
+use Rattle.std.proofs.Common.{◌≡◌, ℕ, ◌≤◌, Bool, true, false, List, length, refl, sym, ap}
 use Rattle.std.proofs.Common.{subst, ◌∙◌, arith, Option, None, Some}
 use Rattle.std.specs.Prelude.{if◌then◌else◌, nat_lt}
 use Rattle.std.proofs.lemmas.Bool.{ltb-false}
@@ -16,11 +16,11 @@ use Rattle.setup_text.specs.declared.jobs.Job.{Job}
 use Rattle.setup_text.specs.declared.reports.RunReport.{RunReport}
 use Rattle.setup_text.specs.declared.setups.Setup.{Setup}
 use Rattle.tap_outside.specs.Contents.{Contents}
-use Rattle.tap_outside.specs.Counts.{RoseBy}
-use Rattle.tap_outside.specs.Seen.{SourceSeen}
+use Rattle.tap_outside.specs.Seen.{SourceSeen, StoreSeen}
 use Rattle.tap_printing.specs.declared.ring_kind.RingKind.{RingKind}
 use Rattle.tap_printing.specs.declared.ring_kind.RingKind.TheVariants.{Blocks}
 use Rattle.tap_engine.specs.Commands.{Named, has_schedule, is_threaded, rings_of}
+use Rattle.tap_engine.specs.Faults.{IsCounted}
 use Rattle.tap_engine.specs.Findings.{IsReported, IsSmall, faults_in}
 use Rattle.tap_engine.specs.Headline.{AreCaptures, CapturesFor, IsCaptureOf, IsReplayOf}
 use Rattle.tap_engine.specs.Headline.{IsReportBy, IsRunOf, replay_by}
@@ -28,7 +28,8 @@ use Rattle.tap_engine.specs.Jobs.{HasJob, HasLines, HasTicks}
 use Rattle.tap_engine.specs.Replays.{IsReplayedBy}
 use Rattle.tap_engine.specs.Sources.{AreFetched, faulty_in, missing_in}
 use Rattle.tap_engine.proofs.Ends.{as_many_logs, report_ends, report_members, report_short}
-use Rattle.tap_engine.proofs.Fetched.{bytes_as_many, captures_are, faults_are, rose_less, rose_then}
+use Rattle.tap_engine.proofs.Counted.{counts_run}
+use Rattle.tap_engine.proofs.Fetched.{bytes_as_many, captures_are}
 
 -- what holds of the report of a job that was replayed over these sources
 pub record Replays (rings : RingKind) (job : Job) (lines : List Line)
@@ -71,18 +72,17 @@ replays rings job lines old new report sound count r =
       small = small_run rings job old new r.bytes r.ends report sound count r.gave r.run;
     }
 
--- no more CPUs ended with a fault than reading failed
-pub faults_rose : (held : Option Contents) (rings : RingKind) (job : Job)
+-- the CPUs that ended with a fault were counted
+pub faults_counted : (held : Option Contents) (rings : RingKind) (job : Job)
     (old new : List (Option SourceSeen)) (bytes : List (List ℕ)) (ends : List CpuEnd)
-    (report : RunReport) (a b c : ℕ)
+    (report : RunReport) (a b c : StoreSeen)
     → AreFetched held job.setup.cpus old → AllGave old new bytes ends
     → IsReportBy rings job bytes ends report
-    → RoseBy (missing_in old) a b → RoseBy (faulty_in new) b c → RoseBy (faults_in report.cpus) a c
-faults_rose held rings job old new bytes ends report a b c fetched gave run missing faulty =
-    let most = faults_are held job.setup.cpus old new bytes ends report.cpus fetched gave
-    (report_ends rings job bytes ends report run) in
-    rose_less (faults_in report.cpus) (missing_in old + faulty_in new) a c most
-    (rose_then (missing_in old) (faulty_in new) a b c missing faulty)
+    → IsCounted a b (missing_in old) → IsCounted b c (faulty_in new)
+    → IsCounted a c (faults_in report.cpus)
+faults_counted held rings job old new bytes ends report a b c fetched gave run =
+    counts_run held job.setup.cpus old new bytes ends report.cpus a b c fetched gave
+    (report_ends rings job bytes ends report run)
 
 reported : (held : Option Contents) (named : Named) (job : Job) (bytes : List (List ℕ))
     (ends : List CpuEnd) (report : RunReport)

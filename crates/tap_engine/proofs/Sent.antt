@@ -15,16 +15,17 @@ use Rattle.frame_view.specs.declared.frames.Packet.{Packet}
 use Rattle.setup_text.specs.declared.cpu_setups.CpuSetup.{CpuSetup}
 use Rattle.setup_text.specs.declared.setups.Setup.{Setup}
 use Rattle.tap_outside.specs.Contents.{Contents}
-use Rattle.tap_outside.specs.Counts.{RoseBy}
-use Rattle.tap_outside.specs.Seen.{SourceSeen}
+use Rattle.tap_outside.specs.Seen.{SourceSeen, StoreSeen}
 use Rattle.tx_ring.specs.Transmitting.{before_long, is_fitting, is_long, plain_packets, reached}
 use Rattle.tx_ring.specs.Transmitting.{transmitted_of}
+use Rattle.tap_engine.specs.Faults.{IsCounted}
 use Rattle.tap_engine.specs.Findings.{fault_at}
 use Rattle.tap_engine.specs.Headline.{IsCapture}
 use Rattle.tap_engine.specs.Names.{first_file}
 use Rattle.tap_engine.specs.Sendings.{IsFirst}
 use Rattle.tap_engine.specs.Sources.{AreFetched, faulty_in, missing_in}
-use Rattle.tap_engine.proofs.Fetched.{captures_are, faults_are, rose_less, rose_then}
+use Rattle.tap_engine.proofs.Counted.{counts_less, counts_run}
+use Rattle.tap_engine.proofs.Fetched.{captures_are}
 
 -- the capture of CPU 0 is that of the first CPU
 pub first_is : (cpus : List CpuSetup) (cpu : CpuSetup) → 0 < length cpus → cpu ≡ get_or cpus 0 cpu
@@ -49,16 +50,15 @@ abbrev log_of : CpuEnd → CpuLog
 log_of end = record { frames = 0; given = 0; end = end; arrivals = [] }
 
 pub first_faults : (held : Option Contents) (cpu : CpuSetup) (old new : Option SourceSeen)
-    (reading : Reading) (a b c : ℕ)
+    (reading : Reading) (a b c : StoreSeen)
     → AreFetched held (cpu ∷ []) (old ∷ []) → IsReading 0 old new reading
-    → RoseBy (missing_in (old ∷ [])) a b → RoseBy (faulty_in (new ∷ [])) b c
-    → RoseBy (fault_at reading.end) a c
+    → IsCounted a b (missing_in (old ∷ [])) → IsCounted b c (faulty_in (new ∷ []))
+    → IsCounted a c (fault_at reading.end)
 first_faults held cpu old new reading a b c fetched is missing faulty =
-    let most = faults_are held (cpu ∷ []) (old ∷ []) (new ∷ []) (is.bytes ∷ []) (reading.end ∷ [])
-    (log_of reading.end ∷ []) fetched (is.gave, tt) (refl, tt) in
-    rose_less (fault_at reading.end) (missing_in (old ∷ []) + faulty_in (new ∷ [])) a c
-    (omega (arith, most))
-    (rose_then (missing_in (old ∷ [])) (faulty_in (new ∷ [])) a b c missing faulty)
+    counts_less (fault_at reading.end) (fault_at reading.end + 0) a c (omega arith)
+    (λ none. omega (arith, none))
+    (counts_run held (cpu ∷ []) (old ∷ []) (new ∷ []) (is.bytes ∷ []) (reading.end ∷ [])
+    (log_of reading.end ∷ []) a b c fetched (is.gave, tt) (refl, tt) missing faulty)
 
 -- ---- what is sent is short enough for an output file
 

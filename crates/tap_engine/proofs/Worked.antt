@@ -1,5 +1,5 @@
 -- What the work of a command comes to, where its job is accepted.
-use Rattle.std.proofs.Common.{◌≡◌, ℕ, Bool, true, false, List, ◌∷◌, map, refl, sym, ap, subst, arith, inl, inr}
+use Rattle.std.proofs.Common.{◌≡◌, ℕ, Bool, true, false, List, ◌∷◌, map, refl, sym, ap, subst, inl, inr}
 use Rattle.std.proofs.Common.{Option, None, Some}
 use Rattle.std.specs.Prelude.{◌⊎◌, IfSome, IsTrue, All, Ok}
 use Rattle.schedule_lines.specs.declared.lines.Line.{Line}
@@ -11,14 +11,14 @@ use Rattle.setup_text.specs.declared.jobs.Job.{Job}
 use Rattle.setup_text.specs.declared.reports.RunReport.{RunReport}
 use Rattle.setup_text.specs.declared.setups.Setup.{Setup}
 use Rattle.tap_outside.specs.Contents.{Contents}
-use Rattle.tap_outside.specs.Counts.{RoseBy}
-use Rattle.tap_outside.specs.Seen.{OnlyReads, StoreSeen}
+use Rattle.tap_outside.specs.Seen.{NoReadFailed, OnlyReads, StoreSeen}
 use Rattle.slot_layout.specs.SlotShapes.{IsSlotShape}
 use Rattle.tap_printing.specs.declared.ring_kind.RingKind.TheVariants.{Blocks, Slots}
 use Rattle.tp_layout.specs.Requests.{slot_fault, transmit_fault}
 use Rattle.tp_layout.specs.declared.requests.RingRequest.{RingRequest}
 use Rattle.tap_engine.specs.Commands.{Named, has_schedule, is_threaded, rings_of, sends}
 use Rattle.tap_reading.specs.Readers.{Says}
+use Rattle.tap_engine.specs.Faults.{IsCounted}
 use Rattle.tap_engine.specs.Findings.{IsFound, IsReported, fault_at}
 use Rattle.tap_engine.specs.Jobs.{HasJob, HasLast, HasLines, HasSchedule, HasTicks, IsAsked}
 use Rattle.tap_engine.specs.Jobs.{LinesFor, lines_for}
@@ -117,26 +117,27 @@ threaded_ticks named setup is = threaded_moments named.command setup is
 
 pub checks : (old new : StoreSeen) (named : Named) (job : Job) (moments : List ℕ)
     → named.command ≡ Check → HasJob old.held named job
-    → HasTicks old.held job.setup.ticks moments → IsFound (Some named) old new finding.Checked
-checks old new named job moments is has ticks = record {
-  command = is;
-  job = job;
-  job_is = has;
-  moments = moments;
-  ticks = subst (λ (name : Option (List ℕ)). HasTicks old.held name moments)
-      (sym (ticks_are named job.setup is)) ticks;
-}
+    → HasTicks old.held job.setup.ticks moments → NoReadFailed old new
+    → IsFound (Some named) old new finding.Checked
+checks old new named job moments is has ticks unfailed = (
+  record {
+    command = is;
+    job = job;
+    job_is = has;
+    moments = moments;
+    ticks = subst (λ (name : Option (List ℕ)). HasTicks old.held name moments)
+        (sym (ticks_are named job.setup is)) ticks;
+  },
+  unfailed,
+)
 
 pub sent_found : (old new : StoreSeen) (named : Named) (job : Job) (sending : Sending)
     → named.command ≡ Send → HasJob old.held named job
     → IsSending old.held job.setup sending
-    → RoseBy (fault_at sending.end) old.read_faults new.read_faults
+    → IsCounted old new (fault_at sending.end)
     → IsFound (Some named) old new (finding.Sent job.setup sending)
 sent_found old new named job sending is has sent faults =
     (record { command = is; job = job; job_is = has; setup_is = refl; sending_is = sent }, faults)
-
-pub none_rose : (n a : ℕ) → n ≡ 0 → RoseBy n a a
-none_rose n a none = omega (arith, none)
 
 -- ---- what was asked for, where memory ran out
 

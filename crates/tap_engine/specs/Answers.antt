@@ -4,6 +4,7 @@ use Rattle.tap_outside.specs.Seen.{SinkSeen, StoreSeen}
 use Rattle.tap_engine.specs.Commands.{Named}
 use Rattle.tap_engine.specs.Complete.{IsComplete}
 use Rattle.tap_engine.specs.Conclusions.{GivesUp, Tells}
+use Rattle.tap_engine.specs.Faults.{IsFaultless}
 use Rattle.tap_engine.specs.Headline.{IsWorth}
 use Rattle.tap_engine.specs.InnerErrors.{HoldsNoMemory}
 use Rattle.tap_engine.specs.declared.outcomes.Outcome.{Outcome}
@@ -17,3 +18,4 @@ pub record IsAnswer (command : Option Named) (outcome : Outcome) (old new : Stor
   pub gave_up : outcome.status ≡ Memory → GivesUp command outcome old new
   pub no_memory : HoldsNoMemory outcome
   pub complete : IsComplete command old new before after outcome.status
+  pub faultless : IsFaultless old new before after outcome.status

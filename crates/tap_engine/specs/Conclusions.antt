@@ -6,7 +6,7 @@ use Rattle.frame_view.specs.declared.want.Memory.{Memory}
 use Rattle.tap_outside.specs.Counts.{Rose, RoseBy}
 use Rattle.tap_outside.specs.Seen.{NoReadFailed, OnlyReads, SinkSeen, StoreSeen}
 use Rattle.tap_outside.specs.Sinks.{AppendsFront}
-use Rattle.tap_saving.specs.Saving.{HoldAll, HoldUnless, SavedSome, Touches, marked}
+use Rattle.tap_saving.specs.Saving.{HoldAll, HoldUnless, NoSaveFailed, SavedSome, Touches, marked}
 use Rattle.tap_engine.specs.Commands.{Named}
 use Rattle.tap_engine.specs.Findings.{IsFound, files_of, lines_of, names_of, report_in, status_of}
 use Rattle.tap_engine.specs.Jobs.{IsAsked}
@@ -15,9 +15,10 @@ use Rattle.tap_engine.specs.declared.outcomes.Outcome.{Outcome}
 use Rattle.tap_engine.specs.declared.outcomes.Status.{Status}
 use Rattle.tap_engine.specs.declared.outcomes.Status.TheVariants.{WriteFault}
 
--- the lines were printed, or a prefix of them where printing failed
+-- the lines were printed and no write failed, or a prefix of them where printing failed
 abbrev pub IsPrinted : SinkSeen → SinkSeen → List ℕ → Bool → Type 0
-IsPrinted before after lines true = Appends before.written after.written lines
+IsPrinted before after lines true =
+    Appends before.written after.written lines × (after.faults ≡ before.faults)
 IsPrinted before after lines false =
     Rose before.faults after.faults × AppendsFront before.written after.written lines
 
@@ -27,6 +28,9 @@ pub record IsDone (finding : Finding) (status : Status) (old new : StoreSeen)
   pub status_is : status ≡ status_of finding
   pub lines : Appends before.written after.written (lines_of finding)
   pub files : HoldAll old.held new.held (files_of finding)
+  -- no save and no write failed
+  pub saves : NoSaveFailed old new
+  pub prints : after.faults ≡ before.faults
 
 -- printing or saving failed: as many files may not hold their bytes as saving failed, or fewer
 pub record IsFailed (finding : Finding) (status : Status) (old new : StoreSeen)

@@ -11,8 +11,8 @@ use Rattle.setup_text.specs.declared.reports.RunReport.{RunReport}
 use Rattle.setup_text.specs.declared.setups.Setup.{Setup}
 use Rattle.tap_forward.specs.Bridges.{sent_for, skipped_for}
 use Rattle.tap_outside.specs.Contents.{Contents}
-use Rattle.tap_outside.specs.Counts.{Rose, RoseBy}
-use Rattle.tap_outside.specs.Seen.{StoreSeen}
+use Rattle.tap_outside.specs.Counts.{Rose}
+use Rattle.tap_outside.specs.Seen.{NoReadFailed, StoreSeen}
 use Rattle.tap_printing.specs.Lines.{send_lines, summary_of}
 use Rattle.tap_printing.specs.Refusals.{setup_refusal, text_refusal}
 use Rattle.tap_reading.specs.declared.stops.Stop.{Stop}
@@ -22,6 +22,7 @@ use Rattle.tap_saving.specs.Files.{CanBeOutput, File, files_from, names_from, se
 use Rattle.tp_layout.specs.Requests.{size_of}
 use Rattle.tx_ring.specs.Rings.{room_of}
 use Rattle.tap_engine.specs.Commands.{Named, rings_of, sends}
+use Rattle.tap_engine.specs.Faults.{IsCounted}
 use Rattle.tap_engine.specs.Headline.{IsHeadline}
 use Rattle.tap_engine.specs.Jobs.{HasBadSetup, HasBadText, IsChecked}
 use Rattle.tap_engine.specs.Sendings.{IsSent}
@@ -64,23 +65,24 @@ faults_in [] = 0
 faults_in (log ∷ logs) = fault_at log.end + faults_in logs
 
 -- A command finds this in a store. A text that can't be read comes only where reading failed, and
--- as many captures end with a fault as reading failed, or fewer.
+-- as many captures end with a fault as reading failed, or fewer. Where nothing of that comes no read
+-- failed.
 abbrev pub IsFound : Option Named → StoreSeen → StoreSeen → Finding → Type 0
-IsFound None old new finding.NoCommand = ⊤
+IsFound None old new finding.NoCommand = NoReadFailed old new
 IsFound None old new found = ⊥
 IsFound (Some named) old new finding.NoCommand = ⊥
 IsFound (Some named) old new finding.Unread = Rose old.read_faults new.read_faults
 IsFound (Some named) old new (finding.BadSetup error) = HasBadSetup old new named error
 IsFound (Some named) old new (finding.BadText error) = HasBadText old new named error
-IsFound (Some named) old new finding.Checked = IsChecked old.held named
+IsFound (Some named) old new finding.Checked = IsChecked old.held named × NoReadFailed old new
 IsFound (Some named) old new (finding.Ran rings setup report forwards) =
     IsReported old.held named setup report
-    × RoseBy (faults_in report.cpus) old.read_faults new.read_faults
+    × IsCounted old new (faults_in report.cpus)
     × IsSentBy (sends named.command) setup report forwards
     × (rings ≡ rings_of named.command)
 IsFound (Some named) old new (finding.Sent setup sending) =
     IsSent old.held named setup sending
-    × RoseBy (fault_at sending.end) old.read_faults new.read_faults
+    × IsCounted old new (fault_at sending.end)
 
 -- what is found where a text stops the command
 abbrev pub finding_of : Result Finding Stop → Result Finding Memory

@@ -4,6 +4,7 @@ pub mod Jobs
 pub mod Headline
 pub mod Replays
 pub mod Sendings
+pub mod Faults
 pub mod Findings
 pub mod Dones
 pub mod Conclusions

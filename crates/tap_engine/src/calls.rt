@@ -6,6 +6,7 @@ ghost use Rattle.tap_engine.specs.Answers.{IsAnswer};
 ghost use Rattle.tap_engine.specs.Commands.{Named, command_of, plain_command};
 ghost use Rattle.tap_engine.specs.Complete.{IsComplete};
 ghost use Rattle.tap_engine.specs.Conclusions.{GivesUp, IsCut, IsCutShort, IsSearched, Tells};
+ghost use Rattle.tap_engine.specs.Faults.{IsFaultless};
 ghost use Rattle.tap_engine.specs.Findings.{IsReady, names_of};
 ghost use Rattle.tap_engine.specs.Headline.{IsWorth};
 ghost use Rattle.tap_engine.specs.InnerErrors.{HoldsNoMemory};
@@ -67,6 +68,10 @@ pub fn run<S: Store, O: Sink, G: Gate + Sync, R: Threads + Wait + Sync>(
     // Where the store holds a sound command and no count of faults rose, the status is 0, or 7.
     ensures complete { IsComplete (command_of words.now)
         (S.seen store.old) (S.seen store.new) (O.seen out.old) (O.seen out.new) result.status }
+
+    // The other way round: where a fault was counted the status is 5, 6 or 7.
+    ensures faultless { IsFaultless
+        (S.seen store.old) (S.seen store.new) (O.seen out.old) (O.seen out.new) result.status }
 {
     let found = find(rt, alloc, words, store, gate);
     finish(alloc, found, store, out)
@@ -113,6 +118,10 @@ pub fn run_plain<S: Store, O: Sink>(
 
     // Where the store holds a sound command and no count of faults rose, the status is 0, or 7.
     ensures complete { IsComplete (plain_command words.now)
+        (S.seen store.old) (S.seen store.new) (O.seen out.old) (O.seen out.new) result.status }
+
+    // The other way round: where a fault was counted the status is 5, 6 or 7.
+    ensures faultless { IsFaultless
         (S.seen store.old) (S.seen store.new) (O.seen out.old) (O.seen out.new) result.status }
 {
     let found = find_plain(alloc, words, store);

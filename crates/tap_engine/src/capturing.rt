@@ -3,10 +3,10 @@ ghost use Rattle.std.specs.Prelude.{◌≡◌, true, length, map, option_map};
 ghost use Rattle.std.specs.Prelude.{All, IfErr, IfOk, IfSome, IsTrue};
 ghost use Rattle.cpu_feeders.specs.Runs.{IsCaptureRun};
 ghost use Rattle.setup_text.specs.Sound.{AreMoments, IsSetup};
-ghost use Rattle.tap_outside.specs.Counts.{RoseBy};
 ghost use Rattle.tap_outside.specs.Seen.{OnlyReads};
 ghost use Rattle.tap_saving.specs.Files.{CanBeOutput};
 ghost use Rattle.tap_engine.specs.Commands.{Named, is_threaded};
+ghost use Rattle.tap_engine.specs.Faults.{IsCounted};
 ghost use Rattle.tap_engine.specs.Findings.{IsReported, IsSentBy, IsSmall, faults_in};
 ghost use Rattle.tap_engine.specs.Jobs.{HasJob, HasTicks, Stops};
 
@@ -54,8 +54,8 @@ pub(crate) fn run_timed<S: Store, G: Gate + Sync, R: Threads + Wait + Sync>(
     ensures stop { IfErr result (λ stop. (named : Named) → is_threaded named.command ≡ true
         → HasJob (S.seen store.old).held named job.now
         → Stops (S.seen store.old) (S.seen store.new) named stop) }
-    ensures faults { IfOk result (λ run. RoseBy (faults_in run.report.cpus)
-        (S.seen store.old).read_faults (S.seen store.new).read_faults) }
+    ensures faults { IfOk result (λ run. IsCounted (S.seen store.old) (S.seen store.new)
+        (faults_in run.report.cpus)) }
     ensures small { IfOk result (λ run. IsSmall run.report) }
     ensures short { IfOk result (λ run.
         IfSome run.forwards (λ forwards. All CanBeOutput forwards.sent)) }
@@ -84,8 +84,8 @@ fn run_captures<S: Store, G: Gate + Sync, R: Threads + Wait + Sync>(
         → HasTicks (S.seen store.old).held job.now.setup.ticks moments.now
         → IsReported (S.seen store.old).held named job.now.setup run.report) }
     ensures sent { IfOk result (λ run. IsSentBy sends job.now.setup run.report run.forwards) }
-    ensures faults { IfOk result (λ run. RoseBy (faults_in run.report.cpus)
-        (S.seen store.old).read_faults (S.seen store.new).read_faults) }
+    ensures faults { IfOk result (λ run. IsCounted (S.seen store.old) (S.seen store.new)
+        (faults_in run.report.cpus)) }
     ensures small { IfOk result (λ run. IsSmall run.report) }
     ensures short { IfOk result (λ run.
         IfSome run.forwards (λ forwards. All CanBeOutput forwards.sent)) }

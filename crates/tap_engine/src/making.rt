@@ -8,9 +8,9 @@ ghost use Rattle.setup_text.specs.Sound.{IsSetup};
 ghost use Rattle.setup_text.specs.declared.commands.Command.TheVariants.{Make};
 ghost use Rattle.slot_layout.specs.SlotShapes.{IsSlotShape};
 ghost use Rattle.tap_outside.specs.Contents.{Contents};
-ghost use Rattle.tap_outside.specs.Counts.{RoseBy};
 ghost use Rattle.tap_outside.specs.Seen.{OnlyReads};
 ghost use Rattle.tap_engine.specs.Commands.{Named, has_schedule};
+ghost use Rattle.tap_engine.specs.Faults.{IsCounted};
 ghost use Rattle.tap_engine.specs.Findings.{IsReported, IsSmall, faults_in};
 ghost use Rattle.tap_engine.specs.Jobs.{HasJob, HasLines, Stops};
 ghost use Rattle.tap_engine.specs.Replays.{IsReplayedBy};
@@ -50,8 +50,8 @@ pub(crate) fn replay_scheduled<S: Store>(
     ensures stop { IfErr result (λ stop. (named : Named) → named.command ≡ command
         → named.schedule ≡ name.now → HasJob (S.seen store.old).held named job.now
         → Stops (S.seen store.old) (S.seen store.new) named stop) }
-    ensures faults { IfOk result (λ report. RoseBy (faults_in report.cpus)
-        (S.seen store.old).read_faults (S.seen store.new).read_faults) }
+    ensures faults { IfOk result (λ report. IsCounted (S.seen store.old) (S.seen store.new)
+        (faults_in report.cpus)) }
     ensures small { IfOk result IsSmall }
     ensures store { OnlyReads (S.seen store.old) (S.seen store.new) }
 {
@@ -78,8 +78,8 @@ fn replay_captures<S: Store>(
         → HasJob (S.seen store.old).held named job.now
         → HasLines (S.seen store.old).held named job.now schedule.now
         → IsReported (S.seen store.old).held named job.now.setup report) }
-    ensures faults { IfOk result (λ report. RoseBy (faults_in report.cpus)
-        (S.seen store.old).read_faults (S.seen store.new).read_faults) }
+    ensures faults { IfOk result (λ report. IsCounted (S.seen store.old) (S.seen store.new)
+        (faults_in report.cpus)) }
     ensures small { IfOk result IsSmall }
     ensures store { OnlyReads (S.seen store.old) (S.seen store.new) }
 {

@@ -1,9 +1,9 @@
 //! A capture that is sent through a transmit ring.
 ghost use Rattle.std.specs.Prelude.{◌≡◌, ◌≤◌, None, length, All, IfOk, IsTrue, OnErr};
 ghost use Rattle.setup_text.specs.Sound.{IsSetup};
-ghost use Rattle.tap_outside.specs.Counts.{RoseBy};
 ghost use Rattle.tap_outside.specs.Seen.{NoReadFailed, OnlyReads};
 ghost use Rattle.tp_layout.specs.Requests.{transmit_fault};
+ghost use Rattle.tap_engine.specs.Faults.{IsCounted};
 ghost use Rattle.tap_engine.specs.Findings.{fault_at};
 ghost use Rattle.tap_engine.specs.Names.{first_file};
 ghost use Rattle.tap_engine.specs.Sendings.{IsFirst, IsSending};
@@ -38,8 +38,8 @@ pub(crate) fn send_capture<S: Store>(
     requires ring { transmit_fault setup.now.request ≡ None }
     requires meant { IsTrue ((S.seen store.old).to_read (first_file setup.now.cpus)) }
     ensures sent { IfOk result (IsSending (S.seen store.old).held setup.now) }
-    ensures faults { IfOk result (λ sending. RoseBy (fault_at sending.end)
-        (S.seen store.old).read_faults (S.seen store.new).read_faults) }
+    ensures faults { IfOk result (λ sending. IsCounted (S.seen store.old) (S.seen store.new)
+        (fault_at sending.end)) }
     ensures short { IfOk result (λ sending.
         All (λ packet. length packet.bytes ≤ 4294967291) sending.sent.packets) }
     ensures store { OnlyReads (S.seen store.old) (S.seen store.new) }
@@ -65,8 +65,8 @@ fn read_first<S: Store>(alloc: Global, setup: &Setup, store: &mut S) -> Result<R
     requires setup { IsSetup setup.now }
     requires meant { IsTrue ((S.seen store.old).to_read (first_file setup.now.cpus)) }
     ensures read { IfOk result (IsFirst (S.seen store.old).held setup.now) }
-    ensures faults { IfOk result (λ reading. RoseBy (fault_at reading.end)
-        (S.seen store.old).read_faults (S.seen store.new).read_faults) }
+    ensures faults { IfOk result (λ reading. IsCounted (S.seen store.old) (S.seen store.new)
+        (fault_at reading.end)) }
     ensures store { OnlyReads (S.seen store.old) (S.seen store.new) }
     ensures kept { OnErr result (NoReadFailed (S.seen store.old) (S.seen store.new)) }
 {

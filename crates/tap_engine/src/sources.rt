@@ -1,8 +1,8 @@
 //! The sources of a run's captures: fetched before it, and closed after it.
 ghost use Rattle.std.specs.Prelude.{◌≡◌, [], ◌∷◌, length, map, option_map, All, IfOk, IfSome};
 ghost use Rattle.std.specs.Prelude.{IsTrue, OnErr};
-ghost use Rattle.tap_outside.specs.Counts.{RoseBy};
 ghost use Rattle.tap_outside.specs.Seen.{NoReadFailed, OnlyReads};
+ghost use Rattle.tap_engine.specs.Faults.{IsCounted};
 ghost use Rattle.tap_engine.specs.Sources.{AreFetched, faulty_in, missing_in};
 
 use frame_view::Memory;
@@ -19,9 +19,8 @@ pub(crate) fn fetch_captures<S: Store>(
     requires { All (λ cpu. IsTrue ((S.seen store.old).to_read cpu.file)) cpus.now }
     ensures fetched { IfOk result (λ sources. AreFetched (S.seen store.old).held cpus.now
         (map (option_map S.Input.seen) sources.items)) }
-    ensures faults { IfOk result (λ sources. RoseBy
-        (missing_in (map (option_map S.Input.seen) sources.items))
-        (S.seen store.old).read_faults (S.seen store.new).read_faults) }
+    ensures faults { IfOk result (λ sources. IsCounted (S.seen store.old) (S.seen store.new)
+        (missing_in (map (option_map S.Input.seen) sources.items))) }
     ensures store { OnlyReads (S.seen store.old) (S.seen store.new) }
 {
     let mut sources = Vec::with_capacity(alloc, cpus.len())?;
@@ -41,9 +40,8 @@ pub(crate) fn fetch_capture<S: Store>(
     requires { IsTrue ((S.seen store.old).to_read cpu.now.file) }
     ensures fetched { IfOk result (λ source. AreFetched (S.seen store.old).held
         (cpu.now ∷ []) (option_map S.Input.seen source ∷ [])) }
-    ensures faults { IfOk result (λ source. RoseBy
-        (missing_in (option_map S.Input.seen source ∷ []))
-        (S.seen store.old).read_faults (S.seen store.new).read_faults) }
+    ensures faults { IfOk result (λ source. IsCounted (S.seen store.old) (S.seen store.new)
+        (missing_in (option_map S.Input.seen source ∷ []))) }
     ensures store { OnlyReads (S.seen store.old) (S.seen store.new) }
     ensures faultless { IfOk result (λ source.
         IfSome source (λ _. NoReadFailed (S.seen store.old) (S.seen store.new))) }
@@ -58,8 +56,8 @@ pub(crate) fn fetch_capture<S: Store>(
 
 /// Gives the sources back to the store, which counts their faults.
 pub(crate) fn close_captures<S: Store>(store: &mut S, sources: Vec<Option<S::Input>>)
-    ensures faults { RoseBy (faulty_in (map (option_map S.Input.seen) sources.items))
-        (S.seen store.old).read_faults (S.seen store.new).read_faults }
+    ensures faults { IsCounted (S.seen store.old) (S.seen store.new)
+        (faulty_in (map (option_map S.Input.seen) sources.items)) }
     ensures store { OnlyReads (S.seen store.old) (S.seen store.new) }
 {
     for source in sources {
@@ -69,8 +67,8 @@ pub(crate) fn close_captures<S: Store>(store: &mut S, sources: Vec<Option<S::Inp
 
 /// Gives a source back to the store, if there is one.
 pub(crate) fn close_capture<S: Store>(store: &mut S, source: Option<S::Input>)
-    ensures faults { RoseBy (faulty_in (option_map S.Input.seen source ∷ []))
-        (S.seen store.old).read_faults (S.seen store.new).read_faults }
+    ensures faults { IsCounted (S.seen store.old) (S.seen store.new)
+        (faulty_in (option_map S.Input.seen source ∷ [])) }
     ensures store { OnlyReads (S.seen store.old) (S.seen store.new) }
     ensures faultless { IfSome source (λ source. (S.Input.seen source).faults ≡ 0)
         → S.seen store.new ≡ S.seen store.old }

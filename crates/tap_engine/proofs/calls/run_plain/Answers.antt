@@ -31,3 +31,8 @@ pub returns-clause-complete : goal.returns-clause-complete
 returns-clause-complete g c =
     (c.finish.ensures (plain_command c.args.words.now) (g.S.Store.seen c.args.store.now)
     c.find_plain-found.ensures.found).complete
+
+pub returns-clause-faultless : goal.returns-clause-faultless
+returns-clause-faultless g c =
+    (c.finish.ensures (plain_command c.args.words.now) (g.S.Store.seen c.args.store.now)
+    c.find_plain-found.ensures.found).faultless

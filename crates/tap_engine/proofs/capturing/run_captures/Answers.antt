@@ -4,7 +4,7 @@ use Rattle.std.proofs.lemmas.List.{length-map}
 use Rattle.tap_printing.specs.declared.ring_kind.RingKind.TheVariants.{Blocks}
 use Rattle.tap_engine.proofs.Fetched.{as_many}
 use Rattle.tap_engine.proofs.Forwarded.{sends_short}
-use Rattle.tap_engine.proofs.Made.{faults_rose, small_run, threaded_reported}
+use Rattle.tap_engine.proofs.Made.{faults_counted, small_run, threaded_reported}
 use Rattle.tap_engine.proofs.capturing.run_captures.Goals as goal
 
 pub run_sources-requires-clause-sources : goal.run_sources-requires-clause-sources
@@ -23,7 +23,7 @@ returns-clause-reported g c = λ named is has ticks.
 pub returns-clause-faults : goal.returns-clause-faults
 returns-clause-faults g c =
     let ran = c.in_ok-ran.ensures.ran in
-    faults_rose (g.S.Store.seen c.args.store.now).held Blocks c.args.job.now _ _ ran.bytes ran.ends
+    faults_counted (g.S.Store.seen c.args.store.now).held Blocks c.args.job.now _ _ ran.bytes ran.ends
     c.in_ok-ran.ran.report _ _ _
     c.in_ok-sources.ensures.fetched ran.gave ran.run c.in_ok-sources.ensures.faults
     c.close_captures.ensures.faults

@@ -4,7 +4,7 @@ use Rattle.std.proofs.lemmas.List.{length-map}
 use Rattle.tap_engine.specs.Commands.{rings_of}
 use Rattle.tap_engine.specs.Replays.{IsReplayedBy}
 use Rattle.tap_engine.proofs.Fetched.{as_many}
-use Rattle.tap_engine.proofs.Made.{faults_rose, replay_reported, replays}
+use Rattle.tap_engine.proofs.Made.{faults_counted, replay_reported, replays}
 use Rattle.tap_engine.proofs.Worked.{named_schedule, slots_asked}
 use Rattle.tap_engine.proofs.making.replay_captures.Goals as goal
 
@@ -38,7 +38,7 @@ returns-clause-reported g c = λ named is has lines.
 pub returns-clause-faults : goal.returns-clause-faults
 returns-clause-faults g c =
     let ran = c.in_ok-report.ensures.ran in
-    faults_rose (g.S.Store.seen c.args.store.now).held c.rings_of.result c.args.job.now _ _
+    faults_counted (g.S.Store.seen c.args.store.now).held c.rings_of.result c.args.job.now _ _
     ran.bytes ran.ends c.in_ok-report.field-0.report _ _ _
     c.in_ok-sources.ensures.fetched ran.gave ran.run c.in_ok-sources.ensures.faults
     c.close_captures.ensures.faults

@@ -1,6 +1,14 @@
+use Rattle.std.proofs.Common.{◌≡◌, rules}
 use Rattle.std.specs.Prelude.{option_map}
-use Rattle.tap_engine.proofs.Fetched.{closes_one, reads_then}
+use Rattle.tap_engine.proofs.Counted.{closes_none, closes_one}
+use Rattle.tap_engine.proofs.Fetched.{reads_then}
 use Rattle.tap_engine.proofs.sources.close_captures.Goals as goal
+
+pub loop-source-init : goal.loop-source-init
+loop-source-init g c =
+    let same : c.into_iter-source-iterator.result.rest.items ≡ c.args.sources.items =
+    search rules in
+    closes_none (option_map g.S.Input.Source.seen) _ _ _ same
 
 pub loop-source-preserved : goal.loop-source-preserved
 loop-source-preserved g c =

@@ -1,7 +1,7 @@
 use Rattle.std.proofs.Common.{◌≡◌, ℕ, ◌+◌, map}
 use Rattle.std.specs.Prelude.{option_map}
-use Rattle.tap_outside.specs.Counts.{RoseBy}
 use Rattle.tap_outside.specs.Seen.{OnlyReads}
+use Rattle.tap_engine.specs.Faults.{IsCounted}
 use Rattle.tap_engine.specs.Sources.{faulty_in}
 use Rattle.tap_engine.proofs.sources.close_captures.Given as goal
 
@@ -12,4 +12,4 @@ invariant-loop-source g l =
     let left = map (option_map g.S.Input.Source.seen) l.source-iterator.rest.items in
     let all = map (option_map g.S.Input.Source.seen) l.fn.sources.items in
     OnlyReads old new × (n : ℕ) × (faulty_in all ≡ n + faulty_in left)
-    × RoseBy n old.read_faults new.read_faults
+    × IsCounted old new n

@@ -1,6 +1,7 @@
 use Rattle.std.proofs.Common.{◌<◌, length, subst, get_or, ap, ◌∙◌}
 use Rattle.std.specs.Prelude.{option_map}
-use Rattle.tap_engine.proofs.Fetched.{goes_on, held_same, reads_then}
+use Rattle.tap_engine.proofs.Counted.{goes_on}
+use Rattle.tap_engine.proofs.Fetched.{held_same, reads_then}
 use Rattle.tap_engine.proofs.sources.fetch_captures.Goals as goal
 
 pub loop-cpu-preserved : goal.loop-cpu-preserved

@@ -1,7 +1,7 @@
 use Rattle.std.proofs.Common.{take, map}
 use Rattle.std.specs.Prelude.{option_map}
-use Rattle.tap_outside.specs.Counts.{RoseBy}
 use Rattle.tap_outside.specs.Seen.{OnlyReads}
+use Rattle.tap_engine.specs.Faults.{IsCounted}
 use Rattle.tap_engine.specs.Sources.{AreFetched, missing_in}
 use Rattle.tap_engine.proofs.sources.fetch_captures.Given as goal
 
@@ -11,4 +11,4 @@ invariant-loop-cpu g l =
     let new = g.S.Store.seen l.store in
     let sources = map (option_map g.S.Input.Source.seen) l.sources.items in
     OnlyReads old new × AreFetched old.held (take l.cpu-index l.cpus) sources
-    × RoseBy (missing_in sources) old.read_faults new.read_faults
+    × IsCounted old new (missing_in sources)

@@ -1,0 +1,23 @@
+-- The faults that the outside counted.
+use Rattle.std.specs.Prelude.{◌≡◌, ◌≢◌, ℕ, IsTrue}
+use Rattle.tap_outside.specs.Counts.{RoseBy}
+use Rattle.tap_outside.specs.Seen.{NoReadFailed, SinkSeen, StoreSeen}
+use Rattle.tap_saving.specs.Saving.{NoSaveFailed}
+use Rattle.tap_engine.specs.declared.outcomes.Status.{Status}
+use Rattle.tap_engine.specs.declared.outcomes.Status.TheVariants.{Memory, ReadFault, WriteFault}
+
+-- there were so many faults, or more, and where that is none no read failed
+pub record IsCounted (old new : StoreSeen) (faults : ℕ) : Type 0 where
+  pub rose : RoseBy faults old.read_faults new.read_faults
+  pub faultless : faults ≡ 0 → NoReadFailed old new
+
+-- no fault was counted: the counts of an exact store stand still, and that of the sink
+pub record NoneCounted (old new : StoreSeen) (before after : SinkSeen) : Type 0 where
+  pub reads : IsTrue old.exact → new.read_faults ≡ old.read_faults
+  pub saves : NoSaveFailed old new
+  pub prints : after.faults ≡ before.faults
+
+-- only a status of 5, 6 or 7 comes where a fault was counted
+abbrev pub IsFaultless : StoreSeen → StoreSeen → SinkSeen → SinkSeen → Status → Type 0
+IsFaultless old new before after status =
+    status ≢ ReadFault → status ≢ WriteFault → status ≢ Memory → NoneCounted old new before after
