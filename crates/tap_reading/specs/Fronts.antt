@@ -1,5 +1,6 @@
 -- What was read of a file: a prefix of its bytes.
 use Rattle.std.specs.Prelude.{◌≡◌, ℕ, ◌≤◌, List, [], ◌++◌, length, ⊤, Option, None, Some, unwrap_or}
+use Rattle.std.specs.Io.KnownBytes.{Consumes}
 use Rattle.tap_outside.specs.Contents.{Contents}
 
 -- bytes from the start of a whole
@@ -24,3 +25,9 @@ pub record IsTextOf (held : Option Contents) (name text : List ℕ) : Type 0 whe
   pub front : IsFrontOf held name text
   pub whole : length text ≤ 1048576 → IsAllOf held name text
   pub few : length text ≤ 1048577
+
+-- a source gave no more bytes than a text may have: its text doesn't count as read yet
+pub record GaveFew (old new : Option (List ℕ)) : Type 0 where
+  pub bytes : List ℕ
+  pub taken : Consumes old new bytes
+  pub few : length bytes ≤ 1048576

@@ -3,7 +3,7 @@ ghost use Rattle.std.specs.Prelude.{◌≡◌, ◌<◌, ◌≤◌, length, IfOk,
 ghost use Rattle.std.specs.Io.KnownBytes.{Consumes, IsAtEnd};
 ghost use Rattle.tap_outside.specs.Counts.{Rose};
 ghost use Rattle.tap_outside.specs.Seen.{NoReadFailed, OnlyReads};
-ghost use Rattle.tap_reading.specs.Fronts.{IsTextOf};
+ghost use Rattle.tap_reading.specs.Fronts.{GaveFew, IsTextOf};
 
 use frame_view::ByteList;
 use std::alloc::{AllocError, Global};
@@ -33,7 +33,8 @@ impl From<AllocError> for Unread {
 }
 
 /// Reads the text of a name to its end, or until it has more than 1,048,576 bytes; then it has
-/// 1,048,577. Where a read fails the answer is `Failed`; else an exact store is as before.
+/// 1,048,577, and no more is read. Where a read fails the answer is `Failed`; else an exact store is
+/// as before.
 pub fn read_text<S: Store>(alloc: Global, store: &mut S, name: &[u8]) -> Result<ByteList, Unread>
     requires { IsTrue ((S.seen store.old).to_read name.now) }
     ensures text { IfOk result (λ text. IsTextOf (S.seen store.old).held name.now text) }
@@ -55,7 +56,8 @@ pub fn read_text<S: Store>(alloc: Global, store: &mut S, name: &[u8]) -> Result<
     text
 }
 
-/// Reads a source to its end, or until it gave more bytes than a text may have.
+/// Reads a source to its end, or until it gave more bytes than a text may have. A read that fails
+/// is `Failed` only before that; later none is made.
 fn read_source<I: Source>(alloc: Global, input: &mut I) -> Result<ByteList, Unread>
     requires { (I.seen input.old).faults ≡ 0 }
     ensures bytes { IfOk result
@@ -65,6 +67,8 @@ fn read_source<I: Source>(alloc: Global, input: &mut I) -> Result<ByteList, Unre
 
     ensures faultless { OnOk result ((I.seen input.new).faults ≡ 0) }
     ensures failed { IsErrOf result Unread.Failed → 0 < (I.seen input.new).faults }
+    ensures early { IsErrOf result Unread.Failed
+        → GaveFew (I.seen input.old).left (I.seen input.new).left }
     ensures memory { IsErrOf result Unread.Memory → (I.seen input.new).faults ≡ 0 }
 {
     let mut text = Vec::new(alloc);
