@@ -32,15 +32,6 @@ rose_then x y a b c h k = omega (arith, h, k)
 pub rose_less : (x y a b : ℕ) → x ≤ y → RoseBy y a b → RoseBy x a b
 rose_less x y a b h k = omega (arith, h, k)
 
-pub rose_none : (a b : ℕ) → a ≤ b → RoseBy 0 a b
-rose_none a b h = omega (arith, h)
-
-pub rose_no : (n a : ℕ) → n ≡ 0 → RoseBy n a a
-rose_no n a none = omega (arith, none)
-
-pub rose_later : (x a b c : ℕ) → RoseBy x a b → b ≤ c → RoseBy x a c
-rose_later x a b c h k = omega (arith, h, k)
-
 -- ---- fetching
 
 pub fetched_more : (held : Option Contents) (cpus : List CpuSetup)

@@ -17,7 +17,7 @@ pub record NoneCounted (old new : StoreSeen) (before after : SinkSeen) : Type 0 
   pub saves : NoSaveFailed old new
   pub prints : after.faults ≡ before.faults
 
--- only a status of 5, 6 or 7 comes where a fault was counted
+-- where a fault was counted the status is 5, 6 or 7
 abbrev pub IsFaultless : StoreSeen → StoreSeen → SinkSeen → SinkSeen → Status → Type 0
 IsFaultless old new before after status =
     status ≢ ReadFault → status ≢ WriteFault → status ≢ Memory → NoneCounted old new before after

@@ -65,8 +65,7 @@ faults_in [] = 0
 faults_in (log ∷ logs) = fault_at log.end + faults_in logs
 
 -- A command finds this in a store. A text that can't be read comes only where reading failed, and
--- as many captures end with a fault as reading failed, or fewer. Where nothing of that comes no read
--- failed.
+-- as many captures end with a fault as reading failed, or fewer. Where neither comes no read failed.
 abbrev pub IsFound : Option Named → StoreSeen → StoreSeen → Finding → Type 0
 IsFound None old new finding.NoCommand = NoReadFailed old new
 IsFound None old new found = ⊥

@@ -69,7 +69,8 @@ pub fn run<S: Store, O: Sink, G: Gate + Sync, R: Threads + Wait + Sync>(
     ensures complete { IsComplete (command_of words.now)
         (S.seen store.old) (S.seen store.new) (O.seen out.old) (O.seen out.new) result.status }
 
-    // The other way round: where a fault was counted the status is 5, 6 or 7.
+    // The other way round: where an exact store or the sink counted a fault the status is 5, 6 or
+    // 7.
     ensures faultless { IsFaultless
         (S.seen store.old) (S.seen store.new) (O.seen out.old) (O.seen out.new) result.status }
 {
@@ -120,7 +121,8 @@ pub fn run_plain<S: Store, O: Sink>(
     ensures complete { IsComplete (plain_command words.now)
         (S.seen store.old) (S.seen store.new) (O.seen out.old) (O.seen out.new) result.status }
 
-    // The other way round: where a fault was counted the status is 5, 6 or 7.
+    // The other way round: where an exact store or the sink counted a fault the status is 5, 6 or
+    // 7.
     ensures faultless { IsFaultless
         (S.seen store.old) (S.seen store.new) (O.seen out.old) (O.seen out.new) result.status }
 {
