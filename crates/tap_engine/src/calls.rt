@@ -36,7 +36,7 @@ use text_lines::Word;
 /// - Every other command is carried out as `run_plain` does.
 ///
 /// Any other words are no command. The commands, the texts and the printed lines are this project's
-/// own choice; docs/using.md lists them.
+/// own choice; docs/reference.md lists them.
 pub fn run<S: Store, O: Sink, G: Gate + Sync, R: Threads + Wait + Sync>(
     rt: &R,
     alloc: Global,
@@ -90,7 +90,7 @@ pub fn run<S: Store, O: Sink, G: Gate + Sync, R: Threads + Wait + Sync>(
 ///
 /// Any other words are no command here, `capture CONF` and `forward CONF` among them: they run on
 /// threads. The commands, the texts and the printed lines are this project's own choice;
-/// docs/using.md lists them.
+/// docs/reference.md lists them.
 pub fn run_plain<S: Store, O: Sink>(
     alloc: Global,
     words: &[Word],
