@@ -1,14 +1,15 @@
 -- A CPU whose source is read a piece at a time takes one frame after the other of all its frames.
 use Rattle.std.proofs.Common.{◌≡◌, ℕ, ◌+◌, ◌<◌, ◌≤◌, zero, suc, List, [], ◌∷◌, ◌++◌, length, drop, append-nil, Option, None, Some, refl, sym, ap, ◌∙◌, subst, arith}
-use Rattle.std.specs.Prelude.{IsSome, slice_get}
+use Rattle.std.specs.Prelude.{◌≢◌, IsSome, OnErr, Result, Ok, Err, slice_get}
 use Rattle.std.proofs.lemmas.List.{drop_all}
 use Rattle.frame_view.specs.declared.frames.Frame.{Frame}
 use Rattle.fanout_group.specs.Arrivals.{arrival_at, arrivals_from, held_behind}
 use Rattle.fanout_group.specs.Plans.{has_defrag}
 use Rattle.capture_file.specs.declared.cpu_end.CpuEnd.{CpuEnd}
+use Rattle.capture_file.specs.declared.cpu_end.CpuEnd.TheVariants.{Fault}
 use Rattle.fanout_group.specs.Paths.{Path}
 use Rattle.cpu_feed.specs.Fed.{FedOne, IsAtItsEnd}
-use Rattle.cpu_feed.specs.Feeding.{Feeding, HasRead, IsAllOfCpu, IsReady, Pops, Takes, behind, frames_in, next_of, waiting_of}
+use Rattle.cpu_feed.specs.Feeding.{FailsFed, Feeding, HasNotFailed, HasRead, IsAllOfCpu, IsReady, Pops, Takes, behind, frames_in, next_of, waiting_of}
 
 got_within : (n : ℕ) (xs : List Frame) (x : Frame) → Some x ≡ slice_get xs n → n < length xs
 got_within n [] x e = cc
@@ -123,3 +124,17 @@ one_fed old mid popped new frame came read pops came_is fed few =
     let before : mid.fed ≡ old.fed = ap (λ (cpu : Feeding). cpu.fed) read.rest_is in
     let within = got_within mid.fed (frames_in mid) frame (sym came_is ∙ pops.frame_is) in
     record { one = omega (arith, fed, popped_is, before); few = omega (arith, fed, popped_is, within, few) }
+
+-- a frame came, so no read had failed
+pub still_reads : (old mid popped new : Feeding) (frame : Frame) (came : Option Frame) → (old.ended ≢ Some Fault → FailsFed mid) → Pops mid came popped
+    → came ≡ Some frame → new.ended ≡ popped.ended → HasNotFailed old new
+still_reads old mid popped new frame came failed pops came_is stays = λ before after.
+    let ended : popped.ended ≡ mid.ended = ap (λ (cpu : Feeding). cpu.ended) (pops.new_is ∙ ap (λ (o : Option Frame). behind o mid) came_is) in
+    let most = failed before (sym ended ∙ sym stays ∙ after) in
+    let within = got_within mid.fed (frames_in mid) frame (sym came_is ∙ pops.frame_is) in
+    omega (arith, most, within)
+
+-- what holds anyway holds where there is an error
+pub on_err : {T E P : Type 0} (answer : Result T E) → P → OnErr answer P
+on_err (Ok x) p = tt
+on_err (Err e) p = p

@@ -81,9 +81,17 @@ pub record HasRead (old new : Feeding) : Type 0 where
   pub rest_is : new ≡ record old { bytes = new.bytes; ended = new.ended }
   pub all : (all : List Frame) → IsAllOfCpu all new → IsAllOfCpu all old
 
+-- a frame waits
+abbrev pub Waits : Feeding → Type 0
+Waits cpu = cpu.fed < length (frames_in cpu)
+
 -- a frame waits, or the source has ended
 abbrev pub IsReady : Feeding → Type 0
-IsReady cpu = cpu.ended ≡ None → cpu.fed < length (frames_in cpu)
+IsReady cpu = cpu.ended ≡ None → Waits cpu
+
+-- nothing was read where a frame waited
+abbrev pub ReadsWhereNoneWaits : Feeding → Feeding → Type 0
+ReadsWhereNoneWaits old new = Waits old → new.bytes ≡ old.bytes
 
 -- the CPU after the frame that is fed next, if there is one
 abbrev pub behind : Option Frame → Feeding → Feeding

@@ -15,7 +15,7 @@ ghost use Rattle.fanout_group.specs.Plans.{has_defrag, rolls_over};
 ghost use Rattle.fanout_group.specs.Routes.{IsBegun, IsRoute};
 ghost use Rattle.fanout_group.specs.Rules.{HasTicket, Rules, home_by};
 ghost use Rattle.frame_view.specs.declared.frames.Frame.{Frame};
-ghost use Rattle.cpu_feed.specs.Feeding.{Closes, FailsFed, HasNotFailed, HasRead, IsAllOfCpu, IsReady, IsSameCpu, Pops, Takes, frames_in, unread};
+ghost use Rattle.cpu_feed.specs.Feeding.{Closes, FailsFed, HasNotFailed, HasRead, IsAllOfCpu, IsReady, IsSameCpu, Pops, ReadsWhereNoneWaits, Takes, frames_in, unread};
 ghost use Rattle.cpu_feed.specs.Fed.{GoesOn, arrival_of};
 ghost use Rattle.cpu_feed.specs.declared.fed.Fed.TheVariants.{End};
 ghost use Rattle.cpu_feed.specs.Lawful.{FeedsLawfully, LogsLawfully};
@@ -172,6 +172,7 @@ impl<S: Source> CpuFeed<S> {
         ensures read { OnOk result (HasRead self.old self.new) }
         ensures ready { OnOk result (IsReady self.new) }
         ensures failed { OnOk result (self.old.ended ≢ Some Fault → FailsFed self.new) }
+        ensures waits { OnOk result (ReadsWhereNoneWaits self.old self.new) }
         ensures err { OnErr result (self.new.ended ≡ None) }
     {
         'reading: while self.is_dry()? {
@@ -231,6 +232,7 @@ impl<S: Source> CpuFeed<S> {
             IfSome (arrival_of fed) (λ arrival. arrival.cpu ≡ self.old.number)) }
         ensures more { IfOk result (λ fed. GoesOn self.old fed self.new) }
         ensures idle { IfOk result (λ fed. fed ≡ End → self.new.fed ≡ self.old.fed) }
+        ensures waits { OnOk result (ReadsWhereNoneWaits self.old self.new) }
         ensures lawful { IfOk result (λ fed. FeedsLawfully self.old (arrival_of fed) self.new) }
         ensures err { OnErr result (HasNotFailed self.old self.new) }
     {

@@ -2,7 +2,7 @@ use Rattle.std.proofs.Common.{None, Option, Some, ap, ◌∙◌, subst, sym}
 use Rattle.frame_view.specs.declared.frames.Frame.{Frame}
 use Rattle.cpu_feed.specs.Feeding.{Feeding}
 use Rattle.cpu_feed.proofs.Lawfulness.{Arrives, frame_lawful, none_lawful}
-use Rattle.cpu_feed.proofs.Totals.{at_end, none_fed, one_fed, takes_frame, takes_none}
+use Rattle.cpu_feed.proofs.Totals.{at_end, none_fed, on_err, one_fed, still_reads, takes_frame, takes_none}
 use Rattle.cpu_feed.proofs.feed.CpuFeed.next.Goals as goal
 
 pub returns-in-Some-2-clause-takes : goal.returns-in-Some-2-clause-takes
@@ -51,3 +51,9 @@ returns-in-None-2-clause-lawful g c =
 pub returns-in-None-clause-lawful : goal.returns-in-None-clause-lawful
 returns-in-None-clause-lawful g c =
     none_lawful c.args.self.now c.fill.new.self c.in_ok-fill.ensures.read c.pop.new.self _ c.in_ok-frame.ensures.pops c.in-None.is
+
+pub returns-in_err-arrival-in-Some-clause-err : goal.returns-in_err-arrival-in-Some-clause-err
+returns-in_err-arrival-in-Some-clause-err g c =
+    on_err c.from_residual-in_err-arrival-in-Some.result
+    (still_reads c.args.self.now c.fill.new.self c.pop.new.self c.arrive.new.self c.in-Some.frame _ c.in_ok-fill.ensures.failed c.in_ok-frame.ensures.pops c.in-Some.is
+    c.arrive.ensures.ended)
