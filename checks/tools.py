@@ -169,7 +169,7 @@ def titles(name):
 
 
 def test_lost():
-    """Two blocks keep frames 0 to 55. In the demo frames 31 and 44 to 51 are lost, as docs/using.md goes through it."""
+    """Two blocks keep frames 0 to 55. In the demo frames 31 and 44 to 51 are lost, as docs/guide.md goes through it."""
     text("none.sched", "")
     printed, said, status = with_program("lost.py", "many.txt", "none.sched", "--bins", "2", "--picture", "lost.svg")
     lines = printed.split("\n")

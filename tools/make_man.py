@@ -13,7 +13,7 @@ from ringtap_files import Fault, read_bytes, run_main, write_text
 
 TOP = Path(__file__).resolve().parent.parent
 PAGE, COMPLETION = TOP / "docs" / "ringtap.1", TOP / "tools" / "ringtap.bash"
-FIRST = ("docs/reference.md", "README.md", "docs/setup.md", "docs/using.md")  # where a table is looked for before other documents
+FIRST = ("docs/reference.md", "README.md")  # where a table is looked for before other documents
 
 Rows = list[dict[str, str]]
 

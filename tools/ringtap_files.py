@@ -1,6 +1,6 @@
 """What the tools read: captures, setups, and the texts of either.
 
-Formats and limits are those of docs/formats.md and docs/setup.md. The program alone decides what it accepts: here only what a tool
+Formats and limits are those of docs/reference.md. The program alone decides what it accepts: here only what a tool
 itself needs is tested, and what is wrong becomes a `Fault`, a sentence that names the file and the line or byte.
 """
 from __future__ import annotations
