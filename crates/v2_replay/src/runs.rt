@@ -103,7 +103,7 @@ pub fn a_job_over_slots_reports_a_group()
         → IsSetup job.setup → IsSlotShape job.setup.shape → IsSchedule lines
         → length ends ≡ length all
         → All (IsSlotRingReport (slot_size_of job.setup.shape))
-            (slot_replay_of job lines all).members }
+        (slot_replay_of job lines all).members }
 {
     frames_are_numbered();
     each_arrival_stands_exactly_once();
