@@ -9,38 +9,36 @@ use std::test::Fail;
 /// The sizes of pieces in which captures are fed.
 static SIZES: [usize; 3] = [1, 7, 65_536];
 
-/// A capture gives the three frames, in pieces of each of some sizes.
+/// A capture that is fed in pieces of this size gives the three frames.
 fn check_spelling(
     rt: &impl Abort,
     alloc: Global,
     name: &str,
     bytes: &[u8],
-    sizes: &[usize],
+    size: usize,
 ) -> Result<(), Fail> {
-    for size in sizes {
-        let mut frames = Frames::new(alloc);
-        let answers = decode(alloc, bytes, *size, &mut frames);
-        let text = text_of(alloc, &frames)?;
-        assert_eq!(rt;
-            (name, *size, answers, text.as_slice()),
-            (name, *size, (Ok(()), Ok(()), 0), THREE_FRAMES.as_slice())
-        );
+    let mut frames = Frames::new(alloc);
+    let answers = decode(alloc, bytes, size, &mut frames);
+    assert_eq!(rt; (name, answers), (name, (Ok(()), Ok(()), 0)));
+    let text = text_of(alloc, &frames)?;
+    assert_eq!(rt; text.as_slice(), THREE_FRAMES.as_slice(), "{name}");
+    Ok(())
+}
+
+/// So it is in pieces of each size.
+fn check_sizes(rt: &impl Abort, alloc: Global, name: &str, bytes: &[u8]) -> Result<(), Fail> {
+    for size in &SIZES {
+        check_spelling(rt, alloc, name, bytes, *size)?;
     }
     Ok(())
 }
 
 #[test]
 fn reads_one_capture_in_four_spellings(rt: HostRuntime) -> Result<(), Fail> {
-    check_spelling(
-        &rt,
-        rt.alloc(),
-        "little, microseconds",
-        &LITTLE_MICRO,
-        &SIZES,
-    )?;
-    check_spelling(&rt, rt.alloc(), "big, microseconds", &BIG_MICRO, &SIZES)?;
-    check_spelling(&rt, rt.alloc(), "little, nanoseconds", &LITTLE_NANO, &SIZES)?;
-    check_spelling(&rt, rt.alloc(), "big, nanoseconds", &BIG_NANO, &SIZES)
+    check_sizes(&rt, rt.alloc(), "little, microseconds", &LITTLE_MICRO)?;
+    check_sizes(&rt, rt.alloc(), "big, microseconds", &BIG_MICRO)?;
+    check_sizes(&rt, rt.alloc(), "little, nanoseconds", &LITTLE_NANO)?;
+    check_sizes(&rt, rt.alloc(), "big, nanoseconds", &BIG_NANO)
 }
 
 #[test]
