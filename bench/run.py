@@ -4,13 +4,14 @@ pcapng captures of the same frames; then groups of several members and CPUs, wit
 `ringtap send` and `ringtap replay2`; then `ringtap capture` beside `replay` of the same captures, `ringtap forward` beside `capture`,
 and captures with pools of workers beside those without.
 
-    bench/run.py [--sizes 4,8,16,32] [--runs 5] [--beside OTHER | --threads] [PROGRAM]
+    bench/run.py [--sizes 4,8,16,32] [--runs 5] [--beside OTHER | --threads] [--no-results] [PROGRAM]
 
 PROGRAM is crates/ringtap/out/ringtap where none is named; it is built where it isn't there. The captures have frames of 60
 bytes, of 1514 bytes, or of 60, 590 and 1514 bytes by turns. Each is replayed with a ring that keeps every frame and with one
 that drops. Those of 60 and of 1514 bytes are sent through a ring of 2048 slots, and replayed over rings of TPACKET_V2. Files are written below bench/work. With
 --beside the replays alone are run, by turns with those of another program, as an earlier one; both must print the same. With
---threads the captures on threads, the forwards and the pools alone are run.
+--threads the captures on threads, the forwards and the pools alone are run. All that is printed is written into bench/results too, with
+date, commit and machine, but with --no-results.
 
 The captures on threads have 1, 2, 4 and 8 CPUs with 4 MiB each. Of each row all times are taken by turns with a replay whose schedule is
 empty; the least and the middle one are printed, since with threads they lie apart, and the fewest and the most drops. Only rings that
@@ -33,9 +34,12 @@ to 20,000 made frames, where memory grows by more than 256 bytes for each frame 
 keeps all frames, with a member for each CPU, takes more than 2.5 times the CPU time of the replay.
 """
 import argparse
+import contextlib
+import datetime
 import filecmp
 import glob
 import os
+import platform
 import shutil
 import statistics
 import struct
@@ -45,6 +49,7 @@ import time
 
 TOP = os.path.join(os.path.dirname(os.path.abspath(__file__)), "..")
 WORK = os.path.join(TOP, "bench", "work")
+RESULTS = os.path.join(TOP, "bench", "results")
 PROGRAM = os.path.join(TOP, "crates", "ringtap", "out", "ringtap")
 MIB = 1_048_576
 FRAMES = {"60": [60], "mixed": [60, 590, 1514], "1514": [1514]}
@@ -103,6 +108,7 @@ def make_blocks(path, size, lengths):
 
 def times_of_blocks(program, asked):
     """Prints how long replays of pcapng captures take, beside those of pcap captures of the same frames."""
+    print("\n## pcapng beside pcap\n")
     print("| Frames | MiB | pcap frames | CPU, s | Memory, MiB | pcapng frames | CPU, s | Memory, MiB | CPU of a frame, times |")
     print("|---|---|---|---|---|---|---|---|---|")
     write_setup("conf", RINGS["keeps"])
@@ -260,6 +266,7 @@ def row_beside_plain(program, plain, case, asked):
 
 def times_of_plain(program, asked):
     """Prints the tables of the program in C, without records and with them, and how many times its time each case takes."""
+    print("\n## Beside a plain C program\n")
     plain = built_plain()
     if not plain:
         return
@@ -279,6 +286,7 @@ def times_of_plain(program, asked):
 
 def times_of_plain_threads(program, asked):
     """Prints what four CPUs with a member each gain on threads, in ringtap and in C, where a thread shares nothing with the others."""
+    print("\n## C on threads\n")
     plain = built_plain()
     if not plain:
         return
@@ -328,6 +336,7 @@ def row_of_settings(name, words, asked):
 
 def times_of_settings(program, asked):
     """Prints what replays of 32 MiB and captures of four CPUs with a member each take, as they are and where the C library is told something."""
+    print("\n## What the C library can be told\n")
     heads = [setting if at else what for what in ("Time, s", "CPU, s", "Page faults", "Memory, MiB") for at, setting in enumerate(SETTINGS)]
     print("\n| Run | " + " | ".join(heads) + " |\n|" + "---|" * (len(heads) + 1))
     for kind, lengths in FRAMES.items():
@@ -388,8 +397,54 @@ def asked_for():
     words.add_argument("--runs", type=int, default=5)
     words.add_argument("--beside", type=os.path.abspath)
     words.add_argument("--threads", action="store_true")
+    words.add_argument("--no-results", dest="results", action="store_false")
     words.add_argument("program", nargs="?", default=PROGRAM, type=os.path.abspath)
     return words.parse_args()
+
+
+class Copied:
+    """Standard output, with a copy of all that is written to it in a file."""
+
+    def __init__(self, file):
+        self.file = file
+
+    def write(self, text):
+        self.file.write(text)
+        return sys.__stdout__.write(text)
+
+    def flush(self):
+        self.file.flush()
+        sys.__stdout__.flush()
+
+
+def machine():
+    """The processor's name, how many there are, and the kernel."""
+    name = platform.machine()
+    with contextlib.suppress(OSError), open("/proc/cpuinfo", encoding="utf-8") as file:
+        names = [line.partition(":")[2].strip() for line in file if line.startswith("model name")]
+        name = names[0] if names else name
+    return f"{os.cpu_count()} processors ({name}), kernel {platform.release()}, load {os.getloadavg()[0]:.1f} at the start"
+
+
+def commit():
+    """The commit of the checkout, with `+` where files differ from it."""
+    found = subprocess.run(["git", "-C", TOP, "describe", "--always", "--exclude=*", "--dirty=+"], capture_output=True, text=True)
+    return found.stdout.strip() or "no commit"
+
+
+@contextlib.contextmanager
+def copied(asked):
+    """Has what is printed written into bench/results too, into a file named by day and commit, below a line on machine and program."""
+    if not asked.results:
+        yield
+        return
+    os.makedirs(RESULTS, exist_ok=True)
+    day, at = datetime.date.today().isoformat(), commit()
+    kind = "-beside" if asked.beside else "-threads" if asked.threads else ""
+    with open(os.path.join(RESULTS, f"{day}-{at.rstrip('+')}{kind}.md"), "w", encoding="utf-8") as file:
+        file.write(f"# A run of bench/run.py\n\n{day}, commit {at}, {machine()}; the least of {asked.runs} runs where nothing else is said.\n\n")
+        with contextlib.redirect_stdout(Copied(file)):
+            yield
 
 
 def main():
@@ -402,7 +457,8 @@ def main():
         os.chdir(WORK)
         open("sched", "wb").close()
         times = times_beside if asked.beside else all_times_on_threads if asked.threads else all_times
-        too_much = times(asked.program, asked)
+        with copied(asked):
+            too_much = times(asked.program, asked)
     finally:
         os.chdir(TOP)
         shutil.rmtree(WORK)
@@ -434,6 +490,7 @@ def all_times(program, asked):
 
 def times_of_replays(program, asked):
     """Prints the table of replays, beside tcpdump where it is there, and gives their CPU times and memory."""
+    print("\n## Replays\n")
     dump = shutil.which("tcpdump")
     if not dump:
         print("no tcpdump, so there is no ratio to it")
@@ -486,6 +543,7 @@ def times_beside(program, asked):
 
 def times_of_groups(program, asked):
     """Prints the table of groups, and gives their CPU times and memory."""
+    print("\n## Groups\n")
     print("\n| Group | MiB | CPUs | Frames | Time, s | CPU, s | MiB/s | Memory, MiB |")
     print("|---|---|---|---|---|---|---|---|")
     with open("pass.ddd", "w", encoding="ascii") as file:
@@ -511,6 +569,7 @@ def times_of_groups(program, asked):
 
 def times_of_made(program, asked):
     """Prints the table of made frames, and gives their CPU times and memory. The MiB are those of the files that are saved."""
+    print("\n## Made frames\n")
     print("\n| Made | MiB | CPUs | Frames | Time, s | CPU, s | MiB/s | Memory, MiB |")
     print("|---|---|---|---|---|---|---|---|")
     found = {}
@@ -530,6 +589,7 @@ def times_of_made(program, asked):
 
 def times_of_sent(program, asked):
     """Prints the table of captures that are sent, and gives their CPU times and memory."""
+    print("\n## Captures that are sent\n")
     print("\n| Sent | MiB | Frames | Time, s | CPU, s | MiB/s | Memory, MiB |")
     print("|---|---|---|---|---|---|---|")
     write_setup("conf", SLOTS)
@@ -557,6 +617,7 @@ SLOT_RINGS = {
 
 def times_of_slots(program, asked):
     """Prints the table of replays over rings of TPACKET_V2 that nobody reads, and gives their CPU times and memory."""
+    print("\n## Rings of slots\n")
     print("\n| Frames | Slots | MiB | Kept | Dropped | Time, s | CPU, s | MiB/s | Memory, MiB |")
     print("|---|---|---|---|---|---|---|---|---|")
     found = {}
@@ -579,6 +640,7 @@ def times_of_slots(program, asked):
 
 def memory_of_refused(program, asked):
     """Prints how memory grows where a filter refuses every frame, and gives whether it grows too much."""
+    print("\n## A filter that refuses every frame\n")
     with open("refuse.ddd", "w", encoding="ascii") as file:
         file.write("1\n6 0 0 0\n")
     write_setup("conf", RINGS["drops"], more="filter refuse.ddd\n")
@@ -653,6 +715,7 @@ def time_at_once(program, count):
 
 def times_of_processes(program, asked):
     """Prints how long replays of one CPU take that run at the same time as processes of their own: what the machine gives to work that shares nothing."""
+    print("\n## Replays at the same time, each a process\n")
     print("\n| Frames of | One, s | Two at once | Three | Four | Four to four in a row |")
     print("|---|---|---|---|---|---|")
     for kind, maker in MAKERS.items():
@@ -668,6 +731,7 @@ def times_of_processes(program, asked):
 
 def times_of_threads(program, asked):
     """Prints the tables of captures on threads, and gives whether one of them takes too much CPU time."""
+    print("\n## Captures on threads\n")
     cores = len(os.sched_getaffinity(0)) if hasattr(os, "sched_getaffinity") else os.cpu_count()
     print(f"\n{cores} processors, load {os.getloadavg()[0]:.1f} before the captures on threads; a run has a thread for each CPU and each")
     print("member and one for the timer, so more than there are processors where CPUs and members together are as many or more.")
@@ -694,6 +758,7 @@ def times_of_threads(program, asked):
 
 def times_of_forwards(program, asked):
     """Prints the table of captures whose readers send, beside those whose readers keep; each ring keeps all frames."""
+    print("\n## Readers that send\n")
     print("\n| Frames of | CPUs | Frames | Capture, s | middle | CPU | Forward, s | middle | CPU | Times | CPU times |")
     print("|---|---|---|---|---|---|---|---|---|---|---|")
     for kind, maker in MAKERS.items():
@@ -726,6 +791,7 @@ def runs_with_pools(program, count, ring, asked):
 
 def times_of_pools(program, asked):
     """Prints the table of captures whose blocks a pool of workers decodes, and of those without one, over the same rings."""
+    print("\n## Captures with a pool\n")
     print("\n| Frames of | Ring | Workers | Frames | Capture, s | middle | CPU | Drops |")
     print("|---|---|---|---|---|---|---|---|")
     for kind, maker in MAKERS.items():
@@ -742,6 +808,7 @@ def times_of_pools(program, asked):
 
 def grows(found):
     """Prints how CPU time and memory grow where the input doubles, and gives whether one of them grows too much."""
+    print("\n## Growth\n")
     too_much = False
     for unit, (half, whole) in DOUBLES.items():
         for (what, size), (cpu, memory) in found.items():
