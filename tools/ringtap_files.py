@@ -5,11 +5,13 @@ itself needs is tested, and what is wrong becomes a `Fault`, a sentence that nam
 """
 from __future__ import annotations
 
+import os
+import signal
 import struct
 import sys
 from dataclasses import dataclass, field
 from pathlib import Path
-from typing import Callable, NamedTuple
+from typing import Callable, NamedTuple, TextIO
 
 LARGEST_CAPTURE = 33_554_432  # bytes of a capture that count
 LARGEST_RECORD = 262_144  # captured bytes of a frame
@@ -26,18 +28,33 @@ class Fault(Exception):
     """A sentence that says what is wrong, and where."""
 
 
-def run_main(main: Callable[[list[str]], int]) -> None:
-    """Runs a tool; a fault is printed on standard error, and the status is 1."""
+def run_main(main: Callable[[list[str]], int], fault_status: int = 1) -> None:
+    """Runs a tool; a fault is printed on standard error, with a status of its own. A signal lets the tool clear up first."""
+    for number in (signal.SIGTERM, signal.SIGHUP):
+        signal.signal(number, lambda which, _: sys.exit(128 + which))
+    for stream in (sys.stdout, sys.stderr):
+        stream.reconfigure(encoding="utf-8", errors="surrogateescape")  # names are bytes, and go out as they came in
+    status, said = fault_status, ""
     try:
-        sys.exit(main(sys.argv[1:]))
+        status = main(sys.argv[1:])
+        sys.stdout.flush()
     except Fault as fault:
-        print(f"{Path(sys.argv[0]).name}: {fault}", file=sys.stderr)
-        sys.exit(1)
+        said = str(fault)
     except BrokenPipeError:
-        sys.stderr.close()
-        sys.exit(1)
+        silence(sys.stdout)
+    except OSError as error:  # as of a disk that is full
+        silence(sys.stdout)
+        said = f"{error.filename or 'standard output'}: {error.strerror}"
     except KeyboardInterrupt:
-        sys.exit(130)
+        status = 130
+    if said:
+        print(f"{Path(sys.argv[0]).name}: {said}", file=sys.stderr)
+    sys.exit(status)
+
+
+def silence(stream: TextIO) -> None:
+    """Sends what a stream still holds to nobody, so that its end is no second error."""
+    os.dup2(os.open(os.devnull, os.O_WRONLY), stream.fileno())
 
 
 def read_bytes(path: Path) -> bytes:
@@ -49,7 +66,7 @@ def read_bytes(path: Path) -> bytes:
 
 def write_text(path: Path, text: str) -> None:
     try:
-        path.write_text(text, encoding="utf-8", newline="\n")
+        path.write_bytes(text.encode("utf-8", "surrogateescape"))
     except OSError as error:
         raise Fault(f"{path}: can't be written: {error.strerror}") from None
 
@@ -196,7 +213,7 @@ def read_setup(path: Path) -> Setup:
     data = read_bytes(path)
     if len(data) > LARGEST_TEXT:
         raise Fault(f"{path}: has {len(data)} bytes, and ringtap reads setups of at most {LARGEST_TEXT}")
-    lines = data.decode("latin-1").split("\n")
+    lines = data.decode("utf-8", "surrogateescape").split("\n")  # so that each byte is written again as it was
     if lines[-1] == "":
         lines.pop()
     setup = Setup(path, [line.removesuffix("\r") for line in lines])

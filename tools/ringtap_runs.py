@@ -12,7 +12,9 @@ from pathlib import Path
 
 from ringtap_files import Fault, Setup, write_text
 
-LINK = Path(__file__).resolve().parent.parent / "bin" / "ringtap"  # demo/build.sh makes it
+HERE = Path(__file__).resolve().parent
+LINK = HERE.parent / "bin" / "ringtap"  # demo/build.sh makes it
+INSTALLED = HERE.parent.parent / "bin" / "ringtap"  # where install.sh puts it, the tools being in lib/ringtap
 
 STATUSES = {
     0: "done",
@@ -31,8 +33,8 @@ def add_program(parser: argparse.ArgumentParser) -> None:
 
 
 def program_of(path: str | None) -> Path:
-    """The program that was asked for, or the one that demo/build.sh made."""
-    program = Path(path).resolve() if path else LINK
+    """The program that was asked for, or the one that demo/build.sh made or install.sh put beside the tools."""
+    program = Path(path).resolve() if path else INSTALLED if HERE.name == "ringtap" else LINK
     if not os.access(program, os.X_OK) or program.is_dir():
         hint = "" if path else ": `sh demo/build.sh` makes it, and --program names another"
         raise Fault(f"{program}: isn't a program{hint}")
