@@ -330,10 +330,10 @@ def test_sentences():
     (room / "short.pcap").write_bytes(bytes(10))
     (room / "none.pcap").write_bytes(bytes(24))
     sentences = {
-        "cpu next.pcap": "next.pcap: is pcapng, and this tool reads pcap: `editcap -F pcap next.pcap NEW.pcap` converts it",
+        "cpu next.pcap": "next.pcap, byte 8: is no byte-order magic of pcapng",
         "cpu link.pcap": "link.pcap, byte 20: has link type 113, and ringtap reads Ethernet, which is 1",
         "cpu short.pcap": "short.pcap: has 10 bytes, and the header of a pcap file has 24",
-        "cpu none.pcap": "none.pcap, byte 0: isn't a pcap file",
+        "cpu none.pcap": "none.pcap, byte 0: is neither pcap nor pcapng",
         "cpu absent.pcap": "absent.pcap: can't be read: No such file or directory",
         "cpu": "bad.txt, line 5: `cpu` needs the name of a capture, and the number of a queue or nothing",
         "cpu a.pcap x": "bad.txt, line 5: `cpu` needs the name of a capture, and the number of a queue or nothing",

@@ -9,11 +9,16 @@ of them is which: the last one counts as lost, and has a `?`.
 from __future__ import annotations
 
 import argparse
+import sys
 from collections import defaultdict
 from dataclasses import dataclass
 from pathlib import Path
 
-from ringtap_files import NANOSECONDS, Capture, Fault, Frame, Setup, output_names, read_capture, read_captures, read_setup, run_main
+sys.path.insert(0, str(Path(__file__).resolve().parent))  # which `python3 -I` leaves out
+
+from ringtap_captures import Capture, Frame, read_capture, read_captures
+from ringtap_files import NANOSECONDS, Fault, Setup, output_names, read_setup, run_main
+from ringtap_outputs import check_outputs
 from ringtap_runs import Report, Room, add_program, program_of, table
 from svg_plot import Layer, bars_chart, save_picture
 
@@ -236,6 +241,8 @@ def main(words: list[str]) -> int:
     program, setup = program_of(args.program), read_setup(args.setup)
     if args.bins is not None and not 1 <= args.bins <= 1000:
         raise Fault("--bins: a number from 1 to 1000")
+    earlier = [] if args.schedule else [Path(name) for name in output_names(setup, "replay")]
+    check_outputs([args.picture], [args.schedule] if args.schedule else earlier, setup)
     captures = read_captures(setup)
     is_defrag = "defrag" in setup.flags
     with Room(setup, program) as room:

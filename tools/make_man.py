@@ -7,9 +7,13 @@ from __future__ import annotations
 
 import argparse
 import re
+import sys
 from pathlib import Path
 
-from ringtap_files import Fault, read_bytes, run_main, write_text
+sys.path.insert(0, str(Path(__file__).resolve().parent))  # which `python3 -I` leaves out
+
+from ringtap_files import Fault, read_bytes, run_main
+from ringtap_outputs import write_text
 
 TOP = Path(__file__).resolve().parent.parent
 PAGE, COMPLETION = TOP / "docs" / "ringtap.1", TOP / "tools" / "ringtap.bash"

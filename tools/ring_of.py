@@ -14,7 +14,10 @@ import sys
 from dataclasses import dataclass
 from pathlib import Path
 
-from ringtap_files import Fault, read_bytes, run_main, write_text
+sys.path.insert(0, str(Path(__file__).resolve().parent))  # which `python3 -I` leaves out
+
+from ringtap_files import Fault, read_bytes, run_main
+from ringtap_outputs import check_outputs, write_text
 from ringtap_runs import table
 
 SS = ["ss", "-0", "-e", "-i", "-b", "-p", "-n", "-H"]
@@ -186,6 +189,8 @@ def main(words: list[str]) -> int:
     parser.add_argument("--fit", action="store_true", help="takes the nearest ring that ringtap has")
     parser.add_argument("-o", "--output", type=Path, metavar="FILE", help="the setup; a filter goes beside it, into FILE.ddd")
     args = parser.parse_args(words)
+    outputs = [args.output, Path(f"{args.output}.ddd")] if args.output else []
+    check_outputs(outputs, [*map(Path, args.captures), *filter(None, [args.shown])])
     text = read_bytes(args.shown).decode(errors="replace") if args.shown else shown_by_ss()
     sockets = [socket for socket in map(socket_of, entries(text)) if socket]
     group = chosen(groups_of(sockets), args)

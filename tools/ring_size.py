@@ -10,12 +10,17 @@ from __future__ import annotations
 import argparse
 import csv
 import itertools
+import sys
 from concurrent.futures import ThreadPoolExecutor
 from dataclasses import dataclass
 from pathlib import Path
 from typing import Callable
 
-from ringtap_files import MODES, Fault, Setup, read_captures, read_setup, run_main, write_text
+sys.path.insert(0, str(Path(__file__).resolve().parent))  # which `python3 -I` leaves out
+
+from ringtap_captures import read_captures
+from ringtap_files import MODES, Fault, Setup, read_setup, run_main
+from ringtap_outputs import write_text
 from ringtap_runs import Progress, Report, Room, add_program, program_of, table
 from schedule import DEFAULT_TIMEOUT, Event, Pace, Shape, add_pace, feeds, pace_of, schedule_of
 from svg_plot import Layer, Series, bars_chart, bytes_label, points_chart, save_picture

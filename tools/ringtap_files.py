@@ -1,4 +1,4 @@
-"""What the tools read: captures, setups, and the texts of either.
+"""What the tools read beside captures: setups and texts.
 
 Formats and limits are those of docs/reference.md. The program alone decides what it accepts: here only what a tool
 itself needs is tested, and what is wrong becomes a `Fault`, a sentence that names the file and the line or byte.
@@ -7,19 +7,14 @@ from __future__ import annotations
 
 import os
 import signal
-import struct
 import sys
 from dataclasses import dataclass, field
 from pathlib import Path
-from typing import Callable, NamedTuple, TextIO
+from typing import Callable, TextIO
 
-LARGEST_CAPTURE = 33_554_432  # bytes of a capture that count
-LARGEST_RECORD = 262_144  # captured bytes of a frame
 LARGEST_TEXT = 1_048_576  # bytes of a setup or a schedule
 LARGEST_NAME = 255  # bytes of a name in a setup
 LARGEST_NUMBER = 4_294_967_295
-PCAP_UNITS = {0xA1B2C3D4: 1000, 0xA1B23C4D: 1}  # nanoseconds of a fraction, by the magic
-PCAPNG_MAGIC = b"\x0a\x0d\x0d\x0a"
 MODES = ("hash", "lb", "cpu", "rollover", "qm")
 NANOSECONDS = 1_000_000_000
 
@@ -62,79 +57,6 @@ def read_bytes(path: Path) -> bytes:
         return path.read_bytes()
     except OSError as error:
         raise Fault(f"{path}: can't be read: {error.strerror}") from None
-
-
-def write_text(path: Path, text: str) -> None:
-    try:
-        path.write_bytes(text.encode("utf-8", "surrogateescape"))
-    except OSError as error:
-        raise Fault(f"{path}: can't be written: {error.strerror}") from None
-
-
-class Frame(NamedTuple):
-    """One record of a capture."""
-
-    index: int  # from 0
-    time: int  # nanoseconds
-    wire: int  # length on the wire, bytes
-    data: bytes  # what was captured
-
-
-@dataclass
-class Capture:
-    """A capture: its frames before any damage, and the word for how it ends, as ringtap prints it."""
-
-    path: Path
-    frames: list[Frame]
-    end: str
-
-
-def read_capture(path: Path) -> Capture:
-    """Reads a pcap file of version 2.4. One whose header is refused has no frames, and is a fault here."""
-    data = read_bytes(path)
-    if data[:4] == PCAPNG_MAGIC:
-        raise Fault(f"{path}: is pcapng, and this tool reads pcap: `editcap -F pcap {path.name} NEW.pcap` converts it")
-    order, unit = header_of(path, data)
-    frames, end = records_of(data, order, unit)
-    return Capture(path, frames, end)
-
-
-def header_of(path: Path, data: bytes) -> tuple[str, int]:
-    """The byte order of a capture, and how many nanoseconds a fraction counts."""
-    if len(data) < 24:
-        raise Fault(f"{path}: has {len(data)} bytes, and the header of a pcap file has 24")
-    for order in "<>":
-        unit = PCAP_UNITS.get(struct.unpack_from(order + "I", data)[0])
-        if unit:
-            break
-    else:
-        raise Fault(f"{path}, byte 0: isn't a pcap file")
-    major, minor, _, _, _, link = struct.unpack_from(order + "HHiIII", data, 4)
-    if (major, minor) != (2, 4):
-        raise Fault(f"{path}, byte 4: is of version {major}.{minor}, and ringtap reads 2.4")
-    if link & 0xFFFF != 1:
-        raise Fault(f"{path}, byte 20: has link type {link & 0xFFFF}, and ringtap reads Ethernet, which is 1")
-    return order, unit
-
-
-def records_of(data: bytes, order: str, unit: int) -> tuple[list[Frame], str]:
-    """The frames after the header, and how the capture ends."""
-    frames: list[Frame] = []
-    place, counted = 24, min(len(data), LARGEST_CAPTURE)
-    record = struct.Struct(order + "IIII")
-    while place + 16 <= counted:
-        seconds, fraction, captured, original = record.unpack_from(data, place)
-        if captured > LARGEST_RECORD:
-            return frames, f"bad_length {place}"
-        stop = place + 16 + captured
-        if stop > counted:
-            break
-        time = seconds * NANOSECONDS + min(fraction * unit, NANOSECONDS - 1)
-        frames.append(Frame(len(frames), time, max(captured, original), data[place + 16 : stop]))
-        place = stop
-    if len(data) > LARGEST_CAPTURE:
-        return frames, f"too_large {LARGEST_CAPTURE}"
-    return frames, "ok" if place == len(data) else f"truncated {place}"
 
 
 @dataclass(frozen=True)
@@ -234,15 +156,6 @@ def cpu_line(path: Path, line: int, values: list[str], cpu: int) -> CpuLine:
     if len(values) not in (1, 2) or queue is None:
         raise Fault(f"{path}, line {line}: `cpu` needs the name of a capture, and the number of a queue or nothing")
     return CpuLine(values[0], queue, line)
-
-
-def read_captures(setup: Setup) -> list[Capture]:
-    """The captures of a setup. One that is damaged or cut is used up to there, as ringtap does, and that is said."""
-    captures = [read_capture(path) for path in setup.capture_paths()]
-    for capture in captures:
-        if capture.end != "ok":
-            print(f"{capture.path}: ends {capture.end}; the {len(capture.frames)} frames before that are used", file=sys.stderr)
-    return captures
 
 
 def output_names(setup: Setup, command: str) -> list[str]:

@@ -10,7 +10,9 @@ import tempfile
 from dataclasses import dataclass, field
 from pathlib import Path
 
-from ringtap_files import Fault, Setup, write_text
+from ringtap_captures import CaptureStream, copy_unpacked, is_plain
+from ringtap_files import Fault, Setup
+from ringtap_outputs import write_text
 
 HERE = Path(__file__).resolve().parent
 LINK = HERE.parent / "bin" / "ringtap"  # demo/build.sh makes it
@@ -126,7 +128,7 @@ class Room:
         self.captures = []
         for cpu, path in enumerate(setup.capture_paths()):
             where = f"{setup.path}, line {setup.cpus[cpu].line}"
-            self.captures.append(self.link(where, path, f"cpu{cpu}.pcap"))
+            self.captures.append(self.capture(where, path, f"cpu{cpu}.pcap"))
         if name := setup.word("filter"):
             self.texts["filter"] = Path(name)
             self.link(f"{setup.path}, line {setup.places['filter']}", Path(name), "filter.ddd")
@@ -136,6 +138,21 @@ class Room:
 
     def __exit__(self, *_: object) -> None:
         self.holder.cleanup()
+
+    def capture(self, where: str, path: Path, name: str) -> str:
+        """Gives a capture a short name here; what the program can't read, or not twice, is unpacked or copied."""
+        if not path.exists() or is_plain(path):
+            return self.link(where, path, name)
+        try:
+            with open(self.folder / name, "wb") as file:
+                copy_unpacked(path, file)
+        except OSError as error:
+            raise Fault(f"{path}: can't be unpacked into {self.folder}: {error.strerror}") from None
+        return name
+
+    def streams(self) -> list[CaptureStream]:
+        """The captures, each to be read once, under the names that the setup has. A pipe can't be read anew, but its copy here can."""
+        return [CaptureStream(self.folder / name, name=path) for name, path in zip(self.captures, self.setup.capture_paths())]
 
     def link(self, where: str, path: Path, name: str) -> str:
         """Gives a file a short name here."""

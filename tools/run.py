@@ -10,7 +10,10 @@ import argparse
 import sys
 from pathlib import Path
 
-from ringtap_files import LARGEST_NAME, Fault, Setup, output_names, read_setup, run_main, write_text
+sys.path.insert(0, str(Path(__file__).resolve().parent))  # which `python3 -I` leaves out
+
+from ringtap_files import LARGEST_NAME, Fault, Setup, output_names, read_setup, run_main
+from ringtap_outputs import is_same, named_by, write_text
 from ringtap_runs import add_program, program_of, run_program, status_words
 
 LINES, SETUP = "lines.txt", "setup.txt"
@@ -36,19 +39,8 @@ def prefix_in(folder: Path, setup: Setup) -> str:
     return prefix
 
 
-def inputs_of(setup: Setup, texts: list[Path]) -> list[Path]:
-    """Every file that a run may read."""
-    named = [setup.word(word) for word in ("filter", "ticks")]
-    return [*texts, *map(Path, filter(None, named)), *(Path(cpu.name) for cpu in setup.cpus)]
-
-
-def is_same(one: Path, other: Path) -> bool:
-    """Whether two names are one file, by name or by a link."""
-    return one.resolve() == other.resolve() or one.exists() and other.exists() and one.samefile(other)
-
-
 def refuse_clashes(setup: Setup, outputs: list[str], texts: list[Path]) -> None:
-    for given in inputs_of(setup, texts):
+    for given in [*texts, *named_by(setup)]:
         for made in outputs:
             if is_same(Path(made), given):
                 raise Fault(f"{setup.path}: the output {made} would take the place of the input {given}: choose another `out`")

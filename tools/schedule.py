@@ -9,14 +9,17 @@ from __future__ import annotations
 
 import argparse
 import heapq
+import sys
 from dataclasses import dataclass
 from fractions import Fraction
 from pathlib import Path
 from typing import Iterable, Iterator
 
-from ringtap_files import (
-    LARGEST_NUMBER, LARGEST_TEXT, NANOSECONDS, Capture, Fault, Setup, read_captures, read_setup, run_main, write_text,
-)
+sys.path.insert(0, str(Path(__file__).resolve().parent))  # which `python3 -I` leaves out
+
+from ringtap_captures import Capture, read_captures
+from ringtap_files import LARGEST_NUMBER, LARGEST_TEXT, NANOSECONDS, Fault, Setup, read_setup, run_main
+from ringtap_outputs import check_outputs, write_text
 
 MILLISECOND = 1_000_000  # nanoseconds
 DEFAULT_TIMEOUT = 8  # milliseconds, where the setup has 0 or none
@@ -178,6 +181,7 @@ def main(words: list[str]) -> int:
     add_pace(parser)
     args = parser.parse_args(words)
     setup, pace = read_setup(args.setup), pace_of(args)
+    check_outputs([args.output], [], setup)
     text = schedule_of(feeds(read_captures(setup), pace.speed), pace, shape_of(setup))
     if args.output:
         write_text(args.output, text)

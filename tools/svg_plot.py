@@ -11,7 +11,8 @@ from dataclasses import dataclass
 from html import escape
 from pathlib import Path
 
-from ringtap_files import Fault, write_text
+from ringtap_files import Fault
+from ringtap_outputs import write_text
 
 WIDTH, HEIGHT = 860, 460
 LEFT, RIGHT, TOP, BOTTOM = 80, 210, 50, 70  # the space around the axes
