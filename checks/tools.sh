@@ -9,7 +9,11 @@ make_room
 for file in tools/*.py; do
     python3 -B -c 'import ast, sys; ast.parse(open(sys.argv[1]).read())' "$file" || wrong "$file isn't Python"
 done
-python3 -B checks/tools.py "${programs[0]}" "$room" || wrong 'a tool gives something else'
+for check in checks/tools*.py; do
+    folder=$room/$(basename "$check" .py)
+    mkdir "$folder"
+    python3 -B "$check" "${programs[0]}" "$folder" || wrong "$check: a tool gives something else"
+done
 
 # The scripts of demo/ run in a copy, with an `rt` that proves nothing: it marks the libraries as proved and copies the program that
 # there is, or runs it as `rt try` would, in the crate's folder.
