@@ -1,8 +1,9 @@
 -- What the bytes of a slot say, and what a write leaves of them.
-use Rattle.std.proofs.Common.{◌≡◌, ℕ, zero, suc, ◌+◌, ◌-◌, ◌≤◌, List, [], ◌∷◌, ◌++◌, length, take, drop, replicate, refl, sym, ap, subst, ◌∙◌, arith}
-use Rattle.std.proofs.lemmas.List.{length-append, length-replicate, append-nil, replicate-append-replicate, take-replicate}
+use Rattle.std.proofs.Common.{◌≡◌, ℕ, zero, suc, ◌+◌, ◌-◌, ◌<◌, ◌≤◌, List, [], ◌∷◌, ◌++◌, length, take, drop, replicate, refl, sym, ap, subst, ◌∙◌, inl, inr, arith}
+use Rattle.std.proofs.lemmas.Bool.{cases_lt}
+use Rattle.std.proofs.lemmas.List.{drop-drop, drop-replicate, length-append, length-replicate, append-nil, replicate-append-replicate, take-replicate}
 use Rattle.std.proofs.Math.ListN.{drop_of_length-le}
-use Rattle.std.proofs.Math.Seq.{take-append_seam, take-length}
+use Rattle.std.proofs.Math.Seq.{drop-append_seam, take-append_seam, take-length}
 use Rattle.byteorder.specs.Endian.{little_bytes}
 use Rattle.byteorder.specs.Numbers.{little_number-reads_back}
 use Rattle.tx_ring.specs.Slots.{IsSlot, IsSound, SlotState, empty_slot, header_text, number_at, slot_in, slot_text}
@@ -68,3 +69,37 @@ pub data_of : (slot : SlotState) (count : ℕ) → IsSound slot → 48 + count �
 unfolding slot_text header_text
 data_of slot count sound fits =
     padded slot.request.bytes count (slot.size - (48 + length slot.request.bytes)) count (let f = sound.fits in omega arith) (omega arith)
+
+-- after the bytes that were given, which the slot counts, there are zeros
+pub zeros_after : (slot : List ℕ) → IsSlot slot
+    → (48 + number_at 12 slot ≤ length slot) × (drop (number_at 12 slot) (drop 48 slot) ≡ replicate (length slot - (48 + number_at 12 slot)) 0)
+unfolding slot_text header_text number_at
+zeros_after slot is =
+    let state = slot_in slot in
+    let given = state.request.bytes in
+    let sound = is.sound in
+    let count : number_at 12 slot ≡ length given =
+    ap (number_at 12) is.text ∙ little_number-reads_back 4 (length given) (drop 16 (slot_text state)) sound.given in
+    let rest : drop (length given) (drop 48 slot) ≡ replicate (length slot - (48 + length given)) 0 =
+    ap (λ (bytes : List ℕ). drop (length given) (drop 48 bytes)) is.text
+    ∙ drop-append_seam given (replicate (length slot - (48 + length given)) 0) in
+    rw count (sound.fits, rest)
+
+-- zeros over the rest of some earlier bytes, after which there are zeros, are zeros to the end
+pub stale_zeros : (place : List ℕ) (given earlier : ℕ) → given ≤ length place → earlier ≤ length place
+    → drop earlier place ≡ replicate (length place - earlier) 0
+    → replicate (earlier - given) 0 ++ drop (earlier - given) (drop given place) ≡ replicate (length place - given) 0
+stale_zeros place given earlier fits within zeros =
+    elim (cases_lt given earlier) [
+      | inl less ↦
+          let sum : given + (earlier - given) ≡ earlier = omega arith in
+          let all : earlier - given + (length place - earlier) ≡ length place - given = omega arith in
+          rw (drop-drop (earlier - given) given place, sum, zeros) (replicate-append-replicate {A = ℕ} (earlier - given) (length place - earlier) 0 ∙ ap (λ (n : ℕ). replicate {A = ℕ} n 0) all)
+      | inr more ↦
+          let none : earlier - given ≡ 0 = omega arith in
+          let sum : earlier + (given - earlier) ≡ given = omega arith in
+          let left : length place - earlier - (given - earlier) ≡ length place - given = omega arith in
+          rw none
+          (ap (λ (n : ℕ). drop n place) (sym sum) ∙ sym (drop-drop (given - earlier) earlier place) ∙ ap (drop (given - earlier)) zeros
+          ∙ drop-replicate {X = ℕ} (given - earlier) (length place - earlier) 0 ∙ ap (λ (n : ℕ). replicate {A = ℕ} n 0) left)
+    ]

@@ -65,12 +65,17 @@ pub(crate) fn write_header(header: &mut [u8], next_offset: u32, asked: u32, give
     write_u32(header, STATUS, SEND_REQUEST);
 }
 
-/// Writes bytes, and zeros after them.
-pub(crate) fn write_data(place: &mut [u8], from: &[u8])
-    requires { length from.now ≤ length place.old }
+/// Writes bytes, and zeros after them, to a place that has zeros after its first `earlier` bytes. So only those of the
+/// earlier bytes that lie after the new ones are written.
+#[tactic(auto, using(crate::proofs::Texts::stale_zeros))]
+pub(crate) fn write_data(place: &mut [u8], from: &[u8], earlier: usize)
+    requires fits { length from.now ≤ length place.old }
+    requires within { earlier ≤ length place.old }
+    requires zeros { drop earlier place.old ≡ replicate (length place.old - earlier) 0 }
     ensures { place.new ≡ from.now ++ replicate (length place.old - length from.now) 0 }
 {
     let (front, rest) = place.split_at_mut(from.len());
     front.copy_from_slice(from);
-    rest.fill(0);
+    let (stale, _) = rest.split_at_mut(earlier.saturating_sub(from.len()));
+    stale.fill(0);
 }

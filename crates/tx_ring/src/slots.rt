@@ -2,10 +2,10 @@
 ghost use Rattle.std.specs.Prelude.{◌≡◌, ◌+◌, ◌-◌, ◌*◌, ◌^◌, ◌<◌, ◌≤◌, ◌++◌, ℕ, IfOk, drop, length, replicate, set, take};
 ghost use Rattle.std.specs.Vec.{vec_capacity};
 ghost use Rattle.tx_ring.specs.Sending.{frame_of};
-ghost use Rattle.tx_ring.specs.Slots.{IsSound, SlotState, empty_slot, number_at, put_slot, slot_at, slot_in, slot_text};
+ghost use Rattle.tx_ring.specs.Slots.{IsSlot, IsSound, SlotState, empty_slot, number_at, put_slot, slot_at, slot_in, slot_text};
 
 use crate::slot_fields::{
-    HEADER, LENGTH, NEXT_OFFSET, STATUS, read_u32, write_data, write_header, write_u32,
+    HEADER, LENGTH, NEXT_OFFSET, SNAPLEN, STATUS, read_u32, write_data, write_header, write_u32,
 };
 use frame_view::Memory;
 use std::alloc::Global;
@@ -171,7 +171,7 @@ fn piece_of(bytes: &[u8], from: usize, count: usize) -> &[u8]
     piece
 }
 
-/// Writes the slot of this size at a place, and requests it.
+/// Writes the slot of this size at a place, and requests it. After the bytes that were given before, it has zeros.
 fn write_slot(
     bytes: &mut [u8],
     from: usize,
@@ -183,6 +183,7 @@ fn write_slot(
     requires within { from + size ≤ length bytes.old }
     requires fits { 48 + length given.now ≤ size }
     requires small { size < 2 ^ 32 }
+    requires slot { IsSlot (take size (drop from bytes.old)) }
     ensures { bytes.new ≡ put_slot from size bytes.old (slot_text (record {
       size = size;
       status = 1;
@@ -191,9 +192,10 @@ fn write_slot(
 {
     let (_, rest) = bytes.split_at_mut(from);
     let (slot, _) = rest.split_at_mut(size);
+    let earlier = read_u32(slot, SNAPLEN) as usize;
     let (header, data) = slot.split_at_mut(HEADER);
     write_header(header, next_offset, asked, given.len() as u32);
-    write_data(data, given);
+    write_data(data, given, earlier);
 }
 
 /// Writes the status of the slot of this size at a place.

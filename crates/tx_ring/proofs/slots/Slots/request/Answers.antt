@@ -1,7 +1,7 @@
 use Rattle.std.proofs.Common.{◌≡◌, ◌-◌, ◌*◌, ◌<◌, ◌++◌, ℕ, List, length, refl, replicate, set, sym, ap, ◌∙◌, arith}
 use Rattle.std.specs.Vec.{vec_capacity}
 use Rattle.tx_ring.specs.Slots.{IsSound, SlotState, put_slot, slot_at, slot_text}
-use Rattle.tx_ring.proofs.Pieces.{each_size, less_of, places_fit, requested}
+use Rattle.tx_ring.proofs.Pieces.{as_before, each_size, less_of, places_fit, requested}
 use Rattle.tx_ring.proofs.slots.Slots.request.Goals as goal
 
 pub overflow_add-at : goal.overflow_add-at
@@ -36,6 +36,20 @@ write_slot-requires-clause-fits c =
     let sizes = ap (λ (slots : List SlotState). (slot_at slots c.args.at).size) c.self.view_is in
     let each = each_size inside.shape.frame_size inside.shape.frame_nr inside.written c.args.at (vec_capacity inside.bytes) inside.bytes.items kept less in
     omega (arith, sizes, each, c.requires.fits, c.frame_size-size.ensures.value)
+
+pub write_slot-requires-clause-slot : goal.write_slot-requires-clause-slot
+write_slot-requires-clause-slot c =
+    let inside = c.self.inside in
+    let kept = c.self.invariant in
+    let less = less_of inside.shape.frame_size inside.shape.frame_nr inside.written c.args.at inside.bytes.items c.args.self.now kept.few c.self.view_is c.requires.within in
+    let size = inside.shape.frame_size in
+    let zeros = c.write_zeros-self-inside in
+    let old : zeros.new.bytes.items ≡ inside.bytes.items ++ replicate (zeros.result * size - length inside.bytes.items) 0 =
+    zeros.ensures.items ∙ ap (λ (n : ℕ). inside.bytes.items ++ replicate (zeros.result * n - length inside.bytes.items) 0) c.frame_size-size.ensures.value in
+    let few = zeros.ensures.few inside.shape.frame_nr kept.few (omega (arith, less)) in
+    let before = as_before size inside.shape.frame_nr inside.written zeros.result c.args.at (vec_capacity inside.bytes) (vec_capacity zeros.new.bytes)
+    inside.bytes.items zeros.new.bytes.items kept (omega (arith, zeros.ensures.least)) zeros.ensures.more few zeros.ensures.room old in
+    rw (c.as_mut_slice.ensures.value, c.frame_size-size.ensures.value) before.0
 
 pub invariant_of-self : goal.invariant_of-self
 invariant_of-self c =
