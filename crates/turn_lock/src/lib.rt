@@ -2,6 +2,7 @@
 //! What the turns added to the value stands in it in the order of the tickets, each turn's once.
 #![tactic(auto)]
 
+mod backoff;
 mod closed_locks;
 mod kept;
 mod knowledge;

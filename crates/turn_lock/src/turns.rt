@@ -5,18 +5,37 @@ ghost use Rattle.turn_lock.specs.Histories.{GoesOn};
 ghost use Rattle.turn_lock.specs.Seats.{AddsIn, IsSeatOf, inside, outside};
 ghost use Rattle.turn_lock.specs.Steps.{HasValue};
 
+use crate::backoff::Backoff;
 use crate::knowledge::{Knows, Opening};
 use crate::plays::{ByTurns, Draws, Leaves, Looks};
 use crate::{Kept, TurnLock, TurnSeat};
 use atomic_table::{Seat, Shared};
 use std::sync::Wait;
-use std::thread;
 
 /// The word with the number of tickets drawn.
 const TICKETS: usize = 0;
 
 /// The word with the ticket that is served.
 const SERVED: usize = 1;
+
+/// Waits until no seat is in its turn or waits for one. The thread has no ticket meanwhile, so
+/// nobody waits for it, however long it is put aside.
+fn wait_free<V: Kept, R: Wait>(
+    rt: &R,
+    shared: &Shared<Option<V>, Knows<V::Entry, V::Base>, Opening<V>, ByTurns>,
+)
+    requires table { 1 < shared.now.table_id.words }
+{
+    let mut backoff = Backoff::new();
+    for _ in rt.forever() {
+        let served = shared.peek(SERVED);
+        if shared.peek(TICKETS) == served {
+            return;
+        }
+        backoff.wait(rt);
+    }
+    unreachable!()
+}
 
 /// Looks until the ticket is served, and then takes the value out.
 fn wait_turn<V: Kept, R: Wait>(
@@ -31,11 +50,12 @@ fn wait_turn<V: Kept, R: Wait>(
     ensures table { seat.new.table_id ≡ seat.old.table_id }
     ensures value { HasValue V.stored V.base V.may_add seat.old.me seat.new.me }
 {
+    let mut backoff = Backoff::new();
     for _ in rt.forever() {
         if shared.load::<Looks>(seat, SERVED) == ticket {
             return;
         }
-        thread::yield_now();
+        backoff.wait(rt);
     }
     unreachable!()
 }
@@ -54,6 +74,7 @@ impl<V: Kept> TurnLock<V> {
         ensures seat { seat.new ≡ inside seat.old (V.stored result) }
     {
         let shared = &self.table.shared;
+        wait_free::<V, R>(rt, shared);
         let ticket = shared.fetch_add::<Draws>(&mut seat.seat, TICKETS, 1);
         seat.ticket = ticket;
         wait_turn::<V, R>(rt, shared, &mut seat.seat, ticket);
