@@ -162,11 +162,11 @@ past_no_end : (frame last : Frame) → conflicts frame last ≡ false → is_las
 unfolding contradicts
 past_no_end frame last e is = let parts = (conflict_parts frame last e).1 in grind (arith, nat_tests)
 
-before_no_end : (last frame : Frame) → conflicts last frame ≡ false → is_last last ≡ true → to_of frame ≤ to_of last
+pub before_no_end : (last frame : Frame) → conflicts last frame ≡ false → is_last last ≡ true → to_of frame ≤ to_of last
 unfolding contradicts
 before_no_end last frame e is = let parts = (conflict_parts last frame e).1 in grind (arith, nat_tests)
 
-all_past : (last : Frame) (frames : List Frame) → list_any (λ later. conflicts later last) frames ≡ false → is_last last ≡ true → AllByRecursion (λ frame. to_of frame ≤ to_of last) frames
+pub all_past : (last : Frame) (frames : List Frame) → list_any (λ later. conflicts later last) frames ≡ false → is_last last ≡ true → AllByRecursion (λ frame. to_of frame ≤ to_of last) frames
 all_past last [] none is = tt
 all_past last (frame ∷ frames) none is =
     let parts = or_parts (conflicts frame last) (list_any (λ later. conflicts later last) frames) none in

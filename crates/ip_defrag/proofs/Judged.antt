@@ -1,11 +1,12 @@
--- What a new frame is to held ones: one conflict tells it, and none is looked for after or before all of them.
-use Rattle.std.proofs.Common.{◌≡◌, ℕ, ◌<◌, ◌≤◌, Bool, true, false, ◌||◌, List, [], ◌∷◌, Option, None, Some, option_map, is_some, find, cond, if◌then◌else◌, arith, refl, ap, ◌∙◌, sym}
-use Rattle.std.specs.List.{list_any}
-use Rattle.std.proofs.lemmas.Bool.{or_parts, or_from, both_ways}
+-- What a new frame is to held ones: any one that it conflicts with tells it, and where it shares no place with any, its place and
+-- the end do.
+use Rattle.std.proofs.Common.{◌≡◌, ◌⊎◌, ℕ, zero, suc, ◌+◌, ◌<◌, ◌≤◌, max, Bool, true, false, ◌&&◌, ◌||◌, nat_lt, length, get_or, subst, inl, inr, List, [], ◌∷◌, Option, None, Some, option_map, is_some, find, cond, if◌then◌else◌, arith, refl, ap, ◌∙◌, sym}
+use Rattle.std.specs.List.{list_any, AllByRecursion}
+use Rattle.std.proofs.lemmas.Bool.{cases_lt, lt-ltb, or_parts, or_from, both_ways}
 use Rattle.std.proofs.lemmas.Bool.Decides.{nat_tests}
 use Rattle.frame_view.specs.declared.frames.Frame.{Frame}
 use Rattle.ip_defrag.specs.Datagrams.{shares}
-use Rattle.ip_defrag.specs.Extents.{AreKept, begin_of, reach_of, end_of, extent_of}
+use Rattle.ip_defrag.specs.Extents.{AreKept, reach_of, end_of, extent_of}
 use Rattle.ip_defrag.specs.Fold.{conflicts, contradicts, is_copy}
 use Rattle.ip_defrag.specs.Fragments.{takes_part, from_of, to_of, is_last}
 use Rattle.ip_defrag.specs.Grouped.{judgement}
@@ -13,8 +14,11 @@ use Rattle.ip_defrag.specs.Held.{AreHeld}
 use Rattle.ip_defrag.specs.declared.extents.Extent.{Extent}
 use Rattle.ip_defrag.specs.declared.rules.Judgement.{Judgement}
 use Rattle.ip_defrag.specs.declared.rules.Judgement.TheVariants.{Copy, Conflict, Fits}
-use Rattle.ip_defrag.proofs.Covers.{has_data}
+use Rattle.ip_defrag.specs.Ranges.{AreRanges, AreSorted, HaveRanges, IsRangeIn, met, range_of}
+use Rattle.ip_defrag.specs.declared.ranges.Range.{Range}
+use Rattle.ip_defrag.proofs.Covers.{all_past, before_no_end, has_data}
 use Rattle.ip_defrag.proofs.Places.{shares_is}
+use Rattle.ip_defrag.proofs.Ranged.{IsApart, none_met, one_met}
 
 -- a copy has the places of the other, and is last where that is
 record AreAlike (frame other : Frame) : Type 0 where
@@ -71,14 +75,6 @@ after_one new frame taken some after =
     let d = (has_data frame taken).0 in
     (grind (arith, nat_tests), grind (arith, nat_tests))
 
--- and before it
-before_one : (new frame : Frame) → takes_part frame ≡ true → from_of new < to_of new → to_of new ≤ from_of frame → (is_copy new frame ≡ false) × (conflicts new frame ≡ is_last new)
-unfolding is_copy conflicts contradicts
-before_one new frame taken some before =
-    let s = shares_is new frame some (has_data frame taken).0 in
-    let d = (has_data frame taken).0 in
-    (grind (arith, nat_tests), grind (arith, nat_tests))
-
 after_each : (new : Frame) (frames : List Frame) → AreHeld frames → from_of new < to_of new → reach_of frames ≤ from_of new → (list_any (is_copy new) frames ≡ false) × (list_any (conflicts new) frames ≡ is_some (find is_last frames))
 after_each new [] held some after = (refl, refl)
 after_each new (frame ∷ frames) held some after =
@@ -87,17 +83,6 @@ after_each new (frame ∷ frames) held some after =
     (or_from _ _ one.0 rest.0, ap (λ (b : Bool). b || list_any (conflicts new) frames) one.1 ∙ by_test (is_last frame) rest.1)
   where
     by_test : (b : Bool) → list_any (conflicts new) frames ≡ is_some (find is_last frames) → (b || list_any (conflicts new) frames) ≡ is_some (cond b (Some frame) (find is_last frames))
-    by_test true rest = refl
-    by_test false rest = rest
-
-before_each : (new : Frame) (frames : List Frame) → AreHeld frames → from_of new < to_of new → to_of new ≤ begin_of frames → (list_any (is_copy new) frames ≡ false) × ((is_last new || list_any (conflicts new) frames) ≡ is_last new)
-before_each new [] held some before = (refl, grind (arith, nat_tests))
-before_each new (frame ∷ frames) held some before =
-    let one = before_one new frame held.0 some (omega (arith, before)) in
-    let rest = before_each new frames held.2 some (omega (arith, before)) in
-    (or_from _ _ one.0 rest.0, ap (λ (b : Bool). is_last new || (b || list_any (conflicts new) frames)) one.1 ∙ by_test (is_last new) rest.1)
-  where
-    by_test : (b : Bool) → (b || list_any (conflicts new) frames) ≡ b → (b || (b || list_any (conflicts new) frames)) ≡ b
     by_test true rest = refl
     by_test false rest = rest
 
@@ -114,20 +99,203 @@ after_all new frames extent kept some after =
     by_end None = refl
     by_end (Some last) = refl
 
--- a frame before all
-pub before_all : (new : Frame) (frames : List Frame) (extent : Extent) → AreKept frames extent → from_of new < to_of new → from_of new < extent.reach → to_of new ≤ extent.begin → judgement new frames ≡ (if is_last new then Conflict else Fits)
-unfolding extent_of
-before_all new frames extent kept some some_held before =
-    let reach : extent.reach ≡ reach_of frames = ap (λ (e : Extent). e.reach) kept.counted in
-    let begin : extent.begin ≡ begin_of frames = ap (λ (e : Extent). e.begin) kept.counted in
-    by_list frames kept.held (omega (arith, reach, some_held)) (omega (arith, begin, before))
+-- a frame that shares no place with another one: after it, where that isn't last, and before it
+apart_after : (new frame : Frame) → takes_part frame ≡ true → from_of new < to_of new → to_of frame ≤ from_of new → is_last frame ≡ false
+    → (is_copy new frame ≡ false) × (conflicts new frame ≡ (is_last new && nat_lt (to_of new) (to_of frame)))
+unfolding is_copy conflicts contradicts
+apart_after new frame taken some after more =
+    let s = shares_is new frame some (has_data frame taken).0 in
+    let d = (has_data frame taken).0 in
+    (grind (arith, nat_tests), grind (arith, nat_tests))
+
+apart_before : (new frame : Frame) → takes_part frame ≡ true → from_of new < to_of new → to_of new ≤ from_of frame
+    → (is_copy new frame ≡ false) × (conflicts new frame ≡ (is_last new && nat_lt (to_of new) (to_of frame)))
+unfolding is_copy conflicts contradicts
+apart_before new frame taken some before =
+    let s = shares_is new frame some (has_data frame taken).0 in
+    let d = (has_data frame taken).0 in
+    (grind (arith, nat_tests), grind (arith, nat_tests))
+
+-- where a frame is last, a new one begins before its end
+abbrev IsEarly : Frame → Frame → Type 0
+IsEarly new frame = is_last frame ≡ true → from_of new < to_of frame
+
+apart_one : (new frame : Frame) → takes_part frame ≡ true → from_of new < to_of new → (to_of frame ≤ from_of new) ⊎ (to_of new ≤ from_of frame) → IsEarly new frame
+    → (is_copy new frame ≡ false) × (conflicts new frame ≡ (is_last new && nat_lt (to_of new) (to_of frame)))
+apart_one new frame taken some (inl after) early = by_last (is_last frame) refl
   where
-    by_list : (frames : List Frame) → AreHeld frames → from_of new < reach_of frames → to_of new ≤ begin_of frames → judgement new frames ≡ cond (is_last new) Conflict Fits
-    by_list [] held some_held before = absurd (omega (arith, some_held))
-    by_list (frame ∷ frames) held some_held before =
-        let each = before_each new (frame ∷ frames) held some before in
-        let one = before_one new frame held.0 some (omega (arith, before)) in
-        let rest = before_each new frames held.2 some (omega (arith, before)) in
-        let any : list_any (conflicts new) (frame ∷ frames) ≡ is_last new = ap (λ (b : Bool). b || list_any (conflicts new) frames) one.1 ∙ rest.1 in
-        ap (λ (b : Bool). cond b Copy (cond (list_any (conflicts new) (frame ∷ frames)) Conflict Fits)) each.0
-        ∙ ap (λ (b : Bool). cond b Conflict Fits) any
+    by_last : (b : Bool) → is_last frame ≡ b → (is_copy new frame ≡ false) × (conflicts new frame ≡ (is_last new && nat_lt (to_of new) (to_of frame)))
+    by_last true is = let e = early is in absurd (omega (arith, e, after))
+    by_last false is = apart_after new frame taken some after is
+apart_one new frame taken some (inr before) early = apart_before new frame taken some before
+
+-- frames with which a new one shares no place
+abbrev AreApart : Frame → List Frame → Type 0
+AreApart new frames = AllByRecursion (λ frame. (to_of frame ≤ from_of new) ⊎ (to_of new ≤ from_of frame)) frames
+
+apart_each : (new : Frame) (frames : List Frame) → AreHeld frames → from_of new < to_of new → AreApart new frames → AllByRecursion (IsEarly new) frames
+    → (list_any (is_copy new) frames ≡ false) × (list_any (conflicts new) frames ≡ (is_last new && nat_lt (to_of new) (reach_of frames)))
+apart_each new [] held some apart early = (refl, grind (arith, nat_tests))
+apart_each new (frame ∷ frames) held some apart early =
+    let one = apart_one new frame held.0 some apart.0 early.0 in
+    let rest = apart_each new frames held.2 some apart.1 early.1 in (
+      or_from _ _ one.0 rest.0,
+      ap (λ (b : Bool). b || list_any (conflicts new) frames) one.1
+          ∙ ap (λ (b : Bool). (is_last new && nat_lt (to_of new) (to_of frame)) || b) rest.1
+          ∙ both (is_last new) (to_of new) (to_of frame) (reach_of frames),
+    )
+  where
+    both : (last : Bool) (to a b : ℕ) → ((last && nat_lt to a) || (last && nat_lt to b)) ≡ (last && nat_lt to (max a b))
+    both true to a b = grind (arith, nat_tests)
+    both false to a b = refl
+
+-- a last frame ends where all of them do
+reach_below : (frames : List Frame) (end : ℕ) → AllByRecursion (λ frame. to_of frame ≤ end) frames → reach_of frames ≤ end
+reach_below [] end within = omega arith
+reach_below (frame ∷ frames) end within = let rest = reach_below frames end within.1 in omega (arith, rest, within.0)
+
+last_reaches : (frames : List Frame) → AreHeld frames → AllByRecursion (λ frame. is_last frame ≡ true → reach_of frames ≤ to_of frame) frames
+last_reaches [] held = tt
+last_reaches (first ∷ frames) held = (
+  λ is. let rest = reach_below frames (to_of first) (all_past first frames held.1 is) in omega (arith, rest),
+  more frames held.1 (last_reaches frames held.2),
+)
+  where
+    more : (some : List Frame) → list_any (λ later. conflicts later first) some ≡ false → AllByRecursion (λ frame. is_last frame ≡ true → reach_of frames ≤ to_of frame) some
+        → AllByRecursion (λ frame. is_last frame ≡ true → reach_of (first ∷ frames) ≤ to_of frame) some
+    more [] none rest = tt
+    more (frame ∷ some) none rest =
+        let parts = or_parts (conflicts frame first) (list_any (λ later. conflicts later first) some) none in (
+          λ is. let reach = rest.0 is in let ends = before_no_end frame first parts.0 is in omega (arith, reach, ends),
+          more some parts.1 rest.1,
+        )
+
+early_each : (new : Frame) (reach : ℕ) (frames : List Frame) → from_of new < reach → AllByRecursion (λ frame. is_last frame ≡ true → reach ≤ to_of frame) frames → AllByRecursion (IsEarly new) frames
+early_each new reach [] before each = tt
+early_each new reach (frame ∷ frames) before each = (λ is. let ends = each.0 is in omega (arith, ends, before), early_each new reach frames before each.1)
+
+-- a frame that begins before the end of all ends before it
+ends_before : (new : Frame) (frames : List Frame) → AreHeld frames → AreApart new frames → from_of new < reach_of frames → to_of new < reach_of frames
+ends_before new [] held apart before = absurd (omega arith)
+ends_before new (frame ∷ frames) held apart before =
+    elim apart.0 [
+      | inl after ↦ let rest = ends_before new frames held.2 apart.1 (omega (arith, after, before)) in omega (arith, rest)
+      | inr past ↦ let some = (has_data frame held.0).0 in omega (arith, past, some)
+    ]
+
+-- a frame that meets no range of the frames shares no place with them
+apart_from : (new : Frame) (at : ℕ) (frames : List Frame) (ranges : List Range) → AreSorted 0 ranges → met (from_of new) (to_of new) ranges ≡ None → HaveRanges at frames ranges → AreApart new frames
+apart_from new at [] ranges sorted none each = tt
+apart_from new at (frame ∷ frames) ranges sorted none each =
+    (none_met 0 (from_of new) (to_of new) ranges (range_of frame at) sorted none each.0, apart_from new (at + 1) frames ranges sorted none each.1)
+
+-- a frame that meets none, and begins before the end of all
+pub unmet : (new : Frame) (frames : List Frame) (extent : Extent) (ranges : List Range) → AreKept frames extent → AreRanges ranges frames → from_of new < to_of new → from_of new < extent.reach
+    → met (from_of new) (to_of new) ranges ≡ None → judgement new frames ≡ (if is_last new then Conflict else Fits)
+unfolding extent_of
+unmet new frames extent ranges kept are some before none =
+    let reach : extent.reach ≡ reach_of frames = ap (λ (e : Extent). e.reach) kept.counted in
+    let early : from_of new < reach_of frames = omega (arith, reach, before) in
+    let apart = apart_from new 0 frames ranges are.sorted none are.each in
+    let each = apart_each new frames kept.held some apart (early_each new (reach_of frames) frames early (last_reaches frames kept.held)) in
+    let past = lt-ltb (to_of new) (reach_of frames) (ends_before new frames kept.held apart early) in
+    let any : list_any (conflicts new) frames ≡ is_last new = each.1 ∙ ap (λ (b : Bool). is_last new && b) past ∙ same (is_last new) in
+    ap (λ (b : Bool). cond b Copy (cond (list_any (conflicts new) frames) Conflict Fits)) each.0
+    ∙ ap (λ (b : Bool). cond b Conflict Fits) any
+  where
+    same : (b : Bool) → (b && true) ≡ b
+    same true = refl
+    same false = refl
+
+-- two frames conflict with one another
+both_conflict : (a b : Frame) → takes_part a ≡ true → takes_part b ≡ true → conflicts a b ≡ conflicts b a
+unfolding conflicts contradicts
+both_conflict a b taken_a taken_b =
+    let some_a = (has_data a taken_a).0 in
+    let some_b = (has_data b taken_b).0 in
+    let s = shares_is a b some_a some_b in
+    let t = shares_is b a some_b some_a in
+    grind (arith, nat_tests)
+
+none_at : {X : Type 0} (p : X → Bool) (xs : List X) (at : ℕ) (d : X) → list_any p xs ≡ false → at < length xs → p (get_or xs at d) ≡ false
+none_at p [] at d none within = absurd (omega arith)
+none_at p (x ∷ xs) zero d none within = (or_parts (p x) (list_any p xs) none).0
+none_at p (x ∷ xs) (suc at) d none within = none_at p xs at d (or_parts (p x) (list_any p xs) none).1 (omega arith)
+
+taken_at : (frames : List Frame) (at : ℕ) (d : Frame) → AreHeld frames → at < length frames → takes_part (get_or frames at d) ≡ true
+taken_at [] at d held within = absurd (omega arith)
+taken_at (frame ∷ frames) zero d held within = held.0
+taken_at (frame ∷ frames) (suc at) d held within = taken_at frames at d held.2 (omega arith)
+
+-- any one that a frame conflicts with decides
+pub decided : (new : Frame) (frames : List Frame) (at : ℕ) (d : Frame) → AreHeld frames → at < length frames → conflicts new (get_or frames at d) ≡ true
+    → judgement new frames ≡ (if is_copy new (get_or frames at d) then Copy else Conflict)
+decided new [] at d held within is = absurd (omega arith)
+decided new (frame ∷ frames) zero d held within is =
+    judged new (frame ∷ frames) held ∙ ap (λ (b : Bool). by_first new (cond b (Some frame) (find (conflicts new) frames))) is
+decided new (frame ∷ frames) (suc at) d held within is = by_test (decided new frames at d held.2 (omega arith) is) (conflicts new frame) refl
+  where
+    below : at < length frames
+    below = omega arith
+
+    other : Frame
+    other = get_or frames at d
+
+    none : conflicts other frame ≡ false
+    none = none_at (λ later. conflicts later frame) frames at d held.1 below
+
+    no_first : (b : Bool) → is_copy new frame ≡ b → is_copy new frame ≡ false
+    no_first false e = e
+    no_first true e =
+        absurd (both_ways _ none (both_conflict other frame (taken_at frames at d held.2 below) held.0 ∙ sym (alike_conflicts new frame other (alike new frame e)) ∙ is))
+
+    no_other : conflicts new frame ≡ true → (b : Bool) → is_copy new other ≡ b → is_copy new other ≡ false
+    no_other here false e = e
+    no_other here true e = absurd (both_ways _ none (sym (alike_conflicts new other frame (alike new other e)) ∙ here))
+
+    by_test : judgement new frames ≡ cond (is_copy new other) Copy Conflict → (b : Bool) → conflicts new frame ≡ b → judgement new (frame ∷ frames) ≡ cond (is_copy new other) Copy Conflict
+    by_test rest true here =
+        judged new (frame ∷ frames) held
+        ∙ ap (λ (b : Bool). by_first new (cond b (Some frame) (find (conflicts new) frames))) here
+        ∙ ap (λ (b : Bool). cond b Copy Conflict) (no_first (is_copy new frame) refl)
+        ∙ ap (λ (b : Bool). cond b Copy Conflict) (sym (no_other here (is_copy new other) refl))
+    by_test rest false here =
+        judged new (frame ∷ frames) held
+        ∙ ap (λ (b : Bool). by_first new (cond b (Some frame) (find (conflicts new) frames))) here
+        ∙ sym (judged new frames held.2)
+        ∙ rest
+
+-- two frames that share a place conflict, and two that don't conflict are apart
+sharing : (new frame : Frame) → from_of new < to_of new → takes_part frame ≡ true → from_of new < to_of frame → from_of frame < to_of new → conflicts new frame ≡ true
+unfolding conflicts
+sharing new frame some taken ends begins =
+    let s = shares_is new frame some (has_data frame taken).0 in
+    grind (arith, nat_tests)
+
+clear_apart : (new frame : Frame) → from_of new < to_of new → takes_part frame ≡ true → conflicts new frame ≡ false → (to_of frame ≤ from_of new) ⊎ (to_of new ≤ from_of frame)
+unfolding conflicts
+clear_apart new frame some taken e =
+    let s = shares_is new frame some (has_data frame taken).0 in
+    elim (cases_lt (from_of new) (to_of frame)) [
+      | inl ends ↦ inr (grind (arith, nat_tests))
+      | inr after ↦ inl after
+    ]
+
+-- a frame that meets a range
+pub met_one : (new : Frame) (frames : List Frame) (ranges : List Range) (at : ℕ) → AreHeld frames → AreRanges ranges frames → from_of new < to_of new
+    → met (from_of new) (to_of new) ranges ≡ Some at → (at < length frames) × ((d : Frame) → judgement new frames ≡ (if is_copy new (get_or frames at d) then Copy else Conflict))
+met_one new frames ranges at held are some is =
+    let one = one_met frames (from_of new) (to_of new) at ranges are.own is in
+    (one.within, λ d. decided new frames at d held one.within (sharing new (get_or frames at d) some (taken_at frames at d held one.within) (one.ends d) (one.begins d)))
+
+-- a frame that conflicts with none is apart from all ranges
+pub apart_ranges : (new : Frame) (frames : List Frame) (ranges : List Range) → AreHeld frames → from_of new < to_of new → list_any (conflicts new) frames ≡ false
+    → AllByRecursion (IsRangeIn frames) ranges → AllByRecursion (IsApart (from_of new) (to_of new)) ranges
+apart_ranges new frames [] held some none own = tt
+apart_ranges new frames (range ∷ ranges) held some none own = (here, apart_ranges new frames ranges held some none own.1)
+  where
+    frame : Frame
+    frame = get_or frames range.at new
+
+    here : IsApart (from_of new) (to_of new) range
+    here = subst (IsApart (from_of new) (to_of new)) (sym (own.0.same new)) (clear_apart new frame some (taken_at frames range.at new held own.0.within) (none_at (conflicts new) frames range.at new none own.0.within))

@@ -1,11 +1,11 @@
 -- The extent of some frames, and of one more.
-use Rattle.std.proofs.Common.{◌≡◌, ◌+◌, ◌-◌, ◌≤◌, min, max, Bool, true, false, List, [], ◌∷◌, ◌++◌, Option, None, Some, option_map, find, cond, arith, refl, ap, ◌∙◌}
+use Rattle.std.proofs.Common.{◌≡◌, ◌+◌, ◌-◌, ◌≤◌, max, Bool, true, false, List, [], ◌∷◌, ◌++◌, Option, None, Some, option_map, find, cond, arith, refl, ap, ◌∙◌}
 use Rattle.std.specs.List.{list_any}
 use Rattle.std.specs.Option.{option_or}
 use Rattle.std.proofs.lemmas.List.Folds.{find-append}
 use Rattle.std.proofs.lemmas.List.Sums.{sum_by-append, sum_by-cons}
 use Rattle.frame_view.specs.declared.frames.Frame.{Frame}
-use Rattle.ip_defrag.specs.Extents.{AreKept, begin_of, reach_of, end_of, end_with, extent_of, extended}
+use Rattle.ip_defrag.specs.Extents.{AreKept, reach_of, end_of, end_with, extent_of, extended}
 use Rattle.ip_defrag.specs.Fold.{conflicts}
 use Rattle.ip_defrag.specs.Fragments.{takes_part, from_of, to_of, is_last}
 use Rattle.ip_defrag.specs.Held.{filled}
@@ -29,17 +29,13 @@ end_push frames new = ap (option_map to_of) (find-append is_last frames (new ∷
     by_found None = by_test (is_last new)
     by_found (Some last) = refl
 
-begin_push : (frames : List Frame) (new : Frame) → begin_of (frames ++ new ∷ []) ≡ min (begin_of frames) (from_of new)
-begin_push [] new = omega arith
-begin_push (frame ∷ frames) new = let rest = begin_push frames new in omega (arith, rest)
-
 reach_push : (frames : List Frame) (new : Frame) → reach_of (frames ++ new ∷ []) ≡ max (reach_of frames) (to_of new)
 reach_push [] new = omega arith
 reach_push (frame ∷ frames) new = let rest = reach_push frames new in omega (arith, rest)
 
 pub extent_push : (frames : List Frame) (new : Frame) → extended new (extent_of frames) ≡ extent_of (frames ++ new ∷ [])
 unfolding extent_of
-extent_push frames new = cc (filled_push frames new, begin_push frames new, reach_push frames new, end_push frames new)
+extent_push frames new = cc (filled_push frames new, reach_push frames new, end_push frames new)
 
 -- the bytes of data are those of a datagram at most
 pub kept_most : (frames : List Frame) (extent : Extent) → AreKept frames extent → extent.filled ≤ 65475

@@ -8,6 +8,7 @@ pub mod Kept
 pub mod Passed
 pub mod Places
 pub mod Pushed
+pub mod Ranged
 pub mod Rows
 pub mod Taken
 pub mod Walks

@@ -1,18 +1,13 @@
 -- What the code keeps of a datagram's fragments in all, so that a push needn't look at each. In bytes, from 0.
-use Rattle.std.specs.Prelude.{◌≡◌, ℕ, ◌+◌, ◌-◌, min, max, List, [], ◌∷◌, find, Option, None, Some, option_map, if◌then◌else◌}
+use Rattle.std.specs.Prelude.{◌≡◌, ℕ, ◌+◌, ◌-◌, max, List, [], ◌∷◌, find, Option, None, Some, option_map, if◌then◌else◌}
 use Rattle.frame_view.specs.declared.frames.Frame.{Frame}
-use Rattle.ip_defrag.specs.Fragments.{most_data, from_of, to_of, is_last}
+use Rattle.ip_defrag.specs.Fragments.{from_of, to_of, is_last}
 use Rattle.ip_defrag.specs.Held.{AreHeld, filled}
 use Rattle.ip_defrag.specs.declared.extents.Extent.{Extent}
 
 -- where a datagram ends, if one of its frames is last
 abbrev pub end_of : List Frame → Option ℕ
 end_of frames = option_map to_of (find is_last frames)
-
--- the lowest place at which one of some frames begins; of none the most data of a datagram
-abbrev pub begin_of : List Frame → ℕ
-begin_of [] = most_data
-begin_of (frame ∷ frames) = min (from_of frame) (begin_of frames)
 
 -- the highest place after the data of one of some frames
 abbrev pub reach_of : List Frame → ℕ
@@ -23,7 +18,6 @@ reach_of (frame ∷ frames) = max (to_of frame) (reach_of frames)
 unfoldable pub extent_of : List Frame → Extent
 extent_of frames = record {
   filled = filled frames;
-  begin = begin_of frames;
   reach = reach_of frames;
   end = end_of frames;
 }
@@ -37,7 +31,6 @@ end_with new (Some end) = Some end
 abbrev pub extended : Frame → Extent → Extent
 extended new extent = record {
   filled = extent.filled + (to_of new - from_of new);
-  begin = min extent.begin (from_of new);
   reach = max extent.reach (to_of new);
   end = end_with new extent.end;
 }

@@ -8,7 +8,8 @@ use crate::NoPush;
 use crate::extents::Extent;
 use crate::fragments::Fragment;
 use crate::names::Name;
-use crate::rules::{Judgement, apart, judge};
+use crate::ranges::{Range, insert, met};
+use crate::rules::{Judgement, apart, beside};
 use crate::wholes::completed;
 use frame_view::Frame;
 use std::alloc::Global;
@@ -26,6 +27,8 @@ pub(crate) struct Datagram {
     opened: u32,
     /// The fragments, in the order in which they were pushed.
     fragments: Vec<Fragment>,
+    /// Where each of them lies, sorted.
+    ranges: Vec<Range>,
     /// What they are in all.
     extent: Extent,
 }
@@ -36,6 +39,7 @@ impl Model for Datagram {
     ghost Value = { Group };
 
     ghost use Rattle.ip_defrag.specs.Extents.{AreKept};
+    ghost use Rattle.ip_defrag.specs.Ranges.{AreRanges};
 
     ghost view = { λ it. record {
       name = it.name;
@@ -43,7 +47,8 @@ impl Model for Datagram {
       fragments = it.fragments.items;
     } };
 
-    ghost invariant = { λ it. AreKept it.fragments.items it.extent };
+    ghost invariant = { λ it.
+        AreKept it.fragments.items it.extent × AreRanges it.ranges.items it.fragments.items };
 }
 
 impl Datagram {
@@ -55,6 +60,12 @@ impl Datagram {
         let name = fragment.name();
         let opened = fragment.frame().sec;
         let extent = Extent::new().with(&fragment);
+        let mut ranges = Vec::new(alloc);
+        if let Err(_) = ranges.push(Range::of(&fragment, 0)) {
+            return Err(NoPush {
+                frame: fragment.into_frame(),
+            });
+        }
         let mut fragments = Vec::new(alloc);
         if let Err(refused) = fragments.push(fragment) {
             return Err(NoPush {
@@ -65,6 +76,7 @@ impl Datagram {
             name,
             opened,
             fragments,
+            ranges,
             extent,
         })
     }
@@ -92,17 +104,17 @@ impl Datagram {
         self.fragments.len() as u32
     }
 
-    /// What a new fragment is to its fragments. One after all of them, or before all of them, shares no place with
-    /// any, so that only the end decides, and none is looked at.
+    /// What a new fragment is to its fragments. One that shares no place with any contradicts an end where it lies after
+    /// all of them and one is last, or before one of them and is last itself.
     pub(crate) fn judge(&self, new: &Fragment) -> Judgement
         ensures { result ≡ judgement new.now self.now.fragments }
     {
         if new.from() >= self.extent.reach {
-            apart(self.extent.end.is_some())
-        } else if new.to() <= self.extent.begin {
-            apart(new.is_last())
-        } else {
-            judge(new, &self.fragments)
+            return apart(self.extent.end.is_some());
+        }
+        match met(&self.ranges, new.from(), new.to()) {
+            Some(at) => beside(new, &self.fragments[at]),
+            None => apart(new.is_last()),
         }
     }
 
@@ -116,8 +128,15 @@ impl Datagram {
         ensures unchanged { OnErr result (self.new ≡ self.old) }
         ensures handed_back { IfErr result (λ no. no.frame ≡ fragment) }
     {
+        if self.ranges.try_reserve(1).is_err() {
+            return Err(NoPush {
+                frame: fragment.into_frame(),
+            });
+        }
+        let range = Range::of(&fragment, self.fragments.len());
         let extent = self.extent.with(&fragment);
         let whole = add_to(alloc, &mut self.fragments, extent, fragment)?;
+        insert(&mut self.ranges, range);
         self.extent = extent;
         Ok(whole)
     }

@@ -2,15 +2,13 @@
 ghost use Rattle.std.specs.Prelude.{◌≡◌, ◌≤◌, []};
 ghost use Rattle.ip_defrag.specs.Extents.{extended, extent_of};
 
-use crate::fragments::{Fragment, MOST_DATA};
+use crate::fragments::Fragment;
 
 /// What the held fragments of a datagram are in all.
 #[derive(Clone, Copy)]
 pub(crate) struct Extent {
     /// The number of bytes of data that they have.
     pub(crate) filled: usize,
-    /// The lowest place at which one of them begins.
-    pub(crate) begin: usize,
     /// The highest place after the data of one of them.
     pub(crate) reach: usize,
     /// The place after the datagram's data, once a last fragment is held.
@@ -25,7 +23,6 @@ impl Extent {
     {
         Extent {
             filled: 0,
-            begin: MOST_DATA,
             reach: 0,
             end: None,
         }
@@ -43,7 +40,6 @@ impl Extent {
         };
         Extent {
             filled: self.filled + (to - from),
-            begin: self.begin.min(from),
             reach: self.reach.max(to),
             end,
         }

@@ -16,7 +16,7 @@ pub(crate) struct Fragment {
 }
 
 /// The most data of a datagram in bytes: after the longest header of 60 it makes a total length of 65,535.
-pub(crate) const MOST_DATA: usize = 65_475;
+const MOST_DATA: usize = 65_475;
 
 impl Model for Fragment {
     ghost use Rattle.frame_view.specs.declared.frames.Frame.{Frame};

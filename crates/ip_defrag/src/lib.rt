@@ -8,6 +8,7 @@ mod fragments;
 mod laws;
 mod names;
 mod passes;
+mod ranges;
 mod reassembling;
 mod rules;
 mod steps;
