@@ -16,4 +16,5 @@ pub mod Damage
 pub mod Frames
 pub mod ReadBack
 pub mod Joined
+pub mod KeptBytes
 mod RecordBytes

@@ -120,7 +120,7 @@ frame_bytes number format index (r ∷ records) =
     let sum = sum_by-cons (λ (frame : Frame). length frame.bytes) (frame_of_record number format index r) (frames_from number format (index + 1) records) in
     omega (arith, rest, sum, length-append r (concat records), length-drop 16 r)
 
-concat_within : (order : Order) (bytes : List ℕ) → length (concat (records_in order bytes)) ≤ length bytes
+pub concat_within : (order : Order) (bytes : List ℕ) → length (concat (records_in order bytes)) ≤ length bytes
 unfolding read_from
 concat_within order bytes =
     let told = (accounts 0 (record { order = order; unit = 1 }) first_place [] bytes).stop in

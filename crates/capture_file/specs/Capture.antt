@@ -35,6 +35,10 @@ stop_of bytes = if is_pcapng bytes then pcapng.stop_of bytes else pcap.stop_of b
 unfoldable pub damage_of : List ℕ → Option CaptureError
 damage_of bytes = if is_pcapng bytes then option_map error_from (pcapng.damage_of bytes) else pcap.damage_of bytes
 
+-- the bytes from the stop on are those of a pcapng block that is skipped, which is headed there
+unfoldable pub is_skipping : List ℕ → Bool
+is_skipping bytes = is_pcapng bytes && pcapng.is_skipping bytes
+
 -- a pcap capture that is shorter than its header
 abbrev pub lacks_header : List ℕ → Bool
 lacks_header bytes = not (is_pcapng bytes) && nat_lt (length bytes) 24

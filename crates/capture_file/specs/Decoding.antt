@@ -1,6 +1,6 @@
 -- What a decoder stands for: the bytes that it was fed.
 use Rattle.std.specs.Result.{result_err}
-use Rattle.std.specs.Prelude.{◌≡◌, ℕ, ◌≤◌, ◌<◌, Bool, true, false, if◌then◌else◌, List, [], ◌++◌, length, Option, None, Some, option_map, Result, Ok, Err, ⊤}
+use Rattle.std.specs.Prelude.{◌≡◌, ℕ, ◌+◌, ◌≤◌, ◌<◌, IsTrue, IsSome, Bool, true, false, if◌then◌else◌, List, [], ◌++◌, length, Option, None, Some, option_map, Result, Ok, Err, ⊤}
 use Rattle.frame_view.specs.declared.frames.Frame.{Frame}
 use Rattle.pcapng_blocks.specs.Capture as pcapng
 use Rattle.pcapng_blocks.specs.Decoding as blocks
@@ -11,7 +11,7 @@ use Rattle.capture_file.specs.declared.format_decoder.FormatDecoder.TheVariants.
 use Rattle.capture_file.specs.declared.decoder.Decoder.TheInside.{Inside}
 use Rattle.capture_file.specs.Pcap as pcap
 use Rattle.capture_file.specs.PcapDecoding as records
-use Rattle.capture_file.specs.Capture.{is_pcapng, error_from, frames_of, damage_of, end_of}
+use Rattle.capture_file.specs.Capture.{is_pcapng, error_from, frames_of, stop_of, damage_of, end_of, is_skipping}
 
 -- ---- bytes read in one of the formats, whatever they begin with: as pcapng, or as pcap
 
@@ -129,3 +129,15 @@ AnswersEnd decoder answer = (cpu : ℕ) (fed : List ℕ) → Stands cpu decoder 
 -- the number of bytes that are kept of those that were fed
 abbrev pub CountsKept : DecoderValue → ℕ → Type 0
 CountsKept decoder count = (cpu : ℕ) (fed : List ℕ) → Stands cpu decoder fed → count ≡ length (kept_of fed)
+
+-- no more bytes are kept than there are from the stop on
+abbrev pub KeepsAfterStop : DecoderValue → ℕ → Type 0
+KeepsAfterStop decoder count = (cpu : ℕ) (fed : List ℕ) → Stands cpu decoder fed → stop_of fed + count ≤ length fed
+
+-- in a block that is skipped at most three bytes are kept
+abbrev pub KeepsNoBody : DecoderValue → ℕ → Type 0
+KeepsNoBody decoder count = (cpu : ℕ) (fed : List ℕ) → Stands cpu decoder fed → IsTrue (is_skipping fed) → count ≤ 3
+
+-- after damage no byte is kept
+abbrev pub KeepsNoDamage : DecoderValue → ℕ → Type 0
+KeepsNoDamage decoder count = (cpu : ℕ) (fed : List ℕ) → Stands cpu decoder fed → IsSome (damage_of fed) → count ≡ 0

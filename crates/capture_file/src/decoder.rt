@@ -39,7 +39,7 @@ impl Model for Decoder {
 }
 
 impl Decoder {
-    ghost use Rattle.capture_file.specs.Decoding.{Stands, StandsOn, AppendsNew, IsDamage, AnswersDamage, AnswersEnd, CountsKept, UnlessMemory};
+    ghost use Rattle.capture_file.specs.Decoding.{Stands, StandsOn, AppendsNew, IsDamage, AnswersDamage, AnswersEnd, CountsKept, KeepsAfterStop, KeepsNoBody, KeepsNoDamage, UnlessMemory};
 
     /// A decoder that nothing was fed to. It takes no memory.
     pub fn new(alloc: Global, cpu: u32) -> Decoder
@@ -137,6 +137,9 @@ impl Decoder {
     pub fn rest(&self) -> u32
         ensures kept { CountsKept self.now result }
         ensures few { result ≤ 524287 }
+        ensures after { KeepsAfterStop self.now result }
+        ensures skipped { KeepsNoBody self.now result }
+        ensures damaged { KeepsNoDamage self.now result }
     {
         match &self.format {
             Some(decoder) => decoder.rest(),

@@ -1,6 +1,6 @@
 -- Laws of captures: frames grow, damage stays, and what each frame has.
 use Rattle.std.proofs.Common.{◌≡◌, ℕ, zero, suc, ◌+◌, ◌-◌, ◌*◌, ◌≤◌, ◌<◌, List, [], ◌∷◌, ◌++◌, length, take, drop, refl, sym, ap, subst, ◌∙◌, arith, zero-add}
-use Rattle.std.specs.Prelude.{slice_get, Option, None, Some, IsSome, IfSome}
+use Rattle.std.specs.Prelude.{true, slice_get, Option, None, Some, IsSome, IfSome}
 use Rattle.std.specs.List.{sum_by}
 use Rattle.std.proofs.lemmas.Bool.{lt-ltb}
 use Rattle.std.proofs.lemmas.List.{append-nil, length-append, length-drop, length-take}
@@ -12,18 +12,21 @@ use Rattle.pcapng_blocks.specs.declared.heads.Head.{Head}
 use Rattle.pcapng_blocks.specs.declared.bodies.Captured.{Captured}
 use Rattle.pcapng_blocks.specs.declared.bodies.Meaning.{Meaning}
 use Rattle.pcapng_blocks.specs.declared.bodies.Meaning.TheVariants as meanings
+use Rattle.pcapng_blocks.specs.declared.heads.Look.{Look}
+use Rattle.pcapng_blocks.specs.declared.heads.Look.TheVariants as looks
 use Rattle.pcapng_blocks.specs.declared.stage.Stage.{Stage}
 use Rattle.pcapng_blocks.specs.declared.stage.Stage.TheVariants as stages
 use Rattle.pcapng_blocks.specs.Bodies.{frame_of, frames_in, IsWithin}
 use Rattle.pcapng_blocks.specs.Blocks.{Spot, Reached, spot_after, split_from}
-use Rattle.pcapng_blocks.specs.Capture.{counted, origin, reached_in, frames_of, stop_of, damage_of, end_of}
-use Rattle.pcapng_blocks.specs.Reading.{rest_in}
+use Rattle.pcapng_blocks.specs.Heads.{look_at}
+use Rattle.pcapng_blocks.specs.Capture.{counted, origin, reached_in, frames_of, stop_of, skips, is_skipping, damage_of, end_of}
+use Rattle.pcapng_blocks.specs.Reading.{waiting, rest_in}
 use Rattle.pcapng_blocks.specs.Decoding.{stage_of, kept_of}
 use Rattle.pcapng_blocks.specs.Laws.{IsPacketFrame}
 use Rattle.pcapng_blocks.proofs.Told.{IsCapturedPacket, IsPacket}
-use Rattle.pcapng_blocks.proofs.FrontBlocks.{front_block}
+use Rattle.pcapng_blocks.proofs.FrontBlocks.{front_block, part_short}
 use Rattle.pcapng_blocks.proofs.Splits.{by_blocks, stop_after, Accounts, accounts, split_frames}
-use Rattle.pcapng_blocks.proofs.Settling.{failed, large, fine, stage_is, reached-append, reached_alike, reached_beyond, damage_fault, frames_fault}
+use Rattle.pcapng_blocks.proofs.Settling.{failed, large, fine, stage_is, front_fine, reached-append, reached_alike, reached_beyond, damage_fault, frames_fault}
 
 -- ---- frames grow, and damage stays
 
@@ -208,3 +211,32 @@ rest_few (stages.Damaged error) left = omega arith
 
 pub kept_few : (bytes : List ℕ) → stop_of bytes + length (kept_of bytes) ≤ length bytes
 kept_few bytes = omega (arith, rest_few (stage_of bytes) (reached_in 0 bytes).left, (capture_accounts 0 bytes).stop, length-take 33554432 bytes)
+
+-- of a block that is skipped no more than three bytes of its tail are there, else it is whole
+skipped_few : (bytes : List ℕ) (look : Look) → (reached_in 0 bytes).fault ≡ None
+    → look_at (reached_in 0 bytes).spot.order (reached_in 0 bytes).spot.stop (reached_in 0 bytes).left ≡ look → skips look ≡ true
+    → length (rest_in (waiting look (reached_in 0 bytes).left) (reached_in 0 bytes).left) ≤ 3
+skipped_few bytes looks.Short e at skip = absurd cc
+skipped_few bytes (looks.Bad error) e at skip = absurd cc
+skipped_few bytes (looks.Headed head) e at skip =
+    let r = reached_in 0 bytes in
+    let less = part_short r.spot.order r.spot.interfaces r.spot.stop r.left head at (front_fine bytes e) in
+    rw skip (omega (arith, less, length-drop (head.total - 4) r.left))
+
+pub kept_damaged : (bytes : List ℕ) → IsSome (damage_of bytes) → length (kept_of bytes) ≡ 0
+kept_damaged bytes damage =
+    elim (stage_is bytes) [
+      | failed error e at told ↦ rw at refl
+      | large e beyond at told ↦ rw at refl
+      | fine e few at told ↦ let no = rw told at damage in absurd cc
+    ]
+
+pub kept_skipping : (bytes : List ℕ) → is_skipping bytes ≡ true → length (kept_of bytes) ≤ 3
+kept_skipping bytes skip =
+    let r = reached_in 0 bytes in
+    let look = look_at r.spot.order r.spot.stop r.left in
+    elim (stage_is bytes) [
+      | failed error e at told ↦ rw at (omega arith)
+      | large e beyond at told ↦ rw at (omega arith)
+      | fine e few at told ↦ rw at (skipped_few bytes look e refl skip)
+    ]

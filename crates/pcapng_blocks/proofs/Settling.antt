@@ -240,7 +240,8 @@ left_beyond fed piece within =
       | inr less ↦ rw (le-ltb _ _ less, le-ltb 33554432 (length (fed ++ piece)) (omega arith)) refl
     ]
 
-front_fine : (bytes : List ℕ) → (reached_in 0 bytes).fault ≡ None
+-- where no test fails the split stops at a part of a block
+pub front_fine : (bytes : List ℕ) → (reached_in 0 bytes).fault ≡ None
     → front_of (reached_in 0 bytes).spot.order (reached_in 0 bytes).spot.interfaces (reached_in 0 bytes).spot.stop (reached_in 0 bytes).left ≡ Part
 unfolding reached_in
 front_fine bytes e = let h = (accounts 0 origin [] (counted bytes)).ends in rw e at h

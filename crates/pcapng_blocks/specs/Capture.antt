@@ -1,10 +1,13 @@
 -- What a pcapng capture says, over the whole list of its bytes, which begins with a section header.
-use Rattle.std.specs.Prelude.{ℕ, nat_lt, if◌then◌else◌, List, [], length, take, Option, None, Some}
+use Rattle.std.specs.Prelude.{ℕ, Bool, false, nat_lt, if◌then◌else◌, List, [], length, take, Option, None, Some}
 use Rattle.std.specs.Option.{option_or}
 use Rattle.frame_view.specs.declared.frames.Frame.{Frame}
 use Rattle.pcapng_blocks.specs.declared.byte_order.Order.TheVariants.{Little}
 use Rattle.pcapng_blocks.specs.declared.error.BlockError.{BlockError}
 use Rattle.pcapng_blocks.specs.declared.error.BlockError.TheVariants.{TooLarge, Truncated}
+use Rattle.pcapng_blocks.specs.declared.heads.Look.{Look}
+use Rattle.pcapng_blocks.specs.declared.heads.Look.TheVariants as looks
+use Rattle.pcapng_blocks.specs.Heads.{look_at, is_skipped}
 use Rattle.pcapng_blocks.specs.Blocks.{Spot, Reached, split_from}
 
 -- the bytes that count: no more than the first 33,554,432
@@ -26,6 +29,15 @@ frames_of cpu bytes = (reached_in cpu bytes).frames
 -- the place after the last block that was read
 abbrev pub stop_of : List ℕ → ℕ
 stop_of bytes = (reached_in 0 bytes).spot.stop
+
+abbrev pub skips : Look → Bool
+skips looks.Short = false
+skips (looks.Bad error) = false
+skips (looks.Headed head) = is_skipped head.kind
+
+-- the bytes from the stop on are those of a block that is skipped, which is headed there
+abbrev pub is_skipping : List ℕ → Bool
+is_skipping bytes = skips (look_at (reached_in 0 bytes).spot.order (reached_in 0 bytes).spot.stop (reached_in 0 bytes).left)
 
 abbrev pub too_large : List ℕ → Option BlockError
 too_large bytes = if nat_lt 33554432 (length bytes) then Some TooLarge else None

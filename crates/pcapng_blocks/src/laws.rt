@@ -1,8 +1,8 @@
 //! Laws of pcapng captures, for callers: each function does nothing, and its contract is the law.
-ghost use Rattle.std.specs.Prelude.{◌≡◌, ◌≢◌, ℕ, ◌+◌, ◌*◌, ◌<◌, ◌≤◌, List, ◌++◌, length, slice_get, All, Some, IsSome, IfSome};
+ghost use Rattle.std.specs.Prelude.{◌≡◌, ◌≢◌, ℕ, ◌+◌, ◌*◌, ◌<◌, ◌≤◌, List, ◌++◌, length, slice_get, All, Some, IsTrue, IsSome, IfSome};
 ghost use Rattle.std.specs.List.{sum_by};
 ghost use Rattle.frame_view.specs.declared.frames.Frame.{Frame};
-ghost use Rattle.pcapng_blocks.specs.Capture.{counted, frames_of, damage_of, stop_of, end_of};
+ghost use Rattle.pcapng_blocks.specs.Capture.{counted, frames_of, damage_of, stop_of, end_of, is_skipping};
 ghost use Rattle.pcapng_blocks.specs.Numbers.{number_at};
 ghost use Rattle.pcapng_blocks.specs.declared.byte_order.Order.TheVariants.{Little};
 ghost use Rattle.pcapng_blocks.specs.Decoding.{kept_of};
@@ -53,9 +53,12 @@ pub fn frames_are_few()
     ensures stop { (fed : List ℕ) → stop_of fed ≤ length fed }
 {}
 
-/// What is kept of a capture is no more than its bytes after the stop.
+/// What is kept of a capture is no more than its bytes from the stop on; in a block that is skipped it is at most 3
+/// bytes, and after damage none.
 pub fn few_bytes_are_kept()
-    ensures { (fed : List ℕ) → stop_of fed + length (kept_of fed) ≤ length fed }
+    ensures after { (fed : List ℕ) → stop_of fed + length (kept_of fed) ≤ length fed }
+    ensures skipped { (fed : List ℕ) → IsTrue (is_skipping fed) → length (kept_of fed) ≤ 3 }
+    ensures damaged { (fed : List ℕ) → IsSome (damage_of fed) → length (kept_of fed) ≡ 0 }
 {}
 
 /// The numbers of each frame of a list of bytes are those of 32 bits.
