@@ -1,0 +1,128 @@
+#!/usr/bin/env python3
+"""Times `ringtap capture` of CPUs that share members, on the machine as it is and while other processes keep all processors busy.
+
+    bench/busy.py [--runs 5] [--beside OTHER] [PROGRAM]
+
+PROGRAM is crates/ringtap/out/ringtap where none is named. The captures have frames of 60 bytes, 4 MiB for each CPU, and rings that keep all
+frames. Of each row all runs are made by turns: a replay with an empty schedule, the capture, and with --beside the capture by another
+program, as an earlier one. First nothing of this script runs beside them, then as many processes that never rest as there are processors.
+The least and the middle time are printed, and how many times the middle replay each middle capture takes.
+
+A run is ended after 20 seconds, and a program that was ended twice in a row isn't tried again in that row, so all takes at most some
+minutes. Files are written below bench/work. It ends with status 1 where PROGRAM was ended, or where beside the busy processes
+a capture takes more than 5 times as long as the replay, by the middle.
+"""
+import argparse
+import contextlib
+import math
+import os
+import shutil
+import statistics
+import subprocess
+import sys
+import threading
+import time
+
+import run
+
+LIMIT = 20
+MOST = 5
+# The name, the number of CPUs and the group of each row.
+ROWS = [
+    ("8 CPUs, one member", 8, ""),
+    ("4 CPUs, one member", 4, ""),
+    ("4 CPUs, four members by hash", 4, run.SHARED["hash of four"](4)),
+    ("4 CPUs, a member each", 4, run.SHARED[run.EACH](4)),
+]
+
+
+@contextlib.contextmanager
+def busy_processes(count):
+    """So many processes that never rest."""
+    beside = [subprocess.Popen([sys.executable, "-c", "while True: pass"]) for _ in range(count)]
+    try:
+        yield
+    finally:
+        for process in beside:
+            process.kill()
+            process.wait()
+
+
+def time_of(words):
+    """Seconds of a run, or infinity where it was ended. One that fails ends the benchmark."""
+    run.remove_outputs(words)
+    start = time.monotonic()
+    process = subprocess.Popen(words, stdout=subprocess.DEVNULL, stderr=subprocess.DEVNULL)
+    timer = threading.Timer(LIMIT, process.kill)
+    timer.start()
+    status = process.wait()
+    taken = time.monotonic() - start
+    timer.cancel()
+    if taken < LIMIT and status:
+        sys.exit(f"{' '.join(words)} ended with status {status}")
+    return taken if taken < LIMIT else math.inf
+
+
+def times_of_row(runs, count):
+    """The times of each run, by turns."""
+    times = {name: [] for name in runs}
+    for _ in range(count):
+        for name, words in runs.items():
+            if times[name][-2:] != [math.inf, math.inf]:
+                times[name].append(time_of(words))
+    return times
+
+
+def shown(seconds):
+    return f"more than {LIMIT}" if math.isinf(seconds) else f"{seconds:.3f}"
+
+
+def print_rows(runs, busy, asked):
+    """Prints the rows beside so many busy processes, and gives whether PROGRAM takes too long."""
+    too_long = False
+    for name, cpus, group in ROWS:
+        run.write_setup("conf", run.RINGS["keeps"], cpus, group)
+        with busy_processes(busy):
+            times = times_of_row(runs, asked.runs)
+        middle = {one: statistics.median(taken) for one, taken in times.items()}
+        cells = [cell for taken in times.values() for cell in (shown(min(taken)), shown(statistics.median(taken)))]
+        cells += [f"{middle[one] / middle['replay']:.2f}" if middle[one] < math.inf else "-" for one in runs if one != "replay"]
+        most = MOST if busy else math.inf
+        too_long = too_long or math.isinf(middle["capture"]) or middle["capture"] > most * middle["replay"]
+        print(f"| {name} | {busy} | " + " | ".join(cells) + " |", flush=True)
+    return too_long
+
+
+def asked_for():
+    """What the command line asks for."""
+    words = argparse.ArgumentParser(description=__doc__, formatter_class=argparse.RawDescriptionHelpFormatter)
+    words.add_argument("--runs", type=int, default=5)
+    words.add_argument("--beside", type=os.path.abspath)
+    words.add_argument("program", nargs="?", default=run.PROGRAM, type=os.path.abspath)
+    return words.parse_args()
+
+
+def main():
+    asked = asked_for()
+    cores = len(os.sched_getaffinity(0)) if hasattr(os, "sched_getaffinity") else os.cpu_count()
+    runs = {"replay": [asked.program, *run.COMMANDS["replay"]], "capture": [asked.program, *run.COMMANDS["capture"]]}
+    if asked.beside:
+        runs["other"] = [asked.beside, *run.COMMANDS["capture"]]
+    heads = [cell for one in runs for cell in (f"{one.capitalize()}, s", "middle")]
+    heads += [f"{one.capitalize()}, times" for one in runs if one != "replay"]
+    os.makedirs(run.WORK, exist_ok=True)
+    try:
+        os.chdir(run.WORK)
+        open("sched", "wb").close()
+        run.make_small_flows("in.pcap", 4 * run.MIB)
+        print(f"{cores} processors, load {os.getloadavg()[0]:.1f} at the start\n")
+        print("| Group | Busy processes | " + " | ".join(heads) + " |\n|" + "---|" * (len(heads) + 2))
+        too_long = [print_rows(runs, busy, asked) for busy in (0, cores)]
+    finally:
+        os.chdir(run.TOP)
+        shutil.rmtree(run.WORK)
+    sys.exit(1 if any(too_long) else 0)
+
+
+if __name__ == "__main__":
+    main()
