@@ -6,6 +6,7 @@
 Sums stand beside the tests: a frame of 60 bytes takes 144 bytes of a block, of which one of 4096 bytes has 4048 for packets, so 28 frames.
 """
 import csv
+import gzip
 import os
 import re
 import socket
@@ -268,61 +269,6 @@ def test_live_ring():
            ["block_size 8192", "block_nr 4", "frame_size 2048", "frame_nr 16", "tov 70", "features 0"])
 
 
-def test_run():
-    """Lines and statuses are the program's, and files land in a new folder."""
-    lines, _, _ = answer([program, "replay", "many.txt", "none.sched"])
-    kept = (room / "out.0.pcap").read_bytes()
-    (room / "out.0.pcap").unlink()
-    said = "ringtap: status 0: done; outputs are in run-1\n"
-    expect("run", with_program("run.py", "replay", "many.txt", "none.sched"), (lines, said, 0))
-    expect("its files", sorted(path.name for path in (room / "run-1").iterdir()), ["lines.txt", "out.0.pcap", "setup.txt"])
-    expect("its output", (room / "run-1" / "out.0.pcap").read_bytes() == kept, True)
-    expect("its lines", (room / "run-1" / "lines.txt").read_text(), lines)
-    expect("nothing beside", (room / "out.0.pcap").exists(), False)
-    expect("the next", with_program("run.py", "replay", "many.txt", "none.sched")[1], "ringtap: status 0: done; outputs are in run-2\n")
-    expect("not twice", with_program("run.py", "replay", "many.txt", "none.sched", "--into", "run-1"),
-           ("", "run.py: run-1: is there already; outputs go into a new folder\n", 1))
-    expect("here", with_program("run.py", "replay", "many.txt", "none.sched", "--here"), (lines, "ringtap: status 0: done\n", 0))
-    expect("check", with_program("run.py", "check", "many.txt"), ("ok\n", "ringtap: status 0: done\n", 0))
-
-
-def test_statuses():
-    """A status and its words, of each that can be had, and the line that a fault has in the setup as it stands."""
-    capture("cut.pcap", [(0, frame(0))], b"\0\0")
-    text("wrong.txt", BLOCK + "out a\ncpu many.pcap\nblok 3\n")
-    text("cut.txt", BLOCK + "cpu cut.pcap\n")
-    text("gone.txt", BLOCK + "cpu gone.pcap\n")
-    text("wrong.sched", "feed 0\nfeed 1\n")
-    # A record of no frame at all is cut at its own begin, after the header and one record of 16 and 60 bytes.
-    cases = [
-        (["play", "many.txt"], 1, "usage: ", "the words are no command"),
-        (["replay", "wrong.txt", "none.sched"], 2, "setup line 7: unknown_word\n", "the setup is refused"),
-        (["replay", "many.txt", "wrong.sched"], 3, "schedule line 2: no_such_cpu\n", "a filter, moments or a schedule is refused"),
-        (["replay", "cut.txt", "none.sched"], 4, "cpu 0 frames 1 arrivals 1 end truncated 100\n",
-         "a capture is damaged or cut; what precedes that was run and saved; outputs are in status-4"),
-        (["replay", "gone.txt", "none.sched"], 5, "cpu 0 frames 0 arrivals 0 end fault\n",
-         "a file couldn't be read; what was read before that was run and saved; outputs are in status-5"),
-    ]
-    for words, status, begin, said in cases:
-        given = with_program("run.py", *words, "--into", f"status-{status}")
-        expect(f"status {status}", (given[0][: len(begin)], given[1:]), (begin, (f"ringtap: status {status}: {said}\n", status)))
-        expect(f"folder of status {status}", (room / f"status-{status}").exists(), status in (4, 5))
-
-
-def test_clash():
-    """An output that is an input, by its name or by a link, is refused, and the input stays."""
-    capture("in.0.pcap", [(0, frame(0))])
-    before = (room / "in.0.pcap").read_bytes()
-    setup = text("clash.txt", BLOCK + "cpu in.0.pcap\nout in\n")
-    said = "run.py: clash.txt: the output in.0.pcap would take the place of the input in.0.pcap: choose another `out`\n"
-    expect("a clash", with_program("run.py", "replay", setup, "none.sched", "--here"), ("", said, 1))
-    (room / "alias.0.pcap").symlink_to("in.0.pcap")
-    setup = text("alias.txt", BLOCK + "cpu in.0.pcap\nout alias\n")
-    said = "run.py: alias.txt: the output alias.0.pcap would take the place of the input in.0.pcap: choose another `out`\n"
-    expect("a link", with_program("run.py", "replay", setup, "none.sched", "--here"), ("", said, 1))
-    expect("the input stays", (room / "in.0.pcap").read_bytes() == before, True)
-
-
 def test_sentences():
     """What is wrong with an input is said with its file and its place."""
     (room / "next.pcap").write_bytes(b"\x0a\x0d\x0d\x0a" + bytes(40))
@@ -391,6 +337,9 @@ def test_examples():
     (here / "checks").symlink_to(TOP / "checks")
     (here / "in.0.pcap").write_bytes((TOP / "demo" / "lo.pcap").read_bytes())
     (here / "clash.txt").write_text(BLOCK + "cpu in.0.pcap\nout in\n")
+    (here / "cluster.txt").write_text(BLOCK + "cpu in.0.pcap\nmode cluster_flow\n")
+    (here / "packed.txt").write_text(BLOCK + "cpu lo.pcap.gz\n")
+    (here / "lo.pcap.gz").write_bytes(gzip.compress((TOP / "demo" / "lo.pcap").read_bytes()))
     for words, wanted in examples(TOP / "docs" / "tools.md"):
         what = " ".join(words)
         if words[0] == "python3":

@@ -12,41 +12,11 @@ from pathlib import Path
 
 sys.path.insert(0, str(Path(__file__).resolve().parent))  # which `python3 -I` leaves out
 
-from ringtap_files import Fault, read_bytes, run_main
+from ringtap_documents import TOP, table_with
+from ringtap_files import read_bytes, run_main
 from ringtap_outputs import write_text
 
-TOP = Path(__file__).resolve().parent.parent
 PAGE, COMPLETION = TOP / "docs" / "ringtap.1", TOP / "tools" / "ringtap.bash"
-FIRST = ("docs/reference.md", "README.md")  # where a table is looked for before other documents
-
-Rows = list[dict[str, str]]
-
-
-def documents() -> list[Path]:
-    named = [TOP / name for name in FIRST]
-    others = sorted(path for path in (TOP / "docs").glob("*.md") if path not in named)
-    return [path for path in [*named, *others] if path.is_file()]
-
-
-def cells_of(line: str) -> list[str]:
-    """The cells of a line of a table; a `\\|` is no border."""
-    return [cell.strip().replace("\\|", "|") for cell in re.split(r"(?<!\\)\|", line.strip())[1:-1]]
-
-
-def table_with(columns: set[str]) -> Rows:
-    """The first table of the documents that has all of these columns."""
-    for path in documents():
-        lines = read_bytes(path).decode().splitlines()
-        for at, line in enumerate(lines[:-1]):
-            heads = cells_of(line)
-            if columns <= set(heads) and lines[at + 1].startswith("|--"):
-                rows = []
-                for row in lines[at + 2 :]:
-                    if not row.startswith("|"):
-                        break
-                    rows.append(dict(zip(heads, cells_of(row))))
-                return rows
-    raise Fault(f"no document has a table with the columns {', '.join(sorted(columns))}")
 
 
 def roff(text: str) -> str:

@@ -15,6 +15,7 @@ from typing import Callable, TextIO
 LARGEST_TEXT = 1_048_576  # bytes of a setup or a schedule
 LARGEST_NAME = 255  # bytes of a name in a setup
 LARGEST_NUMBER = 4_294_967_295
+MOST_MEMBERS = 8
 MODES = ("hash", "lb", "cpu", "rollover", "qm")
 NANOSECONDS = 1_000_000_000
 
@@ -112,7 +113,7 @@ class Setup:
         names = iter(captures or [])
         made = []
         for text in self.lines:
-            word, *values = text.split() or ["#"]
+            word, *values = words_of(text) or ["#"]
             if word == "cpu" and captures:
                 text = " ".join(["cpu", next(names), *values[1:]])
             elif word in changes:
@@ -121,6 +122,11 @@ class Setup:
             made.append(text)
         made += [f"{word} {value}" for word, value in left.items() if value is not None]
         return "\n".join(made) + "\n"
+
+
+def words_of(line: str) -> list[str]:
+    """The words of a line of a text: they stand between spaces and tabs, and other blanks are no blanks there."""
+    return [word for word in line.replace("\t", " ").split(" ") if word]
 
 
 def number_of(text: str) -> int | None:
@@ -140,7 +146,7 @@ def read_setup(path: Path) -> Setup:
         lines.pop()
     setup = Setup(path, [line.removesuffix("\r") for line in lines])
     for number, line in enumerate(setup.lines, 1):
-        word, *values = line.split() or ["#"]
+        word, *values = words_of(line) or ["#"]
         if word == "cpu":
             setup.cpus.append(cpu_line(path, number, values, len(setup.cpus)))
         elif word == "flag":
@@ -166,4 +172,4 @@ def output_names(setup: Setup, command: str) -> list[str]:
     if command == "send":
         return [f"{prefix}.tx.pcap"]
     kinds = ["pcap"] + ["blk"] * ("dump" in setup.values) + ["tx.pcap"] * (command == "forward")
-    return [f"{prefix}.{member}.{kind}" for member in range(setup.number("members", 1)) for kind in kinds]
+    return [f"{prefix}.{member}.{kind}" for member in range(min(setup.number("members", 1), MOST_MEMBERS)) for kind in kinds]
