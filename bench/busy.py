@@ -36,10 +36,14 @@ ROWS = [
 ]
 
 
+# Never rests, and ends by itself once this script is gone, however that ended.
+BUSY = "import os, sys\nparent = int(sys.argv[1])\nwhile os.getppid() == parent: pass"
+
+
 @contextlib.contextmanager
 def busy_processes(count):
     """So many processes that never rest."""
-    beside = [subprocess.Popen([sys.executable, "-c", "while True: pass"]) for _ in range(count)]
+    beside = [subprocess.Popen([sys.executable, "-c", BUSY, str(os.getpid())]) for _ in range(count)]
     try:
         yield
     finally:
