@@ -343,7 +343,7 @@ def test_examples():
     for words, wanted in examples(TOP / "docs" / "tools.md"):
         what = " ".join(words)
         if words[0] == "python3":
-            has_program = words[1] in ("tools/ring_size.py", "tools/lost.py", "tools/run.py")
+            has_program = words[1] in ("tools/ring_size.py", "tools/lost.py", "tools/timeline.py", "tools/run.py")
             words = [sys.executable, "-B", TOP / words[1], *words[2:], *["--program", program] * has_program]
         printed, said, status = answer(words, here)
         given = (printed + said).rstrip("\n") if isinstance(status, int) else status

@@ -11,7 +11,7 @@ from dataclasses import dataclass, field
 from pathlib import Path
 
 from ringtap_captures import CaptureStream, copy_unpacked, is_plain
-from ringtap_files import Fault, Setup
+from ringtap_files import LARGEST_TEXT, Fault, Setup
 from ringtap_outputs import write_text
 
 HERE = Path(__file__).resolve().parent
@@ -160,6 +160,17 @@ class Room:
             raise Fault(f"{where}: {path} isn't a file that can be read")
         (self.folder / name).symlink_to(path.resolve())
         return name
+
+    def text(self, word: str, path: Path) -> str:
+        """Gives a text a short name here, whatever it comes from: a file, a device, a pipe, or with `-` standard input."""
+        source = Path("/dev/stdin") if str(path) == "-" else path
+        self.texts[word] = path
+        try:
+            with open(source, "rb") as given:
+                (self.folder / word).write_bytes(given.read(LARGEST_TEXT + 1))
+        except OSError as error:
+            raise Fault(f"{path}: can't be read: {error.strerror}") from None
+        return word
 
     def write_setup(self, name: str, changes: dict[str, str | None]) -> None:
         """Writes the setup with other values, and with the names that stand here."""

@@ -1,0 +1,107 @@
+"""Draws how many blocks a reader has over time, a panel for each member, as SVG."""
+from __future__ import annotations
+
+from dataclasses import dataclass
+from html import escape
+
+
+WIDTH, LEFT, RIGHT, TOP, BOTTOM = 860, 80, 30, 80, 56
+PANEL, GAP = 130, 34  # height of a panel, and what is left between two
+INK, GRID, FILL, LINE, FULL = "#222222", "#dddddd", "#bfdcec", "#0072b2", "#d55e00"
+NANOSECONDS = 1_000_000_000
+
+
+@dataclass
+class Frozen:
+    """A stretch of time in which a ring was frozen, and how many packets were dropped in it."""
+
+    start: int
+    stop: int = 0
+    drops: int = 0
+
+
+@dataclass
+class Panel:
+    """What a member's reader had: blocks from each moment on, of so many in the ring."""
+
+    name: str
+    count: int
+    most: int
+    steps: list[tuple[int, int]]  # nanoseconds, and blocks from then on
+    frozen: list[Frozen]
+
+
+def text(x: float, y: float, words: str, anchor: str = "middle", size: int = 12, color: str = INK) -> str:
+    return f'<text x="{x:.1f}" y="{y:.1f}" text-anchor="{anchor}" font-size="{size}" fill="{color}">{escape(words)}</text>'
+
+
+def line(x1: float, y1: float, x2: float, y2: float, color: str, more: str = "") -> str:
+    return f'<line x1="{x1:.1f}" y1="{y1:.1f}" x2="{x2:.1f}" y2="{y2:.1f}" stroke="{color}"{more}/>'
+
+
+def seconds(time: float) -> str:
+    return f"{time / NANOSECONDS:.9f}".rstrip("0").rstrip(".")
+
+
+def steps_chart(title: str, x_label: str, end: int, panels: list[Panel]) -> str:
+    """The panels below one another, over one axis of time."""
+    height = TOP + len(panels) * (PANEL + GAP) - GAP + BOTTOM
+    end = max(end, 1)
+
+    def place(time: int) -> float:
+        return LEFT + (WIDTH - LEFT - RIGHT) * time / end
+
+    parts = [text(WIDTH / 2, 24, title, size=15), text(WIDTH / 2, height - 12, x_label)]
+    parts += [text(WIDTH / 2, 44, "dashed: all blocks of the ring; red: frozen, with the packets that were dropped", size=11)]
+    for at, panel in enumerate(panels):
+        parts += panel_parts(panel, TOP + at * (PANEL + GAP), place, end)
+    step = round_step(end)
+    for time in range(0, end + 1, step):
+        parts.append(text(place(time), height - BOTTOM + 18, seconds(time), size=11))
+    body = "\n".join(parts)
+    return (
+        f'<svg xmlns="http://www.w3.org/2000/svg" width="{WIDTH}" height="{height}" viewBox="0 0 {WIDTH} {height}"'
+        f' font-family="DejaVu Sans, Helvetica, Arial, sans-serif">\n<rect width="{WIDTH}" height="{height}" fill="white"/>\n{body}\n</svg>\n'
+    )
+
+
+def round_step(highest: int) -> int:
+    """A step of 1, 2 or 5 times a power of ten that goes about five times into a number."""
+    power = 1
+    while power * 10 <= highest / 5:
+        power *= 10
+    return next(many * power for many in (1, 2, 5, 10) if many * power >= highest / 5)
+
+
+def panel_parts(panel: Panel, top: float, place, end: int) -> list[str]:
+    base = top + PANEL
+    highest = panel.count
+
+    def y(blocks: float) -> float:
+        return base - PANEL * blocks / highest
+
+    parts = [text(LEFT, top - 6, f"{panel.name}: at most {panel.most} of {panel.count} blocks", "start")]
+    step = round_step(highest)
+    for blocks in range(0, highest + 1, step):
+        parts += [line(LEFT, y(blocks), WIDTH - RIGHT, y(blocks), GRID), text(LEFT - 8, y(blocks) + 4, str(blocks), "end", 11)]
+    parts.append(area_of(panel, place, y, end))
+    for one in panel.frozen:
+        width = max(place(one.stop) - place(one.start), 1.5)
+        told = f"{panel.name}: frozen from {seconds(one.start)} to {seconds(one.stop)} s, {one.drops:,} dropped"
+        parts.append(f'<rect x="{place(one.start):.1f}" y="{top:.1f}" width="{width:.1f}" height="{PANEL}" fill="{FULL}" fill-opacity="0.5">'
+                     f"<title>{escape(told)}</title></rect>")
+    parts.append(line(LEFT, top, WIDTH - RIGHT, top, FULL, ' stroke-dasharray="6 4"'))
+    parts.append(line(LEFT, base, WIDTH - RIGHT, base, INK))
+    return parts
+
+
+def area_of(panel: Panel, place, y, end: int) -> str:
+    """The steps as an area with a line on it."""
+    points, has = [(place(0), y(0))], 0
+    for time, blocks in panel.steps:
+        points += [(place(time), y(has)), (place(time), y(blocks))]
+        has = blocks
+    points += [(place(end), y(has)), (place(end), y(0))]
+    shown = " ".join(f"{x:.1f},{at:.1f}" for x, at in points)
+    told = f"{panel.name}: at most {panel.most} of {panel.count} blocks"
+    return f'<polygon points="{shown}" fill="{FILL}" fill-opacity="0.8" stroke="{LINE}" stroke-width="1.5"><title>{escape(told)}</title></polygon>'
