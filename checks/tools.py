@@ -169,57 +169,6 @@ def titles(name):
     return [title.text for title in tree.iter("{http://www.w3.org/2000/svg}title")]
 
 
-def test_lost():
-    """Two blocks keep frames 0 to 55. In the demo frames 31 and 44 to 51 are lost, as docs/guide.md goes through it."""
-    text("none.sched", "")
-    printed, said, status = with_program("lost.py", "many.txt", "none.sched", "--bins", "2", "--picture", "lost.svg")
-    lines = printed.split("\n")
-    expect("lost frames", [line.split()[:2] for line in lines[1:45]], [["0", str(number)] for number in range(56, 100)])
-    expect("its time", lines[1].split()[2:], ["1000.000056000", "0.000056000", "60"])
-    expect("sums", (" ".join(lines[47].split()), said, status), ("0 100 100 0 56 44", "", 0))
-    # 100 microseconds in two: 50 frames in each, of which 6 more are kept.
-    expect("bins", [" ".join(line.split()[1:]) for line in lines[50:52]], ["50 0", "6 44"])
-    expect("lost.svg", [title.split(": ")[1] for title in titles("lost.svg")], ["50 kept", "6 kept", "44 lost"])
-    words = ["tools/lost.py", "demo/small.txt", "demo/schedule.txt", "--program", program]
-    printed, _, _ = answer([sys.executable, "-B", *words], TOP)
-    lost = [line.split()[:2] for line in printed.split("\n")[1:10]]
-    expect("lost of the demo", lost, [["0", str(number)] for number in [31, *range(44, 52)]])
-
-
-def test_lost_of_earlier():
-    """The outputs of a run on its own, with two CPUs, a filter and frames alike."""
-    # Keeps what has an even number in its eighteenth byte.
-    text("even.ddd", "4\n48 0 0 17\n69 1 0 1\n6 0 0 65535\n6 0 0 0\n")
-    setup = text("even.txt", BLOCK + "cpu many.pcap\ncpu many.pcap\nfilter even.ddd\nout even\n")
-    refuses_run = with_program("lost.py", setup)
-    expect("no outputs", refuses_run[1], "lost.py: even.0.pcap: isn't there: run ringtap first, or name a schedule, and the run is made here\n")
-    answer([program, "replay", setup, "none.sched"])
-    printed, said, status = with_program("lost.py", setup)
-    # CPU after CPU: the 50 even frames of CPU 0 and the first 6 of CPU 1 are kept, and none says of which CPU those six are.
-    lines = printed.split("\n")
-    expect("lost of two", [line.split()[:2] for line in lines[1:45]], [["1", str(number)] for number in range(12, 100, 2)])
-    expect("unsure", {line.split()[5:] == ["?"] for line in lines[1:45]}, {True})
-    sums = [" ".join(line.split()) for line in lines[47:49]]
-    expect("sums of two", (sums, said, status), (["0 100 100 50 50 0", "1 100 100 50 6 44"], "", 0))
-    capture("even.0.pcap", [(7, frame(99))])
-    expect("another run's", with_program("lost.py", setup)[1],
-           "lost.py: even.0.pcap, packet 0 from 0: is no frame of the captures that passes: is it of another run?\n")
-
-
-def test_lost_datagram():
-    """Two datagrams of two fragments each; a ring of blocks that one datagram fills, of which nobody reads one, loses the third."""
-    frames = []
-    for ident in range(3):
-        frames.append((10 * ident, datagram(ident, 0, False, bytes(2000))))
-        frames.append((10 * ident, datagram(ident, 2000, True, bytes(1500))))
-    capture("parts.pcap", frames)
-    setup = text("parts.txt", BLOCK + "cpu parts.pcap\nflag defrag\n")
-    printed, said, status = with_program("lost.py", setup, "none.sched")
-    lines = printed.split("\n")
-    expect("a lost datagram", (lines[1].split(), said, status), (["0", "5", "1000.000020000", "0.000020000", "3534"], "", 0))
-    expect("its sums", " ".join(lines[4].split()), "0 6 3 0 2 1")
-
-
 def ring_of(*words):
     return tool("ring_of.py", "x.pcap", "--from", TOP / "checks" / "packet_sockets.txt", *words)
 

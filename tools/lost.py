@@ -1,51 +1,61 @@
 #!/usr/bin/env python3
 """Says which frames of the captures were lost: they passed the filter and are in no output.
 
-With a schedule the setup is replayed, in a folder of its own. Without one the outputs of an earlier run are taken, from where the setup's
-line `out` has them. A second run, over rings that keep all, says which frames pass; with `flag defrag` a datagram has the number and
-the time of the frame that completed it. Where frames of the same time, length and bytes are kept and lost, no output says which
-of them is which: the last one counts as lost, and has a `?`.
+With a schedule, which may come through a pipe or with `-` from standard input, the setup is replayed in a folder of the tool's own. Without one
+the outputs of an earlier run are taken, from where the setup's line `out` has them. A second run, over rings that keep all, says which
+frames pass; with `flag defrag` a datagram has the number and the time of the frame that completed it.
+
+Frames count from 1, as Wireshark's do; with --first 0 as ringtap's. Of an earlier run's frames with the same time, length and bytes, of which some
+were kept, no output says which: the last ones count as lost, with a `?`.
 """
 from __future__ import annotations
 
-import argparse
+import hashlib
+import heapq
 import sys
 from collections import defaultdict
-from dataclasses import dataclass
+from dataclasses import asdict, dataclass
 from pathlib import Path
+from typing import Iterator
 
 sys.path.insert(0, str(Path(__file__).resolve().parent))  # which `python3 -I` leaves out
 
-from ringtap_captures import Capture, Frame, read_capture, read_captures
+from ringtap_arrivals import DESCRIPTOR, KEPT, PACKET_HEADER, PASSED, Frames, first_time, frame_of, numbered, outputs, passing
+from ringtap_captures import CaptureStream, CaptureWriter, Frame
 from ringtap_files import NANOSECONDS, Fault, Setup, output_names, read_setup, run_main
-from ringtap_outputs import check_outputs
+from ringtap_flows import VLAN_TYPES, Flow, flow_of, flow_words
+from ringtap_outputs import check_outputs, written
 from ringtap_runs import Report, Room, add_program, program_of, table
+from ringtap_words import ToolParser, add_json, print_json
 from svg_plot import Layer, bars_chart, save_picture
 
-PACKET_HEADER = 82  # bytes of a packet before its data, in a block
-LARGEST_BLOCK, ROOMY_BLOCKS = 1_048_576, 64
-DESCRIPTOR = 48
+SLOT_HEADER = 66  # bytes of a slot of TPACKET_V2 before its data
+UNSURE = 3  # the fate of a frame that is lost, or one that is like it
 KEPT_COLOR, LOST_COLOR = "#0072b2", "#d55e00"
-VLAN_TYPES = (b"\x81\x00", b"\x88\xa8")
+
+Key = tuple  # what a packet of an output has: a member or None, time, length, digest of its bytes
 
 
 @dataclass
-class Arrival:
-    """A frame, or the datagram that it completed, that passes the filter."""
+class Range:
+    """Frames of a CPU that were lost one after another: no frame between them was kept."""
 
     cpu: int
-    index: int  # of the frame in its capture
-    packet: Frame  # what a ring that keeps all gives
-    is_kept: bool = False
+    first: int
+    last: int
+    lost: int = 0
+    bytes: int = 0
+    start: int = 0  # nanoseconds from the first frame on
+    end: int = 0
     is_unsure: bool = False
 
 
 @dataclass
-class Run:
-    """What came out of a run: for each output its packets, and the printed lines where the run was made here."""
-
-    outputs: list[tuple[Path, list[Frame]]]
-    report: Report | None = None
+class FlowSums:
+    flow: str
+    kept: int = 0
+    lost: int = 0
+    bytes_lost: int = 0
 
 
 @dataclass
@@ -57,88 +67,29 @@ class Bin:
     lost: int = 0
 
 
-def require_room(captures: list[Capture]) -> None:
-    """A capture for which a ring of 64 blocks has no room, without a reader, is a fault."""
-    for capture in captures:
-        needs = sum(-(-(PACKET_HEADER + len(frame.data)) // 8) * 8 for frame in capture.frames)
-        largest = max((len(frame.data) for frame in capture.frames), default=0)
-        if needs > ROOMY_BLOCKS * (LARGEST_BLOCK - DESCRIPTOR - PACKET_HEADER - min(largest, LARGEST_BLOCK // 2)):
-            raise Fault(f"{capture.path}: its {len(capture.frames):,} frames are more than the largest ring has room for")
+# ---- what was kept
 
 
-def passing(room: Room, captures: list[Capture]) -> tuple[list[list[Frame]], Report]:
-    """What passes the filter, CPU by CPU, and what the program printed of it: a run with a member for each CPU, whose ring keeps all."""
-    require_room(captures)
-    roomy = {
-        "block_size": str(LARGEST_BLOCK), "block_nr": str(ROOMY_BLOCKS), "frame_size": "2048",
-        "frame_nr": str(LARGEST_BLOCK // 2048 * ROOMY_BLOCKS), "members": str(len(captures)), "mode": "cpu", "out": "all",
-        "priv": None, "tov": None, "dump": None,
-    }
-    room.write_setup("all.setup", roomy)
-    (room.folder / "all.schedule").touch()
-    report = room.replay("all.setup", "all.schedule")
-    if report.drops:
-        raise Fault(f"{room.setup.path}: the run over a ring with room for all dropped {report.drops} packets")
-    return [read_capture(room.folder / f"all.{cpu}.pcap").frames for cpu in range(len(captures))], report
+def mark_replay(room: Room, captures: list[Frames], schedule: str) -> None:
+    """Makes the run, whose packets say by their numbers which frames were kept, and compares with what the program printed."""
+    room.write_setup("setup", {"out": "out", "dump": None})
+    report = room.replay("setup", schedule)
+    for packet in outputs(room, "out", len(report.members)):
+        cpu, index = frame_of(packet.time)
+        captures[cpu].fates[index] = KEPT
+    kept = sum(frames.fates.count(KEPT) for frames in captures)
+    lost = sum(frames.fates.count(PASSED) for frames in captures)
+    if (report.drops, report.kept) != (lost, kept):
+        raise Fault(f"the program printed {report.drops} drops and {report.kept} kept, and {lost} frames are in no output, {kept} in one")
 
 
-def untagged(data: bytes) -> bytes:
-    return data[:12] + data[16:] if data[12:14] in VLAN_TYPES else data
-
-
-def datagram_of(data: bytes) -> bytes:
-    """What all fragments of an IPv4 datagram share: identification, protocol and addresses."""
-    return data[18:20] + data[23:24] + data[26:34]
-
-
-def is_fragment(data: bytes) -> bool:
-    return data[12:14] == b"\x08\x00" and len(data) >= 34 and int.from_bytes(data[20:22], "big") & 0x3FFF != 0
-
-
-def arrivals_of(cpu: int, capture: Capture, packets: list[Frame], is_defrag: bool) -> list[Arrival]:
-    """Finds the frame of each packet, in the order of both. It goes from the last one to the first, so that of fragments with one
-    time the last is found, which completed the datagram."""
-    arrivals, frames, place = [], capture.frames, len(capture.frames)
-    for packet in reversed(packets):
-        place -= 1
-        while place >= 0 and not comes_from(packet, frames[place], is_defrag):
-            place -= 1
-        if place < 0:
-            raise Fault(f"{capture.path}: has no frame for a packet that the program made of it")
-        arrivals.append(Arrival(cpu, frames[place].index, packet))
-    return arrivals[::-1]
-
-
-def comes_from(packet: Frame, frame: Frame, is_defrag: bool) -> bool:
-    """Whether a packet may be a frame or, where fragments are put together, a datagram that the frame completed."""
-    if packet.time != frame.time:
-        return False
-    if packet.wire == frame.wire and frame.data.startswith(packet.data):
-        return True
-    whole, part = untagged(packet.data), untagged(frame.data)
-    if not is_defrag or not is_fragment(part) or is_fragment(whole):
-        return False
-    # The filter may have kept too few bytes to tell.
-    return len(whole) < 34 or datagram_of(whole) == datagram_of(part)
-
-
-def earlier_outputs(setup: Setup) -> Run:
+def earlier_outputs(setup: Setup) -> list[Path]:
     """What an earlier run saved."""
     paths = [Path(name) for name in output_names(setup, "replay") if name.endswith(".pcap")]
     for path in paths:
         if not path.is_file():
             raise Fault(f"{path}: isn't there: run ringtap first, or name a schedule, and the run is made here")
-    return Run([(path, read_capture(path).frames) for path in paths])
-
-
-def replay_now(room: Room, schedule: Path) -> Run:
-    """Makes the run that the setup and a schedule ask for."""
-    name = room.link(str(schedule), schedule, "schedule")
-    room.texts["schedule"] = schedule
-    room.write_setup("setup", {"out": "out", "dump": None})
-    report = room.replay("setup", name)
-    paths = [room.folder / f"out.{member}.pcap" for member in range(len(report.members))]
-    return Run([(path, read_capture(path).frames) for path in paths], report)
+    return paths
 
 
 def home_of(setup: Setup, cpu: int, members: int) -> int | None:
@@ -148,40 +99,126 @@ def home_of(setup: Setup, cpu: int, members: int) -> int | None:
     return (cpu if setup.word("mode", "cpu") == "cpu" else setup.cpus[cpu].queue) % members
 
 
-def mark_kept(setup: Setup, arrivals: list[Arrival], run: Run) -> None:
-    """Finds an arrival for each packet of the outputs."""
-    waiting: dict[tuple[int, int], list[Arrival]] = defaultdict(list)
-    for arrival in arrivals:
-        waiting[arrival.packet.time, arrival.packet.wire].append(arrival)
-    for member, (path, packets) in enumerate(run.outputs):
-        for packet in packets:
-            alike = waiting[packet.time, packet.wire]
-            mine = [one for one in alike if home_of(setup, one.cpu, len(run.outputs)) in (None, member)]
-            fitting = [one for one in mine if one.packet.data.startswith(packet.data)]
-            found = next((one for one in fitting if not one.is_kept), None)
-            if found is None:
-                raise Fault(f"{path}, packet {packet.index} from 0: is no frame of the captures that passes: is it of another run?")
-            found.is_kept = True
-            for other in fitting:
-                other.is_unsure = True
+def digest(data: bytes) -> bytes:
+    return hashlib.blake2b(data, digest_size=16).digest()
 
 
-def compared(arrivals: list[Arrival], run: Run) -> None:
-    """Tests the counts against those that the program printed."""
-    lost = sum(not arrival.is_kept for arrival in arrivals)
-    if run.report and (run.report.drops, run.report.kept) != (lost, len(arrivals) - lost):
-        raise Fault(f"the program printed {run.report.drops} drops, and {lost} frames are in no output")
+def kept_keys(setup: Setup, paths: list[Path]) -> dict[Key, list]:
+    """How many packets of each kind the outputs have, and where the first of them is."""
+    has_homes = home_of(setup, 0, len(paths)) is not None
+    found: dict[Key, list] = {}
+    for member, path in enumerate(paths):
+        for packet in CaptureStream(path, None):
+            key = (member if has_homes else None, packet.time, packet.wire, digest(packet.data))
+            found.setdefault(key, [0, path, packet.index])[0] += 1
+    return found
 
 
-def bins_of(arrivals: list[Arrival], first: int, count: int) -> list[Bin]:
+def mark_earlier(room: Room, captures: list[Frames], members: int) -> None:
+    """Finds the frames that the outputs of an earlier run have, in a ring of blocks or else in one of slots."""
+    setup = room.setup
+    paths = earlier_outputs(setup)
+    found = kept_keys(setup, paths)
+    room_of_block = setup.number("block_size") - DESCRIPTOR - (setup.number("priv", 0) + 7) // 8 * 8 - PACKET_HEADER
+    for limit in (room_of_block, setup.number("frame_size") - SLOT_HEADER):
+        alike = alike_frames(room, captures, members, found, limit, len(paths))
+        missing = [key for key in found if len(alike.get(key, ())) < found[key][0]]
+        if not missing:
+            break
+    else:
+        _, path, index = min((found[key] for key in missing), key=lambda one: (str(one[1]), one[2]))
+        raise Fault(f"{path}, packet {index} from 0: is no frame of the captures that passes: is it of another run?")
+    for key, frames in alike.items():
+        count = found[key][0]
+        for at, (cpu, index) in enumerate(sorted(frames)):
+            captures[cpu].fates[index] = KEPT if at < count else UNSURE
+
+
+def alike_frames(room: Room, captures: list[Frames], members: int, found: dict[Key, list], limit: int, outputs_count: int) -> dict[Key, list]:
+    """The frames that pass and could be a packet of the outputs, by what such a packet has. A ring keeps at most `limit` bytes of one, and a
+    tag that was taken out comes back."""
+    alike: dict[Key, list] = defaultdict(list)
+    homes = [home_of(room.setup, cpu, outputs_count) for cpu in range(len(captures))]
+    for packet in outputs(room, "all", members):
+        cpu, index = frame_of(packet.time)
+        cut = packet.data[: limit + 4 * (packet.data[12:14] in VLAN_TYPES)]
+        key = (homes[cpu], captures[cpu].times[index], packet.wire, digest(cut))
+        if key in found:
+            alike[key].append((cpu, index))
+    return alike
+
+
+# ---- what is told of it
+
+
+def lost_frames(captures: list[Frames]) -> Iterator[tuple[int, int, bool]]:
+    """CPU, index and whether it is sure, of each frame that was lost."""
+    for cpu, frames in enumerate(captures):
+        for index, fate in enumerate(frames.fates):
+            if fate in (PASSED, UNSURE):
+                yield cpu, index, fate == PASSED
+
+
+def ranges_of(captures: list[Frames], first: int, number: int) -> list[Range]:
+    """The ranges of each CPU, in their order; `number` is that of a capture's first frame."""
+    ranges = []
+    for cpu, frames in enumerate(captures):
+        one = None
+        for index, fate in enumerate(frames.fates):
+            if fate == KEPT:
+                one = None
+            elif fate in (PASSED, UNSURE):
+                time = frames.times[index] - first
+                if one is None:
+                    one = Range(cpu, index + number, index + number, start=time)
+                    ranges.append(one)
+                one.last, one.end, one.lost, one.bytes = index + number, time, one.lost + 1, one.bytes + frames.wires[index]
+                one.is_unsure |= fate == UNSURE
+    return ranges
+
+
+def flows_of(room: Room, captures: list[Frames], members: int) -> list[FlowSums]:
+    """What each flow kept and lost, the one that lost most first."""
+    flows: dict[Flow, FlowSums] = {}
+    for packet in outputs(room, "all", members):
+        cpu, index = frame_of(packet.time)
+        flow = flow_of(packet.data)
+        sums = flows.setdefault(flow, FlowSums(""))
+        if captures[cpu].fates[index] == KEPT:
+            sums.kept += 1
+        else:
+            sums.lost, sums.bytes_lost = sums.lost + 1, sums.bytes_lost + packet.wire
+    for flow, sums in flows.items():
+        sums.flow = flow_words(flow)
+    return sorted((sums for sums in flows.values() if sums.lost), key=lambda sums: (-sums.lost, sums.flow))
+
+
+def save_lost(path: Path, room: Room, captures: list[Frames], members: int) -> None:
+    """Saves what was lost by its time, each packet as a ring with room for it saves it."""
+
+    def lost_of(member: int, wanted: int) -> Iterator[Frame]:
+        for packet in CaptureStream(room.folder / f"all.{member}.pcap", None):
+            cpu, index = frame_of(packet.time)
+            if cpu == wanted and captures[cpu].fates[index] != KEPT:
+                yield packet._replace(time=captures[cpu].times[index])
+
+    parts = [lost_of(member, cpu) for cpu in range(len(captures)) for member in range(members)]
+    with written(path) as file:
+        writer = CaptureWriter(file)
+        for packet in heapq.merge(*parts, key=lambda packet: packet.time):
+            writer.write(packet)
+
+
+def bins_of(captures: list[Frames], first: int, count: int) -> list[Bin]:
     """Kept and lost, by time."""
-    last = max((arrival.packet.time for arrival in arrivals), default=first)
+    last = max((max(frames.times) for frames in captures if frames.times), default=first)
     width = max(1, -(-(last - first + 1) // count))
     bins = [Bin(at * width) for at in range(count)]
-    for arrival in arrivals:
-        one = bins[min((arrival.packet.time - first) // width, count - 1)]
-        one.kept += arrival.is_kept
-        one.lost += not arrival.is_kept
+    for frames in captures:
+        for time, fate in zip(frames.times, frames.fates):
+            if fate:
+                one = bins[(time - first) // width]
+                one.kept, one.lost = one.kept + (fate == KEPT), one.lost + (fate != KEPT)
     return bins
 
 
@@ -197,73 +234,152 @@ def bin_names(bins: list[Bin]) -> list[str]:
     return [seconds(one.start, digits) for one in bins]
 
 
-def picture_of(bins: list[Bin]) -> str:
+def picture_of(bins: list[Bin], words: str) -> str:
     layers = [Layer("kept", [one.kept for one in bins]), Layer("lost", [one.lost for one in bins])]
     return bars_chart(
-        "Packets kept and lost, by time", "seconds from the first frame on", "packets", bin_names(bins), layers, [KEPT_COLOR, LOST_COLOR]
+        f"Packets kept and lost, by time: {words}", "seconds from the first frame on", "packets", bin_names(bins), layers, [KEPT_COLOR, LOST_COLOR]
     )
 
 
-def print_lost(arrivals: list[Arrival], first: int) -> None:
-    lost = sorted((one for one in arrivals if not one.is_kept), key=lambda one: (one.packet.time, one.cpu, one.index))
+def print_ranges(ranges: list[Range], most: int) -> None:
+    """The ranges by CPU and number; where there are more, those that lost most."""
+    is_shown = set(range(len(ranges)))
+    if most and len(ranges) > most:
+        is_shown = set(sorted(is_shown, key=lambda at: (-ranges[at].lost, at))[:most])
+    shown = [one for at, one in enumerate(ranges) if at in is_shown]
     rows = [
-        [one.cpu, one.index, seconds(one.packet.time), seconds(one.packet.time - first), one.packet.wire, "?" * one.is_unsure]
-        for one in lost
+        [one.cpu, str(one.first) if one.first == one.last else f"{one.first}-{one.last}", one.lost, seconds(one.start), seconds(one.end), one.bytes,
+         "?" * one.is_unsure]
+        for one in shown
     ]
-    if rows:
-        print(table(["cpu", "frame", "time", "from start", "length", ""], rows))
-        print()
+    print(table(["cpu", "frames", "lost", "from second", "to second", "bytes", ""], rows))
+    if len(shown) < len(ranges):
+        rest = sum(one.lost for one in ranges) - sum(one.lost for one in shown)
+        print(f"and {len(ranges) - len(shown):,} shorter ranges, of {rest:,} frames; --ranges 0 prints all")
+    print()
 
 
-def print_sums(arrivals: list[Arrival], report: Report) -> None:
+def print_frames(captures: list[Frames], first: int, number: int) -> None:
+    rows = []
+    for cpu, index, is_sure in lost_frames(captures):
+        time = captures[cpu].times[index]
+        rows.append([cpu, index + number, seconds(time), seconds(time - first), captures[cpu].wires[index], "" if is_sure else "?"])
+    print(table(["cpu", "frame", "time", "from start", "length", ""], sorted(rows, key=lambda row: (float(row[3]), row[0], row[1]))))
+    print()
+
+
+def print_flows(flows: list[FlowSums], most: int) -> None:
+    shown = flows[:most] if most else flows
+    print(table(["flow", "kept", "lost", "bytes lost"], [[one.flow, one.kept, one.lost, one.bytes_lost] for one in shown]))
+    if len(shown) < len(flows):
+        rest = sum(one.lost for one in flows) - sum(one.lost for one in shown)
+        print(f"and {len(flows) - len(shown):,} flows more, which lost {rest:,}; --flows 0 prints all")
+    print()
+
+
+SUM_HEADS = ["cpu", "frames", "arrivals", "filtered", "kept", "lost"]
+
+
+def sum_rows(captures: list[Frames], report: Report) -> list[list[int]]:
     """A line for each CPU. What doesn't arrive, and what is filtered, is as the program printed it."""
     rows = []
     for cpu, line in enumerate(report.cpus):
-        mine = [one.is_kept for one in arrivals if one.cpu == cpu]
-        rows.append([cpu, line.frames, line.arrivals, line.arrivals - len(mine), mine.count(True), mine.count(False)])
-    print(table(["cpu", "frames", "arrivals", "filtered", "kept", "lost"], rows))
+        fates = captures[cpu].fates
+        kept, lost = fates.count(KEPT), fates.count(PASSED) + fates.count(UNSURE)
+        rows.append([cpu, line.frames, line.arrivals, line.arrivals - kept - lost, kept, lost])
+    return rows
 
 
-def print_bins(bins: list[Bin]) -> None:
-    rows = [[name, one.kept, one.lost] for name, one in zip(bin_names(bins), bins)]
-    print()
-    print(table(["seconds from", "kept", "lost"], rows))
+def parser_of() -> ToolParser:
+    parser = ToolParser(__doc__, "demo/small.txt demo/schedule.txt --save lost.pcap")
+    parser.add_argument("setup", type=Path, metavar="SETUP")
+    parser.add_argument("schedule", type=Path, nargs="?", metavar="SCHEDULE", help="a file, a pipe, or `-`; without one an earlier run's outputs")
+    parser.add_argument("--first", type=int, choices=(0, 1), default=1, help="the number of a capture's first frame (1)")
+    parser.add_argument("--frames", action="store_true", help="a line for each frame in place of ranges")
+    parser.add_argument("--ranges", type=int, default=40, metavar="N", help="at most N ranges, those that lost most (40); 0 all")
+    parser.add_argument("--flows", type=int, default=10, metavar="N", help="at most N flows, those that lost most (10); 0 all")
+    parser.add_argument("--save", type=Path, metavar="FILE", help="save what was lost as a pcap file")
+    parser.add_argument("--bins", type=int, metavar="N", help="print kept and lost in N stretches of time (20 with --picture)")
+    parser.add_argument("--picture", type=Path, metavar="FILE", help="draw them, as SVG, or as PNG where rsvg-convert is there")
+    add_json(parser)
+    add_program(parser)
+    return parser
+
+
+@dataclass
+class Answer:
+    """What was found."""
+
+    captures: list[Frames]
+    report: Report  # of the run that keeps all
+    first: int  # the time of the first frame
+    ranges: list[Range]
+    flows: list[FlowSums]
+    bins: list[Bin]
+
+
+def find(room: Room, args) -> Answer:
+    schedule = room.text("schedule", args.schedule) if args.schedule else None
+    captures = numbered(room)
+    report = passing(room, captures)
+    members = len(report.members)
+    if schedule:
+        mark_replay(room, captures, schedule)
+    else:
+        mark_earlier(room, captures, members)
+    if args.save:
+        save_lost(args.save, room, captures, members)
+    first = first_time(captures)
+    bins = bins_of(captures, first, args.bins or 20) if args.bins or args.picture else []
+    return Answer(captures, report, first, ranges_of(captures, first, args.first), flows_of(room, captures, members), bins)
+
+
+def print_text(answer: Answer, args) -> None:
+    if answer.ranges:
+        how = "as Wireshark's do; --first 0 counts as ringtap does" if args.first else "as ringtap's do"
+        print(f"frames count from {args.first}, {how}\n")
+        if args.frames:
+            print_frames(answer.captures, answer.first, args.first)
+        else:
+            print_ranges(answer.ranges, args.ranges)
+            print_flows(answer.flows, args.flows)
+    print(table(SUM_HEADS, sum_rows(answer.captures, answer.report)))
+    if answer.bins:
+        print()
+        print(table(["seconds from", "kept", "lost"], [[name, one.kept, one.lost] for name, one in zip(bin_names(answer.bins), answer.bins)]))
+
+
+def object_of(answer: Answer, args) -> dict[str, object]:
+    made: dict[str, object] = {
+        "first": args.first, "cpus": [dict(zip(SUM_HEADS, row)) for row in sum_rows(answer.captures, answer.report)],
+        "ranges": [{**asdict(one), "start": one.start / NANOSECONDS, "end": one.end / NANOSECONDS} for one in answer.ranges],
+        "flows": [asdict(one) for one in answer.flows], "bins": [{**asdict(one), "start": one.start / NANOSECONDS} for one in answer.bins],
+    }
+    if args.frames:
+        made["frames"] = [{"cpu": cpu, "frame": index + args.first, "is_sure": is_sure} for cpu, index, is_sure in lost_frames(answer.captures)]
+    return made
 
 
 def main(words: list[str]) -> int:
-    parser = argparse.ArgumentParser(description=__doc__, formatter_class=argparse.RawDescriptionHelpFormatter)
-    parser.add_argument("setup", type=Path, metavar="SETUP")
-    parser.add_argument("schedule", type=Path, nargs="?", metavar="SCHEDULE")
-    parser.add_argument("--bins", type=int, metavar="N", help="prints kept and lost in N stretches of time (20 with --picture)")
-    parser.add_argument("--picture", type=Path, metavar="FILE", help="draws them, as SVG, or as PNG where rsvg-convert is there")
-    add_program(parser)
-    args = parser.parse_args(words)
+    args = parser_of().parse_args(words)
     program, setup = program_of(args.program), read_setup(args.setup)
     if args.bins is not None and not 1 <= args.bins <= 1000:
         raise Fault("--bins: a number from 1 to 1000")
+    if args.ranges < 0 or args.flows < 0:
+        raise Fault("--ranges, --flows: a number isn't negative")
     earlier = [] if args.schedule else [Path(name) for name in output_names(setup, "replay")]
-    check_outputs([args.picture], [args.schedule] if args.schedule else earlier, setup)
-    captures = read_captures(setup)
-    is_defrag = "defrag" in setup.flags
+    check_outputs([args.picture, args.save], [args.schedule] if args.schedule else earlier, setup)
     with Room(setup, program) as room:
-        passed, report = passing(room, captures)
-        arrivals = [
-            arrival
-            for cpu, capture in enumerate(captures)
-            for arrival in arrivals_of(cpu, capture, passed[cpu], is_defrag)
-        ]
-        run = replay_now(room, args.schedule) if args.schedule else earlier_outputs(setup)
-        mark_kept(setup, arrivals, run)
-        compared(arrivals, run)
-    first = min((frame.time for capture in captures for frame in capture.frames), default=0)
-    print_lost(arrivals, first)
-    print_sums(arrivals, report)
-    if args.bins or args.picture:
-        bins = bins_of(arrivals, first, args.bins or 20)
-        print_bins(bins)
-        if args.picture:
-            save_picture(args.picture, picture_of(bins))
-            print(f"\nsaved: {args.picture}")
+        answer = find(room, args)
+    if args.json:
+        print_json(object_of(answer, args))
+    else:
+        print_text(answer, args)
+    if args.picture:
+        save_picture(args.picture, picture_of(answer.bins, setup.path.name))
+    saved = ", ".join(str(path) for path in (args.save, args.picture) if path)
+    if saved:
+        print(f"\nsaved: {saved}", file=sys.stderr if args.json else sys.stdout)
     return 0
 
 

@@ -96,6 +96,7 @@ def passing(room: Room, captures: list[Frames]) -> Report:
     for packet in outputs(room, "all", len(report.members)):
         cpu, index = frame_of(packet.time)
         captures[cpu].fates[index] = PASSED
+        captures[cpu].wires[index] = packet.wire  # of a datagram that of the whole
     return report
 
 
