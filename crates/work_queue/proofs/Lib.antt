@@ -4,3 +4,4 @@ mod Moves
 mod Splits
 pub mod Counts
 mod Fresh
+pub mod Goings
