@@ -1,0 +1,157 @@
+#!/usr/bin/env python3
+"""Whether schedules without what can do nothing give the runs of whole ones.
+
+    schedules.py PROGRAM FOLDER
+
+Captures of the repository and made ones, with silences and bursts, are replayed by a schedule of tools/schedule.py and by one that has
+every tick and every step of the readers, made here from the moments alone. Printed lines, captures and dumps have to be the same byte for
+byte. It runs in the top folder of the repository.
+"""
+import itertools
+import random
+import struct
+import sys
+from fractions import Fraction
+from pathlib import Path
+
+import runs
+from hash_values import KEY
+
+program, room = Path(sys.argv[1]).resolve(), Path(sys.argv[2]).resolve()
+TOP = Path.cwd()
+sys.path.insert(0, str(TOP / "tools"))
+
+from ringtap_captures import CaptureStream  # noqa: E402
+from ringtap_clock import Pace, Shape  # noqa: E402
+from ringtap_files import Fault  # noqa: E402
+from schedule import feeds, schedule_of  # noqa: E402
+
+MS = 1_000_000
+LARGEST = 1_048_576
+
+
+def whole(fed, pace, shape):
+    """Every tick, step and count up to the last frame, in the order of docs/tools.md."""
+    events = [(time, 1, f"feed {cpu}\n") for time, cpu in zip(fed.times, fed.cpus)]
+    every = shape.timeout if pace.tick is None else pace.tick
+    if every:
+        for label in itertools.count(every, every):
+            now = label * MS - int(pace.phase * MS) % (every * MS)
+            if now > fed.end:
+                break
+            events.append((now, 0, f"tick {label}\n"))
+    period, steps = None, 1
+    if pace.blocks:
+        period = Fraction(1000 * MS) / pace.blocks
+    elif pace.bytes:
+        period = Fraction(1000 * MS * shape.block_size) / pace.bytes
+    elif pace.pause:
+        period, steps = pace.pause * MS, shape.block_nr
+    if period:
+        lines = "".join(steps * f"read {member}\n" for member in range(shape.members))
+        for number in itertools.count(1):
+            now = int(number * period)
+            if now > fed.end:
+                break
+            if not any(start * MS <= now < (start + length) * MS for start, length in pace.stalls):
+                events.append((now, 2, lines))
+    if pace.stats:
+        for number in itertools.count(1):
+            now = int(number * pace.stats * 1000 * MS)
+            if now > fed.end:
+                break
+            events.append((now, 3, "".join(f"stats {member}\n" for member in range(shape.members))))
+    events.sort(key=lambda event: event[:2])
+    return "".join(text for _, _, text in events)
+
+
+def frame(draw, number):
+    """A UDP datagram between hosts and ports of few, or something else."""
+    size = draw.choice([0, 18, 18, 200, 600, 1400])
+    if draw.random() < 0.1:
+        return bytes(12) + b"\x88\xb5" + bytes(size)
+    head = struct.pack(">BBHHHBBH", 0x45, 0, 28 + size, number & 0xFFFF, 0, 64, 17, 0)
+    ports = struct.pack(">HHHH", draw.randrange(1000, 1008), 53, 8 + size, 0)
+    return bytes(12) + b"\x08\x00" + head + bytes([10, 0, 0, draw.randrange(4), 10, 1, 0, 1]) + ports + bytes(size)
+
+
+def made(path, draw, count):
+    """A capture of bursts and silences, a few frames of which go back in time."""
+    time, parts = 5_000_000, [struct.pack("<IHHiIII", 0xA1B2C3D4, 2, 4, 0, 0, 65535, 1)]
+    for number in range(count):
+        time += draw.choice([0, 0, 1, 50, 300, 2_000, 2_000, 20_000, 90_000, 700_000, -400])
+        bytes_ = frame(draw, number)
+        parts.append(struct.pack("<IIII", time // 1_000_000, time % 1_000_000, len(bytes_), len(bytes_)) + bytes_)
+    path.write_bytes(b"".join(parts))
+    return path
+
+
+def paces(draw):
+    """A pace of each kind, of which some have the whole schedule only as often as a silence asks for it."""
+    reader = draw.choice([{}, {"blocks": Fraction(draw.choice([3, 40, 900]))}, {"bytes": Fraction(draw.choice([9_000, 400_000]))},
+                          {"pause": Fraction(draw.choice([1, 15, 400]))}, {"pause": Fraction(7)}])
+    stalls = ((Fraction(draw.randrange(500)), Fraction(draw.randrange(1, 900))),) * draw.choice([0, 1]) if reader else ()
+    return Pace(
+        speed=Fraction(draw.choice([1, 1, 3])), tick=draw.choice([None, None, None, 0, 1, 3, 10, 250]), phase=Fraction(draw.choice([0, 0, 3, 77])),
+        stalls=stalls, stats=Fraction(draw.choice(["0", "0", "0.05"])), **reader,
+    )
+
+
+def setups(draw, names):
+    """The lines of a setup for captures, and its shape."""
+    size, count, timeout, members = draw.choice([4096, 8192]), draw.choice([2, 3, 5, 16]), draw.choice([1, 8, 20, 100]), draw.choice([1, 1, 2, 3])
+    mode = draw.choice(["cpu", "hash", "lb", "rollover", "qm"])
+    lines = [f"block_size {size}", f"block_nr {count}", "frame_size 2048", f"frame_nr {size // 2048 * count}", f"tov {timeout}",
+             f"members {members}", f"mode {mode}", f"key {KEY}", "dump yes", *(f"cpu {name}" for name in names)]
+    lines += ["flag rollover"] * (mode != "rollover" and draw.random() < 0.3) + ["flag defrag"] * (draw.random() < 0.2)
+    return "\n".join(lines) + "\n", Shape(members, size, count, timeout)
+
+
+def outcome(setup, schedule, prefix):
+    """What a run prints and saves."""
+    (room / "setup").write_text(setup + f"out {prefix}\n")
+    (room / "schedule").write_text(schedule)
+    done, why = runs.run([program, "replay", "setup", "schedule"], cwd=room, text=True)
+    files = {path.name.removeprefix(prefix): path.read_bytes() for path in sorted(room.glob(f"{prefix}.*"))}
+    for path in room.glob(f"{prefix}.*"):
+        path.unlink()
+    return (done.stdout, done.returncode, files) if done else why
+
+
+def main():
+    draw = random.Random(7)
+    captures = [Path("demo/lo.pcap").resolve(), *(made(room / f"made{number}.pcap", draw, draw.choice([1, 3, 40, 200])) for number in range(12))]
+    compared = unlike = shorter = 0
+    for case in range(int(sys.argv[3]) if len(sys.argv) > 3 else 200):
+        names = draw.choices(captures, k=draw.choice([1, 1, 2]))
+        setup, shape = setups(draw, names)
+        pace = paces(draw)
+        fed = feeds(map(CaptureStream, names), pace.speed)
+        full = whole(fed, pace, shape)
+        try:
+            brief = schedule_of(fed, pace, shape)
+        except Fault:
+            brief = None
+        if len(full) > LARGEST or brief is None:
+            unlike += brief is None and len(full) <= LARGEST
+            continue
+        compared += 1
+        shorter += len(brief) < len(full)
+        if outcome(setup, brief, "brief") != outcome(setup, full, "full") or len(brief) > len(full):
+            unlike += 1
+            print(f"case {case}: another run: {setup}{pace}")
+    # Frames of a year apart: a schedule as long as a silence would never end.
+    apart = room / "apart.pcap"
+    made(apart, draw, 3)
+    record = struct.pack("<IIII", 40_000_000, 0, 60, 60) + bytes(60)
+    apart.write_bytes(apart.read_bytes() + record)
+    long = schedule_of(feeds([CaptureStream(apart)], Fraction(1)), Pace(pause=Fraction(1)), Shape(1, 4096, 2, 8))
+    if len(long.split("\n")) > 40:
+        unlike += 1
+        print(f"a silence of a year gives {len(long)} bytes")
+    print(f"schedules: {compared} compared, {shorter} of them shorter, {unlike} wrong")
+    sys.exit(unlike > 0 or compared < 100 or shorter < compared // 2)
+
+
+if __name__ == "__main__":
+    main()
