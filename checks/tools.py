@@ -120,49 +120,6 @@ def test_old_frames():
     expect("older frames", printed, "feed 0\nfeed 0\nfeed 1\nfeed 0\n")
 
 
-def test_ring_size():
-    """100 frames at once, and nobody reads: n blocks keep 28 n of them."""
-    capture("many.pcap", [(number, frame(number)) for number in range(100)])
-    setup = text("many.txt", BLOCK + "cpu many.pcap\n")
-    printed, said, status = with_program("ring_size.py", setup, "--block-nr", "2,3,4", "--pictures", "made")
-    wanted = [
-        "cpu,1,0,4096,2,8192,56,44,1,2",
-        "cpu,1,0,4096,3,12288,84,16,1,3",
-        "cpu,1,0,4096,4,16384,100,0,0,4",
-    ]
-    rows = [",".join(line.split()) for line in printed.split("\n")[1:4]]
-    expect("the table", (rows, said, status), (wanted, "", 0))
-    least = "the least ring that loses nothing: 4 blocks of 4096 bytes, time-out 8 ms; 16 KiB in all"
-    expect("the least ring", printed.split("\n")[5], least)
-    with open(room / "made" / "table.csv", newline="") as file:
-        expect("table.csv", [",".join(row) for row in csv.reader(file)][1:], wanted)
-    expect("drops.svg", titles("made/drops.svg"), [
-        "2 blocks of 4096 bytes, time-out 8 ms: 44 dropped of 100",
-        "3 blocks of 4096 bytes, time-out 8 ms: 16 dropped of 100",
-        "4 blocks of 4096 bytes, time-out 8 ms: 0 dropped of 100",
-    ])
-    expect("packets.svg", titles("made/packets.svg"), ["cpu, 1 0: 100 kept"])
-    printed, _, _ = with_program("ring_size.py", setup, "--block-nr", "2")
-    expect("no least ring", printed.split("\n")[3], "every ring that was tried loses packets")
-
-
-def test_modes():
-    """Of 100 frames of one CPU, lb gives each of two members 50 and cpu the first all; 28 fit into a block, and a reader takes none."""
-    setup = text("modes.txt", BLOCK + "cpu many.pcap\n")
-    printed, _, _ = with_program(
-        "ring_size.py", setup, "--block-nr", "2", "--members", "2", "--mode", "lb,cpu,rollover", "--jobs", "2", "--pictures", "modes"
-    )
-    rows = [line.split() for line in printed.split("\n") if re.match("(lb|cpu|rollover) ", line)]
-    expect("modes", [row[0] + " " + " ".join(row[6:9]) for row in rows[:3]], ["lb 100 0 0", "cpu 56 44 1", "rollover 100 0 0"])
-    expect("members", [" ".join(row) for row in rows[3:]], [
-        "lb 2 0 50 0", "lb 2 1 50 0", "cpu 2 0 56 44", "cpu 2 1 0 0", "rollover 2 0 56 0", "rollover 2 1 44 0",
-    ])
-    expect("packets.svg of modes", titles("modes/packets.svg"), [
-        "lb, 2 0: 50 kept", "lb, 2 1: 50 kept", "cpu, 2 0: 56 kept", "cpu, 2 0: 44 dropped", "rollover, 2 0: 56 kept",
-        "rollover, 2 1: 44 kept",
-    ])
-
-
 def titles(name):
     """What the marks of a picture stand for."""
     tree = xml.etree.ElementTree.parse(room / name)
@@ -220,6 +177,8 @@ def test_live_ring():
 
 def test_sentences():
     """What is wrong with an input is said with its file and its place."""
+    capture("many.pcap", [(number, frame(number)) for number in range(100)])
+    text("many.txt", BLOCK + "cpu many.pcap\n")
     (room / "next.pcap").write_bytes(b"\x0a\x0d\x0d\x0a" + bytes(40))
     (room / "link.pcap").write_bytes(struct.pack("<IHHiIII", 0xA1B2C3D4, 2, 4, 0, 0, 65535, 113))
     (room / "short.pcap").write_bytes(bytes(10))

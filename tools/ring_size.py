@@ -1,62 +1,49 @@
 #!/usr/bin/env python3
-"""Replays the captures of a setup over rings of many sizes, and names the least one that loses nothing.
+"""Names the least ring that loses nothing of some captures, and how to ask tcpdump and Suricata for it.
 
-Every block size, number of blocks, time-out, number of members and mode that is given is tried with each of the others; what is not
-given is as in the setup, but for the number of blocks, which goes from 2 up to 256 by doubling. Each run has a schedule with the captures' own
-times (tools/schedule.py). The memory is that of the blocks of all members together.
+Give the captures of the CPUs, one each, or a setup. A grid of rings is run: every block size, number of blocks, time-out, number of members and
+mode that is given with each of the others. Without --block-nr the number of blocks is doubled from 2 on until nothing is lost, and once more; then
+it is halved to the least that loses nothing. Each ring is run at several phases of the timer, since it isn't known when a program starts it, and counts as its worst one.
+
+The feeds have the captures' own times. The memory is that of the blocks of all members together. The status is 0 where a ring loses nothing, and
+3 where none does.
 """
 from __future__ import annotations
 
 import argparse
 import csv
+import io
 import itertools
 import sys
-from concurrent.futures import ThreadPoolExecutor
-from dataclasses import dataclass
+from collections import Counter
+from fractions import Fraction
 from pathlib import Path
 from typing import Callable
 
 sys.path.insert(0, str(Path(__file__).resolve().parent))  # which `python3 -I` leaves out
 
-from ringtap_captures import read_captures
-from ringtap_files import MODES, Fault, Setup, read_setup, run_main
-from ringtap_outputs import write_text
-from ringtap_runs import Progress, Report, Room, add_program, program_of, table
-from schedule import DEFAULT_TIMEOUT, Event, Pace, Shape, add_pace, feeds, pace_of, schedule_of
-from svg_plot import Layer, Series, bars_chart, bytes_label, points_chart, save_picture
+from ringtap_captures import GZIP_MAGIC, PCAP_UNITS, PCAPNG_MAGIC
+from ringtap_clock import Pace
+from ringtap_files import LARGEST_NAME, MODES, NANOSECONDS, CpuLine, Fault, Setup, read_setup, run_main
+from ringtap_outputs import check_folder, check_outputs, write_text
+from ringtap_runs import Room, add_program, program_of, table
+from ringtap_trials import (
+    LEAST_BLOCKS, MOST_BLOCKS, ROLLOVER, Result, Ring, Trials, changes_of, evenness, largest_by_mode, least_of, lines_of, members_of,
+    suricata_lines,
+)
+from ringtap_words import ToolParser, add_json, print_json
+from schedule import Fed, add_pace, feeds, pace_of
+from svg_plot import Layer, Panel, Series, bars_chart, check_picture, kib, points_chart, save_picture
 
 PAGE = 4096
 LARGEST_BLOCK = 1_048_576
-LARGEST_RING = 67_108_864
-MOST_BLOCKS = 256
-MOST_MEMBERS = 8
+MOST_MEMBERS, MOST_CPUS, MOST_PHASES = 8, 8, 1000
 MOST_TIMEOUT = 60_000  # milliseconds
+NONE_SUFFICES = 3  # the status
 KEPT_COLOR, DROPPED_COLOR = "#0072b2", "#d55e00"
-
-
-@dataclass(frozen=True)
-class Ring:
-    """One place of the grid."""
-
-    mode: str
-    members: int
-    timeout: int  # milliseconds, as the setup says it
-    block_size: int
-    block_nr: int
-
-    @property
-    def memory(self) -> int:
-        return self.block_size * self.block_nr * self.members
-
-    def words(self) -> str:
-        members = "" if self.members == 1 else f", {self.members} members by {self.mode}"
-        return f"{self.block_nr} blocks of {self.block_size} bytes{members}, time-out {self.timeout or DEFAULT_TIMEOUT} ms"
-
-
-@dataclass(frozen=True)
-class Result:
-    ring: Ring
-    report: Report
+# What is taken for captures alone: the ring that tcpdump asks for, and a reader that comes ten times a second.
+TCPDUMP_BLOCK, TCPDUMP_TIMEOUT = 262_144, 1000
+V2_BLOCK, FRAME_SIZE, PAUSE = 65_536, 2048, Fraction(100)
 
 
 def numbers(least: int, most: int, step: int = 1) -> Callable[[str], list[int]]:
@@ -67,10 +54,10 @@ def numbers(least: int, most: int, step: int = 1) -> Callable[[str], list[int]]:
         for word in text.split(","):
             unit = {"K": 1024, "M": 1024 * 1024}.get(word[-1:].upper(), 1)
             digits = word if unit == 1 else word[:-1]
-            number = int(digits) * unit if digits.isascii() and digits.isdigit() else -1
+            number = int(digits) * unit if digits.isascii() and digits.isdigit() and len(digits) <= 10 else -1
             if not least <= number <= most or number % step:
-                multiple = f", and is a multiple of {step}" if step > 1 else ""
-                raise argparse.ArgumentTypeError(f"{word!r} isn't right: a number here is from {least} to {most}{multiple}")
+                multiple = f", a multiple of {step}" if step > 1 else ""
+                raise argparse.ArgumentTypeError(f"{word!r} isn't right: numbers between commas, each from {least} to {most}{multiple}")
             read_ones.append(number)
         return list(dict.fromkeys(read_ones))
 
@@ -78,195 +65,397 @@ def numbers(least: int, most: int, step: int = 1) -> Callable[[str], list[int]]:
 
 
 def modes(text: str) -> list[str]:
+    allowed = [*MODES, *(mode + ROLLOVER for mode in MODES if mode != "rollover")]
     for word in text.split(","):
-        if word not in MODES:
-            raise argparse.ArgumentTypeError(f"{word!r} is no mode: {', '.join(MODES)}")
+        if word not in allowed:
+            raise argparse.ArgumentTypeError(f"{word!r} is no mode: {', '.join(MODES)}, and hash{ROLLOVER} for one with the flag")
     return list(dict.fromkeys(text.split(",")))
+
+
+def is_capture(path: Path) -> bool:
+    """Whether a file begins as a capture does, or at least not as a text."""
+    try:
+        with open(path, "rb") as file:
+            head = file.peek(4)[:64] if file.seekable() else PCAPNG_MAGIC  # a pipe can be read once, so it is taken for a capture
+    except OSError as error:
+        raise Fault(f"{path}: can't be read: {error.strerror}") from None
+    magics = [magic.to_bytes(4, order) for magic in PCAP_UNITS for order in ("little", "big")]
+    return head.startswith((PCAPNG_MAGIC, GZIP_MAGIC, *magics)) or any(byte < 9 for byte in head)
+
+
+def setup_of(paths: list[Path], is_v2: bool) -> Setup:
+    """The setup that is named, or one for captures."""
+    found = [is_capture(path) for path in paths]
+    if not any(found):
+        if len(paths) > 1:
+            raise Fault(f"{paths[1]}: isn't a capture; one setup is taken, or captures")
+        return read_setup(paths[0])
+    if not all(found):
+        raise Fault(f"{paths[found.index(False)]}: isn't a capture; one setup is taken, or captures")
+    if len(paths) > MOST_CPUS:
+        raise Fault(f"{len(paths)} captures, and ringtap has at most {MOST_CPUS} CPUs")
+    block = V2_BLOCK if is_v2 else TCPDUMP_BLOCK
+    lines = [f"block_size {block}", f"block_nr {LEAST_BLOCKS}", f"frame_size {FRAME_SIZE}", f"frame_nr {block // FRAME_SIZE * LEAST_BLOCKS}"]
+    lines += [f"tov {TCPDUMP_TIMEOUT}"] * (not is_v2) + [f"cpu {cpu}" for cpu in range(len(paths))]  # names, which may have blanks, come in when it is used
+    setup = Setup(paths[0], lines, {word: [value] for word, value in (line.split(" ", 1) for line in lines) if word != "cpu"})
+    setup.cpus = [CpuLine(str(path), cpu, 0) for cpu, path in enumerate(paths)]
+    return setup
+
+
+def is_made(setup: Setup) -> bool:
+    """Whether a setup was made here, for captures."""
+    return setup.cpus[0].line == 0
 
 
 def grid_of(setup: Setup, args: argparse.Namespace) -> list[Ring]:
     """The rings to be tried, without those that are larger than ringtap has them."""
     sizes = args.block_size or [setup.number("block_size")]
-    counts = args.block_nr or [2**power for power in range(1, 9)]
+    counts = args.block_nr or [LEAST_BLOCKS]
     timeouts = args.tov or [setup.number("tov", 0)]
     members = args.members or [setup.number("members", 1)]
-    chosen = args.mode or [setup.word("mode", "cpu")]
-    if "hash" in chosen and "key" not in setup.values:
-        raise Fault(f"{setup.path}: has no line `key`, and mode hash needs one")
-    rings = [Ring(*values) for values in itertools.product(chosen, members, timeouts, sizes, counts)]
-    grid = [ring for ring in rings if ring.block_size * ring.block_nr <= LARGEST_RING]
+    flag = ROLLOVER if "rollover" in setup.flags else ""
+    chosen = args.mode or [f"{setup.word('mode', 'cpu')}{flag}"]
+    if any(mode.startswith("hash") for mode in chosen) and "key" not in setup.values:
+        chosen_key(setup)
+    frame_size = setup.number("frame_size")
+    rings = [
+        Ring(mode, member, timeout, size, count, max(1, min(frame_size, size)), args.replay2)
+        for mode, member, timeout, size, count in itertools.product(chosen, members, timeouts, sizes, counts)
+    ]
+    grid = [ring for ring in rings if ring.fits]
     if not grid:
-        raise Fault(f"no ring to try: all have more than {bytes_label(LARGEST_RING)}, the most that ringtap has")
+        raise Fault("no ring to try: all have more than 64 MiB, or more than 65,536 slots, the most that ringtap has")
     return grid
 
 
-def changes_of(setup: Setup, ring: Ring, prefix: str) -> dict[str, str | None]:
-    """The lines by which a ring of the grid differs from the setup."""
-    frame_size = min(setup.number("frame_size"), ring.block_size)
-    changes: dict[str, str | None] = {
-        "block_size": str(ring.block_size), "block_nr": str(ring.block_nr), "frame_size": str(frame_size),
-        "frame_nr": str(ring.block_size // max(frame_size, 1) * ring.block_nr), "members": str(ring.members),
-        "mode": ring.mode, "tov": str(ring.timeout), "out": prefix, "dump": None,
-    }
-    return changes
+def chosen_key(setup: Setup) -> None:
+    """Gives the usual key of receive side scaling to a setup that was made here; another has to have its own."""
+    if not is_made(setup):
+        raise Fault(f"{setup.path}: has no line `key`, and mode hash needs one")
+    key = "6d5a56da255b0ec24167253d43a38fb0d0ca2bcbae7b30b477cb2da38030f20c6a42b73bbeac01fa"
+    setup.lines.append(f"key {key}")
+    setup.values["key"] = [key]
 
 
-class Trial:
-    """Runs the rings of a grid, each with its schedule."""
-
-    def __init__(self, room: Room, fed: list[Event], pace: Pace) -> None:
-        self.room, self.fed, self.pace = room, fed, pace
-
-    def schedule(self, ring: Ring) -> str:
-        shape = Shape(ring.members, ring.block_size, ring.block_nr, ring.timeout or DEFAULT_TIMEOUT)
-        return schedule_of(self.fed, self.pace, shape)
-
-    def run(self, number: int, ring: Ring) -> Result:
-        setup, schedule, prefix = (f"{word}{number}" for word in ("setup", "schedule", "out"))
-        self.room.write_setup(setup, changes_of(self.room.setup, ring, prefix))
-        write_text(self.room.folder / schedule, self.schedule(ring))
-        report = self.room.replay(setup, schedule)
-        for name in [setup, schedule, *self.room.folder.glob(f"{prefix}.*")]:
-            (self.room.folder / name).unlink()
-        return Result(ring, report)
-
-    def run_all(self, grid: list[Ring], jobs: int) -> list[Result]:
-        progress = Progress(len(grid), "rings")
-        results = []
-        with ThreadPoolExecutor(jobs) as pool:
-            waiting = [pool.submit(self.run, number, ring) for number, ring in enumerate(grid)]
-            try:
-                for one in waiting:
-                    results.append(one.result())
-                    progress.step()
-            except BaseException:
-                pool.shutdown(cancel_futures=True)
-                raise
-        return results
+def reader_words(pace: Pace, unit: str) -> str:
+    """What the readers do, in words."""
+    if pace.blocks:
+        words = f"each reader takes {float(pace.blocks):g} {unit} a second"
+    elif pace.bytes:
+        words = f"each reader takes {unit} of {float(pace.bytes):g} bytes in all a second"
+    elif pace.pause:
+        words = f"each reader sleeps {float(pace.pause):g} ms, then takes all that is there"
+    else:
+        return "nobody reads before all frames are fed"
+    stalls = " and ".join(f"{float(start):g} ms on for {float(length):g} ms" for start, length in pace.stalls)
+    return words + (f", but not from {stalls}" if stalls else "")
 
 
-HEADS = ["mode", "members", "tov", "block_size", "block_nr", "memory", "kept", "drops", "freezes", "blocks"]
+def opening(setup: Setup, args: argparse.Namespace, pace: Pace, is_default: bool) -> str:
+    """The first line: what the answer rests on, and what of it was asked by nobody."""
+    words = reader_words(pace, "slots" if args.replay2 else "blocks")
+    if not is_made(setup):
+        return words
+    parts = [f"frame_size {FRAME_SIZE}"]
+    parts += [f"tov {TCPDUMP_TIMEOUT}"] * (not args.replay2 and not args.tov)
+    parts += [f"block_size {setup.number('block_size')}"] * (not args.block_size)
+    if is_default:
+        return f"by default: {', '.join([*parts, words])}"
+    return f"by default: {', '.join(parts)}; as asked: {words}"
+
+
+HEADS = ["mode", "members", "tov", "block_size", "block_nr", "memory", "phase", "kept", "drops", "freezes", "blocks", "fewest"]
 
 
 def row_of(result: Result) -> list[object]:
-    ring, report = result.ring, result.report
-    return [ring.mode, ring.members, ring.timeout, ring.block_size, ring.block_nr, ring.memory,
-            report.kept, report.drops, report.freezes, report.blocks]
+    """The run at the worst phase, and the fewest drops of any."""
+    ring, report = result.ring, result.worst
+    return [ring.mode, ring.members, ring.timeout, ring.block_size, ring.block_nr, ring.memory, result.worst_phase,
+            report.kept, report.drops, report.freezes, report.blocks, result.fewest]
 
 
-def verdict_of(results: list[Result]) -> str:
-    """The least ring that loses nothing, in words."""
-    whole = [result.ring for result in results if result.report.drops == 0]
-    if not whole:
-        return "every ring that was tried loses packets"
-    least = min(whole, key=lambda ring: (ring.memory, ring.members, ring.block_nr))
-    return f"the least ring that loses nothing: {least.words()}; {bytes_label(least.memory)} in all"
+def phases_words(result: Result) -> str:
+    count = len(result.phases)
+    return "" if count == 1 else f" at each of {count} phases of the timer"
 
 
-def largest_by_mode(results: list[Result]) -> list[Result]:
-    """For each mode and number of members the result of the largest ring."""
-    largest: dict[tuple[str, int], Result] = {}
-    for result in results:
-        key = result.ring.mode, result.ring.members
-        if key not in largest or result.ring.memory > largest[key].ring.memory:
-            largest[key] = result
-    return list(largest.values())
+def verdict_of(results: list[Result], least: Result | None) -> list[str]:
+    """The least ring that loses nothing, in words, and the largest of its line that does."""
+    if least is None:
+        fewest = min(results, key=lambda result: (result.drops, result.ring.memory))
+        return ["every ring that was tried loses packets: no ring suffices",
+                f"the fewest: {fewest.drops:,} of {fewest.worst.kept + fewest.drops:,}, by {fewest.ring.words()}"]
+    line = next(line for line in lines_of(results) if least in line)
+    smaller = [result for result in line if result.ring.block_nr < least.ring.block_nr]
+    what = "least ring" if smaller or least.ring.block_nr == LEAST_BLOCKS else "least ring of those tried"
+    said = [f"the {what} that loses nothing{phases_words(least)}: {least.ring.words()}; {kib(least.ring.memory)} in all"]
+    if smaller:
+        before = smaller[-1]
+        lost = f"{before.fewest:,} to {before.drops:,}" if before.fewest != before.drops else f"{before.drops:,}"
+        said.append(f"with {before.ring.block_nr} blocks {lost} of {before.worst.kept + before.drops:,} packets are lost")
+    return said
 
 
-def packet_rows(results: list[Result]) -> list[list[object]]:
+def advice(trials: Trials, least: Result) -> dict[str, object]:
+    """How other programs are asked for such a ring."""
+    ring, found = least.ring, {}
+    if (ring.block_size, ring.members, ring.timeout) == (TCPDUMP_BLOCK, 1, TCPDUMP_TIMEOUT) and not ring.is_v2:
+        if blocks := trials.libpcap_blocks(ring):
+            found["tcpdump"] = f"tcpdump -B {blocks * TCPDUMP_BLOCK // 1024}"
+    if not ring.is_v2:
+        found["suricata"] = suricata_lines(ring)
+    return found
+
+
+def advice_words(found: dict[str, object]) -> list[str]:
+    lines = []
+    if "tcpdump" in found:
+        lines.append(f"{found['tcpdump']}   (tried with the 4 bytes that libpcap has more before each packet)")
+    elif found:
+        lines.append(f"for tcpdump, whose blocks have 262144 bytes: --block-size 256K --tov {TCPDUMP_TIMEOUT} --members 1")
+    if "suricata" in found:
+        lines += ["suricata.yaml, under af-packet (by its documentation, not tried):", *(f"    {line}" for line in found["suricata"])]
+    return lines
+
+
+MEMBER_HEADS = ["mode", "members", "member", "kept", "drops", "bytes kept"]
+
+
+def member_rows(trials: Trials, results: list[Result]) -> list[list[object]]:
     """What each member kept and dropped, at the largest ring of each mode."""
-    return [
-        [result.ring.mode, result.ring.members, at, member.kept, member.drops]
-        for result in largest_by_mode(results)
-        for at, member in enumerate(result.report.members)
-    ]
+    rows = []
+    for result in largest_by_mode(results):
+        kept = trials.kept_bytes(result)
+        for at, member in enumerate(members_of(result)):
+            rows.append([result.ring.mode, result.ring.members, at, member.kept, member.drops, kept[at]])
+    return rows
 
 
-def series_name(result: Result, results: list[Result]) -> str:
-    """What tells the rings of one line in the picture from the others; the number of blocks goes along the line."""
-    ring, parts = result.ring, []
-    for name, label in [("mode", "{}"), ("members", "{} members"), ("timeout", "tov {}"), ("block_size", "{}-byte blocks")]:
-        if len({getattr(other.ring, name) for other in results}) > 1:
-            parts.append(label.format(getattr(ring, name)))
-    return ", ".join(parts) or f"{ring.block_size}-byte blocks"
+def evenness_rows(rows: list[list[object]]) -> list[list[object]]:
+    """The largest member to the mean one, of each mode and number of members: packets, kept or dropped, and bytes kept."""
+    found = []
+    for (mode, members), group in itertools.groupby(rows, key=lambda row: (row[0], row[1])):
+        mine = list(group)
+        packets, kept = evenness([row[3] + row[4] for row in mine]), evenness([row[5] for row in mine])
+        found.append([mode, members, f"{packets:.2f}", f"{kept:.2f}"])
+    return found
 
 
-def drops_picture(results: list[Result]) -> str:
-    lines: dict[str, list[tuple[float, float, str]]] = {}
-    for result in results:
-        told = f"{result.ring.words()}: {result.report.drops:,} dropped of {result.report.kept + result.report.drops:,}"
-        lines.setdefault(series_name(result, results), []).append((result.ring.memory, result.report.drops, told))
-    series = [Series(name, points) for name, points in lines.items()]
-    return points_chart("Packets dropped, by the memory of the ring", "memory of all members' blocks", "packets dropped", series)
+PARTS = {"mode": "{}", "members": "{} members", "timeout": "tov {}"}  # of a line's name, before its block size
 
 
-def packets_picture(results: list[Result]) -> str:
-    rows = packet_rows(results)
-    names = [str(at) for _, _, at, _, _ in rows]
-    groups = [f"{mode}, {members}" for mode, members, _, _, _ in rows]
+def part_words(ring: Ring, names: list[str]) -> list[str]:
+    words = [PARTS[name].format(getattr(ring, name)) for name in names]
+    return ["1 member" if word == "1 members" else word for word in words]
+
+
+def panel_parts(rings: list[Ring]) -> list[str]:
+    """What tells the panels of a picture apart: as little as leaves none more lines than there are colors, where that can be had."""
+    names = list(PARTS)
+    for count in range(len(names)):
+        sizes = Counter(tuple(part_words(ring, names[:count])) for ring in rings)
+        if max(sizes.values()) <= Panel.MOST_SERIES:
+            return names[:count]
+    return names
+
+
+def series_name(ring: Ring, rings: list[Ring], named: list[str]) -> str:
+    """What tells a line from the others of its panel; the number of blocks goes along the line."""
+    differing = [name for name in PARTS if name not in named and len({getattr(other, name) for other in rings}) > 1]
+    parts = part_words(ring, differing)
+    if len({other.block_size for other in rings}) > 1 or not parts:
+        parts.append(f"{kib(ring.block_size)} blocks")
+    return ", ".join(parts)
+
+
+def drops_picture(results: list[Result], least: Result | None, title: str) -> str:
+    """Drops at the worst phase against memory: several panels, one for each mode, where one would have too many lines."""
+    lines = lines_of(results)
+    rings = [line[0].ring for line in lines]
+    named = panel_parts(rings)
+    panels: list[Panel] = []
+    for line in lines:
+        name = ", ".join(part_words(line[0].ring, named))
+        if not panels or panels[-1].name != name or len(panels[-1].series) == Panel.MOST_SERIES:
+            panels.append(Panel(name))
+        points = []
+        for result in line:
+            told = f"{result.ring.words()}: {result.drops:,} dropped of {result.worst.kept + result.drops:,}"
+            points.append((result.ring.memory, result.drops, told))
+        panels[-1].series.append(Series(series_name(line[0].ring, rings, named), points))
+        if least and least in line:
+            panels[-1].mark = (least.ring.memory, 0, f"least: {kib(least.ring.memory)}")
+    return points_chart("Packets dropped, by the memory of the ring", title, "memory of all members' blocks, KiB", "packets dropped", panels)
+
+
+def packets_picture(rows: list[list[object]], title: str) -> str:
+    names = [str(row[2]) for row in rows]
+    groups = [f"{row[0]}, {row[1]}" for row in rows]
     layers = [Layer("kept", [row[3] for row in rows]), Layer("dropped", [row[4] for row in rows])]
     return bars_chart(
         "Packets for each member, at the largest ring of each mode", "member, by mode and number of members", "packets",
-        names, layers, [KEPT_COLOR, DROPPED_COLOR], groups,
+        names, layers, [KEPT_COLOR, DROPPED_COLOR], groups, title,
     )
 
 
-def save_csv(path: Path, results: list[Result]) -> None:
-    try:
-        with open(path, "w", newline="", encoding="utf-8") as file:
-            csv.writer(file, lineterminator="\n").writerows([HEADS, *map(row_of, results)])
-    except OSError as error:
-        raise Fault(f"{path}: can't be written: {error.strerror}") from None
+def table_text(results: list[Result]) -> str:
+    """The table with a row for each ring, and below it one for each of its members."""
+    made = io.StringIO()
+    writer = csv.writer(made, lineterminator="\n")
+    writer.writerow([*HEADS[:7], "member", *HEADS[7:]])
+    for result in results:
+        row = row_of(result)
+        writer.writerow([*row[:7], "all", *row[7:]])
+        if result.ring.members > 1:
+            for at, member in enumerate(members_of(result)):
+                writer.writerow([*row[:7], at, member.kept, member.drops, member.freezes, member.blocks, ""])
+    return made.getvalue()
 
 
-def save_all(folder: Path, kind: str, results: list[Result]) -> None:
+def picture_names(args: argparse.Namespace) -> list[Path]:
+    """What is saved with the pictures."""
+    kind = "png" if args.png else "svg"
+    return [args.pictures / name for name in ("table.csv", f"drops.{kind}", f"packets.{kind}")] if args.pictures else []
+
+
+def save_all(args: argparse.Namespace, results: list[Result], rows: list[list[object]], title: str) -> None:
     """Saves the pictures, and the table that they are drawn from."""
     try:
-        folder.mkdir(parents=True, exist_ok=True)
+        args.pictures.mkdir(parents=True, exist_ok=True)
     except OSError as error:
-        raise Fault(f"{folder}: can't be made: {error.strerror}") from None
-    save_csv(folder / "table.csv", results)
-    save_picture(folder / f"drops.{kind}", drops_picture(results))
-    save_picture(folder / f"packets.{kind}", packets_picture(results))
-    print(f"saved: {folder}/table.csv, {folder}/drops.{kind}, {folder}/packets.{kind}")
+        raise Fault(f"{args.pictures}: can't be made: {error.strerror}") from None
+    table_name, drops, packets = picture_names(args)
+    write_text(table_name, table_text(results))
+    save_picture(drops, drops_picture(results, least_of(results), title))
+    save_picture(packets, packets_picture(rows, title))
 
 
 def parser_of() -> argparse.ArgumentParser:
-    parser = argparse.ArgumentParser(description=__doc__, formatter_class=argparse.RawDescriptionHelpFormatter)
-    parser.add_argument("setup", type=Path, metavar="SETUP")
+    parser = ToolParser(__doc__, "demo/lo.pcap --pictures made")
+    parser.add_argument("inputs", type=Path, nargs="+", metavar="SETUP|CAPTURE", help="a setup, or the capture of each CPU (pcap, pcapng, gzip)")
     grid = parser.add_argument_group("grid", "numbers stand between commas, as 4K,64K,1M")
     grid.add_argument("--block-size", type=numbers(PAGE, LARGEST_BLOCK, PAGE), metavar="N,..", help="bytes of a block")
-    grid.add_argument("--block-nr", type=numbers(2, MOST_BLOCKS), metavar="N,..", help="blocks (2,4,8,16,32,64,128,256)")
+    grid.add_argument("--block-nr", type=numbers(LEAST_BLOCKS, MOST_BLOCKS), metavar="N,..", help="blocks (2, 4, 8 and so on until nothing is lost)")
     grid.add_argument("--tov", type=numbers(0, MOST_TIMEOUT), metavar="MS,..", help="time-outs")
     grid.add_argument("--members", type=numbers(1, MOST_MEMBERS), metavar="M,..", help="members of the group")
-    grid.add_argument("--mode", type=modes, metavar="MODE,..", help=f"of {', '.join(MODES)}")
-    add_pace(parser)
+    grid.add_argument("--mode", type=modes, metavar="MODE,..", help=f"of {', '.join(MODES)}; hash{ROLLOVER} is hash with `flag rollover`")
+    grid.add_argument("--replay2", action="store_true", help="rings of TPACKET_V2: slots of frame_size bytes, and no timer")
+    add_pace(parser, has_phase=False)
+    parser.add_argument("--phases", type=int, default=8, metavar="N", help="so many phases of the timer, evenly over a time-out (8)")
+    parser.add_argument("-o", "--output", type=Path, metavar="FILE", help="saves a setup with the least ring that loses nothing")
     parser.add_argument("--pictures", type=Path, metavar="FOLDER", help="draws drops.svg and packets.svg there, beside table.csv")
     parser.add_argument("--png", action="store_true", help="draws PNG in place of SVG, where rsvg-convert is there")
-    parser.add_argument("--jobs", type=int, default=1, metavar="N", help="runs so many at once (1)")
+    parser.add_argument("--jobs", type=int, default=1, metavar="N", help="makes N runs at once (1)")
+    add_json(parser)
     add_program(parser)
     return parser
 
 
-def main(words: list[str]) -> int:
-    args = parser_of().parse_args(words)
-    program, setup, pace = program_of(args.program), read_setup(args.setup), pace_of(args)
+def check_words(args: argparse.Namespace, setup: Setup, pace: Pace) -> None:
+    """What options alone, or with the setup, show to be wrong, before anything is run."""
     if args.png and not args.pictures:
         raise Fault("--png: says how pictures are drawn, and --pictures where")
-    grid = grid_of(setup, args)
-    with Room(setup, program) as room:
-        fed = feeds(read_captures(setup), pace.speed)
-        results = Trial(room, fed, pace).run_all(grid, max(args.jobs, 1))
+    if not 1 <= args.phases <= MOST_PHASES:
+        raise Fault(f"--phases: a number from 1 to {MOST_PHASES}")
+    if args.jobs < 1:
+        raise Fault("--jobs: a number from 1 on")
+    if pace.stalls and not pace.has_reader:
+        raise Fault("--stall: says when no reader reads, and nobody reads at all: --blocks, --bytes or --pause gives a reader")
+    if args.replay2 and args.tov:
+        raise Fault("--tov: a ring of TPACKET_V2 has no time-out")
+    if args.output and is_made(setup):
+        for cpu in setup.cpus:
+            check_name(cpu.name)
+    names = picture_names(args)
+    if args.pictures:
+        check_folder(args.pictures)
+        for name in names[1:]:
+            check_picture(name)
+    check_outputs([args.output, *(name for name in names if args.pictures.is_dir())], args.inputs, setup)
+
+
+def check_name(name: str) -> None:
+    """Whether a capture can be named in a setup that ringtap takes."""
+    if not (name.isascii() and name.isprintable() and " " not in name and len(name) <= LARGEST_NAME):
+        raise Fault(f"-o: the name {name} can't be in a setup: ASCII without blanks, of at most {LARGEST_NAME} bytes")
+    with open(name, "rb") as file:
+        if file.read(len(GZIP_MAGIC)) == GZIP_MAGIC:
+            raise Fault(f"-o: {name} is gzip, which ringtap doesn't read: `gzip -dk {name}` unpacks it")
+
+
+def pace_for(args: argparse.Namespace, setup: Setup) -> tuple[Pace, bool]:
+    """The pace, and whether its reader is the one that captures have by default."""
+    is_default = is_made(setup) and not (args.blocks or args.bytes or args.pause)
+    if is_default:
+        args.pause = PAUSE
+    return pace_of(args), is_default
+
+
+def title_of(setup: Setup, fed: Fed, words: str) -> str:
+    """What a picture is of: the captures and the reader."""
+    names = [path.name for path in setup.capture_paths()]
+    shown = ", ".join(names[:2]) + (f" and {len(names) - 2} more" if len(names) > 2 else "")
+    return f"{shown}: {len(fed.times):,} frames in {fed.end / NANOSECONDS:.3f} s; {words}"
+
+
+def print_words(first: str, results: list[Result], rows: list[list[object]], least: Result | None, found: dict[str, object]) -> None:
+    print(f"{first}\n")
     print(table(HEADS, [row_of(result) for result in results]))
     print()
-    print(verdict_of(results))
-    if len(results[0].report.members) > 1 or len(largest_by_mode(results)) > 1:
+    print("\n".join(verdict_of(results, least)))
+    if len({(result.ring.mode, result.ring.members) for result in results}) > 1 or results[0].ring.members > 1:
         print("\nat the largest ring of each mode:\n")
-        print(table(["mode", "members", "member", "kept", "drops"], packet_rows(results)))
-    if args.pictures:
+        print(table(MEMBER_HEADS, rows))
+        print("\nthe largest member to the mean one:\n")
+        print(table(["mode", "members", "packets", "bytes kept"], evenness_rows(rows)))
+    if found:
         print()
-        save_all(args.pictures, "png" if args.png else "svg", results)
-    return 0
+        print("\n".join(advice_words(found)))
+
+
+def object_of(first: str, results: list[Result], rows: list[list[object]], least: Result | None, found: dict[str, object]) -> dict[str, object]:
+    """The same as one object."""
+    return {
+        "basis": first,
+        "rings": [dict(zip(HEADS, row_of(result))) | {"drops_by_phase": [report.drops for report in result.reports]} for result in results],
+        "least": dict(zip(HEADS, row_of(least))) if least else None,
+        "members": [dict(zip([head.replace(" ", "_") for head in MEMBER_HEADS], row)) for row in rows],
+        "evenness": [{"mode": row[0], "members": row[1], "packets": float(row[2]), "bytes": float(row[3])} for row in evenness_rows(rows)],
+        **found,
+    }
+
+
+def save_setup(path: Path, setup: Setup, least: Result) -> None:
+    changes = changes_of(least.ring, "rollover" in setup.flags)
+    write_text(path, setup.with_changes(changes, [cpu.name for cpu in setup.cpus]))
+
+
+def main(words: list[str]) -> int:
+    args = parser_of().parse_args(words)
+    program, setup = program_of(args.program), setup_of(args.inputs, args.replay2)
+    pace, is_default = pace_for(args, setup)
+    check_words(args, setup, pace)
+    grid = grid_of(setup, args)
+    with Room(setup, program) as room:
+        fed = feeds(room.streams(), pace.speed)
+        trials = Trials(room, fed, pace, args.phases, args.jobs)
+        results = trials.halved(trials.run_all(grid) if args.block_nr else trials.doubled(grid))
+        least = least_of(results)
+        rows = member_rows(trials, results)
+        found = advice(trials, least) if least else {}
+    first = opening(setup, args, pace, is_default)
+    if args.json:
+        print_json(object_of(first, results, rows, least, found))
+    else:
+        print_words(first, results, rows, least, found)
+    if args.pictures:
+        save_all(args, results, rows, title_of(setup, fed, reader_words(pace, "slots" if args.replay2 else "blocks")))
+    if args.output and least:
+        save_setup(args.output, setup, least)
+    saved = [str(path) for path in [*picture_names(args), *([args.output] if args.output and least else [])]]
+    if saved and not args.json:
+        print(f"\nsaved: {', '.join(saved)}")
+    return 0 if least else NONE_SUFFICES
 
 
 if __name__ == "__main__":

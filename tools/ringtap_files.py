@@ -107,20 +107,22 @@ class Setup:
         return [Path(cpu.name) for cpu in self.cpus]
 
     def with_changes(self, changes: dict[str, str | None], captures: list[str] | None = None) -> str:
-        """The text of this setup with other values, and with other names of captures. A word with None is left out. Each line
-        keeps its number: one that is left out becomes a comment, and new lines stand at the end."""
+        """The text of this setup with other values, and with other names of captures. A word with None is left out; a flag is a word of its
+        own, as `flag rollover`. Each line keeps its number: one that is left out becomes a comment, and new lines stand at the end."""
         left = dict(changes)
         names = iter(captures or [])
         made = []
         for text in self.lines:
             word, *values = words_of(text) or ["#"]
+            if word == "flag":
+                word = " ".join([word, *values])
             if word == "cpu" and captures:
                 text = " ".join(["cpu", next(names), *values[1:]])
             elif word in changes:
                 value = left.pop(word, None)
-                text = f"# {text}" if value is None else f"{word} {value}"
+                text = f"# {text}" if value is None else f"{word} {value}".rstrip()
             made.append(text)
-        made += [f"{word} {value}" for word, value in left.items() if value is not None]
+        made += [f"{word} {value}".rstrip() for word, value in left.items() if value is not None]
         return "\n".join(made) + "\n"
 
 

@@ -172,15 +172,15 @@ class Room:
             raise Fault(f"{path}: can't be read: {error.strerror}") from None
         return word
 
-    def write_setup(self, name: str, changes: dict[str, str | None]) -> None:
-        """Writes the setup with other values, and with the names that stand here."""
+    def write_setup(self, name: str, changes: dict[str, str | None], captures: list[str] | None = None) -> None:
+        """Writes the setup with other values, and with the names that files have here."""
         names = {"filter": "filter.ddd"} if "filter" in self.setup.values else {}
-        text = self.setup.with_changes({"ticks": None, **names, **changes}, self.captures)
+        text = self.setup.with_changes({"ticks": None, **names, **changes}, captures or self.captures)
         write_text(self.folder / name, text)
 
-    def replay(self, setup: str, schedule: str) -> Report:
+    def replay(self, setup: str, schedule: str, command: str = "replay") -> Report:
         """Makes a run, and returns what it printed. A capture with damage is no fault: it is run up to there."""
-        done = run_program(self.program, ["replay", setup, schedule], self.folder)
+        done = run_program(self.program, [command, setup, schedule], self.folder)
         if done.returncode not in (0, 4):
             said = done.stdout.strip() or "it printed nothing"
             where = self.texts.get(said.split()[0], self.setup.path)

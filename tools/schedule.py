@@ -120,13 +120,14 @@ def stall(text: str) -> tuple[Fraction, Fraction]:
     return not_negative(start), positive(length)
 
 
-def add_pace(parser: argparse.ArgumentParser) -> None:
+def add_pace(parser: argparse.ArgumentParser, has_phase: bool = True) -> None:
     """The options that say what is done beside the feeds."""
     group = parser.add_argument_group("time", "without a reader nobody reads before all frames are fed")
     group.add_argument("--speed", type=positive, default=Fraction(1), metavar="X", help="frames come X times as fast (1)")
     group.add_argument("--tick", type=int, metavar="MS", help="a tick every MS milliseconds (the setup's time-out); 0 never")
-    group.add_argument("--phase", type=not_negative, default=Fraction(0), metavar="MS",
-                       help="the timer was started MS milliseconds before the first frame (0)")
+    if has_phase:
+        group.add_argument("--phase", type=not_negative, default=Fraction(0), metavar="MS",
+                           help="the timer was started MS milliseconds before the first frame (0)")
     reader = group.add_mutually_exclusive_group()
     reader.add_argument("--blocks", type=positive, metavar="N", help="each reader makes a step, for one block, N times a second")
     reader.add_argument("--bytes", type=positive, metavar="N", help="the same so often that N bytes of blocks are read a second")
@@ -139,7 +140,7 @@ def add_pace(parser: argparse.ArgumentParser) -> None:
 def pace_of(args: argparse.Namespace) -> Pace:
     if args.tick is not None and args.tick < 0:
         raise Fault("--tick: a number of milliseconds isn't negative")
-    return Pace(args.speed, args.tick, args.phase, args.blocks, args.bytes, args.pause, tuple(args.stall), args.stats)
+    return Pace(args.speed, args.tick, getattr(args, "phase", Fraction(0)), args.blocks, args.bytes, args.pause, tuple(args.stall), args.stats)
 
 
 def main(words: list[str]) -> int:

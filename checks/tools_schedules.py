@@ -1,7 +1,7 @@
 #!/usr/bin/env python3
 """Whether schedules without what can do nothing give the runs of whole ones.
 
-    schedules.py PROGRAM FOLDER
+    tools_schedules.py PROGRAM FOLDER
 
 Captures of the repository and made ones, with silences and bursts, are replayed by a schedule of tools/schedule.py and by one that has
 every tick and every step of the readers, made here from the moments alone. Printed lines, captures and dumps have to be the same byte for
@@ -120,10 +120,11 @@ def outcome(setup, schedule, prefix):
 
 def main():
     draw = random.Random(7)
-    captures = [Path("demo/lo.pcap").resolve(), *(made(room / f"made{number}.pcap", draw, draw.choice([1, 3, 40, 200])) for number in range(12))]
+    ours = sorted(path.resolve() for path in [Path("demo/lo.pcap"), *Path("demo/expected").rglob("*.pcap")])
+    captures = [made(room / f"made{number}.pcap", draw, draw.choice([1, 3, 40, 200])) for number in range(12)]
     compared = unlike = shorter = 0
     for case in range(int(sys.argv[3]) if len(sys.argv) > 3 else 200):
-        names = draw.choices(captures, k=draw.choice([1, 1, 2]))
+        names = draw.choices(captures, k=draw.choice([1, 1, 2])) if case >= len(ours) else [ours[case]]
         setup, shape = setups(draw, names)
         pace = paces(draw)
         fed = feeds(map(CaptureStream, names), pace.speed)

@@ -1,0 +1,246 @@
+#!/usr/bin/env python3
+"""Compares what the tools' reader of captures gives with values laid out by hand, with the program and with tshark; and what busiest.py cuts, and
+what the guard of inputs refuses.
+
+    tools_captures.py PROGRAM FOLDER
+"""
+import gzip
+import json
+import random
+import re
+import shutil
+import struct
+import sys
+from pathlib import Path
+
+import tools
+from tools import BLOCK, TOP, answer, capture, expect, frame, program, room, text, tool
+
+sys.path.insert(0, str(TOP / "tools"))
+
+from ringtap_captures import CaptureStream  # noqa: E402
+from ringtap_files import Fault  # noqa: E402
+
+MAGICS = {"<": (0xA1B2C3D4, 0xA1B23C4D), ">": (0xA1B2C3D4, 0xA1B23C4D)}
+
+
+def saved(name, data):
+    (room / name).write_bytes(data)
+    return name
+
+
+def pcap(order, magic, records):
+    """A pcap file; a record is seconds, fraction, captured bytes and length on the wire."""
+    parts = [struct.pack(order + "IHHiIII", magic, 2, 4, 0, 0, 65535, 1)]
+    return b"".join(parts + [struct.pack(order + "IIII", sec, part, len(data), wire) + data for sec, part, data, wire in records])
+
+
+def block(order, kind, body):
+    size = 12 + (len(body) + 3) // 4 * 4
+    return struct.pack(order + "II", kind, size) + body.ljust(size - 12, b"\0") + struct.pack(order + "I", size)
+
+
+def section(order, minor=0):
+    return block(order, 0x0A0D0D0A, struct.pack(order + "IHHq", 0x1A2B3C4D, 1, minor, -1))
+
+
+def interface(order, resolution=None, snap=0, link=1):
+    options = b"" if resolution is None else struct.pack(order + "HHB3xHH", 9, 1, resolution, 0, 0)
+    return block(order, 1, struct.pack(order + "HHI", link, 0, snap) + options)
+
+
+def enhanced(order, number, time, data, wire):
+    return block(order, 6, struct.pack(order + "IIIII", number, time >> 32, time & 0xFFFFFFFF, len(data), wire) + data)
+
+
+def read(name):
+    """Time, length and bytes of each frame, and how the capture ends; or the sentence that refuses it."""
+    stream = CaptureStream(room / name, name=Path(name))
+    try:
+        frames = [(one.time, one.wire, one.data) for one in stream]
+    except Fault as fault:
+        return str(fault)
+    return frames, stream.end
+
+
+def test_pcap():
+    """Four magics: a half and 1.000007 seconds, as micro- and nanoseconds; a fraction of a second or more, and a wire length that is too small."""
+    for order, magics in MAGICS.items():
+        for magic, unit in zip(magics, (1000, 1)):
+            records = [(0, 500_000_000 // unit, frame(0), 60), (1, 7000 // unit, frame(1), 90), (2, 4_000_000_000 // unit, frame(2), 3)]
+            wanted = [(500_000_000, 60, frame(0)), (1_000_007_000, 90, frame(1)), (2_999_999_999, 60, frame(2))]
+            name = saved("four.pcap", pcap(order, magic, records))
+            expect(f"pcap {order}{magic:x}", read(name), (wanted, "ok"))
+            saved("four.gz", gzip.compress((room / name).read_bytes()))
+            expect(f"gzip of {order}{magic:x}", read("four.gz"), (wanted, "ok"))
+
+
+def test_pcapng():
+    """Time 3 times 2^32 and 5, in units of a microsecond (without the option), a nanosecond, a millisecond, 2^-20 and 10^-12 of a second."""
+    ticks = (3 << 32) + 5
+    units = {None: ticks * 1000, 9: ticks, 3: ticks * 1_000_000, 0x80 | 20: ticks * 10**9 // 2**20, 12: ticks // 1000}
+    for order in "<>":
+        for resolution, wanted in units.items():
+            name = saved("one.pcapng", section(order) + interface(order, resolution) + enhanced(order, 0, ticks, frame(0), 61))
+            expect(f"pcapng {order}{resolution}", read(name), ([(wanted, 61, frame(0))], "ok"))
+    both = section("<") + interface("<", 9) + interface("<", 6) + block("<", 5, bytes(40)) + enhanced("<", 1, 8, frame(0), 60)
+    both += enhanced("<", 0, 8, frame(1), 60) + block("<", 2, bytes(28) + frame(7)) + section(">", 2) + interface(">", None, 20)
+    both += block(">", 3, struct.pack(">I", 60) + frame(2)[:20]) + enhanced(">", 0, 9, frame(3), 70)
+    wanted = [(8000, 60, frame(0)), (8, 60, frame(1)), (0, 60, frame(2)[:20]), (9000, 70, frame(3))]
+    expect("two sections", read(saved("both.pcapng", both)), (wanted, "ok"))
+    # Seconds above 4,294,967,295 count as that, and the rest of a second stays: 5 * 10^15 milliseconds and 7.
+    late = section("<") + interface("<", 3) + enhanced("<", 0, 5 * 10**15 + 7, frame(0), 60)
+    expect("too late", read(saved("late.pcapng", late))[0][0][0], 4_294_967_295 * 10**9 + 7_000_000)
+    expect("gzip in two members", read(saved("both.gz", gzip.compress(both[:100]) + gzip.compress(both[100:]))), (wanted, "ok"))
+
+
+def test_damage():
+    """How captures end that are damaged or cut, and the frames before that, are what the program says: eight captures a run."""
+    draw = random.Random(11)
+    whole = pcap("<", 0xA1B2C3D4, [(n, n, frame(n), 60) for n in range(5)])
+    next_ = section("<") + interface("<", 9) + b"".join(enhanced("<", 0, n, frame(n), 60) for n in range(4)) + block("<", 4, bytes(20))
+    next_ += section(">") + interface(">") + block(">", 3, struct.pack(">I", 60) + frame(9))
+    files = []
+    for whole_one in (whole, next_):
+        files += [whole_one[: draw.randrange(28, len(whole_one))] for _ in range(16)]
+        for _ in range(40):
+            data = bytearray(whole_one)
+            for _ in range(draw.choice([1, 1, 2])):
+                data[draw.randrange(24, len(data))] ^= draw.choice([1, 4, 0x80, 0xFF])
+            files.append(bytes(data))
+    names = [saved(f"damaged{number}", data) for number, data in enumerate(files)]
+    kinds = set()
+    for at in range(0, len(names), 8):
+        mine = names[at : at + 8]
+        setup = text("damaged.txt", BLOCK + "".join(f"cpu {name}\n" for name in mine))
+        printed = answer([program, "replay", setup, "/dev/null"])[0]
+        ends = re.findall(r"^cpu \d+ frames (\d+) arrivals \d+ end (.*)$", printed, re.M)
+        expect(f"captures from {at} on", len(ends), len(mine))
+        for name, (count, end) in zip(mine, ends):
+            given = read(name)
+            kinds.add(end.split()[0])
+            if isinstance(given, str):
+                expect(f"{name}, refused: {given}", (count, end.split()[0] in ("bad_magic", "bad_version", "bad_link")), ("0", True))
+            else:
+                expect(f"{name} ends", (str(len(given[0])), given[1]), (count, end))
+    expect("kinds of damage", {"ok", "truncated", "bad_length", "bad_interface"} <= kinds, True)
+
+
+def test_limits():
+    """33,554,432 bytes count: the 128 records before that, of 16 and 262,128 bytes after 24, make 33,554,456, so 127 are whole."""
+    record = (0, 0, bytes(262_128), 262_128)
+    saved("large.pcap", pcap("<", 0xA1B2C3D4, [record] * 128))
+    frames, end = read("large.pcap")
+    expect("too large", (len(frames), end), (127, "too_large 33554432"))
+    expect("a record that is too long", read(saved("long.pcap", pcap("<", 0xA1B2C3D4, [(0, 0, bytes(262_145), 262_145)])))[1], "bad_length 24")
+    data = gzip.compress(pcap("<", 0xA1B2C3D4, [(0, 0, frame(0), 60), (1, 0, random.Random(1).randbytes(1400), 1400)]))
+    expect("gzip that is cut", read(saved("cut.gz", data[:-300]))[1], "truncated 100")
+    expect("gzip without its end", read(saved("cut.gz", data[:-8]))[1], "truncated 1516")
+    damaged = bytearray(data)
+    damaged[-6] ^= 1
+    expect("gzip that is damaged", "its gzip is damaged" in read(saved("bad.gz", bytes(damaged))), True)
+
+
+def test_tshark():
+    """Times and lengths as tshark gives them, where it is there, of the demo's capture in each form."""
+    if not shutil.which("tshark") or not shutil.which("editcap"):
+        print("tools_captures.py: nothing was compared with tshark, which isn't here")
+        return
+    forms = {"pcap": [], "nsecpcap": [], "pcapng": []}
+    for form in forms:
+        answer(["editcap", "-F", form, TOP / "demo" / "lo.pcap", room / f"lo.{form}"])
+        saved(f"lo.{form}.gz", gzip.compress((room / f"lo.{form}").read_bytes()))
+    for name in [name for form in forms for name in (f"lo.{form}", f"lo.{form}.gz")] + ["both.pcapng"]:
+        fields = ["frame.time_epoch", "frame.len", "frame.cap_len"]
+        printed, said, status = answer(["tshark", "-r", name, "-T", "fields", *[word for one in fields for word in ("-e", one)]])
+        given = [f"{time // 10**9}.{time % 10**9:09}\t{wire}\t{len(data)}" for time, wire, data in read(name)[0]]
+        theirs = [line for line in printed.split("\n") if line]
+        if name == "both.pcapng":  # tshark has the obsolete block too, and no time for a simple one
+            expect("tshark's lengths", [line.split("\t")[1:] for line in given], [line.split("\t")[1:] for line in theirs[:2] + theirs[3:]])
+        else:
+            expect(f"tshark of {name}", given, theirs)
+
+
+def test_tools_read_all():
+    """A setup may name pcapng and gzip: the tool unpacks what the program can't read, and a pipe can be read once."""
+    saved("lo.gz", gzip.compress((TOP / "demo" / "lo.pcap").read_bytes()))
+    small = (TOP / "demo" / "small.txt").read_text().replace("demo/lo.pcap", "lo.gz")
+    printed, said, status = tool("lost.py", text("gz.txt", small), TOP / "demo" / "schedule.txt", "--program", program)
+    expect("lost of gzip", ("52        52         0    43     9" in printed, said, status), (True, "", 0))
+    command = f"gzip -dc lo.gz | {sys.executable} -B {TOP}/tools/ring_size.py /dev/stdin --phases 1 --json --program {program}"
+    printed, said, status = answer(["bash", "-c", command])
+    expect("a pipe", (json.loads(printed)["least"]["kept"], said, status), (52, "", 0))
+
+
+def test_busiest():
+    """Ten frames 100 ms apart, and after a second five that are 2 ms apart. A frame of 60 bytes takes 144 bytes of a block and 76 of a file."""
+    capture("busy.pcap", [(100_000 * n, frame(n)) for n in range(10)] + [(2_000_000 + 2000 * n, frame(10 + n)) for n in range(5)])
+    printed, said, status = tool("busiest.py", "busy.pcap", "--ms", "50", "-o", "cut.pcap")
+    wanted = ["busy.pcap: 15 frames in 2.008000 s, which take 2,160 bytes of blocks",
+              "hardest: frames 11 to 15 (counted from 1), from 2.000000 s on for 0.008000 s, which take 720 bytes of blocks", "saved: cut.pcap", ""]
+    expect("the hardest 50 ms", (printed.split("\n"), said, status), (wanted, "", 0))
+    expect("its frames", read("cut.pcap"), ([(1002 * 10**9 + 2_000_000 * n, 60, frame(10 + n)) for n in range(5)], "ok"))
+    setup = text("cut.txt", BLOCK + "cpu cut.pcap\n")
+    expect("ringtap takes it", answer([program, "replay", setup, "/dev/null"])[0].split("\n")[0], "cpu 0 frames 5 arrivals 5 end ok")
+    # 24 and three records are 252 bytes, which come in 4 ms at best, frames 11 to 13 first.
+    printed, _, _ = tool("busiest.py", "busy.pcap", "--mib", 252 / 1048576, "-o", "cut.pcap", "--json")
+    found = json.loads(printed)["hardest"]
+    expect("the hardest 252 bytes", [found[key] for key in ("first_frame", "frames", "nanoseconds", "file_bytes")], [11, 3, 4_000_000, 252])
+    # Of 200 ms two frames of the first ten: 99 ms and less have one, 101 ms two, and 501 ms six, more than the last five.
+    printed, _, _ = tool("busiest.py", "busy.pcap", "--ms", "501", "-o", "cut.pcap", "--json")
+    expect("a longer window", [json.loads(printed)["hardest"][key] for key in ("first_frame", "frames")], [1, 6])
+    printed, _, _ = tool("busiest.py", "busy.pcap", "--ms", "501", "--frames", "4", "-o", "cut.pcap")
+    expect("at most 4 frames", printed.split("\n")[2], "it has the 4 frames that a schedule has room for; --frames takes another number")
+    expect("not over its input", tool("busiest.py", "busy.pcap", "-o", "busy.pcap"),
+           ("", "busiest.py: busy.pcap: would take the place of the input busy.pcap: choose another name\n", 1))
+
+
+def test_memory():
+    """A capture of 96 MiB is read in 64 MiB of memory. A frame of 262,144 bytes takes 262,232 of a block."""
+    with open(room / "wide.pcap", "wb") as file:
+        file.write(pcap("<", 0xA1B2C3D4, []))
+        for number in range(384):
+            file.write(struct.pack("<IIII", 1000 * number, 0, 262_144, 262_144) + bytes(262_144))
+    command = f"ulimit -v 65536; exec {sys.executable} -B {TOP}/tools/busiest.py wide.pcap -o cut.pcap"
+    printed, said, status = answer(["bash", "-c", command])
+    expect("96 MiB", (printed.split("\n")[0], said, status),
+           ("wide.pcap: 384 frames in 383,000.000000 s, which take 100,697,088 bytes of blocks", "", 0))
+    (room / "wide.pcap").unlink()
+
+
+def test_guard():
+    """No output takes the place of an input, of a link to one or of a file that a setup names; what was there stays."""
+    capture("safe.pcap", [(0, frame(0))])
+    text("safe.ddd", "1\n6 0 0 65535\n")
+    setup = text("safe.txt", BLOCK + "cpu safe.pcap\nfilter safe.ddd\n")
+    (room / "soft").symlink_to("safe.pcap")
+    (room / "hard").hardlink_to(room / "safe.pcap")
+    before = {name: (room / name).read_bytes() for name in ("safe.pcap", "safe.ddd", "safe.txt")}
+    for name in ("safe.pcap", "safe.ddd", "safe.txt", "soft", "hard"):
+        given = {"soft": "safe.pcap", "hard": "safe.pcap"}.get(name, name)
+        said = f"schedule.py: {name}: would take the place of the input {given}: choose another name\n"
+        expect(f"a schedule over {name}", tool("schedule.py", setup, "-o", name), ("", said, 1))
+    shown = TOP / "checks" / "packet_sockets.txt"
+    expect("a setup over a capture", tool("ring_of.py", "safe.pcap", "--from", shown, "--inode", "137704", "-o", "safe.pcap"),
+           ("", "ring_of.py: safe.pcap: would take the place of the input safe.pcap: choose another name\n", 1))
+    expect("no folder", tool("schedule.py", setup, "-o", "gone/made")[1], "schedule.py: gone/made: can't be written: there is no folder gone\n")
+    expect("all stay", {name: (room / name).read_bytes() for name in before} == before, True)
+
+
+def test_written():
+    """An output takes its name when it is whole: through a link, with the rights that were there, and nothing is left beside it."""
+    setup = text("safe.txt", BLOCK + "cpu safe.pcap\n")
+    text("target", "old\n")
+    (room / "target").chmod(0o640)
+    (room / "link").symlink_to("target")
+    expect("through a link", tool("schedule.py", setup, "-o", "link")[2], 0)
+    expect("the link's target", ((room / "link").is_symlink(), (room / "target").read_text(), (room / "target").stat().st_mode & 0o777),
+           (True, "feed 0\n", 0o640))
+    expect("to a device", tool("schedule.py", setup, "-o", "/dev/stdout"), ("feed 0\n", "", 0))
+    expect("a full disk", tool("schedule.py", setup, "-o", "/dev/full"),
+           ("", "schedule.py: /dev/full: can't be written: No space left on device\n", 1))
+    expect("nothing beside", [path.name for path in room.iterdir() if path.name.startswith(".ringtap")], [])
+
+
+if __name__ == "__main__":
+    tools.main(globals())

@@ -1,0 +1,272 @@
+"""Rings of a grid, each run at several phases of the timer, and the least one that loses nothing."""
+from __future__ import annotations
+
+import os
+import threading
+from concurrent.futures import ThreadPoolExecutor
+from dataclasses import dataclass, replace
+from fractions import Fraction
+from pathlib import Path
+
+from ringtap_captures import LARGEST_CAPTURE, CaptureStream, CaptureWriter
+from ringtap_clock import Pace, Shape
+from ringtap_files import Fault, Setup
+from ringtap_outputs import write_text
+from ringtap_runs import MemberReport, Progress, Report, Room
+from schedule import DEFAULT_TIMEOUT, Fed, schedule_of
+
+LARGEST_RING, MOST_BLOCKS, MOST_SLOTS = 67_108_864, 256, 65_536
+LEAST_BLOCKS = 2
+ROLLOVER = "+rollover"  # after a mode, where the flag is set
+RESERVED = 4  # bytes that libpcap has before each packet's data beyond ringtap's 82
+
+
+@dataclass(frozen=True)
+class Ring:
+    """One place of the grid."""
+
+    mode: str
+    members: int
+    timeout: int  # milliseconds, as the setup says it
+    block_size: int
+    block_nr: int
+    frame_size: int
+    is_v2: bool = False
+
+    @property
+    def memory(self) -> int:
+        return self.block_size * self.block_nr * self.members
+
+    @property
+    def slots(self) -> int:
+        return self.block_size // self.frame_size * self.block_nr
+
+    @property
+    def fits(self) -> bool:
+        """Whether ringtap has such a ring."""
+        is_within = self.block_nr <= MOST_BLOCKS and self.block_size * self.block_nr <= LARGEST_RING
+        return is_within and not (self.is_v2 and self.slots > MOST_SLOTS)
+
+    def words(self) -> str:
+        members = "" if self.members == 1 else f", {self.members} members by {self.mode}"
+        if self.is_v2:
+            return f"{self.slots} slots of {self.frame_size} bytes, in {self.block_nr} blocks of {self.block_size} bytes{members}"
+        return f"{self.block_nr} blocks of {self.block_size} bytes{members}, time-out {self.timeout or DEFAULT_TIMEOUT} ms"
+
+    def shape(self) -> Shape:
+        """What a schedule has to know; one schedule does for every number of blocks."""
+        if self.is_v2:
+            return Shape(self.members, self.frame_size, MOST_SLOTS, None)
+        return Shape(self.members, self.block_size, MOST_BLOCKS, self.timeout or DEFAULT_TIMEOUT)
+
+
+@dataclass(frozen=True)
+class Result:
+    """A ring, and what the program printed at each phase."""
+
+    ring: Ring
+    phases: tuple[int, ...]  # milliseconds
+    reports: tuple[Report, ...]
+
+    @property
+    def worst(self) -> Report:
+        """Of the first phase that loses most."""
+        return max(self.reports, key=lambda report: report.drops)
+
+    @property
+    def worst_phase(self) -> int:
+        return self.phases[self.reports.index(self.worst)]
+
+    @property
+    def drops(self) -> int:
+        return self.worst.drops
+
+    @property
+    def fewest(self) -> int:
+        return min(report.drops for report in self.reports)
+
+
+def changes_of(ring: Ring, has_flag: bool, prefix: str | None = None) -> dict[str, str | None]:
+    """The lines by which a ring of the grid differs from a setup."""
+    mode = ring.mode.removesuffix(ROLLOVER)
+    changes: dict[str, str | None] = {
+        "block_size": str(ring.block_size), "block_nr": str(ring.block_nr), "frame_size": str(ring.frame_size),
+        "frame_nr": str(ring.slots), "members": str(ring.members), "mode": mode,
+    }
+    if not ring.is_v2:
+        changes["tov"] = str(ring.timeout)
+    if ring.mode.endswith(ROLLOVER) or has_flag:
+        changes["flag rollover"] = "" if ring.mode.endswith(ROLLOVER) else None
+    return {**changes, "out": prefix, "dump": None} if prefix else changes
+
+
+class Trials:
+    """Runs rings, each at every phase. What the runs save goes nowhere, save that of `saved`."""
+
+    def __init__(self, room: Room, fed: Fed, pace: Pace, phases: int, jobs: int) -> None:
+        self.room, self.fed, self.pace, self.phases, self.jobs = room, fed, pace, phases, jobs
+        self.has_flag = "rollover" in room.setup.flags
+        self.schedules: dict[tuple[Shape, int], str] = {}
+        self.lock = threading.Lock()
+        self.count = 0
+        self.captures: list[str] | None = None  # other names than the room's
+        for member in range(8):
+            (room.folder / f"nowhere.{member}.pcap").symlink_to(os.devnull)
+
+    def phases_of(self, ring: Ring) -> tuple[int, ...]:
+        """By how many milliseconds the timer was started before the first frame."""
+        every = ring.timeout or DEFAULT_TIMEOUT
+        every = every if self.pace.tick is None else self.pace.tick
+        if ring.is_v2 or not every:
+            return (0,)
+        return tuple(sorted({every * number // self.phases for number in range(self.phases)}))
+
+    def schedule(self, ring: Ring, phase: int) -> str:
+        """The name of the schedule for a ring."""
+        with self.lock:
+            key = ring.shape(), phase
+            if key not in self.schedules:
+                name = f"schedule{len(self.schedules)}"
+                text = schedule_of(self.fed, replace(self.pace, phase=Fraction(phase)), ring.shape())
+                write_text(self.room.folder / name, text)
+                self.schedules[key] = name
+            return self.schedules[key]
+
+    def run(self, ring: Ring, phase: int, prefix: str = "nowhere") -> Report:
+        with self.lock:
+            self.count += 1
+            setup = f"setup{self.count}"
+        schedule = self.schedule(ring, phase)
+        self.room.write_setup(setup, changes_of(ring, self.has_flag, prefix), self.captures)
+        report = self.room.replay(setup, schedule, "replay2" if ring.is_v2 else "replay")
+        (self.room.folder / setup).unlink()
+        return report
+
+    def run_all(self, rings: list[Ring]) -> list[Result]:
+        wanted = [(ring, phase) for ring in rings for phase in self.phases_of(ring)]
+        progress, reports = Progress(len(wanted), "runs"), []
+        with ThreadPoolExecutor(self.jobs) as pool:
+            waiting = [pool.submit(self.run, *one) for one in wanted]
+            try:
+                for one in waiting:
+                    reports.append(one.result())
+                    progress.step()
+            except BaseException:
+                pool.shutdown(cancel_futures=True)
+                raise
+        given = iter(reports)
+        return [Result(ring, self.phases_of(ring), tuple(next(given) for _ in self.phases_of(ring))) for ring in rings]
+
+    def doubled(self, rings: list[Ring]) -> list[Result]:
+        """Doubles the number of blocks of each ring until one loses nothing, and once more, or as far as ringtap goes."""
+        results: list[Result] = []
+        while rings:
+            made = self.run_all(rings)
+            results += made
+            smaller = {replace(result.ring, block_nr=0): result for result in results if result not in made}
+            rings = []
+            for result in made:
+                before = smaller.get(replace(result.ring, block_nr=0))
+                larger = replace(result.ring, block_nr=2 * result.ring.block_nr)
+                if larger.fits and (result.drops or before is None or before.drops):
+                    rings.append(larger)
+        return [result for line in lines_of(results) for result in line]
+
+    def halved(self, results: list[Result]) -> list[Result]:
+        """Goes on, along each line of rings that differ in the number of blocks alone, between the last one that loses and the first larger one
+        that doesn't, until the two are neighbours. Gives all results, in the order of the grid."""
+        while True:
+            middles = [middle for line in lines_of(results) if (middle := middle_of(line))]
+            if not middles:
+                return [result for line in lines_of(results) for result in line]
+            results = results + self.run_all(middles)
+
+    def kept_bytes(self, result: Result) -> list[int]:
+        """The bytes on the wire that each member kept, of the worst phase: the run is made again, and its captures are read."""
+        self.run(result.ring, result.worst_phase, "saved")
+        paths = [self.room.folder / f"saved.{member}.pcap" for member in range(result.ring.members)]
+        sums = [sum(frame.wire for frame in CaptureStream(path, None)) for path in paths]
+        for path in paths:
+            path.unlink()
+        return sums
+
+    def libpcap_blocks(self, ring: Ring) -> int | None:
+        """How many blocks of this size libpcap needs, which has four bytes more before each packet's data: captures whose frames are that
+        much longer are run. None where ringtap has no such ring, or the captures come out too large."""
+        self.captures = [longer(stream, self.room.folder / f"longer{cpu}.pcap") for cpu, stream in enumerate(self.room.streams())]
+        if any((self.room.folder / name).stat().st_size > LARGEST_CAPTURE for name in self.captures):
+            return None
+        while ring.fits:
+            if self.run_all([ring])[0].drops == 0:
+                return ring.block_nr
+            ring = replace(ring, block_nr=ring.block_nr + 1)
+        return None
+
+
+def longer(stream: CaptureStream, path: Path) -> str:
+    """Writes a capture whose frames have some bytes more."""
+    try:
+        with open(path, "wb") as file:
+            writer = CaptureWriter(file)
+            for frame in stream:
+                writer.write(frame._replace(wire=frame.wire + RESERVED, data=frame.data + bytes(RESERVED)))
+    except OSError as error:
+        raise Fault(f"{path}: can't be written: {error.strerror}") from None
+    return path.name
+
+
+def lines_of(results: list[Result]) -> list[list[Result]]:
+    """The results whose rings differ in the number of blocks alone, by rising numbers."""
+    lines: dict[Ring, list[Result]] = {}
+    for result in results:
+        lines.setdefault(replace(result.ring, block_nr=0), []).append(result)
+    return [sorted(line, key=lambda result: result.ring.block_nr) for line in lines.values()]
+
+
+def middle_of(line: list[Result]) -> Ring | None:
+    """A ring halfway between the last one that loses and the next; None where there is none between."""
+    losing = [result.ring.block_nr for result in line if result.drops]
+    larger = [result.ring.block_nr for result in line if losing and result.ring.block_nr > losing[-1]]
+    if not larger or larger[0] - losing[-1] < 2:
+        return None
+    return replace(line[0].ring, block_nr=(losing[-1] + larger[0]) // 2)
+
+
+def least_of(results: list[Result]) -> Result | None:
+    """The ring of the least memory that loses nothing at any phase, and no more of its line does."""
+    whole = []
+    for line in lines_of(results):
+        losing = [result.ring.block_nr for result in line if result.drops]
+        whole += [result for result in line if not losing or result.ring.block_nr > losing[-1]]
+    return min(whole, key=lambda result: (result.ring.memory, result.ring.members, result.ring.block_nr), default=None)
+
+
+def largest_by_mode(results: list[Result]) -> list[Result]:
+    """For each mode and number of members the result of the largest ring."""
+    largest: dict[tuple[str, int], Result] = {}
+    for result in results:
+        key = result.ring.mode, result.ring.members
+        if key not in largest or result.ring.memory > largest[key].ring.memory:
+            largest[key] = result
+    return list(largest.values())
+
+
+def evenness(numbers: list[int]) -> float:
+    """The largest of some numbers to their mean: 1 where all are alike, their count where one has all."""
+    return round(max(numbers) * len(numbers) / sum(numbers), 2) if sum(numbers) else 1.0
+
+
+def members_of(result: Result) -> tuple[MemberReport, ...]:
+    return tuple(result.worst.members)
+
+
+def suricata_lines(ring: Ring) -> list[str]:
+    """The lines of af-packet in suricata.yaml that make such a ring, by its documentation and source: a frame of 1,514 bytes takes 1,600 there,
+    and a ring has `ring-size` by the frames of a block, rounded down, and one block more."""
+    clusters = {"hash": "cluster_flow", "cpu": "cluster_cpu", "qm": "cluster_qm"}
+    lines = [f"block-size: {ring.block_size}", f"ring-size: {ring.block_nr * (ring.block_size // 1600) - 1}",
+             f"block-timeout: {ring.timeout or DEFAULT_TIMEOUT}"]
+    if ring.members > 1:
+        cluster = clusters.get(ring.mode.removesuffix(ROLLOVER))
+        lines += [f"threads: {ring.members}"] + [f"cluster-type: {cluster}"] * (cluster is not None)
+    return lines
