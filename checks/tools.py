@@ -7,16 +7,13 @@ Sums stand beside the tests: a frame of 60 bytes takes 144 bytes of a block, of 
 """
 import csv
 import gzip
-import os
 import re
-import socket
 import struct
 import sys
 import xml.etree.ElementTree
 from pathlib import Path
 
 import runs
-from hash_values import KEY
 
 program, room = Path(sys.argv[1]).resolve(), Path(sys.argv[2]).resolve()
 TOP = Path(__file__).resolve().parent.parent
@@ -126,55 +123,6 @@ def titles(name):
     return [title.text for title in tree.iter("{http://www.w3.org/2000/svg}title")]
 
 
-def ring_of(*words):
-    return tool("ring_of.py", "x.pcap", "--from", TOP / "checks" / "packet_sockets.txt", *words)
-
-
-def test_ring_of():
-    """What ss of iproute2 6.1.0 printed of tcpdump and of sockets that a script opened, on a kernel 6.18."""
-    printed, said, status = ring_of("--name", "tcpdump", "--inode", "137704", "-o", "dump.txt")
-    wanted = ("# The ring of tcpdump (pid 12965) on lo, as ss shows it.\nblock_size 262144\nblock_nr 8\nframe_size 262144\nframe_nr 8\n"
-              "tov 1000\nfeatures 0\ncpu x.pcap\nfilter dump.txt.ddd\n")
-    expect("tcpdump's ring", (printed, said, status, (room / "dump.txt").read_text()), ("", "", 0, wanted))
-    filtered = (room / "dump.txt.ddd").read_text().split("\n")
-    # As `tcpdump -ddd 'udp port 53 and net 10.0.0.0/8'` begins, and ends with its 262144 bytes, and none.
-    expect("its filter", (filtered[:3], filtered[-3:]), (["20", "40 0 0 12", "21 17 0 34525"], ["6 0 0 262144", "6 0 0 0", ""]))
-    expect("the program takes it", answer([program, "check", "dump.txt"]), ("ok\n", "", 0))
-    expect("a group", ring_of("--inode", "137755")[0].split("\n")[5:11],
-           ["tov 60", "features 1", "cpu x.pcap", "members 3", "mode hash", f"key {KEY}"])
-    for inode, mode in {"137757": "cpu", "137758": "rollover", "139291": "qm", "139287": "lb"}.items():
-        expect(mode, f"mode {mode}" in ring_of("--inode", inode)[0].split("\n"), True)
-    said = {
-        "137706": "inode 137706: is a TPACKET_V2 ring of tcpdump (pid 12967) on lo; "
-                  "for `replay2` write a setup by hand: these tools run `replay`",
-        "139288": "fanout group 84: has type random, which ringtap has not",
-        "139292": "the ring has blocks of 2097152 bytes in place of at most 1048576, which ringtap has not: --fit takes the nearest one",
-        "134820": "the ring has 512 blocks of 4096 bytes in place of 2 to 256, which ringtap has not: --fit takes the nearest one",
-    }
-    for inode, wanted in said.items():
-        expect(inode, ring_of("--inode", inode), ("", f"ring_of.py: {wanted}\n", 1))
-    expect("fitted", ring_of("--inode", "139292", "--fit")[0].split("\n")[2:6],
-           ["block_size 1048576", "block_nr 8", "frame_size 2048", "frame_nr 4096"])
-    expect("which one", ring_of()[1].split("\n")[0], "ring_of.py: more than one ring: choose by --pid, --name or --inode")
-
-
-def test_live_ring():
-    """A ring of this process, where it may open one and ss is there."""
-    try:
-        with socket.socket(socket.AF_PACKET, socket.SOCK_RAW, socket.htons(3)) as live:
-            live.setsockopt(263, 10, struct.pack("i", 2))  # SOL_PACKET, PACKET_VERSION, TPACKET_V3
-            live.setsockopt(263, 5, struct.pack("IIIIIII", 8192, 4, 2048, 16, 70, 0, 0))  # PACKET_RX_RING
-            printed, said, _ = tool("ring_of.py", "x.pcap", "--pid", os.getpid())
-    except OSError as error:
-        print(f"tools.py: no ring of a running program was looked at: {error}")
-        return
-    if "ss isn't here" in said:
-        print("tools.py: no ring of a running program was looked at: ss isn't here")
-        return
-    expect("a running ring", printed.split("\n")[1:7],
-           ["block_size 8192", "block_nr 4", "frame_size 2048", "frame_nr 16", "tov 70", "features 0"])
-
-
 def test_sentences():
     """What is wrong with an input is said with its file and its place."""
     capture("many.pcap", [(number, frame(number)) for number in range(100)])
@@ -243,6 +191,7 @@ def test_examples():
     here.mkdir()
     (here / "demo").symlink_to(TOP / "demo")
     (here / "checks").symlink_to(TOP / "checks")
+    (here / "examples").symlink_to(TOP / "examples")
     (here / "in.0.pcap").write_bytes((TOP / "demo" / "lo.pcap").read_bytes())
     (here / "clash.txt").write_text(BLOCK + "cpu in.0.pcap\nout in\n")
     (here / "cluster.txt").write_text(BLOCK + "cpu in.0.pcap\nmode cluster_flow\n")

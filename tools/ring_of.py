@@ -1,9 +1,12 @@
 #!/usr/bin/env python3
-"""Writes a setup that has the ring of a running program, as `ss -0 -e -i -b -p` of iproute2 shows it.
+"""Writes a setup that has the ring of a running program, as `ss -0 -e -i -b -p` of iproute2 shows it, or the one that a suricata.yaml asks for.
 
 Sockets of one fanout group make one setup. ss shows neither the private area of a block nor the group's flags, and who may not see other
-people's sockets, as an ordinary user, is shown no filter and no process. The key of a hash is the kernel's secret: in its place stands the published
-one of receive side scaling, so flows go to other members than in the kernel, each to one all the same.
+people's sockets, as an ordinary user, is shown no filter and no process. The key of a hash is the kernel's secret: in its place stands the
+published one of receive side scaling, so flows go to other members than in the kernel, each to one all the same.
+
+libpcap reserves 4 bytes of each packet for a VLAN tag (PACKET_RESERVE), so that its data begins at 86 where ringtap's does at 82: the setup says
+so, since of packets of 62 bytes a ring here has room for 5.6 percent more. A socket that isn't Ethernet, as that of `-i any`, is warned of.
 """
 from __future__ import annotations
 
@@ -19,6 +22,8 @@ sys.path.insert(0, str(Path(__file__).resolve().parent))  # which `python3 -I` l
 from ringtap_files import Fault, read_bytes, run_main
 from ringtap_outputs import check_outputs, write_text
 from ringtap_runs import table
+from ringtap_words import ToolParser, add_json, print_json
+from suricata_rings import SuricataRing, read_config
 
 SS = ["ss", "-0", "-e", "-i", "-b", "-p", "-n", "-H"]
 MODES = {"hash": "hash", "lb": "lb", "cpu": "cpu", "roll": "rollover", "qm": "qm"}
@@ -46,6 +51,7 @@ class Socket:
     """A packet socket with a receive ring."""
 
     inode: int
+    kind: str  # p_raw, or p_dgr, whose packets have no link header
     device: str
     version: int
     ring: Ring
@@ -86,6 +92,7 @@ def socket_of(entry: str) -> Socket | None:
     parts = [part.split() for part in filtered[1].split(",") if part.strip()] if filtered else []
     return Socket(
         int(inode[1]),
+        entry.split()[0],
         device[1] if device else "?",
         int(version[1]),
         Ring(*numbers),
@@ -142,30 +149,81 @@ def fitted(ring: Ring, is_fit: bool) -> tuple[Ring, list[str]]:
     return Ring(size, count, ring.frame_size, timeout, ring.features), changes
 
 
-def setup_of(group: list[Socket], captures: list[str], filter_name: str | None, is_fit: bool) -> str:
-    """The text of the setup."""
-    first = group[0]
+LIBPCAP = ("tcpdump", "dumpcap", "tshark", "wireshark", "snort", "nmap", "ngrep", "tcpflow", "arpwatch", "p0f")
+RESERVES = [
+    "# libpcap reserves 4 bytes more of each packet (PACKET_RESERVE 4): its data begins at 86, and here at 82. So this ring has room for",
+    "# more than that one: for 1820 packets of 62 bytes in a block of 262144, where a kernel 6.18 puts 1724, 5.6 percent too many.",
+]
+ETHERNET_TYPES = (1, 772)  # ARPHRD_ETHER, and ARPHRD_LOOPBACK, whose frames have an Ethernet header
+
+
+def warnings_of(socket: Socket, is_live: bool) -> list[str]:
+    """What makes a socket another than an Ethernet one."""
+    if socket.kind == "p_dgr":
+        return [f"inode {socket.inode}: has packets without an Ethernet header (SOCK_DGRAM, as of `-i any`), and ringtap's are Ethernet frames: "
+                "the room that packets take here is another, and so is a filter"]
+    try:
+        kind = int(Path(f"/sys/class/net/{socket.device}/type").read_text()) if is_live else 1
+    except (OSError, ValueError):
+        return []
+    if kind in ETHERNET_TYPES:
+        return []
+    return [f"inode {socket.inode}: {socket.device} isn't an Ethernet device (its type is {kind}), and ringtap's frames are Ethernet"]
+
+
+def refuse_version(first: Socket) -> None:
     if first.version != V3:
         name = VERSION_NAMES.get(first.version, f"version {first.version}")
         what = "for `replay2` write a setup by hand: these tools run `replay`" if first.version == V2 else f"ringtap has no {name} rings"
         raise Fault(f"inode {first.inode}: is a {name} ring of {first.words()}; {what}")
-    if len(group) > MOST_MEMBERS:
-        raise Fault(f"the group has {len(group)} members, and ringtap has at most {MOST_MEMBERS}")
+
+
+def setup_of(group: list[Socket], captures: list[str], filter_name: str | None, is_fit: bool) -> str:
+    """The text of the setup."""
+    first = group[0]
+    refuse_version(first)
     ring, changes = fitted(first.ring, is_fit)
-    lines = [f"# The ring of {first.words()}, as ss shows it."]
-    lines += [f"# It has {change}." for change in changes]
-    lines += [
-        f"block_size {ring.block_size}", f"block_nr {ring.block_nr}", f"frame_size {ring.frame_size}",
-        f"frame_nr {ring.block_size // ring.frame_size * ring.block_nr}", f"tov {ring.timeout}", f"features {ring.features & 1}",
-    ]
-    lines += [f"cpu {capture}" for capture in captures]
+    lines = [f"# The ring of {first.words()}, as ss shows it.", *[f"# It has {change}." for change in changes]]
+    lines += RESERVES * any(name in LIBPCAP for name, _ in first.users)
+    lines += ring_lines(ring, captures)
     if first.fanout:
         mode = MODES.get(first.fanout[1])
         if not mode:
             raise Fault(f"fanout group {first.fanout[0]}: has type {first.fanout[1]}, which ringtap has not")
-        lines += [f"members {len(group)}", f"mode {mode}", *[f"key {KEY}"] * (mode == "hash")]
+        lines += group_lines(len(group), mode)
     if filter_name:
         lines.append(f"filter {filter_name}")
+    return "\n".join(lines) + "\n"
+
+
+def ring_lines(ring: Ring, captures: list[str]) -> list[str]:
+    return [
+        f"block_size {ring.block_size}", f"block_nr {ring.block_nr}", f"frame_size {ring.frame_size}",
+        f"frame_nr {ring.block_size // ring.frame_size * ring.block_nr}", f"tov {ring.timeout}", f"features {ring.features & 1}",
+        *[f"cpu {capture}" for capture in captures],
+    ]
+
+
+def group_lines(members: int, mode: str) -> list[str]:
+    if members > MOST_MEMBERS:
+        raise Fault(f"the group has {members} members, and ringtap has at most {MOST_MEMBERS}")
+    return [f"members {members}", f"mode {mode}", *[f"key {KEY}"] * (mode == "hash")]
+
+
+def suricata_setup(args: argparse.Namespace) -> str:
+    """The setup of the ring that Suricata asks for, with a member for each of its threads."""
+    asked = SuricataRing(read_config(args.suricata), args.interface, args.threads or len(args.captures))
+    ring, changes = fitted(Ring(asked.block_size, asked.block_nr, asked.frame_size, asked.timeout, 0), args.fit)
+    inside = asked.block_size // asked.frame_size
+    lines = [
+        f"# The ring that Suricata asks for on {asked.name}, by {args.suricata}. By its source (AFPComputeRingParamsV3 in source-af-packet.c) and",
+        f"# documentation, not run here: frames of {asked.frame_size} bytes, {inside} in a block, so {asked.packets} / {inside} + 1 = {asked.block_nr} blocks.",
+        *[f"# It has {change}." for change in changes], *ring_lines(ring, args.captures), *group_lines(asked.threads, asked.mode()),
+        *[f"flag {flag}" for flag in asked.flags()],
+    ]
+    expression = asked.word("bpf-filter", "")
+    if expression:
+        lines.append(f"# Its filter: tcpdump -y EN10MB -ddd '{expression}' >FILE, and a line `filter FILE`.")
     return "\n".join(lines) + "\n"
 
 
@@ -179,33 +237,75 @@ def shown_by_ss() -> str:
     return done.stdout
 
 
-def main(words: list[str]) -> int:
-    parser = argparse.ArgumentParser(description=__doc__, formatter_class=argparse.RawDescriptionHelpFormatter)
+def parser_of() -> ToolParser:
+    parser = ToolParser(__doc__, "demo/lo.pcap --from checks/packet_sockets.txt --name tcpdump --inode 137704")
     parser.add_argument("captures", nargs="+", metavar="CAPTURE", help="the capture of each CPU, for the setup's lines `cpu`")
     parser.add_argument("--pid", type=int, metavar="N", help="the ring of this process")
     parser.add_argument("--name", metavar="NAME", help="the ring of the program of this name")
     parser.add_argument("--inode", type=int, metavar="N", help="the ring of the socket with this inode, as ss shows it")
     parser.add_argument("--from", dest="shown", type=Path, metavar="FILE", help=f"what `{' '.join(SS)}` printed, in place of a call of it")
-    parser.add_argument("--fit", action="store_true", help="takes the nearest ring that ringtap has")
+    parser.add_argument("--suricata", type=Path, metavar="YAML", help="the ring that this suricata.yaml asks for, by its source and documentation")
+    parser.add_argument("--interface", metavar="NAME", help="the interface of the suricata.yaml (the first one)")
+    parser.add_argument("--threads", type=int, metavar="N", help="Suricata's threads where its file has `auto` (one for each CAPTURE)")
+    parser.add_argument("--fit", action="store_true", help="take the nearest ring that ringtap has")
     parser.add_argument("-o", "--output", type=Path, metavar="FILE", help="the setup; a filter goes beside it, into FILE.ddd")
-    args = parser.parse_args(words)
-    outputs = [args.output, Path(f"{args.output}.ddd")] if args.output else []
-    check_outputs(outputs, [*map(Path, args.captures), *filter(None, [args.shown])])
+    add_json(parser)
+    return parser
+
+
+@dataclass
+class Answer:
+    """The setup, the filter beside it, and what is to be warned of."""
+
+    setup: str
+    instructions: tuple[str, ...] = ()
+    filter_name: str | None = None
+    warnings: tuple[str, ...] = ()
+
+
+def answer_of(args: argparse.Namespace) -> Answer:
+    if args.suricata:
+        return Answer(suricata_setup(args))
     text = read_bytes(args.shown).decode(errors="replace") if args.shown else shown_by_ss()
     sockets = [socket for socket in map(socket_of, entries(text)) if socket]
     group = chosen(groups_of(sockets), args)
-    instructions, filter_name = group[0].filter, None
-    if instructions and args.output:
-        filter_name = f"{args.output}.ddd"
-    setup = setup_of(group, args.captures, filter_name, args.fit)
-    if filter_name:
-        write_text(Path(filter_name), "\n".join([str(len(instructions)), *instructions]) + "\n")
+    instructions = group[0].filter
+    filter_name = f"{args.output}.ddd" if instructions and args.output else None
+    warnings = warnings_of(group[0], is_live=not args.shown)
+    if instructions and not args.output and not args.json:
+        warnings.append(f"the socket has a filter of {len(instructions)} instructions, which -o saves")
+    return Answer(setup_of(group, args.captures, filter_name, args.fit), instructions, filter_name, tuple(warnings))
+
+
+def object_of(answer: Answer) -> dict[str, object]:
+    """The setup's lines as numbers and words."""
+    made: dict[str, object] = {}
+    for line in answer.setup.splitlines():
+        word, *values = line.split()
+        if word in ("cpu", "flag"):
+            made.setdefault(word, []).append(values[0])
+        elif word != "#":
+            made[word] = int(values[0]) if values[0].isdigit() else values[0]
+    return {"setup": made, "text": answer.setup, "filter": list(answer.instructions), "warnings": list(answer.warnings)}
+
+
+def main(words: list[str]) -> int:
+    args = parser_of().parse_args(words)
+    if args.threads is not None and args.threads < 1:
+        raise Fault("--threads: a number of at least 1")
+    outputs = [args.output, Path(f"{args.output}.ddd")] if args.output else []
+    check_outputs(outputs, [*map(Path, args.captures), *filter(None, [args.shown, args.suricata])])
+    answer = answer_of(args)
+    for warning in answer.warnings:
+        print(f"{Path(sys.argv[0]).name}: {warning}", file=sys.stderr)
+    if answer.filter_name:
+        write_text(Path(answer.filter_name), "\n".join([str(len(answer.instructions)), *answer.instructions]) + "\n")
     if args.output:
-        write_text(args.output, setup)
-    else:
-        print(setup, end="")
-        if instructions:
-            print(f"ring_of.py: the socket has a filter of {len(instructions)} instructions, which -o saves", file=sys.stderr)
+        write_text(args.output, answer.setup)
+    if args.json:
+        print_json(object_of(answer))
+    elif not args.output:
+        print(answer.setup, end="")
     return 0
 
 
