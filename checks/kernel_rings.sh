@@ -1,0 +1,9 @@
+#!/usr/bin/env bash
+# Rings of ringtap beside those of the kernel of this machine, and beside what a kernel gave that was recorded: each byte of each block
+# and slot, and each count. The kernel is asked in network namespaces that have no name and are gone with the processes that made them.
+set -u
+. "$(dirname "${BASH_SOURCE[0]}")/common.bash"
+wants python3
+find_programs
+python3 -B checks/kernel_rings.py "${programs[@]}" || wrong "ringtap and a kernel differ"
+exit "$failed"
