@@ -9,10 +9,11 @@ use Rattle.atomic_table.specs.Table.{State, keeps, takes, Allows, Joins, Splits,
 use Rattle.atomic_table.proofs.Lists.{at_map, at_set, set_again, set_else}
 use Rattle.ring_words.specs.Knowing.{all_known, left_to_feed, left_to_walk, nothing_known, together}
 use Rattle.ring_words.specs.Rings.{Entry}
-use Rattle.ring_words.specs.Tables.{Course, IsRing, Knows, TakesFront}
+use Rattle.ring_words.specs.Tables.{Course, IsRing, IsSeen, Knows, LooksHold, TakesFront, course_of}
 use Rattle.ring_words.specs.Plays.{Compares, Drains, Holder}
 use Rattle.ring_words.specs.declared.known.Known.{Known}
 use Rattle.ring_words.proofs.Entries.{at_new, entry_at, length-snoc, set-read}
+use Rattle.ring_words.proofs.Seeing.{seen_new, start_zero}
 use Rattle.ring_words.proofs.WalkerMoves.{Goes, Ring, front_next, next_block, taken_one, takes_block}
 
 all_at : {X : Type 0} (P : X → Type 0) (l : List X) (i : ℕ) (x : X) → AllByRecursion P l → get_elem? l i ≡ some x → P x
@@ -39,11 +40,12 @@ module _ {B : Type 0} (bytes kind_of : B → List ℕ) (ready : B → ℕ → �
   opened blocks enough kinds =
       let homes = map some (map {A = B} Some blocks) in
       let wide : length homes ≡ length blocks = length-map (map Some blocks) some ∙ length-map blocks Some in
-      let course : Course = record { log = []; given = 0; taken = 0; released = 0 } in
+      let course : Course = course_of (all_known kind) (all_known kind) in
       record {
         course = course;
         feeder = 0;
         walker = 0;
+        seen = seen_new (length homes);
         owned = record {
           some_places = rw wide enough;
           as_many = length-replicate (length blocks) 0 ∙ sym wide;
@@ -58,6 +60,7 @@ module _ {B : Type 0} (bytes kind_of : B → List ℕ) (ready : B → ℕ → �
             reading = λ h. absurd (omega arith);
             waiting = λ one is. absurd (some-ne-none one (sym is));
             marked = λ _. rw (zeros (length blocks) (j % length homes)) (record { even = refl; small = omega arith });
+            stored = λ _. rw (zeros (length blocks) (j % length homes)) (start_zero (length homes) j [] (omega arith));
             filling = λ _ h. absurd (omega arith);
             free = λ _.
                 let near : j % length homes < length homes = mod-lt j (omega arith) in
@@ -72,8 +75,8 @@ module _ {B : Type 0} (bytes kind_of : B → List ℕ) (ready : B → ℕ → �
         };
         knows = λ id known at.
             ⊎_elim (λ t. subst (λ u. Knows kind 0 0 course id u) t.1 (record {
-              feed = λ _. record { seat = t.0; same_kind = refl; given = refl; retired = refl };
-              walk = λ _. record { seat = t.0; same_kind = refl; count = refl; front = refl; released = refl };
+              feed = λ _. record { seat = t.0; same_kind = refl; given = refl; retired = refl; looks = refl; shown_at = refl };
+              walk = λ _. record { seat = t.0; same_kind = refl; count = refl; front = refl; released = refl; marks = refl; visits = refl; freed_at = refl };
               hand = λ _ _. omega arith;
             }))
             (λ t. absurd (some-ne-none known (sym t)))
@@ -94,6 +97,7 @@ module _ {B : Type 0} (bytes kind_of : B → List ℕ) (ready : B → ℕ → �
         course = c;
         feeder = r.feeder;
         walker = length s.views;
+        seen = r.seen;
         owned = record {
           some_places = r.owned.some_places;
           as_many = r.owned.as_many;
@@ -109,11 +113,11 @@ module _ {B : Type 0} (bytes kind_of : B → List ℕ) (ready : B → ℕ → �
             let Good : ℕ → Known → Type 0 = λ i k. Knows kind r.feeder (length s.views) c i k in
             ⊎_elim (λ t. subst (λ k. Good j k) t.1 (record {
               feed = λ f. absurd (never f);
-              walk = λ _. record { seat = t.0 ∙ long; same_kind = walk.same_kind; count = walk.count; front = walk.front; released = walk.released };
+              walk = λ _. record { seat = t.0 ∙ long; same_kind = walk.same_kind; count = walk.count; front = walk.front; released = walk.released; marks = walk.marks; visits = walk.visits; freed_at = walk.freed_at };
               hand = λ _ _. first;
             }))
             (λ old_at. ⊎_elim (λ t. subst (λ k. Good j k) t.1 (record {
-              feed = λ _. record { seat = t.0 ∙ feed.seat; same_kind = feed.same_kind; given = feed.given; retired = feed.retired };
+              feed = λ _. record { seat = t.0 ∙ feed.seat; same_kind = feed.same_kind; given = feed.given; retired = feed.retired; looks = feed.looks; shown_at = feed.shown_at };
               walk = λ w. absurd (never w);
               hand = λ w. absurd (never w);
             }))
@@ -142,6 +146,7 @@ module _ {B : Type 0} (bytes kind_of : B → List ℕ) (ready : B → ℕ → �
         course = c;
         feeder = r.feeder;
         walker = r.feeder;
+        seen = r.seen;
         owned = record {
           some_places = r.owned.some_places;
           as_many = r.owned.as_many;
@@ -163,8 +168,8 @@ module _ {B : Type 0} (bytes kind_of : B → List ℕ) (ready : B → ℕ → �
             (λ t.
             let elsewhere = t.0 in
             ⊎_elim (λ here. subst (λ k. Good j k) here.1 (record {
-              feed = λ _. record { seat = here.0 ∙ feed.seat; same_kind = feed.same_kind; given = feed.given; retired = feed.retired };
-              walk = λ _. record { seat = here.0 ∙ feed.seat; same_kind = feed.same_kind; count = walk.count; front = walk.front; released = walk.released };
+              feed = λ _. record { seat = here.0 ∙ feed.seat; same_kind = feed.same_kind; given = feed.given; retired = feed.retired; looks = feed.looks; shown_at = feed.shown_at };
+              walk = λ _. record { seat = here.0 ∙ feed.seat; same_kind = feed.same_kind; count = walk.count; front = walk.front; released = walk.released; marks = walk.marks; visits = walk.visits; freed_at = walk.freed_at };
               hand = λ _ f. absurd (true≢false (sym feeds ∙ f));
             }))
             (λ there.
@@ -218,7 +223,7 @@ module _ {B : Type 0} (bytes kind_of : B → List ℕ) (ready : B → ℕ → �
         taken_one bytes kind_of ready kind v (bytes next.block, word % 256) word,
         takes place (Some next.block),
         next.home,
-        rw (set-read s.words place, next.is) (takes_block bytes kind_of ready kind s r id v word next.entry at walks (λ f. absurd (true≢false (sym feeds ∙ f))) next.at),
+        rw (set-read s.words place, next.is) (takes_block bytes kind_of ready kind s r id v word next.entry at walks (λ f. absurd (true≢false (sym feeds ∙ f))) next.at next.written next.odd),
         record {
           next = next.found;
           front = fronts (taken_one bytes kind_of ready kind v (bytes next.block, word % 256) word).taken v.retired c.log (ap (λ one. v.taken ++ one ∷ []) next.is)
@@ -247,3 +252,21 @@ takes_front bytes kind_of ready kind s r feeder walker fed walked feeder_at walk
       count = omega arith;
       front = walk.front ∙ ap (λ k. take k c.log) (sym count) ∙ ap (take (length walked.taken)) (sym feed.retired);
     }
+
+-- the course is what both ends know of it
+pub looks_hold : {B : Type 0} (bytes kind_of : B → List ℕ) (ready : B → ℕ → ℕ → Type 0) (kind : List ℕ) (s : State (Option B) Known) → IsRing bytes kind_of ready kind s
+    → LooksHold (length s.homes) s.views
+looks_hold bytes kind_of ready kind s r feeder walker fed walked feeder_at walker_at feeds walks =
+    let feed = (r.knows feeder fed feeder_at).feed feeds in
+    let walk = (r.knows walker walked walker_at).walk walks in
+    subst (IsSeen (length s.homes)) (λ i. record {
+      log = sym feed.retired i;
+      given = sym feed.given i;
+      taken = sym walk.count i;
+      released = sym walk.released i;
+      marks = sym walk.marks i;
+      looks = sym feed.looks i;
+      visits = sym walk.visits i;
+      shown_at = sym feed.shown_at i;
+      freed_at = sym walk.freed_at i;
+    }) r.seen

@@ -8,6 +8,7 @@ use lib.ListN.{get_elem?}
 use Rattle.atomic_table.specs.Table.{State, Act, keeps, takes, gives, Allows, Valid, step, stepped, carried_after, rest}
 use Rattle.atomic_table.proofs.Lists.{set_here, set_else}
 use Rattle.ring_words.specs.Rings.{Entry, IsMark, IsStatus}
+use Rattle.ring_words.specs.Sights.{from_start}
 use Rattle.ring_words.specs.Tables.{Course, IsRing}
 use Rattle.ring_words.specs.Plays.{Holder, Looks, Stores}
 use Rattle.ring_words.specs.declared.known.Known.{Known}
@@ -15,6 +16,7 @@ use Rattle.ring_words.proofs.Words.{number_of_word, odd_word, status_of_word}
 use Rattle.ring_words.proofs.Rounds.{elsewhere}
 use Rattle.ring_words.proofs.Entries.{at_end, at_front, entry_at, length-snoc, set-read, take-longer, within}
 use Rattle.ring_words.proofs.Placing.{others_feed, untouched}
+use Rattle.ring_words.proofs.Seeing.{seen_free, seen_held, seen_shown}
 
 module _ {B : Type 0} (bytes kind_of : B → List ℕ) (ready : B → ℕ → ℕ → Type 0) (kind : List ℕ) where
   abbrev Ring : State (Option B) Known → Type 0
@@ -35,14 +37,15 @@ module _ {B : Type 0} (bytes kind_of : B → List ℕ) (ready : B → ℕ → �
   -- the next block is out with the feeder
   gives_block : (s : State (Option B) Known) (r : Ring s) (id : ℕ) (v : Known) (word : ℕ) → get_elem? s.views id ≡ some v → v.feeds ≡ true
       → v.given ≤ length v.retired + 1 → v.given + 1 < 2 ^ 40 → v.given < r.course.released + length s.homes
+      → word % 2 ≡ 0 → get_elem? (from_start (length s.homes) r.course.marks) v.given ≡ some word
       → Ring record { words = s.words; homes = slice_set s.homes (v.given % length s.homes) none; views = slice_set s.views id (given_one v word) }
-  gives_block s r id v word at feeds hand few free =
+  gives_block s r id v word at feeds hand few free even mark =
       let n = length s.homes in
       let c = r.course in
       let o = r.owned in
       let know = r.knows id v at in
       let feed = know.feed feeds in
-      let c' : Course = record c { log = c.log; given = v.given + 1 } in
+      let c' : Course = record c { log = c.log; given = v.given + 1; looks = c.looks ++ word ∷ [] } in
       let some = o.some_places in
       let given : v.given ≡ c.given = feed.given in
       let retired : length v.retired ≡ length c.log = ap length feed.retired in
@@ -54,6 +57,7 @@ module _ {B : Type 0} (bytes kind_of : B → List ℕ) (ready : B → ℕ → �
         course = c';
         feeder = r.feeder;
         walker = r.walker;
+        seen = rw wide (seen_free n c r.seen word v.given given even mark);
         owned = record {
           some_places = rw wide o.some_places;
           as_many = o.as_many ∙ sym wide;
@@ -71,6 +75,7 @@ module _ {B : Type 0} (bytes kind_of : B → List ℕ) (ready : B → ℕ → �
                 reading = λ h. absurd (omega arith);
                 waiting = λ entry is h. let w = within c.log j entry is in absurd (omega arith);
                 marked = old.marked;
+                stored = old.stored;
                 filling = λ _ _. rw e (set_here s.homes (v.given % n) none (mod-lt v.given (omega arith)));
                 free = λ h. absurd (omega arith);
               })
@@ -83,29 +88,40 @@ module _ {B : Type 0} (bytes kind_of : B → List ℕ) (ready : B → ℕ → �
                 from_taken = λ h. h;
                 before_given = λ h. omega arith;
                 from_given = λ h. omega arith;
+                stored = λ _ h. h;
               }));
         };
-        knows = others_feed kind r.feeder r.walker c c.log (v.given + 1) s.views id (given_one v word) r.knows feed.seat refl
+        knows = others_feed kind r.feeder r.walker c c.log (v.given + 1) (c.looks ++ word ∷ []) c.shown_at s.views id (given_one v word) r.knows feed.seat refl
             record {
-              feed = λ _. record { seat = feed.seat; same_kind = feed.same_kind; given = refl; retired = feed.retired };
+              feed = λ _. record {
+                seat = feed.seat;
+                same_kind = feed.same_kind;
+                given = refl;
+                retired = feed.retired;
+                looks = ap (λ l. l ++ word ∷ []) feed.looks;
+                shown_at = feed.shown_at;
+              };
               walk = λ walks.
                   let w = know.walk walks in
-                  record { seat = w.seat; same_kind = w.same_kind; count = w.count; front = w.front; released = w.released };
+                  record { seat = w.seat; same_kind = w.same_kind; count = w.count; front = w.front; released = w.released; marks = w.marks; visits = w.visits; freed_at = w.freed_at };
               hand = know.hand;
             };
       }
 
-  -- only the looks of the feeder's seat change
-  only_looks : (s : State (Option B) Known) (r : Ring s) (id : ℕ) (v : Known) (word : ℕ) → get_elem? s.views id ≡ some v → v.feeds ≡ true
+  -- only the looks of the feeder's seat change, where the block one round before isn't released
+  only_looks : (s : State (Option B) Known) (r : Ring s) (id : ℕ) (v : Known) (word : ℕ) (entry : Entry) → get_elem? s.views id ≡ some v → v.feeds ≡ true
+      → v.given ≡ r.course.released + length s.homes → get_elem? r.course.log r.course.released ≡ some entry
+      → word ≡ (r.course.released + 1) * 256 + entry.1 → word % 2 ≡ 1
       → Ring record { words = s.words; homes = s.homes; views = slice_set s.views id (looked v word) }
-  only_looks s r id v word at feeds =
+  only_looks s r id v word entry at feeds full first is odd =
       let c = r.course in
       let know = r.knows id v at in
       let feed = know.feed feeds in
       record {
-        course = c;
+        course = record c { looks = c.looks ++ word ∷ [] };
         feeder = r.feeder;
         walker = r.walker;
+        seen = seen_held (length s.homes) c r.seen word entry (sym feed.given ∙ full) first is odd;
         owned = record {
           some_places = r.owned.some_places;
           as_many = r.owned.as_many;
@@ -115,14 +131,31 @@ module _ {B : Type 0} (bytes kind_of : B → List ℕ) (ready : B → ℕ → �
           two_in_hand = r.owned.two_in_hand;
           one_round = r.owned.one_round;
           few = r.owned.few;
-          placed = r.owned.placed;
+          placed = λ j from below.
+              untouched bytes kind_of ready kind c (record c { looks = c.looks ++ word ∷ [] }) s.words s.words s.homes s.homes (length s.homes) j (r.owned.placed j from below) refl refl
+              record {
+                log = λ one is. is;
+                retired = λ h. h;
+                before_taken = λ h. h;
+                from_taken = λ h. h;
+                before_given = λ h. h;
+                from_given = λ h. h;
+                stored = λ _ h. h;
+              };
         };
-        knows = others_feed kind r.feeder r.walker c c.log c.given s.views id (looked v word) r.knows feed.seat refl
+        knows = others_feed kind r.feeder r.walker c c.log c.given (c.looks ++ word ∷ []) c.shown_at s.views id (looked v word) r.knows feed.seat refl
             record {
-              feed = λ _. record { seat = feed.seat; same_kind = feed.same_kind; given = feed.given; retired = feed.retired };
+              feed = λ _. record {
+                seat = feed.seat;
+                same_kind = feed.same_kind;
+                given = feed.given;
+                retired = feed.retired;
+                looks = ap (λ l. l ++ word ∷ []) feed.looks;
+                shown_at = feed.shown_at;
+              };
               walk = λ walks.
                   let w = know.walk walks in
-                  record { seat = w.seat; same_kind = w.same_kind; count = w.count; front = w.front; released = w.released };
+                  record { seat = w.seat; same_kind = w.same_kind; count = w.count; front = w.front; released = w.released; marks = w.marks; visits = w.visits; freed_at = w.freed_at };
               hand = know.hand;
             };
       }
@@ -143,12 +176,13 @@ module _ {B : Type 0} (bytes kind_of : B → List ℕ) (ready : B → ℕ → �
       let before : v.given < c.released + n = lt_of_not-le here in
       let from : c.released ≤ v.given = (let a = o.released in let b = o.taken in let d = o.retired in omega arith) in
       let placed = o.placed v.given from before in
-      let mark : IsMark word = placed.marked (let d = o.retired in omega arith) in
+      let later : length c.log ≤ v.given = (let d = o.retired in omega arith) in
+      let mark : IsMark word = placed.marked later in
       let free = placed.free (omega arith) in (
         given_one v word,
         takes place (Some free.0),
         free.1.home,
-        rw (set-read s.words place) (gives_block s r id v word at feeds hand few before),
+        rw (set-read s.words place) (gives_block s r id v word at feeds hand few before mark.even (placed.stored later)),
         record {
           free = λ even. record {
             block = free.0;
@@ -179,14 +213,15 @@ module _ {B : Type 0} (bytes kind_of : B → List ℕ) (ready : B → ℕ → �
       let same : place ≡ c.released % n = ap (λ k. k % n) last ∙ add-mod_right c.released n in
       let is : word ≡ (c.released + 1) * 256 + entry.0.1 = ap (λ k. slice_index s.words k) same ∙ written.0 in
       let number : word / 256 ≡ c.released + 1 = ap (λ k. k / 256) is ∙ number_of_word (c.released + 1) entry.0.1 written.1 in
-      let status : word % 256 ≡ entry.0.1 = ap (λ k. k % 256) is ∙ status_of_word (c.released + 1) entry.0.1 written.1 in (
+      let status : word % 256 ≡ entry.0.1 = ap (λ k. k % 256) is ∙ status_of_word (c.released + 1) entry.0.1 written.1 in
+      let odd : word % 2 ≡ 1 = ap (λ k. k % 2) is ∙ odd_word (c.released + 1) entry.0.1 written.1 in (
         looked v word,
         keeps,
         tt,
-        rw (set-read s.words place) (only_looks s r id v word at feeds),
+        rw (set-read s.words place) (only_looks s r id v word entry.0 at feeds last entry.1 is odd),
         record {
-          free = λ even. let odd = odd_word (c.released + 1) entry.0.1 written.1 in let at = ap (λ k. k % 2) is in absurd (omega arith);
-          held = λ odd. record {
+          free = λ even. absurd (omega arith);
+          held = λ _. record {
             hand = refl;
             status = rw status written.1;
             opened = omega arith;
@@ -205,8 +240,8 @@ module _ {B : Type 0} (bytes kind_of : B → List ℕ) (ready : B → ℕ → �
       (looks_by s r id me at feeds hand few (dec_le (r.course.released + length s.homes) me.0.given))
 
   -- what the feeder knows once it has retired a block
-  abbrev retired_one : Known → Entry → Known
-  retired_one v entry = record v { retired = v.retired ++ entry ∷ [] }
+  abbrev retired_one : Known → Entry → ℕ → Known
+  retired_one v entry visits = record v { retired = v.retired ++ entry ∷ []; shown_at = v.shown_at ++ visits ∷ [] }
 
   -- a block is retired, and stands at its place
   stores_block : (s : State (Option B) Known) (r : Ring s) (id : ℕ) (v : Known) (block : B) (status : ℕ) → get_elem? s.views id ≡ some v → v.feeds ≡ true
@@ -215,7 +250,7 @@ module _ {B : Type 0} (bytes kind_of : B → List ℕ) (ready : B → ℕ → �
       Ring record {
         words = slice_set s.words place ((length v.retired + 1) * 256 + status);
         homes = slice_set s.homes place (some (Some block));
-        views = slice_set s.views id (retired_one v (bytes block, status));
+        views = slice_set s.views id (retired_one v (bytes block, status) (length r.course.visits));
       }
   stores_block s r id v block status at feeds hand odd is_kind is_ready =
       let n = length s.homes in
@@ -225,7 +260,8 @@ module _ {B : Type 0} (bytes kind_of : B → List ℕ) (ready : B → ℕ → �
       let feed = know.feed feeds in
       let entry : Entry = (bytes block, status) in
       let log : List Entry = c.log ++ entry ∷ [] in
-      let c' : Course = record c { log = log; given = c.given } in
+      let shown_at : List ℕ = c.shown_at ++ length c.visits ∷ [] in
+      let c' : Course = record c { log = log; given = c.given; shown_at = shown_at } in
       let place : ℕ = length v.retired % n in
       let word : ℕ = (length v.retired + 1) * 256 + status in
       let some_places = o.some_places in
@@ -246,6 +282,7 @@ module _ {B : Type 0} (bytes kind_of : B → List ℕ) (ready : B → ℕ → �
         course = c';
         feeder = r.feeder;
         walker = r.walker;
+        seen = rw wide (seen_shown n c r.seen entry);
         owned = record {
           some_places = rw wide some_places;
           as_many = omega arith;
@@ -277,6 +314,7 @@ module _ {B : Type 0} (bytes kind_of : B → List ℕ) (ready : B → ℕ → �
                       is_ready = subst (λ z. ready block (j + 1) z.1) same (subst (λ k. ready block (k + 1) status) (sym e) is_ready);
                     };
                 marked = λ h. absurd (omega arith);
+                stored = λ h. absurd (omega arith);
                 filling = λ h. absurd (omega arith);
                 free = λ h. absurd (omega arith);
               })
@@ -292,14 +330,22 @@ module _ {B : Type 0} (bytes kind_of : B → List ℕ) (ready : B → ℕ → �
                 from_taken = λ h. h;
                 before_given = λ h. h;
                 from_given = λ h. h;
+                stored = λ _ h. h;
               }));
         };
-        knows = others_feed kind r.feeder r.walker c log c.given s.views id (retired_one v entry) r.knows feed.seat (take-longer c.log entry c.taken front)
+        knows = others_feed kind r.feeder r.walker c log c.given c.looks shown_at s.views id (retired_one v entry (length c.visits)) r.knows feed.seat (take-longer c.log entry c.taken front)
             record {
-              feed = λ _. record { seat = feed.seat; same_kind = feed.same_kind; given = feed.given; retired = ap (λ l. l ++ entry ∷ []) feed.retired };
+              feed = λ _. record {
+                seat = feed.seat;
+                same_kind = feed.same_kind;
+                given = feed.given;
+                retired = ap (λ l. l ++ entry ∷ []) feed.retired;
+                looks = feed.looks;
+                shown_at = ap (λ l. l ++ length c.visits ∷ []) feed.shown_at;
+              };
               walk = λ walks.
                   let w = know.walk walks in
-                  record { seat = w.seat; same_kind = w.same_kind; count = w.count; front = w.front ∙ sym (take-longer c.log entry c.taken front); released = w.released };
+                  record { seat = w.seat; same_kind = w.same_kind; count = w.count; front = w.front ∙ sym (take-longer c.log entry c.taken front); released = w.released; marks = w.marks; visits = w.visits; freed_at = w.freed_at };
               hand = know.hand;
             };
       }
@@ -315,11 +361,11 @@ module _ {B : Type 0} (bytes kind_of : B → List ℕ) (ready : B → ℕ → �
       let place : ℕ = length v.retired % m in
       let me : Holder B = (v, (place, Some block) ∷ others) in
       Goes s place id me word (Stores bytes kind_of ready (step m place word 0 none) me word)) wide (
-        retired_one v (bytes block, status),
+        retired_one v (bytes block, status) (length r.course.visits),
         gives,
         tt,
         stores_block s r id v block status at feeds hand odd is_kind is_ready,
-        record { hand = refl; known = ap (λ k. retired_one v (bytes block, k)) (sym (status_of_word (length v.retired + 1) status odd)) },
+        record { hand = refl; at = length r.course.visits; known = ap (λ k. retired_one v (bytes block, k) (length r.course.visits)) (sym (status_of_word (length v.retired + 1) status odd)) },
       )
 
   -- the feeder stores number and status after the block that it has put back

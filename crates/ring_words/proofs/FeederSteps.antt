@@ -101,7 +101,7 @@ module _ {B : Type 0} (bytes kind_of : B → List ℕ) (ready : B → ℕ → �
       let order = keeps.order in
       let two = keeps.two_in_hand in
       let count = keeps.retired_count in
-      let mine : KeepsFeed {B = B} (record me.0 { retired = me.0.retired ++ entry ∷ [] }, slots_of places (retired + 1) (given - (retired + 1))) places given (retired + 1) = record {
+      let mine : KeepsFeed {B = B} (record me.0 { retired = me.0.retired ++ entry ∷ []; shown_at = me.0.shown_at ++ stored.at ∷ [] }, slots_of places (retired + 1) (given - (retired + 1))) places given (retired + 1) = record {
         feeds = keeps.feeds;
         count = keeps.count;
         retired_count = length-snoc me.0.retired entry ∙ ap (λ k. k + 1) count;

@@ -11,3 +11,5 @@ mod Hands
 mod FeederSteps
 mod WalkerSteps
 mod PendingSteps
+mod Seeing
+mod Standing

@@ -1,5 +1,5 @@
 -- The rule of a ring outlives each step of the reader's end.
-use Rattle.std.proofs.Common.{◌≡◌, ℕ, suc, ◌+◌, ◌/◌, ◌%◌, ◌<◌, ◌≤◌, true, false, List, [], ◌∷◌, ◌++◌, length, take, slice_index, slice_set, refl, sym, ap, ap₂, ◌∙◌, subst, mod-lt, lt_of_not-le, arith, length-set, get_or-set_same, get_or-set_other, add-one, Option, Some}
+use Rattle.std.proofs.Common.{◌≡◌, ℕ, suc, ◌+◌, ◌*◌, ◌/◌, ◌%◌, ◌<◌, ◌≤◌, true, false, List, [], ◌∷◌, ◌++◌, length, take, slice_index, slice_set, refl, sym, ap, ap₂, ◌∙◌, subst, mod-lt, lt_of_not-le, arith, length-set, get_or-set_same, get_or-set_other, add-one, Option, Some}
 use mathlib.Core.Logic.{dite}
 use mathlib.Core.Option.{some, none}
 use native.Mathlib.Decide.{dec_le, ℕ_discrete}
@@ -8,6 +8,7 @@ use lib.ListN.{get_elem?}
 use Rattle.atomic_table.specs.Table.{State, Act, keeps, takes, gives, Allows, Valid, step, stepped, carried_after, rest}
 use Rattle.atomic_table.proofs.Lists.{set_here, set_else}
 use Rattle.ring_words.specs.Rings.{Entry, IsMark}
+use Rattle.ring_words.specs.Sights.{from_start}
 use Rattle.ring_words.specs.Tables.{Course, IsRing}
 use Rattle.ring_words.specs.Plays.{Fetches, FoundNext, Frees, Holder}
 use Rattle.ring_words.specs.declared.known.Known.{Known}
@@ -15,6 +16,7 @@ use Rattle.ring_words.proofs.Words.{number_of_word, odd_word, status_of_word}
 use Rattle.ring_words.proofs.Rounds.{elsewhere}
 use Rattle.ring_words.proofs.Entries.{entry_at, length-snoc, set-read, take-next, within}
 use Rattle.ring_words.proofs.Placing.{others_walk, untouched}
+use Rattle.ring_words.proofs.Seeing.{seen_freed, seen_none, seen_taken, start_last, start_longer}
 
 module _ {B : Type 0} (bytes kind_of : B → List ℕ) (ready : B → ℕ → ℕ → Type 0) (kind : List ℕ) where
   abbrev pub Ring : State (Option B) Known → Type 0
@@ -41,14 +43,15 @@ module _ {B : Type 0} (bytes kind_of : B → List ℕ) (ready : B → ℕ → �
   -- the next block is out with the reader
   pub takes_block : (s : State (Option B) Known) (r : Ring s) (id : ℕ) (v : Known) (word : ℕ) (entry : Entry) → get_elem? s.views id ≡ some v → v.walks ≡ true
       → (v.feeds ≡ false → length v.taken ≤ length v.marks) → get_elem? r.course.log r.course.taken ≡ some entry
+      → word ≡ (length v.taken + 1) * 256 + entry.1 → word % 2 ≡ 1
       → Ring record { words = s.words; homes = slice_set s.homes (length v.taken % length s.homes) none; views = slice_set s.views id (taken_one v entry word) }
-  takes_block s r id v word entry at walks hand next =
+  takes_block s r id v word entry at walks hand next is odd =
       let n = length s.homes in
       let c = r.course in
       let o = r.owned in
       let know = r.knows id v at in
       let walk = know.walk walks in
-      let c' : Course = record c { taken = length v.taken + 1; released = c.released } in
+      let c' : Course = record c { taken = length v.taken + 1; released = c.released; visits = c.visits ++ word ∷ [] } in
       let some_places = o.some_places in
       let count : length v.taken ≡ c.taken = walk.count in
       let below_log = within c.log c.taken entry next in
@@ -62,6 +65,7 @@ module _ {B : Type 0} (bytes kind_of : B → List ℕ) (ready : B → ℕ → �
         course = c';
         feeder = r.feeder;
         walker = r.walker;
+        seen = rw wide (seen_taken n c r.seen word (length v.taken) entry count (ap (λ k. get_elem? c.log k) count ∙ next) is odd);
         owned = record {
           some_places = rw wide some_places;
           as_many = o.as_many ∙ sym wide;
@@ -79,6 +83,7 @@ module _ {B : Type 0} (bytes kind_of : B → List ℕ) (ready : B → ℕ → �
                 reading = λ _. rw e (set_here s.homes place none (mod-lt (length v.taken) (omega arith)));
                 waiting = λ one is h. absurd (omega arith);
                 marked = old.marked;
+                stored = old.stored;
                 filling = λ h. absurd (omega arith);
                 free = λ h. absurd (omega arith);
               })
@@ -91,35 +96,41 @@ module _ {B : Type 0} (bytes kind_of : B → List ℕ) (ready : B → ℕ → �
                 from_taken = λ h. omega arith;
                 before_given = λ h. h;
                 from_given = λ h. h;
+                stored = λ _ h. h;
               }));
         };
-        knows = others_walk kind r.feeder r.walker c (length v.taken + 1) c.released s.views id (taken_one v entry word) r.knows walk.seat
+        knows = others_walk kind r.feeder r.walker c (length v.taken + 1) c.released c.marks (c.visits ++ word ∷ []) c.freed_at s.views id (taken_one v entry word) r.knows walk.seat
             record {
               feed = λ feeds.
                   let f = know.feed feeds in
-                  record { seat = f.seat; same_kind = f.same_kind; given = f.given; retired = f.retired };
+                  record { seat = f.seat; same_kind = f.same_kind; given = f.given; retired = f.retired; looks = f.looks; shown_at = f.shown_at };
               walk = λ _. record {
                 seat = walk.seat;
                 same_kind = walk.same_kind;
                 count = length-snoc v.taken entry;
                 front = front_next c v.taken entry count walk.front next;
                 released = walk.released;
+                marks = walk.marks;
+                visits = ap (λ l. l ++ word ∷ []) walk.visits;
+                freed_at = walk.freed_at;
               };
               hand = λ _ feeds. let h = hand feeds in let same = walk.released in omega arith;
             };
       }
 
-  -- only the looks of the reader's seat change
+  -- only the looks of the reader's seat change, where the next block isn't retired
   only_visits : (s : State (Option B) Known) (r : Ring s) (id : ℕ) (v : Known) (word : ℕ) → get_elem? s.views id ≡ some v → v.walks ≡ true
+      → length r.course.log ≤ length v.taken → get_elem? (from_start (length s.homes) r.course.marks) (length v.taken) ≡ some word → word % 2 ≡ 0
       → Ring record { words = s.words; homes = s.homes; views = slice_set s.views id (visited v word) }
-  only_visits s r id v word at walks =
+  only_visits s r id v word at walks all mark even =
       let c = r.course in
       let know = r.knows id v at in
       let walk = know.walk walks in
       record {
-        course = c;
+        course = record c { visits = c.visits ++ word ∷ [] };
         feeder = r.feeder;
         walker = r.walker;
+        seen = seen_none (length s.homes) c r.seen word (length v.taken) walk.count all mark even;
         owned = record {
           some_places = r.owned.some_places;
           as_many = r.owned.as_many;
@@ -129,14 +140,33 @@ module _ {B : Type 0} (bytes kind_of : B → List ℕ) (ready : B → ℕ → �
           two_in_hand = r.owned.two_in_hand;
           one_round = r.owned.one_round;
           few = r.owned.few;
-          placed = r.owned.placed;
+          placed = λ j from below.
+              untouched bytes kind_of ready kind c (record c { visits = c.visits ++ word ∷ [] }) s.words s.words s.homes s.homes (length s.homes) j (r.owned.placed j from below) refl refl
+              record {
+                log = λ one is. is;
+                retired = λ h. h;
+                before_taken = λ h. h;
+                from_taken = λ h. h;
+                before_given = λ h. h;
+                from_given = λ h. h;
+                stored = λ _ h. h;
+              };
         };
-        knows = others_walk kind r.feeder r.walker c c.taken c.released s.views id (visited v word) r.knows walk.seat
+        knows = others_walk kind r.feeder r.walker c c.taken c.released c.marks (c.visits ++ word ∷ []) c.freed_at s.views id (visited v word) r.knows walk.seat
             record {
               feed = λ feeds.
                   let f = know.feed feeds in
-                  record { seat = f.seat; same_kind = f.same_kind; given = f.given; retired = f.retired };
-              walk = λ _. record { seat = walk.seat; same_kind = walk.same_kind; count = walk.count; front = walk.front; released = walk.released };
+                  record { seat = f.seat; same_kind = f.same_kind; given = f.given; retired = f.retired; looks = f.looks; shown_at = f.shown_at };
+              walk = λ _. record {
+                seat = walk.seat;
+                same_kind = walk.same_kind;
+                count = walk.count;
+                front = walk.front;
+                released = walk.released;
+                marks = walk.marks;
+                visits = ap (λ l. l ++ word ∷ []) walk.visits;
+                freed_at = walk.freed_at;
+              };
               hand = know.hand;
             };
       }
@@ -148,6 +178,7 @@ module _ {B : Type 0} (bytes kind_of : B → List ℕ) (ready : B → ℕ → �
     pub block : B
     pub home : get_elem? s.homes (length me.0.taken % length s.homes) ≡ some (some (Some block))
     pub odd : slice_index s.words (length me.0.taken % length s.homes) % 2 ≡ 1
+    pub written : slice_index s.words (length me.0.taken % length s.homes) ≡ (length me.0.taken + 1) * 256 + entry.1
     pub is : (bytes block, slice_index s.words (length me.0.taken % length s.homes) % 256) ≡ entry
     pub found :
         let place : ℕ = length me.0.taken % length s.homes in let word : ℕ = slice_index s.words place in
@@ -182,6 +213,7 @@ module _ {B : Type 0} (bytes kind_of : B → List ℕ) (ready : B → ℕ → �
         block = waits.block;
         home = waits.stands.home;
         odd = ap (λ w. w % 2) written.0 ∙ odd_word (k + 1) entry.0.1 written.1;
+        written = written.0;
         is = ap₂ (λ content state. (content, state)) waits.content status;
         found = record {
           block = waits.block;
@@ -207,7 +239,7 @@ module _ {B : Type 0} (bytes kind_of : B → List ℕ) (ready : B → ℕ → �
         taken_one me.0 (bytes next.block, word % 256) word,
         takes place (Some next.block),
         next.home,
-        rw (set-read s.words place, next.is) (takes_block s r id me.0 word next.entry at walks (λ _. hand) next.at),
+        rw (set-read s.words place, next.is) (takes_block s r id me.0 word next.entry at walks (λ _. hand) next.at next.written odd),
         record { some = λ _. next.found; none = λ even. absurd (omega arith) },
       )
   fetches_by s r id me at walks hand (yes all) =
@@ -223,12 +255,13 @@ module _ {B : Type 0} (bytes kind_of : B → List ℕ) (ready : B → ℕ → �
       let place : ℕ = length v.taken % n in
       let word : ℕ = slice_index s.words place in
       let placed = o.placed (length v.taken) (omega arith) (omega arith) in
-      let mark : IsMark word = placed.marked (omega arith) in
+      let later : length c.log ≤ length v.taken = omega arith in
+      let mark : IsMark word = placed.marked later in
       let even = mark.even in (
         visited v word,
         keeps,
         tt,
-        rw (set-read s.words place) (only_visits s r id v word at walks),
+        rw (set-read s.words place) (only_visits s r id v word at walks later (placed.stored later) even),
         record {
           some = λ odd. absurd (omega arith);
           none = λ _. record { hand = refl; mark = mark; known = refl };
@@ -243,6 +276,10 @@ module _ {B : Type 0} (bytes kind_of : B → List ℕ) (ready : B → ℕ → �
       subst (λ m. Goes s (k % m) id me (slice_index s.words (k % m)) (Fetches bytes kind_of ready (step m (k % m) 0 0 none) me (slice_index s.words (k % m)))) wide
       (fetches_by s r id me at walks hand (dec_le (length r.course.log) r.course.taken))
 
+  -- what the reader knows once it has released a block
+  abbrev released_one : Known → ℕ → ℕ → Known
+  released_one v mark looks = record v { marks = v.marks ++ mark ∷ []; freed_at = v.freed_at ++ looks ∷ [] }
+
   -- a block is released, and stands at its place
   frees_block : (s : State (Option B) Known) (r : Ring s) (id : ℕ) (v : Known) (block : B) (mark : ℕ) → get_elem? s.views id ≡ some v → v.walks ≡ true
       → length v.marks < length v.taken → IsMark mark → kind_of block ≡ v.kind
@@ -250,7 +287,7 @@ module _ {B : Type 0} (bytes kind_of : B → List ℕ) (ready : B → ℕ → �
       Ring record {
         words = slice_set s.words place mark;
         homes = slice_set s.homes place (some (Some block));
-        views = slice_set s.views id (record v { marks = v.marks ++ mark ∷ [] });
+        views = slice_set s.views id (released_one v mark (length r.course.looks));
       }
   frees_block s r id v block mark at walks hand even is_kind =
       let n = length s.homes in
@@ -259,8 +296,10 @@ module _ {B : Type 0} (bytes kind_of : B → List ℕ) (ready : B → ℕ → �
       let know = r.knows id v at in
       let walk = know.walk walks in
       let t : ℕ = length v.marks in
-      let now : Known = record v { marks = v.marks ++ mark ∷ [] } in
-      let c' : Course = record c { taken = c.taken; released = t + 1 } in
+      let now : Known = released_one v mark (length c.looks) in
+      let marks : List ℕ = c.marks ++ mark ∷ [] in
+      let freed_at : List ℕ = c.freed_at ++ length c.looks ∷ [] in
+      let c' : Course = record c { taken = c.taken; released = t + 1; marks = marks; freed_at = freed_at } in
       let place : ℕ = t % n in
       let count : length v.taken ≡ c.taken = walk.count in
       let same : t ≡ c.released = walk.released in
@@ -278,6 +317,7 @@ module _ {B : Type 0} (bytes kind_of : B → List ℕ) (ready : B → ℕ → �
         course = c';
         feeder = r.feeder;
         walker = r.walker;
+        seen = rw wide (seen_freed n c r.seen mark t same);
         owned = record {
           some_places = rw wide some_places;
           as_many = omega arith;
@@ -298,6 +338,10 @@ module _ {B : Type 0} (bytes kind_of : B → List ℕ) (ready : B → ℕ → �
                 marked = λ _.
                     let here : slice_index words' (j % n) ≡ mark = rw turn (get_or-set_same s.words place mark 0 (omega arith)) in
                     rw here even;
+                stored = λ _.
+                    let here : slice_index words' (j % n) ≡ mark = rw turn (get_or-set_same s.words place mark 0 (omega arith)) in
+                    let long = r.seen.marks in
+                    rw here (start_last n c.marks mark j (omega arith));
                 filling = λ h below'. absurd (omega arith);
                 free = λ _. (block, record { home = rw turn (set_here s.homes place (some (Some block)) near); same_kind = is_kind ∙ walk.same_kind });
               })
@@ -314,14 +358,24 @@ module _ {B : Type 0} (bytes kind_of : B → List ℕ) (ready : B → ℕ → �
                 from_taken = λ h. h;
                 before_given = λ h. h;
                 from_given = λ h. h;
+                stored = λ word h. start_longer n c.marks mark j word h;
               }));
         };
-        knows = others_walk kind r.feeder r.walker c c.taken (t + 1) s.views id now r.knows walk.seat
+        knows = others_walk kind r.feeder r.walker c c.taken (t + 1) marks c.visits freed_at s.views id now r.knows walk.seat
             record {
               feed = λ feeds.
                   let f = know.feed feeds in
-                  record { seat = f.seat; same_kind = f.same_kind; given = f.given; retired = f.retired };
-              walk = λ _. record { seat = walk.seat; same_kind = walk.same_kind; count = walk.count; front = walk.front; released = length-snoc v.marks mark };
+                  record { seat = f.seat; same_kind = f.same_kind; given = f.given; retired = f.retired; looks = f.looks; shown_at = f.shown_at };
+              walk = λ _. record {
+                seat = walk.seat;
+                same_kind = walk.same_kind;
+                count = walk.count;
+                front = walk.front;
+                released = length-snoc v.marks mark;
+                marks = ap (λ l. l ++ mark ∷ []) walk.marks;
+                visits = walk.visits;
+                freed_at = ap (λ l. l ++ length c.looks ∷ []) walk.freed_at;
+              };
               hand = λ walks' feeds. let h = know.hand walks' feeds in omega arith;
             };
       }
@@ -335,11 +389,11 @@ module _ {B : Type 0} (bytes kind_of : B → List ℕ) (ready : B → ℕ → �
       let place : ℕ = length v.marks % m in
       let me : Holder B = (v, (place, Some block) ∷ others) in
       Goes s place id me mark (Frees bytes kind_of ready me mark)) wide (
-        record v { marks = v.marks ++ mark ∷ [] },
+        released_one v mark (length r.course.looks),
         gives,
         tt,
         frees_block s r id v block mark at walks hand even is_kind,
-        record { hand = refl; known = refl },
+        record { hand = refl; at = length r.course.looks; known = refl },
       )
 
   -- the reader stores the mark after the block that it has put back

@@ -10,9 +10,11 @@ nothing_known = record {
   kind = [];
   given = 0;
   retired = [];
+  shown_at = [];
   looks = [];
   taken = [];
   marks = [];
+  freed_at = [];
   visits = [];
 }
 
@@ -34,5 +36,6 @@ together feeder walker = record feeder {
   walks = true;
   taken = walker.taken;
   marks = walker.marks;
+  freed_at = walker.freed_at;
   visits = walker.visits;
 }

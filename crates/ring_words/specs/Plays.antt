@@ -39,8 +39,11 @@ module _ {B : Type 0} (bytes kind_of : B → List ℕ) (ready : B → ℕ → �
   -- the feeder stored number and status after the block that it put back at its place
   pub record Stores (step : Step (Option B)) (before : Holder B) (word : ℕ) (after : Holder B) : Type 0 where
     pub hand : after.1 ≡ rest before.1
+    -- how many looks the reader had made
+    pub at : ℕ
     pub known : after.0 ≡ record before.0 {
       retired = before.0.retired ++ entry_of bytes (word % 256) before.1;
+      shown_at = before.0.shown_at ++ at ∷ [];
     }
 
   -- the reader looked at the next place, found a retired block, and has it in hand
@@ -71,7 +74,12 @@ module _ {B : Type 0} (bytes kind_of : B → List ℕ) (ready : B → ℕ → �
   -- the reader stored the mark after the block that it put back at its place
   pub record Frees (before : Holder B) (word : ℕ) (after : Holder B) : Type 0 where
     pub hand : after.1 ≡ rest before.1
-    pub known : after.0 ≡ record before.0 { marks = before.0.marks ++ word ∷ [] }
+    -- how many looks the feeder had made
+    pub at : ℕ
+    pub known : after.0 ≡ record before.0 {
+      marks = before.0.marks ++ word ∷ [];
+      freed_at = before.0.freed_at ++ at ∷ [];
+    }
 
   -- an end for both sides compared them: what was taken is the prefix of what was retired
   pub record Compares (before after : Holder B) : Type 0 where

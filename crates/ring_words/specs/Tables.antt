@@ -1,12 +1,14 @@
 -- The rule of a ring between two threads. Its table has a status word and a slot for each place; a block that stands at
 -- its place is in the slot, and a block that is out has left `None` there, which is its end's to write.
 -- The index of a block is its number less one, and its place is the index modulo the number of places.
-use Rattle.std.specs.Prelude.{◌≡◌, ℕ, ◌+◌, ◌*◌, ◌%◌, ◌^◌, ◌<◌, ◌≤◌, true, false, List, length, take, slice_index, Option, Some}
+use Rattle.std.specs.Prelude.{◌≡◌, ℕ, ◌+◌, ◌*◌, ◌%◌, ◌^◌, ◌<◌, ◌≤◌, true, false, List, [], ◌∷◌, ◌++◌, length, take, slice_index, Option, Some}
 use mathlib.Core.Option.{some, none}
 use mathlib.Core.Option as maybe
 use lib.ListN.{get_elem?}
 use Rattle.atomic_table.specs.Table.{State}
 use Rattle.ring_words.specs.Rings.{Entry, IsMark, IsStatus}
+use Rattle.ring_words.specs.Sights.{IsLook, IsVisit, from_start}
+use Rattle.ring_words.specs.TableEnds.{even_count, odd_count}
 use Rattle.ring_words.specs.declared.known.Known.{Known}
 
 -- how far a ring has come
@@ -17,6 +19,14 @@ pub record Course : Type 0 where
   pub given : ℕ
   pub taken : ℕ
   pub released : ℕ
+  -- the words that were stored at the places of the released blocks, by number
+  pub marks : List ℕ
+  -- the words that the looks of the feeder and of the reader found, in order
+  pub looks : List ℕ
+  pub visits : List ℕ
+  -- how many looks the reader had made when each block was retired, and the feeder when each was released, by number
+  pub shown_at : List ℕ
+  pub freed_at : List ℕ
 
 -- what may be in a slot: it is at home with a block or none, or out
 abbrev pub Home : Type 0 → Type 0
@@ -47,6 +57,9 @@ module _ {B : Type 0} (bytes kind_of : B → List ℕ) (ready : B → ℕ → �
         Waits homes (index % places) index entry
     -- any other has an even word
     pub marked : length course.log ≤ index → IsMark (slice_index words (index % places))
+    -- which is the one that was stored there, or 0 at first
+    pub stored : length course.log ≤ index →
+        get_elem? (from_start places course.marks) index ≡ some (slice_index words (index % places))
     -- the feeder has it in hand, or on the way from or to its place, or has given it up
     pub filling : length course.log ≤ index → index < course.given → get_elem? homes (index % places) ≡ some none
     -- or it is free, at its place
@@ -65,12 +78,32 @@ module _ {B : Type 0} (bytes kind_of : B → List ℕ) (ready : B → ℕ → �
     pub placed : (index : ℕ) → course.released ≤ index → index < course.released + length state.homes →
         IsPlaced course state.words state.homes (length state.homes) index
 
+-- What the looks of both ends found are the words that stood there, and were found while they did.
+pub record IsSeen (places : ℕ) (course : Course) : Type 0 where
+  -- each look of the feeder came after as many given blocks as looks before it found an even word
+  pub looks : (i word : ℕ) → get_elem? course.looks i ≡ some word →
+      IsLook places course.log course.marks course.freed_at i (even_count (take i course.looks)) word
+  pub given : even_count course.looks ≡ course.given
+  -- each look of the reader came after as many taken blocks as looks before it found an odd word
+  pub visits : (i word : ℕ) → get_elem? course.visits i ≡ some word →
+      IsVisit places course.log course.marks course.shown_at i (odd_count (take i course.visits)) word
+  pub taken : odd_count course.visits ≡ course.taken
+  -- each block that was released has its mark, and the number of looks that the feeder had made by then
+  pub marks : length course.marks ≡ course.released
+  pub freed : length course.freed_at ≡ course.released
+  pub freed_made : (i at : ℕ) → get_elem? course.freed_at i ≡ some at → at ≤ length course.looks
+  -- each block that was retired has the number of looks that the reader had made by then
+  pub shown : length course.shown_at ≡ length course.log
+  pub shown_made : (i at : ℕ) → get_elem? course.shown_at i ≡ some at → at ≤ length course.visits
+
 -- what the feeder's end knows
 pub record KnowsFeed (kind : List ℕ) (feeder : ℕ) (course : Course) (id : ℕ) (known : Known) : Type 0 where
   pub seat : id ≡ feeder
   pub same_kind : known.kind ≡ kind
   pub given : known.given ≡ course.given
   pub retired : known.retired ≡ course.log
+  pub looks : known.looks ≡ course.looks
+  pub shown_at : known.shown_at ≡ course.shown_at
 
 -- what the reader's end knows: it took the first blocks that were retired
 pub record KnowsWalk (kind : List ℕ) (walker : ℕ) (course : Course) (id : ℕ) (known : Known) : Type 0 where
@@ -79,6 +112,9 @@ pub record KnowsWalk (kind : List ℕ) (walker : ℕ) (course : Course) (id : �
   pub count : length known.taken ≡ course.taken
   pub front : known.taken ≡ take course.taken course.log
   pub released : length known.marks ≡ course.released
+  pub marks : known.marks ≡ course.marks
+  pub visits : known.visits ≡ course.visits
+  pub freed_at : known.freed_at ≡ course.freed_at
 
 -- what the end of a seat knows. Until the ring is finished the reader has one block in hand at most
 pub record Knows (kind : List ℕ) (feeder walker : ℕ) (course : Course) (id : ℕ) (known : Known) : Type 0 where
@@ -99,6 +135,7 @@ pub record IsRing {B : Type 0} (bytes kind_of : B → List ℕ) (ready : B → �
   pub feeder : ℕ
   pub walker : ℕ
   pub owned : IsOwnedBy bytes kind_of ready kind course state
+  pub seen : IsSeen (length state.homes) course
   pub knows : (id : ℕ) (known : Known) → get_elem? state.views id ≡ some known →
       Knows kind feeder walker course id known
 
@@ -112,3 +149,46 @@ abbrev pub TakesFront : List Known → Type 0
 TakesFront views =
     (feeder walker : ℕ) (fed walked : Known) → get_elem? views feeder ≡ some fed → get_elem? views walker ≡ some walked
     → fed.feeds ≡ true → walked.walks ≡ true → IsFront walked.taken fed.retired
+
+-- how far a ring has come, by what its two ends know
+abbrev pub course_of : Known → Known → Course
+course_of fed walked = record {
+  log = fed.retired;
+  given = fed.given;
+  taken = length walked.taken;
+  released = length walked.marks;
+  marks = walked.marks;
+  looks = fed.looks;
+  visits = walked.visits;
+  shown_at = fed.shown_at;
+  freed_at = walked.freed_at;
+}
+
+-- what both ends know that their looks found are words that stood there, found while they did
+abbrev pub LooksHold : ℕ → List Known → Type 0
+LooksHold places views =
+    (feeder walker : ℕ) (fed walked : Known) → get_elem? views feeder ≡ some fed → get_elem? views walker ≡ some walked
+    → fed.feeds ≡ true → walked.walks ≡ true → IsSeen places (course_of fed walked)
+
+-- Between these two states a step added this word to the looks that the feeder's end knows, and nothing else of what
+-- either end knows of its stores. Then it is the word that stood at the place of the next block.
+abbrev pub LooksStand : {B : Type 0} → State (Option B) Known → State (Option B) Known → Type 0
+LooksStand before after =
+    length after.homes ≡ length before.homes
+    → (feeder walker : ℕ) (fed fed' walked : Known) (word : ℕ)
+    → get_elem? before.views feeder ≡ some fed → get_elem? after.views feeder ≡ some fed'
+    → get_elem? before.views walker ≡ some walked → get_elem? after.views walker ≡ some walked
+    → fed.feeds ≡ true → fed'.feeds ≡ true → walked.walks ≡ true
+    → fed'.retired ≡ fed.retired → fed'.looks ≡ fed.looks ++ word ∷ []
+    → word ≡ slice_index before.words (fed.given % length before.homes)
+
+-- the same of the looks of the reader's end
+abbrev pub VisitsStand : {B : Type 0} → State (Option B) Known → State (Option B) Known → Type 0
+VisitsStand before after =
+    length after.homes ≡ length before.homes
+    → (feeder walker : ℕ) (fed walked walked' : Known) (word : ℕ)
+    → get_elem? before.views feeder ≡ some fed → get_elem? after.views feeder ≡ some fed
+    → get_elem? before.views walker ≡ some walked → get_elem? after.views walker ≡ some walked'
+    → fed.feeds ≡ true → walked.walks ≡ true → walked'.walks ≡ true
+    → walked'.marks ≡ walked.marks → walked'.visits ≡ walked.visits ++ word ∷ []
+    → word ≡ slice_index before.words (length walked.taken % length before.homes)

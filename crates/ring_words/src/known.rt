@@ -16,12 +16,16 @@ pub struct Known {
     pub given: u64,
     /// The contents and statuses of the blocks that it retired, by number.
     pub retired: LinkedList<(LinkedList<u64>, u32)>,
+    /// How many looks the reader had made when each of them was retired, by number.
+    pub shown_at: LinkedList<u64>,
     /// The words that its looks found, in order.
     pub looks: LinkedList<u64>,
     /// The contents and statuses of the blocks that the reader took, by number.
     pub taken: LinkedList<(LinkedList<u64>, u32)>,
     /// The words that it stored at the places of those that it released, by number.
     pub marks: LinkedList<u64>,
+    /// How many looks the feeder had made when each of them was released, by number.
+    pub freed_at: LinkedList<u64>,
     /// The words that its looks found, in order.
     pub visits: LinkedList<u64>,
 }

@@ -17,5 +17,5 @@ pub use ends::{BothEnds, FeederEnd, Next, WalkerEnd};
 pub use feeder::TableFeeder;
 pub use pending::{Pending, finish};
 pub use plain_ring::{PlainRing, ownership_holds};
-pub use tables::{table_front_holds, table_ownership_holds, table_ring};
+pub use tables::{table_front_holds, table_looks_hold, table_ownership_holds, table_ring};
 pub use walker::TableWalker;

@@ -17,7 +17,7 @@ ghost use Rattle.std.specs.List.{AllByRecursion};
 ghost use Rattle.ring_words.specs.Knowing.{all_known};
 ghost use Rattle.atomic_table.specs.Table.{State};
 ghost use Rattle.ring_words.specs.TableEnds.{fresh_feeder, fresh_walker};
-ghost use Rattle.ring_words.specs.Tables.{Course, EachKnows, IsOwnedBy, TakesFront};
+ghost use Rattle.ring_words.specs.Tables.{Course, EachKnows, IsOwnedBy, LooksHold, LooksStand, TakesFront, VisitsStand};
 ghost use Rattle.ring_words.specs.declared.known.Known.{Known};
 ghost use Rattle.std.specs.declared.snapshot.Snapshot.{Snapshot};
 
@@ -81,6 +81,23 @@ pub fn table_front_holds<B: Content + Drop>()
     ensures { (sample : Snapshot B) (state : State (Option B) Known) →
         ⟦<Handover as TableRule<Option<B>, Known, Snapshot<B>>>⟧.holds sample state →
         TakesFront state.views }
+{}
+
+/// What a look finds is the word that stands there. So `Held` and `None` are no choice of a body: whatever step adds an odd
+/// word to what the feeder's end knows, or an even one to what the reader's end knows, is made while that word stands at
+/// the place of the next block.
+pub fn table_looks_hold<B: Content + Drop>()
+    ensures looks { (sample : Snapshot B) (before after : State (Option B) Known) →
+        ⟦<Handover as TableRule<Option<B>, Known, Snapshot<B>>>⟧.holds sample before →
+        ⟦<Handover as TableRule<Option<B>, Known, Snapshot<B>>>⟧.holds sample after →
+        LooksStand before after }
+    ensures visits { (sample : Snapshot B) (before after : State (Option B) Known) →
+        ⟦<Handover as TableRule<Option<B>, Known, Snapshot<B>>>⟧.holds sample before →
+        ⟦<Handover as TableRule<Option<B>, Known, Snapshot<B>>>⟧.holds sample after →
+        VisitsStand before after }
+    ensures seen { (sample : Snapshot B) (state : State (Option B) Known) →
+        ⟦<Handover as TableRule<Option<B>, Known, Snapshot<B>>>⟧.holds sample state →
+        LooksHold (length state.homes) state.views }
 {}
 
 /// A table with these blocks at its places, each with the word 0, and the seat of both ends.
