@@ -1,6 +1,6 @@
 //! Laws of the definitions, each the contract of a function that does nothing.
-ghost use Rattle.std.specs.Prelude.{◌≡◌, ℕ, List, map};
-ghost use Rattle.ring_model.specs.Fates.{counts_of, kept_of, totals_of};
+ghost use Rattle.std.specs.Prelude.{◌≡◌, ◌<◌, ℕ, List, [], length, map};
+ghost use Rattle.ring_model.specs.Fates.{counts_of, drops_of, kept_of, totals_of};
 ghost use Rattle.ring_model.specs.Ring.{Size};
 ghost use Rattle.ring_model.specs.Rings.{Ring};
 ghost use Rattle.ring_model.specs.Unreleased.{IsUnreleased};
@@ -8,7 +8,7 @@ ghost use Rattle.ring_model.specs.declared.notes.Note.{Note};
 ghost use Rattle.ring_model.specs.declared.notes.Offer.{Offer};
 ghost use Rattle.slot_model.specs.SlotFates.{slot_counts_of, slot_totals_of, without_freezes};
 ghost use Rattle.slot_model.specs.SlotRings.{slot_note_of_put, slot_note_of_try, slot_state};
-ghost use Rattle.slot_model.specs.SlotSteps.{SlotMayStand, slot_state_of};
+ghost use Rattle.slot_model.specs.SlotSteps.{IsSlotRun, SlotMayStand, first_slot_state, slot_state_of};
 
 /// What a put notes may stand, whatever the reader has released.
 pub fn slot_puts_stand()
@@ -20,6 +20,12 @@ pub fn slot_puts_stand()
 pub fn slot_tries_stand()
     ensures { (ring : Ring) (offer : Offer)
         → SlotMayStand ring.size.blocks (slot_state ring) (slot_note_of_try ring offer) }
+{}
+
+/// A ring whose notes fill fewer slots than it has drops nothing.
+pub fn a_ring_with_slots_left_drops_nothing()
+    ensures { (slots : ℕ) (notes : List Note) → IsSlotRun slots first_slot_state notes
+        → length (slot_state_of notes).done < slots → drops_of notes ≡ [] }
 {}
 
 /// Where a put or a try notes that the next slot was still the reader's, the reader hadn't released that slot.
