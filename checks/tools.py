@@ -5,11 +5,14 @@
 
 Sums stand beside the tests: a frame of 60 bytes takes 144 bytes of a block, of which one of 4096 bytes has 4048 for packets, so 28 frames.
 """
-import csv
 import gzip
+import json
+import os
 import re
 import struct
+import subprocess
 import sys
+import time
 import xml.etree.ElementTree
 from pathlib import Path
 
@@ -75,9 +78,55 @@ def datagram(ident, offset, is_last, data):
 
 
 def test_help():
+    """Help within 80 columns with an example, a version, and one line of usage before what is wrong with the words."""
     for name in TOOLS:
         printed, said, status = tool(name, "--help")
         expect(f"{name} --help", (status, said, printed.startswith("usage: ")), (0, "", True))
+        expect(f"{name} --help: wide lines", [line for line in printed.split("\n") if len(line) > 79], [])
+        expect(f"{name} --help: an example", f"\nexample:\n  {name} " in printed, True)
+        expect(f"{name} --version", re.fullmatch(rf"{name} \(ringtap\) [0-9.]+\n", tool(name, "--version")[0]) is not None, True)
+        said, status = tool(name, "--no-such-option")[1:]
+        expect(f"{name}: wrong words", (said.count("\n"), said.startswith(f"usage: {name} "), status), (2, True, 125 if name == "run.py" else 2))
+
+
+def test_endings():
+    """A disk that is full is a sentence, and a tool that is told to end leaves nothing."""
+    capture("few.pcap", [(number, frame(number)) for number in range(100)])
+    text("few.txt", BLOCK + "cpu few.pcap\n")
+    for words in (["schedule.py", "few.txt"], ["blocks.py", TOP / "demo/expected/group/group.0.blk"], ["schedule.py", "few.txt", "-o", "/dev/full"]):
+        name, *rest = map(str, words)
+        script = f"{sys.executable} -B {TOP}/tools/{name} {' '.join(rest)} >/dev/full"
+        _, said, status = answer(["bash", "-c", script])
+        what = "/dev/full: can't be written" if "-o" in rest else "standard output"
+        expect(f"{name}, a full disk", (said, status), (f"{name}: {what}: No space left on device\n", 1))
+    slow = room / "slow"
+    slow.write_text("#!/bin/sh\ntouch started\nexec sleep 60\n")
+    slow.chmod(0o755)
+    (room / "temporary").mkdir()
+    environment = {**os.environ, "TMPDIR": str(room / "temporary")}
+    for name, rest in (("lost.py", ["/dev/null"]), ("timeline.py", ["/dev/null"]), ("ring_size.py", ["--block-nr", "2"])):
+        words = [sys.executable, "-B", str(TOP / "tools" / name), "few.txt", *rest, "--program", str(slow)]
+        process = subprocess.Popen(words, cwd=room, stdout=subprocess.PIPE, stderr=subprocess.PIPE, env=environment)
+        folders = []
+        for _ in range(400):
+            folders = [path for path in (room / "temporary").glob("ringtap-*/started")]
+            if folders:
+                break
+            time.sleep(0.05)
+        expect(f"{name} has begun", len(folders), 1)
+        process.terminate()
+        process.communicate()
+        expect(f"{name} after SIGTERM", (process.returncode, list((room / "temporary").iterdir())), (143, []))
+
+
+def test_bytes():
+    """1M bytes a second are 256 blocks of 4096, so one each 3.90625 ms, of which 10 ms have two."""
+    capture("apart.pcap", [(0, frame(0)), (10_000, frame(1))])
+    text("apart.txt", BLOCK + "cpu apart.pcap\n")
+    made = json.loads(tool("schedule.py", "apart.txt", "--bytes", "1M", "--tick", "0", "--json", "-o", "apart.sched")[0])
+    plain = json.loads(tool("schedule.py", "apart.txt", "--bytes", "1048576", "--tick", "0", "--json")[0])
+    expect("--bytes 1M", (made["feeds"], made["output"], plain["schedule"]), (2, "apart.sched", (room / "apart.sched").read_text()))
+    expect("--bytes 1X", "'1X' is no number, as 250, 64K or 1M" in tool("schedule.py", "apart.txt", "--bytes", "1X")[1], True)
 
 
 def test_schedule():

@@ -42,6 +42,7 @@ demo() {
     while read -r line; do
         grep -qxF -e "$line" "$room/lines.txt" || wrong "$2, $1: no line '$line'"
     done <"demo/expected/$1/lines.txt"
+    tail -n "$(wc -l <"demo/expected/$1/lines.txt")" "$room/lines.txt" | cmp -s - "demo/expected/$1/lines.txt" || wrong "$2, $1: the program's lines aren't the last ones"
     for file in demo/expected/"$1"/*.pcap; do
         cmp "$file" "$copy/${file##*/}" || wrong "$2, $1: another ${file##*/}"
         rm -f "$copy/${file##*/}"

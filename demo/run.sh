@@ -35,8 +35,7 @@ setup=demo/$name.txt
 run_proved() {
     newer=$(find crates -name '*.rt' -newer "$(readlink -f bin/ringtap)" | head -n 1)
     [ -z "$newer" ] || echo "$newer is newer than the program: \`sh demo/build.sh\` builds it anew" >&2
-    echo "ringtap $command $setup $schedule"
-    bin/ringtap "$command" "$setup" ${schedule:+"$schedule"}
+    lines=$(bin/ringtap "$command" "$setup" ${schedule:+"$schedule"}) || { status=$?; echo "$lines"; exit "$status"; }
 }
 
 # The seconds so far, on a terminal, until a process ends.
@@ -62,7 +61,6 @@ run_unproved() {
     cp -R demo "$room/demo"
     grep -q '^out ' "$setup" || echo 'out out' >>"$room/$setup"
     sed -i -e '/^#/!s|demo/|'"$room"'/demo/|' -e 's|^out |out '"$room"'/|' "$room/$setup"
-    echo "ringtap $command $setup $schedule"
     (cd crates/ringtap && exec rt try --seconds 60 -- "$command" "$room/$setup" ${schedule:+"$room/$schedule"}) \
         >"$room/lines.txt" 2>"$room/said.txt" &
     trying=$!
@@ -70,8 +68,9 @@ run_unproved() {
     show_seconds "$trying"
     status=0
     wait "$trying" || status=$?
-    cat "$room/lines.txt"
+    lines=$(cat "$room/lines.txt")
     if [ "$status" -ne 0 ]; then
+        echo "$lines"
         cat "$room/said.txt" >&2
         exit "$status"
     fi
@@ -86,8 +85,11 @@ else
     run_unproved
 fi
 if command -v tcpdump >/dev/null; then
-    echo "tcpdump -nqr $output"
-    tcpdump -nqr "$output"
+    echo "tcpdump -nqr $output | head -n 5"
+    tcpdump -nqr "$output" 2>/dev/null | head -n 5
 else
     ls -l "$output"
 fi
+echo
+echo "ringtap $command $setup $schedule"
+echo "$lines"

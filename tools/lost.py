@@ -292,7 +292,7 @@ def sum_rows(captures: list[Frames], report: Report) -> list[list[int]]:
 
 def parser_of() -> ToolParser:
     parser = ToolParser(__doc__, "demo/small.txt demo/schedule.txt --save lost.pcap")
-    parser.add_argument("setup", type=Path, metavar="SETUP")
+    parser.add_argument("setup", type=Path, metavar="SETUP", help="the setup")
     parser.add_argument("schedule", type=Path, nargs="?", metavar="SCHEDULE", help="a file, a pipe, or `-`; without one an earlier run's outputs")
     parser.add_argument("--first", type=int, choices=(0, 1), default=1, help="the number of a capture's first frame (1)")
     parser.add_argument("--frames", action="store_true", help="a line for each frame in place of ranges")

@@ -1,11 +1,14 @@
 #!/usr/bin/env python3
 """Makes the man page docs/ringtap.1 and the completion for bash tools/ringtap.bash from the tables of the documents.
 
-With --check nothing is written, and the status is 1 where one of the two isn't what the documents give.
+With --check nothing is written, and the status is 1 where one of the two isn't what the documents give. With --into a man page of the program and
+one of each tool, made from its help, go into a folder, as install.sh has it.
 """
 from __future__ import annotations
 
 import argparse
+import importlib
+import json
 import re
 import sys
 from pathlib import Path
@@ -14,9 +17,15 @@ sys.path.insert(0, str(Path(__file__).resolve().parent))  # which `python3 -I` l
 
 from ringtap_documents import TOP, table_with
 from ringtap_files import read_bytes, run_main
-from ringtap_outputs import write_text
+from ringtap_outputs import check_folder, write_text
+from ringtap_words import DATE, VERSION, ToolParser, add_json
 
 PAGE, COMPLETION = TOP / "docs" / "ringtap.1", TOP / "tools" / "ringtap.bash"
+# The tools that are installed: their files, and the names that they have there.
+TOOLS = {
+    "blocks": "ringtap-blocks", "busiest": "ringtap-busiest", "lost": "ringtap-lost", "ring_of": "ringtap-ring-of", "ring_size": "ringtap-size",
+    "run": "ringtap-run", "schedule": "ringtap-schedule", "timeline": "ringtap-timeline",
+}
 
 
 def roff(text: str) -> str:
@@ -57,7 +66,7 @@ def man_page() -> str:
     statuses = table_with({"Status", "When", "What to do"})
     lines = [
         '.\\" Made by tools/make_man.py from the tables of the documents: change those.',
-        ".TH RINGTAP 1",
+        f'.TH RINGTAP 1 "{DATE}" "ringtap {VERSION}"',
         ".ad l",
         *section("NAME", "ringtap \\- runs packet captures through the rings of Linux packet sockets"),
         *section("SYNOPSIS"),
@@ -92,7 +101,8 @@ def man_page() -> str:
         ".fi",
     )
     lines += section("SEE ALSO",
-                     "\\fBpacket\\fR(7), \\fBtcpdump\\fR(1), \\fBpcap\\-savefile\\fR(5), \\fBss\\fR(8), and the documents in docs/.",
+                     f"{others_of('ringtap')}, \\fBpacket\\fR(7), \\fBtcpdump\\fR(1), \\fBpcap\\-savefile\\fR(5), \\fBss\\fR(8), and the documents",
+                     "in docs/, or where they are installed in share/doc/ringtap.",
                      "A section that this page names is one of docs/reference.md.")
     return "\n".join(lines) + "\n"
 
@@ -136,18 +146,105 @@ complete -o filenames -F _ringtap ringtap
 """
 
 
+def others_of(name: str) -> str:
+    """The other pages, as a man page names them."""
+    return ", ".join(f"\\fB{escaped(other)}\\fR(1)" for other in ["ringtap", *TOOLS.values()] if other != name)
+
+
+def prose(text: str) -> list[str]:
+    """Paragraphs of a help as roff; what stands between backticks is bold."""
+    lines = []
+    for paragraph in re.split(r"\n\s*\n", text.strip()):
+        lines += [".PP", line_of(roff(" ".join(paragraph.split())))]
+    return lines[1:]
+
+
+def option_lines(parser: ToolParser, action: argparse.Action) -> list[str]:
+    """An argument or an option with what it takes."""
+    metavar = str(action.metavar or action.dest)
+    if not action.option_strings:
+        head = f"**{metavar}**"
+    else:
+        takes = "" if action.nargs == 0 else " " + (metavar if action.metavar or not action.choices else "|".join(map(str, action.choices)))
+        head = ", ".join(f"**{option}**" for option in action.option_strings) + takes
+    told = (action.help or "").replace("%(prog)s", parser.prog).replace("show program's version number and exit", "show the version and exit")
+    return tagged(roff(head), roff(capitalized(told) + "."))
+
+
+STATUSES = {
+    "ringtap-run": "That of \\fBringtap\\fR; 125 where the tool itself refuses, before anything is run.",
+    "ringtap-size": "0 where a ring loses nothing, 3 where none does, 1 where an input is wrong, 2 where the words are.",
+}
+PLAIN_STATUS = "0 where all went well, 1 where an input is wrong or an output can't be written, 2 where the words are wrong."
+
+
+def tool_page(module: str) -> str:
+    """The man page of a tool, from its help."""
+    name = TOOLS[module]
+    parser = importlib.import_module(module).parser_of()
+    parser.prog = name
+    first, _, rest = (parser.description or "").strip().partition("\n\n")
+    sentence = " ".join(first.split()).rstrip(".")
+    example = (parser.epilog or "").split("\n  ", 1)[1] % {"prog": name}
+    lines = [
+        '.\\" Made by tools/make_man.py from the help of the tool: change that.',
+        f'.TH {name.upper()} 1 "{DATE}" "ringtap {VERSION}"', ".ad l",
+        *section("NAME", f"{escaped(name)} \\- {roff(sentence[:1].lower() + sentence[1:])}"),
+        *section("SYNOPSIS", roff(f"**{name}**" + parser.one_line().removeprefix(name))),
+        *section("DESCRIPTION", *prose(f"{sentence}.\n\n{rest}" if rest else f"{sentence}.")),
+    ]
+    actions = sorted(parser._actions, key=lambda action: bool(action.option_strings))  # what is needed comes first
+    lines += section("OPTIONS", *(line for action in actions for line in option_lines(parser, action)))
+    lines += section("EXIT STATUS", STATUSES.get(name, PLAIN_STATUS))
+    lines += section("EXAMPLE", ".nf", f"    {escaped(example)}", ".fi")
+    lines += section("SEE ALSO", f"{others_of(name)}, and \\fBtools.md\\fR among the documents.")
+    return "\n".join(lines) + "\n"
+
+
+def pages() -> dict[str, str]:
+    """All man pages by the names of their files."""
+    return {"ringtap.1": man_page(), **{f"{name}.1": tool_page(module) for module, name in TOOLS.items()}}
+
+
+def parser_of() -> ToolParser:
+    parser = ToolParser(__doc__, "--check")
+    parser.add_argument("--check", action="store_true", help="write nothing, and say what is out of date")
+    parser.add_argument("--into", type=Path, metavar="FOLDER", help="write all man pages there")
+    parser.add_argument("--names", action="store_true", help="print each tool that is installed, and the name that it has there")
+    add_json(parser)
+    return parser
+
+
+def written_into(folder: Path) -> list[str]:
+    check_folder(folder)
+    folder.mkdir(parents=True, exist_ok=True)
+    made = pages()
+    for name, text in made.items():
+        write_text(folder / name, text)
+    return [str(folder / name) for name in made]
+
+
 def main(words: list[str]) -> int:
-    parser = argparse.ArgumentParser(description=__doc__, formatter_class=argparse.RawDescriptionHelpFormatter)
-    parser.add_argument("--check", action="store_true", help="writes nothing, and says what is out of date")
-    args = parser.parse_args(words)
-    status = 0
-    for path, text in [(PAGE, man_page()), (COMPLETION, completion())]:
-        if not args.check:
-            write_text(path, text)
-        elif not path.is_file() or path.read_text() != text:
-            print(f"{path.relative_to(TOP)}: isn't what the documents give: `python3 tools/make_man.py` makes it anew")
-            status = 1
-    return status
+    args = parser_of().parse_args(words)
+    if args.names:
+        print(json.dumps(TOOLS) if args.json else "\n".join(f"{module}.py {name}" for module, name in TOOLS.items()))
+        return 0
+    made, stale = [], []
+    if args.into:
+        made = written_into(args.into)
+    else:
+        for path, text in [(PAGE, man_page()), (COMPLETION, completion())]:
+            if args.check and not (path.is_file() and path.read_text() == text):
+                stale.append(str(path.relative_to(TOP)))
+            elif not args.check:
+                write_text(path, text)
+                made.append(str(path))
+    if args.json:
+        print(json.dumps({"made": made, "stale": stale}))
+    else:
+        for name in stale:
+            print(f"{name}: isn't what the documents give: `python3 tools/make_man.py` makes it anew")
+    return 1 if stale else 0
 
 
 if __name__ == "__main__":

@@ -238,7 +238,7 @@ def shown_by_ss() -> str:
 
 
 def parser_of() -> ToolParser:
-    parser = ToolParser(__doc__, "demo/lo.pcap --from checks/packet_sockets.txt --name tcpdump --inode 137704")
+    parser = ToolParser(__doc__, "demo/lo.pcap --name tcpdump -o dump.txt")
     parser.add_argument("captures", nargs="+", metavar="CAPTURE", help="the capture of each CPU, for the setup's lines `cpu`")
     parser.add_argument("--pid", type=int, metavar="N", help="the ring of this process")
     parser.add_argument("--name", metavar="NAME", help="the ring of the program of this name")

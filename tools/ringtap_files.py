@@ -27,7 +27,7 @@ class Fault(Exception):
 def run_main(main: Callable[[list[str]], int], fault_status: int = 1) -> None:
     """Runs a tool; a fault is printed on standard error, with a status of its own. A signal lets the tool clear up first."""
     for number in (signal.SIGTERM, signal.SIGHUP):
-        signal.signal(number, lambda which, _: sys.exit(128 + which))
+        signal.signal(number, end_by_signal)
     for stream in (sys.stdout, sys.stderr):
         stream.reconfigure(encoding="utf-8", errors="surrogateescape")  # names are bytes, and go out as they came in
     status, said = fault_status, ""
@@ -46,6 +46,15 @@ def run_main(main: Callable[[list[str]], int], fault_status: int = 1) -> None:
     if said:
         print(f"{Path(sys.argv[0]).name}: {said}", file=sys.stderr)
     sys.exit(status)
+
+
+AT_SIGNAL: list[Callable[[], None]] = []  # what is to be done before a signal ends the tool
+
+
+def end_by_signal(number: int, _: object) -> None:
+    for call in AT_SIGNAL:
+        call()
+    sys.exit(128 + number)
 
 
 def silence(stream: TextIO) -> None:

@@ -11,7 +11,7 @@ from dataclasses import dataclass, field
 from pathlib import Path
 
 from ringtap_captures import CaptureStream, copy_unpacked, is_plain
-from ringtap_files import LARGEST_TEXT, Fault, Setup
+from ringtap_files import AT_SIGNAL, LARGEST_TEXT, Fault, Setup
 from ringtap_outputs import write_text
 
 HERE = Path(__file__).resolve().parent
@@ -190,10 +190,30 @@ class Room:
 
 def run_program(program: Path, words: list[str], folder: Path | None = None) -> subprocess.CompletedProcess:
     """Runs the program to its end, and keeps what it printed."""
+    pipe = subprocess.PIPE
     try:
-        return subprocess.run([program, *words], cwd=folder, capture_output=True, text=True, errors="replace")
+        run = subprocess.Popen([program, *words], cwd=folder, stdout=pipe, stderr=pipe, text=True, encoding="utf-8", errors="replace")
     except OSError as error:
         raise Fault(f"{program}: can't be started: {error.strerror}") from None
+    RUNNING.add(run)
+    try:
+        printed, said = run.communicate()
+    except BaseException:
+        run.kill()
+        raise
+    finally:
+        RUNNING.discard(run)
+    return subprocess.CompletedProcess(run.args, run.returncode, printed, said)
+
+
+def kill_runs() -> None:
+    """Ends what runs on threads, so that a tool that is told to end needn't wait for it."""
+    for run in list(RUNNING):
+        run.kill()
+
+
+RUNNING: set[subprocess.Popen] = set()
+AT_SIGNAL.append(kill_runs)
 
 
 class Progress:

@@ -10,6 +10,7 @@ from __future__ import annotations
 import argparse
 import sys
 from array import array
+from collections import Counter
 from dataclasses import dataclass
 from fractions import Fraction
 from heapq import merge
@@ -22,6 +23,7 @@ from ringtap_captures import CaptureStream, say_end
 from ringtap_clock import Beside, Pace, Shape
 from ringtap_files import LARGEST_TEXT, NANOSECONDS, Fault, Setup, read_setup, run_main
 from ringtap_outputs import check_outputs, write_text
+from ringtap_words import ToolParser, add_json, counted, print_json
 
 DEFAULT_TIMEOUT = 8  # milliseconds, where the setup has 0 or none
 
@@ -130,7 +132,7 @@ def add_pace(parser: argparse.ArgumentParser, has_phase: bool = True) -> None:
                            help="the timer was started MS milliseconds before the first frame (0)")
     reader = group.add_mutually_exclusive_group()
     reader.add_argument("--blocks", type=positive, metavar="N", help="each reader makes a step, for one block, N times a second")
-    reader.add_argument("--bytes", type=positive, metavar="N", help="the same so often that N bytes of blocks are read a second")
+    reader.add_argument("--bytes", type=counted, metavar="N", help="the same so often that N bytes of blocks are read a second, as 1M")
     reader.add_argument("--pause", type=positive, metavar="MS", help="each reader sleeps MS milliseconds, then takes all that is there")
     group.add_argument("--stall", type=stall, action="append", default=[], metavar="FROM:MS",
                        help="from millisecond FROM on no reader reads for MS milliseconds")
@@ -143,18 +145,34 @@ def pace_of(args: argparse.Namespace) -> Pace:
     return Pace(args.speed, args.tick, getattr(args, "phase", Fraction(0)), args.blocks, args.bytes, args.pause, tuple(args.stall), args.stats)
 
 
-def main(words: list[str]) -> int:
-    parser = argparse.ArgumentParser(description=__doc__, formatter_class=argparse.RawDescriptionHelpFormatter)
-    parser.add_argument("setup", type=Path, metavar="SETUP")
+def parser_of() -> ToolParser:
+    parser = ToolParser(__doc__, "demo/small.txt --pause 4 -o small.sched")
+    parser.add_argument("setup", type=Path, metavar="SETUP", help="the setup")
     parser.add_argument("-o", "--output", type=Path, metavar="FILE", help="where the schedule goes (standard output)")
     add_pace(parser)
-    args = parser.parse_args(words)
+    add_json(parser)
+    return parser
+
+
+def object_of(text: str, output: Path | None) -> dict[str, object]:
+    """How many lines of each kind, and the schedule itself where it isn't saved."""
+    counts = Counter(line.split()[0] for line in text.splitlines())
+    made: dict[str, object] = {f"{word}s" if word != "stats" else word: counts[word] for word in ("feed", "read", "tick", "stats")}
+    made.update(lines=sum(counts.values()), bytes=len(text))
+    made.update({"output": str(output)} if output else {"schedule": text})
+    return made
+
+
+def main(words: list[str]) -> int:
+    args = parser_of().parse_args(words)
     setup, pace = read_setup(args.setup), pace_of(args)
     check_outputs([args.output], [], setup)
     text = schedule_of(feeds(map(CaptureStream, setup.capture_paths()), pace.speed), pace, shape_of(setup))
     if args.output:
         write_text(args.output, text)
-    else:
+    if args.json:
+        print_json(object_of(text, args.output))
+    elif not args.output:
         print(text, end="")
     return 0
 

@@ -385,8 +385,8 @@ def picture_of(run: Run, path: Path) -> str:
 
 def parser_of() -> ToolParser:
     parser = ToolParser(__doc__, "demo/small.txt demo/schedule.txt --picture timeline.svg")
-    parser.add_argument("setup", type=Path, metavar="SETUP")
-    parser.add_argument("schedule", type=Path, metavar="SCHEDULE")
+    parser.add_argument("setup", type=Path, metavar="SETUP", help="the setup")
+    parser.add_argument("schedule", type=Path, metavar="SCHEDULE", help="a file, a pipe, or `-`")
     parser.add_argument("--first", type=int, choices=(0, 1), default=0, help="the number of a capture's first frame (0)")
     parser.add_argument("--picture", type=Path, metavar="FILE", help="draw it, as SVG, or as PNG where rsvg-convert is there")
     add_json(parser)
