@@ -83,6 +83,7 @@ def test_help():
         printed, said, status = tool(name, "--help")
         expect(f"{name} --help", (status, said, printed.startswith("usage: ")), (0, "", True))
         expect(f"{name} --help: wide lines", [line for line in printed.split("\n") if len(line) > 79], [])
+        expect(f"{name} --help: JSON", "  --json " in printed, True)
         expect(f"{name} --help: an example", f"\nexample:\n  {name} " in printed, True)
         expect(f"{name} --version", re.fullmatch(rf"{name} \(ringtap\) [0-9.]+\n", tool(name, "--version")[0]) is not None, True)
         said, status = tool(name, "--no-such-option")[1:]
