@@ -223,6 +223,9 @@ def test_guard():
     shown = TOP / "checks" / "packet_sockets.txt"
     expect("a setup over a capture", tool("ring_of.py", "safe.pcap", "--from", shown, "--inode", "137704", "-o", "safe.pcap"),
            ("", "ring_of.py: safe.pcap: would take the place of the input safe.pcap: choose another name\n", 1))
+    for name in ("lost.py", "timeline.py"):
+        expect("a picture's ending", tool(name, setup, "/dev/null", "--picture", "safe.jpg", "--program", program)[1:],
+               (f"{name}: safe.jpg: a picture's name ends with .svg or .png\n", 1))
     expect("no folder", tool("schedule.py", setup, "-o", "gone/made")[1], "schedule.py: gone/made: can't be written: there is no folder gone\n")
     expect("all stay", {name: (room / name).read_bytes() for name in before} == before, True)
 

@@ -27,7 +27,7 @@ from ringtap_flows import VLAN_TYPES, Flow, flow_of, flow_words
 from ringtap_outputs import check_outputs, written
 from ringtap_runs import Report, Room, add_program, program_of, table
 from ringtap_words import ToolParser, add_json, print_json
-from svg_plot import Layer, bars_chart, save_picture
+from svg_plot import Layer, bars_chart, check_picture, save_picture
 
 SLOT_HEADER = 66  # bytes of a slot of TPACKET_V2 before its data
 UNSURE = 3  # the fate of a frame that is lost, or one that is like it
@@ -237,8 +237,14 @@ def bin_names(bins: list[Bin]) -> list[str]:
 def picture_of(bins: list[Bin], words: str) -> str:
     layers = [Layer("kept", [one.kept for one in bins]), Layer("lost", [one.lost for one in bins])]
     return bars_chart(
-        f"Packets kept and lost, by time: {words}", "seconds from the first frame on", "packets", bin_names(bins), layers, [KEPT_COLOR, LOST_COLOR]
+        "Packets kept and lost, by time", "seconds from the first frame on", "packets", bin_names(bins), layers, [KEPT_COLOR, LOST_COLOR],
+        subtitle=words,
     )
+
+
+def names_of(setup: Setup) -> str:
+    """The setup and its captures, for a picture."""
+    return f"{setup.path.name} of {', '.join(path.name for path in setup.capture_paths())}"
 
 
 def print_ranges(ranges: list[Range], most: int) -> None:
@@ -368,6 +374,8 @@ def main(words: list[str]) -> int:
     if args.ranges < 0 or args.flows < 0:
         raise Fault("--ranges, --flows: a number isn't negative")
     earlier = [] if args.schedule else [Path(name) for name in output_names(setup, "replay")]
+    if args.picture:
+        check_picture(args.picture)
     check_outputs([args.picture, args.save], [args.schedule] if args.schedule else earlier, setup)
     with Room(setup, program) as room:
         answer = find(room, args)
@@ -376,7 +384,7 @@ def main(words: list[str]) -> int:
     else:
         print_text(answer, args)
     if args.picture:
-        save_picture(args.picture, picture_of(answer.bins, setup.path.name))
+        save_picture(args.picture, picture_of(answer.bins, f"{names_of(setup)}, by {args.schedule or 'an earlier run'}"))
     saved = ", ".join(str(path) for path in (args.save, args.picture) if path)
     if saved:
         print(f"\nsaved: {saved}", file=sys.stderr if args.json else sys.stdout)

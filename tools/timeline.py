@@ -24,7 +24,7 @@ from ringtap_outputs import check_outputs
 from ringtap_runs import Report, Room, add_program, program_of, table
 from ringtap_words import ToolParser, add_json, print_json
 from schedule import DEFAULT_TIMEOUT
-from svg_plot import save_picture
+from svg_plot import check_picture, save_picture
 from svg_steps import Frozen, Panel, steps_chart
 
 DESCRIPTOR, MILLISECOND = 48, 1_000_000
@@ -397,6 +397,8 @@ def parser_of() -> ToolParser:
 def main(words: list[str]) -> int:
     args = parser_of().parse_args(words)
     program, setup = program_of(args.program), read_setup(args.setup)
+    if args.picture:
+        check_picture(args.picture)
     check_outputs([args.picture], [args.schedule], setup)
     with Room(setup, program) as room:
         name = room.text("schedule", args.schedule)
