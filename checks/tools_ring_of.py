@@ -3,6 +3,7 @@
 
     tools_ring_of.py PROGRAM FOLDER
 """
+import ctypes
 import json
 import mmap
 import os
@@ -14,7 +15,7 @@ from hash_values import KEY
 from tools import TOP, answer, expect, program, room, text, tool
 
 SOL_PACKET, PACKET_RX_RING, PACKET_VERSION, PACKET_RESERVE = 263, 5, 10, 12
-ETH_P_ALL, TPACKET_V3 = 3, 2
+ETH_P_ALL, TPACKET_V3, SO_ATTACH_FILTER = 3, 2, 26
 
 
 def ring_of(*words):
@@ -83,22 +84,29 @@ def test_reserve():
     expect("its sum", [262096 // 144, 262096 // 152], [1820, 1724])
     for reserve, place, count in ((0, 82, 1820), (4, 86, 1724)):
         try:
-            with socket.socket(socket.AF_PACKET, socket.SOCK_RAW, 0) as ring, socket.socket(socket.AF_PACKET, socket.SOCK_RAW, 0) as sender:
-                ring.setsockopt(SOL_PACKET, PACKET_VERSION, struct.pack("i", TPACKET_V3))
-                ring.setsockopt(SOL_PACKET, PACKET_RESERVE, struct.pack("I", reserve))
-                ring.setsockopt(SOL_PACKET, PACKET_RX_RING, struct.pack("IIIIIII", 262144, 2, 2048, 256, 60000, 0, 0))
-                memory = mmap.mmap(ring.fileno(), 2 * 262144)
-                ring.bind(("lo", ETH_P_ALL))
-                sender.bind(("lo", 0))
-                for _ in range(2000):  # each is seen as it goes out and as it comes in
-                    sender.send(bytes(12) + b"\x88\xb5" + bytes(48))
-                found = struct.unpack_from("<I", memory, 12)[0], struct.unpack_from("<H", memory, 48 + 24)[0]
-                memory.close()
+            found = full_block(reserve)
         except OSError as error:
             print(f"tools_ring_of.py: no packet socket was opened: {error}")
             return
-        # Another program's packet may have come between.
-        expect(f"a block with {reserve} bytes reserved", (count - 20 <= found[0] <= count, found[1]), (True, place))
+        expect(f"a block with {reserve} bytes reserved", found, (count, place))
+
+
+def full_block(reserve):
+    """The packets of a block that is filled with frames of 62 bytes, and the place of the first one's data."""
+    frames = bytes(12) + b"\x88\xb5" + bytes(48)
+    # Packets of type 0x88b5 alone: a half word at 12 is compared.
+    code = ctypes.create_string_buffer(struct.pack("HBBI" * 4, 0x28, 0, 0, 12, 0x15, 0, 1, 0x88B5, 6, 0, 0, 65535, 6, 0, 0, 0))
+    with socket.socket(socket.AF_PACKET, socket.SOCK_RAW, 0) as ring, socket.socket(socket.AF_PACKET, socket.SOCK_RAW, 0) as sender:
+        ring.setsockopt(SOL_PACKET, PACKET_VERSION, struct.pack("i", TPACKET_V3))
+        ring.setsockopt(SOL_PACKET, PACKET_RESERVE, struct.pack("I", reserve))
+        ring.setsockopt(SOL_PACKET, PACKET_RX_RING, struct.pack("IIIIIII", 262144, 2, 2048, 256, 60000, 0, 0))
+        ring.setsockopt(socket.SOL_SOCKET, SO_ATTACH_FILTER, struct.pack("HL", 4, ctypes.addressof(code)))
+        with mmap.mmap(ring.fileno(), 2 * 262144) as memory:
+            ring.bind(("lo", ETH_P_ALL))
+            sender.bind(("lo", 0))
+            for _ in range(2000):  # each is seen as it goes out and as it comes in
+                sender.send(frames)
+            return struct.unpack_from("<I", memory, 12)[0], struct.unpack_from("<H", memory, 48 + 24)[0]
 
 
 YAML = """%YAML 1.1

@@ -5,7 +5,7 @@ from dataclasses import dataclass
 from html import escape
 
 
-WIDTH, LEFT, RIGHT, TOP, BOTTOM = 860, 80, 30, 80, 56
+WIDTH, LEFT, RIGHT, TOP, BOTTOM = 860, 80, 30, 86, 56
 PANEL, GAP = 130, 34  # height of a panel, and what is left between two
 INK, GRID, FILL, LINE, FULL = "#222222", "#dddddd", "#bfdcec", "#0072b2", "#d55e00"
 NANOSECONDS = 1_000_000_000
@@ -31,8 +31,8 @@ class Panel:
     frozen: list[Frozen]
 
 
-def text(x: float, y: float, words: str, anchor: str = "middle", size: int = 12, color: str = INK) -> str:
-    return f'<text x="{x:.1f}" y="{y:.1f}" text-anchor="{anchor}" font-size="{size}" fill="{color}">{escape(words)}</text>'
+def text(x: float, y: float, words: str, anchor: str = "middle", size: int = 12, more: str = "") -> str:
+    return f'<text x="{x:.1f}" y="{y:.1f}" text-anchor="{anchor}" font-size="{size}" fill="{INK}"{more}>{escape(words)}</text>'
 
 
 def line(x1: float, y1: float, x2: float, y2: float, color: str, more: str = "") -> str:
@@ -43,7 +43,7 @@ def seconds(time: float) -> str:
     return f"{time / NANOSECONDS:.9f}".rstrip("0").rstrip(".")
 
 
-def steps_chart(title: str, x_label: str, end: int, panels: list[Panel]) -> str:
+def steps_chart(title: str, subtitle: str, x_label: str, end: int, panels: list[Panel]) -> str:
     """The panels below one another, over one axis of time."""
     height = TOP + len(panels) * (PANEL + GAP) - GAP + BOTTOM
     end = max(end, 1)
@@ -51,8 +51,8 @@ def steps_chart(title: str, x_label: str, end: int, panels: list[Panel]) -> str:
     def place(time: int) -> float:
         return LEFT + (WIDTH - LEFT - RIGHT) * time / end
 
-    parts = [text(WIDTH / 2, 24, title, size=15), text(WIDTH / 2, height - 12, x_label)]
-    parts += [text(WIDTH / 2, 44, "dashed: all blocks of the ring; red: frozen, with the packets that were dropped", size=11)]
+    parts = [text(LEFT, 26, title, "start", 16, ' font-weight="bold"'), text(WIDTH / 2, height - 12, x_label)]
+    parts += [text(LEFT, 46, f"{subtitle}; dashed: all blocks of the ring; red: frozen", "start")]
     for at, panel in enumerate(panels):
         parts += panel_parts(panel, TOP + at * (PANEL + GAP), place, end)
     step = round_step(end)

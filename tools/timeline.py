@@ -380,7 +380,8 @@ def object_of(run: Run) -> dict[str, object]:
 def picture_of(run: Run, path: Path) -> str:
     end = run.story.now
     panels = [Panel(f"member {at}", ring.count, ring.most.has, ring.steps, ring.frozen) for at, ring in enumerate(run.rings)]
-    return steps_chart(f"Blocks that the reader has, {run.setup.path.name} by {path.name}", "seconds from the first frame on", end, panels)
+    subtitle = f"{', '.join(one.name for one in run.setup.capture_paths())}; {run.setup.path.name} by {path.name}"
+    return steps_chart("Blocks that the reader has, by time", subtitle, "seconds from the first frame on", end, panels)
 
 
 def parser_of() -> ToolParser:
