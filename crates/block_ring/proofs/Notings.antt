@@ -1,7 +1,8 @@
 -- What one note more does to the state of a ring and to its counts.
-use Rattle.std.proofs.Common.{◌≡◌, ℕ, ◌+◌, ◌≤◌, List, [], ◌∷◌, ◌++◌, length, Option, None, Some, Bool, true, false, refl, ap, arith, length-append}
+use Rattle.std.proofs.Common.{◌≡◌, ℕ, ◌+◌, ◌≤◌, List, [], ◌∷◌, ◌++◌, length, Option, None, Some, Bool, true, false, refl, sym, subst, ap, ◌∙◌, append-nil, arith, length-append, option_map}
 use Rattle.std.specs.Prelude.{if◌then◌else◌}
 use Rattle.std.specs.Prelude.{nat_lt}
+use Rattle.std.proofs.lemmas.List.Concat.{flat_map-append}
 use Rattle.std.proofs.lemmas.List.Sums.{sum_by-append, sum_by-cons}
 use Rattle.ring_model.specs.Asking.{is_empty_block}
 use Rattle.ring_model.specs.Ring.{EndsThere, IsRun, IsWholeRun, MayStand, Size, State, after, after_all, after_due, after_drop, finished, first_state, open_count, retired, state_of, status_of, with_offer}
@@ -10,7 +11,8 @@ use Rattle.ring_model.specs.declared.notes.Found.TheVariants.{NotAsked, Free, He
 use Rattle.ring_model.specs.declared.notes.Note.{Note}
 use Rattle.ring_model.specs.declared.notes.Note.TheVariants.{Kept, Refused, Dropped, Ticked, Counted, Finished}
 use Rattle.ring_model.specs.declared.notes.Offer.{Offer}
-use Rattle.block_ring.specs.Noting.{held_count, held_in}
+use Rattle.ring_model.specs.Unreleased.{held_number}
+use Rattle.block_ring.specs.Noting.{FoundAsNoted, found_with, held_count, held_in, held_numbers, listed}
 use Rattle.block_ring.specs.Producing.{GoesOn, IsOpenRun}
 
 pub after_all-push : (size : Size) (s : State) (notes : List Note) (note : Note) → after_all size s (notes ++ note ∷ []) ≡ after size (after_all size s notes) note
@@ -20,8 +22,38 @@ after_all-push size s (first ∷ notes) note = after_all-push size (after size s
 pub state_of-push : (size : Size) (notes : List Note) (note : Note) → state_of size (notes ++ note ∷ []) ≡ after size (state_of size notes) note
 state_of-push size notes note = after_all-push size (first_state size) notes note
 
+-- the number of a block that was found held
+abbrev pub number_in : Found → List ℕ
+number_in NotAsked = []
+number_in Free = []
+number_in (Held number) = number ∷ []
+
 pub held_push : (notes : List Note) (note : Note) → held_count (notes ++ note ∷ []) ≡ held_count notes + held_in note
 held_push notes note = let all = sum_by-append held_in notes (note ∷ []) in omega arith
+
+-- a list of numbers, where there is one, with these
+and_these : (notes : List Note) (note : Note) (numbers : Option (List ℕ)) (these : List ℕ) → FoundAsNoted notes numbers → listed (held_number note) ≡ these
+    → FoundAsNoted (notes ++ note ∷ []) (option_map (λ all. all ++ these) numbers)
+and_these notes note None these all is = tt
+and_these notes note (Some numbers) these all is =
+    ap (λ l. l ++ these) all ∙ ap (λ l. held_numbers notes ++ l) (sym (append-nil (listed (held_number note)) ∙ is)) ∙ sym (flat_map-append (λ (n : Note). listed (held_number n)) notes (note ∷ []))
+
+and_none : (numbers : Option (List ℕ)) → option_map (λ all. all ++ []) numbers ≡ numbers
+and_none None = refl
+and_none (Some numbers) = ap Some (append-nil numbers)
+
+-- the number that a call found, with the note that reports it
+numbers_more : (notes : List Note) (note : Note) (found : Found) (numbers : Option (List ℕ)) → FoundAsNoted notes numbers → listed (held_number note) ≡ number_in found
+    → FoundAsNoted (notes ++ note ∷ []) (found_with found numbers)
+numbers_more notes note NotAsked numbers all is = subst (FoundAsNoted (notes ++ note ∷ [])) (and_none numbers) (and_these notes note numbers [] all is)
+numbers_more notes note Free numbers all is = subst (FoundAsNoted (notes ++ note ∷ [])) (and_none numbers) (and_these notes note numbers [] all is)
+numbers_more notes note (Held number) numbers all is = and_these notes note numbers (number ∷ []) all is
+
+-- and so after a call
+pub numbers_after : (notes : List Note) (note : Note) (found : Found) (before after : Option (List ℕ)) → FoundAsNoted notes before → after ≡ found_with found before
+    → listed (held_number note) ≡ number_in found → FoundAsNoted (notes ++ note ∷ []) after
+numbers_after notes note found before after all now is =
+    subst (FoundAsNoted (notes ++ note ∷ [])) (sym now) (numbers_more notes note found before all is)
 
 pub held_one : (note : Note) → held_in note ≤ 1
 held_one (Kept offer found) = omega arith

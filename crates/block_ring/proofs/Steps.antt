@@ -11,14 +11,15 @@ use Rattle.ring_model.specs.declared.notes.Note.TheVariants.{Ticked}
 use Rattle.ring_model.specs.declared.notes.Offer.{Offer}
 use Rattle.ring_model.specs.declared.notes.Put.{Put}
 use Rattle.ring_model.specs.declared.notes.Tried.{Tried}
+use Rattle.ring_model.specs.Unreleased.{held_number}
 use Rattle.ring_words.specs.Counts.{Rose}
 use Rattle.ring_words.specs.Rings.{Feed}
 use Rattle.tp_layout.specs.Requests.{size_of}
 use Rattle.block_ring.specs.Machines.{IsAt, IsFew, KeepsEnd, Stepped}
-use Rattle.block_ring.specs.Noting.{WasHeld, held_count, held_in}
+use Rattle.block_ring.specs.Noting.{FoundAsNoted, WasHeld, held_count, held_in, listed}
 use Rattle.block_ring.specs.Producing.{Adds, GoesOn, Keeps, Producing, Puts, Ticks, Tries}
 use Rattle.block_ring.specs.declared.machine.Machine.{Machine}
-use Rattle.block_ring.proofs.Notings.{counted, held_few, held_one, held_push, run_push, state_of-push}
+use Rattle.block_ring.proofs.Notings.{counted, held_few, held_one, held_push, number_in, run_push, state_of-push}
 
 -- no count of a ring with a note more can pass its type's end
 pub few_after : {E : Type 0} (feed : E → Feed) (before after_it : Machine E) (notes : List Note) (note : Note)
@@ -69,6 +70,7 @@ module _ {E : Type 0} (feed : E → Feed) (given inside before after_it : Produc
         stands = there.stands;
         texts = there.texts;
         looks = there.looks;
+        numbers = there.numbers;
         spare = (let less = there.spare in omega arith);
         end = there.end;
       }
@@ -76,21 +78,22 @@ module _ {E : Type 0} (feed : E → Feed) (given inside before after_it : Produc
   pub puts_given : (offer : Offer) (found : Found) (put : Put) → Puts feed inside after_it offer found put → Puts feed given after_it offer found put
   puts_given offer found put puts =
       let there = subst (λ p. Puts feed p after_it offer found put) same puts in
-      record { adds = adds_given (put_by offer found) puts.adds; told = puts.told; looked = there.looked; count = there.count; exact = there.exact }
+      record { adds = adds_given (put_by offer found) puts.adds; told = puts.told; looked = there.looked; count = there.count; number = there.number; exact = there.exact }
 
   pub tries_given : (offer : Offer) (found : Found) (tried : Tried) → Tries feed inside after_it offer found tried → Tries feed given after_it offer found tried
   tries_given offer found tried tries =
       let there = subst (λ p. Tries feed p after_it offer found tried) same tries in
-      record { adds = adds_given (try_by offer found) tries.adds; told = tries.told; looked = there.looked; count = there.count; exact = there.exact }
+      record { adds = adds_given (try_by offer found) tries.adds; told = tries.told; looked = there.looked; count = there.count; number = there.number; exact = there.exact }
 
   pub ticks_given : (ms : ℕ) (found : Found) → Ticks feed inside after_it ms found → Ticks feed given after_it ms found
   ticks_given ms found ticks =
       let there = subst (λ p. Ticks feed p after_it ms found) same ticks in
-      record { adds = adds_given (Ticked ms found) ticks.adds; looked = there.looked; count = there.count; exact = there.exact }
+      record { adds = adds_given (Ticked ms found) ticks.adds; looked = there.looked; count = there.count; number = there.number; exact = there.exact }
 
 module _ {E : Type 0} (feed : E → Feed) (before after_it : Machine E) (notes : List Note) (note : Note) (room room_after : ℕ)
     (keeps : Keeps feed before notes room) (step : Stepped feed (state_of (size_of before.shape) notes) note before after_it)
-    (on : GoesOn note) (looks : held_count notes + held_in note ≤ (feed after_it.end).holds) where
+    (on : GoesOn note) (looks : held_count notes + held_in note ≤ (feed after_it.end).holds)
+    (numbers : FoundAsNoted (notes ++ note ∷ []) (feed after_it.end).found) where
   looks_after : held_count (notes ++ note ∷ []) ≤ (feed after_it.end).holds
   looks_after = let count = held_push notes note in omega arith
 
@@ -106,6 +109,7 @@ module _ {E : Type 0} (feed : E → Feed) (before after_it : Machine E) (notes :
     at = at_notes feed _ after_it new_notes at_after;
     run = rw step.shape (run_push (size_of before.shape) notes note keeps.run step.stands on);
     looks = looks_after;
+    numbers = numbers;
     last = (let more = length-append notes (note ∷ []) in omega arith);
     few = record { opened = few.opened; packets = few.packets; freezes = few.freezes; clock = few.clock };
   })
@@ -121,6 +125,7 @@ module _ {E : Type 0} (feed : E → Feed) (before after_it : Machine E) (notes :
     stands = step.stands;
     texts = at_after.texts;
     looks = looks_after;
+    numbers = numbers;
     spare = less;
     end = step.end;
   })
@@ -140,6 +145,22 @@ pub tick_looked : (ms : ℕ) (found : Found) (before after : ℕ) → WasHeld fo
 tick_looked ms NotAsked before after rose = inl refl
 tick_looked ms Free before after rose = inl refl
 tick_looked ms (Held number) before after rose = inr rose
+
+-- the numbers that their notes report
+pub put_number : (offer : Offer) (found : Found) → listed (held_number (put_by offer found)) ≡ number_in found
+put_number offer NotAsked = refl
+put_number offer Free = refl
+put_number offer (Held number) = refl
+
+pub try_number : (offer : Offer) (found : Found) → listed (held_number (try_by offer found)) ≡ number_in found
+try_number offer NotAsked = refl
+try_number offer Free = refl
+try_number offer (Held number) = refl
+
+pub tick_number : (ms : ℕ) (found : Found) → listed (held_number (Ticked ms found)) ≡ number_in found
+tick_number ms NotAsked = refl
+tick_number ms Free = refl
+tick_number ms (Held number) = refl
 
 clock_drop : (s : State) (now : Option (List Offer)) → (after_drop s now).clock ≡ s.clock
 clock_drop s None = refl

@@ -1,10 +1,12 @@
 -- What the calls of a ring note.
-use Rattle.std.specs.Prelude.{◌≡◌, ℕ, ◌+◌, ◌≤◌, List, sum_by}
+use Rattle.std.specs.Prelude.{◌≡◌, ℕ, ◌+◌, ◌≤◌, List, [], ◌∷◌, flat_map, sum_by, Option, None, Some}
 use Rattle.ring_model.specs.Ring.{IsHeld, Size, State}
 use Rattle.ring_model.specs.declared.notes.Found.{Found}
 use Rattle.ring_model.specs.declared.notes.Found.TheVariants.{NotAsked, Free, Held}
 use Rattle.ring_model.specs.declared.notes.Note.{Note}
 use Rattle.ring_model.specs.declared.notes.Note.TheVariants.{Refused, Dropped, Ticked}
+use Rattle.ring_model.specs.Unreleased.{held_number}
+use Rattle.ring_words.specs.Rings.{and_found}
 
 -- it holds where the next block was still the reader's
 abbrev pub WasHeld : Found → Type 0 → Type 0
@@ -17,6 +19,12 @@ abbrev pub CountsHeld : Found → ℕ → ℕ → Type 0
 CountsHeld NotAsked before after = after ≡ before
 CountsHeld Free before after = after ≡ before
 CountsHeld (Held number) before after = after ≤ before + 1
+
+-- the numbers of the blocks that an end found held, where it reports them, with that of this call
+abbrev pub found_with : Found → Option (List ℕ) → Option (List ℕ)
+found_with NotAsked numbers = numbers
+found_with Free numbers = numbers
+found_with (Held number) numbers = and_found number numbers
 
 -- what a look at the next block found may stand
 abbrev pub IsAsked : Size → State → Found → Type 0
@@ -39,3 +47,17 @@ held_in note = 0
 -- how many notes tell of one
 abbrev pub held_count : List Note → ℕ
 held_count notes = sum_by held_in notes
+
+-- the number, if there is one
+abbrev pub listed : Option ℕ → List ℕ
+listed None = []
+listed (Some number) = number ∷ []
+
+-- the numbers of the blocks that Refused, Dropped and held Ticked notes report as the reader's, in order
+abbrev pub held_numbers : List Note → List ℕ
+held_numbers notes = flat_map (λ note. listed (held_number note)) notes
+
+-- an end that reports the numbers which its looks found has found those of these notes, and no other
+abbrev pub FoundAsNoted : List Note → Option (List ℕ) → Type 0
+FoundAsNoted notes None = Unit {0}
+FoundAsNoted notes (Some numbers) = numbers ≡ held_numbers notes

@@ -15,7 +15,7 @@ use Rattle.ring_words.specs.Rings.{Feed}
 use Rattle.tp_layout.specs.Requests.{size_of}
 use Rattle.tp_layout.specs.declared.requests.RingRequest.{RingRequest}
 use Rattle.block_ring.specs.Machines.{IsAt, IsFew, KeepsEnd}
-use Rattle.block_ring.specs.Noting.{CountsHeld, WasHeld, held_count}
+use Rattle.block_ring.specs.Noting.{CountsHeld, FoundAsNoted, WasHeld, found_with, held_count}
 use Rattle.block_ring.specs.Texts.{StandsForTexts}
 use Rattle.block_ring.specs.declared.machine.Machine.{Machine}
 
@@ -43,14 +43,15 @@ pub record Opens {E : Type 0} (feed : E → Feed) (request : RingRequest) (given
   pub notes : ring.notes ≡ []
   pub end : feed ring.end ≡ record (feed given_end) { given = 1 }
 
--- a call added this note, which may stand. The end stands for the texts of all retired blocks, and it has looked at as
--- many blocks that were the reader's as the notes tell of
+-- a call added this note, which may stand. The end stands for the texts of all retired blocks, and its looks found
+-- the blocks held that the notes report
 pub record Adds {E : Type 0} (feed : E → Feed) (before after : Producing E) (note : Note) : Type 0 where
   pub shape : after.shape ≡ before.shape
   pub notes : after.notes ≡ before.notes ++ note ∷ []
   pub stands : MayStand (size before) (state before) note
   pub texts : StandsForTexts after.shape (state after).done (feed after.end)
   pub looks : held_count after.notes ≤ (feed after.end).holds
+  pub numbers : FoundAsNoted after.notes (feed after.end).found
   pub spare : before.spare ≤ after.spare + 1
   pub end : KeepsEnd (feed before.end) (feed after.end)
 
@@ -61,6 +62,7 @@ pub record Puts {E : Type 0} (feed : E → Feed) (before after : Producing E) (o
   pub told : put ≡ put_told (put_by offer found)
   pub looked : WasHeld found (Rose (feed before.end).holds (feed after.end).holds)
   pub count : CountsHeld found (feed before.end).holds (feed after.end).holds
+  pub number : (feed after.end).found ≡ found_with found (feed before.end).found
   pub exact : (released : ℕ) → (feed before.end).freed ≡ Some released
       → found ≡ found_for (size before) released (state before) (need_of offer.snap)
 
@@ -70,6 +72,7 @@ pub record Tries {E : Type 0} (feed : E → Feed) (before after : Producing E) (
   pub told : tried ≡ try_told offer (try_by offer found)
   pub looked : WasHeld found (Rose (feed before.end).holds (feed after.end).holds)
   pub count : CountsHeld found (feed before.end).holds (feed after.end).holds
+  pub number : (feed after.end).found ≡ found_with found (feed before.end).found
   pub exact : (released : ℕ) → (feed before.end).freed ≡ Some released
       → found ≡ found_for (size before) released (state before) (need_of offer.snap)
 
@@ -78,6 +81,7 @@ pub record Ticks {E : Type 0} (feed : E → Feed) (before after : Producing E) (
   pub adds : Adds feed before after (Ticked ms found)
   pub looked : WasHeld found (Rose (feed before.end).holds (feed after.end).holds)
   pub count : CountsHeld found (feed before.end).holds (feed after.end).holds
+  pub number : (feed after.end).found ≡ found_with found (feed before.end).found
   pub exact : (released : ℕ) → (feed before.end).freed ≡ Some released
       → Ticked ms found ≡ tick_note (size before) released (state before) ms
 
@@ -100,5 +104,6 @@ pub record Keeps {E : Type 0} (feed : E → Feed) (machine : Machine E) (notes :
   pub at : IsAt feed 0 (state_of (size_of machine.shape) notes) machine
   pub run : IsOpenRun (size_of machine.shape) (first_state (size_of machine.shape)) notes
   pub looks : held_count notes ≤ (feed machine.end).holds
+  pub numbers : FoundAsNoted notes (feed machine.end).found
   pub last : length notes < room
   pub few : IsFew machine

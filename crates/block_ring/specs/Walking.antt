@@ -7,10 +7,10 @@ pub record TookBy {E : Type 0} (took : E → E → List ℕ → Type 0) (before 
   pub end : took before.end after.end content
   pub rest : after ≡ record before { end = after.end }
 
--- its end took back the block that the reader had, with this word, and all else is as before
-pub record GaveBackBy {E : Type 0} (gave_back : E → E → ℕ → Type 0) (before after : Producing E) (mark : ℕ)
+-- its end took a block of this content back, with this word, and all else is as before
+pub record GaveBackBy {E : Type 0} (gave_back : E → E → List ℕ → ℕ → Type 0) (before after : Producing E) (content : List ℕ) (mark : ℕ)
     : Type 0 where
-  pub end : gave_back before.end after.end mark
+  pub end : gave_back before.end after.end content mark
   pub rest : after ≡ record before { end = after.end }
 
 -- its end stays, and all else is as before

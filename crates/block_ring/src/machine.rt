@@ -22,7 +22,7 @@ ghost use Rattle.ring_model.specs.Sizes.{need_of};
 ghost use Rattle.ring_model.specs.declared.notes.Found.TheVariants as found;
 ghost use Rattle.ring_model.specs.declared.notes.Note.TheVariants as notes;
 ghost use Rattle.ring_words.specs.Counts.{Rose};
-ghost use Rattle.block_ring.specs.Noting.{CountsHeld, IsAsked, WasHeld, deadline_after};
+ghost use Rattle.block_ring.specs.Noting.{CountsHeld, FoundAsNoted, IsAsked, WasHeld, deadline_after, found_with};
 ghost use Rattle.tp_layout.specs.Blocks.{is_status};
 ghost use Rattle.tp_layout.specs.Requests.{numbers_of, room_of, size_of};
 ghost use Rattle.tp_layout.specs.Writing.{IsWritable};
@@ -71,6 +71,7 @@ impl<E: FeederEnd<Block> + Drop> Machine<E> {
         ensures notes { result.notes ≡ notes }
         ensures clock { result.clock ≡ 0 }
         ensures end { E.feed result.end ≡ record (E.feed end) { given = 1 } }
+        ensures found { FoundAsNoted [] (E.feed result.end).found }
     {
         a_shape_is_sound(&shape);
         match end.next() {
@@ -105,6 +106,8 @@ impl<E: FeederEnd<Block> + Drop> Machine<E> {
             (Rose (E.feed self.old.end).holds (E.feed self.new.end).holds) }
         ensures count { CountsHeld result
             (E.feed self.old.end).holds (E.feed self.new.end).holds }
+        ensures number { (E.feed self.new.end).found
+            ≡ found_with result (E.feed self.old.end).found }
         ensures exact { (released : ℕ) → (E.feed self.old.end).freed ≡ Some released →
             result ≡ found_for (size_of self.old.shape) released state (need_of offer.now.snap) }
         ensures end { KeepsEnd (E.feed self.old.end) (E.feed self.new.end) }
@@ -142,6 +145,8 @@ impl<E: FeederEnd<Block> + Drop> Machine<E> {
             (Rose (E.feed self.old.end).holds (E.feed self.new.end).holds) }
         ensures count { CountsHeld result
             (E.feed self.old.end).holds (E.feed self.new.end).holds }
+        ensures number { (E.feed self.new.end).found
+            ≡ found_with result (E.feed self.old.end).found }
         ensures exact { (released : ℕ) → (E.feed self.old.end).freed ≡ Some released →
             result ≡ found_for (size_of self.old.shape) released state (need_of offer.now.snap) }
         ensures end { KeepsEnd (E.feed self.old.end) (E.feed self.new.end) }
@@ -174,6 +179,8 @@ impl<E: FeederEnd<Block> + Drop> Machine<E> {
             (Rose (E.feed self.old.end).holds (E.feed self.new.end).holds) }
         ensures count { CountsHeld result
             (E.feed self.old.end).holds (E.feed self.new.end).holds }
+        ensures number { (E.feed self.new.end).found
+            ≡ found_with result (E.feed self.old.end).found }
         ensures exact { (released : ℕ) → (E.feed self.old.end).freed ≡ Some released →
             notes.Ticked ms result ≡ tick_note (size_of self.old.shape) released state ms }
         ensures end { KeepsEnd (E.feed self.old.end) (E.feed self.new.end) }
@@ -204,6 +211,8 @@ impl<E: FeederEnd<Block> + Drop> Machine<E> {
             (Rose (E.feed self.old.end).holds (E.feed self.new.end).holds) }
         ensures count { CountsHeld result
             (E.feed self.old.end).holds (E.feed self.new.end).holds }
+        ensures number { (E.feed self.new.end).found
+            ≡ found_with result (E.feed self.old.end).found }
         ensures asked { IsAsked (size_of self.old.shape) state result }
         ensures exact { (released : ℕ) → (E.feed self.old.end).freed ≡ Some released →
             result ≡ look (size_of self.old.shape) released state }
@@ -274,6 +283,7 @@ impl<E: FeederEnd<Block> + Drop> Machine<E> {
             (after (size_of self.shape) state notes.Finished).done (E.feed result.0) }
         ensures end { KeepsEnd (E.feed self.end) (E.feed result.0) }
         ensures holds { (E.feed result.0).holds ≡ (E.feed self.end).holds }
+        ensures found { (E.feed result.0).found ≡ (E.feed self.end).found }
         ensures notes { result.1 ≡ self.notes }
     {
         if self.is_idle() {

@@ -46,7 +46,7 @@ impl<E: FeederEnd<Block> + Drop> Model for Producer<E> {
 
 impl<E: FeederEnd<Block> + Drop> Producer<E> {
     ghost use Rattle.block_ring.specs.Machines.{IsFresh, KeepsEnd};
-    ghost use Rattle.block_ring.specs.Noting.{held_count};
+    ghost use Rattle.block_ring.specs.Noting.{FoundAsNoted, held_count};
     ghost use Rattle.block_ring.specs.Producing.{Adds, Opens, Puts, Stays, Ticks, Tries, state};
     ghost use Rattle.block_ring.specs.Texts.{StandsForTexts};
     ghost use Rattle.block_ring.specs.Ticking.{IsBackwardsFrom};
@@ -168,6 +168,7 @@ impl<E: FeederEnd<Block> + Drop> Producer<E> {
         ensures texts { StandsForTexts self.shape
             (state_of (size_of self.shape) result.1).done (E.feed result.0) }
         ensures looks { held_count result.1 ≤ (E.feed result.0).holds }
+        ensures numbers { FoundAsNoted result.1 (E.feed result.0).found }
         ensures end { KeepsEnd (E.feed self.end) (E.feed result.0) }
         ensures holds { (E.feed result.0).holds ≡ (E.feed self.end).holds }
     {

@@ -12,7 +12,7 @@ impl<E: BothEnds<Block> + Drop> WalkerEnd<Block> for Producer<E> {
 
     ghost took = { λ before after content. TookBy E.took before after content };
 
-    ghost gave_back = { λ before after mark. GaveBackBy E.gave_back before after mark };
+    ghost gave_back = { λ before after content mark. GaveBackBy E.gave_back before after content mark };
 
     ghost stays = { λ before after. StaysBy E.stays before after };
 

@@ -19,6 +19,8 @@ mod ring_calls;
 #[cfg(test)]
 mod sample_slots;
 #[cfg(test)]
+mod table_rounds;
+#[cfg(test)]
 mod table_steps;
 #[cfg(test)]
 mod texts;

@@ -64,11 +64,11 @@ pub record Keeps (took : List ℕ → Type 0) (before after : ReaderValue) : Typ
 
 -- a step gives back the block that was in hand, or else one that it took, with the word of a free block
 -- (TP_STATUS_KERNEL, 0)
-abbrev pub GivesBack : {W : Type 0} → (W → W → List ℕ → Type 0) → (W → W → ℕ → Type 0)
+abbrev pub GivesBack : {W : Type 0} → (W → W → List ℕ → Type 0) → (W → W → List ℕ → ℕ → Type 0)
     → Option (List ℕ) → W → W → Type 0
-GivesBack took gave_back (Some bytes) before after = gave_back before after 0
+GivesBack took gave_back (Some bytes) before after = gave_back before after bytes 0
 GivesBack took gave_back None before after =
-    (between : _) × ((content : List ℕ) × took before between content) × gave_back between after 0
+    (between : _) × (content : List ℕ) × took before between content × gave_back between after content 0
 
 -- what no block changes of a reader: its shape, whether it keeps texts, and whether it holds a block
 abbrev pub number_of_flag : Bool → ℕ

@@ -6,13 +6,13 @@ use Rattle.std.specs.List.{AllByRecursion}
 use Rattle.std.proofs.lemmas.List.{length-map}
 use Rattle.std.proofs.Math.ListN.{length-replicate}
 use Rattle.atomic_table.specs.Table.{State, keeps, takes, Allows, Joins, Splits, opening, step}
-use Rattle.atomic_table.proofs.Lists.{at_map, at_set, set_again, set_else}
+use Rattle.atomic_table.proofs.Lists.{at_last, at_longer, at_map, at_set, set_again, set_else, set_here}
 use Rattle.ring_words.specs.Knowing.{all_known, left_to_feed, left_to_walk, nothing_known, together}
 use Rattle.ring_words.specs.Rings.{Entry}
 use Rattle.ring_words.specs.Tables.{Course, IsRing, IsSeen, Knows, LooksHold, TakesFront, course_of}
 use Rattle.ring_words.specs.Plays.{Compares, Drains, Holder}
 use Rattle.ring_words.specs.declared.known.Known.{Known}
-use Rattle.ring_words.proofs.Entries.{at_new, entry_at, length-snoc, set-read}
+use Rattle.ring_words.proofs.Entries.{at_new, entry_at, length-snoc, set-read, within}
 use Rattle.ring_words.proofs.Seeing.{seen_new, start_zero}
 use Rattle.ring_words.proofs.WalkerMoves.{Goes, Ring, front_next, next_block, taken_one, takes_block}
 
@@ -45,6 +45,8 @@ module _ {B : Type 0} (bytes kind_of : B → List ℕ) (ready : B → ℕ → �
         course = course;
         feeder = 0;
         walker = 0;
+        feeds = record { known = all_known kind; there = refl; does = refl };
+        walks = record { known = all_known kind; there = refl; does = refl };
         seen = seen_new (length homes);
         owned = record {
           some_places = rw wide enough;
@@ -97,6 +99,13 @@ module _ {B : Type 0} (bytes kind_of : B → List ℕ) (ready : B → ℕ → �
         course = c;
         feeder = r.feeder;
         walker = length s.views;
+        feeds = record {
+          known = left_to_feed v;
+          there = at_longer views' (left_to_walk v ∷ []) r.feeder (left_to_feed v)
+              (ap (get_elem? views') (sym feed.seat) ∙ set_here s.views id (left_to_feed v) (within s.views id v at));
+          does = feeds;
+        };
+        walks = record { known = left_to_walk v; there = at_last views' (left_to_walk v) (length s.views) long; does = walks };
         seen = r.seen;
         owned = record {
           some_places = r.owned.some_places;
@@ -142,10 +151,16 @@ module _ {B : Type 0} (bytes kind_of : B → List ℕ) (ready : B → ℕ → �
       let feed = know.feed feeds in
       let both : Known = together v w in
       let walk = (r.knows other w (sym (set_else s.views id other both apart) ∙ other_at)).walk walks in
+      let views' : List Known = slice_set s.views id both in
+      let there : get_elem? (slice_set views' other nothing_known) r.feeder ≡ some both =
+      set_else views' other r.feeder nothing_known (λ e. apart (sym e ∙ sym feed.seat))
+      ∙ ap (get_elem? views') (sym feed.seat) ∙ set_here s.views id both (within s.views id v at) in
       record {
         course = c;
         feeder = r.feeder;
         walker = r.feeder;
+        feeds = record { known = both; there = there; does = feeds };
+        walks = record { known = both; there = there; does = refl };
         seen = r.seen;
         owned = record {
           some_places = r.owned.some_places;

@@ -15,7 +15,7 @@ use Rattle.ring_words.specs.declared.known.Known.{Known}
 use Rattle.ring_words.proofs.Words.{number_of_word, odd_word, status_of_word}
 use Rattle.ring_words.proofs.Rounds.{elsewhere}
 use Rattle.ring_words.proofs.Entries.{at_end, at_front, entry_at, length-snoc, set-read, take-longer, within}
-use Rattle.ring_words.proofs.Placing.{others_feed, untouched}
+use Rattle.ring_words.proofs.Placing.{others_feed, still_sits, untouched}
 use Rattle.ring_words.proofs.Seeing.{seen_free, seen_held, seen_shown}
 
 module _ {B : Type 0} (bytes kind_of : B → List ℕ) (ready : B → ℕ → ℕ → Type 0) (kind : List ℕ) where
@@ -57,6 +57,8 @@ module _ {B : Type 0} (bytes kind_of : B → List ℕ) (ready : B → ℕ → �
         course = c';
         feeder = r.feeder;
         walker = r.walker;
+        feeds = still_sits (λ (k : Known). k.feeds) s.views id r.feeder v (given_one v word) at refl r.feeds;
+        walks = still_sits (λ (k : Known). k.walks) s.views id r.walker v (given_one v word) at refl r.walks;
         seen = rw wide (seen_free n c r.seen word v.given given even mark);
         owned = record {
           some_places = rw wide o.some_places;
@@ -121,6 +123,8 @@ module _ {B : Type 0} (bytes kind_of : B → List ℕ) (ready : B → ℕ → �
         course = record c { looks = c.looks ++ word ∷ [] };
         feeder = r.feeder;
         walker = r.walker;
+        feeds = still_sits (λ (k : Known). k.feeds) s.views id r.feeder v (looked v word) at refl r.feeds;
+        walks = still_sits (λ (k : Known). k.walks) s.views id r.walker v (looked v word) at refl r.walks;
         seen = seen_held (length s.homes) c r.seen word entry (sym feed.given ∙ full) first is odd;
         owned = record {
           some_places = r.owned.some_places;
@@ -282,6 +286,8 @@ module _ {B : Type 0} (bytes kind_of : B → List ℕ) (ready : B → ℕ → �
         course = c';
         feeder = r.feeder;
         walker = r.walker;
+        feeds = still_sits (λ (k : Known). k.feeds) s.views id r.feeder v (retired_one v entry (length c.visits)) at refl r.feeds;
+        walks = still_sits (λ (k : Known). k.walks) s.views id r.walker v (retired_one v entry (length c.visits)) at refl r.walks;
         seen = rw wide (seen_shown n c r.seen entry);
         owned = record {
           some_places = rw wide some_places;

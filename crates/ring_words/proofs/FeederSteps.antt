@@ -43,6 +43,7 @@ module _ {B : Type 0} (bytes kind_of : B → List ℕ) (ready : B → ℕ → �
       let mine : KeepsFeed {B = B} (record me.0 { given = me.0.given + 1; looks = me.0.looks ++ word ∷ [] }, (given % places, None) ∷ me.1) places (given + 1) retired = record {
         feeds = keeps.feeds;
         count = omega arith;
+        first = λ none. absurd (omega arith);
         retired_count = keeps.retired_count;
         order = omega arith;
         two_in_hand = omega arith;
@@ -104,6 +105,7 @@ module _ {B : Type 0} (bytes kind_of : B → List ℕ) (ready : B → ℕ → �
       let mine : KeepsFeed {B = B} (record me.0 { retired = me.0.retired ++ entry ∷ []; shown_at = me.0.shown_at ++ stored.at ∷ [] }, slots_of places (retired + 1) (given - (retired + 1))) places given (retired + 1) = record {
         feeds = keeps.feeds;
         count = keeps.count;
+        first = keeps.first;
         retired_count = length-snoc me.0.retired entry ∙ ap (λ k. k + 1) count;
         order = omega arith;
         two_in_hand = omega arith;

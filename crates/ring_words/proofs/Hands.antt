@@ -1,8 +1,9 @@
 -- The slots that an end has out, and counts of looks.
-use Rattle.std.proofs.Common.{◌≡◌, ℕ, zero, suc, ◌+◌, ◌-◌, ◌%◌, ◌<◌, ◌≤◌, List, [], ◌∷◌, ◌++◌, None, sym, ap, ◌∙◌, add-zero, arith}
+use Rattle.std.proofs.Common.{◌≡◌, ℕ, zero, suc, ◌+◌, ◌-◌, ◌/◌, ◌%◌, ◌<◌, ◌≤◌, Bool, true, false, List, [], ◌∷◌, ◌++◌, None, refl, sym, ap, ◌∙◌, add-zero, append-nil, arith}
+use Rattle.std.specs.Prelude.{if◌then◌else◌, nat_eq}
 use Rattle.atomic_table.specs.Seated.{TableId}
 use Rattle.atomic_table.specs.Table.{rest, turned}
-use Rattle.ring_words.specs.TableEnds.{IsSeated, even_count, odd_count, slots_of}
+use Rattle.ring_words.specs.TableEnds.{IsSeated, even_count, found_in, odd_count, slots_of}
 
 -- a list that begins with one slot
 pub front_of : {S : Type 0} (l : List (ℕ × S)) (x : ℕ × S) (xs : List (ℕ × S)) → l ≡ x ∷ xs → l ≡ x ∷ rest l
@@ -55,3 +56,20 @@ odd_count_push (x ∷ words) word = let h = odd_count_push words word in omega a
 pub even_count_push : (words : List ℕ) (word : ℕ) → even_count (words ++ word ∷ []) ≡ even_count words + (1 - word % 2)
 even_count_push [] word = omega arith
 even_count_push (x ∷ words) word = let h = even_count_push words word in omega arith
+
+found_if : (b : Bool) (number : ℕ) (words more : List ℕ) → (if b then number ∷ (words ++ more) else words ++ more) ≡ (if b then number ∷ words else words) ++ more
+found_if true number words more = refl
+found_if false number words more = refl
+
+found_push : (words : List ℕ) (word : ℕ) (more : List ℕ) → found_in (word ∷ []) ≡ more → found_in (words ++ word ∷ []) ≡ found_in words ++ more
+found_push [] word more is = is
+found_push (x ∷ words) word more is =
+    ap (λ l. if nat_eq (x % 2) 1 then x / 256 ∷ l else l) (found_push words word more is) ∙ found_if (nat_eq (x % 2) 1) (x / 256) (found_in words) more
+
+-- an odd word tells a number more
+pub found_odd : (words : List ℕ) (word : ℕ) → word % 2 ≡ 1 → found_in (words ++ word ∷ []) ≡ found_in words ++ word / 256 ∷ []
+found_odd words word odd = found_push words word (word / 256 ∷ []) (ap (λ b. if nat_eq b 1 then word / 256 ∷ [] else []) odd)
+
+-- an even one tells none
+pub found_even : (words : List ℕ) (word : ℕ) → word % 2 ≡ 0 → found_in (words ++ word ∷ []) ≡ found_in words
+found_even words word even = found_push words word [] (ap (λ b. if nat_eq b 1 then word / 256 ∷ [] else []) even) ∙ append-nil (found_in words)

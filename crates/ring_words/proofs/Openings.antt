@@ -23,7 +23,7 @@ vacant_kinds kind common (block ∷ blocks) all = (all.0, vacant_kinds kind comm
 
 pub opened : {B : Type 0} (bytes kind : B → List ℕ) (ready : B → ℕ → ℕ → Type 0) (blocks : List B) (common : List ℕ)
     → 2 ≤ length blocks → length blocks ≤ 1048576 → AllByRecursion (λ block. kind block ≡ common) blocks
-    → Keeps kind ready (fresh (length blocks) common (replicate (length blocks) 0))
+    → Keeps kind ready (fresh (length blocks) common (map bytes blocks))
     (map (λ block. record { block = block; mark = 0 }) blocks) []
 opened bytes kind ready blocks common some few all = record {
   owned = record {

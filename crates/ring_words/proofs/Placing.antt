@@ -1,11 +1,14 @@
 -- What no step touches of a block's place, and what the other seats know.
-use Rattle.std.proofs.Common.{◌≡◌, ℕ, ◌%◌, ◌<◌, ◌≤◌, List, length, take, set, slice_index, sym, ◌∙◌, subst, ⊎_elim}
-use mathlib.Core.Option.{some}
+use Rattle.std.proofs.Common.{◌≡◌, ℕ, ◌%◌, ◌<◌, ◌≤◌, Bool, List, length, take, set, slice_index, sym, ap, ◌∙◌, subst, ⊎_elim}
+use mathlib.Core.Logic.{dite}
+use mathlib.Core.Option.{some, some-injective}
+use native.Mathlib.Decide.{ℕ_discrete}
 use lib.ListN.{get_elem?}
-use Rattle.atomic_table.proofs.Lists.{at_set}
+use Rattle.atomic_table.proofs.Lists.{at_set, set_else, set_here}
+use Rattle.ring_words.proofs.Entries.{within}
 use Rattle.ring_words.specs.Rings.{Entry}
 use Rattle.ring_words.specs.Sights.{from_start}
-use Rattle.ring_words.specs.Tables.{Course, Home, IsPlaced, Knows}
+use Rattle.ring_words.specs.Tables.{Course, Home, IsPlaced, Knows, Sits}
 use Rattle.ring_words.specs.declared.known.Known.{Known}
 
 -- nothing of a block and its word changed, and its part of the course is the same
@@ -42,6 +45,18 @@ module _ {B : Type 0} (bytes kind_of : B → List ℕ) (ready : B → ℕ → �
         let free = placed.free (same.from_given from) in
         (free.0, record { home = home ∙ free.1.home; same_kind = free.1.same_kind });
   }
+
+-- a seat that is an end's stays one, whichever seat makes a step that leaves what the test asks
+pub still_sits : (test : Known → Bool) (views : List Known) (id seat : ℕ) (v now : Known) → get_elem? views id ≡ some v → test now ≡ test v
+    → Sits test views seat → Sits test (set views id now) seat
+still_sits test views id seat v now at same sits =
+    dite (ℕ_discrete seat id)
+    (λ e. record {
+      known = now;
+      there = ap (get_elem? (set views id now)) e ∙ set_here views id now (within views id v at);
+      does = same ∙ ap test (some-injective v sits.known (sym at ∙ ap (get_elem? views) (sym e) ∙ sits.there)) ∙ sits.does;
+    })
+    (λ ne. record { known = sits.known; there = set_else views id seat now ne ∙ sits.there; does = sits.does })
 
 module _ (kind : List ℕ) (feeder walker : ℕ) where
   -- after a step of the feeder's seat, if the prefix that was taken is the same

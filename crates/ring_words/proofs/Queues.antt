@@ -1,7 +1,7 @@
 -- Facts of each block of a queue, and what stands for a queue when a block comes or goes.
 use Rattle.std.proofs.Common.{◌≡◌, ℕ, suc, ◌+◌, List, [], ◌∷◌, ◌++◌, length, refl, subst, ap, map, replicate, arith}
 use Rattle.std.specs.List.{AllByRecursion}
-use Rattle.ring_words.specs.PlainRings.{AreReady, entries_of, marks_of}
+use Rattle.ring_words.specs.PlainRings.{AreReady, contents_of, entries_of, marks_of}
 use Rattle.ring_words.specs.declared.plain_ring.Filled.{Filled}
 
 pub all_push : {X : Type 0} (P : X → Type 0) (xs : List X) (x : X) → AllByRecursion P xs → P x → AllByRecursion P (xs ++ x ∷ [])
@@ -26,6 +26,10 @@ ready_push ready number (first ∷ blocks) block last at all one =
 pub length-entries : {B : Type 0} (bytes : B → List ℕ) (blocks : List (Filled B)) → length (entries_of bytes blocks) ≡ length blocks
 length-entries bytes [] = refl
 length-entries bytes (block ∷ blocks) = ap suc (length-entries bytes blocks)
+
+pub contents-all_vacant : {B : Type 0} (bytes : B → List ℕ) (blocks : List B) → contents_of bytes (map (λ block. record { block = block; mark = 0 }) blocks) ≡ map bytes blocks
+contents-all_vacant bytes [] = refl
+contents-all_vacant bytes (block ∷ blocks) = ap (λ contents. bytes block ∷ contents) (contents-all_vacant bytes blocks)
 
 pub marks-all_vacant : {B : Type 0} (blocks : List B) → marks_of (map (λ block. record { block = block; mark = 0 }) blocks) ≡ replicate (length blocks) 0
 marks-all_vacant [] = refl

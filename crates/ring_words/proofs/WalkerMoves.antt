@@ -15,7 +15,7 @@ use Rattle.ring_words.specs.declared.known.Known.{Known}
 use Rattle.ring_words.proofs.Words.{number_of_word, odd_word, status_of_word}
 use Rattle.ring_words.proofs.Rounds.{elsewhere}
 use Rattle.ring_words.proofs.Entries.{entry_at, length-snoc, set-read, take-next, within}
-use Rattle.ring_words.proofs.Placing.{others_walk, untouched}
+use Rattle.ring_words.proofs.Placing.{others_walk, still_sits, untouched}
 use Rattle.ring_words.proofs.Seeing.{seen_freed, seen_none, seen_taken, start_last, start_longer}
 
 module _ {B : Type 0} (bytes kind_of : B → List ℕ) (ready : B → ℕ → ℕ → Type 0) (kind : List ℕ) where
@@ -65,6 +65,8 @@ module _ {B : Type 0} (bytes kind_of : B → List ℕ) (ready : B → ℕ → �
         course = c';
         feeder = r.feeder;
         walker = r.walker;
+        feeds = still_sits (λ (k : Known). k.feeds) s.views id r.feeder v (taken_one v entry word) at refl r.feeds;
+        walks = still_sits (λ (k : Known). k.walks) s.views id r.walker v (taken_one v entry word) at refl r.walks;
         seen = rw wide (seen_taken n c r.seen word (length v.taken) entry count (ap (λ k. get_elem? c.log k) count ∙ next) is odd);
         owned = record {
           some_places = rw wide some_places;
@@ -130,6 +132,8 @@ module _ {B : Type 0} (bytes kind_of : B → List ℕ) (ready : B → ℕ → �
         course = record c { visits = c.visits ++ word ∷ [] };
         feeder = r.feeder;
         walker = r.walker;
+        feeds = still_sits (λ (k : Known). k.feeds) s.views id r.feeder v (visited v word) at refl r.feeds;
+        walks = still_sits (λ (k : Known). k.walks) s.views id r.walker v (visited v word) at refl r.walks;
         seen = seen_none (length s.homes) c r.seen word (length v.taken) walk.count all mark even;
         owned = record {
           some_places = r.owned.some_places;
@@ -317,6 +321,8 @@ module _ {B : Type 0} (bytes kind_of : B → List ℕ) (ready : B → ℕ → �
         course = c';
         feeder = r.feeder;
         walker = r.walker;
+        feeds = still_sits (λ (k : Known). k.feeds) s.views id r.feeder v now at refl r.feeds;
+        walks = still_sits (λ (k : Known). k.walks) s.views id r.walker v now at refl r.walks;
         seen = rw wide (seen_freed n c r.seen mark t same);
         owned = record {
           some_places = rw wide some_places;

@@ -3,7 +3,7 @@ use Rattle.std.specs.Prelude.{◌≡◌, ℕ, ◌+◌, ◌-◌, List, [], ◌∷
 use Rattle.std.specs.List.{AllByRecursion}
 use Rattle.ring_words.specs.Plays.{Holder}
 use Rattle.ring_words.specs.Rings.{Entry}
-use Rattle.ring_words.specs.TableEnds.{odd_count}
+use Rattle.ring_words.specs.TableEnds.{found_in, odd_count}
 use Rattle.ring_words.specs.declared.known.Known.{Known}
 
 -- the pending blocks of a ring, and what its feeder did
@@ -18,6 +18,8 @@ pub record Pends (B : Type 0) : Type 0 where
   pub retired : List Entry
   -- how many looks of the feeder found an odd word
   pub holds : ℕ
+  -- the numbers in these words, in order
+  pub found : List ℕ
 
 -- contents and statuses of blocks
 abbrev pub entries_of : {B : Type 0} → (B → List ℕ) → List (B × ℕ) → List Entry
@@ -36,6 +38,7 @@ pends_of me left = record {
   passed = length me.0.retired - length left;
   retired = me.0.retired;
   holds = odd_count me.0.looks;
+  found = found_in me.0.looks;
 }
 
 -- the pending blocks are the last that were retired, of the ring's kind, and may stand so

@@ -1,7 +1,7 @@
 -- What a step of the reader leaves of the feeder's side of a ring on one thread.
-use Rattle.std.proofs.Common.{◌≡◌, ℕ, zero, suc, ◌<◌, List, [], ◌∷◌, length, drop, ap, sym, ◌∙◌, arith}
+use Rattle.std.proofs.Common.{◌≡◌, ℕ, zero, suc, ◌<◌, List, [], ◌∷◌, length, drop, ap, refl, sym, ◌∙◌, arith}
 use Rattle.std.proofs.Math.Numerals.{add-one}
-use Rattle.ring_words.specs.PlainRings.{GaveBack, PlainState, Stays, Took, feed_of, ring_of}
+use Rattle.ring_words.specs.PlainRings.{PlainState, PutBack, Stays, Took, feed_of, ring_of}
 use Rattle.ring_words.specs.Rings.{LeavesFeeder}
 
 -- what follows the first entries is left when the next one goes
@@ -25,6 +25,7 @@ took_leaves before after content t = record {
   given = ap (λ (s : PlainState). s.given) t.rest;
   retired = ap (λ (s : PlainState). s.retired) t.rest;
   holds = ap (λ (s : PlainState). s.holds) t.rest;
+  found = refl;
   stands = λ all s. record {
     count = s.count ∙ sym (ap (λ (s : PlainState). s.retired) t.rest);
     front =
@@ -37,13 +38,14 @@ took_leaves before after content t = record {
   };
 }
 
-pub gave_back_leaves : (before after : PlainState) (mark : ℕ) → GaveBack before after mark
+pub gave_back_leaves : (before after : PlainState) (content : List ℕ) (mark : ℕ) → PutBack before after content mark
     → LeavesFeeder (feed_of before) (feed_of after)
-gave_back_leaves before after mark t = record {
+gave_back_leaves before after content mark put = let t = put.gave_back in record {
   ring = ap ring_of t.rest;
   given = ap (λ (s : PlainState). s.given) t.rest;
   retired = ap (λ (s : PlainState). s.retired) t.rest;
   holds = ap (λ (s : PlainState). s.holds) t.rest;
+  found = refl;
   stands = λ all s. record {
     count = s.count ∙ sym (ap (λ (s : PlainState). s.retired) t.rest);
     front =
@@ -61,6 +63,7 @@ stays_leaves before after t = record {
   given = ap (λ (s : PlainState). s.given) t;
   retired = ap (λ (s : PlainState). s.retired) t;
   holds = ap (λ (s : PlainState). s.holds) t;
+  found = refl;
   stands = λ all s. record {
     count = s.count ∙ sym (ap (λ (s : PlainState). s.retired) t);
     front =

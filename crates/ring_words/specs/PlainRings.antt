@@ -1,5 +1,5 @@
 -- A ring on one thread, in plain data.
-use Rattle.std.specs.Prelude.{◌≡◌, ℕ, ◌+◌, ◌^◌, ◌<◌, ◌≤◌, Bool, List, [], ◌∷◌, ◌++◌, map, length, nat_lt, if◌then◌else◌, Some}
+use Rattle.std.specs.Prelude.{◌≡◌, ℕ, ◌+◌, ◌^◌, ◌<◌, ◌≤◌, Bool, List, [], ◌∷◌, ◌++◌, map, length, replicate, nat_lt, if◌then◌else◌, None, Some}
 use Rattle.std.specs.List.{AllByRecursion}
 use Rattle.atomic_table.specs.Seated.{TableId}
 use Rattle.ring_words.specs.Rings.{Entry, Feed, IsMark, IsStatus, Ring, Walk}
@@ -17,8 +17,9 @@ pub record PlainState : Type 0 where
   pub released : ℕ
   -- the retired blocks that weren't taken, by number
   pub shown : List Entry
-  -- the words of the free blocks, by number
+  -- the words of the free blocks, by number, and what these blocks hold; a ring that is closing has given them up
   pub marks : List ℕ
+  pub contents : List (List ℕ)
   -- how many looks of the feeder found no free block, and how many of the reader no retired one
   pub holds : ℕ
   pub empties : ℕ
@@ -39,9 +40,9 @@ no_table = record {
 abbrev pub ring_of : PlainState → Ring
 ring_of state = record { id = no_table; places = state.places; bound = 2 ^ 55; kind = state.kind }
 
--- a new ring of so many blocks, which are all free
-abbrev pub fresh : ℕ → List ℕ → List ℕ → PlainState
-fresh count common words = record {
+-- a new ring of so many blocks with these contents, which are all free
+abbrev pub fresh : ℕ → List ℕ → List (List ℕ) → PlainState
+fresh count common blocks = record {
   places = count;
   kind = common;
   given = 0;
@@ -49,7 +50,8 @@ fresh count common words = record {
   taken = 0;
   released = 0;
   shown = [];
-  marks = words;
+  marks = replicate count 0;
+  contents = blocks;
   holds = 0;
   empties = 0;
 }
@@ -65,6 +67,7 @@ feed_of state = record {
   given = state.given;
   retired = state.retired;
   holds = state.holds;
+  found = None;
   freed = Some state.released;
   fetched = Some state.taken;
   passed = state.taken;
@@ -101,18 +104,29 @@ pub record Took (before after : PlainState) (content : List ℕ) : Type 0 where
     released = after.released;
     shown = after.shown;
     marks = after.marks;
+    contents = after.contents;
   }
 
--- the feeder was given the first free block, and this is the word that stood at its place
-pub record FoundMark (before after : PlainState) (mark : ℕ) : Type 0 where
-  pub first : before.marks ≡ mark ∷ after.marks
-  pub rest : after ≡ record before { given = before.given + 1; marks = after.marks }
+-- the feeder was given the first free block, which holds this, and this is the word that stood at its place
+pub record FoundFree (before after : PlainState) (content : List ℕ) (mark : ℕ) : Type 0 where
+  pub block : before.contents ≡ content ∷ after.contents
+  pub word : before.marks ≡ mark ∷ after.marks
+  pub rest : after ≡ record before {
+    given = before.given + 1;
+    marks = after.marks;
+    contents = after.contents;
+  }
 
 -- the block in hand was released, and this word stands at its place
 pub record GaveBack (before after : PlainState) (mark : ℕ) : Type 0 where
   pub released : after.released ≡ before.released + 1
   pub stored : after.marks ≡ before.marks ++ mark ∷ []
-  pub rest : after ≡ record before { released = after.released; marks = after.marks }
+  pub rest : after ≡ record before { released = after.released; marks = after.marks; contents = after.contents }
+
+-- and it stands there with this content
+pub record PutBack (before after : PlainState) (content : List ℕ) (mark : ℕ) : Type 0 where
+  pub gave_back : GaveBack before after mark
+  pub block : after.contents ≡ before.contents ++ content ∷ []
 
 -- all is the same but the count of looks that found no block to take
 abbrev pub Stays : PlainState → PlainState → Type 0
@@ -128,6 +142,9 @@ entries_of bytes blocks = map (λ filled. (bytes filled.block, filled.status)) b
 
 abbrev pub marks_of : {B : Type 0} → List (Vacant B) → List ℕ
 marks_of blocks = map (λ vacant. vacant.mark) blocks
+
+abbrev pub contents_of : {B : Type 0} → (B → List ℕ) → List (Vacant B) → List (List ℕ)
+contents_of bytes blocks = map (λ vacant. bytes vacant.block) blocks
 
 -- what the fields of a ring keep
 pub record Keeps {B : Type 0} (kind : B → List ℕ) (ready : B → ℕ → ℕ → Type 0) (state : PlainState)

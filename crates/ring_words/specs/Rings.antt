@@ -1,5 +1,5 @@
 -- What is said of a ring in plain data. Block numbers count from 1 in the order in which the feeder is given blocks.
-use Rattle.std.specs.Prelude.{◌≡◌, ℕ, ◌%◌, ◌<◌, ◌≤◌, Bool, List, length, drop, Option}
+use Rattle.std.specs.Prelude.{◌≡◌, ℕ, ◌%◌, ◌<◌, ◌≤◌, Bool, List, [], ◌∷◌, ◌++◌, length, drop, Option, option_map}
 use Rattle.atomic_table.specs.Seated.{TableId}
 
 -- which ring an end belongs to, and what no call changes of it
@@ -36,12 +36,18 @@ pub record Feed : Type 0 where
   pub retired : ℕ
   -- how many of its looks found a word of the reader's side; it may stand still at the greatest u64
   pub holds : ℕ
+  -- the numbers in these words, in order, where the end reports them
+  pub found : Option (List ℕ)
   -- how many blocks the reader released and how many it took, where the end reports that
   pub freed : Option ℕ
   pub fetched : Option ℕ
   -- what it stands for: after so many of the blocks retired so far are these
   pub passed : ℕ
   pub shown : List Entry
+
+-- these numbers, where they are reported, with one more
+abbrev pub and_found : ℕ → Option (List ℕ) → Option (List ℕ)
+and_found number found = option_map (λ numbers. numbers ++ number ∷ []) found
 
 -- the end stands for the list of all blocks retired so far
 pub record StandsFor (feed : Feed) (all : List Entry) : Type 0 where
@@ -55,6 +61,7 @@ pub record LeavesFeeder (before after : Feed) : Type 0 where
   pub given : after.given ≡ before.given
   pub retired : after.retired ≡ before.retired
   pub holds : after.holds ≡ before.holds
+  pub found : after.found ≡ before.found
   pub stands : (all : List Entry) → StandsFor before all → StandsFor after all
 
 -- what an end of the reader's side reports

@@ -1,5 +1,5 @@
 -- What the two ends of a ring between two threads tell.
-use Rattle.std.specs.Prelude.{◌≡◌, ℕ, zero, suc, ◌+◌, ◌-◌, ◌/◌, ◌%◌, ◌^◌, ◌<◌, ◌≤◌, Bool, true, false, List, [], ◌∷◌, ◌++◌, length, Option, None}
+use Rattle.std.specs.Prelude.{◌≡◌, ℕ, zero, suc, ◌+◌, ◌-◌, ◌/◌, ◌%◌, ◌^◌, ◌<◌, ◌≤◌, Bool, true, false, List, [], ◌∷◌, ◌++◌, length, Option, None, Some, nat_eq, if◌then◌else◌}
 use Rattle.atomic_table.specs.Seated.{TableId}
 use Rattle.ring_words.specs.Looks.{StandsBefore}
 use Rattle.ring_words.specs.Plays.{Holder}
@@ -38,6 +38,11 @@ abbrev pub odd_count : List ℕ → ℕ
 odd_count [] = 0
 odd_count (word ∷ words) = word % 2 + odd_count words
 
+-- the numbers in those of these words that are odd
+abbrev pub found_in : List ℕ → List ℕ
+found_in [] = []
+found_in (word ∷ words) = (if nat_eq (word % 2) 1 then word / 256 ∷ found_in words else found_in words)
+
 -- how many of these words are even, of the feeder's side
 abbrev pub even_count : List ℕ → ℕ
 even_count [] = 0
@@ -54,6 +59,7 @@ feed_of feeder = record {
   given = feeder.given;
   retired = length feeder.retired;
   holds = odd_count feeder.looks;
+  found = Some (found_in feeder.looks);
   freed = None;
   fetched = None;
   passed = 0;
@@ -111,6 +117,7 @@ pub record FoundMark (before after : Feeding) (mark : ℕ) : Type 0 where
   pub even : IsMark mark
   pub now : after ≡ record before { given = before.given + 1; looks = before.looks ++ mark ∷ [] }
   pub holds : odd_count after.looks ≡ odd_count before.looks
+  pub found : found_in after.looks ≡ found_in before.looks
 
 -- a look found an odd word with this number, that of the block one round before
 pub record FoundNumber (before after : Feeding) (number : ℕ) : Type 0 where
@@ -120,6 +127,7 @@ pub record FoundNumber (before after : Feeding) (number : ℕ) : Type 0 where
   pub stands : StandsBefore before.places (before.given + 1) number
   pub now : after ≡ record before { looks = before.looks ++ word ∷ [] }
   pub holds : odd_count after.looks ≡ odd_count before.looks + 1
+  pub found : found_in after.looks ≡ found_in before.looks ++ number ∷ []
 
 -- a look of the reader found an odd word, with the next number and the status of this block, which may stand retired
 -- under them
@@ -160,6 +168,8 @@ pub record IsSeated (table seat : TableId) (places : ℕ) : Type 0 where
 pub record KeepsFeed {B : Type 0} (me : Holder B) (places given retired : ℕ) : Type 0 where
   pub feeds : me.0.feeds ≡ true
   pub count : me.0.given ≡ given
+  -- before the first block is given no look has found one held
+  pub first : given ≡ 0 → found_in me.0.looks ≡ []
   pub retired_count : length me.0.retired ≡ retired
   pub order : retired ≤ given
   pub two_in_hand : given ≤ retired + 2

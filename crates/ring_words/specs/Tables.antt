@@ -1,7 +1,7 @@
 -- The rule of a ring between two threads. Its table has a status word and a slot for each place; a block that stands at
 -- its place is in the slot, and a block that is out has left `None` there, which is its end's to write.
 -- The index of a block is its number less one, and its place is the index modulo the number of places.
-use Rattle.std.specs.Prelude.{◌≡◌, ℕ, ◌+◌, ◌*◌, ◌%◌, ◌^◌, ◌<◌, ◌≤◌, true, false, List, [], ◌∷◌, ◌++◌, length, take, slice_index, Option, Some}
+use Rattle.std.specs.Prelude.{◌≡◌, ℕ, ◌+◌, ◌*◌, ◌%◌, ◌^◌, ◌<◌, ◌≤◌, Bool, true, false, List, [], ◌∷◌, ◌++◌, length, take, slice_index, Option, Some}
 use mathlib.Core.Option.{some, none}
 use mathlib.Core.Option as maybe
 use lib.ListN.{get_elem?}
@@ -122,10 +122,18 @@ pub record Knows (kind : List ℕ) (feeder walker : ℕ) (course : Course) (id :
   pub walk : known.walks ≡ true → KnowsWalk kind walker course id known
   pub hand : known.walks ≡ true → known.feeds ≡ false → course.taken ≤ course.released + 1
 
--- each end knows its side of a course, in a seat of its own or both in one
+-- this seat is an end's, of the feeder's side or the reader's as the test says
+pub record Sits (test : Known → Bool) (views : List Known) (seat : ℕ) : Type 0 where
+  pub known : Known
+  pub there : get_elem? views seat ≡ some known
+  pub does : test known ≡ true
+
+-- there are a feeder and a reader, each in a seat of its own or both in one, and each knows its side of a course
 pub record EachKnows (kind : List ℕ) (course : Course) (views : List Known) : Type 0 where
   pub feeder : ℕ
   pub walker : ℕ
+  pub feeds : Sits (λ known. known.feeds) views feeder
+  pub walks : Sits (λ known. known.walks) views walker
   pub knows : (id : ℕ) (known : Known) → get_elem? views id ≡ some known → Knows kind feeder walker course id known
 
 -- the rule: some course, and two seats for the two ends, or one for both
@@ -136,6 +144,8 @@ pub record IsRing {B : Type 0} (bytes kind_of : B → List ℕ) (ready : B → �
   pub walker : ℕ
   pub owned : IsOwnedBy bytes kind_of ready kind course state
   pub seen : IsSeen (length state.homes) course
+  pub feeds : Sits (λ known. known.feeds) state.views feeder
+  pub walks : Sits (λ known. known.walks) state.views walker
   pub knows : (id : ℕ) (known : Known) → get_elem? state.views id ≡ some known →
       Knows kind feeder walker course id known
 

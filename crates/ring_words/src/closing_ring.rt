@@ -52,6 +52,7 @@ impl<B: Content + Drop> Model for ClosingRing<B> {
       released = ring.released;
       shown = entries_of B.bytes ring.filled.items;
       marks = ring.marks.items;
+      contents = [];
       holds = ring.holds;
       empties = ring.empties;
     } };
@@ -66,6 +67,7 @@ impl<B: Content + Drop> Model for ClosingRing<B> {
           released = ring.released;
           shown = entries_of B.bytes ring.filled.items;
           marks = ring.marks.items;
+          contents = [];
           holds = ring.holds;
           empties = ring.empties;
         }) [] ring.filled.items
@@ -79,7 +81,7 @@ impl<B: Content + Drop> WalkerEnd<B> for ClosingRing<B> {
 
     ghost took = { Took };
 
-    ghost gave_back = { GaveBack };
+    ghost gave_back = { λ before after content. GaveBack before after };
 
     ghost stays = { Stays };
 

@@ -6,7 +6,7 @@
 ghost use Rattle.std.specs.Prelude.{◌≡◌, ◌+◌, ◌<◌, ◌≤◌, ◌^◌, ℕ, true, false, List, [], ◌∷◌, ◌++◌, Some, IfSome, IfNone, OnSome};
 ghost use Rattle.ring_words.specs.Counts.{Rose};
 ghost use Rattle.ring_words.specs.Looks.{IfFree, IfHeld, OnFree, OnHeld, StandsBefore};
-ghost use Rattle.ring_words.specs.Rings.{Feed, IsMark, IsStatus, LeavesFeeder, Walk};
+ghost use Rattle.ring_words.specs.Rings.{Feed, IsMark, IsStatus, LeavesFeeder, Walk, and_found};
 
 use crate::Content;
 
@@ -28,8 +28,9 @@ pub trait FeederEnd<B: Content> {
     // What the end reports of its ring, of the blocks that it was given and retired, and of what it stands for.
     ghost feed: { Self → Feed };
 
-    // A look between the two states, the earlier one first, found this mark as the word of the next place.
-    ghost found_mark: { Self → Self → ℕ → Type 0 };
+    // A look between the two states, the earlier one first, found a block of this content at the next place, and this
+    // mark as the word there.
+    ghost found_free: { Self → Self → List ℕ → ℕ → Type 0 };
 
     /// Looks once at the status word of the next place, and takes the block there if it is free. The next place is
     /// that of the number one above the last block's. Where it isn't free nothing changes, but the look is counted.
@@ -39,17 +40,27 @@ pub trait FeederEnd<B: Content> {
 
         ensures block { IfFree result (λ block mark. B.kind block ≡ (feed self.old).ring.kind) }
         ensures mark { IfFree result (λ block mark. IsMark mark) }
-        ensures found { IfFree result (λ block mark. found_mark self.old self.new mark) }
+        ensures found { IfFree result (λ block mark.
+            found_free self.old self.new (B.bytes block) mark) }
         ensures free { OnFree result
             (feed self.new ≡ record (feed self.old) { given = (feed self.old).given + 1 }) }
 
         ensures number { IfHeld result
             (StandsBefore (feed self.old).ring.places ((feed self.old).given + 1)) }
         ensures held { OnHeld result
-            (feed self.new ≡ record (feed self.old) { holds = (feed self.new).holds }) }
+            (feed self.new ≡ record (feed self.old) {
+              holds = (feed self.new).holds;
+              found = (feed self.new).found;
+            }) }
         ensures looked { OnHeld result (Rose (feed self.old).holds (feed self.new).holds) }
         ensures once { OnHeld result ((feed self.new).holds ≤ (feed self.old).holds + 1) }
         ensures later { (feed self.old).holds ≤ (feed self.new).holds }
+
+        // Where the end reports the numbers that its looks found, this one comes last, and the first look finds none.
+        ensures told { IfHeld result (λ number.
+            (feed self.new).found ≡ and_found number (feed self.old).found) }
+        ensures first { (numbers : List ℕ) → (feed self.old).found ≡ Some numbers →
+            (feed self.old).given ≡ 0 → numbers ≡ [] }
 
         // Where the end reports how many blocks were released, each answer is exact.
         ensures exact_free { (released : ℕ) → (feed self.old).freed ≡ Some released →
@@ -82,8 +93,8 @@ pub trait WalkerEnd<B: Content> {
     // A block of this content was taken between the two states, the earlier one first.
     ghost took: { Self → Self → List ℕ → Type 0 };
 
-    // The block in hand was given back between the two states, the earlier one first, with this word.
-    ghost gave_back: { Self → Self → ℕ → Type 0 };
+    // A block of this content was given back between the two states, the earlier one first, with this word.
+    ghost gave_back: { Self → Self → List ℕ → ℕ → Type 0 };
 
     // All is the same in the two states, but for the count of looks that found nothing.
     ghost stays: { Self → Self → Type 0 };
@@ -124,7 +135,7 @@ pub trait WalkerEnd<B: Content> {
         requires kind { B.kind block ≡ (walk self.old).ring.kind }
 
         ensures released { walk self.new ≡ record (walk self.old) { in_hand = false } }
-        ensures gave_back { gave_back self.old self.new mark }
+        ensures gave_back { gave_back self.old self.new (B.bytes block) mark }
         ensures took { (before : Self) (content : List ℕ) →
             took before self.old content → took before self.new content };
 }
@@ -134,8 +145,8 @@ pub trait BothEnds<B: Content>: FeederEnd<B> + WalkerEnd<B> {
     ghost took_leaves: { (before after : Self) (content : List ℕ) →
         Self.took before after content → LeavesFeeder (Self.feed before) (Self.feed after) };
 
-    ghost gave_back_leaves: { (before after : Self) (mark : ℕ) →
-        Self.gave_back before after mark → LeavesFeeder (Self.feed before) (Self.feed after) };
+    ghost gave_back_leaves: { (before after : Self) (content : List ℕ) (mark : ℕ) →
+        Self.gave_back before after content mark → LeavesFeeder (Self.feed before) (Self.feed after) };
 
     ghost stays_leaves: { (before after : Self) →
         Self.stays before after → LeavesFeeder (Self.feed before) (Self.feed after) };

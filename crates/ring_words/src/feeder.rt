@@ -46,19 +46,20 @@ impl<B: Content + Drop> Model for TableFeeder<B> {
 }
 
 impl<B: Content + Drop> FeederEnd<B> for TableFeeder<B> {
-    ghost use Rattle.ring_words.specs.TableEnds.{feed_of, FoundMark, FoundNumber};
+    ghost use Rattle.ring_words.specs.TableEnds.{feed_of, found_in, FoundMark, FoundNumber};
 
     ghost feed = { feed_of };
 
-    ghost found_mark = { FoundMark };
+    ghost found_free = { λ before after content. FoundMark before after };
 
-    #[tactic(auto, using(crate::proofs::Hands::odd_count_push))]
+    #[tactic(auto, using(crate::proofs::Hands::odd_count_push, crate::proofs::Hands::found_odd, crate::proofs::Hands::found_even))]
     fn next(&mut self) -> Next<B>
         requires hand { self.old.given ≤ length self.old.retired + 1 }
         requires room { self.old.given + 1 < 2 ^ 40 }
         ensures block { IfFree result (λ block mark. B.kind block ≡ self.old.kind) }
         ensures free { IfFree result (λ block mark. FoundMark self.old self.new mark) }
         ensures held { IfHeld result (FoundNumber self.old self.new) }
+        ensures first { self.old.given ≡ 0 → found_in self.old.looks ≡ [] }
     {
         let place = (self.given % self.places) as usize;
         let word = self.table.shared.load::<FeederLooks>(&mut self.seat, place);

@@ -1,8 +1,8 @@
 //! How a ring between two threads is finished: its ends come together, and what was retired and not taken is left.
-ghost use Rattle.std.specs.Prelude.{◌≡◌, ◌+◌, ◌-◌, ◌<◌, ◌≤◌, ◌↔◌, true, false, [], ◌∷◌, ◌++◌, length, take, option_map, slice_get, IfOk, IfSome, IsNone};
+ghost use Rattle.std.specs.Prelude.{◌≡◌, ◌+◌, ◌-◌, ◌^◌, ◌<◌, ◌≤◌, ◌↔◌, true, false, [], ◌∷◌, ◌++◌, length, take, option_map, slice_get, IfOk, IfSome, IsNone};
 ghost use Rattle.std.specs.List.{AllByRecursion};
 ghost use Rattle.ring_words.specs.Pendings.{AreReadyAfter, TookOne, entries_of};
-ghost use Rattle.ring_words.specs.TableEnds.{IsSeated, odd_count};
+ghost use Rattle.ring_words.specs.TableEnds.{IsSeated, found_in, odd_count};
 
 use crate::handover::{BothCompare, BothDrain, Handover, RingSeat};
 use crate::known::{Known, Together};
@@ -15,7 +15,7 @@ use std::marker::Model;
 use std::snapshot::Snapshot;
 
 /// The retired blocks of a ring that weren't taken, by number, each with its status. `finish` alone makes one. Contracts
-/// also see the list of all blocks that the feeder retired, and how many of its looks found a block of the reader's.
+/// also see the list of all blocks that the feeder retired, and the numbers of the reader's blocks that its looks found.
 #[derive(Drop)]
 pub struct Pending<B: Content + Drop> {
     /// The blocks, each with the status that it was retired with.
@@ -80,6 +80,8 @@ pub fn finish<B: Content + Drop>(
         walker.taken ++ entries_of B.bytes pending.blocks ≡ feeder.retired) }
     ensures retired { IfOk result (λ pending. pending.retired ≡ feeder.retired) }
     ensures holds { IfOk result (λ pending. pending.holds ≡ odd_count feeder.looks) }
+    ensures found { IfOk result (λ pending. pending.found ≡ found_in feeder.looks) }
+    ensures few { IfOk result (λ pending. length pending.retired < 2 ^ 40) }
     ensures kind { IfOk result (λ pending. pending.kind ≡ feeder.kind) }
     ensures passed { IfOk result (λ pending. pending.passed ≡ length walker.taken) }
 {

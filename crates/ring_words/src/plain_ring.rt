@@ -1,6 +1,6 @@
 //! A ring on one thread. It has no words: its blocks stand in two queues by number, the free ones and those that wait
 //! for the reader.
-ghost use Rattle.std.specs.Prelude.{◌≡◌, ◌+◌, ◌-◌, ◌^◌, ◌<◌, ◌≤◌, ℕ, false, true, List, [], ◌∷◌, ◌++◌, length, map, replicate, Option, Some, IfOk, IfSome, IfNone, OnSome};
+ghost use Rattle.std.specs.Prelude.{◌≡◌, ◌+◌, ◌-◌, ◌^◌, ◌<◌, ◌≤◌, ℕ, false, true, List, [], ◌∷◌, ◌++◌, length, map, Option, Some, IfOk, IfSome, IfNone, OnSome};
 ghost use Rattle.std.specs.List.{AllByRecursion};
 ghost use Rattle.std.specs.VecDeque.{deque_capacity};
 ghost use Rattle.ring_words.specs.Counts.{Rose};
@@ -61,7 +61,7 @@ pub struct PlainRing<B: Content + Drop> {
 impl<B: Content + Drop> Model for PlainRing<B> {
     ghost use Rattle.std.specs.Prelude.{◌≤◌};
     ghost use Rattle.std.specs.VecDeque.{deque_capacity};
-    ghost use Rattle.ring_words.specs.PlainRings.{Keeps, PlainState, entries_of, marks_of};
+    ghost use Rattle.ring_words.specs.PlainRings.{Keeps, PlainState, contents_of, entries_of, marks_of};
 
     ghost Value = { PlainState };
 
@@ -74,6 +74,7 @@ impl<B: Content + Drop> Model for PlainRing<B> {
       released = ring.released;
       shown = entries_of B.bytes ring.filled.items;
       marks = marks_of ring.vacant.items;
+      contents = contents_of B.bytes ring.vacant.items;
       holds = ring.holds;
       empties = ring.empties;
     } };
@@ -88,6 +89,7 @@ impl<B: Content + Drop> Model for PlainRing<B> {
           released = ring.released;
           shown = entries_of B.bytes ring.filled.items;
           marks = marks_of ring.vacant.items;
+          contents = contents_of B.bytes ring.vacant.items;
           holds = ring.holds;
           empties = ring.empties;
         }) ring.vacant.items ring.filled.items
@@ -96,11 +98,11 @@ impl<B: Content + Drop> Model for PlainRing<B> {
 }
 
 impl<B: Content + Drop> FeederEnd<B> for PlainRing<B> {
-    ghost use Rattle.ring_words.specs.PlainRings.{FoundMark, feed_of};
+    ghost use Rattle.ring_words.specs.PlainRings.{FoundFree, feed_of};
 
     ghost feed = { feed_of };
 
-    ghost found_mark = { FoundMark };
+    ghost found_free = { FoundFree };
 
     fn next(&mut self) -> Next<B> {
         match self.vacant.pop_front() {
@@ -126,13 +128,13 @@ impl<B: Content + Drop> FeederEnd<B> for PlainRing<B> {
 }
 
 impl<B: Content + Drop> WalkerEnd<B> for PlainRing<B> {
-    ghost use Rattle.ring_words.specs.PlainRings.{GaveBack, Stays, Took, walk_of};
+    ghost use Rattle.ring_words.specs.PlainRings.{PutBack, Stays, Took, walk_of};
 
     ghost walk = { walk_of };
 
     ghost took = { Took };
 
-    ghost gave_back = { GaveBack };
+    ghost gave_back = { PutBack };
 
     ghost stays = { Stays };
 
@@ -173,7 +175,7 @@ impl<B: Content + Drop> PlainRing<B> {
         requires kind { (kind : List ℕ) ×
             AllByRecursion (λ block. B.kind block ≡ kind) blocks.items }
         ensures fresh { IfOk result (λ ring. ring
-            ≡ fresh (length blocks.items) ring.kind (replicate (length blocks.items) 0)) }
+            ≡ fresh (length blocks.items) ring.kind (map B.bytes blocks.items)) }
         ensures kind { (kind : List ℕ) →
             AllByRecursion (λ block. B.kind block ≡ kind) blocks.items →
             IfOk result (λ ring. ring.kind ≡ kind) }
@@ -198,7 +200,7 @@ impl<B: Content + Drop> PlainRing<B> {
     /// The ring after its feeder is done, for the reader alone: the memory of each block that is free or is released is
     /// given up.
     pub fn closing(self, alloc: Global) -> Result<ClosingRing<B>, Memory>
-        ensures { IfOk result (λ ring. ring ≡ self) }
+        ensures { IfOk result (λ ring. ring ≡ record self { contents = [] }) }
     {
         let marks = marks_of(alloc, self.places as usize, self.vacant)?;
         Ok(ClosingRing {

@@ -53,7 +53,7 @@ impl<B: Content + Drop> WalkerEnd<B> for TableWalker<B> {
 
     ghost took = { Took };
 
-    ghost gave_back = { GaveBack };
+    ghost gave_back = { λ before after content. GaveBack before after };
 
     ghost stays = { Stays };
 

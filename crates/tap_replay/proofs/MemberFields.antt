@@ -98,9 +98,9 @@ stays_member shape asked m after h stays =
     subst P (sym stays) same
 
 -- a ring whose blocks are all free
-pub fresh_end : (shape : RingRequest) (count : ℕ) (marks : List ℕ) (ring : PlainState) → ring ≡ plain.fresh count ring.kind marks
+pub fresh_end : (shape : RingRequest) (count : ℕ) (contents : List (List ℕ)) (ring : PlainState) → ring ≡ plain.fresh count ring.kind contents
     → ring.kind ≡ numbers_of shape → count ≡ shape.block_nr → IsFresh shape (feed_of ring)
-fresh_end shape count marks ring e kind all = record {
+fresh_end shape count contents ring e kind all = record {
   places = ap (λ (r : PlainState). r.places) e ∙ all;
   kind = kind;
   given = ap (λ (r : PlainState). r.given) e;
@@ -110,10 +110,10 @@ fresh_end shape count marks ring e kind all = record {
 }
 
 -- a new member
-pub new_member : (shape : RingRequest) (asked : Bool) (count : ℕ) (marks : List ℕ) (ring : PlainState) (producer : Producing PlainState) (reader : ReaderValue)
-    → shape.block_size ≤ 1048576 → ring ≡ plain.fresh count ring.kind marks → ring.kind ≡ numbers_of shape → Opens feed_of shape ring producer
+pub new_member : (shape : RingRequest) (asked : Bool) (count : ℕ) (contents : List (List ℕ)) (ring : PlainState) (producer : Producing PlainState) (reader : ReaderValue)
+    → shape.block_size ≤ 1048576 → ring ≡ plain.fresh count ring.kind contents → ring.kind ≡ numbers_of shape → Opens feed_of shape ring producer
     → reader ≡ new_reader shape asked → IsMember shape asked (record { producer = producer; reader = reader; stuck = false })
-new_member shape asked count marks ring producer reader small e kind opens is =
+new_member shape asked count contents ring producer reader small e kind opens is =
     let freed : (feed_of producer.end).freed ≡ Some ring.released = ap (λ (f : words.Feed). f.freed) opens.end in
     let fetched : (feed_of producer.end).fetched ≡ Some ring.taken = ap (λ (f : words.Feed). f.fetched) opens.end in
     let released : producer.end.released ≡ 0 = some_same producer.end.released ring.released freed ∙ ap (λ (r : PlainState). r.released) e in
@@ -142,9 +142,9 @@ new_member shape asked count marks ring producer reader small e kind opens is =
       };
     }
 
-pub new_ring : (shape : RingRequest) (count : ℕ) (marks : List ℕ) (ring : PlainState) (producer : Producing PlainState)
-    → ring ≡ plain.fresh count ring.kind marks → Opens feed_of shape ring producer → ring_of producer ≡ fresh (size_of shape)
-new_ring shape count marks ring producer e opens =
+pub new_ring : (shape : RingRequest) (count : ℕ) (contents : List (List ℕ)) (ring : PlainState) (producer : Producing PlainState)
+    → ring ≡ plain.fresh count ring.kind contents → Opens feed_of shape ring producer → ring_of producer ≡ fresh (size_of shape)
+new_ring shape count contents ring producer e opens =
     let freed : (feed_of producer.end).freed ≡ Some ring.released = ap (λ (f : words.Feed). f.freed) opens.end in
     let released : producer.end.released ≡ 0 = some_same producer.end.released ring.released freed ∙ ap (λ (r : PlainState). r.released) e in
     rw (opens.shape, opens.notes, released) refl
@@ -252,6 +252,19 @@ closing_read shape asked m notes after ring h free view noted_is texts keeps =
     let R : List Note → Type 0 = λ ns. HasRead shape asked (state_of (size_of shape) ns).done after m.reader in
     subst R (noted_is ∙ ap (λ (r : Ring). r.notes ++ Finished ∷ []) view)
     (read_on shape asked _ _ m.producer.end after m.reader (h.read free) more (subst P h.shape_is texts) keeps)
+
+-- a ring that is closing has given up its free blocks, which no reader reads
+pub read_closing : (shape : RingRequest) (asked : Bool) (done : List (List Offer × ℕ)) (ring : PlainState) (reader : ReaderValue)
+    → HasRead shape asked done ring reader → HasRead shape asked done (record ring { contents = [] }) reader
+read_closing shape asked done ring reader h = record {
+  shape_is = h.shape_is;
+  asked_is = h.asked_is;
+  kind_is = h.kind_is;
+  texts = h.texts;
+  none_held = h.none_held;
+  none_in_hand = h.none_in_hand;
+  taken_is = h.taken_is;
+}
 
 pub few_closed : (shape : RingRequest) (asked : Bool) (m : Parts) (ring : Ring) → IsMember shape asked m → ring_of m.producer ≡ ring
     → length (state_of (size_of shape) (ring.notes ++ Finished ∷ [])).done ≤ 2 ^ 40

@@ -113,9 +113,9 @@ stays_member shape asked m after h stays =
 -- ---- a new member
 
 -- a ring whose slots are all free
-pub fresh_end : (shape : RingRequest) (count : ℕ) (marks : List ℕ) (ring : PlainState) → ring ≡ plain.fresh count ring.kind marks
+pub fresh_end : (shape : RingRequest) (count : ℕ) (contents : List (List ℕ)) (ring : PlainState) → ring ≡ plain.fresh count ring.kind contents
     → ring.kind ≡ numbers_of shape → count ≡ shape.frame_nr → IsFreshSlots shape (feed_of ring)
-fresh_end shape count marks ring e kind all = record {
+fresh_end shape count contents ring e kind all = record {
   places = ap (λ (r : PlainState). r.places) e ∙ all;
   kind = kind;
   given = ap (λ (r : PlainState). r.given) e;
@@ -134,10 +134,10 @@ unfolding slot_texts_of
 nothing_read true = refl
 nothing_read false = refl
 
-pub new_member : (shape : RingRequest) (asked : Bool) (count : ℕ) (marks : List ℕ) (ring : PlainState) (producer : SlotProducing PlainState) (reader : SlotReaderValue)
-    → ring ≡ plain.fresh count ring.kind marks → ring.kind ≡ numbers_of shape → producer ≡ record { shape = shape; notes = []; end = ring }
+pub new_member : (shape : RingRequest) (asked : Bool) (count : ℕ) (contents : List (List ℕ)) (ring : PlainState) (producer : SlotProducing PlainState) (reader : SlotReaderValue)
+    → ring ≡ plain.fresh count ring.kind contents → ring.kind ≡ numbers_of shape → producer ≡ record { shape = shape; notes = []; end = ring }
     → reader ≡ new_slot_reader shape asked → KeepsSlots shape asked (record { producer = producer; reader = reader; stuck = false })
-new_member shape asked count marks ring producer reader e kind opens is =
+new_member shape asked count contents ring producer reader e kind opens is =
     let released : ring.released ≡ 0 = ap (λ (r : PlainState). r.released) e in
     let taken : ring.taken ≡ 0 = ap (λ (r : PlainState). r.taken) e in
     let retired : ring.retired ≡ 0 = ap (λ (r : PlainState). r.retired) e in

@@ -1,6 +1,6 @@
 -- The machine of a ring of slots at a state of its notes.
-use Rattle.std.specs.Prelude.{◌≡◌, ℕ, ◌+◌, ◌^◌, ◌<◌, ◌≤◌, [], length, Option, None, Some}
-use Rattle.ring_words.specs.Rings.{Feed}
+use Rattle.std.specs.Prelude.{◌≡◌, ℕ, ◌+◌, ◌^◌, ◌<◌, ◌≤◌, List, [], length, Option, None, Some}
+use Rattle.ring_words.specs.Rings.{Feed, and_found}
 use Rattle.slot_layout.specs.SlotShapes.{IsSlotShape}
 use Rattle.slot_model.specs.SlotSteps.{SlotState}
 use Rattle.tp_layout.specs.Requests.{numbers_of}
@@ -36,6 +36,11 @@ pub record KeepsSlotEnd (before after : Feed) : Type 0 where
 abbrev pub look_count : Option ℕ → ℕ
 look_count None = 0
 look_count (Some number) = 1
+
+-- the numbers of the slots that an end found held, where it reports them, with the one that a look reported
+abbrev pub and_held : Option ℕ → Option (List ℕ) → Option (List ℕ)
+and_held None numbers = numbers
+and_held (Some number) numbers = and_found number numbers
 
 -- an end that was given nothing yet, of a ring of the slots of this shape
 pub record IsFreshSlots (shape : RingRequest) (feed : Feed) : Type 0 where

@@ -12,7 +12,7 @@ use Rattle.slot_model.specs.SlotAsking.{slot_look}
 use Rattle.slot_model.specs.SlotSteps.{IsOpenSlotRun, SlotMayStand, SlotState, first_slot_state, slot_state_of}
 use Rattle.tp_layout.specs.declared.requests.RingRequest.{RingRequest}
 use Rattle.v2_ring.specs.SlotContents.{StandsForSlots}
-use Rattle.v2_ring.specs.SlotMachines.{IsSlotAt, KeepsSlotEnd, look_count}
+use Rattle.v2_ring.specs.SlotMachines.{IsSlotAt, KeepsSlotEnd, and_held, look_count}
 use Rattle.v2_ring.specs.declared.machine.SlotMachine.{SlotMachine}
 
 pub record SlotProducing (E : Type 0) : Type 0 where
@@ -40,6 +40,7 @@ pub record SlotAdds {E : Type 0} (feed : E → Feed) (before after : SlotProduci
 pub record SlotLooks (slots : ℕ) (state : SlotState) (held : Option ℕ) (before after : Feed) : Type 0 where
   pub looked : IfSome held (λ number. Rose before.holds after.holds)
   pub count : after.holds ≤ before.holds + look_count held
+  pub number : after.found ≡ and_held held before.found
   pub exact : (released : ℕ) → before.freed ≡ Some released → found_by held ≡ slot_look slots released state
 
 -- a put found this, and dropped the packet where the slot was held

@@ -118,6 +118,7 @@ impl<E: FeederEnd<Slot> + Drop> SlotMachine<E> {
             (slot_after state (notes.Kept offer.now found.Free)) self.new }
         ensures end { KeepsSlotEnd (E.feed self.old.end) (E.feed self.new.end) }
         ensures holds { (E.feed self.new.end).holds ≡ (E.feed self.old.end).holds }
+        ensures found { (E.feed self.new.end).found ≡ (E.feed self.old.end).found }
         ensures same { (self.new.shape ≡ self.old.shape) × (self.new.notes ≡ self.old.notes) }
     {
         let mut slot = slot;

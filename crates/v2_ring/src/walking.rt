@@ -12,7 +12,7 @@ impl<E: BothEnds<Slot> + Drop> WalkerEnd<Slot> for SlotProducer<E> {
 
     ghost took = { λ before after content. SlotTookBy E.took before after content };
 
-    ghost gave_back = { λ before after mark. SlotGaveBackBy E.gave_back before after mark };
+    ghost gave_back = { λ before after content mark. SlotGaveBackBy E.gave_back before after content mark };
 
     ghost stays = { λ before after. SlotStaysBy E.stays before after };
 

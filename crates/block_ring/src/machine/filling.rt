@@ -80,6 +80,7 @@ impl<E: FeederEnd<Block> + Drop> Machine<E> {
         ensures at { IsAt E.feed at.in_hand (retire_now timed_out at.state) self.new }
         ensures end { KeepsEnd (E.feed self.old.end) (E.feed self.new.end) }
         ensures holds { (E.feed self.new.end).holds ≡ (E.feed self.old.end).holds }
+        ensures found { (E.feed self.new.end).found ≡ (E.feed self.old.end).found }
         ensures same { self.new ≡ record self.old { end = self.new.end; current = None } }
     {
         let status = self.status(timed_out);

@@ -5,7 +5,8 @@ use Rattle.ring_model.specs.Ring.{state_of}
 use Rattle.tp_layout.specs.Requests.{room_of, size_of}
 use Rattle.block_ring.specs.Machines.{Stepped}
 use Rattle.block_ring.specs.Producing.{Producing, Puts}
-use Rattle.block_ring.proofs.Steps.{added, clock_put, few_after, goes_put, looks_more, kept_on, put_looked, puts_given, spare_less}
+use Rattle.block_ring.proofs.Notings.{numbers_after}
+use Rattle.block_ring.proofs.Steps.{added, clock_put, few_after, goes_put, kept_on, looks_more, put_looked, put_number, puts_given, spare_less}
 use Rattle.block_ring.proofs.producer.Producer.put.Goals as goal
 
 pub put-found-requires : goal.put-found-requires
@@ -28,12 +29,13 @@ invariant_of-self g c =
     record { at = c.put-found.ensures.at; stands = c.put-found.ensures.stands; end = c.put-found.ensures.end; shape = c.put-found.ensures.same.0 } in
     let looks = looks_more machine.notes.items (put_by c.args.offer found) _ _ c.self.invariant.looks few c.put-found.ensures.end.holds
     (put_looked c.args.offer found _ _ c.put-found.ensures.looked) in
+    let numbers = numbers_after machine.notes.items (put_by c.args.offer found) found _ _ c.self.invariant.numbers c.put-found.ensures.number (put_number c.args.offer found) in
     let spare = ap (λ (p : Producing g.row.E.Denot). p.spare) c.self.view_is in
     let clock = clock_put (size_of machine.shape) s c.args.offer found in
     let clock_before = c.self.invariant.at.clock_is in
     let clock_after = c.put-found.ensures.at.clock_is in
     kept_on g.E.FeederEnd.feed machine c.put-found.new.self machine.notes.items (put_by c.args.offer found) _ _ c.self.invariant step
-    (goes_put c.args.offer found) looks c.push_reserved.new.self c.push_reserved.new.self.items
+    (goes_put c.args.offer found) looks numbers c.push_reserved.new.self c.push_reserved.new.self.items
     (rw (c.push_reserved.ensures.items, c.put-found.ensures.same.1, c.noted_put-note.ensures.note))
     (rw (c.push_reserved.ensures.capacity, c.put-found.ensures.same.1) (omega (arith, spare, c.in-Ok.ensures.ok)))
     (few_after g.E.FeederEnd.feed machine c.put-found.new.self machine.notes.items (put_by c.args.offer found) step few
@@ -52,6 +54,7 @@ returns-clause-put g c =
     record { at = c.put-found.ensures.at; stands = c.put-found.ensures.stands; end = c.put-found.ensures.end; shape = c.put-found.ensures.same.0 } in
     let looks = looks_more machine.notes.items (put_by c.args.offer found) _ _ c.self.invariant.looks few c.put-found.ensures.end.holds
     (put_looked c.args.offer found _ _ c.put-found.ensures.looked) in
+    let numbers = numbers_after machine.notes.items (put_by c.args.offer found) found _ _ c.self.invariant.numbers c.put-found.ensures.number (put_number c.args.offer found) in
     let pushed : c.push_reserved.new.self.items ≡ machine.notes.items ++ note ∷ [] =
     rw (c.push_reserved.ensures.items, c.put-found.ensures.same.1, c.noted_put-note.ensures.note) in
     let room = vec_capacity machine.notes in
@@ -59,13 +62,14 @@ returns-clause-put g c =
     let less = spare_less machine.notes.items c.push_reserved.new.self.items note room room_after pushed
     (c.push_reserved.ensures.capacity ∙ ap (λ v. vec_capacity v) c.put-found.ensures.same.1) in
     let adds = added g.E.FeederEnd.feed machine c.put-found.new.self machine.notes.items note room 0 c.self.invariant step
-    (goes_put c.args.offer found) looks (room - length machine.notes.items - 1) (room_after - length c.push_reserved.new.self.items - 1)
+    (goes_put c.args.offer found) looks numbers (room - length machine.notes.items - 1) (room_after - length c.push_reserved.new.self.items - 1)
     c.push_reserved.new.self.items less pushed in
     let puts : Puts g.E.FeederEnd.feed _ _ c.args.offer found c.noted_put-note.result.1 = record {
       adds = adds;
       told = c.noted_put-note.ensures.put;
       looked = c.put-found.ensures.looked;
       count = c.put-found.ensures.count;
+      number = c.put-found.ensures.number;
       exact = c.put-found.ensures.exact;
     } in (
       found,

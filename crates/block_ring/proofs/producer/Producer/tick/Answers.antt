@@ -5,7 +5,8 @@ use Rattle.ring_model.specs.declared.notes.Note.TheVariants.{Ticked}
 use Rattle.tp_layout.specs.Requests.{size_of}
 use Rattle.block_ring.specs.Machines.{Stepped}
 use Rattle.block_ring.specs.Producing.{Producing, Ticks, state}
-use Rattle.block_ring.proofs.Steps.{added, clock_tick, few_after, looks_more, kept_on, spare_less, tick_looked, ticks_given}
+use Rattle.block_ring.proofs.Notings.{numbers_after}
+use Rattle.block_ring.proofs.Steps.{added, clock_tick, few_after, kept_on, looks_more, spare_less, tick_looked, tick_number, ticks_given}
 use Rattle.block_ring.proofs.producer.Producer.tick.Goals as goal
 
 pub tick-found-requires : goal.tick-found-requires
@@ -37,11 +38,12 @@ invariant_of-self g c =
     record { at = c.tick-found.ensures.at; stands = c.tick-found.ensures.stands; end = c.tick-found.ensures.end; shape = c.tick-found.ensures.same.0 } in
     let looks = looks_more machine.notes.items (Ticked c.args.ms found) _ _ c.self-2.invariant.looks few c.tick-found.ensures.end.holds
     (tick_looked c.args.ms found _ _ c.tick-found.ensures.looked) in
+    let numbers = numbers_after machine.notes.items (Ticked c.args.ms found) found _ _ c.self-2.invariant.numbers c.tick-found.ensures.number (tick_number c.args.ms found) in
     let spare = ap (λ (p : Producing g.row.E.Denot). p.spare) c.self-2.view_is in
     let clock = clock_tick (size_of machine.shape) s c.args.ms found in
     let clock_after = c.tick-found.ensures.at.clock_is in
     kept_on g.E.FeederEnd.feed machine c.tick-found.new.self machine.notes.items (Ticked c.args.ms found) _ _ c.self-2.invariant step
-    tt looks c.push_reserved.new.self c.push_reserved.new.self.items
+    tt looks numbers c.push_reserved.new.self c.push_reserved.new.self.items
     (rw (c.push_reserved.ensures.items, c.tick-found.ensures.same.1))
     (rw (c.push_reserved.ensures.capacity, c.tick-found.ensures.same.1) (omega (arith, spare, c.in_ok-reserve.ensures.ok)))
     (few_after g.E.FeederEnd.feed machine c.tick-found.new.self machine.notes.items (Ticked c.args.ms found) step few
@@ -60,6 +62,7 @@ returns-clause-ticked g c =
     record { at = c.tick-found.ensures.at; stands = c.tick-found.ensures.stands; end = c.tick-found.ensures.end; shape = c.tick-found.ensures.same.0 } in
     let looks = looks_more machine.notes.items (Ticked c.args.ms found) _ _ c.self-2.invariant.looks few c.tick-found.ensures.end.holds
     (tick_looked c.args.ms found _ _ c.tick-found.ensures.looked) in
+    let numbers = numbers_after machine.notes.items (Ticked c.args.ms found) found _ _ c.self-2.invariant.numbers c.tick-found.ensures.number (tick_number c.args.ms found) in
     let pushed : c.push_reserved.new.self.items ≡ machine.notes.items ++ note ∷ [] =
     rw (c.push_reserved.ensures.items, c.tick-found.ensures.same.1) in
     let room = vec_capacity machine.notes in
@@ -67,12 +70,13 @@ returns-clause-ticked g c =
     let less = spare_less machine.notes.items c.push_reserved.new.self.items note room room_after pushed
     (c.push_reserved.ensures.capacity ∙ ap (λ v. vec_capacity v) c.tick-found.ensures.same.1) in
     let adds = added g.E.FeederEnd.feed machine c.tick-found.new.self machine.notes.items note room 0 c.self-2.invariant step
-    tt looks (room - length machine.notes.items - 1) (room_after - length c.push_reserved.new.self.items - 1)
+    tt looks numbers (room - length machine.notes.items - 1) (room_after - length c.push_reserved.new.self.items - 1)
     c.push_reserved.new.self.items less pushed in
     let ticks : Ticks g.E.FeederEnd.feed _ _ c.args.ms found = record {
       adds = adds;
       looked = c.tick-found.ensures.looked;
       count = c.tick-found.ensures.count;
+      number = c.tick-found.ensures.number;
       exact = c.tick-found.ensures.exact;
     } in (
       found,

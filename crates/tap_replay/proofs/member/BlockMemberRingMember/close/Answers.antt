@@ -6,7 +6,7 @@ use Rattle.tp_layout.specs.Requests.{numbers_of, size_of}
 use Rattle.tp_layout.specs.declared.requests.RingRequest.{RingRequest}
 use Rattle.tap_replay.specs.Blocks.{HasRead}
 use Rattle.tap_replay.proofs.LastReads.{closed_report}
-use Rattle.tap_replay.proofs.MemberFields.{closing_read, few_closed, few_read}
+use Rattle.tap_replay.proofs.MemberFields.{closing_read, few_closed, few_read, read_closing}
 use Rattle.tap_replay.proofs.ReadBlocks.{all_read, fewer_wait, free_hand, next_read, none_read}
 use Rattle.tap_replay.proofs.member.BlockMemberRingMember.close.Goals as goal
 
@@ -14,10 +14,11 @@ pub waiting-init : goal.waiting-init
 waiting-init g c =
     let done = (state_of (size_of g.K.Setting.shape) (c.args.self.notes ++ Finished ∷ [])).done in
     subst (λ (ring : PlainState). HasRead g.K.Setting.shape g.K.Setting.dumps done ring c.self.inside.reader) (sym c.in_ok-waiting.ensures)
+    (read_closing g.K.Setting.shape g.K.Setting.dumps done c.finish-ring.result.0 c.self.inside.reader
     (closing_read g.K.Setting.shape g.K.Setting.dumps
     (record { producer = c.self.inside.producer; reader = c.self.inside.reader; stuck = c.self.inside.stuck })
     c.finish-ring.result.1 c.finish-ring.result.0 c.args.self c.self.invariant c.if-self.false c.self.view_is
-    c.finish-ring.ensures.notes c.finish-ring.ensures.texts c.finish-ring.ensures.end)
+    c.finish-ring.ensures.notes c.finish-ring.ensures.texts c.finish-ring.ensures.end))
 
 pub step-requires-clause-kind : goal.step-requires-clause-kind
 step-requires-clause-kind g c =
