@@ -1,7 +1,7 @@
 //! How a member is closed, once all its stands are handed in.
-ghost use Rattle.std.specs.Prelude.{◌≡◌, ◌++◌, ◌≤◌, false, length, IfOk};
+ghost use Rattle.std.specs.Prelude.{◌≡◌, ◌++◌, ◌^◌, ◌<◌, ◌≤◌, false, length, IfOk};
 ghost use Rattle.std.specs.List.{AllByRecursion};
-ghost use Rattle.block_ring.specs.Noting.{held_count};
+ghost use Rattle.block_ring.specs.Noting.{held_count, held_numbers};
 ghost use Rattle.block_ring.specs.Texts.{AreTexts};
 ghost use Rattle.member_turns.specs.Closings.{AreClosedNotes, contents_of};
 ghost use Rattle.member_turns.specs.Entries.{table_numbers};
@@ -47,6 +47,8 @@ pub fn close_member(
     ensures texts { IfOk result (λ closed. AreTexts member.base.shape 1 closed.pending.retired
         (state_of (size_of member.base.shape) closed.notes).done) }
     ensures looks { IfOk result (λ closed. held_count closed.notes ≤ closed.pending.holds) }
+    ensures numbers { IfOk result (λ closed. closed.pending.found ≡ held_numbers closed.notes) }
+    ensures few { IfOk result (λ closed. length closed.pending.retired < 2 ^ 40) }
     ensures taken { IfOk result (λ closed.
         walker.taken ++ contents_of closed.pending.blocks ≡ closed.pending.retired) }
     ensures passed { IfOk result (λ closed. closed.pending.passed ≡ length walker.taken) }
