@@ -1,6 +1,6 @@
 -- What a member that was closed leaves.
 use Rattle.std.specs.Prelude.{◌≡◌, ◌≤◌, List, [], ◌∷◌, length, map, ⊤}
-use Rattle.block_ring.specs.Noting.{held_count}
+use Rattle.block_ring.specs.Noting.{held_count, held_numbers}
 use Rattle.block_ring.specs.Texts.{AreTexts}
 use Rattle.member_turns.specs.Closings.{AreClosedNotes}
 use Rattle.member_turns.specs.Seats.{Lock, Seat}
@@ -20,11 +20,13 @@ pub record MemberLeft : Type 0 where
 
 -- A ring that was finished, of a member with these notes: one block was retired for each block of
 -- the notes, in order, and its content begins with that block's text and its status is that
--- block's; and at least as many of its looks found a block of the reader's as the notes say.
+-- block's; and its looks found the reader's blocks of these notes: the numbers are those that the
+-- Refused, Dropped and held Ticked notes report, in their order.
 pub record IsRingOf (shape : RingRequest) (notes : List Note) (ring : Pends ShapedBytes)
     : Type 0 where
   pub texts : AreTexts shape 1 ring.retired (state_of (size_of shape) notes).done
   pub holds : held_count notes ≤ ring.holds
+  pub found : ring.found ≡ held_numbers notes
 
 -- and so of each member
 abbrev pub AreRingsOf : RingRequest → List (List Note) → List (Pends ShapedBytes) → Type 0

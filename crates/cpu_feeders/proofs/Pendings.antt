@@ -1,7 +1,7 @@
 -- The pending blocks of a ring, read one after the other.
-use Rattle.std.proofs.Common.{◌≡◌, ℕ, ◌+◌, ◌<◌, List, [], ◌∷◌, ◌++◌, length, take, get_or, append_assoc, Some, sym, ap, ◌∙◌}
+use Rattle.std.proofs.Common.{◌≡◌, ℕ, ◌+◌, ◌<◌, ◌≤◌, List, [], ◌∷◌, ◌++◌, length, take, get_or, append_assoc, Some, sym, ap, ◌∙◌, arith}
 use Rattle.std.specs.Prelude.{slice_get}
-use Rattle.std.proofs.lemmas.List.{map-append, take_more}
+use Rattle.std.proofs.lemmas.List.{length-append, length-map, length-take-le, map-append, take_more}
 use Rattle.std.proofs.lemmas.Option.{get_or_from_slice_get}
 use Rattle.member_turns.specs.Closings.{contents_of}
 use Rattle.reader_walk.specs.Takers.{Base, Taken, taken_in}
@@ -15,6 +15,15 @@ pub all_read : (base : Base) (done now : List Taken) (walked left retired : List
 all_read base done now walked left retired h more all =
     more ∙ ap (λ (some : List Taken). some ++ taken_of base left) h
     ∙ sym (map-append (λ (entry : Entry). taken_in base.shape entry.0) walked left) ∙ ap (taken_of base) all
+
+-- how many blocks were read once so many of those that are left were
+pub pending_length : (base : Base) (first now : List Taken) (blocks : List (ShapedBytes × ℕ)) (at : ℕ) → at ≤ length blocks
+    → now ≡ first ++ taken_of base (contents_of (take at blocks)) → length now ≡ length first + at
+pending_length base first now blocks at within is =
+    let left : List (ShapedBytes × ℕ) = take at blocks in
+    let count = length-map (contents_of left) (λ (entry : Entry). taken_in base.shape entry.0) ∙ length-map left (λ (one : ShapedBytes × ℕ). (one.0.bytes, one.1)) in
+    let all = length-append first (taken_of base (contents_of left)) in
+    omega (arith, count, all, ap length is, length-take-le at blocks within)
 
 -- one block more
 pub pending_more : (base was : Base) (first before after : List Taken) (blocks : List (ShapedBytes × ℕ)) (at : ℕ) (block : ShapedBytes) (status : ℕ)

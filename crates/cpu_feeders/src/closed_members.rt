@@ -18,9 +18,6 @@ use std::alloc::Global;
 use std::collections::VecDeque;
 use tp_layout::Block;
 
-/// So many blocks a taker reads at most. No run has memory for as many.
-const MOST_BLOCKS: u64 = 1 << 40;
-
 /// What is left of a member and of its reader.
 #[derive(Drop)]
 pub(crate) struct Closed<T: Taker + Drop> {
@@ -34,17 +31,14 @@ pub(crate) struct Closed<T: Taker + Drop> {
     pub(crate) seat: DealerSeat,
 }
 
-/// Hands a taker, which has read so many blocks, those that its reader left, by number.
-fn read_pending<T: Taker>(taker: &mut T, read: u64, pending: &Pending<Block>) -> Result<(), Memory>
+/// Hands a taker the blocks that its reader left, by number.
+fn read_pending<T: Taker>(taker: &mut T, pending: &Pending<Block>) -> Result<(), Memory>
     requires kind { pending.now.kind ≡ numbers_of (T.base taker.old).shape }
-    requires count { length (T.taken taker.old) ≡ read }
+    requires few { length (T.taken taker.old) + length pending.now.blocks < 2 ^ 40 }
     ensures base { T.base taker.new ≡ T.base taker.old }
     ensures read { OnOk result (T.taken taker.new ≡ T.taken taker.old
         ++ taken_of (T.base taker.old) (contents_of pending.now.blocks)) }
 {
-    if pending.len() as u64 > MOST_BLOCKS.saturating_sub(read) {
-        return Err(Memory);
-    }
     for at in 0..pending.len() {
         match pending.get(at) {
             Some((block, _)) => taker.block(block)?,
@@ -67,7 +61,7 @@ fn close_one<T: Taker + Drop>(
 {
     let mut taker = walker.taker;
     let closed = close_member(alloc, member, stands, walker.end)?;
-    read_pending(&mut taker, walker.released, &closed.pending)?;
+    read_pending(&mut taker, &closed.pending)?;
     Ok(Closed {
         notes: closed.notes,
         taker,

@@ -1,6 +1,6 @@
 -- What the report of a member is worth.
-use Rattle.std.specs.Prelude.{◌≡◌, ℕ, ◌≤◌, Bool, List, [], length, map, if◌then◌else◌, All}
-use Rattle.ring_model.specs.Fates.{kept_of}
+use Rattle.std.specs.Prelude.{◌≡◌, ℕ, ◌<◌, ◌≤◌, Bool, List, [], length, map, if◌then◌else◌, All}
+use Rattle.ring_model.specs.Fates.{drops_of, kept_of}
 use Rattle.ring_model.specs.Offers.{packet_of}
 use Rattle.ring_model.specs.Ring.{IsWholeRun, state_of}
 use Rattle.ring_model.specs.declared.notes.Note.{Note}
@@ -21,6 +21,10 @@ pub record IsMember (shape : RingRequest) (asked : Bool) (member : MemberReport)
   pub walked : member.walked ≡ map (packet_of (fills_hash shape)) (kept_of member.notes)
   pub dump : member.dump ≡ dump_where asked shape member.notes
   pub blocks : member.blocks ≡ length (state_of (size_of shape) member.notes).done
+
+-- a member that has filled fewer blocks, or slots, than its ring has places dropped nothing
+abbrev pub DropsNoneBelow : ℕ → MemberReport → Type 0
+DropsNoneBelow places member = member.blocks < places → drops_of member.notes ≡ []
 
 -- each packet is short enough for an output file
 abbrev pub AreShort : List MemberReport → Type 0

@@ -9,7 +9,7 @@ ghost use Rattle.ring_model.specs.Fates.{totals_of};
 ghost use Rattle.ring_model.specs.declared.notes.Note.{Note};
 ghost use Rattle.run_reports.specs.Jobs.{arriving_of, rules_of};
 ghost use Rattle.run_reports.specs.Logs.{AreLogsFrom};
-ghost use Rattle.run_reports.specs.Members.{AreShort};
+ghost use Rattle.run_reports.specs.Members.{AreShort, DropsNoneBelow};
 ghost use Rattle.run_reports.specs.Once.{EachArrivalStandsOnce, EachStandsAtItsLastTry};
 ghost use Rattle.run_reports.specs.Reports.{IsReport, IsRunReport};
 ghost use Rattle.run_reports.specs.Totals.{TotalsAddUp};
@@ -19,7 +19,7 @@ ghost use Rattle.setup_text.specs.declared.reports.RunReport.{RunReport};
 ghost use Rattle.tp_layout.specs.Requests.{size_of};
 
 use fanout_group::each_frame_stands_exactly_once;
-use ring_model::statistics_count_each_packet;
+use ring_model::{a_ring_with_blocks_left_drops_nothing, statistics_count_each_packet};
 
 /// Each packet that a group reports is short enough for an output file: it was cut to the room of a
 /// block.
@@ -60,6 +60,16 @@ pub fn the_totals_add_up()
         → TotalsAddUp (totals_of (size_of job.setup.shape)) report }
 {
     statistics_count_each_packet();
+}
+
+/// In the report of a run a member that has retired fewer blocks than its ring has dropped nothing.
+/// So a ring that has more blocks than a run fills loses none of its frames.
+pub fn a_member_with_blocks_left_dropped_nothing()
+    ensures { (job : Job) (bytes : List (List ℕ)) (ends : List CpuEnd) (report : RunReport)
+        → IsRunReport job bytes ends report
+        → All (DropsNoneBelow job.setup.shape.block_nr) report.members }
+{
+    a_ring_with_blocks_left_drops_nothing();
 }
 
 /// It stands among the notes of one member: that of the last try of its route.

@@ -1,11 +1,12 @@
 -- The ends of a report's logs are those of its captures.
 use Rattle.std.proofs.Common.{◌≡◌, ℕ, suc, ◌+◌, List, [], ◌∷◌, length, refl, sym, ap, ◌∙◌}
+use Rattle.std.specs.Prelude.{All}
 use Rattle.std.proofs.lemmas.List.{length-map}
 use Rattle.capture_file.specs.declared.cpu_end.CpuEnd.{CpuEnd}
 use Rattle.fanout_group.specs.declared.runs.CpuLog.{CpuLog}
 use Rattle.run_reports.specs.Logs.{AreLogsFrom}
 use Rattle.run_reports.specs.Jobs.{arriving_of, rules_of}
-use Rattle.run_reports.specs.Members.{AreShort}
+use Rattle.run_reports.specs.Members.{AreShort, DropsNoneBelow}
 use Rattle.run_reports.specs.Once.{EachArrivalStandsOnce}
 use Rattle.run_reports.specs.Reports.{logged, notes_of}
 use Rattle.setup_text.specs.declared.jobs.Job.{Job}
@@ -13,7 +14,7 @@ use Rattle.setup_text.specs.declared.reports.MemberReport.{MemberReport}
 use Rattle.setup_text.specs.declared.reports.RunReport.{RunReport}
 use Rattle.tap_printing.specs.declared.ring_kind.RingKind.{RingKind}
 use Rattle.tap_printing.specs.declared.ring_kind.RingKind.TheVariants.{Blocks, Slots}
-use Rattle.tap_engine.specs.Headline.{IsReportBy}
+use Rattle.tap_engine.specs.Headline.{IsReportBy, places_by}
 
 -- each log ended so
 abbrev pub AreEnds : List CpuLog → List CpuEnd → Type 0
@@ -56,6 +57,16 @@ pub report_once : (rings : RingKind) (job : Job) (bytes : List (List ℕ)) (ends
     (notes_of report.members)
 report_once Blocks job bytes ends report is = is.once
 report_once Slots job bytes ends report is = is.once
+
+-- a member that has filled fewer places than its ring has dropped nothing, by the laws on both kinds of ring
+pub report_drops : ((job : Job) (bytes : List (List ℕ)) (ends : List CpuEnd) (report : RunReport) → IsReportBy Blocks job bytes ends report
+    → All (DropsNoneBelow (places_by Blocks job.setup.shape)) report.members)
+    → ((job : Job) (bytes : List (List ℕ)) (ends : List CpuEnd) (report : RunReport) → IsReportBy Slots job bytes ends report
+    → All (DropsNoneBelow (places_by Slots job.setup.shape)) report.members)
+    → (rings : RingKind) (job : Job) (bytes : List (List ℕ)) (ends : List CpuEnd) (report : RunReport) → IsReportBy rings job bytes ends report
+    → All (DropsNoneBelow (places_by rings job.setup.shape)) report.members
+report_drops blocks slots Blocks job bytes ends report is = blocks job bytes ends report is
+report_drops blocks slots Slots job bytes ends report is = slots job bytes ends report is
 
 -- and the packets are short enough for an output file
 pub report_short : (rings : RingKind) (job : Job) (bytes : List (List ℕ)) (ends : List CpuEnd)

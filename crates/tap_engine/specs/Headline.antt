@@ -19,6 +19,7 @@ use Rattle.run_reports.specs.Reports.{IsRunReport}
 use Rattle.tap_printing.specs.declared.ring_kind.RingKind.{RingKind}
 use Rattle.tap_printing.specs.declared.ring_kind.RingKind.TheVariants.{Blocks, Slots}
 use Rattle.tap_replay.specs.Runs.{report_of}
+use Rattle.tp_layout.specs.declared.requests.RingRequest.{RingRequest}
 use Rattle.v2_replay.specs.SlotReports.{IsSlotRunReport}
 use Rattle.v2_replay.specs.SlotRuns.{slot_report_of}
 use Rattle.capture_reading.specs.Sources.{EndsAtDamage, UnlessFault, WhereEnded, WhereFault, end_by}
@@ -64,6 +65,11 @@ CapturesFor Send held setup bytes ends = ⊥
 abbrev pub IsReportBy : RingKind → Job → List (List ℕ) → List CpuEnd → RunReport → Type 0
 IsReportBy Blocks job bytes ends report = IsRunReport job bytes ends report
 IsReportBy Slots job bytes ends report = IsSlotRunReport job bytes ends report
+
+-- how many places each ring has
+abbrev pub places_by : RingKind → RingRequest → ℕ
+places_by Blocks shape = shape.block_nr
+places_by Slots shape = shape.frame_nr
 
 -- the replay report of these lines, and of what the captures gave
 abbrev pub replay_by : RingKind → Job → List Line → List (List ℕ) → List CpuEnd → RunReport

@@ -7,5 +7,5 @@ mod member;
 mod new_members;
 mod runs;
 
-pub use laws::the_totals_over_slots_add_up;
+pub use laws::{a_member_with_slots_left_dropped_nothing, the_totals_over_slots_add_up};
 pub use runs::{a_job_over_slots_reports_a_group, replay_v2};

@@ -2,7 +2,7 @@ use Rattle.std.proofs.Common.{◌≡◌, ◌<◌, ◌∙◌, length, sym, ap, su
 use Rattle.reader_walk.specs.Takers.{Base, IsRetired}
 use Rattle.tp_layout.specs.Requests.{numbers_of}
 use Rattle.tp_layout.specs.declared.requests.RingRequest.{RingRequest}
-use Rattle.cpu_feeders.proofs.Pendings.{pending_more}
+use Rattle.cpu_feeders.proofs.Pendings.{pending_length, pending_more}
 use Rattle.cpu_feeders.proofs.Shapes.{one_shape}
 use Rattle.cpu_feeders.proofs.closed_members.read_pending.Goals as goal
 
@@ -16,6 +16,14 @@ block-requires-clause-readable g c =
       shape_is = one;
       text = subst (λ (shape : RingRequest). IsRetired shape block.bytes) one (_, _, c.in-Some.ensures.ready);
     }
+
+pub block-requires-clause-few : goal.block-requires-clause-few
+block-requires-clause-few g c =
+    let blocks = c.args.pending.now.blocks in
+    let there = c.loop-at-test.true in
+    let many = c.len-at-end.ensures in
+    let read = pending_length (g.T.Taker.base c.args.taker.now) (g.T.Taker.taken c.args.taker.now) _ blocks c.loop-at.at (omega (arith, there, many)) c.loop-at.invariant.read in
+    omega (arith, read, there, many, c.requires.few)
 
 pub loop-at-preserved : goal.loop-at-preserved
 loop-at-preserved g c =
