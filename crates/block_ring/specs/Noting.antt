@@ -6,25 +6,7 @@ use Rattle.ring_model.specs.declared.notes.Found.TheVariants.{NotAsked, Free, He
 use Rattle.ring_model.specs.declared.notes.Note.{Note}
 use Rattle.ring_model.specs.declared.notes.Note.TheVariants.{Refused, Dropped, Ticked}
 use Rattle.ring_model.specs.Unreleased.{held_number}
-use Rattle.ring_words.specs.Rings.{and_found}
-
--- it holds where the next block was still the reader's
-abbrev pub WasHeld : Found → Type 0 → Type 0
-WasHeld NotAsked P = Unit {0}
-WasHeld Free P = Unit {0}
-WasHeld (Held number) P = P
-
--- how often a call found that a block was still the reader's: once at most, and only where this is what it found
-abbrev pub CountsHeld : Found → ℕ → ℕ → Type 0
-CountsHeld NotAsked before after = after ≡ before
-CountsHeld Free before after = after ≡ before
-CountsHeld (Held number) before after = after ≤ before + 1
-
--- the numbers of the blocks that an end found held, where it reports them, with that of this call
-abbrev pub found_with : Found → Option (List ℕ) → Option (List ℕ)
-found_with NotAsked numbers = numbers
-found_with Free numbers = numbers
-found_with (Held number) numbers = and_found number numbers
+pub use Rattle.ring_model.specs.Told.{CountsHeld, WasHeld, found_with}
 
 -- what a look at the next block found may stand
 abbrev pub IsAsked : Size → State → Found → Type 0

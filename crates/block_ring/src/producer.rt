@@ -12,7 +12,7 @@ ghost use Rattle.tp_layout.specs.Writing.{IsWritable};
 use crate::TickError;
 use crate::machine::Machine;
 use frame_view::Memory;
-use ring_model::{Found, Note, Notes, Offer, Put, Stats, Tried, Unput, need};
+use ring_model::{Note, Notes, Offer, Put, Stats, Tried, Unput, noted_put, noted_try};
 use ring_words::FeederEnd;
 use std::alloc::Global;
 use std::marker::Model;
@@ -175,45 +175,5 @@ impl<E: FeederEnd<Block> + Drop> Producer<E> {
         let (end, mut notes) = self.machine.finish();
         notes.push_reserved(Note::Finished);
         (end, Notes::from_vec(notes))
-    }
-}
-
-/// The note of a packet that was put, and what its call reports.
-fn noted_put(offer: Offer, found: Found) -> (Note, Put)
-    requires { offer.snap ≤ 1048576 }
-    ensures note { result.0 ≡ put_by offer found }
-    ensures put { result.1 ≡ put_told (put_by offer found) }
-{
-    match found {
-        Found::Held(number) => {
-            let note = Note::Dropped {
-                cpu: offer.frame.cpu,
-                index: offer.frame.index,
-                need: need(offer.snap),
-                number,
-            };
-            (note, Put::Dropped(number))
-        }
-        found => (Note::Kept { offer, found }, Put::Kept),
-    }
-}
-
-/// The note of a packet that was tried, and what its call reports.
-fn noted_try(offer: Offer, found: Found) -> (Note, Tried)
-    requires { offer.snap ≤ 1048576 }
-    ensures note { result.0 ≡ try_by offer found }
-    ensures tried { result.1 ≡ try_told offer (try_by offer found) }
-{
-    match found {
-        Found::Held(number) => {
-            let note = Note::Refused {
-                cpu: offer.frame.cpu,
-                index: offer.frame.index,
-                need: need(offer.snap),
-                number,
-            };
-            (note, Tried::Refused(offer))
-        }
-        found => (Note::Kept { offer, found }, Tried::Kept),
     }
 }

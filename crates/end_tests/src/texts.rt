@@ -22,7 +22,8 @@ pub(crate) fn filled(
 {
     let mut slot = one_slot(alloc, shape)?;
     let offer = frame_offered(alloc, tagged)?;
-    let status = write_slot(&mut slot, &offer, losing);
+    let mut room = Vec::with_capacity(alloc, shape.frame_size() as usize)?;
+    let status = write_slot(&mut slot, &mut room, &offer, losing);
     Ok((slot, status))
 }
 

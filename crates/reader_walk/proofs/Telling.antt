@@ -1,14 +1,14 @@
 -- A block that begins with a lawful text is read as what the text says.
-use Rattle.std.proofs.Common.{◌≡◌, ℕ, ◌≤◌, List, refl, sym}
+use Rattle.std.proofs.Common.{◌≡◌, ℕ, ◌*◌, ◌≤◌, List, [], ◌∷◌, length, refl, subst, sym, arith}
+use Rattle.std.proofs.Math.Logic.{∥∥₁_elim}
+use Rattle.std.proofs.Props.{props}
 use Rattle.frame_view.specs.declared.frames.Packet.{Packet}
 use Rattle.tp_layout.proofs.Answering.{begins_stands}
-use Rattle.tp_layout.specs.Blocks.{BeginsWith, end_may}
+use Rattle.tp_layout.proofs.Opens.{needs-cons}
+use Rattle.tp_layout.specs.Blocks.{BeginsWith, end_may, needs_of}
+use Rattle.tp_layout.specs.Writing.{ShapedBytes}
 use Rattle.tp_layout.specs.declared.requests.RingRequest.{RingRequest}
-use Rattle.std.specs.Prelude.{Err, Ok, Result}
-use Rattle.tp_layout.specs.Blocks.{HasText}
-use Rattle.tp_layout.specs.Faults.{packets_of}
-use Rattle.tp_layout.specs.declared.error.LayoutError.{LayoutError}
-use Rattle.reader_walk.specs.Takers.{taken_in}
+use Rattle.reader_walk.specs.Takers.{IsReadable, Taken, taken_in}
 
 pub tells : (shape : RingRequest) (number status : ℕ) (packets : List Packet) (bytes : List ℕ) → shape.block_size ≤ 1048576
     → BeginsWith shape number status packets bytes
@@ -18,13 +18,24 @@ tells shape number status packets bytes small begins =
     let stands = begins_stands (end_may shape) shape number status packets bytes small (λ end may. may) begins in
     rw (stands.number_is, stands.status_is, stands.packets_are) refl
 
--- the packets that a block has are those that are read of it
-pub packets_told : (shape : RingRequest) (bytes : List ℕ) (packets : List Packet) → shape.block_size ≤ 1048576
-    → HasText shape bytes packets → packets ≡ packets_of shape bytes
-packets_told shape bytes packets small text =
-    let stands = begins_stands (end_may shape) shape text.0 text.1 packets bytes small (λ end may. may) text.2 in
-    sym stands.packets_are
+-- ---- how many packets a block has
 
--- what is read isn't refused
-pub refused : (answer : Result (List Packet) LayoutError) (fault : LayoutError) (packets : List Packet) → answer ≡ Err fault → answer ≡ Ok packets → ⊥
-refused answer fault packets no_packets some = cc
+-- each packet takes at least 80 bytes
+needs_80 : (packets : List Packet) → 80 * length packets ≤ needs_of packets
+needs_80 [] = omega arith
+needs_80 (packet ∷ packets) = omega (arith, needs_80 packets, needs-cons packet packets)
+
+few_in_text : (shape : RingRequest) (number status : ℕ) (packets : List Packet) (bytes : List ℕ) → shape.block_size ≤ 1048576
+    → BeginsWith shape number status packets bytes → length (taken_in shape bytes).packets ≤ 16383
+few_in_text shape number status packets bytes small begins =
+    let within = begins.lawful.fits in
+    let needs = needs_80 packets in
+    let many : length packets ≤ 16383 = omega arith in
+    subst (λ (block : Taken). length block.packets ≤ 16383) (sym (tells shape number status packets bytes small begins)) many
+
+pub few_packets : (shape : RingRequest) (block : ShapedBytes) → block.shape.block_size ≤ 1048576 → IsReadable shape block
+    → length (taken_in shape block.bytes).packets ≤ 16383
+few_packets shape block sound readable =
+    let text = readable.text in
+    let small = subst (λ (s : RingRequest). s.block_size ≤ 1048576) readable.shape_is sound in
+    ∥∥₁_elim text.2 (search props) (λ found. few_in_text shape text.0 text.1 found.0 block.bytes small found.1)

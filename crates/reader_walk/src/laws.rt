@@ -1,9 +1,11 @@
 //! What a reader reads is what was written.
-ghost use Rattle.std.specs.Prelude.{◌≡◌, ◌≤◌, ℕ, List};
+ghost use Rattle.std.specs.Prelude.{◌≡◌, ◌≤◌, ℕ, List, length};
 ghost use Rattle.frame_view.specs.declared.frames.Packet.{Packet};
-ghost use Rattle.reader_walk.specs.Takers.{taken_in};
+ghost use Rattle.reader_walk.specs.Takers.{IsReadable, taken_in};
 ghost use Rattle.tp_layout.specs.Blocks.{BeginsWith};
 ghost use Rattle.tp_layout.specs.declared.requests.RingRequest.{RingRequest};
+
+use tp_layout::Block;
 
 /// A law and no call to make: of a block that begins with a lawful text are read that text's number, status and
 /// packets.
@@ -13,3 +15,12 @@ pub fn a_text_is_read_as_it_was_written()
         → shape.block_size ≤ 1048576 → BeginsWith shape number status packets bytes
         → taken_in shape bytes ≡ record { number = number; status = status; packets = packets } }
 {}
+
+/// A law that changes nothing: a block that can be read has at most 16,383 packets, since it has at most 1 MiB and
+/// each packet takes at least 80 bytes of it.
+pub fn a_block_has_few_packets(block: &Block)
+    ensures { (shape : RingRequest) → IsReadable shape block.now
+        → length (taken_in shape block.now.bytes).packets ≤ 16383 }
+{
+    let _bytes = block.bytes();
+}

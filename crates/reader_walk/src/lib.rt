@@ -1,14 +1,13 @@
 //! The reader of a ring: it takes retired blocks, walks over their packets and gives the blocks back.
 #![tactic(auto)]
 
-mod copying;
 mod laws;
 mod outputs;
 mod piles;
 mod reader;
 mod taker;
 
-pub use laws::a_text_is_read_as_it_was_written;
+pub use laws::{a_block_has_few_packets, a_text_is_read_as_it_was_written};
 pub use outputs::Outputs;
 pub use reader::Reader;
 pub use taker::Taker;

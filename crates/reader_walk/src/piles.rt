@@ -1,7 +1,6 @@
 //! The packets of the blocks that were read, and what tells them apart again.
 ghost use Rattle.std.specs.Prelude.{◌≡◌, [], ◌∷◌, ◌++◌, length, OnErr, OnOk};
 
-use crate::copying::push_copies;
 use frame_view::{Memory, Packet};
 use std::alloc::Global;
 use tp_layout::PacketWalk;
@@ -52,7 +51,7 @@ impl Pile {
         let texts = self.dump.len();
         self.dump.extend_from_slice(text)?;
         let earlier = self.walked.len();
-        if push_copies(alloc, packets, &mut self.walked).is_err() {
+        if packets.push_copies(alloc, &mut self.walked).is_err() {
             self.walked.truncate(earlier);
             self.dump.truncate(texts);
             return Err(Memory);

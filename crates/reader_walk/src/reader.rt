@@ -7,18 +7,17 @@ ghost use Rattle.std.specs.Prelude.{◌≡◌, ◌≢◌, ◌+◌, ◌<◌, ◌�
 ghost use Rattle.ring_words.specs.Counts.{Rose};
 ghost use Rattle.reader_walk.specs.Texts.{text_by, text_of_taken};
 ghost use Rattle.reader_walk.specs.Takers.{IsReadable, taken_in};
-ghost use Rattle.tp_layout.specs.Faults.{packets_of};
 ghost use Rattle.tp_layout.specs.Requests.{numbers_of};
 ghost use Rattle.tp_layout.specs.Rows.{number_at};
 
 use crate::piles::Pile;
 use crate::{Outputs, Taker};
-use byteorder::{ByteOrder, LittleEndian};
-use frame_view::{ByteList, Memory, Packets};
+use frame_view::{ByteList, Memory, Packet, Packets};
 use ring_words::WalkerEnd;
 use std::alloc::Global;
 use std::marker::Model;
-use tp_layout::{Block, PacketWalk, Shape, a_shape_is_sound, text_of, walk};
+use tp_layout::fields::{u32_at, u64_at};
+use tp_layout::{Block, Shape, a_shape_is_sound, packets_of, text_of};
 
 /// TP_STATUS_KERNEL of `linux/if_packet.h`: the word of a free block.
 const FREE: u32 = 0;
@@ -51,7 +50,7 @@ impl Model for Reader {
 }
 
 impl Reader {
-    ghost use Rattle.reader_walk.specs.Readers.{ComesFrom, GivesBack, Keeps, Reads, has_read, new_reader, outputs_of};
+    ghost use Rattle.reader_walk.specs.Readers.{ComesFrom, GivesBack, Keeps, Reads, has_read, new_reader, outputs_of, walked_of};
 
     /// A reader that has read nothing, and that keeps the texts of its blocks where it is asked to. It takes no memory.
     #[tactic(auto, unfolding(crate::specs::ReadersInside::taken_by, crate::specs::Readers::texts_of))]
@@ -142,6 +141,14 @@ impl Reader {
         self.read(block)
     }
 
+    /// The packets that were read so far, in order.
+    #[tactic(auto, using(crate::proofs::Heaps::all_walked))]
+    pub fn walked(&self) -> &[Packet]
+        ensures { result.now ≡ walked_of self.now.taken }
+    {
+        self.pile.walked.as_slice()
+    }
+
     /// All that was read.
     #[tactic(auto, using(crate::proofs::Heaps::all_walked, crate::proofs::Heaps::as_many))]
     pub fn outputs(self) -> Outputs
@@ -191,7 +198,7 @@ impl Reader {
             ≡ record (has_read block.now.bytes self.old) { held = self.old.held }) }
         ensures err { OnErr result (self.new ≡ self.old) }
     {
-        let packets = packets_in(block, &self.shape);
+        let packets = packets_of(block.bytes(), &self.shape);
         let (number, status) = head_of(block, &self.shape);
         let text = kept_text(block, &self.shape, self.dumps);
         self.pile.add(self.alloc, number, status, packets, text)
@@ -207,18 +214,6 @@ impl Taker for Reader {
 
     fn block(&mut self, block: &Block) -> Result<(), Memory> {
         self.walk_block(block)
-    }
-}
-
-/// The packets of a block that can be read: its walk refuses nothing.
-fn packets_in<'a>(block: &'a Block, shape: &Shape) -> PacketWalk<'a>
-    requires { IsReadable shape.now block.now }
-    ensures { result ≡ packets_of shape.now block.now.bytes }
-{
-    a_shape_is_sound(shape);
-    match walk(block.bytes(), shape) {
-        Ok(packets) => packets,
-        Err(_) => unreachable!(),
     }
 }
 
@@ -249,10 +244,5 @@ fn head_of(block: &Block, shape: &Shape) -> (u64, u32)
     // A block has whole pages, so its descriptor is there.
     a_shape_is_sound(shape);
     let bytes = block.bytes();
-    let (_, status) = bytes.split_at(8);
-    let (_, number) = bytes.split_at(24);
-    (
-        LittleEndian::read_u64(number),
-        LittleEndian::read_u32(status),
-    )
+    (u64_at(bytes, 24), u32_at(bytes, 8))
 }

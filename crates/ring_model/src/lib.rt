@@ -3,6 +3,7 @@
 
 mod laws;
 mod notes;
+mod noting;
 mod sizes;
 mod tallying;
 
@@ -11,5 +12,6 @@ pub use laws::{
     statistics_count_each_packet, the_clock_is_that_of_the_last_tick, ticks_stand, tries_stand,
 };
 pub use notes::{Found, Note, Notes, Offer, Put, Stats, Tried, Unput};
+pub use noting::{noted_put, noted_try};
 pub use sizes::{due, need};
 pub use tallying::{StatsList, Tally, tally_notes};

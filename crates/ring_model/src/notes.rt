@@ -1,5 +1,7 @@
 //! One note for each event of a ring: what was asked of it, what its next status word said, what
 //! came of it.
+ghost use Rattle.std.specs.Prelude.{◌≡◌, ◌≤◌, length, take};
+
 use frame_view::{Frame, ItemList};
 
 /// A frame that a ring is asked to keep.
@@ -13,6 +15,17 @@ pub struct Offer {
     pub hash: u32,
     /// The packet type, 0 to 3.
     pub pkttype: u8,
+}
+
+impl Offer {
+    /// The bytes of the frame that are to be kept.
+    pub fn captured(&self) -> &[u8]
+        requires { self.now.snap ≤ length self.now.frame.bytes }
+        ensures { result.now ≡ take self.now.snap self.now.frame.bytes }
+    {
+        let (kept, _) = self.frame.bytes.as_slice().split_at(self.snap as usize);
+        kept
+    }
 }
 
 /// What a load of the next block's status word found.

@@ -7,13 +7,14 @@ use Rattle.std.proofs.lemmas.List.{drop-drop, length-drop, length-take-le}
 use Rattle.frame_view.specs.Headers.{address_of}
 use Rattle.frame_view.specs.Vlan.{is_tpid}
 use Rattle.frame_view.specs.declared.frames.Tag.{Tag}
+use Rattle.tp_layout.specs.Checks.{address_tests}
 use Rattle.tp_layout.specs.Packets.{address_rows, tci_of, tpid_may, tpid_of}
 use Rattle.tp_layout.specs.Rows.{bytes_of, network_at, number_at, zeros}
 use Rattle.tp_layout.specs.declared.requests.RingRequest.{RingRequest}
 use Rattle.tp_layout.proofs.Bytes.{IsBytes, all_bytes, network_two, number_fits, number_one}
 use Rattle.tp_layout.proofs.Tables.{AllRead, bytes_read, zeros_read}
 use Rattle.tp_layout.proofs.Walks.{or_none, unless_none}
-use Rattle.slot_layout.specs.SlotFaults.{is_slot_status, slot_address_fault, slot_head_fault, slot_snap_may, slot_text_fault, slot_vlan_fault}
+use Rattle.slot_layout.specs.SlotFaults.{is_slot_status, slot_head_fault, slot_snap_may, slot_text_fault, slot_vlan_fault}
 use Rattle.slot_layout.specs.SlotTexts.{HasSlotText, IsLawfulSlot, slot_header_rows, slot_packet_at, slot_status_may, slot_tag_at, slot_text}
 use Rattle.slot_layout.proofs.SlotNumbers.{length-slot_text}
 
@@ -68,8 +69,8 @@ record Address (bytes : List ℕ) : Type 0 where
   pkttype : number_at 1 42 bytes ≤ 3
   halen : number_at 1 43 bytes ≡ 6
 
-address : (bytes : List ℕ) → slot_address_fault bytes ≡ None → Address bytes
-unfolding slot_address_fault
+address : (bytes : List ℕ) → address_tests 0 32 bytes ≡ None → Address bytes
+unfolding address_tests
 address bytes e =
     let a = unless_none (number_at 2 32 bytes == 17) _ _ _ e in
     let b = unless_none (number_at 4 36 bytes == 1) _ _ _ a.1 in

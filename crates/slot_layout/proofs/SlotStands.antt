@@ -7,6 +7,7 @@ use Rattle.std.proofs.lemmas.Bool.{and_from, eq-eqb, le-leb}
 use Rattle.std.proofs.lemmas.List.{append-nil, take_at}
 use Rattle.frame_view.specs.Headers.{address_of}
 use Rattle.frame_view.specs.declared.frames.Packet.{Packet}
+use Rattle.tp_layout.specs.Checks.{address_tests}
 use Rattle.tp_layout.specs.Packets.{tci_of, tpid_may, tpid_of}
 use Rattle.tp_layout.specs.Rows.{network_at, number_at}
 use Rattle.tp_layout.specs.declared.error.LayoutError.{LayoutError}
@@ -15,7 +16,7 @@ use Rattle.tp_layout.proofs.Bytes.{network_two, number_one, six_bytes}
 use Rattle.tp_layout.proofs.Opens.{split}
 use Rattle.tp_layout.proofs.PacketTexts.{pass}
 use Rattle.tp_layout.proofs.Tables.{zeros_passed}
-use Rattle.slot_layout.specs.SlotFaults.{is_slot_status, slot_address_fault, slot_head_fault, slot_snap_may, slot_text_fault, slot_vlan_fault}
+use Rattle.slot_layout.specs.SlotFaults.{is_slot_status, slot_head_fault, slot_snap_may, slot_text_fault, slot_vlan_fault}
 use Rattle.slot_layout.specs.SlotLaws.{HaveOneSlotText, SlotSaid}
 use Rattle.slot_layout.specs.SlotTexts.{IsLawfulSlot, SlotBegins, SlotBeginsLawfully, slot_packet_at, slot_tag_at, slot_text}
 use Rattle.slot_layout.proofs.SlotNumbers.{filled_status, may_tpid, numbers, tag_back}
@@ -28,7 +29,7 @@ pub record SlotStands (shape : RingRequest) (status : ℕ) (packet : Packet) (by
 
 pub slot_stands : (shape : RingRequest) (status : ℕ) (packet : Packet) (bytes rest : List ℕ) → IsLawfulSlot shape status packet
     → bytes ≡ slot_text status packet ++ rest → SlotStands shape status packet bytes
-unfolding slot_packet_at slot_text_fault slot_head_fault slot_vlan_fault slot_address_fault
+unfolding slot_packet_at slot_text_fault slot_head_fault slot_vlan_fault address_tests
 slot_stands shape status packet bytes rest lawful e =
     let n = numbers shape status packet bytes rest lawful e in
     let sound = lawful.sound in
@@ -66,7 +67,7 @@ slot_stands shape status packet bytes rest lawful e =
     pass (number_at 2 24 bytes == tci_of (slot_tag_at bytes)) _ _ _ (eq-eqb _ _ (tci ∙ ap tci_of (sym tag)))
     (pass ((number_at 2 26 bytes == tpid_of (slot_tag_at bytes)) && tpid_may (slot_tag_at bytes)) _ _ _
     (and_from _ _ (eq-eqb _ _ (tpid ∙ ap tpid_of (sym tag))) (ap tpid_may tag ∙ may_tpid packet.tag sound.tag)) refl) in
-    let address : slot_address_fault bytes ≡ None =
+    let address : address_tests 0 32 bytes ≡ None =
     pass (number_at 2 32 bytes == 17) _ _ _ (eq-eqb _ _ a.0)
     (pass (number_at 4 36 bytes == 1) _ _ _ (eq-eqb _ _ a.1.1.1.0)
     (pass (number_at 2 40 bytes == 1) _ _ _ (eq-eqb _ _ a.1.1.1.1.0)

@@ -3,3 +3,4 @@ pub mod SlotTexts
 pub mod SlotFaults
 pub mod SlotDump
 pub mod SlotLaws
+pub mod SlotsInside

@@ -1,7 +1,7 @@
 -- What a reader of a slot refuses: the first test that fails, with its place. Places are in bytes.
 use Rattle.std.specs.Prelude.{ℕ, ◌-◌, Bool, ◌||◌, ◌&&◌, ◌==◌, nat_le, List, Option, None}
 use Rattle.std.specs.Option.{option_or}
-use Rattle.tp_layout.specs.Checks.{unless}
+use Rattle.tp_layout.specs.Checks.{address_tests, unless}
 use Rattle.tp_layout.specs.Packets.{tci_of, tpid_may, tpid_of}
 use Rattle.tp_layout.specs.Rows.{first_fault, number_at, zeros}
 use Rattle.tp_layout.specs.declared.error.LayoutError.{LayoutError}
@@ -34,19 +34,11 @@ slot_vlan_fault bytes =
     unless (number_at 2 24 bytes == tci_of (slot_tag_at bytes)) Field 24
     (unless ((number_at 2 26 bytes == tpid_of (slot_tag_at bytes)) && tpid_may (slot_tag_at bytes)) Field 26 None)
 
--- the tests of sockaddr_ll: sll_family, sll_ifindex, sll_hatype, sll_pkttype, sll_halen
-unfoldable pub slot_address_fault : List ℕ → Option LayoutError
-slot_address_fault bytes =
-    unless (number_at 2 32 bytes == 17) Field 32
-    (unless (number_at 4 36 bytes == 1) Field 36
-    (unless (number_at 2 40 bytes == 1) Field 40
-    (unless (nat_le (number_at 1 42 bytes) 3) Field 42
-    (unless (number_at 1 43 bytes == 6) Field 43 None))))
-
--- the first fault of a slot; padding, the end of the address and the gap are zeros, each byte a field of its own
+-- the first fault of a slot; the tests of sockaddr_ll are those of a packet in a block; padding, the end of the address
+-- and the gap are zeros, each byte a field of its own
 unfoldable pub slot_text_fault : RingRequest → List ℕ → Option LayoutError
 slot_text_fault shape bytes =
     option_or (slot_head_fault shape bytes)
     (option_or (slot_vlan_fault bytes)
     (option_or (first_fault 0 28 (zeros 28 4) bytes)
-    (option_or (slot_address_fault bytes) (first_fault 0 50 (zeros 50 16) bytes))))
+    (option_or (address_tests 0 32 bytes) (first_fault 0 50 (zeros 50 16) bytes))))

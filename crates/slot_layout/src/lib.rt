@@ -3,7 +3,6 @@
 
 mod checking;
 mod contents;
-mod fields;
 mod laws;
 mod numbers;
 mod packet_fields;
@@ -12,6 +11,6 @@ mod ring_slots;
 mod writing;
 
 pub use laws::{a_checked_ring_is_bounded, a_slot_text_says_one_thing};
-pub use reading::read_slot;
+pub use reading::{packet_of, read_slot};
 pub use ring_slots::{Slot, slots};
 pub use writing::write_slot;

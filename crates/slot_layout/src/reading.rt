@@ -1,15 +1,16 @@
 //! How a slot is read.
 ghost use Rattle.std.specs.Prelude.{◌≡◌, ◌+◌, ◌≤◌, ℕ, IfOk, IsOk, length};
-ghost use Rattle.frame_view.specs.Headers.{address_of};
 ghost use Rattle.frame_view.specs.declared.frames.Packet.{Packet};
 ghost use Rattle.slot_layout.specs.SlotFaults.{slot_text_fault};
 ghost use Rattle.slot_layout.specs.SlotTexts.{HasSlotText, SlotBegins, SlotBeginsLawfully, slot_packet_at, slot_tag_at};
 ghost use Rattle.tp_layout.specs.Checks.{seen, told};
 ghost use Rattle.tp_layout.specs.Rows.{number_at};
+ghost use Rattle.tp_layout.specs.declared.requests.RingRequest.{RingRequest};
 
 use crate::checking::check_fields;
-use crate::fields::{network_u16_at, u8_at, u16_at, u32_at};
 use frame_view::Tag;
+use tp_layout::fields::{u16_at, u32_at};
+use tp_layout::link_addresses::link_address_at;
 use tp_layout::{LayoutError, PacketRef, Shape};
 
 /// Tests a slot, and gives its packet. It is Ok exactly where the slot begins with a lawful text; else it reports the first
@@ -26,13 +27,23 @@ pub fn read_slot<'a>(bytes: &'a [u8], shape: &Shape) -> Result<PacketRef<'a>, La
     Ok(packet_at(bytes))
 }
 
-/// The packet of a slot that passed its tests.
+/// The packet of bytes that begin with a lawful text of a slot. The text isn't tested again.
+pub fn packet_of(bytes: &[u8]) -> PacketRef<'_>
+    requires { (shape : RingRequest) × (status : ℕ) × SlotBeginsLawfully shape status bytes.now }
+    ensures { seen result ≡ slot_packet_at bytes.now }
+{
+    packet_at(bytes)
+}
+
+/// The packet of a slot whose data is within the bytes.
 #[tactic(auto, unfolding(crate::specs::SlotTexts::slot_packet_at))]
 fn packet_at(bytes: &[u8]) -> PacketRef<'_>
     requires { 66 + number_at 4 8 bytes.now ≤ length bytes.now }
     ensures { seen result ≡ slot_packet_at bytes.now }
 {
     let snap = u32_at(bytes, 8);
+    let link = link_address_at(bytes, 32);
+    let addr = link.addr;
     let (_, rest) = bytes.split_at(66);
     let (captured, _) = rest.split_at(snap as usize);
     PacketRef {
@@ -40,9 +51,9 @@ fn packet_at(bytes: &[u8]) -> PacketRef<'_>
         nsec: u32_at(bytes, 20),
         wire: u32_at(bytes, 4),
         rxhash: 0,
-        protocol: network_u16_at(bytes, 34),
-        pkttype: u8_at(bytes, 42),
-        addr: address_at(bytes, 44),
+        protocol: link.protocol,
+        pkttype: link.pkttype,
+        addr,
         bytes: captured,
         tag: tag_at(bytes),
     }
@@ -61,19 +72,4 @@ pub(crate) fn tag_at(bytes: &[u8]) -> Option<Tag>
         tpid: u16_at(bytes, 26),
         tci: u16_at(bytes, 24),
     })
-}
-
-/// The six bytes of an address from a place.
-fn address_at(bytes: &[u8], at: usize) -> [u8; 6]
-    requires { at + 6 ≤ length bytes.now }
-    ensures { result ≡ address_of at bytes.now }
-{
-    [
-        bytes[at],
-        bytes[at + 1],
-        bytes[at + 2],
-        bytes[at + 3],
-        bytes[at + 4],
-        bytes[at + 5],
-    ]
 }

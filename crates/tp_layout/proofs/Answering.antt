@@ -6,7 +6,7 @@ use Rattle.std.proofs.Math.Bridge.{le_prop}
 use Rattle.std.specs.Option.{option_or}
 use Rattle.std.proofs.lemmas.Bool.{cases_lt, and_parts, and_from, ltb-true, leb-true, le-leb, lt-ltb, eqb-true, eq-eqb}
 use Rattle.std.proofs.lemmas.Option.{none-some}
-use Rattle.std.proofs.lemmas.List.{append-nil, length-drop, length-replicate, take_all, take-append-le, drop-append-le, get_or_append_left, get_or-append_right, get_or-replicate, get_or_past}
+use Rattle.std.proofs.lemmas.List.{append-nil, length-drop, length-replicate, length-take, take_all, take-append-le, drop-append-le, get_or_append_left, get_or-append_right, get_or-replicate, get_or_past}
 use Rattle.byteorder.specs.Numbers.{little_from-append}
 use Rattle.frame_view.specs.declared.frames.Packet.{Packet}
 use Rattle.tp_layout.specs.declared.error.LayoutError.{LayoutError}
@@ -22,7 +22,7 @@ use Rattle.tp_layout.specs.Checks.{unless, told, EndsWithin, fits_of, head_tests
 use Rattle.tp_layout.specs.Reading.{IsTextOf}
 use Rattle.tp_layout.proofs.Bytes.{IsBytes, bytes-drop, bytes-take}
 use Rattle.tp_layout.proofs.Chains.{fixed, none, head_tests_are, packets_tests_are, zeros_step}
-use Rattle.tp_layout.proofs.Walks.{head}
+use Rattle.tp_layout.proofs.Walks.{head, or_none}
 use Rattle.tp_layout.proofs.Opens.{split, within, needs-cons, length-block_text}
 use Rattle.tp_layout.proofs.BlockTexts.{BlockReads, block_reads, BlockStands, block_stands, first_time_in}
 
@@ -326,3 +326,81 @@ surely_ok (Ok ps) shape number status bytes only begins = refl
 surely_ok (Err fault) shape number status bytes only begins =
     let never : ⊥ = ∥∥₁_elim begins (Prim.hlevel) (λ p. none-some _ (sym (ap told (only number status p.0 p.1)))) in
     absurd never
+
+-- ---- bytes that begin with a lawful text
+
+-- what is known of them
+pub record BeginsWell (shape : RingRequest) (bytes : List ℕ) : Type 0 where
+  pub header : 48 ≤ length bytes
+  pub order : first_of shape ≤ number_at 4 20 bytes
+  pub within : number_at 4 20 bytes ≤ length bytes
+  pub tests : packets_tests (number_at 4 12 bytes) (first_of shape) (area_of shape bytes) ≡ None
+  pub small : length (area_of shape bytes) ≤ 1048576
+
+-- their packets pass the tests
+packets_pass : (shape : RingRequest) (number status : ℕ) (packets : List Packet) (bytes : List ℕ) → shape.block_size ≤ 1048576
+    → BeginsWith shape number status packets bytes → packets_tests (number_at 4 12 bytes) (first_of shape) (area_of shape bytes) ≡ None
+unfolding block_tests
+packets_pass shape number status packets bytes sound is =
+    let stood = begins_stands (end_may shape) shape number status packets bytes sound (λ end may. may) is in
+    let rest = or_none (descriptor_tests (end_may shape) shape bytes) _ stood.tests in
+    (or_none (packets_tests (number_at 4 12 bytes) (first_of shape) (area_of shape bytes)) _ rest.1).0
+
+-- no fault comes of what is lawful
+no_fault : (shape : RingRequest) (number status : ℕ) (bytes : List ℕ) (answer : Option LayoutError)
+    → ((packets : List Packet) → BeginsWith shape number status packets bytes → answer ≡ None)
+    → BeginsLawfully shape number status bytes → answer ≡ None
+no_fault shape number status bytes None passes begins = refl
+no_fault shape number status bytes (Some fault) passes begins =
+    let never : ⊥ = ∥∥₁_elim begins (Prim.hlevel) (λ p. none-some _ (sym (passes p.0 p.1))) in
+    absurd never
+
+pub begins_well : (shape : RingRequest) (number status : ℕ) (bytes : List ℕ) → shape.block_size ≤ 1048576
+    → BeginsLawfully shape number status bytes → BeginsWell shape bytes
+begins_well shape number status bytes sound begins =
+    let whole = begins_within shape number status bytes sound begins in
+    let ends : (packets : List Packet) → BeginsWith shape number status packets bytes → number_at 4 20 bytes ≡ first_of shape + needs_of packets = λ packets is.
+    (begins_stands (end_may shape) shape number status packets bytes sound (λ end may. may) is).end_is in
+    let after : first_of shape ≤ number_at 4 20 bytes = ∥∥₁_elim begins le_prop (λ p. omega (arith, ends p.0 p.1)) in
+    let fits : number_at 4 20 bytes ≤ shape.block_size = ∥∥₁_elim begins le_prop (λ p. omega (arith, ends p.0 p.1, p.1.lawful.fits)) in
+    record {
+      header = whole.0;
+      order = after;
+      within = whole.1;
+      tests = no_fault shape number status bytes _ (λ packets is. packets_pass shape number status packets bytes sound is) begins;
+      small = omega (arith, sound, fits, length-drop (first_of shape) (take (number_at 4 20 bytes) bytes), length-take (number_at 4 20 bytes) bytes);
+    }
+
+-- and are read
+pub begins_read : (shape : RingRequest) (number status : ℕ) (packets : List Packet) (bytes : List ℕ) → shape.block_size ≤ 1048576
+    → BeginsWith shape number status packets bytes → packets_of shape bytes ≡ packets
+begins_read shape number status packets bytes sound is =
+    (begins_stands (end_may shape) shape number status packets bytes sound (λ end may. may) is).packets_are
+
+-- where the packets of so many bytes may end
+abbrev ends_in : RingRequest → ℕ → ℕ → Bool
+ends_in shape size end = end_may shape end && nat_le end size
+
+ends_there : (shape : RingRequest) (size : ℕ) → EndsWithin shape (ends_in shape size) size
+ends_there shape size end fits =
+    let both = and_parts (end_may shape end) (nat_le end size) fits in
+    let outer = and_parts ((end % 8 == 0) && nat_lt (first_of shape) end) (nat_le end shape.block_size) both.0 in
+    let inner = and_parts (end % 8 == 0) (nat_lt (first_of shape) end) outer.0 in
+    (ltb-true _ _ inner.1, leb-true _ _ both.1)
+
+begins_pass : (shape : RingRequest) (number status : ℕ) (packets : List Packet) (bytes : List ℕ) → shape.block_size ≤ 1048576
+    → BeginsWith shape number status packets bytes → block_tests (ends_in shape (length bytes)) shape bytes ≡ None
+begins_pass shape number status packets bytes sound is =
+    let text = block_text shape number status packets in
+    let end = first_of shape + needs_of packets in
+    let long : end ≤ length bytes = omega (arith, within text bytes is.begins, length-block_text shape number status packets) in
+    let fit : ends_in shape (length bytes) end ≡ true =
+    and_from (end_may shape end) (nat_le end (length bytes)) (end_lawful shape number status packets is.lawful) (le-leb end (length bytes) long) in
+    (block_stands (ends_in shape (length bytes)) shape number status packets bytes (drop (length text) bytes) sound is.lawful fit (split text bytes is.begins)).tests
+
+pub begins_has : (shape : RingRequest) (number status : ℕ) (bytes : List ℕ) → IsBytes bytes → shape.block_size ≤ 1048576 → length bytes ≤ shape.block_size
+    → BeginsLawfully shape number status bytes → HasText shape bytes (packets_of shape bytes)
+begins_has shape number status bytes h sound size begins =
+    let header = (begins_within shape number status bytes sound begins).0 in
+    let passed = no_fault shape number status bytes _ (λ packets is. begins_pass shape number status packets bytes sound is) begins in
+    has_text shape bytes (block_reads (ends_in shape (length bytes)) shape bytes h header size (ends_there shape (length bytes)) passed)

@@ -86,7 +86,7 @@ header_tests_are at next bytes h =
 
 -- the address of a packet
 pub address_tests_are : (at : ℕ) (bytes : List ℕ) → IsBytes bytes
-    → first_fault at 48 (address_rows (packet_at bytes)) bytes ≡ address_tests at bytes
+    → first_fault at 48 (address_rows (packet_at bytes)) bytes ≡ address_tests at 48 bytes
 unfolding address_tests packet_at
 address_tests_are at bytes h =
     let two = network_two 50 bytes in

@@ -44,7 +44,7 @@ header_bounds at next bytes e =
     (leb-true _ _ b.0, (and_parts (number_at 2 36 bytes == tpid_of (tag_at bytes)) (tpid_may (tag_at bytes)) h.0).1)
 
 -- the bound that the address's tests keep
-address_bound : (at : ℕ) (bytes : List ℕ) → address_tests at bytes ≡ None → number_at 1 58 bytes ≤ 3
+address_bound : (at : ℕ) (bytes : List ℕ) → address_tests at 48 bytes ≡ None → number_at 1 58 bytes ≤ 3
 unfolding address_tests
 address_bound at bytes e =
     let a = unless_none (number_at 2 48 bytes == 17) _ _ _ e in
@@ -303,7 +303,7 @@ stands last at packet bytes rest small lawful e =
     (pass ((number_at 2 36 bytes == tpid_of (tag_at bytes)) && tpid_may (tag_at bytes)) _ _ _
     (and_from _ _ (eq-eqb _ _ (h.1.1.1.1.1.1.1.1.1.1.0 ∙ ap tpid_of (sym tag))) (ap tpid_may tag ∙ may_tpid packet.tag lawful.tag))
     (pass (number_at 2 38 bytes == 0) _ _ _ (eq-eqb _ _ h.1.1.1.1.1.1.1.1.1.1.1.0) refl))))))) in
-    let address : address_tests at bytes ≡ None =
+    let address : address_tests at 48 bytes ≡ None =
     pass (number_at 2 48 bytes == 17) _ _ _ (eq-eqb _ _ a.0)
     (pass (number_at 4 52 bytes == 1) _ _ _ (eq-eqb _ _ a.1.1.1.0)
     (pass (number_at 2 56 bytes == 1) _ _ _ (eq-eqb _ _ a.1.1.1.1.0)

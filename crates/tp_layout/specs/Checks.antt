@@ -46,21 +46,21 @@ header_tests at next bytes =
     (unless ((number_at 2 36 bytes == tpid_of (tag_at bytes)) && tpid_may (tag_at bytes)) Field (at + 36)
     (unless (number_at 2 38 bytes == 0) Field (at + 38) None)))))))
 
--- the tests of its sockaddr_ll
-unfoldable pub address_tests : ℕ → List ℕ → Option LayoutError
-address_tests at bytes =
-    unless (number_at 2 48 bytes == 17) Field (at + 48)
-    (unless (number_at 4 52 bytes == 1) Field (at + 52)
-    (unless (number_at 2 56 bytes == 1) Field (at + 56)
-    (unless (nat_le (number_at 1 58 bytes) 3) Field (at + 58)
-    (unless (number_at 1 59 bytes == 6) Field (at + 59) None))))
+-- the tests of the sockaddr_ll at a place of a header that itself stands at `base`
+unfoldable pub address_tests : ℕ → ℕ → List ℕ → Option LayoutError
+address_tests base at bytes =
+    unless (number_at 2 at bytes == 17) Field (base + at)
+    (unless (number_at 4 (at + 4) bytes == 1) Field (base + (at + 4))
+    (unless (number_at 2 (at + 8) bytes == 1) Field (base + (at + 8))
+    (unless (nat_le (number_at 1 (at + 10) bytes) 3) Field (base + (at + 10))
+    (unless (number_at 1 (at + 11) bytes == 6) Field (base + (at + 11)) None))))
 
 -- the tests of all fields before the data
 abbrev pub fixed_tests : ℕ → ℕ → List ℕ → Option LayoutError
 fixed_tests at next bytes =
     option_or (header_tests at next bytes)
     (option_or (first_fault at 40 (zeros 40 8) bytes)
-    (option_or (address_tests at bytes) (first_fault at 66 (zeros 66 16) bytes)))
+    (option_or (address_tests at 48 bytes) (first_fault at 66 (zeros 66 16) bytes)))
 
 -- the tests of a packet; `last` says that it is the last by num_pkts
 unfoldable pub packet_tests : Bool → ℕ → List ℕ → Option LayoutError

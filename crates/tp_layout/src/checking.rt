@@ -1,16 +1,14 @@
 //! The tests of a block, in the order in which their faults are reported.
 ghost use Rattle.std.specs.Prelude.{◌≡◌, ◌+◌, ◌-◌, ◌^◌, ◌≤◌, ◌<◌, true, IfOk, length};
 ghost use Rattle.tp_layout.specs.Blocks.{is_status};
-ghost use Rattle.tp_layout.specs.Checks.{address_tests, fits_of, fixed_tests, head_tests, header_tests, packet_tests, told};
+ghost use Rattle.tp_layout.specs.Checks.{fits_of, fixed_tests, head_tests, header_tests, packet_tests, told};
 ghost use Rattle.tp_layout.specs.Faults.{next_of, snap_may};
 ghost use Rattle.tp_layout.specs.Packets.{need_at};
 ghost use Rattle.tp_layout.specs.Rows.{first_fault, number_at, zeros};
 
-use crate::fields::{u8_at, u16_at, u32_at, u64_at};
-use crate::numbers::{
-    ADDRESS_SIZE, AF_PACKET, ARPHRD_ETHER, DESCRIPTOR, INTERFACE, LAST_NANOSECOND,
-    LAST_PACKET_TYPE, MAC, NET, VERSION,
-};
+use crate::fields::{u16_at, u32_at, u64_at};
+use crate::link_addresses::check_link_address;
+use crate::numbers::{DESCRIPTOR, LAST_NANOSECOND, MAC, NET, VERSION};
 use crate::packet_refs::{tag_at, tpid_may, vlan_fields};
 use crate::{LayoutError, LayoutKind, Shape};
 use ring_model::need;
@@ -77,9 +75,10 @@ fn ends_well(end: u32, shape: &Shape, ends: Ends) -> bool
     }
 }
 
-/// Tests that the bytes from one place to another are zeros, of a header that stands at `base`.
+/// Tests that the bytes from one place to another are zeros, of a header that itself stands at `base`; a fault is told
+/// with its place from there.
 #[tactic(auto, using(crate::proofs::Chains::zero_rules))]
-pub(crate) fn check_zeros(bytes: &[u8], base: u32, from: u32, to: u32) -> Result<(), LayoutError>
+pub fn check_zeros(bytes: &[u8], base: u32, from: u32, to: u32) -> Result<(), LayoutError>
     requires order { from ≤ to }
     requires within { to ≤ length bytes.now }
     requires small { base + to < 2 ^ 32 }
@@ -136,7 +135,7 @@ fn check_fixed(bytes: &[u8], at: u32, last: bool) -> Result<(), LayoutError>
 {
     check_header(bytes, at, next_of(bytes, last))?;
     check_zeros(bytes, at, 40, 48)?;
-    check_address(bytes, at)?;
+    check_link_address(bytes, at, 48)?;
     check_zeros(bytes, at, 66, 82)
 }
 
@@ -181,31 +180,6 @@ fn check_header(bytes: &[u8], at: u32, next: u32) -> Result<(), LayoutError>
     }
     if u16_at(bytes, 38) != 0 {
         return Err(LayoutError::new(LayoutKind::Field, at + 38));
-    }
-    Ok(())
-}
-
-/// Tests the fields of `struct sockaddr_ll`.
-#[tactic(auto, unfolding(crate::specs::Checks::address_tests))]
-fn check_address(bytes: &[u8], at: u32) -> Result<(), LayoutError>
-    requires small { at ≤ 1048576 }
-    requires header { 82 ≤ length bytes.now }
-    ensures { told result ≡ address_tests at bytes.now }
-{
-    if u16_at(bytes, 48) != AF_PACKET {
-        return Err(LayoutError::new(LayoutKind::Field, at + 48));
-    }
-    if u32_at(bytes, 52) != INTERFACE {
-        return Err(LayoutError::new(LayoutKind::Field, at + 52));
-    }
-    if u16_at(bytes, 56) != ARPHRD_ETHER {
-        return Err(LayoutError::new(LayoutKind::Field, at + 56));
-    }
-    if u8_at(bytes, 58) > LAST_PACKET_TYPE {
-        return Err(LayoutError::new(LayoutKind::Field, at + 58));
-    }
-    if u8_at(bytes, 59) != ADDRESS_SIZE {
-        return Err(LayoutError::new(LayoutKind::Field, at + 59));
     }
     Ok(())
 }

@@ -102,7 +102,7 @@ pub struct LayoutError {
 
 impl LayoutError {
     /// The fault of this kind at this place.
-    pub(crate) fn new(kind: LayoutKind, at: u32) -> LayoutError
+    pub fn new(kind: LayoutKind, at: u32) -> LayoutError
         ensures { result ≡ record { kind = kind; at = at } }
     {
         LayoutError { kind, at }

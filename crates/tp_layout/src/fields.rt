@@ -7,7 +7,7 @@ ghost use Rattle.tp_layout.specs.Writing.{put};
 use byteorder::{BigEndian, ByteOrder, LittleEndian};
 
 /// Writes bytes over those from a place on.
-pub(crate) fn put_bytes(bytes: &mut [u8], at: usize, from: &[u8])
+pub fn put_bytes(bytes: &mut [u8], at: usize, from: &[u8])
     requires { at + length from.now ≤ length bytes.old }
     ensures written { bytes.new ≡ put at from.now bytes.old }
     ensures typed { (i : ℕ) → slice_index from.now i < 256 }
@@ -18,7 +18,7 @@ pub(crate) fn put_bytes(bytes: &mut [u8], at: usize, from: &[u8])
 }
 
 /// Writes zeros over so many bytes from a place on.
-pub(crate) fn put_zeros(bytes: &mut [u8], at: usize, count: usize)
+pub fn put_zeros(bytes: &mut [u8], at: usize, count: usize)
     requires { at + count ≤ length bytes.old }
     ensures { bytes.new ≡ put at (replicate count 0) bytes.old }
 {
@@ -28,7 +28,7 @@ pub(crate) fn put_zeros(bytes: &mut [u8], at: usize, count: usize)
 }
 
 /// Writes a number of two bytes at a place.
-pub(crate) fn put_u16(bytes: &mut [u8], at: usize, number: u16)
+pub fn put_u16(bytes: &mut [u8], at: usize, number: u16)
     requires { at + 2 ≤ length bytes.old }
     ensures { bytes.new ≡ put at (little_bytes 2 number) bytes.old }
 {
@@ -37,7 +37,7 @@ pub(crate) fn put_u16(bytes: &mut [u8], at: usize, number: u16)
 }
 
 /// Writes a number of two bytes at a place, in network order.
-pub(crate) fn put_network_u16(bytes: &mut [u8], at: usize, number: u16)
+pub fn put_network_u16(bytes: &mut [u8], at: usize, number: u16)
     requires { at + 2 ≤ length bytes.old }
     ensures { bytes.new ≡ put at (big_bytes 2 number) bytes.old }
 {
@@ -46,7 +46,7 @@ pub(crate) fn put_network_u16(bytes: &mut [u8], at: usize, number: u16)
 }
 
 /// Writes a number of four bytes at a place.
-pub(crate) fn put_u32(bytes: &mut [u8], at: usize, number: u32)
+pub fn put_u32(bytes: &mut [u8], at: usize, number: u32)
     requires { at + 4 ≤ length bytes.old }
     ensures written { bytes.new ≡ put at (little_bytes 4 number) bytes.old }
     ensures typed { number < 2 ^ 32 }
@@ -56,7 +56,7 @@ pub(crate) fn put_u32(bytes: &mut [u8], at: usize, number: u32)
 }
 
 /// Writes a number of eight bytes at a place.
-pub(crate) fn put_u64(bytes: &mut [u8], at: usize, number: u64)
+pub fn put_u64(bytes: &mut [u8], at: usize, number: u64)
     requires { at + 8 ≤ length bytes.old }
     ensures { bytes.new ≡ put at (little_bytes 8 number) bytes.old }
 {
@@ -66,7 +66,7 @@ pub(crate) fn put_u64(bytes: &mut [u8], at: usize, number: u64)
 
 /// The number in the two bytes from a place.
 #[tactic(auto, unfolding(crate::specs::Rows::number_at))]
-pub(crate) fn u16_at(bytes: &[u8], at: usize) -> u16
+pub fn u16_at(bytes: &[u8], at: usize) -> u16
     requires { at + 2 ≤ length bytes.now }
     ensures { result ≡ number_at 2 at bytes.now }
 {
@@ -76,7 +76,7 @@ pub(crate) fn u16_at(bytes: &[u8], at: usize) -> u16
 
 /// The number in the two bytes from a place, in network order.
 #[tactic(auto, unfolding(crate::specs::Rows::network_at))]
-pub(crate) fn network_u16_at(bytes: &[u8], at: usize) -> u16
+pub fn network_u16_at(bytes: &[u8], at: usize) -> u16
     requires { at + 2 ≤ length bytes.now }
     ensures { result ≡ network_at 2 at bytes.now }
 {
@@ -86,7 +86,7 @@ pub(crate) fn network_u16_at(bytes: &[u8], at: usize) -> u16
 
 /// The number in the four bytes from a place.
 #[tactic(auto, unfolding(crate::specs::Rows::number_at))]
-pub(crate) fn u32_at(bytes: &[u8], at: usize) -> u32
+pub fn u32_at(bytes: &[u8], at: usize) -> u32
     requires { at + 4 ≤ length bytes.now }
     ensures { result ≡ number_at 4 at bytes.now }
 {
@@ -96,7 +96,7 @@ pub(crate) fn u32_at(bytes: &[u8], at: usize) -> u32
 
 /// The number in the eight bytes from a place.
 #[tactic(auto, unfolding(crate::specs::Rows::number_at))]
-pub(crate) fn u64_at(bytes: &[u8], at: usize) -> u64
+pub fn u64_at(bytes: &[u8], at: usize) -> u64
     requires { at + 8 ≤ length bytes.now }
     ensures { result ≡ number_at 8 at bytes.now }
 {
@@ -106,7 +106,7 @@ pub(crate) fn u64_at(bytes: &[u8], at: usize) -> u64
 
 /// The number in the byte at a place.
 #[tactic(auto, unfolding(crate::specs::Rows::number_at))]
-pub(crate) fn u8_at(bytes: &[u8], at: usize) -> u8
+pub fn u8_at(bytes: &[u8], at: usize) -> u8
     requires { at + 1 ≤ length bytes.now }
     ensures { result ≡ number_at 1 at bytes.now }
 {

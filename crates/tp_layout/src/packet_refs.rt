@@ -1,12 +1,13 @@
 //! A packet that is read in place.
-ghost use Rattle.std.specs.Prelude.{◌≡◌, ◌+◌, ◌^◌, ◌<◌, ◌≤◌, IfSome, length};
-ghost use Rattle.frame_view.specs.Headers.{address_of};
+ghost use Rattle.std.specs.Prelude.{◌≡◌, ◌+◌, ◌^◌, ◌<◌, ◌≤◌, IfOk, IfSome, length};
 ghost use Rattle.tp_layout.specs.Reading.{seen};
 ghost use Rattle.tp_layout.specs.Packets.{packet_at, status_of_tag, tag_at, tci_of, tpid_may, tpid_of};
 ghost use Rattle.tp_layout.specs.Rows.{number_at};
 
-use crate::fields::{network_u16_at, u8_at, u16_at, u32_at};
-use frame_view::Tag;
+use crate::fields::{u16_at, u32_at};
+use crate::link_addresses::link_address_at;
+use frame_view::{ByteList, Memory, Packet, Tag};
+use std::alloc::Global;
 
 /// A packet of a block, whose data is lent by the block.
 #[derive(Clone, Copy, Debug, PartialEq, Eq)]
@@ -31,6 +32,25 @@ pub struct PacketRef<'a> {
     pub tag: Option<Tag>,
 }
 
+impl PacketRef<'_> {
+    /// A copy of the packet, whose data is copied once.
+    pub fn to_packet(&self, alloc: Global) -> Result<Packet, Memory>
+        ensures { IfOk result (λ copy. copy ≡ seen self.now) }
+    {
+        Ok(Packet {
+            sec: self.sec,
+            nsec: self.nsec,
+            wire: self.wire,
+            rxhash: self.rxhash,
+            protocol: self.protocol,
+            pkttype: self.pkttype,
+            addr: self.addr,
+            bytes: ByteList::from_vec(self.bytes.to_vec(alloc)?),
+            tag: self.tag,
+        })
+    }
+}
+
 /// The packet at the start of the bytes.
 #[tactic(auto, unfolding(crate::specs::Packets::packet_at))]
 pub(crate) fn packet_at(bytes: &[u8]) -> PacketRef<'_>
@@ -38,6 +58,8 @@ pub(crate) fn packet_at(bytes: &[u8]) -> PacketRef<'_>
     ensures { seen result ≡ packet_at bytes.now }
 {
     let snap = u32_at(bytes, 12);
+    let link = link_address_at(bytes, 48);
+    let addr = link.addr;
     let (_, rest) = bytes.split_at(82);
     let (captured, _) = rest.split_at(snap as usize);
     PacketRef {
@@ -45,9 +67,9 @@ pub(crate) fn packet_at(bytes: &[u8]) -> PacketRef<'_>
         nsec: u32_at(bytes, 8),
         wire: u32_at(bytes, 16),
         rxhash: u32_at(bytes, 28),
-        protocol: network_u16_at(bytes, 50),
-        pkttype: u8_at(bytes, 58),
-        addr: address_at(bytes, 60),
+        protocol: link.protocol,
+        pkttype: link.pkttype,
+        addr,
         bytes: captured,
         tag: tag_at(bytes),
     }
@@ -85,26 +107,11 @@ pub(crate) fn vlan_fields(tag: Option<Tag>) -> (u32, u32, u16)
 }
 
 /// Whether a tag's protocol identifier is one of IEEE 802.1Q or 802.1ad.
-pub(crate) fn tpid_may(tag: Option<Tag>) -> bool
+pub fn tpid_may(tag: Option<Tag>) -> bool
     ensures { result ≡ tpid_may tag }
 {
     match tag {
         Some(tag) => tag.tpid == 0x8100 || tag.tpid == 0x88a8,
         None => true,
     }
-}
-
-/// The six bytes of an address from a place.
-fn address_at(bytes: &[u8], at: usize) -> [u8; 6]
-    requires { at + 6 ≤ length bytes.now }
-    ensures { result ≡ address_of at bytes.now }
-{
-    [
-        bytes[at],
-        bytes[at + 1],
-        bytes[at + 2],
-        bytes[at + 3],
-        bytes[at + 4],
-        bytes[at + 5],
-    ]
 }

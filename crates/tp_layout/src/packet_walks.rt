@@ -1,11 +1,13 @@
 //! The packets of a block that passed its tests, one after another.
-ghost use Rattle.std.specs.Prelude.{◌≡◌, ◌≤◌, length};
+ghost use Rattle.std.specs.Prelude.{◌≡◌, ◌≤◌, ◌++◌, length, take, OnOk};
 ghost use Rattle.tp_layout.specs.Faults.{packets_in};
 ghost use Rattle.tp_layout.specs.Checks.{Stands};
 
 use crate::fields::u32_at;
 use crate::packet_refs::{PacketRef, packet_at};
+use frame_view::{Memory, Packet};
 use ring_model::need;
+use std::alloc::Global;
 use std::marker::Model;
 
 /// The packets of a block, read in place. Contracts see it as the list of the packets that are left.
@@ -38,6 +40,17 @@ impl<'a> PacketWalk<'a> {
         ensures { result ≡ packets_in left rest.now }
     {
         PacketWalk { left, rest }
+    }
+
+    /// Appends copies of all packets. After `Memory` some of them stand after those that were there.
+    pub fn push_copies(self, alloc: Global, into: &mut Vec<Packet>) -> Result<(), Memory>
+        ensures copies { OnOk result (into.new.items ≡ into.old.items ++ self.entry) }
+        ensures front { take (length into.old.items) into.new.items ≡ into.old.items }
+    {
+        for packet in self {
+            into.push(packet.to_packet(alloc)?)?;
+        }
+        Ok(())
     }
 }
 

@@ -1,14 +1,14 @@
 //! A packet written into a block, field by field.
-ghost use Rattle.std.specs.Prelude.{◌≡◌, ◌+◌, ◌^◌, ◌<◌, ◌≤◌, ℕ, if◌then◌else◌, length, slice_index, take};
-ghost use Rattle.frame_view.specs.declared.frames.Packet.{Packet};
+ghost use Rattle.std.specs.Prelude.{◌≡◌, ◌+◌, ◌≤◌, if◌then◌else◌, length};
 ghost use Rattle.ring_model.specs.Offers.{packet_of};
 ghost use Rattle.ring_model.specs.Sizes.{need_of};
-ghost use Rattle.tp_layout.specs.Packets.{IsTyped, address_rows, header_rows, packet_text};
+ghost use Rattle.tp_layout.specs.Packets.{IsTyped, header_rows, packet_text};
 ghost use Rattle.tp_layout.specs.Rows.{bytes_of};
 ghost use Rattle.tp_layout.specs.Writing.{HasNumbers, IsWritable, put};
 
-use crate::fields::{put_bytes, put_network_u16, put_u16, put_u32, put_zeros};
-use crate::numbers::{ADDRESS_SIZE, AF_PACKET, ARPHRD_ETHER, INTERFACE, MAC, NET};
+use crate::fields::{put_bytes, put_u16, put_u32, put_zeros};
+use crate::link_addresses::put_link_address;
+use crate::numbers::{MAC, NET};
 use crate::packet_refs::vlan_fields;
 use frame_view::link_header;
 use ring_model::{Offer, need};
@@ -28,19 +28,10 @@ pub(crate) fn put_packet(bytes: &mut [u8], at: usize, offer: &Offer, fill: bool)
     let snap = offer.snap as usize;
     put_header(bytes, at, need, offer, fill);
     put_zeros(bytes, at + 40, 8);
-    put_address(bytes, at + 48, link.protocol, offer.pkttype, &link.from);
+    put_link_address(bytes, at + 48, link.protocol, offer.pkttype, &link.from);
     put_zeros(bytes, at + 66, 16);
-    put_bytes(bytes, at + 82, captured(offer));
+    put_bytes(bytes, at + 82, offer.captured());
     put_zeros(bytes, at + 82 + snap, need as usize - 82 - snap);
-}
-
-/// The bytes of an offer's frame that are kept.
-fn captured(offer: &Offer) -> &[u8]
-    requires { offer.now.snap ≤ length offer.now.frame.bytes }
-    ensures { result.now ≡ take offer.now.snap offer.now.frame.bytes }
-{
-    let (kept, _) = offer.frame.bytes.as_slice().split_at(offer.snap as usize);
-    kept
 }
 
 /// Writes the fields of `struct tpacket3_hdr`.
@@ -71,22 +62,4 @@ fn rxhash(offer: &Offer, fill: bool) -> u32
     ensures { result ≡ (if fill then offer.now.hash else 0) }
 {
     if fill { offer.hash } else { 0 }
-}
-
-/// Writes the fields of `struct sockaddr_ll`, up to the last byte of the address.
-fn put_address(bytes: &mut [u8], at: usize, protocol: u16, pkttype: u8, from: &[u8])
-    requires fits { at + 18 ≤ length bytes.old }
-    requires six { length from.now ≡ 6 }
-    ensures written { (packet : Packet)
-        → packet.protocol ≡ protocol → packet.pkttype ≡ pkttype → packet.addr ≡ from.now
-        → bytes.new ≡ put at (bytes_of (address_rows packet)) bytes.old }
-    ensures protocol { protocol < 2 ^ 16 }
-    ensures typed { (i : ℕ) → slice_index from.now i < 256 }
-{
-    put_u16(bytes, at, AF_PACKET);
-    put_network_u16(bytes, at + 2, protocol);
-    put_u32(bytes, at + 4, INTERFACE);
-    put_u16(bytes, at + 8, ARPHRD_ETHER);
-    put_bytes(bytes, at + 10, &[pkttype, ADDRESS_SIZE]);
-    put_bytes(bytes, at + 12, from);
 }

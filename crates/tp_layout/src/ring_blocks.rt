@@ -1,17 +1,16 @@
 //! The blocks of a ring.
-ghost use Rattle.std.specs.Prelude.{◌≡◌, ◌+◌, ◌≤◌, IfOk, [], length, replicate};
+ghost use Rattle.std.specs.Prelude.{◌≡◌, ◌+◌, ◌≤◌, IfOk, length, replicate};
 ghost use Rattle.std.specs.Arc.{arc_value};
-ghost use Rattle.std.specs.Vec.{vec_capacity};
 ghost use Rattle.ring_model.specs.Offers.{packet_of};
 ghost use Rattle.ring_model.specs.Sizes.{need_of};
 ghost use Rattle.tp_layout.specs.Packets.{IsTyped, packet_text};
 ghost use Rattle.tp_layout.specs.Requests.{IsShape, first_of};
-ghost use Rattle.tp_layout.specs.Writing.{IsWritable, bytes_or_zeros, closed, open_header, put, zero_block};
+ghost use Rattle.tp_layout.specs.Writing.{IsWritable, closed, open_header, put, zero_block};
 ghost use Rattle.tp_layout.specs.declared.requests.RingRequest.{RingRequest};
 
 use crate::header_writing::{put_closing, put_empty};
 use crate::packet_writing::put_packet;
-use crate::{Closing, Shape};
+use crate::{Closing, LazyBytes, Shape, zeros};
 use frame_view::Memory;
 use ring_model::Offer;
 use std::alloc::Global;
@@ -23,10 +22,8 @@ use std::sync::Arc;
 pub struct Block {
     /// The shape of the ring's blocks.
     shape: Shape,
-    /// Its bytes, as many as the shape says. Until its first write there are none, and room for all of them.
-    bytes: Vec<u8>,
-    /// As many zeros, which the blocks of a ring share: what a block holds that was never written.
-    zeros: Arc<Vec<u8>, Global>,
+    /// Its bytes, as many as the shape says, with room for all of them.
+    bytes: LazyBytes,
 }
 
 impl Model for Block {
@@ -48,9 +45,6 @@ impl Block {
         ensures size { length result.now ≡ self.now.shape.block_size }
         ensures sound { IsShape self.now.shape }
     {
-        if self.bytes.is_empty() {
-            return self.zeros.as_slice();
-        }
         self.bytes.as_slice()
     }
 
@@ -62,8 +56,8 @@ impl Block {
             → self.new
             ≡ record self.old { bytes = put 0 (open_header shape number) self.old.bytes } }
     {
-        zeros_first(&mut self.bytes, self.shape.block_size());
-        put_empty(self.bytes.as_mut_slice(), first, number);
+        self.bytes.begin(self.shape.block_size());
+        put_empty(self.bytes.written.as_mut_slice(), first, number);
     }
 
     /// Writes the packet of an offer at a place.
@@ -77,8 +71,8 @@ impl Block {
         } }
         ensures typed { IsTyped (packet_of fill offer.now) }
     {
-        zeros_first(&mut self.bytes, self.shape.block_size());
-        put_packet(self.bytes.as_mut_slice(), at as usize, offer, fill);
+        self.bytes.begin(self.shape.block_size());
+        put_packet(self.bytes.written.as_mut_slice(), at as usize, offer, fill);
     }
 
     /// Writes the fields of the descriptor that the end of a block says, and that no packet follows the last one.
@@ -88,8 +82,8 @@ impl Block {
         ensures written { self.new ≡ record self.old { bytes = closed closing.now self.old.bytes } }
         ensures size { length self.old.bytes ≡ self.old.shape.block_size }
     {
-        zeros_first(&mut self.bytes, self.shape.block_size());
-        put_closing(self.bytes.as_mut_slice(), closing);
+        self.bytes.begin(self.shape.block_size());
+        put_closing(self.bytes.written.as_mut_slice(), closing);
     }
 }
 
@@ -98,21 +92,12 @@ pub fn blocks(alloc: Global, shape: &Shape) -> Result<Vec<Block>, Memory>
     ensures { IfOk result (λ blocks.
         blocks.items ≡ replicate shape.now.block_nr (zero_block shape.now)) }
 {
-    let zeros = zeros(alloc, shape)?;
+    let zeros = zeros(alloc, shape.block_size())?;
     let mut blocks = Vec::new(alloc);
     for _ in 0..shape.block_nr() {
         blocks.push(unwritten_block(alloc, shape, &zeros)?)?;
     }
     Ok(blocks)
-}
-
-/// As many zeros as a block has bytes, to be shared.
-fn zeros(alloc: Global, shape: &Shape) -> Result<Arc<Vec<u8>, Global>, Memory>
-    ensures { IfOk result (λ zeros. (arc_value zeros).items ≡ replicate shape.now.block_size 0) }
-{
-    let size = shape.block_size() as usize;
-    let bytes = vec![in alloc; 0; size]?;
-    Ok(Arc::new(alloc, bytes)?)
 }
 
 /// A block of zeros that was never written.
@@ -124,25 +109,8 @@ fn unwritten_block(
     requires { (arc_value zeros.now).items ≡ replicate shape.now.block_size 0 }
     ensures { IfOk result (λ block. block ≡ zero_block shape.now) }
 {
-    let size = shape.block_size() as usize;
-    let bytes = Vec::with_capacity(alloc, size)?;
-    let zeros = Arc::try_clone(zeros)?;
     Ok(Block {
         shape: *shape,
-        bytes,
-        zeros,
+        bytes: LazyBytes::with_room(alloc, zeros, shape.block_size())?,
     })
-}
-
-/// Makes zeros of the bytes of a block that was never written.
-fn zeros_first(bytes: &mut Vec<u8>, size: u32)
-    requires room { bytes.old.items ≡ [] → size ≤ vec_capacity bytes.old }
-    ensures { bytes.new.items ≡ bytes_or_zeros size bytes.old.items }
-{
-    if bytes.is_empty() {
-        match bytes.resize(size as usize, 0) {
-            Ok(()) => {}
-            Err(_) => unreachable!(),
-        }
-    }
 }

@@ -10,7 +10,7 @@ ghost use Rattle.tp_layout.specs.Rows.{number_at};
 
 use crate::checking::{Ends, check_head, check_packet, check_zeros};
 use crate::fields::u32_at;
-use crate::{Block, LayoutError, LayoutKind, PacketWalk, Shape};
+use crate::{Block, LayoutError, LayoutKind, PacketWalk, Shape, a_shape_is_sound};
 
 /// Tests a whole block up to its end (`blk_len`), and gives its packets. It is Ok exactly where the block begins with
 /// a lawful text; else it reports the first test that fails, and where.
@@ -51,6 +51,21 @@ pub fn text_of(block: &Block) -> &[u8]
     let bytes = block.bytes();
     let (text, _) = bytes.split_at(u32_at(bytes, 20) as usize);
     text
+}
+
+/// The packets of at most a block of bytes that begin with a lawful text of this shape: a block, or a text that stands
+/// alone. The text isn't tested again.
+pub fn packets_of<'a>(bytes: &'a [u8], shape: &Shape) -> PacketWalk<'a>
+    requires size { length bytes.now ≤ shape.now.block_size }
+    requires lawful { (number : ℕ) × (status : ℕ)
+        × BeginsLawfully shape.now number status bytes.now }
+    ensures packets { result ≡ packets_of shape.now bytes.now }
+    ensures found { HasText shape.now bytes.now result }
+    ensures only { (number status : ℕ) (packets : List Packet)
+        → BeginsWith shape.now number status packets bytes.now → result ≡ packets }
+{
+    a_shape_is_sound(shape);
+    PacketWalk::of(u32_at(bytes, 12), area_of(bytes, shape))
 }
 
 /// Tests a block whose packets end there, and gives its packets.

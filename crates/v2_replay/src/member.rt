@@ -107,14 +107,16 @@ impl<K: Setting> RingMember for SlotMember<K> {
         }
     }
 
-    fn close(self, _alloc: Global) -> Result<MemberReport, Memory> {
+    /// Each slot is dropped once it is read.
+    fn close(self, alloc: Global) -> Result<MemberReport, Memory> {
         a_slot_is_read_as_it_was_written();
         if self.stuck {
             return Err(Memory);
         }
-        let (mut ring, notes) = self.producer.finish();
+        let (ring, notes) = self.producer.finish();
+        let mut waiting = ring.closing(alloc)?;
         let mut reader = self.reader;
-        'waiting: while reader.step(&mut ring)? {}
+        'waiting: while reader.step(&mut waiting)? {}
         let outputs = reader.outputs();
         Ok(MemberReport {
             notes,

@@ -1,10 +1,11 @@
 -- A note more, and what the fields of a ring of slots keep.
-use Rattle.std.proofs.Common.{◌≡◌, ℕ, ◌+◌, ◌^◌, ◌<◌, ◌≤◌, List, [], ◌∷◌, ◌++◌, length, Option, refl, sym, subst, ap, arith, length-append}
+use Rattle.std.proofs.Common.{◌≡◌, ℕ, ◌+◌, ◌^◌, ◌<◌, ◌≤◌, List, [], ◌∷◌, ◌++◌, length, refl, sym, subst, ap, arith, length-append}
+use Rattle.ring_model.specs.declared.notes.Found.{Found}
 use Rattle.ring_model.specs.declared.notes.Note.{Note}
 use Rattle.ring_words.specs.Rings.{Feed}
 use Rattle.slot_model.specs.SlotSteps.{SlotGoesOn, SlotMayStand, SlotState, slot_after, slot_state_of}
 use Rattle.slot_model.proofs.Runs.{slot_counted, slot_run_push, slot_state_push}
-use Rattle.v2_ring.specs.SlotMachines.{IsSlotAt, IsSlotFew, KeepsSlotEnd}
+use Rattle.v2_ring.specs.SlotMachines.{IsReserved, IsSlotAt, IsSlotFew, KeepsSlotEnd}
 use Rattle.v2_ring.specs.SlotProducing.{SlotAdds, SlotKeeps, SlotLooks, SlotProducing, slots_filled}
 use Rattle.v2_ring.specs.declared.machine.SlotMachine.{SlotMachine}
 
@@ -21,10 +22,10 @@ few_before notes few =
     let all = slot_counted notes in
     record { slots = omega (arith, all.slots); packets = omega (arith, all.packets) }
 
--- another list of notes beside the machine
-pub at_notes : {E : Type 0} (feed : E → Feed) (s : SlotState) (machine : SlotMachine E) (notes : _) → IsSlotAt feed 0 s machine
-    → IsSlotAt feed 0 s (record machine { notes = notes })
-at_notes feed s machine notes a = record {
+-- another list of notes and another room beside the machine
+pub at_beside : {E : Type 0} (feed : E → Feed) (s : SlotState) (machine : SlotMachine E) (notes room : _) → IsSlotAt feed 0 s machine
+    → IsSlotAt feed 0 s (record machine { notes = notes; room = room })
+at_beside feed s machine notes room a = record {
   checked = a.checked;
   places = a.places;
   kind = a.kind;
@@ -35,6 +36,42 @@ at_notes feed s machine notes a = record {
   kept_is = a.kept_is;
   dropped_is = a.dropped_is;
 }
+
+-- ---- room was made
+
+module _ {E : Type 0} (feed : E → Feed) (machine reserved : SlotMachine E) (r : IsReserved machine reserved) where
+  pub at_reserved : IsSlotAt feed 0 (slot_state_of machine.notes.items) machine → IsSlotAt feed 0 (slot_state_of reserved.notes.items) reserved
+  at_reserved a =
+      subst (λ (items : List Note). IsSlotAt feed 0 (slot_state_of items) reserved) (sym r.items)
+      (subst (λ m. IsSlotAt feed 0 (slot_state_of machine.notes.items) m) (sym r.same)
+      (at_beside feed (slot_state_of machine.notes.items) machine reserved.notes reserved.room a))
+
+  pub keeps_reserved : (room after : ℕ) → room ≤ after → SlotKeeps feed machine machine.notes.items room → SlotKeeps feed reserved reserved.notes.items after
+  keeps_reserved room after more keeps =
+      subst (λ (items : List Note). SlotKeeps feed reserved items after) (sym r.items)
+      (subst (λ m. SlotKeeps feed m machine.notes.items after) (sym r.same) (record {
+        at = at_beside feed (slot_state_of machine.notes.items) machine reserved.notes reserved.room keeps.at;
+        run = keeps.run;
+        last = (let last = keeps.last in omega arith);
+        few = keeps.few;
+      }))
+
+  -- a step from there is one from the machine before
+  pub step_reserved : (note : Note) (after_it : SlotMachine E) → Stepped feed (slot_state_of reserved.notes.items) note reserved after_it
+      → Stepped feed (slot_state_of machine.notes.items) note machine after_it
+  step_reserved note after_it step =
+      let beside = subst (λ m. Stepped feed (slot_state_of machine.notes.items) note m after_it) r.same
+      (subst (λ (items : List Note). Stepped feed (slot_state_of items) note reserved after_it) r.items step) in
+      record { at = beside.at; stands = beside.stands; end = beside.end; shape = beside.shape }
+
+  pub looks_reserved : (found : Found) (after_it : Feed)
+      → SlotLooks reserved.shape.frame_nr (slot_state_of reserved.notes.items) found (feed reserved.end) after_it
+      → SlotLooks machine.shape.frame_nr (slot_state_of machine.notes.items) found (feed machine.end) after_it
+  looks_reserved found after_it looks =
+      subst (λ m. SlotLooks m.shape.frame_nr (slot_state_of machine.notes.items) found (feed m.end) after_it) r.same
+      (subst (λ (items : List Note). SlotLooks reserved.shape.frame_nr (slot_state_of items) found (feed reserved.end) after_it) r.items looks)
+
+-- ---- a note more
 
 module _ {E : Type 0} (feed : E → Feed) (before after_it : SlotMachine E) (notes : List Note) (note : Note) (room : ℕ)
     (keeps : SlotKeeps feed before notes room) (step : Stepped feed (slot_state_of notes) note before after_it) where
@@ -51,7 +88,7 @@ module _ {E : Type 0} (feed : E → Feed) (before after_it : SlotMachine E) (not
       → length notes + 1 < room_after → after_it.kept + after_it.dropped ≤ 2 ^ 39
       → SlotKeeps feed (record after_it { notes = new_notes }) items room_after
   kept_with new_notes items room_after on pushed last few = rw pushed (record {
-    at = at_notes feed _ after_it new_notes at_after;
+    at = at_beside feed _ after_it new_notes after_it.room at_after;
     run = rw step.shape (slot_run_push before.shape.frame_nr notes note keeps.run step.stands on);
     last = (let more = length-append notes (note ∷ []) in omega arith);
     few = few;
@@ -88,8 +125,8 @@ pub adds_given : {E : Type 0} (feed : E → Feed) (inside given after_it : SlotP
     → SlotAdds feed inside after_it note → SlotAdds feed given after_it note
 adds_given feed inside given after_it e note adds = subst (λ p. SlotAdds feed p after_it note) e adds
 
-pub looks_given : {E : Type 0} (feed : E → Feed) (inside given : SlotProducing E) → inside ≡ given → (held : Option ℕ) (after_it : Feed)
-    → SlotLooks inside.shape.frame_nr (slots_filled inside) held (feed inside.end) after_it
-    → SlotLooks given.shape.frame_nr (slots_filled given) held (feed given.end) after_it
-looks_given feed inside given e held after_it looks =
-    subst (λ p. SlotLooks p.shape.frame_nr (slots_filled p) held (feed p.end) after_it) e looks
+pub looks_given : {E : Type 0} (feed : E → Feed) (inside given : SlotProducing E) → inside ≡ given → (found : Found) (after_it : Feed)
+    → SlotLooks inside.shape.frame_nr (slots_filled inside) found (feed inside.end) after_it
+    → SlotLooks given.shape.frame_nr (slots_filled given) found (feed given.end) after_it
+looks_given feed inside given e found after_it looks =
+    subst (λ p. SlotLooks p.shape.frame_nr (slots_filled p) found (feed p.end) after_it) e looks

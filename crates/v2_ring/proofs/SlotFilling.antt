@@ -48,15 +48,15 @@ stands_push shape done before after entry slot (all, stands, texts) retired pass
 
 -- the machine has filled a slot
 pub filled_at : {E : Type 0} (feed : E → Feed) (state : SlotState) (machine : SlotMachine E) (offer : Offer) (after : E)
-    (content : List ℕ) (status : ℕ)
+    (content : List ℕ) (status : ℕ) (room : _)
     → IsSlotAt feed 1 state machine → status ≡ slot_status state offer
     → feed after ≡ record (feed machine.end) {
       retired = (feed machine.end).retired + 1;
       shown = (feed machine.end).shown ++ (content, status) ∷ [];
     }
     → SlotBegins machine.shape status (slot_packet_of offer) content
-    → IsSlotAt feed 0 (slot_after state (Kept offer Free)) (record machine { end = after; kept = machine.kept + 1 })
-filled_at feed state machine offer after content status at status_is retires begins =
+    → IsSlotAt feed 0 (slot_after state (Kept offer Free)) (record machine { end = after; kept = machine.kept + 1; room = room })
+filled_at feed state machine offer after content status room at status_is retires begins =
     let slot : Offer × ℕ = (offer, slot_status state offer) in
     let text : SlotBegins machine.shape slot.1 (slot_packet_of slot.0) content = subst (λ (s : ℕ). SlotBegins machine.shape s (slot_packet_of offer) content) status_is begins in
     let count = length-append state.done (slot ∷ []) in

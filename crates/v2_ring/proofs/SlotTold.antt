@@ -1,6 +1,5 @@
 -- A slot that begins with a lawful text is read as what the text says.
 use Rattle.std.proofs.Common.{◌≡◌, ℕ, ◌+◌, ◌≤◌, List, length, take, refl, ap, sym, ◌∙◌, arith}
-use Rattle.std.specs.Prelude.{Err, IsOk, Result}
 use Rattle.std.proofs.Math.Bridge.{le_prop}
 use Rattle.std.proofs.Math.Logic.{∥∥₁_elim}
 use Rattle.std.proofs.Props.{props}
@@ -9,7 +8,6 @@ use Rattle.slot_layout.specs.SlotTexts.{SlotBegins, SlotBeginsLawfully, slot_pac
 use Rattle.slot_layout.proofs.SlotNumbers.{length-slot_text}
 use Rattle.slot_layout.proofs.SlotStands.{begins_stands}
 use Rattle.tp_layout.proofs.Opens.{within}
-use Rattle.tp_layout.specs.declared.error.LayoutError.{LayoutError}
 use Rattle.tp_layout.specs.declared.requests.RingRequest.{RingRequest}
 use Rattle.v2_ring.specs.SlotReaders.{slot_text_in}
 
@@ -40,7 +38,3 @@ pub text_lent : (shape : RingRequest) (status : ℕ) (bytes : List ℕ) → Slot
 text_lent shape status bytes lawful =
     ∥∥₁_elim lawful (search props) (λ x.
     ap (λ (n : ℕ). take n bytes) (text_size shape status x.0 bytes x.1) ∙ x.1.begins ∙ sym (slot_text_told shape status x.0 bytes x.1))
-
--- what is read isn't refused
-pub refused : {X : Type 0} (answer : Result X LayoutError) (fault : LayoutError) → answer ≡ Err fault → IsOk answer → ⊥
-refused answer fault no_packet some = cc

@@ -1,6 +1,6 @@
 -- The machine of a ring of slots at a state of its notes.
-use Rattle.std.specs.Prelude.{◌≡◌, ℕ, ◌+◌, ◌^◌, ◌<◌, ◌≤◌, List, [], length, Option, None, Some}
-use Rattle.ring_words.specs.Rings.{Feed, and_found}
+use Rattle.std.specs.Prelude.{◌≡◌, ℕ, ◌+◌, ◌^◌, ◌<◌, ◌≤◌, [], length}
+use Rattle.ring_words.specs.Rings.{Feed}
 use Rattle.slot_layout.specs.SlotShapes.{IsSlotShape}
 use Rattle.slot_model.specs.SlotSteps.{SlotState}
 use Rattle.tp_layout.specs.Requests.{numbers_of}
@@ -32,16 +32,6 @@ pub record KeepsSlotEnd (before after : Feed) : Type 0 where
   pub fetched : after.fetched ≡ before.fetched
   pub holds : before.holds ≤ after.holds
 
--- how many looks found a slot that was still the reader's, by the number that one reported
-abbrev pub look_count : Option ℕ → ℕ
-look_count None = 0
-look_count (Some number) = 1
-
--- the numbers of the slots that an end found held, where it reports them, with the one that a look reported
-abbrev pub and_held : Option ℕ → Option (List ℕ) → Option (List ℕ)
-and_held None numbers = numbers
-and_held (Some number) numbers = and_found number numbers
-
 -- an end that was given nothing yet, of a ring of the slots of this shape
 pub record IsFreshSlots (shape : RingRequest) (feed : Feed) : Type 0 where
   pub places : feed.ring.places ≡ shape.frame_nr
@@ -50,3 +40,8 @@ pub record IsFreshSlots (shape : RingRequest) (feed : Feed) : Type 0 where
   pub retired_none : feed.retired ≡ 0
   pub passed : feed.passed ≡ 0
   pub shown : feed.shown ≡ []
+
+-- room was made beside a machine, and all else is as before
+pub record IsReserved {E : Type 0} (before after : SlotMachine E) : Type 0 where
+  pub same : after ≡ record before { notes = after.notes; room = after.room }
+  pub items : after.notes.items ≡ before.notes.items

@@ -1,7 +1,8 @@
 -- A ring of slots that frames are put into, as contracts see it.
-use Rattle.std.specs.Prelude.{◌≡◌, ℕ, ◌+◌, ◌^◌, ◌<◌, ◌≤◌, List, [], ◌∷◌, ◌++◌, length, IfSome, Option, Some}
+use Rattle.std.specs.Prelude.{◌≡◌, ℕ, ◌+◌, ◌^◌, ◌<◌, ◌≤◌, List, [], ◌∷◌, ◌++◌, length, Some}
 use Rattle.ring_model.specs.Asking.{put_by, try_by}
-use Rattle.ring_model.specs.Told.{found_by, put_told, try_told}
+use Rattle.ring_model.specs.Told.{CountsHeld, WasHeld, found_with, put_told, try_told}
+use Rattle.ring_model.specs.declared.notes.Found.{Found}
 use Rattle.ring_model.specs.declared.notes.Note.{Note}
 use Rattle.ring_model.specs.declared.notes.Offer.{Offer}
 use Rattle.ring_model.specs.declared.notes.Put.{Put}
@@ -12,7 +13,7 @@ use Rattle.slot_model.specs.SlotAsking.{slot_look}
 use Rattle.slot_model.specs.SlotSteps.{IsOpenSlotRun, SlotMayStand, SlotState, first_slot_state, slot_state_of}
 use Rattle.tp_layout.specs.declared.requests.RingRequest.{RingRequest}
 use Rattle.v2_ring.specs.SlotContents.{StandsForSlots}
-use Rattle.v2_ring.specs.SlotMachines.{IsSlotAt, KeepsSlotEnd, and_held, look_count}
+use Rattle.v2_ring.specs.SlotMachines.{IsSlotAt, KeepsSlotEnd}
 use Rattle.v2_ring.specs.declared.machine.SlotMachine.{SlotMachine}
 
 pub record SlotProducing (E : Type 0) : Type 0 where
@@ -35,27 +36,25 @@ pub record SlotAdds {E : Type 0} (feed : E → Feed) (before after : SlotProduci
   pub texts : StandsForSlots after.shape (slots_filled after).done (feed after.end)
   pub end : KeepsSlotEnd (feed before.end) (feed after.end)
 
--- what the one look of a call found: the number of a slot that is still the reader's, of which then one look more is
--- counted, or none where the next slot is free; where the end reports how many slots were released, it is exact
-pub record SlotLooks (slots : ℕ) (state : SlotState) (held : Option ℕ) (before after : Feed) : Type 0 where
-  pub looked : IfSome held (λ number. Rose before.holds after.holds)
-  pub count : after.holds ≤ before.holds + look_count held
-  pub number : after.found ≡ and_held held before.found
-  pub exact : (released : ℕ) → before.freed ≡ Some released → found_by held ≡ slot_look slots released state
+-- what the one look of a call found. Where the slot was still the reader's one look more is counted, else none; where the
+-- end reports how many slots were released, what is found is exact
+pub record SlotLooks (slots : ℕ) (state : SlotState) (found : Found) (before after : Feed) : Type 0 where
+  pub looked : WasHeld found (Rose before.holds after.holds)
+  pub count : CountsHeld found before.holds after.holds
+  pub number : after.found ≡ found_with found before.found
+  pub exact : (released : ℕ) → before.freed ≡ Some released → found ≡ slot_look slots released state
 
 -- a put found this, and dropped the packet where the slot was held
-pub record SlotPuts {E : Type 0} (feed : E → Feed) (before after : SlotProducing E) (offer : Offer) (held : Option ℕ) (put : Put)
-    : Type 0 where
-  pub adds : SlotAdds feed before after (put_by offer (found_by held))
-  pub told : put ≡ put_told (put_by offer (found_by held))
-  pub looks : SlotLooks before.shape.frame_nr (slots_filled before) held (feed before.end) (feed after.end)
+pub record SlotPuts {E : Type 0} (feed : E → Feed) (before after : SlotProducing E) (offer : Offer) (found : Found) (put : Put) : Type 0 where
+  pub adds : SlotAdds feed before after (put_by offer found)
+  pub told : put ≡ put_told (put_by offer found)
+  pub looks : SlotLooks before.shape.frame_nr (slots_filled before) found (feed before.end) (feed after.end)
 
 -- a try found this, and handed the packet back where the slot was held
-pub record SlotTries {E : Type 0} (feed : E → Feed) (before after : SlotProducing E) (offer : Offer) (held : Option ℕ) (tried : Tried)
-    : Type 0 where
-  pub adds : SlotAdds feed before after (try_by offer (found_by held))
-  pub told : tried ≡ try_told offer (try_by offer (found_by held))
-  pub looks : SlotLooks before.shape.frame_nr (slots_filled before) held (feed before.end) (feed after.end)
+pub record SlotTries {E : Type 0} (feed : E → Feed) (before after : SlotProducing E) (offer : Offer) (found : Found) (tried : Tried) : Type 0 where
+  pub adds : SlotAdds feed before after (try_by offer found)
+  pub told : tried ≡ try_told offer (try_by offer found)
+  pub looks : SlotLooks before.shape.frame_nr (slots_filled before) found (feed before.end) (feed after.end)
 
 -- what the fields of a ring keep
 pub record SlotKeeps {E : Type 0} (feed : E → Feed) (machine : SlotMachine E) (notes : List Note) (room : ℕ) : Type 0 where

@@ -1,7 +1,6 @@
 //! The receive ring of slots (TPACKET_V2): each frame goes into a slot of its own, which goes to the reader at once.
 #![tactic(auto)]
 
-mod copying;
 mod laws;
 mod machine;
 mod piles;

@@ -4,9 +4,9 @@
 //! into it, and the slot goes to the reader at once. Where the reader still has it the packet is dropped, or handed back
 //! if it was only tried. A slot that is filled while drops are counted has TP_STATUS_LOSING. There are no blocks, no timer
 //! and no freeze.
-ghost use Rattle.std.specs.Prelude.{◌≡◌, ◌+◌, ◌^◌, ◌<◌, ◌≤◌, ℕ, IfSome, None, Some};
+ghost use Rattle.std.specs.Prelude.{◌≡◌, ◌+◌, ◌^◌, ◌<◌, ◌≤◌, ℕ, length, OnOk};
+ghost use Rattle.std.specs.Vec.{vec_capacity};
 ghost use Rattle.ring_model.specs.Asking.{put_by, try_by};
-ghost use Rattle.ring_model.specs.Told.{found_by};
 ghost use Rattle.ring_model.specs.declared.notes.Found.TheVariants as found;
 ghost use Rattle.ring_model.specs.declared.notes.Note.TheVariants as notes;
 ghost use Rattle.slot_layout.specs.SlotShapes.{IsSlotShape};
@@ -15,9 +15,11 @@ ghost use Rattle.slot_model.specs.SlotSteps.{SlotMayStand, SlotState, first_slot
 ghost use Rattle.tp_layout.specs.Requests.{numbers_of};
 ghost use Rattle.tp_layout.specs.Writing.{IsWritable};
 
-use ring_model::{Note, Offer, Stats};
+use frame_view::Memory;
+use ring_model::{Found, Note, Offer, Stats};
 use ring_words::{FeederEnd, Next};
 use slot_layout::{Slot, write_slot};
+use std::alloc::Global;
 use tp_layout::Shape;
 
 /// A ring between two notes.
@@ -33,14 +35,16 @@ pub(crate) struct SlotMachine<E> {
     dropped: u64,
     /// What happened so far, with room for one note more, so that closing the ring takes no memory.
     pub(crate) notes: Vec<Note>,
+    /// The room that the first write of a slot takes.
+    pub(crate) room: Vec<u8>,
 }
 
 impl<E: FeederEnd<Slot> + Drop> SlotMachine<E> {
-    ghost use Rattle.v2_ring.specs.SlotMachines.{IsFreshSlots, IsSlotAt, IsSlotFew, KeepsSlotEnd};
+    ghost use Rattle.v2_ring.specs.SlotMachines.{IsFreshSlots, IsReserved, IsSlotAt, IsSlotFew, KeepsSlotEnd};
     ghost use Rattle.v2_ring.specs.SlotProducing.{SlotLooks};
 
     /// A machine over a fresh end.
-    pub(crate) fn new(shape: Shape, end: E, notes: Vec<Note>) -> SlotMachine<E>
+    pub(crate) fn new(alloc: Global, shape: Shape, end: E, notes: Vec<Note>) -> SlotMachine<E>
         requires checked { IsSlotShape shape }
         requires fresh { IsFreshSlots shape (E.feed end) }
         ensures at { IsSlotAt E.feed 0 first_slot_state result }
@@ -55,43 +59,56 @@ impl<E: FeederEnd<Slot> + Drop> SlotMachine<E> {
             kept: 0,
             dropped: 0,
             notes,
+            room: Vec::new(alloc),
         }
     }
 
+    /// Makes room for a note, for one more, and for the first write of a slot. After `Memory` there may be more room, and
+    /// all else is as before.
+    pub(crate) fn reserve(&mut self) -> Result<(), Memory>
+        ensures reserved { IsReserved self.old self.new }
+        ensures spare { vec_capacity self.old.notes ≤ vec_capacity self.new.notes }
+        ensures notes { OnOk result
+            (length self.old.notes.items + 2 ≤ vec_capacity self.new.notes) }
+        ensures room { OnOk result (self.new.shape.frame_size ≤ vec_capacity self.new.room) }
+    {
+        self.notes.reserve(2)?;
+        self.room.reserve(self.shape.frame_size() as usize)?;
+        Ok(())
+    }
+
     /// Puts a packet: where the next slot is still the reader's the packet is dropped, and that slot's number is reported.
-    pub(crate) fn put(&mut self, offer: &Offer) -> Option<u64>
+    pub(crate) fn put(&mut self, offer: &Offer) -> Found
         ghost state: { SlotState }
         requires at { IsSlotAt E.feed 0 state self.old }
         requires few { IsSlotFew state }
+        requires room { self.old.shape.frame_size ≤ vec_capacity self.old.room }
         requires fits { 66 + offer.now.snap ≤ self.old.shape.frame_size }
         requires writable { IsWritable offer.now }
-        ensures at { IsSlotAt E.feed 0
-            (slot_after state (put_by offer.now (found_by result))) self.new }
-        ensures stands { SlotMayStand self.old.shape.frame_nr state
-            (put_by offer.now (found_by result)) }
+        ensures at { IsSlotAt E.feed 0 (slot_after state (put_by offer.now result)) self.new }
+        ensures stands { SlotMayStand self.old.shape.frame_nr state (put_by offer.now result) }
         ensures looks { SlotLooks self.old.shape.frame_nr state result
             (E.feed self.old.end) (E.feed self.new.end) }
         ensures end { KeepsSlotEnd (E.feed self.old.end) (E.feed self.new.end) }
         ensures same { (self.new.shape ≡ self.old.shape) × (self.new.notes ≡ self.old.notes) }
     {
-        let held = self.try_put(offer);
-        if held.is_some() {
+        let found = self.try_put(offer);
+        if let Found::Held(_) = found {
             self.dropped += 1;
         }
-        held
+        found
     }
 
     /// Tries a packet: where the next slot is still the reader's that slot's number is reported, and all is as before.
-    pub(crate) fn try_put(&mut self, offer: &Offer) -> Option<u64>
+    pub(crate) fn try_put(&mut self, offer: &Offer) -> Found
         ghost state: { SlotState }
         requires at { IsSlotAt E.feed 0 state self.old }
         requires few { IsSlotFew state }
+        requires room { self.old.shape.frame_size ≤ vec_capacity self.old.room }
         requires fits { 66 + offer.now.snap ≤ self.old.shape.frame_size }
         requires writable { IsWritable offer.now }
-        ensures at { IsSlotAt E.feed 0
-            (slot_after state (try_by offer.now (found_by result))) self.new }
-        ensures stands { SlotMayStand self.old.shape.frame_nr state
-            (try_by offer.now (found_by result)) }
+        ensures at { IsSlotAt E.feed 0 (slot_after state (try_by offer.now result)) self.new }
+        ensures stands { SlotMayStand self.old.shape.frame_nr state (try_by offer.now result) }
         ensures looks { SlotLooks self.old.shape.frame_nr state result
             (E.feed self.old.end) (E.feed self.new.end) }
         ensures end { KeepsSlotEnd (E.feed self.old.end) (E.feed self.new.end) }
@@ -100,9 +117,9 @@ impl<E: FeederEnd<Slot> + Drop> SlotMachine<E> {
         match self.end.next() {
             Next::Free { block, .. } => {
                 self.fill(block, offer);
-                None
+                Found::Free
             }
-            Next::Held(number) => Some(number),
+            Next::Held(number) => Found::Held(number),
         }
     }
 
@@ -111,6 +128,7 @@ impl<E: FeederEnd<Slot> + Drop> SlotMachine<E> {
         ghost state: { SlotState }
         requires at { IsSlotAt E.feed 1 state self.old }
         requires few { IsSlotFew state }
+        requires room { self.old.shape.frame_size ≤ vec_capacity self.old.room }
         requires kind { numbers_of slot.shape ≡ numbers_of self.old.shape }
         requires fits { 66 + offer.now.snap ≤ self.old.shape.frame_size }
         requires writable { IsWritable offer.now }
@@ -122,7 +140,7 @@ impl<E: FeederEnd<Slot> + Drop> SlotMachine<E> {
         ensures same { (self.new.shape ≡ self.old.shape) × (self.new.notes ≡ self.old.notes) }
     {
         let mut slot = slot;
-        let status = write_slot(&mut slot, offer, self.dropped > 0);
+        let status = write_slot(&mut slot, &mut self.room, offer, self.dropped > 0);
         self.end.retire(slot, status);
         self.kept += 1;
     }

@@ -1,8 +1,6 @@
 //! A ring of slots that frames are put into: its machine, and the notes of what happened.
-ghost use Rattle.std.specs.Prelude.{◌≡◌, ◌+◌, ◌^◌, ◌<◌, ◌≤◌, ◌∷◌, ◌++◌, ℕ, [], length, Option, IfOk, IfErr, OnErr};
-ghost use Rattle.ring_model.specs.Asking.{put_by, try_by};
-ghost use Rattle.ring_model.specs.Told.{found_by, put_told, try_told};
-ghost use Rattle.ring_model.specs.declared.notes.Found.TheVariants.{Free};
+ghost use Rattle.std.specs.Prelude.{◌≡◌, ◌+◌, ◌^◌, ◌<◌, ◌≤◌, ◌∷◌, ◌++◌, ℕ, [], length, IfOk, IfErr, OnErr};
+ghost use Rattle.ring_model.specs.declared.notes.Found.{Found};
 ghost use Rattle.ring_model.specs.declared.notes.Note.TheVariants.{Counted, Finished};
 ghost use Rattle.slot_layout.specs.SlotShapes.{IsSlotShape};
 ghost use Rattle.slot_model.specs.SlotFates.{slot_stats_of};
@@ -11,7 +9,7 @@ ghost use Rattle.tp_layout.specs.Writing.{IsWritable};
 
 use crate::machine::SlotMachine;
 use frame_view::Memory;
-use ring_model::{Found, Note, Notes, Offer, Put, Stats, Tried, Unput, need};
+use ring_model::{Note, Notes, Offer, Put, Stats, Tried, Unput, noted_put, noted_try};
 use ring_words::FeederEnd;
 use slot_layout::Slot;
 use std::alloc::Global;
@@ -57,7 +55,7 @@ impl<E: FeederEnd<Slot> + Drop> SlotProducer<E> {
         let mut notes = Vec::new(alloc);
         notes.reserve(1)?;
         Ok(SlotProducer {
-            machine: SlotMachine::new(shape, end, notes),
+            machine: SlotMachine::new(alloc, shape, end, notes),
         })
     }
 
@@ -67,16 +65,16 @@ impl<E: FeederEnd<Slot> + Drop> SlotProducer<E> {
         requires fits { 66 + offer.snap ≤ self.old.shape.frame_size }
         requires sound { IsWritable offer }
         requires few { length self.old.notes < 2 ^ 39 }
-        ensures tried { IfOk result (λ tried. (held : Option ℕ)
-            × SlotTries E.feed self.old self.new offer held tried) }
+        ensures tried { IfOk result (λ tried. (found : Found)
+            × SlotTries E.feed self.old self.new offer found tried) }
         ensures unput { IfErr result (λ unput. unput.offer ≡ offer) }
         ensures same { OnErr result (self.new ≡ self.old) }
     {
-        let Ok(()) = self.machine.notes.reserve(2) else {
+        let Ok(()) = self.machine.reserve() else {
             return Err(Unput { offer });
         };
-        let held = self.machine.try_put(&offer);
-        let (note, tried) = noted_try(offer, held);
+        let found = self.machine.try_put(&offer);
+        let (note, tried) = noted_try(offer, found);
         self.machine.notes.push_reserved(note);
         Ok(tried)
     }
@@ -87,16 +85,16 @@ impl<E: FeederEnd<Slot> + Drop> SlotProducer<E> {
         requires fits { 66 + offer.snap ≤ self.old.shape.frame_size }
         requires sound { IsWritable offer }
         requires few { length self.old.notes < 2 ^ 39 }
-        ensures put { IfOk result (λ put. (held : Option ℕ)
-            × SlotPuts E.feed self.old self.new offer held put) }
+        ensures put { IfOk result (λ put. (found : Found)
+            × SlotPuts E.feed self.old self.new offer found put) }
         ensures unput { IfErr result (λ unput. unput.offer ≡ offer) }
         ensures same { OnErr result (self.new ≡ self.old) }
     {
-        let Ok(()) = self.machine.notes.reserve(2) else {
+        let Ok(()) = self.machine.reserve() else {
             return Err(Unput { offer });
         };
-        let held = self.machine.put(&offer);
-        let (note, put) = noted_put(offer, held);
+        let found = self.machine.put(&offer);
+        let (note, put) = noted_put(offer, found);
         self.machine.notes.push_reserved(note);
         Ok(put)
     }
@@ -124,51 +122,5 @@ impl<E: FeederEnd<Slot> + Drop> SlotProducer<E> {
         let SlotMachine { end, mut notes, .. } = self.machine;
         notes.push_reserved(Note::Finished);
         (end, Notes::from_vec(notes))
-    }
-}
-
-/// The note of a packet that was put, and what its call reports, by the number of the slot that was held.
-fn noted_put(offer: Offer, held: Option<u64>) -> (Note, Put)
-    requires { offer.snap ≤ 1048576 }
-    ensures note { result.0 ≡ put_by offer (found_by held) }
-    ensures put { result.1 ≡ put_told (put_by offer (found_by held)) }
-{
-    let Some(number) = held else {
-        return (kept(offer), Put::Kept);
-    };
-    let note = Note::Dropped {
-        cpu: offer.frame.cpu,
-        index: offer.frame.index,
-        need: need(offer.snap),
-        number,
-    };
-    (note, Put::Dropped(number))
-}
-
-/// The note of a packet that was tried, and what its call reports, by the number of the slot that was held.
-fn noted_try(offer: Offer, held: Option<u64>) -> (Note, Tried)
-    requires { offer.snap ≤ 1048576 }
-    ensures note { result.0 ≡ try_by offer (found_by held) }
-    ensures tried { result.1 ≡ try_told offer (try_by offer (found_by held)) }
-{
-    let Some(number) = held else {
-        return (kept(offer), Tried::Kept);
-    };
-    let note = Note::Refused {
-        cpu: offer.frame.cpu,
-        index: offer.frame.index,
-        need: need(offer.snap),
-        number,
-    };
-    (note, Tried::Refused(offer))
-}
-
-/// The note of a packet that was kept.
-fn kept(offer: Offer) -> Note
-    ensures { result ≡ put_by offer Free }
-{
-    Note::Kept {
-        offer,
-        found: Found::Free,
     }
 }

@@ -3,7 +3,7 @@
 //! A step looks once at the next slot. Where the slot was filled the reader takes it, reads its packet, and releases it
 //! with the word of a free slot (TP_STATUS_KERNEL, 0). Out of memory in between it keeps the slot, and the next step goes
 //! on with it: no packet is lost and none is read twice.
-ghost use Rattle.std.specs.Prelude.{◌≡◌, ◌<◌, ◌≤◌, ◌^◌, ℕ, List, Bool, true, false, None, Some, is_some, IfNone, IfOk, IfSome, IsTrue, OnErr, OnOk};
+ghost use Rattle.std.specs.Prelude.{◌≡◌, ◌≢◌, ◌+◌, ◌<◌, ◌≤◌, ◌^◌, ℕ, List, false, None, Some, Ok, is_some, IfNone, IfOk, IfSome, IsTrue, OnErr, OnOk, OnSome};
 ghost use Rattle.ring_words.specs.Counts.{Rose};
 ghost use Rattle.slot_layout.specs.SlotTexts.{slot_packet_at};
 ghost use Rattle.tp_layout.specs.Checks.{seen};
@@ -11,12 +11,11 @@ ghost use Rattle.tp_layout.specs.Requests.{numbers_of};
 ghost use Rattle.tp_layout.specs.declared.requests.RingRequest.{RingRequest};
 ghost use Rattle.v2_ring.specs.SlotReaders.{IsFilledSlot, slot_text_by, slot_text_in};
 
-use crate::copying::copy;
 use crate::piles::SlotPile;
 use frame_view::{ByteList, Memory, Packets};
 use reader_walk::Outputs;
 use ring_words::WalkerEnd;
-use slot_layout::{Slot, read_slot};
+use slot_layout::{Slot, packet_of};
 use std::alloc::Global;
 use std::marker::Model;
 use tp_layout::{PacketRef, Shape};
@@ -96,8 +95,14 @@ impl SlotReader {
         ensures stays { IfOk result (λ stepped. stepped ≡ false → W.stays end.old end.new) }
         ensures looked { IfOk result (λ stepped. stepped ≡ false
             → Rose (W.walk end.old).empties (W.walk end.new).empties) }
+        ensures once { IfOk result (λ stepped. stepped ≡ false
+            → (W.walk end.new).empties ≤ (W.walk end.old).empties + 1) }
         ensures waiting { IfOk result (λ stepped. stepped ≡ false
             → (slots : ℕ) → (W.walk end.old).waiting ≡ Some slots → slots ≡ 0) }
+
+        // Where it has a slot, no look found none.
+        ensures found { result ≢ Ok false
+            → (W.walk end.new).empties ≡ (W.walk end.old).empties }
 
         // After `Memory` the slot is in the reader.
         ensures kept { OnErr result (KeepsSlot (W.took end.old end.new) self.old self.new) }
@@ -155,6 +160,9 @@ impl SlotReader {
         ensures none { IfNone result (self.old.held ≡ None) }
         ensures stays { IfNone result (W.stays end.old end.new) }
         ensures looked { IfNone result (Rose (W.walk end.old).empties (W.walk end.new).empties) }
+        ensures once { IfNone result
+            ((W.walk end.new).empties ≤ (W.walk end.old).empties + 1) }
+        ensures found { OnSome result ((W.walk end.new).empties ≡ (W.walk end.old).empties) }
         ensures waiting { IfNone result
             ((slots : ℕ) → (W.walk end.old).waiting ≡ Some slots → slots ≡ 0) }
         ensures goes_on { (content : List ℕ) → self.old.held ≡ Some content → end.new ≡ end.old }
@@ -174,21 +182,9 @@ impl SlotReader {
             ≡ record (has_read_slot slot.now.bytes self.old) { held = self.old.held }) }
         ensures err { OnErr result (self.new ≡ self.old) }
     {
-        let packet = packet_in(slot, &self.shape);
+        let packet = packet_of(slot.bytes());
         let text = kept_text(slot, &packet, self.dumps);
-        let packet = copy(self.alloc, packet)?;
-        self.pile.add(packet, text)
-    }
-}
-
-/// The packet of a filled slot: it isn't refused.
-fn packet_in<'a>(slot: &'a Slot, shape: &Shape) -> PacketRef<'a>
-    requires { IsFilledSlot shape.now slot.now }
-    ensures { seen result ≡ slot_packet_at slot.now.bytes }
-{
-    match read_slot(slot.bytes(), shape) {
-        Ok(packet) => packet,
-        Err(_) => unreachable!(),
+        self.pile.add(packet.to_packet(self.alloc)?, text)
     }
 }
 

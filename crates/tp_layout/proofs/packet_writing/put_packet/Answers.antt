@@ -26,7 +26,7 @@ returns-clause-written c =
     c.put_zeros-3.ensures
     ∙ ap (λ (p : ℕ). put p (replicate (c.need-need.result - 82 - o.snap) 0) c.put_bytes.new.bytes) place
     ∙ ap (λ (n : ℕ). put (at + 82 + length packet.bytes) (replicate n 0) c.put_bytes.new.bytes) size in
-    let address = c.put_address.ensures.written packet (rw link refl) refl (rw link refl) in
+    let address = c.put_link_address.ensures.written packet (rw link refl) refl (rw link refl) in
     packet_put at c.need-need.result packet c.args.bytes.now _ _ _ _ _ _ fits c.put_header.ensures.written c.put_zeros.ensures address c.put_zeros-2.ensures kept_data padding
     ∙ ap (λ (n : ℕ). put at (packet_text n packet) c.args.bytes.now) need
 
@@ -35,13 +35,13 @@ returns-clause-typed c =
     let frame = c.args.offer.now.frame.bytes in
     let link : c.link_header-link.result ≡ link_of frame = c.link_header-link.ensures ∙ ap link_of c.as_slice.ensures in
     let numbers = c.put_header.ensures.typed in
-    let small : IsBytes (address_of 6 frame) = subst (λ (l : Link). IsBytes l.from) link c.put_address.ensures.typed in
+    let small : IsBytes (address_of 6 frame) = subst (λ (l : Link). IsBytes l.from) link c.put_link_address.ensures.typed in
     record {
       sec = numbers.sec;
       wire = numbers.wire;
       rxhash = numbers.rxhash;
       tci = numbers.tci;
-      protocol = subst (λ (l : Link). l.protocol < 2 ^ 16) link c.put_address.ensures.protocol;
+      protocol = subst (λ (l : Link). l.protocol < 2 ^ 16) link c.put_link_address.ensures.protocol;
       six = refl;
       addr = all_bytes (address_of 6 frame) small;
     }

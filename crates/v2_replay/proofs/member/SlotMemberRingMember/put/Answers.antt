@@ -1,5 +1,5 @@
-use Rattle.std.proofs.Common.{◌≡◌, ◌<◌, ◌^◌, ℕ, length, subst, sym}
-use Rattle.std.specs.Prelude.{Option}
+use Rattle.std.proofs.Common.{◌≡◌, ◌<◌, ◌^◌, length, subst, sym}
+use Rattle.ring_model.specs.declared.notes.Found.{Found}
 use Rattle.ring_model.specs.Rings.{Ring}
 use Rattle.ring_words.specs.PlainRings.{feed_of}
 use Rattle.v2_ring.specs.SlotProducing.{SlotPuts}
@@ -13,7 +13,7 @@ invariant_of-self g c =
     let before : Parts = record { producer = c.self.inside.producer; reader = c.self.inside.reader; stuck = c.self.inside.stuck } in
     let few : length c.self.inside.producer.notes < 2 ^ 39 =
     subst (λ (ring : Ring). length ring.notes < 2 ^ 39) (sym c.self.view_is) c.requires.few in
-    either c.put.result (λ put. (held : Option ℕ) × SlotPuts feed_of c.self.inside.producer c.put.new.self c.args.offer held put)
+    either c.put.result (λ put. (found : Found) × SlotPuts feed_of c.self.inside.producer c.put.new.self c.args.offer found put)
     (λ unput. c.put.new.self ≡ c.self.inside.producer) _ c.put.ensures.put c.put.ensures.same
     (λ put made. noted_member g.K.Setting.shape g.K.Setting.dumps before c.put.new.self _ c.self.invariant few made.1.adds)
     (λ unput none. stays_member g.K.Setting.shape g.K.Setting.dumps before c.put.new.self c.self.invariant none)

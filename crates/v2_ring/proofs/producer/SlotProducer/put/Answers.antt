@@ -1,30 +1,30 @@
-use Rattle.std.proofs.Common.{◌≡◌, ◌+◌, ◌^◌, ◌<◌, ◌≤◌, ◌∷◌, ◌++◌, [], List, ap, arith, length, refl, subst, sym}
+use Rattle.std.proofs.Common.{◌≡◌, ◌+◌, ◌^◌, ◌<◌, ◌≤◌, ◌∷◌, ◌++◌, [], ap, arith, length, refl, subst, sym}
 use Rattle.ring_model.specs.Asking.{put_by}
-use Rattle.ring_model.specs.Told.{found_by}
-use Rattle.ring_model.specs.declared.notes.Note.{Note}
 use Rattle.slot_layout.proofs.SlotBounds.{slot_bounds}
-use Rattle.slot_model.specs.SlotSteps.{SlotMayStand, slot_after, slot_state_of}
+use Rattle.slot_model.specs.SlotSteps.{slot_state_of}
 use Rattle.slot_model.proofs.Runs.{slot_goes_put}
-use Rattle.v2_ring.specs.SlotMachines.{IsSlotAt, IsSlotFew}
-use Rattle.v2_ring.specs.SlotProducing.{SlotLooks, SlotProducing}
-use Rattle.v2_ring.proofs.SlotAdding.{Stepped, added, adds_given, at_notes, few_before, kept_on, looks_given}
+use Rattle.tp_layout.specs.declared.requests.RingRequest.{RingRequest}
+use Rattle.v2_ring.specs.SlotProducing.{SlotProducing}
+use Rattle.v2_ring.proofs.SlotAdding.{Stepped, added, adds_given, at_reserved, few_before, keeps_reserved, kept_on, looks_given, looks_reserved, step_reserved}
 use Rattle.v2_ring.proofs.producer.SlotProducer.put.Goals as goal
 
-pub put-held-requires : goal.put-held-requires
-put-held-requires g c κs within =
-    let feed = g.E.FeederEnd.feed in
+pub put-found-requires : goal.put-found-requires
+put-found-requires g c κs within =
     let machine = c.self.inside.machine in
-    let notes = machine.notes.items in
-    let same = sym c.reserve.ensures.items in
+    let reserved = c.reserve.new.self in
+    let r = c.reserve.ensures.reserved in
     let count = ap (λ (p : SlotProducing g.row.E.Denot). length p.notes) c.self.view_is in
-    let few : length notes < 2 ^ 39 = omega (arith, c.requires.few, count) in
-    let fits = subst (λ s. 66 + c.args.offer.snap ≤ s.frame_size) (sym (ap (λ (p : SlotProducing g.row.E.Denot). p.shape) c.self.view_is)) c.requires.fits in
-    let reserved = record machine { notes = c.reserve.new.self } in (
+    let few : length machine.notes.items < 2 ^ 39 = omega (arith, c.requires.few, count) in
+    let view = ap (λ (p : SlotProducing g.row.E.Denot). p.shape) c.self.view_is in
+    let shape : reserved.shape ≡ machine.shape = ap (λ m. m.shape) r.same in
+    let fits = subst (λ (s : RingRequest). 66 + c.args.offer.snap ≤ s.frame_size) (sym view) c.requires.fits in (
       within,
       (
-        subst (λ (items : List Note). IsSlotAt feed 0 (slot_state_of items) reserved) same
-            (at_notes feed (slot_state_of notes) machine c.reserve.new.self c.self.invariant.at),
-        (subst (λ (items : List Note). IsSlotFew (slot_state_of items)) same (few_before notes few), (fits, c.requires.sound)),
+        at_reserved g.E.FeederEnd.feed machine reserved r c.self.invariant.at,
+        (
+          few_before reserved.notes.items (rw r.items few),
+          (c.in-Ok.ensures.room, (subst (λ (s : RingRequest). 66 + c.args.offer.snap ≤ s.frame_size) (sym shape) fits, c.requires.sound)),
+        ),
       ),
     )
 
@@ -34,53 +34,50 @@ noted_put-note-requires g c =
     let fits = subst (λ s. 66 + c.args.offer.snap ≤ s.frame_size) (sym (ap (λ (p : SlotProducing g.row.E.Denot). p.shape) c.self.view_is)) c.requires.fits in
     omega (arith, bounds.small, fits)
 
+pub invariant_of-self : goal.invariant_of-self
+invariant_of-self g c =
+    keeps_reserved g.E.FeederEnd.feed c.self.inside.machine c.reserve.new.self c.reserve.ensures.reserved _ _ c.reserve.ensures.spare c.self.invariant
+
 pub invariant_of-self-2 : goal.invariant_of-self-2
 invariant_of-self-2 g c =
     let feed = g.E.FeederEnd.feed in
     let machine = c.self.inside.machine in
+    let reserved = c.reserve.new.self in
     let notes = machine.notes.items in
-    let offer = c.args.offer in
-    let held = c.put-held.result in
-    let note = put_by offer (found_by held) in
-    let new = c.put-held.new.self in
-    let same = c.reserve.ensures.items in
+    let found = c.put-found.result in
+    let note = put_by c.args.offer found in
+    let new = c.put-found.new.self in
     let count = ap (λ (p : SlotProducing g.row.E.Denot). length p.notes) c.self.view_is in
     let few : length notes < 2 ^ 39 = omega (arith, c.requires.few, count) in
-    let step : Stepped feed (slot_state_of notes) note machine new = record {
-      at = subst (λ (items : List Note). IsSlotAt feed 0 (slot_after (slot_state_of items) note) new) same c.put-held.ensures.at;
-      stands = subst (λ (items : List Note). SlotMayStand machine.shape.frame_nr (slot_state_of items) note) same c.put-held.ensures.stands;
-      end = c.put-held.ensures.end;
-      shape = c.put-held.ensures.same.0;
-    } in
-    kept_on feed machine new notes note _ c.self.invariant step c.push_reserved.new.self c.push_reserved.new.self.items _ (slot_goes_put offer (found_by held))
-    (rw (c.push_reserved.ensures.items, c.put-held.ensures.same.1, c.reserve.ensures.items, c.noted_put-note.ensures.note) refl)
-    (rw (c.push_reserved.ensures.capacity, c.put-held.ensures.same.1) (omega (arith, c.in-Ok.ensures.ok)))
+    let from : Stepped feed (slot_state_of reserved.notes.items) note reserved new =
+    record { at = c.put-found.ensures.at; stands = c.put-found.ensures.stands; end = c.put-found.ensures.end; shape = c.put-found.ensures.same.0 } in
+    let step = step_reserved feed machine reserved c.reserve.ensures.reserved note new from in
+    kept_on feed machine new notes note _ c.self.invariant step c.push_reserved.new.self c.push_reserved.new.self.items _ (slot_goes_put c.args.offer found)
+    (rw (c.push_reserved.ensures.items, c.put-found.ensures.same.1, c.reserve.ensures.reserved.items, c.noted_put-note.ensures.note) refl)
+    (rw (c.push_reserved.ensures.capacity, c.put-found.ensures.same.1) (omega (arith, c.in-Ok.ensures.notes)))
     few
 
 pub returns-clause-put : goal.returns-clause-put
 returns-clause-put g c =
     let feed = g.E.FeederEnd.feed in
     let machine = c.self.inside.machine in
+    let reserved = c.reserve.new.self in
+    let r = c.reserve.ensures.reserved in
     let notes = machine.notes.items in
-    let offer = c.args.offer in
-    let held = c.put-held.result in
-    let note = put_by offer (found_by held) in
-    let new = c.put-held.new.self in
-    let same = c.reserve.ensures.items in
-    let step : Stepped feed (slot_state_of notes) note machine new = record {
-      at = subst (λ (items : List Note). IsSlotAt feed 0 (slot_after (slot_state_of items) note) new) same c.put-held.ensures.at;
-      stands = subst (λ (items : List Note). SlotMayStand machine.shape.frame_nr (slot_state_of items) note) same c.put-held.ensures.stands;
-      end = c.put-held.ensures.end;
-      shape = c.put-held.ensures.same.0;
-    } in
+    let found = c.put-found.result in
+    let note = put_by c.args.offer found in
+    let new = c.put-found.new.self in
+    let from : Stepped feed (slot_state_of reserved.notes.items) note reserved new =
+    record { at = c.put-found.ensures.at; stands = c.put-found.ensures.stands; end = c.put-found.ensures.end; shape = c.put-found.ensures.same.0 } in
+    let step = step_reserved feed machine reserved r note new from in
     let pushed : c.push_reserved.new.self.items ≡ notes ++ note ∷ [] =
-    rw (c.push_reserved.ensures.items, c.put-held.ensures.same.1, c.reserve.ensures.items, c.noted_put-note.ensures.note) refl in
+    rw (c.push_reserved.ensures.items, c.put-found.ensures.same.1, r.items, c.noted_put-note.ensures.note) refl in
     let adds = added feed machine new notes note _ c.self.invariant step c.push_reserved.new.self.items pushed in
-    let looks = subst (λ (items : List Note). SlotLooks machine.shape.frame_nr (slot_state_of items) held (feed machine.end) (feed new.end)) same c.put-held.ensures.looks in (
-      held,
+    let looks = looks_reserved feed machine reserved r found (feed new.end) c.put-found.ensures.looks in (
+      found,
       record {
         adds = adds_given feed _ c.args.self.now _ c.self.view_is note adds;
         told = c.noted_put-note.ensures.put;
-        looks = looks_given feed _ c.args.self.now c.self.view_is held (feed new.end) looks;
+        looks = looks_given feed _ c.args.self.now c.self.view_is found (feed new.end) looks;
       },
     )

@@ -1,0 +1,111 @@
+//! The bytes of a block or of a slot, which cost nothing until they are written.
+ghost use Rattle.std.specs.Prelude.{◌≡◌, ◌≤◌, ℕ, [], length, replicate, IfOk};
+ghost use Rattle.std.specs.Arc.{arc_value};
+ghost use Rattle.std.specs.Vec.{vec_capacity};
+ghost use Rattle.tp_layout.specs.Writing.{bytes_or_zeros};
+
+use frame_view::Memory;
+use std::alloc::Global;
+use std::mem;
+use std::sync::Arc;
+
+/// Bytes that are zeros until the first write.
+#[derive(Debug, Drop)]
+pub struct LazyBytes {
+    /// The bytes. Until the first write there are none.
+    pub written: Vec<u8>,
+    /// As many zeros, which all blocks or slots of a ring share: the bytes until the first write.
+    pub zeros: Arc<Vec<u8>, Global>,
+}
+
+/// As many zeros as a block or a slot has bytes, to be shared.
+pub fn zeros(alloc: Global, size: u32) -> Result<Arc<Vec<u8>, Global>, Memory>
+    ensures { IfOk result (λ zeros. (arc_value zeros).items ≡ replicate size 0) }
+{
+    let bytes = vec![in alloc; 0; size as usize]?;
+    Ok(Arc::new(alloc, bytes)?)
+}
+
+impl LazyBytes {
+    /// As many bytes as there are zeros, without room for a write: `begin_in` brings it.
+    pub fn new(alloc: Global, zeros: &Arc<Vec<u8>, Global>) -> Result<LazyBytes, Memory>
+        ensures written { IfOk result (λ bytes. bytes.written.items ≡ []) }
+        ensures zeros { IfOk result (λ bytes. arc_value bytes.zeros ≡ arc_value zeros.now) }
+    {
+        Ok(LazyBytes {
+            written: Vec::new(alloc),
+            zeros: Arc::try_clone(zeros)?,
+        })
+    }
+
+    /// As many bytes as there are zeros, with room for this size, which costs nothing more until the first write.
+    pub fn with_room(
+        alloc: Global,
+        zeros: &Arc<Vec<u8>, Global>,
+        size: u32,
+    ) -> Result<LazyBytes, Memory>
+        ensures written { IfOk result (λ bytes. bytes.written.items ≡ []) }
+        ensures zeros { IfOk result (λ bytes. arc_value bytes.zeros ≡ arc_value zeros.now) }
+        ensures room { IfOk result (λ bytes. size ≤ vec_capacity bytes.written) }
+    {
+        Ok(LazyBytes {
+            written: Vec::with_capacity(alloc, size as usize)?,
+            zeros: Arc::try_clone(zeros)?,
+        })
+    }
+
+    /// The bytes.
+    pub fn as_slice(&self) -> &[u8]
+        ensures { (size : ℕ) → (arc_value self.now.zeros).items ≡ replicate size 0
+            → result.now ≡ bytes_or_zeros size self.now.written.items }
+    {
+        if self.written.is_empty() {
+            return self.zeros.as_slice();
+        }
+        self.written.as_slice()
+    }
+
+    /// Makes them bytes of this size that can be written, where they were never written and have room for it.
+    pub fn begin(&mut self, size: u32)
+        requires room { self.old.written.items ≡ [] → size ≤ vec_capacity self.old.written }
+        ensures written { self.new.written.items ≡ bytes_or_zeros size self.old.written.items }
+        ensures zeros { arc_value self.new.zeros ≡ arc_value self.old.zeros }
+    {
+        zeros_first(&mut self.written, size);
+    }
+
+    /// Makes them bytes of this size that can be written. Where they were never written they take this room, of which
+    /// the content is lost.
+    pub fn begin_in(&mut self, room: &mut Vec<u8>, size: u32)
+        requires room { size ≤ vec_capacity room.old }
+        ensures written { self.new.written.items ≡ bytes_or_zeros size self.old.written.items }
+        ensures zeros { arc_value self.new.zeros ≡ arc_value self.old.zeros }
+    {
+        take_room(&mut self.written, room, size);
+    }
+}
+
+/// Makes zeros of bytes that were never written.
+fn zeros_first(bytes: &mut Vec<u8>, size: u32)
+    requires room { bytes.old.items ≡ [] → size ≤ vec_capacity bytes.old }
+    ensures { bytes.new.items ≡ bytes_or_zeros size bytes.old.items }
+{
+    if bytes.is_empty() {
+        match bytes.resize(size as usize, 0) {
+            Ok(()) => {}
+            Err(_) => unreachable!(),
+        }
+    }
+}
+
+/// Makes zeros in this room of bytes that were never written.
+fn take_room(bytes: &mut Vec<u8>, room: &mut Vec<u8>, size: u32)
+    requires room { size ≤ vec_capacity room.old }
+    ensures { bytes.new.items ≡ bytes_or_zeros size bytes.old.items }
+{
+    if bytes.is_empty() {
+        room.clear();
+        mem::swap(bytes, room);
+        zeros_first(bytes, size);
+    }
+}
