@@ -4,20 +4,14 @@ use mathlib.Core.Logic.{∥∥₁_prop}
 use Rattle.std.proofs.Math.Logic.{∥∥₁_elim}
 use Rattle.std.proofs.Props.{props}
 use Rattle.std.proofs.lemmas.List.{take_all}
-use Rattle.std.specs.Prelude.{Err, Ok, Result}
 use Rattle.frame_view.specs.declared.frames.Packet.{Packet}
 use Rattle.reader_walk.specs.Takers.{IsRetired, Taken, taken_in}
 use Rattle.reader_walk.specs.Texts.{text_of_taken}
 use Rattle.tp_layout.proofs.Opens.{length-block_text}
-use Rattle.tp_layout.specs.Blocks.{BeginsWith, IsLawful, block_text}
+use Rattle.tp_layout.specs.Blocks.{BeginsWith, HasText, block_text}
 use Rattle.tp_layout.specs.Reading.{IsTextOf}
-use Rattle.tp_layout.specs.declared.error.LayoutError.{LayoutError}
 use Rattle.tp_layout.specs.declared.requests.RingRequest.{RingRequest}
 use Rattle.work_queue.specs.Works.{IsLawfulText, IsTextWith}
-
--- what is read isn't refused
-pub refused : (answer : Result (List Packet) LayoutError) (fault : LayoutError) (packets : List Packet) → answer ≡ Err fault → answer ≡ Ok packets → ⊥
-refused answer fault packets no_packets some = cc
 
 -- of a block that begins with a lawful text are read that text's number, status and packets
 abbrev pub IsRead : Type 0
@@ -36,20 +30,12 @@ module _ (tells : IsRead) (shape : RingRequest) (text : List ℕ) (small : shape
       → taken_in shape text ≡ record { number = number; status = status; packets = packets }
   says_with number status packets is = tells shape number status packets text small (begins number status packets is)
 
-  -- it has its descriptor, and goes into a block
-  header_with : (number status : ℕ) (packets : List Packet) → IsTextWith shape number status packets text → 48 ≤ length text
-  header_with number status packets is =
-      let long = ap length is.text_is ∙ length-block_text shape number status packets in
-      omega (arith, long)
-
+  -- it goes into a block
   within_with : (number status : ℕ) (packets : List Packet) → IsTextWith shape number status packets text → length text ≤ shape.block_size
   within_with number status packets is =
       let long = ap length is.text_is ∙ length-block_text shape number status packets in
       let fits = is.lawful.fits in
       omega (arith, long, fits)
-
-  pub header : IsLawfulText shape text → 48 ≤ length text
-  header t = ∥∥₁_elim t.2 (search props) (λ p. header_with t.0 t.1 p.0 p.1)
 
   pub within : IsLawfulText shape text → length text ≤ shape.block_size
   within t = ∥∥₁_elim t.2 (search props) (λ p. within_with t.0 t.1 p.0 p.1)
@@ -58,17 +44,20 @@ module _ (tells : IsRead) (shape : RingRequest) (text : List ℕ) (small : shape
   pub says : IsLawfulText shape text → text ≡ text_of_taken shape (taken_in shape text)
   says t = ∥∥₁_elim t.2 (search props) (λ p. p.1.text_is ∙ ap (text_of_taken shape) (sym (says_with t.0 t.1 p.0 p.1)))
 
-  -- the packets that were found in it are those that it says
-  pub found : (packets : List Packet) → IsTextOf shape text packets → packets ≡ (taken_in shape text).packets
-  found packets is =
-      sym (ap (λ (taken : Taken). taken.packets) (says_with is.0 is.1 packets (record { lawful = is.2; text_is = is.3 })))
+  -- it is a block's bytes up to their end
+  pub lawful_bytes : IsLawfulText shape text → IsRetired shape text
+  lawful_bytes t = (t.0, t.1, ∥∥₁_elim t.2 ∥∥₁_prop (λ p. ∣ (p.0, begins t.0 t.1 p.0 p.1) ∣₁))
 
-  -- it isn't refused
-  pub not_refused : (answer : Result (List Packet) LayoutError) (fault : LayoutError) → answer ≡ Err fault
-      → ((number status : ℕ) (packets : List Packet) → IsLawful shape number status packets → text ≡ block_text shape number status packets → answer ≡ Ok packets)
-      → IsLawfulText shape text → ⊥
-  not_refused answer fault is only t =
-      ∥∥₁_elim t.2 (λ x y. absurd x) (λ p. refused answer fault p.0 is (only t.0 t.1 p.0 p.1.lawful p.1.text_is))
+  -- the packets that were found in it are those that it says
+  pub found : (packets : List Packet) → HasText shape text packets → packets ≡ (taken_in shape text).packets
+  found packets is = sym (ap (λ (taken : Taken). taken.packets) (tells shape is.0 is.1 packets text small is.2))
+
+  -- and it has nothing else
+  pub whole : (packets : List Packet) → HasText shape text packets → IsLawfulText shape text → IsTextOf shape text packets
+  whole packets is t =
+      let said : text_of_taken shape (taken_in shape text) ≡ block_text shape is.0 is.1 packets =
+      ap (text_of_taken shape) (tells shape is.0 is.1 packets text small is.2) in
+      (is.0, is.1, is.2.lawful, says t ∙ said)
 
 module _ (tells : IsRead) (shape : RingRequest) (bytes text : List ℕ) (small : shape.block_size ≤ 1048576)
     (copied : (number status : ℕ) (packets : List Packet) → BeginsWith shape number status packets bytes → text ≡ block_text shape number status packets) where

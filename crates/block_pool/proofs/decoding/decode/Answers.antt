@@ -1,27 +1,38 @@
-use Rattle.std.proofs.Common.{List, ℕ, ◌∙◌, subst}
-use Rattle.tp_layout.specs.Reading.{IsTextOf}
-use Rattle.block_pool.proofs.Texts.{found, header, not_refused, within}
+use Rattle.std.proofs.Common.{◌≡◌, ◌++◌, List, ℕ, ◌∙◌, ap, sym, subst}
+use Rattle.frame_view.specs.declared.frames.Packet.{Packet}
+use Rattle.reader_walk.specs.Takers.{IsRetired}
+use Rattle.tp_layout.specs.Blocks.{HasText}
+use Rattle.block_pool.proofs.Texts.{found, lawful_bytes, whole, within}
 use Rattle.block_pool.proofs.decoding.decode.Goals as goal
 
-pub walk_text-requires-clause-header : goal.walk_text-requires-clause-header
-walk_text-requires-clause-header c =
+pub packets_of-requires : goal.packets_of-requires
+packets_of-requires c =
     let work = c.args.work.now in
-    rw c.as_slice.ensures (header c.a_text_is_read_as_it_was_written.ensures work.shape work.text c.a_shape_is_sound.ensures.sound.small c.requires.lawful)
+    let law = c.a_text_is_read_as_it_was_written.ensures in
+    let small = c.a_shape_is_sound.ensures.sound.small in
+    record {
+      size = rw c.as_slice.ensures (within law work.shape work.text small c.requires.lawful);
+      lawful = subst (λ (t : List ℕ). IsRetired work.shape t) (sym c.as_slice.ensures) (lawful_bytes law work.shape work.text small c.requires.lawful);
+    }
 
-pub walk_text-requires-clause-size : goal.walk_text-requires-clause-size
-walk_text-requires-clause-size c =
+pub returns-clause-packets : goal.returns-clause-packets
+returns-clause-packets c =
     let work = c.args.work.now in
-    rw c.as_slice.ensures (within c.a_text_is_read_as_it_was_written.ensures work.shape work.text c.a_shape_is_sound.ensures.sound.small c.requires.lawful)
-
-pub unreachable-requires : goal.unreachable-requires
-unreachable-requires c =
-    let work = c.args.work.now in
-    not_refused c.a_text_is_read_as_it_was_written.ensures work.shape work.text c.a_shape_is_sound.ensures.sound.small c.walk_text.result c.in-Err.field-0 c.in-Err.is
-    (λ number status packets lawful is. c.walk_text.ensures.only number status packets lawful (c.as_slice.ensures ∙ is)) c.requires.lawful
+    let law = c.a_text_is_read_as_it_was_written.ensures in
+    let small = c.a_shape_is_sound.ensures.sound.small in
+    let all : c.from_vec.result ≡ c.packets_of.result =
+    c.from_vec.ensures ∙ c.in_ok-push_copies.ensures.copies ∙ ap (λ (ps : List Packet). ps ++ c.packets_of.result) c.new-packets.ensures.items in
+    let has = subst (λ (ps : List Packet). HasText work.shape work.text ps) (sym all)
+    (subst (λ (t : List ℕ). HasText work.shape t c.packets_of.result) c.as_slice.ensures c.packets_of.ensures.found) in
+    whole law work.shape work.text small c.from_vec.result has c.requires.lawful
 
 pub returns-clause-taken : goal.returns-clause-taken
 returns-clause-taken c =
     let work = c.args.work.now in
-    c.from_vec.ensures ∙ c.in_ok-copies-in-Ok.ensures
-    ∙ found c.a_text_is_read_as_it_was_written.ensures work.shape work.text c.a_shape_is_sound.ensures.sound.small c.in-Ok.walk
-    (subst (λ (t : List ℕ). IsTextOf work.shape t c.in-Ok.walk) c.as_slice.ensures c.in-Ok.ensures.found)
+    let law = c.a_text_is_read_as_it_was_written.ensures in
+    let small = c.a_shape_is_sound.ensures.sound.small in
+    let all : c.from_vec.result ≡ c.packets_of.result =
+    c.from_vec.ensures ∙ c.in_ok-push_copies.ensures.copies ∙ ap (λ (ps : List Packet). ps ++ c.packets_of.result) c.new-packets.ensures.items in
+    let has = subst (λ (ps : List Packet). HasText work.shape work.text ps) (sym all)
+    (subst (λ (t : List ℕ). HasText work.shape t c.packets_of.result) c.as_slice.ensures c.packets_of.ensures.found) in
+    found law work.shape work.text small c.from_vec.result has
