@@ -1,7 +1,6 @@
 pub mod Places
 pub mod Givings
 pub mod Sends
-pub mod BlockPackets
 pub mod Forwards
 pub mod Bridged
 pub mod PlainRequests

@@ -1,19 +1,19 @@
 //! What receives on one ring and transmits on another.
 //!
-//! A forwarder reads each block as a reader does, and gives the packets of the block to a sender. So they go out while
+//! A forwarder reads each block as a reader does, and gives the packets that were read to a sender. So they go out while
 //! the run goes on, whenever all slots of the transmit ring are requested, and what is then left goes out at the end.
-//! Where memory runs out, packets that the sender was not given stay with the forwarder, and the next call goes on with
-//! them: none is lost, and none is sent twice.
+//! Where memory runs out, the sender was given a part of the packets, and the next call goes on with the rest: none is
+//! lost, and none is sent twice.
 ghost use Rattle.std.specs.Prelude.{◌≡◌, ◌^◌, ◌<◌, ◌≤◌, length, None, IfOk, OnErr, OnOk};
-ghost use Rattle.reader_walk.specs.Takers.{IsReadable, taken_in};
+ghost use Rattle.reader_walk.specs.Takers.{IsReadable};
 ghost use Rattle.tp_layout.specs.Requests.{transmit_fault};
 
 use crate::sender::Sender;
 use frame_view::{Memory, Packets};
-use reader_walk::{Outputs, Reader, Taker, a_text_is_read_as_it_was_written};
+use reader_walk::{Outputs, Reader, Taker, a_block_has_few_packets};
 use std::alloc::Global;
 use std::marker::Model;
-use tp_layout::{Block, Shape, a_shape_is_sound};
+use tp_layout::{Block, Shape};
 
 /// What a forwarder leaves.
 #[derive(Debug, Drop)]
@@ -32,17 +32,11 @@ pub struct Forwarded {
 /// the blocks that it has read.
 #[derive(Drop)]
 pub struct Forwarder {
-    /// Gives the memory for the packets of a block.
-    alloc: Global,
-    /// The shape of the blocks.
-    shape: Shape,
     /// What was received.
     reader: Reader,
     /// What it sends with.
     sender: Sender,
-    /// The packets of the last block that was read.
-    last: Packets,
-    /// How many of them the sender was given. It was given all packets of the earlier blocks.
+    /// How many of the packets that were received the sender was given.
     given: usize,
 }
 
@@ -68,11 +62,8 @@ impl Forwarder {
         ensures { IfOk result (λ forwarder. forwarder ≡ new_forwarder shape tx dump) }
     {
         Ok(Forwarder {
-            alloc,
-            shape,
             reader: Reader::new(alloc, shape, dump),
             sender: Sender::new(alloc, tx)?,
-            last: Packets::new(alloc),
             given: 0,
         })
     }
@@ -84,11 +75,9 @@ impl Forwarder {
         let Forwarder {
             reader,
             mut sender,
-            last,
             mut given,
-            ..
         } = self;
-        sender.give_all(last.as_slice(), &mut given)?;
+        sender.give_all(reader.walked(), &mut given)?;
         sender.send()?;
         Ok(Forwarded {
             outputs: reader.outputs(),
@@ -104,28 +93,10 @@ impl Forwarder {
         ensures read { OnOk result (self.new ≡ has_forwarded block.now.bytes self.old) }
         ensures base { OnErr result (base_of self.new ≡ base_of self.old) }
     {
-        self.sender.give_all(self.last.as_slice(), &mut self.given)?;
-        let packets = packets_in(self.alloc, self.shape, block)?;
+        a_block_has_few_packets(block);
         self.reader.walk_block(block)?;
-        self.last = packets;
-        self.given = 0;
-        self.sender.give_all(self.last.as_slice(), &mut self.given)
+        self.sender.give_all(self.reader.walked(), &mut self.given)
     }
-}
-
-/// The packets of a block that can be read.
-fn packets_in(alloc: Global, shape: Shape, block: &Block) -> Result<Packets, Memory>
-    requires { IsReadable shape block.now }
-    ensures packets { IfOk result (λ packets.
-        packets ≡ (taken_in shape block.now.bytes).packets) }
-    ensures few { IfOk result (λ packets. length packets ≤ 16383) }
-{
-    a_text_is_read_as_it_was_written();
-    // A block has at most 1 MiB, and each packet takes at least 88 bytes of it.
-    a_shape_is_sound(&shape);
-    let mut reader = Reader::new(alloc, shape, false);
-    reader.walk_block(block)?;
-    Ok(reader.outputs().walked)
 }
 
 impl Taker for Forwarder {

@@ -50,8 +50,8 @@ impl Sender {
     pub(crate) fn give_all(&mut self, packets: &[Packet], given: &mut usize) -> Result<(), Memory>
         requires going { IsGoing self.old.ring }
         requires within { given.old ≤ length packets.now }
-        requires few { self.old.ring.placed + length packets.now < 2 ^ 54 }
-        requires counted { self.old.skipped + length packets.now < 2 ^ 54 }
+        requires few { self.old.ring.placed + length packets.now < given.old + 2 ^ 54 }
+        requires counted { self.old.skipped + length packets.now < given.old + 2 ^ 54 }
         ensures going { IsGoing self.new.ring }
         ensures shape { self.new.ring.shape ≡ self.old.ring.shape }
         ensures within { given.new ≤ length packets.now }
@@ -100,21 +100,19 @@ impl Sender {
         ensures few { self.new.ring.placed ≤ self.old.ring.placed + 1 }
         ensures counted { self.new.skipped ≤ self.old.skipped + 1 }
     {
-        let frame = retag(self.alloc, packet)?;
-        if frame.len() < LEAST {
-            self.skipped += 1;
-            return Ok(());
+        if packet.tag.is_none() {
+            return self.queue(packet.bytes.as_slice());
         }
+        let frame = retag(self.alloc, packet)?;
         self.queue(frame.as_slice())
     }
 
-    /// Queues a frame that is no runt; where all slots are requested it sends first. A frame that is longer than what
-    /// fits into a slot is skipped. After `Memory` the frame was not queued.
+    /// Queues a frame; where all slots are requested it sends first. A frame that is a runt, or is longer than what fits
+    /// into a slot, is skipped. After `Memory` the frame was not queued.
     fn queue(&mut self, frame: &[u8]) -> Result<(), Memory>
         requires going { IsGoing self.old.ring }
         requires few { self.old.ring.placed < 2 ^ 54 }
         requires counted { self.old.skipped < 2 ^ 54 }
-        requires whole { 14 ≤ length frame.now }
         ensures going { IsGoing self.new.ring }
         ensures shape { self.new.ring.shape ≡ self.old.ring.shape }
         ensures given { OnOk result ((given : List GivenPacket) (packet : GivenPacket)
@@ -125,6 +123,10 @@ impl Sender {
         ensures few { self.new.ring.placed ≤ self.old.ring.placed + 1 }
         ensures counted { self.new.skipped ≤ self.old.skipped + 1 }
     {
+        if frame.len() < LEAST {
+            self.skipped += 1;
+            return Ok(());
+        }
         match self.ring.queue(frame) {
             Ok(()) => Ok(()),
             Err(TxError::TooLong) => {
