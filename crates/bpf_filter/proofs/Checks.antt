@@ -5,29 +5,21 @@ use Rattle.std.proofs.lemmas.Grind.{common_steps}
 use Rattle.std.proofs.Math.Seq.{drop-cons, take-length, drop-length, take-suc}
 use Rattle.std.proofs.lemmas.List.{length-drop}
 use Rattle.bpf_filter.specs.declared.insn.Insn.{Insn}
-use Rattle.bpf_filter.specs.declared.steps.Step.{Step}
 use Rattle.bpf_filter.specs.declared.error.FilterError.{FilterError}
 use Rattle.bpf_filter.specs.declared.error.FilterError.TheVariants.{BadCode, BadCount, NoReturn, Memory}
-use Rattle.std.specs.Prelude.{Result, Ok, Err, if◌then◌else◌, nat_lt}
+use Rattle.std.specs.Prelude.{Result, Ok, Err, if◌then◌else◌, is_some, nat_lt}
 use Rattle.std.proofs.lemmas.Option.{none-some}
-use Rattle.bpf_filter.specs.Answers.{IsFault, Refuses}
+use Rattle.bpf_filter.specs.Answers.{Refuses}
 use Rattle.bpf_filter.specs.Codes.{is_code}
-use Rattle.bpf_filter.specs.Programs.{program_of, program_after, fault_of, fault_of_known, first_fault, ends_with_return, is_among, has_bad_constant, has_bad_word}
-use Rattle.bpf_filter.specs.Stands.{StandFor, StandsFor}
+use Rattle.bpf_filter.specs.Programs.{program_of, program_after, fault_of, fault_of_known, first_fault, ends_with_return, is_among, has_bad_constant, has_bad_word, IsRunnable}
+use Rattle.bpf_filter.proofs.Runs.{AreRunnable}
 
--- no instruction before the place has a fault, and the steps stand for these
-pub record Checked (code : List Insn) (at : ℕ) (steps : List Step) : Type 0 where
+-- no instruction before the place has a fault
+pub record Checked (code : List Insn) (at : ℕ) : Type 0 where
   pub before : first_fault 0 code ≡ first_fault at (drop at code)
-  pub stand : StandFor steps (take at code)
 
-pub checked_none : (code : List Insn) → Checked code 0 []
-checked_none code = record { before = refl; stand = tt }
-
-StandFor-push : (steps : List Step) (code : List Insn) (step : Step) (i : Insn) → StandFor steps code → StandsFor step i → StandFor (steps ++ (step ∷ [])) (code ++ (i ∷ []))
-StandFor-push [] [] step i h g = (g, tt)
-StandFor-push [] (j ∷ code) step i h g = absurd h
-StandFor-push (s ∷ steps) [] step i h g = absurd h
-StandFor-push (s ∷ steps) (j ∷ code) step i h g = (h.0, StandFor-push steps code step i h.1 g)
+pub checked_none : (code : List Insn) → Checked code 0
+checked_none code = record { before = refl }
 
 -- the fault of the instruction at the place, with the faults after it
 fault_here : (code : List Insn) (at : ℕ) (d : Insn) → at < length code → first_fault at (drop at code) ≡ option_or (fault_of at (length code - at - 1) (get_or code at d)) (first_fault (at + 1) (drop (at + 1) code))
@@ -37,34 +29,25 @@ fault_here code at d l =
     ap (first_fault at) here
     ∙ ap (λ n. option_or (fault_of at n (get_or code at d)) (first_fault (at + 1) (drop (at + 1) code))) behind
 
-take_one_more : (code : List Insn) (at : ℕ) (d : Insn) → at < length code → take (at + 1) code ≡ take at code ++ (get_or code at d ∷ [])
-take_one_more code at d l = rw add-one (take-suc code at d l)
-
-pub checked_more : (code : List Insn) (at : ℕ) (steps more : List Step) (d : Insn) (step : Step)
-    → Checked code at steps → at < length code → more ≡ steps ++ (step ∷ [])
-    → fault_of at (length code - at - 1) (get_or code at d) ≡ None → StandsFor step (get_or code at d) → Checked code (at + 1) more
-checked_more code at steps more d step c l e f s = record {
+-- the next instruction has no fault, or the first one
+pub checked_more : (code : List Insn) (at : ℕ) (d : Insn) (found : Option FilterError) → Checked code at → at < length code
+    → found ≡ fault_of at (length code - at - 1) (get_or code at d) → is_some found ≡ false → Checked code (at + 1)
+checked_more code at d None c l f none = record {
   before = c.before ∙ fault_here code at d l
-      ∙ ap (λ fault. option_or fault (first_fault (at + 1) (drop (at + 1) code))) f;
-  stand = subst (λ steps. StandFor steps (take (at + 1) code)) (sym e)
-      (subst (StandFor (steps ++ (step ∷ []))) (sym (take_one_more code at d l))
-      (StandFor-push steps (take at code) step (get_or code at d) c.stand s));
+      ∙ ap (λ fault. option_or fault (first_fault (at + 1) (drop (at + 1) code))) (sym f);
 }
+checked_more code at d (Some fault) c l f none = cc
 
-pub checked_fault : (code : List Insn) (at : ℕ) (steps : List Step) (d : Insn) (fault : FilterError) → Checked code at steps → at < length code → fault_of at (length code - at - 1) (get_or code at d) ≡ Some fault → IsFault fault (first_fault 0 code)
-checked_fault code at steps d fault c l f =
-    told fault (first_fault 0 code)
-    (c.before ∙ fault_here code at d l ∙ ap (λ fault. option_or fault (first_fault (at + 1) (drop (at + 1) code))) f)
-  where
-    told : (error : FilterError) (fault : Option FilterError) → fault ≡ Some error → IsFault error fault
-    told Memory fault h = tt
-    told error fault h = h
+pub checked_fault : (code : List Insn) (at : ℕ) (d : Insn) (found : Option FilterError) → Checked code at → at < length code
+    → found ≡ fault_of at (length code - at - 1) (get_or code at d) → is_some found ≡ true → found ≡ first_fault 0 code
+checked_fault code at d None c l f some = cc
+checked_fault code at d (Some fault) c l f some =
+    sym (c.before ∙ fault_here code at d l ∙ ap (λ fault. option_or fault (first_fault (at + 1) (drop (at + 1) code))) (sym f))
 
-pub checked_all : (code : List Insn) (at : ℕ) (steps : List Step) → Checked code at steps → at ≡ length code → (first_fault 0 code ≡ None) × StandFor steps code
-checked_all code at steps c e =
+pub checked_all : (code : List Insn) (at : ℕ) → Checked code at → at ≡ length code → None ≡ first_fault 0 code
+checked_all code at c e =
     let none : drop at code ≡ [] = ap (λ n. drop n code) e ∙ drop-length code in
-    let all : take at code ≡ code = ap (λ n. take n code) e ∙ take-length code in
-    (c.before ∙ ap (first_fault at) none, subst (StandFor steps) all c.stand)
+    sym (c.before ∙ ap (first_fault at) none)
 
 last_behind : (i j : Insn) (code : List Insn) (d : Insn) → get_or (j ∷ code) (length (j ∷ code) - 1) d ≡ get_or (i ∷ j ∷ code) (length (i ∷ j ∷ code) - 1) d
 last_behind i j code d = grind (arith, common_steps)
@@ -84,13 +67,22 @@ second_test_fails false false a b rest h = refl
 pub has_no_bad_word : (at behind : ℕ) (i : Insn) → fault_of_known at behind i ≡ None → has_bad_word i ≡ false
 has_no_bad_word at behind i h = second_test_fails (has_bad_constant i) (has_bad_word i) _ _ _ h
 
-pub fault_of-known : (at behind : ℕ) (i : Insn) → is_code i.code ≡ true → fault_of at behind i ≡ fault_of_known at behind i
+-- where no instruction has a fault, each can be run
+one_is_runnable : (at behind : ℕ) (i : Insn) → fault_of at behind i ≡ None → IsRunnable i
 unfolding fault_of
-fault_of-known at behind i h = rw h refl
+one_is_runnable at behind i h = by_test (is_code i.code) refl h
+  where
+    by_test : (known : Bool) → is_code i.code ≡ known → (if known then fault_of_known at behind i else Some (BadCode at)) ≡ None → IsRunnable i
+    by_test true is h = record { known = is; word = has_no_bad_word at behind i h }
+    by_test false is h = absurd (none-some (BadCode at) (sym h))
 
-pub fault_of-unknown : (at behind : ℕ) (i : Insn) → is_code i.code ≡ false → fault_of at behind i ≡ Some (BadCode at)
-unfolding fault_of
-fault_of-unknown at behind i h = rw h refl
+pub are_runnable : (at : ℕ) (code : List Insn) → first_fault at code ≡ None → AreRunnable code
+are_runnable at [] h = tt
+are_runnable at (i ∷ code) h = by_fault (fault_of at (length code) i) refl h (λ rest. are_runnable (at + 1) code rest)
+  where
+    by_fault : (fault : Option FilterError) → fault_of at (length code) i ≡ fault → option_or fault (first_fault (at + 1) code) ≡ None → (first_fault (at + 1) code ≡ None → AreRunnable code) → AreRunnable (i ∷ code)
+    by_fault None e h rest = (one_is_runnable at (length code) i e, rest h)
+    by_fault (Some fault) e h rest = absurd (none-some fault (sym h))
 
 -- ---- the whole program
 
@@ -114,11 +106,11 @@ program_of-small code h =
     let short : nat_lt 4096 (length code) ≡ false = grind arith in
     not_too_many _ _ _ short
 
-refuses_after : (error : FilterError) (fault : Option FilterError) (code : List Insn) → IsFault error fault → Refuses error (program_after fault code)
+refuses_after : (error : FilterError) (fault : Option FilterError) (code : List Insn) → fault ≡ Some error → Refuses error (program_after fault code)
 refuses_after Memory fault code h = tt
 refuses_after error fault code h = ap (λ fault. program_after fault code) h
 
-pub refuses_fault : (error : FilterError) (code : List Insn) → length code ≤ 4096 → IsFault error (first_fault 0 code) → Refuses error (program_of code)
+pub refuses_fault : (error : FilterError) (code : List Insn) → length code ≤ 4096 → first_fault 0 code ≡ Some error → Refuses error (program_of code)
 refuses_fault error code l h = subst (Refuses error) (sym (program_of-small code l)) (refuses_after error (first_fault 0 code) code h)
 
 pub program_of-no_return : (code : List Insn) → length code ≤ 4096 → first_fault 0 code ≡ None → ends_with_return code ≡ false → program_of code ≡ Err NoReturn

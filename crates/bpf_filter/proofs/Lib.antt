@@ -1,5 +1,3 @@
-mod Agreement
 mod Checks
 mod Listed
-mod Rows
 mod Runs

@@ -1,5 +1,5 @@
 -- What a call answers, where it doesn't run out of memory.
-use Rattle.std.specs.Prelude.{◌≡◌, Option, Some, Result, Ok, Err}
+use Rattle.std.specs.Prelude.{◌≡◌, Result, Ok, Err}
 use Rattle.bpf_filter.specs.declared.error.FilterError.{FilterError}
 use Rattle.bpf_filter.specs.declared.error.FilterError.TheVariants.{Memory}
 
@@ -11,8 +11,3 @@ Refuses error right = right ≡ Err error
 abbrev pub Gives : {X Y : Type 0} → (X → Y) → Result X FilterError → Result Y FilterError → Type 0
 Gives view (Ok value) right = right ≡ Ok (view value)
 Gives view (Err error) right = Refuses error right
-
--- the error is the fault, unless memory was wanted
-abbrev pub IsFault : FilterError → Option FilterError → Type 0
-IsFault Memory fault = Unit {0}
-IsFault error fault = fault ≡ Some error

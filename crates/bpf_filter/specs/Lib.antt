@@ -2,11 +2,8 @@ pub mod Answers
 pub mod Codes
 pub mod Listings
 pub mod Machines
-pub mod Meanings
 pub mod Programs
 pub mod Sight
-pub mod Stands
-pub mod Steps
 pub mod Tables
 pub mod Verdict
 pub mod Words

@@ -1,5 +1,5 @@
 -- The programs that are accepted, and the first fault of one that isn't.
-use Rattle.std.specs.Prelude.{ℕ, ◌+◌, Bool, false, not, ◌&&◌, ◌||◌, List, [], ◌∷◌, length, nat_lt, nat_le, ◌==◌, if◌then◌else◌, Option, None, Some, is_some, Result, Ok, Err}
+use Rattle.std.specs.Prelude.{◌≡◌, ℕ, ◌+◌, Bool, true, false, not, ◌&&◌, ◌||◌, List, [], ◌∷◌, length, nat_lt, nat_le, ◌==◌, if◌then◌else◌, Option, None, Some, is_some, Result, Ok, Err}
 use Rattle.std.specs.List.{list_any}
 use Rattle.std.specs.Option.{option_or}
 use Rattle.bpf_filter.specs.declared.insn.Insn.{Insn}
@@ -63,3 +63,8 @@ program_after None program = if ends_with_return program then Ok program else Er
 unfoldable pub program_of : List Insn → Result (List Insn) FilterError
 program_of program =
     if nat_lt 4096 (length program) then Err BadCount else program_after (first_fault 0 program) program
+
+-- an instruction whose code is known, and whose memory word is there
+pub record IsRunnable (i : Insn) : Type 0 where
+  pub known : is_code i.code ≡ true
+  pub word : has_bad_word i ≡ false

@@ -4,11 +4,10 @@
 mod error;
 mod insn;
 mod listing;
+mod loads;
 mod machine;
-mod meanings;
 mod packets;
 mod program;
-mod steps;
 
 pub use error::FilterError;
 pub use insn::Insn;

@@ -1,28 +1,26 @@
-//! The machine that runs a program: its registers and its memory.
-ghost use Rattle.std.specs.Prelude.{◌≡◌, ◌<◌, Some};
-ghost use Rattle.bpf_filter.specs.Codes.{number_at};
+//! The machine that runs a program: its registers and its memory. The names beside the codes are those of
+//! `linux/bpf_common.h` and `linux/filter.h`.
+ghost use Rattle.std.specs.Prelude.{◌≡◌, ◌<◌, Some, if◌then◌else◌};
+ghost use Rattle.bpf_filter.specs.Codes.{GoesOn, effect, left_shift, load_a, load_x, right_shift, to_word};
+ghost use Rattle.bpf_filter.specs.Machines.{next_of, state_of};
+ghost use Rattle.bpf_filter.specs.Programs.{IsRunnable};
 ghost use Rattle.bpf_filter.specs.Sight.{sight_of};
-ghost use Rattle.bpf_filter.specs.Steps.{HasWord, HasWords, outcome, number_of_fact, number_of_value, number_of_operand, result_of, answer_of, bytes_of};
-ghost use Rattle.bpf_filter.specs.Machines.{state_of, next_of};
 ghost use Rattle.bpf_filter.specs.Verdict.{first_state};
 
+use crate::insn::Insn;
+use crate::loads::{Size, absolute, behind_index, header_length};
 use crate::packets::Seen;
-use crate::steps::{Fact, Operand, Operation, Size, Step, Test, Value};
 
 /// The memory words of the machine (`BPF_MEMWORDS` of `linux/filter.h`).
 pub(crate) const WORDS: usize = 16;
 
-/// The number of a packet's interface, by this project's own choice.
-const INTERFACE: u32 = 1;
-
-/// The hardware type of Ethernet (`ARPHRD_ETHER` of `linux/if_arp.h`).
-const ETHERNET: u32 = 1;
-
-/// Where a step leads.
+/// Where an instruction leads.
 #[derive(Clone, Copy)]
 pub(crate) enum Next {
     /// The verdict is known.
     Answer(u32),
+    /// The program goes on with the next instruction.
+    Go,
     /// The program goes on after that many further instructions.
     Skip(u32),
 }
@@ -51,133 +49,124 @@ impl Machine {
         }
     }
 
-    /// Does one step.
+    /// Does one instruction, whose code is known.
     #[inline]
-    pub(crate) fn perform(&mut self, step: Step, packet: &Seen<'_>) -> Next
-        requires { HasWords step }
-        ensures { next_of result self.new ≡ outcome step (sight_of packet.now) (state_of self.old) }
+    #[tactic(auto, unfolding(crate::specs::Codes::codes))]
+    pub(crate) fn perform(&mut self, insn: &Insn, packet: &Seen<'_>) -> Next
+        requires { IsRunnable insn.now }
+        ensures { next_of result self.new ≡ effect insn.now (sight_of packet.now) (state_of self.old) }
     {
-        match step {
-            Step::Load(value) => match self.value(value, packet) {
-                Some(number) => self.a = number,
-                None => return Next::Answer(0),
-            },
-            Step::LoadIndex(value) => match self.value(value, packet) {
-                Some(number) => self.x = number,
-                None => return Next::Answer(0),
-            },
-            Step::Store(word) => self.memory[word as usize] = self.a,
-            Step::StoreIndex(word) => self.memory[word as usize] = self.x,
-            Step::Arithmetic(operation, operand) => {
-                match calculate(operation, self.a, self.operand(operand)) {
-                    Some(number) => self.a = number,
-                    None => return Next::Answer(0),
-                }
-            }
-            Step::Negate => self.a = self.a.wrapping_neg(),
-            Step::Jump(skip) => return Next::Skip(skip),
-            Step::Branch(test, operand, yes, no) => {
-                let holds = holds(test, self.a, self.operand(operand));
-                return Next::Skip(u32::from(if holds { yes } else { no }));
-            }
-            Step::Return(answer) => return Next::Answer(answer),
-            Step::ReturnAccumulator => return Next::Answer(self.a),
-            Step::ToIndex => self.x = self.a,
-            Step::FromIndex => self.a = self.x,
-        }
-        Next::Skip(0)
-    }
-
-    /// The number that a load takes. `None` comes where it lies past the captured bytes.
-    #[inline]
-    fn value(&self, value: Value, packet: &Seen<'_>) -> Option<u32>
-        requires { HasWord value }
-        ensures { result ≡ number_of_value value (sight_of packet.now) (state_of self.now) }
-    {
-        match value {
-            Value::Constant(number) => Some(number),
-            Value::Bytes(size, at) => number_at(size, at as usize, packet.bytes),
-            Value::BytesBehindIndex(size, at) => {
-                number_at(size, self.x as usize + at as usize, packet.bytes)
-            }
-            Value::HeaderLength(at) => {
-                let byte = number_at(Size::Byte, at as usize, packet.bytes)?;
-                Some(byte % 16 * 4)
-            }
-            Value::Memory(word) => Some(self.memory[word as usize]),
-            Value::Length => Some(packet.wire),
-            Value::Fact(fact) => Some(fact_of(fact, packet)),
-        }
-    }
-
-    #[inline]
-    fn operand(&self, operand: Operand) -> u32
-        ensures { result ≡ number_of_operand operand (state_of self.now) }
-    {
-        match operand {
-            Operand::Constant(number) => number,
-            Operand::Index => self.x,
+        let (k, a, x) = (insn.k, self.a, self.x);
+        match insn.code {
+            0x00 => self.load(Some(k)), // LD IMM
+            0x20 => self.load(absolute(Size::Word, k, packet)), // LD W ABS
+            0x28 => self.load(absolute(Size::Half, k, packet)), // LD H ABS
+            0x30 => self.load(absolute(Size::Byte, k, packet)), // LD B ABS
+            0x40 => self.load(behind_index(Size::Word, x, k, packet)), // LD W IND
+            0x48 => self.load(behind_index(Size::Half, x, k, packet)), // LD H IND
+            0x50 => self.load(behind_index(Size::Byte, x, k, packet)), // LD B IND
+            0x60 => self.load(Some(self.memory[k as usize])), // LD MEM
+            0x80 => self.load(Some(packet.wire)), // LD LEN
+            0x01 => self.load_index(Some(k)), // LDX IMM
+            0x61 => self.load_index(Some(self.memory[k as usize])), // LDX MEM
+            0x81 => self.load_index(Some(packet.wire)), // LDX LEN
+            0xb1 => self.load_index(header_length(k, packet)), // LDX B MSH
+            0x02 => self.store(k, a), // ST
+            0x03 => self.store(k, x), // STX
+            0x84 => self.load(Some(a.wrapping_neg())), // ALU NEG
+            0x04 => self.load(Some(a.wrapping_add(k))), // ALU ADD, by k and by X
+            0x0c => self.load(Some(a.wrapping_add(x))),
+            0x14 => self.load(Some(a.wrapping_sub(k))), // ALU SUB
+            0x1c => self.load(Some(a.wrapping_sub(x))),
+            0x24 => self.load(Some(a.wrapping_mul(k))), // ALU MUL
+            0x2c => self.load(Some(a.wrapping_mul(x))),
+            0x34 => self.load(a.checked_div(k)), // ALU DIV
+            0x3c => self.load(a.checked_div(x)),
+            0x44 => self.load(Some(a | k)), // ALU OR
+            0x4c => self.load(Some(a | x)),
+            0x54 => self.load(Some(a & k)), // ALU AND
+            0x5c => self.load(Some(a & x)),
+            0x64 => self.load(Some(shifted_left(a, k))), // ALU LSH
+            0x6c => self.load(Some(shifted_left(a, x))),
+            0x74 => self.load(Some(shifted_right(a, k))), // ALU RSH
+            0x7c => self.load(Some(shifted_right(a, x))),
+            0x94 => self.load(a.checked_rem(k)), // ALU MOD
+            0x9c => self.load(a.checked_rem(x)),
+            0xa4 => self.load(Some(a ^ k)), // ALU XOR
+            0xac => self.load(Some(a ^ x)),
+            0x05 => Next::Skip(k), // JMP JA
+            0x15 => branch(a == k, insn), // JMP JEQ, by k and by X
+            0x1d => branch(a == x, insn),
+            0x25 => branch(a > k, insn), // JMP JGT
+            0x2d => branch(a > x, insn),
+            0x35 => branch(a >= k, insn), // JMP JGE
+            0x3d => branch(a >= x, insn),
+            0x45 => branch(a & k != 0, insn), // JMP JSET
+            0x4d => branch(a & x != 0, insn),
+            0x06 => Next::Answer(k), // RET K
+            0x16 => Next::Answer(a), // RET A
+            0x07 => self.load_index(Some(a)), // MISC TAX
+            0x87 => self.load(Some(x)), // MISC TXA
+            _ => unreachable!(),
         }
     }
-}
 
-/// What is known of a packet beside its bytes.
-fn fact_of(fact: Fact, packet: &Seen<'_>) -> u32
-    ensures { result ≡ number_of_fact fact (sight_of packet.now) }
-{
-    match fact {
-        Fact::Protocol => u32::from(packet.protocol),
-        Fact::PacketType => u32::from(packet.pkttype),
-        Fact::Interface => INTERFACE,
-        Fact::Queue => packet.queue,
-        Fact::HardwareType => ETHERNET,
-        Fact::Hash => packet.rxhash,
-        Fact::Cpu => packet.cpu,
+    /// A takes a number. Without one the verdict is 0.
+    #[inline]
+    fn load(&mut self, number: Option<u32>) -> Next
+        ensures { next_of result self.new ≡ load_a number (state_of self.old) }
+    {
+        match number {
+            Some(number) => self.a = number,
+            None => return Next::Answer(0),
+        }
+        Next::Go
+    }
+
+    /// X takes a number. Without one the verdict is 0.
+    #[inline]
+    fn load_index(&mut self, number: Option<u32>) -> Next
+        ensures { next_of result self.new ≡ load_x number (state_of self.old) }
+    {
+        match number {
+            Some(number) => self.x = number,
+            None => return Next::Answer(0),
+        }
+        Next::Go
+    }
+
+    /// A memory word takes a number.
+    #[inline]
+    fn store(&mut self, word: u32, number: u32) -> Next
+        requires { word < 16 }
+        ensures { next_of result self.new ≡ to_word word number (state_of self.old) }
+    {
+        self.memory[word as usize] = number;
+        Next::Go
     }
 }
 
-/// The number that the bytes from a place on write, in network order. `None` comes where they aren't all there.
+/// Where a test leads.
 #[inline]
-fn number_at(size: Size, at: usize, bytes: &[u8]) -> Option<u32>
-    ensures { result ≡ number_at (bytes_of size) at bytes.now }
+fn branch(holds: bool, insn: &Insn) -> Next
+    ensures { (machine : Machine) → next_of result machine
+        ≡ GoesOn (if holds then insn.now.jt else insn.now.jf) (state_of machine) }
 {
-    let (_, rest) = bytes.split_at_checked(at)?;
-    match (size, rest) {
-        (Size::Word, [a, b, c, d, ..]) => Some(u32::from_be_bytes([*a, *b, *c, *d])),
-        (Size::Half, [a, b, ..]) => Some(u32::from(u16::from_be_bytes([*a, *b]))),
-        (Size::Byte, [a, ..]) => Some(u32::from(*a)),
-        _ => None,
-    }
+    Next::Skip(u32::from(if holds { insn.jt } else { insn.jf }))
 }
 
-/// What an operation makes of A and its operand, in 32 bits. `None` comes for a division by 0.
+/// A number shifted left. A shift by 32 or more gives 0.
 #[inline]
-fn calculate(operation: Operation, a: u32, b: u32) -> Option<u32>
-    ensures { result ≡ result_of operation a b }
+fn shifted_left(number: u32, by: u32) -> u32
+    ensures { Some result ≡ left_shift number by }
 {
-    match operation {
-        Operation::Add => Some(a.wrapping_add(b)),
-        Operation::Subtract => Some(a.wrapping_sub(b)),
-        Operation::Multiply => Some(a.wrapping_mul(b)),
-        Operation::Divide => a.checked_div(b),
-        Operation::Or => Some(a | b),
-        Operation::And => Some(a & b),
-        Operation::ShiftLeft => Some(a.checked_shl(b).unwrap_or(0)),
-        Operation::ShiftRight => Some(a.checked_shr(b).unwrap_or(0)),
-        Operation::Remainder => a.checked_rem(b),
-        Operation::Xor => Some(a ^ b),
-    }
+    number.checked_shl(by).unwrap_or(0)
 }
 
-/// Whether a test of A against its operand holds.
+/// A number shifted right. A shift by 32 or more gives 0.
 #[inline]
-fn holds(test: Test, a: u32, b: u32) -> bool
-    ensures { result ≡ answer_of test a b }
+fn shifted_right(number: u32, by: u32) -> u32
+    ensures { Some result ≡ right_shift number by }
 {
-    match test {
-        Test::Equal => a == b,
-        Test::Greater => a > b,
-        Test::GreaterOrEqual => a >= b,
-        Test::SharesBit => a & b != 0,
-    }
+    number.checked_shr(by).unwrap_or(0)
 }

@@ -1,17 +1,16 @@
 //! The programs that are accepted, and their verdicts.
-ghost use Rattle.std.specs.Prelude.{◌≡◌, ℕ, ◌+◌, ◌≤◌, length, MatchResult, None, Some, option_copied};
-ghost use Rattle.bpf_filter.specs.Answers.{Gives, IsFault};
+ghost use Rattle.std.specs.Prelude.{◌≡◌, ◌≤◌, length, option_copied};
+ghost use Rattle.bpf_filter.specs.Answers.{Gives};
+ghost use Rattle.bpf_filter.specs.Codes.{is_code};
 ghost use Rattle.bpf_filter.specs.Programs.{program_of, fault_of, fault_of_known, first_fault, ends_with_return};
 ghost use Rattle.bpf_filter.specs.Sight.{sight_of};
-ghost use Rattle.bpf_filter.specs.Stands.{StandFor, StandsFor};
 ghost use Rattle.bpf_filter.specs.Verdict.{verdict_of, verdict_with};
 
 use crate::error::FilterError;
 use crate::insn::Insn;
+use crate::loads::is_ancillary;
 use crate::machine::{Machine, Next, WORDS};
-use crate::meanings::{fact, meaning};
 use crate::packets::Seen;
-use crate::steps::Step;
 use std::alloc::Global;
 use std::marker::Model;
 
@@ -21,22 +20,22 @@ pub const LARGEST_PROGRAM: usize = 4096;
 /// A program that was accepted. Contracts see it as the list of its instructions.
 #[derive(Drop)]
 pub struct Program {
-    /// The instructions as they were given.
+    /// The instructions as they were given. Each has a known code and names a memory word that is there, if one, so that no
+    /// step has to test that.
     code: Vec<Insn>,
-    /// Their meanings, one for one.
-    steps: Vec<Step>,
 }
 
 impl Model for Program {
     ghost use Rattle.std.specs.Prelude.{List};
     ghost use Rattle.bpf_filter.specs.declared.insn.Insn.{Insn};
-    ghost use Rattle.bpf_filter.specs.Stands.{StandFor};
+    ghost use Rattle.std.specs.List.{AllByRecursion};
+    ghost use Rattle.bpf_filter.specs.Programs.{IsRunnable};
 
     ghost Value = { List Insn };
 
     ghost view = { λ program. program.code.items };
 
-    ghost invariant = { λ program. StandFor program.steps.items program.code.items };
+    ghost invariant = { λ program. AllByRecursion IsRunnable program.code.items };
 }
 
 impl Program {
@@ -47,17 +46,19 @@ impl Program {
     /// `BadMemory` for a memory word from 16 on, `BadAncillary` for a place in the packet from 0x80000000 on that
     /// isn't ancillary, and `BadJump` for a jump past the last instruction. Last, `NoReturn` comes for a program that
     /// doesn't end with a return. That memory words may be read before they are written is this project's own choice.
-    pub fn check(alloc: Global, code: Vec<Insn>) -> Result<Program, FilterError>
+    pub fn check(_alloc: Global, code: Vec<Insn>) -> Result<Program, FilterError>
         ensures { Gives (λ program. program) result (program_of code.items) }
     {
         if code.len() > LARGEST_PROGRAM {
             return Err(FilterError::BadCount);
         }
-        let steps = steps_of(alloc, code.as_slice())?;
+        if let Some(fault) = first_fault(code.as_slice()) {
+            return Err(fault);
+        }
         if !ends_with_return(code.as_slice()) {
             return Err(FilterError::NoReturn);
         }
-        Ok(Program { code, steps })
+        Ok(Program { code })
     }
 
     /// The instructions of the program, as they were given.
@@ -74,9 +75,10 @@ impl Program {
     {
         let mut machine = Machine::new();
         let mut at = 0;
-        while let Some(step) = self.steps.get(at) {
-            match machine.perform(*step, packet) {
+        while let Some(insn) = self.code.get(at) {
+            match machine.perform(insn, packet) {
                 Next::Answer(answer) => return answer,
+                Next::Go => at += 1,
                 Next::Skip(skip) => at += 1 + skip as usize,
             }
         }
@@ -95,34 +97,46 @@ pub fn verdict_with(filter: Option<&Program>, packet: &Seen<'_>) -> u32
     }
 }
 
-/// The meanings of instructions, or the first fault of one.
-fn steps_of(alloc: Global, code: &[Insn]) -> Result<Vec<Step>, FilterError>
+/// The first fault of instructions.
+fn first_fault(code: &[Insn]) -> Option<FilterError>
     requires { length code.now ≤ 4096 }
-    ensures { MatchResult result
-        (λ steps. (first_fault 0 code.now ≡ None) × StandFor steps.items code.now)
-        (λ error. IsFault error (first_fault 0 code.now)) }
+    ensures { result ≡ first_fault 0 code.now }
 {
-    let mut steps = Vec::with_capacity(alloc, code.len())?;
     for (at, insn) in code.iter().enumerate() {
-        let behind = code.len() - at - 1;
-        steps.push(step_of(*insn, at as u32, behind)?)?;
+        let found = fault_of(*insn, at as u32, code.len() - at - 1);
+        if found.is_some() {
+            return found;
+        }
     }
-    Ok(steps)
+    None
 }
 
-/// The meaning of the instruction of a number, after which a number of instructions stand, or its first fault.
-fn step_of(insn: Insn, at: u32, behind: usize) -> Result<Step, FilterError>
-    ensures { MatchResult result
-        (λ step. (fault_of at behind insn ≡ None) × StandsFor step insn)
-        (λ fault. fault_of at behind insn ≡ Some fault) }
+/// The first fault of the instruction of a number, after which a number of instructions stand.
+#[tactic(auto, unfolding(crate::specs::Programs::fault_of))]
+fn fault_of(insn: Insn, at: u32, behind: usize) -> Option<FilterError>
+    ensures { result ≡ fault_of at behind insn }
 {
-    let Some(step) = meaning(insn) else {
-        return Err(FilterError::BadCode(at));
-    };
-    match fault(insn, at, behind) {
-        Some(fault) => Err(fault),
-        None => Ok(step),
+    if is_code(insn.code) {
+        fault(insn, at, behind)
+    } else {
+        Some(FilterError::BadCode(at))
     }
+}
+
+/// Whether a code is known.
+#[tactic(auto, unfolding(crate::specs::Codes::codes))]
+fn is_code(code: u16) -> bool
+    ensures { result ≡ is_code code }
+{
+    matches!(
+        code,
+        0x00 | 0x20 | 0x28 | 0x30 | 0x40 | 0x48 | 0x50 | 0x60 | 0x80 | 0x87 // LD, TXA
+            | 0x01 | 0x61 | 0x81 | 0xb1 | 0x07 // LDX, TAX
+            | 0x04 | 0x14 | 0x24 | 0x34 | 0x44 | 0x54 | 0x64 | 0x74 | 0x84 | 0x94 | 0xa4 // ALU, by k
+            | 0x0c | 0x1c | 0x2c | 0x3c | 0x4c | 0x5c | 0x6c | 0x7c | 0x9c | 0xac // ALU, by X
+            | 0x15 | 0x25 | 0x35 | 0x45 | 0x1d | 0x2d | 0x3d | 0x4d // JMP, by k and by X
+            | 0x02 | 0x03 | 0x05 | 0x06 | 0x16 // ST, STX, JA, RET
+    )
 }
 
 /// The fault of an instruction whose code is known.
@@ -133,7 +147,7 @@ fn fault(insn: Insn, at: u32, behind: usize) -> Option<FilterError>
         0x34 | 0x94 if insn.k == 0 => Some(FilterError::BadConstant(at)),
         0x64 | 0x74 if insn.k >= 32 => Some(FilterError::BadConstant(at)),
         0x60 | 0x61 | 0x02 | 0x03 if insn.k as usize >= WORDS => Some(FilterError::BadMemory(at)),
-        0x20 | 0x28 | 0x30 if insn.k >= 0x8000_0000 && fact(insn.k).is_none() => {
+        0x20 | 0x28 | 0x30 if insn.k >= 0x8000_0000 && !is_ancillary(insn.k) => {
             Some(FilterError::BadAncillary(at))
         }
         0x05 if insn.k as usize >= behind => Some(FilterError::BadJump(at)),
