@@ -30,8 +30,9 @@ largest resident size; the system counts no less than this script's own, about 1
 it would take the time too that the system needs to empty them.
 
 It ends with status 1 where a run fails, where CPU time or memory grows by more than 2.2 times from 16 to 32 MiB or from 10,000
-to 20,000 made frames, where memory grows by more than 256 bytes for each frame that a filter refuses, or where a capture on threads that
-keeps all frames, with a member for each CPU, takes more than 2.5 times the CPU time of the replay.
+to 20,000 made frames, where memory grows by more than 256 bytes for each frame that a filter refuses, where an instruction of a filter
+takes more than 1.5 times what it takes of libpcap (bench/filters.py), or where a capture on threads that keeps all frames, with a member for
+each CPU, takes more than 2.5 times the CPU time of the replay.
 """
 import argparse
 import contextlib
@@ -46,6 +47,8 @@ import struct
 import subprocess
 import sys
 import time
+
+import filters
 
 TOP = os.path.join(os.path.dirname(os.path.abspath(__file__)), "..")
 WORK = os.path.join(TOP, "bench", "work")
@@ -485,7 +488,8 @@ def all_times(program, asked):
     times_of_plain(program, asked)
     times_of_settings(program, asked)
     is_large = memory_of_refused(program, asked)
-    return grows(found) or is_large or too_much
+    is_dear = filters.costs_of_filters(program)
+    return grows(found) or is_large or is_dear or too_much
 
 
 def times_of_replays(program, asked):

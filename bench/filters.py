@@ -1,0 +1,145 @@
+#!/usr/bin/env python3
+"""Counts what an executed instruction of a filter costs in ringtap and in libpcap's `bpf_filter`, in the processor's instructions.
+
+    bench/filters.py [PROGRAM]
+
+PROGRAM is crates/ringtap/out/ringtap where none is named. Each filter runs on one frame, again and again: `tcp port 80 and host 10.0.0.1` as
+tcpdump compiles it, and programs of 4,096 instructions without a jump, once additions alone and once one of each kind by turns. Of ringtap
+it is what replays with the filter take more than replays without it, and of both what 2,000 runs take more than 1,000, so that reading,
+checking and starting cancel. It needs valgrind, a C compiler and libpcap's headers. It ends with status 1 where ringtap takes more than
+MOST times libpcap's instructions.
+"""
+import os
+import shutil
+import struct
+import subprocess
+import sys
+import tempfile
+
+TOP = os.path.join(os.path.dirname(os.path.abspath(__file__)), "..")
+PROGRAM = os.path.join(TOP, "crates", "ringtap", "out", "ringtap")
+MOST = 1.5
+FEW, MANY = 1_000, 2_000
+STRAIGHT = 4_096
+# TCP of IPv4 from 10.0.0.2, port 1234, to 10.0.0.1, port 80.
+FRAME = bytes.fromhex(
+    "020000000002" "020000000001" "0800" "4500002800010000" "40060000" "0a000002" "0a000001" "04d20050" "00000000" "00000000" "50000000" "00000000"
+)
+# What `tcpdump -y EN10MB -ddd 'tcp port 80 and host 10.0.0.1'` writes (libpcap 1.10).
+TCP = """18
+40 0 0 12
+21 15 0 34525
+21 0 14 2048
+48 0 0 23
+21 0 12 6
+40 0 0 20
+69 10 0 8191
+177 0 0 14
+72 0 0 14
+21 2 0 80
+72 0 0 16
+21 0 5 80
+32 0 0 26
+21 2 0 167772161
+32 0 0 30
+21 0 1 167772161
+6 0 0 262144
+6 0 0 0
+"""
+# ldh [12], and, add k, st, ld M[], jeq to the next instruction either way, tax, add x.
+KINDS = [(0x28, 12), (0x54, 255), (0x04, 7), (0x02, 3), (0x60, 3), (0x15, 5), (0x07, 0), (0x0C, 0)]
+
+
+def straight(kinds):
+    """A program of STRAIGHT instructions of these kinds by turns, the last of which keeps the packet."""
+    lines = [f"{code} 0 0 {k}" for code, k in (kinds[at % len(kinds)] for at in range(STRAIGHT - 1))]
+    return "\n".join([str(STRAIGHT), *lines, "6 0 0 262144", ""])
+
+
+# Each filter, and how many of its instructions are executed on FRAME: of TCP all but the last, since the frame comes from another host than
+# the one that the filter names, and goes to that.
+FILTERS = {
+    "tcp port 80 and host": (TCP, 17),
+    "4,096 additions": (straight([(0x04, 1)]), STRAIGHT),
+    "4,096, of each kind": (straight(KINDS), STRAIGHT),
+}
+
+
+def count_of(words):
+    """The instructions of a run as valgrind counts them."""
+    ran = subprocess.run(["valgrind", "--tool=callgrind", "--callgrind-out-file=/dev/null", *words], capture_output=True, text=True, check=True)
+    return next(int(line.split()[-1].replace(",", "")) for line in ran.stderr.splitlines() if "Collected" in line)
+
+
+def write_capture(count):
+    with open("in.pcap", "wb") as file:
+        file.write(struct.pack("<IHHiIII", 0xA1B2C3D4, 2, 4, 0, 0, 65535, 1))
+        for number in range(count):
+            file.write(struct.pack("<IIII", 0, number, len(FRAME), len(FRAME)) + FRAME)
+
+
+def count_of_replay(program, count, line):
+    """The instructions of a replay of so many frames, with one more line of the setup."""
+    write_capture(count)
+    with open("conf", "w", encoding="ascii", newline="") as file:
+        file.write(f"block_size 1048576\nblock_nr 4\nframe_size 2048\nframe_nr 2048\ncpu in.pcap\n{line}")
+    open("sched", "wb").close()
+    return count_of([program, "replay", "conf", "sched"])
+
+
+def cost_of_ours(program):
+    """The instructions that the filter of the file takes of ringtap for a frame."""
+    counts = [[count_of_replay(program, count, line) for count in (FEW, MANY)] for line in ("filter filter.ddd\n", "")]
+    (few, many), (bare_few, bare_many) = counts
+    return (many - few - (bare_many - bare_few)) / (MANY - FEW)
+
+
+def cost_of_theirs(plain):
+    """The same of libpcap."""
+    few, many = (count_of([plain, "filter.ddd", FRAME.hex(), str(count)]) for count in (FEW, MANY))
+    return (many - few) / (MANY - FEW)
+
+
+def built_plain():
+    """Builds the program in C, or says what is missing, and gives its path."""
+    compiler = shutil.which("cc") or shutil.which("gcc")
+    if not compiler or not shutil.which("valgrind"):
+        print("\nno C compiler or no valgrind, so no filter is compared with libpcap")
+        return None
+    plain = os.path.abspath("plain_filter")
+    ran = subprocess.run([compiler, "-O2", "-o", plain, os.path.join(TOP, "bench", "plain_filter.c"), "-lpcap"], capture_output=True, text=True)
+    if ran.returncode:
+        print("\nlibpcap's headers aren't there, so no filter is compared with libpcap")
+        return None
+    return plain
+
+
+def costs_of_filters(program):
+    """Prints the table of filters in the present folder, and gives whether one takes too much."""
+    print("\n## Filters beside libpcap\n")
+    plain = built_plain()
+    if not plain:
+        return False
+    print("| Filter | Instructions of it executed | ringtap, for each | libpcap, for each | Times |")
+    print("|---|---|---|---|---|")
+    too_much = False
+    for name, (text, executed) in FILTERS.items():
+        with open("filter.ddd", "w", encoding="ascii") as file:
+            file.write(text)
+        ours, theirs = cost_of_ours(program), cost_of_theirs(plain)
+        too_much = too_much or ours > MOST * theirs
+        print(f"| {name} | {executed:,} | {ours / executed:.1f} | {theirs / executed:.1f} | {ours / theirs:.2f} |", flush=True)
+    return too_much
+
+
+def main():
+    program = os.path.abspath(sys.argv[1]) if sys.argv[1:] else PROGRAM
+    with tempfile.TemporaryDirectory() as room:
+        os.chdir(room)
+        too_much = costs_of_filters(program)
+        os.chdir(TOP)
+    sys.exit(1 if too_much else 0)
+
+
+if __name__ == "__main__":
+    main()
