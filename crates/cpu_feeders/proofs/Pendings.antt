@@ -16,12 +16,16 @@ all_read base done now walked left retired h more all =
     more ∙ ap (λ (some : List Taken). some ++ taken_of base left) h
     ∙ sym (map-append (λ (entry : Entry). taken_in base.shape entry.0) walked left) ∙ ap (taken_of base) all
 
+-- there is a content for each block
+pub contents_length : (blocks : List (ShapedBytes × ℕ)) → length (contents_of blocks) ≡ length blocks
+contents_length blocks = length-map blocks (λ (one : ShapedBytes × ℕ). (one.0.bytes, one.1))
+
 -- how many blocks were read once so many of those that are left were
 pub pending_length : (base : Base) (first now : List Taken) (blocks : List (ShapedBytes × ℕ)) (at : ℕ) → at ≤ length blocks
     → now ≡ first ++ taken_of base (contents_of (take at blocks)) → length now ≡ length first + at
 pending_length base first now blocks at within is =
     let left : List (ShapedBytes × ℕ) = take at blocks in
-    let count = length-map (contents_of left) (λ (entry : Entry). taken_in base.shape entry.0) ∙ length-map left (λ (one : ShapedBytes × ℕ). (one.0.bytes, one.1)) in
+    let count = length-map (contents_of left) (λ (entry : Entry). taken_in base.shape entry.0) ∙ contents_length left in
     let all = length-append first (taken_of base (contents_of left)) in
     omega (arith, count, all, ap length is, length-take-le at blocks within)
 

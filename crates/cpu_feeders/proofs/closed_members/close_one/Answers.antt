@@ -3,7 +3,7 @@ use Rattle.std.proofs.lemmas.List.{length-append, length-map}
 use Rattle.member_turns.specs.Closings.{contents_of}
 use Rattle.tp_layout.specs.Requests.{numbers_of}
 use Rattle.tp_layout.specs.declared.requests.RingRequest.{RingRequest}
-use Rattle.cpu_feeders.proofs.Pendings.{all_read}
+use Rattle.cpu_feeders.proofs.Pendings.{all_read, contents_length}
 use Rattle.cpu_feeders.proofs.closed_members.close_one.Goals as goal
 
 pub read_pending-requires-clause-kind : goal.read_pending-requires-clause-kind
@@ -13,7 +13,7 @@ pub read_pending-requires-clause-few : goal.read_pending-requires-clause-few
 read_pending-requires-clause-few g c =
     let taken = ap length (c.requires.walks.read c.requires.full) ∙ length-map c.args.walker.end.taken _ in
     let all = sym (length-append c.args.walker.end.taken (contents_of c.in_ok-closed.closed.pending.blocks)) ∙ ap length c.in_ok-closed.ensures.taken in
-    let left = length-map c.in_ok-closed.closed.pending.blocks _ in
+    let left = contents_length c.in_ok-closed.closed.pending.blocks in
     omega (arith, taken, all, left, c.in_ok-closed.ensures.few)
 
 pub returns : goal.returns
