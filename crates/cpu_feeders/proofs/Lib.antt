@@ -18,3 +18,4 @@ pub mod Pendings
 pub mod Results
 pub mod WorkedCrew
 pub mod Crossing
+mod Numbered

@@ -1,5 +1,5 @@
 -- The workers of a run before they start.
-use Rattle.std.specs.Prelude.{◌≡◌, ℕ, ◌+◌, List, [], ◌∷◌, ◌++◌, length, map, Option, None}
+use Rattle.std.specs.Prelude.{◌≡◌, ℕ, ◌+◌, List, [], ◌∷◌, ◌++◌, length, map, ⊤, Option, None}
 use Rattle.std.specs.List.{AllByRecursion, AllZip}
 use Rattle.capture_reports.specs.Closed.{IsLockOf}
 use Rattle.capture_reports.specs.Timing.{AreTimed}
@@ -43,6 +43,11 @@ abbrev pub in_order : {S T : Type 0} → List (Walker T) → Timer → List (Fee
 in_order walkers timer feeders =
     map (λ walker. worker.Walks walker) walkers
     ++ worker.Ticks timer ∷ map (λ feeder. worker.Feeds feeder) feeders
+
+-- readers whose members are numbered from this one up
+abbrev pub AreNumbered : {T : Type 0} → ℕ → List (Walker T) → Type 0
+AreNumbered number [] = ⊤
+AreNumbered number (walker ∷ walkers) = (walker.member ≡ number) × AreNumbered (number + 1) walkers
 
 -- a member of a job that has a seat for each CPU and for the timer
 pub record IsMemberOf (job : Job) (lock : Lock) : Type 0 where

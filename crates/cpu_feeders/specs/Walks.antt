@@ -1,8 +1,9 @@
 -- What the reader of a member does.
-use Rattle.std.specs.Prelude.{◌≡◌, false, List, length, map}
+use Rattle.std.specs.Prelude.{◌≡◌, ℕ, ◌++◌, false, List, length, map, replicate}
 use Rattle.cpu_feeders.specs.declared.walker.Walker.{Walker}
 use Rattle.reader_walk.specs.Takers.{Base, Taken, taken_in}
 use Rattle.ring_words.specs.Rings.{Entry}
+use Rattle.ring_words.specs.TableEnds.{FoundEven, Walking}
 use Rattle.tp_layout.specs.Requests.{numbers_of}
 
 -- what is read of blocks
@@ -24,3 +25,12 @@ module _ {T : Type 0} (base_of : T → Base) (taken_by : T → List Taken) where
     pub walks : Walks base after
     pub member : after.member ≡ before.member
     pub ring : after.end.id ≡ before.end.id
+
+-- the reader gave back some blocks, each with the word of a free one, which is 0
+abbrev pub FreedSome : Walking → Walking → Type 0
+FreedSome before after = (blocks : ℕ) × (after.marks ≡ before.marks ++ replicate blocks 0)
+
+-- the last look found nothing
+pub record FoundNone (after : Walking) : Type 0 where
+  pub before : Walking
+  pub even : FoundEven before after

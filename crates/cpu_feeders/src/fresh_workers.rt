@@ -2,7 +2,7 @@
 ghost use Rattle.std.specs.Prelude.{◌≡◌, ◌+◌, ◌<◌, ◌≤◌, ◌++◌, ◌∷◌, [], false, length, map, option_map, IfOk, OnOk};
 ghost use Rattle.std.specs.List.{AllByRecursion};
 ghost use Rattle.cpu_feeders.specs.Feeds.{IsFreshSeat};
-ghost use Rattle.cpu_feeders.specs.FreshWorkers.{first_feed, first_feeds, in_order};
+ghost use Rattle.cpu_feeders.specs.FreshWorkers.{AreNumbered, first_feed, first_feeds, in_order};
 ghost use Rattle.cpu_feeders.specs.declared.worker.Worker.TheVariants as worker;
 ghost use Rattle.ticket_dealer.specs.Seats.{DealerValue, IsFreshOf};
 
@@ -81,7 +81,8 @@ pub(crate) fn feeders_of<S: Source>(
     Ok(feeders)
 }
 
-/// A reader for each taker, with the end of its member's ring. Their seats come off the list.
+/// A reader for each taker, with the end of its member's ring: the members are numbered from 0. Their
+/// seats come off the list.
 pub(crate) fn walkers_of<T: Taker + Drop>(
     alloc: Global,
     takers: Vec<T>,
@@ -94,6 +95,7 @@ pub(crate) fn walkers_of<T: Taker + Drop>(
     ensures takers { IfOk result (λ walkers.
         map (λ walker. walker.taker) walkers.items ≡ takers.items) }
     ensures ends { IfOk result (λ walkers. map (λ walker. walker.end) walkers.items ≡ ends.items) }
+    ensures members { IfOk result (λ walkers. AreNumbered 0 walkers.items) }
     ensures fresh { IfOk result (λ walkers. AllByRecursion
         (λ walker. (walker.released ≡ 0) × (walker.full ≡ false)) walkers.items) }
     ensures count { IfOk result (λ walkers.

@@ -1,6 +1,7 @@
 //! The reader of a member: it takes retired blocks, hands them to its taker and releases them.
-ghost use Rattle.std.specs.Prelude.{◌≡◌, ◌^◌, ◌<◌, false, [], ◌∷◌, ◌++◌, length};
-ghost use Rattle.cpu_feeders.specs.Walks.{HasWalked, Walks};
+ghost use Rattle.std.specs.Prelude.{◌≡◌, ◌^◌, ◌<◌, false, true, [], ◌∷◌, ◌++◌, length};
+ghost use Rattle.cpu_feeders.specs.Walks.{FoundNone, FreedSome, HasWalked, Walks};
+ghost use Rattle.ring_words.specs.TableEnds.{FoundEven};
 ghost use Rattle.reader_walk.specs.Takers.{IsReadable, taken_in};
 ghost use Rattle.ticket_dealer.specs.Seats.{IsFreshOf};
 
@@ -59,6 +60,8 @@ fn take_next<T: Taker + Drop, G: Gate>(gate: &G, walker: &mut Walker<T>) -> bool
     requires { Walks T.base T.taken (T.base walker.old.taker) walker.old }
     ensures walked { HasWalked T.base T.taken (T.base walker.old.taker) walker.old walker.new }
     ensures seat { walker.new.seat ≡ walker.old.seat }
+    ensures none { result ≡ false → FoundEven walker.old.end walker.new.end }
+    ensures freed { result ≡ true → walker.new.end.marks ≡ walker.old.end.marks ++ 0 ∷ [] }
 {
     let Some(block) = walker.end.take() else {
         return false;
@@ -73,9 +76,9 @@ fn take_next<T: Taker + Drop, G: Gate>(gate: &G, walker: &mut Walker<T>) -> bool
     true
 }
 
-/// Reads blocks until no feeder goes on and none waits. Feeders are counted before each look, so
-/// that what they retired is seen. While none waits the reader yields, and then sleeps between its
-/// looks.
+/// Reads blocks until no feeder goes on and none waits, and gives each back as a free one. Feeders
+/// are counted before each look, so that what they retired is seen. While none waits the reader
+/// yields, and then sleeps between its looks.
 pub fn run_walker<T: Taker + Drop, R: Wait, G: Gate>(
     rt: &R,
     dealer: &Dealer,
@@ -86,6 +89,13 @@ pub fn run_walker<T: Taker + Drop, R: Wait, G: Gate>(
     requires seat { IsFreshOf dealer.now walker.old.seat }
     ensures walked { HasWalked T.base T.taken (T.base walker.old.taker) walker.old walker.new }
     ensures seat { IsFreshOf dealer.now walker.new.seat }
+
+    // The feeders that it saw last were none, and its last look found nothing.
+    ensures ended { walker.new.seat.live ≡ 0 }
+    ensures none { FoundNone walker.new.end }
+
+    // Every word that it stored is that of a free block.
+    ensures freed { FreedSome walker.old.end walker.new.end }
 {
     let mut idler = Idler::new();
     for _ in rt.forever() {

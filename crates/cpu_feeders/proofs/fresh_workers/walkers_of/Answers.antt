@@ -4,6 +4,7 @@ use Rattle.ticket_dealer.specs.Seats.{IsFreshOf, SeatValue}
 use Rattle.turn_lock.proofs.SeatLists.{all_but}
 use Rattle.cpu_feeders.specs.declared.walker.Walker.{Walker}
 use Rattle.cpu_feeders.proofs.Hired.{end_in, taker_in}
+use Rattle.cpu_feeders.proofs.Numbered.{numbered_more}
 use Rattle.cpu_feeders.proofs.OneMore.{all_more, as_many, as_many_at_end, both_shorter, empty, made_all, next_item, some_left}
 use Rattle.cpu_feeders.proofs.fresh_workers.walkers_of.Goals as goal
 
@@ -24,6 +25,7 @@ loop-taker-preserved g c =
       count = as_many_at_end _ made now c.loop-taker.seats.items c.last_of.new.list.items c.last_of.result _ seat pushed inv.count;
       takers = next_item taker_in made now rest after _ _ c.in-Some.taker next pushed refl inv.takers;
       ends = next_item end_in made now c.loop-taker.ends.items c.first_of.new.list.items _ _ c.first_of.result end pushed refl inv.ends;
+      members = numbered_more made now _ pushed inv.members (c.len-in-loop-taker.ensures ∙ c.loop-taker.walkers.ok.0);
       fresh = all_more (λ (w : Walker g.row.T.Denot). (w.released ≡ 0) × (w.full ≡ false)) made now _ pushed inv.fresh (refl, refl);
       seats = λ dealer own.
           let both = inv.seats dealer own in
@@ -50,6 +52,9 @@ returns-clause-ends g c =
     let ends = c.loop-taker.invariant.ends_left in
     made_all end_in c.loop-taker.walkers.items c.loop-taker.ends.items _ (empty c.loop-taker.ends.items (omega (arith, ends, count)))
     c.loop-taker.invariant.ends
+
+pub returns-clause-members : goal.returns-clause-members
+returns-clause-members g c = c.loop-taker.invariant.members
 
 pub returns-clause-fresh : goal.returns-clause-fresh
 returns-clause-fresh g c = c.loop-taker.invariant.fresh
