@@ -3,23 +3,23 @@
 
     bench/filters.py [PROGRAM]
 
-PROGRAM is crates/ringtap/out/ringtap where none is named. Each filter runs on one frame, again and again: `tcp port 80 and host 10.0.0.1` as
-tcpdump compiles it, and programs of 4,096 instructions without a jump, once additions alone and once one of each kind by turns. Of ringtap
-it is what replays with the filter take more than replays without it, and of both what 2,000 runs take more than 1,000, so that reading,
-checking and starting cancel. It needs valgrind, a C compiler and libpcap's headers. It ends with status 1 where ringtap takes more than
-MOST times libpcap's instructions.
+PROGRAM is crates/filter_table/out/filter_table, which runs the filters that it reads on the frames that it reads, and is built where it isn't
+there. Each filter runs on one frame, again and again: `tcp port 80 and host 10.0.0.1` as tcpdump compiles it, and programs of 4,096
+instructions without a jump, once additions alone and once one of each kind by turns. Of both it is what 1,000 runs take more than 500, and
+more than those of a filter that returns at once, so that reading, checking, starting and printing cancel. It needs valgrind, a C compiler and
+libpcap's headers. It ends with status 1 where ringtap takes more than MOST times libpcap's instructions.
 """
 import os
 import shutil
-import struct
 import subprocess
 import sys
 import tempfile
 
 TOP = os.path.join(os.path.dirname(os.path.abspath(__file__)), "..")
-PROGRAM = os.path.join(TOP, "crates", "ringtap", "out", "ringtap")
-MOST = 1.5
-FEW, MANY = 1_000, 2_000
+CRATE = os.path.join(TOP, "crates", "filter_table")
+PROGRAM = os.path.join(CRATE, "out", "filter_table")
+MOST = 1.7
+FEW, MANY = 500, 1_000
 STRAIGHT = 4_096
 # TCP of IPv4 from 10.0.0.2, port 1234, to 10.0.0.1, port 80.
 FRAME = bytes.fromhex(
@@ -46,6 +46,8 @@ TCP = """18
 6 0 0 262144
 6 0 0 0
 """
+# A filter that returns at once.
+RETURNS = "1\n6 0 0 262144\n"
 # ldh [12], and, add k, st, ld M[], jeq to the next instruction either way, tax, add x.
 KINDS = [(0x28, 12), (0x54, 255), (0x04, 7), (0x02, 3), (0x60, 3), (0x15, 5), (0x07, 0), (0x0C, 0)]
 
@@ -65,39 +67,30 @@ FILTERS = {
 }
 
 
-def count_of(words):
-    """The instructions of a run as valgrind counts them."""
-    ran = subprocess.run(["valgrind", "--tool=callgrind", "--callgrind-out-file=/dev/null", *words], capture_output=True, text=True, check=True)
+def count_of(words, lines=None):
+    """The instructions of a run as valgrind counts them, which reads these lines."""
+    tool = ["valgrind", "--tool=callgrind", "--callgrind-out-file=/dev/null"]
+    ran = subprocess.run([*tool, *words], input=lines, capture_output=True, text=True, check=True)
     return next(int(line.split()[-1].replace(",", "")) for line in ran.stderr.splitlines() if "Collected" in line)
 
 
-def write_capture(count):
-    with open("in.pcap", "wb") as file:
-        file.write(struct.pack("<IHHiIII", 0xA1B2C3D4, 2, 4, 0, 0, 65535, 1))
-        for number in range(count):
-            file.write(struct.pack("<IIII", 0, number, len(FRAME), len(FRAME)) + FRAME)
+def count_of_ours(program, text, count):
+    """The instructions of ringtap for so many runs of a filter, with all that it takes to come to them."""
+    frames = f"frame {len(FRAME)} {FRAME.hex()}\n" * count
+    return count_of([program], f"{frames}filter it\n{text}end\n")
 
 
-def count_of_replay(program, count, line):
-    """The instructions of a replay of so many frames, with one more line of the setup."""
-    write_capture(count)
-    with open("conf", "w", encoding="ascii", newline="") as file:
-        file.write(f"block_size 1048576\nblock_nr 4\nframe_size 2048\nframe_nr 2048\ncpu in.pcap\n{line}")
-    open("sched", "wb").close()
-    return count_of([program, "replay", "conf", "sched"])
-
-
-def cost_of_ours(program):
-    """The instructions that the filter of the file takes of ringtap for a frame."""
-    counts = [[count_of_replay(program, count, line) for count in (FEW, MANY)] for line in ("filter filter.ddd\n", "")]
-    (few, many), (bare_few, bare_many) = counts
-    return (many - few - (bare_many - bare_few)) / (MANY - FEW)
-
-
-def cost_of_theirs(plain):
+def count_of_theirs(plain, text, count):
     """The same of libpcap."""
-    few, many = (count_of([plain, "filter.ddd", FRAME.hex(), str(count)]) for count in (FEW, MANY))
-    return (many - few) / (MANY - FEW)
+    with open("filter.ddd", "w", encoding="ascii") as file:
+        file.write(text)
+    return count_of([plain, "filter.ddd", FRAME.hex(), str(count)])
+
+
+def cost(counted, program, text, executed):
+    """The instructions for each instruction of a filter but the last, which returns."""
+    more = [counted(program, one, MANY) - counted(program, one, FEW) for one in (text, RETURNS)]
+    return (more[0] - more[1]) / (MANY - FEW) / (executed - 1)
 
 
 def built_plain():
@@ -114,21 +107,21 @@ def built_plain():
     return plain
 
 
-def costs_of_filters(program):
+def costs_of_filters(program=PROGRAM):
     """Prints the table of filters in the present folder, and gives whether one takes too much."""
     print("\n## Filters beside libpcap\n")
     plain = built_plain()
     if not plain:
         return False
+    if not os.path.exists(program):
+        subprocess.run(["rt", "run"], cwd=CRATE, stdin=subprocess.DEVNULL, stdout=subprocess.DEVNULL, check=True)
     print("| Filter | Instructions of it executed | ringtap, for each | libpcap, for each | Times |")
     print("|---|---|---|---|---|")
     too_much = False
     for name, (text, executed) in FILTERS.items():
-        with open("filter.ddd", "w", encoding="ascii") as file:
-            file.write(text)
-        ours, theirs = cost_of_ours(program), cost_of_theirs(plain)
+        ours, theirs = cost(count_of_ours, program, text, executed), cost(count_of_theirs, plain, text, executed)
         too_much = too_much or ours > MOST * theirs
-        print(f"| {name} | {executed:,} | {ours / executed:.1f} | {theirs / executed:.1f} | {ours / theirs:.2f} |", flush=True)
+        print(f"| {name} | {executed:,} | {ours:.1f} | {theirs:.1f} | {ours / theirs:.2f} |", flush=True)
     return too_much
 
 
