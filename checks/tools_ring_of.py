@@ -39,8 +39,7 @@ def test_ring_of():
     for inode, mode in {"137757": "cpu", "137758": "rollover", "139291": "qm", "139287": "lb"}.items():
         expect(mode, f"mode {mode}" in ring_of("--inode", inode)[0].split("\n"), True)
     said = {
-        "137706": "inode 137706: is a TPACKET_V2 ring of tcpdump (pid 12967) on lo; "
-                  "for `replay2` write a setup by hand: these tools run `replay`",
+        "137706": "the ring has 2122 blocks of 4096 bytes in place of 2 to 256, which ringtap has not: --fit takes the nearest one",
         "139288": "fanout group 84: has type random, which ringtap has not",
         "139292": "the ring has blocks of 2097152 bytes in place of at most 1048576, which ringtap has not: --fit takes the nearest one",
         "134820": "the ring has 512 blocks of 4096 bytes in place of 2 to 256, which ringtap has not: --fit takes the nearest one",
@@ -50,6 +49,10 @@ def test_ring_of():
     expect("fitted", ring_of("--inode", "139292", "--fit")[0].split("\n")[2:6],
            ["block_size 1048576", "block_nr 8", "frame_size 2048", "frame_nr 4096"])
     expect("which one", ring_of()[1].split("\n")[0], "ring_of.py: more than one ring: choose by --pid, --name or --inode")
+    # 4096 bytes have 19 frames of 208, so 256 blocks have 4864.
+    printed = ring_of("--inode", "137706", "--fit")[0].split("\n")
+    expect("slots", printed[2:], ["# Of TPACKET_V2, slots of one frame each: run it with `ringtap replay2`.", "block_size 4096", "block_nr 256",
+                                  "frame_size 208", "frame_nr 4864", "cpu x.pcap", ""])
 
 
 def test_live_ring():

@@ -172,10 +172,9 @@ def warnings_of(socket: Socket, is_live: bool) -> list[str]:
 
 
 def refuse_version(first: Socket) -> None:
-    if first.version != V3:
+    if first.version not in (V2, V3):
         name = VERSION_NAMES.get(first.version, f"version {first.version}")
-        what = "for `replay2` write a setup by hand: these tools run `replay`" if first.version == V2 else f"ringtap has no {name} rings"
-        raise Fault(f"inode {first.inode}: is a {name} ring of {first.words()}; {what}")
+        raise Fault(f"inode {first.inode}: is a {name} ring of {first.words()}; ringtap has no {name} rings")
 
 
 def setup_of(group: list[Socket], captures: list[str], filter_name: str | None, is_fit: bool) -> str:
@@ -184,8 +183,12 @@ def setup_of(group: list[Socket], captures: list[str], filter_name: str | None, 
     refuse_version(first)
     ring, changes = fitted(first.ring, is_fit)
     lines = [f"# The ring of {first.words()}, as ss shows it.", *[f"# It has {change}." for change in changes]]
-    lines += RESERVES * any(name in LIBPCAP for name, _ in first.users)
-    lines += ring_lines(ring, captures)
+    if first.version == V2:
+        lines.append("# Of TPACKET_V2, slots of one frame each: run it with `ringtap replay2`.")
+        lines += [line for line in ring_lines(ring, captures) if line.split()[0] not in ("tov", "features")]
+    else:
+        lines += RESERVES * any(name in LIBPCAP for name, _ in first.users)
+        lines += ring_lines(ring, captures)
     if first.fanout:
         mode = MODES.get(first.fanout[1])
         if not mode:
