@@ -6,7 +6,8 @@ use Rattle.std.specs.Prelude.{flat_map}
 use Rattle.std.proofs.Math.Seq.{take-length}
 use Rattle.frame_view.specs.declared.frames.Packet.{Packet}
 use Rattle.reader_walk.specs.Readers.{ReaderValue, dump_by, has_read, new_reader, outputs_of, walked_of}
-use Rattle.reader_walk.specs.Takers.{Taken, taken_in}
+use Rattle.reader_walk.specs.Takers.{IsReadable, Taken, taken_in}
+use Rattle.tp_layout.specs.Writing.{ShapedBytes}
 use Rattle.reader_walk.specs.declared.outputs.Outputs.{Outputs}
 use Rattle.tp_layout.specs.declared.requests.RingRequest.{RingRequest}
 use Rattle.tx_ring.specs.Rings.{room_of}
@@ -78,7 +79,7 @@ gave forwarder sender count packets sound same going within given =
     }
 
 -- a block was read
-pub received : (forwarder : Inside) (reader : ReaderValue) (bytes : List ℕ) → IsSound forwarder
+received : (forwarder : Inside) (reader : ReaderValue) (bytes : List ℕ) → IsSound forwarder
     → reader ≡ record (has_read bytes forwarder.reader) { held = forwarder.reader.held }
     → length (taken_in forwarder.reader.shape bytes).packets ≤ 16383 → length forwarder.reader.taken < 2 ^ 40
     → IsSound (record forwarder { reader = reader })
@@ -103,6 +104,17 @@ received forwarder reader bytes sound reader_is few blocks =
       blocks = omega arith;
       packets = omega arith;
     }
+
+-- the same, by what contracts see of the forwarder
+pub read_on : (forwarder : Inside) (value : ForwarderValue) (reader : ReaderValue) (block : ShapedBytes) → IsSound forwarder
+    → forwarder_value forwarder ≡ value → reader ≡ record (has_read block.bytes forwarder.reader) { held = forwarder.reader.held }
+    → ((shape : RingRequest) → IsReadable shape block → length (taken_in shape block.bytes).packets ≤ 16383)
+    → IsReadable value.shape block → length value.taken < 2 ^ 40 → IsSound (record forwarder { reader = reader })
+read_on forwarder value reader block sound is read few readable blocks =
+    let shape : forwarder.reader.shape ≡ value.shape = ap (λ (v : ForwarderValue). v.shape) is in
+    let taken = ap (λ (v : ForwarderValue). length v.taken) is in
+    received forwarder reader block.bytes sound read
+    (few forwarder.reader.shape (subst (λ (s : RingRequest). IsReadable s block) (sym shape) readable)) (omega (arith, taken, blocks))
 
 -- what a forwarder leaves that has given and sent all
 pub ended : (forwarder : Inside) (value : ForwarderValue) (given sent : Sender) (packets : List Packet) (count : ℕ) (outputs : Outputs)

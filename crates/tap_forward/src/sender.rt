@@ -107,8 +107,8 @@ impl Sender {
         self.queue(frame.as_slice())
     }
 
-    /// Queues a frame; where all slots are requested it sends first. A frame that is a runt, or is longer than what fits
-    /// into a slot, is skipped. After `Memory` the frame was not queued.
+    /// Queues a frame. One that is a runt, or is longer than what fits into a slot, is skipped. After `Memory` the frame
+    /// was not queued.
     fn queue(&mut self, frame: &[u8]) -> Result<(), Memory>
         requires going { IsGoing self.old.ring }
         requires few { self.old.ring.placed < 2 ^ 54 }
@@ -127,6 +127,26 @@ impl Sender {
             self.skipped += 1;
             return Ok(());
         }
+        self.queue_whole(frame)
+    }
+
+    /// Queues a frame that is no runt; where all slots are requested it sends first. A frame that is longer than what
+    /// fits into a slot is skipped. After `Memory` the frame was not queued.
+    fn queue_whole(&mut self, frame: &[u8]) -> Result<(), Memory>
+        requires going { IsGoing self.old.ring }
+        requires few { self.old.ring.placed < 2 ^ 54 }
+        requires counted { self.old.skipped < 2 ^ 54 }
+        requires whole { 14 ≤ length frame.now }
+        ensures going { IsGoing self.new.ring }
+        ensures shape { self.new.ring.shape ≡ self.old.ring.shape }
+        ensures given { OnOk result ((given : List GivenPacket) (packet : GivenPacket)
+            → frame_of packet ≡ frame.now
+            → WasGiven given self.old → WasGiven (given ++ packet ∷ []) self.new) }
+        ensures same { OnErr result ((given : List GivenPacket)
+            → WasGiven given self.old → WasGiven given self.new) }
+        ensures few { self.new.ring.placed ≤ self.old.ring.placed + 1 }
+        ensures counted { self.new.skipped ≤ self.old.skipped + 1 }
+    {
         match self.ring.queue(frame) {
             Ok(()) => Ok(()),
             Err(TxError::TooLong) => {
