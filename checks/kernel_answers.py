@@ -478,6 +478,25 @@ def age(_: Wire) -> list[str]:
         return [f"{file.read().strip()} seconds"]
 
 
+def malformed(wire: Wire) -> list[str]:
+    """A slot of 13 bytes, and one that says another offset than 0 to the next."""
+    short = Sending("", "", (ethernet(60), ethernet(13), ethernet(61))).answer(wire)
+    with opened(V3) as sock:
+        request = Request()
+        sock.setsockopt(SOL_PACKET, TX_RING, request.packed(V3))
+        with mmap.mmap(sock.fileno(), request.block_size * request.block_nr) as memory:
+            sock.bind((SENDER, 0))
+            sending = Sending("", "", ())
+            sending.place(memory, 0, ethernet(60))
+            struct.pack_into("=I", memory, 0, 2048)
+            try:
+                told = [f"send {sock.send(b'')}"]
+            except OSError as fault:
+                told = [f"send {word(fault)}"]
+            told.append(f"slots {' '.join(map(str, sending.settled(memory, 1)))}")
+    return [line for line in short if " " in line] + told
+
+
 def longer_than_device(wire: Wire) -> list[str]:
     """A slot that a frame fits into which is longer than the device's largest."""
     sending = Sending("", "", (ethernet(60), ethernet(66_000), ethernet(61)), Request(131_072, 2, 131_072, 2))
@@ -503,6 +522,9 @@ QUESTIONS = [
     Question("recorded_queue", "a device that records the queue says one more", "fanout mode qm, and a filter's queue",
              ("queue 1",), recorded_queue),
     Question("fragments_age", "fragments are held for 30 seconds", "how long", ("30 seconds",), age),
+    Question("send_malformed", "a slot of fewer than 14 bytes, or with an offset to the next one, is malformed",
+             "a malformed transmit slot",
+             ("send EINVAL", "slots 0 4 1", "again 0", "send EINVAL", "slots 4"), malformed),
     Question("send_longer_than_device", "a frame longer than the device's largest is malformed",
              "a frame longer than the device's largest",
              ("send EMSGSIZE", "slots 0 4", "a frame of 60 bytes", "again 0"), longer_than_device),

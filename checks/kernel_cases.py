@@ -48,7 +48,8 @@ def fitting() -> list[Case]:
         Case("no_packet", "a ring that nothing comes to retires nothing", (Tick(), Stats(), Tick())),
         Case("paddings", "data of each length beside a multiple of 8", feeds(*range(14, 32), *range(60, 70))),
         Case("least_frame", "frames of 14 bytes, which have a header alone", feeds(14, 14, 15)),
-        Case("third_does_not_fit", "two large frames fill a block, and the third opens the next", feeds(*[BIG] * 3)),
+        Case("third_does_not_fit", "two large frames fill a block, and the third opens the next", feeds(*[BIG] * 3),
+             openings=((2, False),)),
         Case("many_small", "28 frames of 60 bytes leave 16 bytes of a block", feeds(*[SMALL] * 30), request=ring(4)),
         Case("eight_bytes_left", "a packet that ends 8 bytes before the block's end fits", feeds(1400, 1400, 982, 60),
              request=ring(4)),
@@ -83,7 +84,8 @@ def freezing() -> list[Case]:
         Case("drops_while_frozen", "later ones are dropped, and the ring has frozen once", fill + more + feeds(SMALL)),
         Case("small_is_dropped_too", "frozen, a packet is dropped that the retired block had room for",
              feeds(BIG, BIG, BIG, 1300) + feeds(BIG, SMALL, SMALL, start=5)),
-        Case("thaw", "a packet after the release opens the next block", fill + more + reads(1) + feeds(BIG, BIG, start=20)),
+        Case("thaw", "a packet after the release opens the next block", fill + more + reads(1) + feeds(BIG, BIG, start=20),
+             openings=((3, False),)),
         Case("thaw_by_small", "the first packet after the release may be any",
              fill + more + reads(1) + feeds(SMALL, BIG, SMALL, start=20)),
         Case("losing", "blocks say LOSING after a drop", fill + more + reads(2) + feeds(*[BIG] * 5, start=20), request=ring(2)),
@@ -114,39 +116,37 @@ def freezing() -> list[Case]:
 
 
 def timing() -> list[Case]:
-    """What the timer does. Between two ticks nothing is late: kernel_live.py sees to that."""
-    fill = feeds(*[BIG] * 4)
+    """What the timer does; kernel_live.py sees to it that each step falls between two time-outs. Three large packets leave the
+    second block open, and five find the ring full."""
+    three, full = feeds(*[BIG] * 3), feeds(*[BIG] * 5)
     return [
-        Case("time_out", "a time-out retires what a block has, with BLK_TMO", feeds(SMALL) + (Tick(),) + feeds(SMALL, start=1)),
+        Case("time_out", "a time-out retires what a block has, with BLK_TMO, and opens the next",
+             feeds(SMALL) + (Tick(),) + feeds(SMALL, start=1), openings=((2, True),)),
         Case("time_out_twice", "each time-out retires a block of its own",
-             feeds(SMALL) + (Tick(),) + feeds(SMALL, BIG, start=1) + (Tick(),) + feeds(70, start=3)
-             , request=ring(4)),
+             feeds(SMALL) + (Tick(),) + feeds(SMALL, BIG, start=1) + (Tick(),) + feeds(70, start=3), request=ring(4)),
         Case("empty_stays", "a time-out leaves an empty block",
              (Tick(), Tick()) + feeds(SMALL) + (Tick(), Tick()) + feeds(61, start=1)),
         Case("opened_late", "a block that a packet opened within a period is retired at its end",
-             (Tick(),) + feeds(*[BIG] * 3) + (Tick(),) + feeds(62, start=9), request=ring(4),
-             rows=("a packet that opens a block",)),
-        Case("full_then_time_out", "a full block is retired without BLK_TMO, the next with it",
-             feeds(*[BIG] * 3) + (Tick(), Stats()), request=ring(4)),
+             (Tick(),) + three + (Tick(),) + feeds(62, start=9), request=ring(4), rows=("a packet that opens a block",)),
+        Case("full_then_time_out", "a full block is retired without BLK_TMO, the next with it", three + (Tick(), Stats()),
+             request=ring(4)),
         Case("freeze_by_time_out", "a time-out that finds no block freezes the ring, without a drop",
-             feeds(*[BIG] * 3) + (Tick(), Stats()) + feeds(SMALL, start=7) + (Stats(),)),
-        Case("thaw_after_time_out", "a packet thaws it",
-             feeds(*[BIG] * 3) + (Tick(),) + reads(1) + feeds(SMALL, start=7) + (Stats(),)),
+             three + (Tick(), Stats()) + feeds(SMALL, start=7) + (Stats(),)),
+        Case("thaw_after_time_out", "a packet thaws it", three + (Tick(),) + reads(1) + feeds(SMALL, start=7) + (Stats(),),
+             openings=((3, False),)),
         Case("thaw_by_time_out", "a time-out thaws a ring that another froze",
-             feeds(*[BIG] * 3) + (Tick(),) + reads(1) + (Tick(), Stats()) + feeds(SMALL, BIG, BIG, start=7)),
+             three + (Tick(),) + reads(1) + (Tick(), Stats()) + feeds(SMALL, BIG, BIG, start=7), openings=((3, True),)),
         Case("thaw_by_first_time_out", "a time-out thaws a ring that a packet froze, the first one",
-             fill + feeds(BIG, start=7) + reads(1) + (Tick(),) + feeds(SMALL, start=8) + (Tick(), Stats()),
+             full + reads(1) + (Tick(),) + feeds(SMALL, start=8) + (Tick(), Stats()), openings=((3, True),),
              rows=("a time-out that finds the ring frozen by a packet",)),
         Case("stays_frozen", "time-outs change nothing while the reader has the next block",
-             fill + feeds(BIG, start=7) + (Tick(), Stats(), Tick()) + feeds(BIG, start=8) + (Stats(),) + reads(2) + feeds(BIG,
-                 start=9)),
+             full + (Tick(), Stats(), Tick()) + feeds(BIG, start=8) + (Stats(),) + reads(2) + feeds(BIG, start=9)),
         Case("freezes_by_both", "freezes by packets and by time-outs count together",
-             fill + feeds(BIG, start=7) + reads(2) + feeds(*[BIG] * 3, start=10) + (Tick(), Stats()) + reads(2) + (Tick(),
-                 ) + feeds(*[BIG] * 5, start=20)),
-        Case("losing_by_time_out", "a block says LOSING and BLK_TMO",
-             fill + feeds(BIG, start=7) + reads(1) + feeds(SMALL, start=8) + (Tick(),)),
+             full + reads(2) + feeds(*[BIG] * 3, start=10) + (Tick(), Stats()) + reads(2) + (Tick(),)
+             + feeds(*[BIG] * 5, start=20)),
+        Case("losing_by_time_out", "a block says LOSING and BLK_TMO", full + reads(1) + feeds(SMALL, start=8) + (Tick(),)),
         Case("ten_periods", "the timer keeps its grid",
-             tuple(step for at in range(5) for step in (*feeds(60 + at, start=at), Tick(), Read()))),
+             tuple(step for at in range(10) for step in (*feeds(60 + at, start=at), Tick(), Read()))),
         Case("private_time_out", "a time-out beside a private area", feeds(SMALL) + (Tick(),) + feeds(900, start=1),
              request=ring(2, priv=40)),
     ]

@@ -21,6 +21,7 @@ KEY = "6d5a56da255b0ec24167253d43a38fb0d0ca2bcbae7b30b477cb2da38030f20c6a42b73bb
 HEADER = {V3: 82, V2: 66}  # the bytes of a packet before its data
 ADDRESS = {V3: 48, V2: 32}  # where its `struct sockaddr_ll` begins
 STATUS = {V3: 20, V2: 0}  # where its status word is
+MILLISECOND = 1_000_000  # in nanoseconds
 DEVICE_BITS = 1 << 3 | 1 << 7 | 1 << 29  # TP_STATUS_CSUMNOTREADY, TP_STATUS_CSUM_VALID, TP_STATUS_TS_SOFTWARE
 Span = tuple[int, int]  # a place, and how many bytes
 
@@ -82,7 +83,7 @@ def opening(place: Place) -> Iterator[Span]:
 
 def opened_before(place: Place, at: int, _: int) -> bool:
     """The kernel's time is that of the block's opening: not after the first packet, unless the device gave that one its time."""
-    first = place.word(16)
+    first = struct.unpack_from("<I", place.ours, 16)[0]
     by_device = place.word(first + STATUS[V3]) & DEVICE_BITS
     time = struct.unpack_from("<II", place.kernel, at)
     return time <= struct.unpack_from("<II", place.kernel, first + 4) or bool(by_device)
@@ -260,13 +261,14 @@ class Tally:
     counts: int = 0
     bytes: int = 0
     changes: int = 0
+    changed_counts: int = 0
     apart: int = 0
     answers: int = 0
     used: set[str] = field(default_factory=set)
 
     def add(self, other: Tally) -> None:
         self.used |= other.used
-        for name in ("cases", "blocks", "slots", "counts", "bytes", "changes", "apart", "answers"):
+        for name in ("cases", "blocks", "slots", "counts", "bytes", "changes", "changed_counts", "apart", "answers"):
             setattr(self, name, getattr(self, name) + getattr(other, name))
 
 
@@ -327,6 +329,20 @@ def compare_counts(case: Case, record: Record, ran: Ran, tally: Tally) -> None:
         tally.counts += 3 * len(ran.counts[number]) + 4
 
 
+def check_openings(case: Case, record: Record) -> None:
+    """A block that a time-out opened says a time before its first packet's; one that this packet opened says about the same."""
+    for number, by_time_out in case.openings:
+        block = record.members[0].taken[number - 1]
+        opened, first = (nanoseconds(block, at) for at in (32, struct.unpack_from("<I", block, 16)[0] + 4))
+        if (first - opened > MILLISECOND) != by_time_out:
+            raise Wrong(f"block {number} of the kernel was opened {first - opened} nanoseconds before its first packet")
+
+
+def nanoseconds(data: bytes, at: int) -> int:
+    second, nano = struct.unpack_from("<II", data, at)
+    return second * 1_000_000_000 + nano
+
+
 def count_is_noticed(case: Case, record: Record, ran: Ran, member: int, taking: int, at: int) -> bool:
     """Whether one more in one number of the statistics makes a difference."""
     members = [Member(each.taken, [list(counts) for counts in each.counts]) for each in record.members]
@@ -338,9 +354,19 @@ def count_is_noticed(case: Case, record: Record, ran: Ran, member: int, taking: 
     return False
 
 
+def notice_counts(case: Case, record: Record, ran: Ran, tally: Tally) -> None:
+    """One more in any number of the statistics has to be noticed."""
+    for member, found in enumerate(record.members):
+        for taking, counts in enumerate(found.counts):
+            for at in range(len(counts)):
+                if not count_is_noticed(case, record, ran, member, taking, at):
+                    raise Wrong(f"member {member}: nothing notices a change of the statistics that were taken as number {taking + 1}")
+                tally.changed_counts += 1
+
+
 def spoil(case: Case, record: Record, program: str, room: Path) -> tuple[int, int, int]:
-    """Changes each byte and each count of a record, one at a time: how many, how many of them are noticed, and how many of the
-    others lie where something may differ."""
+    """Changes each byte of a record, one at a time: how many, how many of them are noticed, and how many of the others lie where
+    something may differ."""
     ran = run_ringtap(program, room, case, record)
     changed = noticed = free = 0
     for place in places_between(case, record, ran):
@@ -351,11 +377,6 @@ def spoil(case: Case, record: Record, program: str, room: Path) -> tuple[int, in
                 noticed += 1
             else:
                 free += any(begin <= at < begin + size for begin, size in spans)
-    for member, found in enumerate(record.members):
-        for taking, counts in enumerate(found.counts):
-            for at in range(len(counts)):
-                changed += 1
-                noticed += count_is_noticed(case, record, ran, member, taking, at)
     return changed, noticed, free
 
 
@@ -409,6 +430,8 @@ def compare(case: Case, record: Record, program: str, room: Path, tally: Tally) 
     if case.apart is None:
         compare_places(case, record, ran, tally)
         compare_counts(case, record, ran, tally)
+        notice_counts(case, record, ran, tally)
+        check_openings(case, record)
         tally.cases += 1
     else:
         told = both_summaries(case, record, ran)

@@ -56,6 +56,7 @@ def by_cpu() -> list[Case]:
 def others() -> list[Case]:
     flows = tuple(Feed(udp((f"10.0.0.{at}", at), ("10.1.1.1", 53), 50 + at, at)) for at in range(10))
     back = feeds(*range(100, 1100, 90)) + (Read(),) * 3 + feeds(*range(100, 400, 90), start=30)
+    both = (Stats(0), Stats(1))
     turns = feeds(*range(100, 900, 70)) + (Read(),) * 3 + feeds(*range(100, 400, 70), start=30)
     return [
         Case("hash_one", "mode hash with one member", flows, mode="hash", flags=DEFRAG),
@@ -66,6 +67,8 @@ def others() -> list[Case]:
         Case("rollover_slots", "with rings of slots a frame whose own ring is full goes to the next member",
              feeds(*range(100, 1300, 90)), V2, slots(8), members=3, flags=ROLLOVER),
         Case("rollover_back", "once its own ring has room again it goes there", back, V2, slots(8), members=3, flags=ROLLOVER),
+        Case("rollover_full", "where every ring of slots is full a packet is dropped at its own", feeds(*range(60, 75)) + both, V2,
+             members=2, mode="lb", flags=ROLLOVER),
         Case("rollover_lb", "mode lb with the flag rollover", turns, V2, slots(16), members=2, mode="lb", flags=ROLLOVER),
     ]
 

@@ -69,6 +69,7 @@ class Case:
     cpus: tuple[int, ...] = ()  # where the numbers of the CPUs count
     rows: tuple[str, ...] = ()  # rows of docs/kernel.md that it shows besides
     apart: Apart | None = None
+    openings: tuple[tuple[int, bool], ...] = ()  # blocks by their numbers from 1, and whether a time-out opened them
 
     def where(self) -> tuple[int, ...]:
         """The CPUs that it needs."""

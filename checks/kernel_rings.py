@@ -4,8 +4,7 @@
     kernel_rings.py PROGRAM...            compares each program with the kernel of this machine, and with the recording
     kernel_rings.py --record FOLDER       asks the kernel of this machine, and writes FOLDER/kernel_rings.gz
     kernel_rings.py --list                names the cases, and says what each shows
-    kernel_rings.py --spoil PROGRAM       changes each byte and each count of the recording, one at a time, and counts what is
-                                          noticed
+    kernel_rings.py --spoil PROGRAM       changes each byte of the recording, one at a time, and counts what is noticed
 
 A kernel is asked in network namespaces of this script's own. Where it has no right to make them, or where the kernel is older
 than 6.18, whose timers run otherwise, the recording is compared alone. It has what a kernel gave, and its version.
@@ -19,6 +18,7 @@ import multiprocessing
 import os
 import re
 import signal
+import struct
 import sys
 import tempfile
 import time
@@ -38,7 +38,7 @@ from kernel_answers_compare import compare_answer
 from kernel_compare import FREE, Tally, Wrong, compare, spoil
 from kernel_live import TIMEOUTS, run_once
 from kernel_plans import Case, Disturbed, Member, Record
-from kernel_rows import Shown, compare_rows
+from kernel_rows import Shown, compare_rows, unsaid
 from kernel_wire import NoRight, Wire
 
 HERE = Path(__file__).resolve().parent
@@ -95,9 +95,9 @@ wire: Wire | None = None  # of this process
 why_no_wire = ""
 
 
-def end_with_parent() -> None:
+def end_with_parent(by: int = signal.SIGKILL) -> None:
     """This process ends when the one that started it has ended, however that was."""
-    ctypes.CDLL(None).prctl(PR_SET_PDEATHSIG, signal.SIGKILL)
+    ctypes.CDLL(None).prctl(PR_SET_PDEATHSIG, by)
 
 
 def begin_worker() -> None:
@@ -192,6 +192,8 @@ def judge(fields: Fields, program: str, room: Path) -> tuple[str, str | None, Ta
                 compare_answer(case, given, program, Path(here), tally)
         except Wrong as why:
             return case.name, str(why), tally
+        except (struct.error, LookupError) as why:
+            return case.name, f"what the kernel gave can't be read: {why!r}", tally
     return case.name, None, tally
 
 
@@ -230,10 +232,10 @@ def compare_live(programs: list[str], room: Path) -> int:
         for name, why in wrong.items():
             print(f"{name}, {program}: {why}")
         print(f"{program} beside this kernel, {os.uname().release}: {told(tally)}")
-    for name in suspects:
-        print(f"{name} was asked twice")
-    for name, why in asker.unjudged.items():
-        print(f"{name} isn't judged: {why}")
+    if suspects:
+        print(f"asked twice: {', '.join(suspects)}")
+    for why in sorted(set(asker.unjudged.values())):
+        print(f"not judged, {why}: {', '.join(name for name, said in asker.unjudged.items() if said == why)}")
     return failures
 
 
@@ -247,11 +249,12 @@ def compare_recorded(program: str, room: Path) -> int:
     complaints += [f"{name}, recorded, {program}: {why}" for name, why in wrong.items()]
     unused = {free.row for free in FREE} - tally.used - SHOWN_ALONE
     complaints += [f"nothing of the recording differs by '{row}'" for row in sorted(unused)]
+    complaints += unsaid(tally)
     for line in complaints:
         print(line)
     kernels = ", ".join(sorted({fields["kernel"] for fields in records}))
     print(f"{program} beside the recorded kernel, {kernels}: {told(tally)}")
-    print(f"of {tally.blocks + tally.slots} changed bytes, one in each block and slot, {tally.changes} were noticed")
+    print(f"changed and noticed: {tally.changes} bytes of {tally.blocks + tally.slots} blocks and slots, {tally.changed_counts} counts")
     return len(complaints)
 
 
@@ -279,7 +282,7 @@ def list_cases() -> int:
 
 
 def spoil_all(program: str, room: Path) -> int:
-    """Changes the recording in each byte and count."""
+    """Changes the recording in each byte of its blocks and slots."""
     counts = [0, 0, 0]
     for fields in read_recording(HERE / RECORDING):
         case, given = BY_NAME[fields["case"]], unpacked(fields)
@@ -303,6 +306,7 @@ def compare_all(programs: list[str], room: Path) -> int:
 
 def main(words: list[str]) -> int:
     signal.signal(signal.SIGTERM, lambda *_: sys.exit(143))
+    end_with_parent(signal.SIGTERM)
     if words == ["--list"]:
         return list_cases()
     if len(words) == 2 and words[0] == "--record":

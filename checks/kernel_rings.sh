@@ -5,5 +5,6 @@ set -u
 . "$(dirname "${BASH_SOURCE[0]}")/common.bash"
 wants python3
 find_programs
-python3 -B checks/kernel_rings.py "${programs[@]}" || wrong "ringtap and a kernel differ"
+make_room
+TMPDIR=$room python3 -B checks/kernel_rings.py "${programs[@]}" || wrong "ringtap and a kernel differ"
 exit "$failed"

@@ -7,6 +7,7 @@ from pathlib import Path
 from typing import Iterator, Sequence
 
 from kernel_answers_compare import Answered
+from kernel_compare import Tally
 from kernel_plans import Case
 
 DOCUMENT = Path(__file__).resolve().parent.parent / "docs/kernel.md"
@@ -57,6 +58,16 @@ def unknown(rows: Rows, names: set[str]) -> Iterator[str]:
     for row, cells in rows.items():
         if row != "Point":
             yield from (f"docs/kernel.md: '{row}' names {name}, which is no case" for name in named(cells) if name not in names)
+
+
+def unsaid(tally: Tally) -> list[str]:
+    """The figures of a comparison that the document doesn't say."""
+    text = " ".join(DOCUMENT.read_text(encoding="utf-8").split())
+    figures = (
+        f"all {tally.cases} cases", f"{tally.blocks} blocks and {tally.slots} slots", f"each byte of {tally.bytes:,}",
+        f"{tally.counts:,} numbers", f"{tally.apart} cases show", f"{tally.answers} answers",
+    )
+    return [f"docs/kernel.md doesn't say '{figure}'" for figure in figures if figure not in text]
 
 
 def unshown(rows: Rows) -> Iterator[str]:

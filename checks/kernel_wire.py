@@ -41,11 +41,13 @@ def unshare(flags: int) -> None:
 
 
 def enter_namespace() -> None:
-    """Goes into a new network namespace; without root into one of a new user namespace, in which this user is root."""
-    user, group = os.getuid(), os.getgid()
-    if user == 0:
+    """Goes into a new network namespace; without the right to make one into that of a new user namespace, in which this user is
+    root."""
+    try:
         unshare(CLONE_NEWNET)
         return
+    except NoRight:
+        user, group = os.getuid(), os.getgid()
     unshare(CLONE_NEWUSER | CLONE_NEWNET)
     for name, text in (("setgroups", "deny"), ("uid_map", f"0 {user} 1"), ("gid_map", f"0 {group} 1")):
         Path("/proc/self", name).write_text(text, encoding="ascii")
