@@ -13,7 +13,7 @@ make_room
 # tcpdump gives up its rights before it writes, where root runs it.
 for program in "${programs[@]}"; do
     rm -rf "$room/here" && mkdir -p "$room/here/try" "$room/here/bin"
-    cp -r demo "$room/here"
+    cp -r demo tools "$room/here"
     cp "$program" "$room/here/bin/ringtap"
     chmod 777 "$room/here" "$room/here/try"
     chmod 755 "$room" "$room/here/bin/ringtap"

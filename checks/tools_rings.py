@@ -120,6 +120,13 @@ def test_libpcap():
     printed, _, _ = with_program("ring_size.py", "full.pcap", "--phases", "1", "--json")
     found = json.loads(printed)
     expect("libpcap has less room", (found["least"]["block_nr"], found["tcpdump"]), (2, "tcpdump -B 768"))
+    # The same where a filter cuts 200 bytes to 60.
+    capture("wide.pcap", [(number, frame(number, 200)) for number in range(3600)])
+    text("sixty.ddd", "1\n6 0 0 60\n")
+    setup = text("sixty.txt", "block_size 262144\nblock_nr 2\nframe_size 2048\nframe_nr 256\ntov 1000\ncpu wide.pcap\nfilter sixty.ddd\n")
+    printed, _, _ = with_program("ring_size.py", setup, "--phases", "1", "--pause", "100", "--json")
+    found = json.loads(printed)
+    expect("libpcap has less room behind a filter", (found["least"]["block_nr"], found["tcpdump"]), (2, "tcpdump -B 768"))
 
 
 def test_modes():

@@ -159,6 +159,7 @@ def opening(setup: Setup, args: argparse.Namespace, pace: Pace, is_default: bool
     parts = [f"frame_size {FRAME_SIZE}"]
     parts += [f"tov {TCPDUMP_TIMEOUT}"] * (not args.replay2 and not args.tov)
     parts += [f"block_size {setup.number('block_size')}"] * (not args.block_size)
+    parts += ["the usual key"] * ("key" in setup.values)
     if is_default:
         return f"by default: {', '.join([*parts, words])}"
     return f"by default: {', '.join(parts)}; as asked: {words}"

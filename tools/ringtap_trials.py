@@ -18,7 +18,7 @@ from schedule import DEFAULT_TIMEOUT, Fed, schedule_of
 LARGEST_RING, MOST_BLOCKS, MOST_SLOTS = 67_108_864, 256, 65_536
 LEAST_BLOCKS = 2
 ROLLOVER = "+rollover"  # after a mode, where the flag is set
-RESERVED = 4  # bytes that libpcap has before each packet's data beyond ringtap's 82
+PACKET_HEADER, RESERVED = 82, 4  # bytes before a packet's data in a block, and those that libpcap has there besides
 
 
 @dataclass(frozen=True)
@@ -196,11 +196,22 @@ class Trials:
         self.captures = [longer(stream, self.room.folder / f"longer{cpu}.pcap") for cpu, stream in enumerate(self.room.streams())]
         if any((self.room.folder / name).stat().st_size > LARGEST_CAPTURE for name in self.captures):
             return None
+        least = self.reserved_blocks(ring) if "filter" in self.room.setup.values else ring.block_nr
+        ring = replace(ring, block_nr=least)
         while ring.fits:
             if self.run_all([ring])[0].drops == 0:
                 return ring.block_nr
             ring = replace(ring, block_nr=ring.block_nr + 1)
         return None
+
+    def reserved_blocks(self, ring: Ring) -> int:
+        """How many blocks the same packets take with libpcap's bytes before them, rounded up: a filter may cut longer frames all the same."""
+        self.run(ring, 0, "saved")
+        path = self.room.folder / "saved.0.pcap"
+        lengths = [len(frame.data) for frame in CaptureStream(path, None)]
+        path.unlink()
+        ours, theirs = (sum(-(-(header + length) // 8) * 8 for length in lengths) for header in (PACKET_HEADER, PACKET_HEADER + RESERVED))
+        return -(-ring.block_nr * theirs // max(ours, 1)) if ours else ring.block_nr
 
 
 def longer(stream: CaptureStream, path: Path) -> str:
