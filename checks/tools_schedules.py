@@ -98,20 +98,22 @@ def paces(draw):
 
 
 def setups(draw, names):
-    """The lines of a setup for captures, and its shape."""
+    """The lines of a setup for captures, its shape, and the command."""
+    is_v2 = draw.random() < 0.2
     size, count, timeout, members = draw.choice([4096, 8192]), draw.choice([2, 3, 5, 16]), draw.choice([1, 8, 20, 100]), draw.choice([1, 1, 2, 3])
     mode = draw.choice(["cpu", "hash", "lb", "rollover", "qm"])
-    lines = [f"block_size {size}", f"block_nr {count}", "frame_size 2048", f"frame_nr {size // 2048 * count}", f"tov {timeout}",
+    lines = [f"block_size {size}", f"block_nr {count}", "frame_size 2048", f"frame_nr {size // 2048 * count}", f"tov {0 if is_v2 else timeout}",
              f"members {members}", f"mode {mode}", f"key {KEY}", "dump yes", *(f"cpu {name}" for name in names)]
     lines += ["flag rollover"] * (mode != "rollover" and draw.random() < 0.3) + ["flag defrag"] * (draw.random() < 0.2)
-    return "\n".join(lines) + "\n", Shape(members, size, count, timeout)
+    shape = Shape(members, 2048, size // 2048 * count, None) if is_v2 else Shape(members, size, count, timeout)
+    return "\n".join(lines) + "\n", shape, "replay2" if is_v2 else "replay"
 
 
-def outcome(setup, schedule, prefix):
+def outcome(command, setup, schedule, prefix):
     """What a run prints and saves."""
     (room / "setup").write_text(setup + f"out {prefix}\n")
     (room / "schedule").write_text(schedule)
-    done, why = runs.run([program, "replay", "setup", "schedule"], cwd=room, text=True)
+    done, why = runs.run([program, command, "setup", "schedule"], cwd=room, text=True)
     files = {path.name.removeprefix(prefix): path.read_bytes() for path in sorted(room.glob(f"{prefix}.*"))}
     for path in room.glob(f"{prefix}.*"):
         path.unlink()
@@ -125,7 +127,7 @@ def main():
     compared = unlike = shorter = 0
     for case in range(int(sys.argv[3]) if len(sys.argv) > 3 else 200):
         names = draw.choices(captures, k=draw.choice([1, 1, 2])) if case >= len(ours) else [ours[case]]
-        setup, shape = setups(draw, names)
+        setup, shape, command = setups(draw, names)
         pace = paces(draw)
         fed = feeds(map(CaptureStream, names), pace.speed)
         full = whole(fed, pace, shape)
@@ -138,9 +140,9 @@ def main():
             continue
         compared += 1
         shorter += len(brief) < len(full)
-        if outcome(setup, brief, "brief") != outcome(setup, full, "full") or len(brief) > len(full):
+        if outcome(command, setup, brief, "brief") != outcome(command, setup, full, "full") or len(brief) > len(full):
             unlike += 1
-            print(f"case {case}: another run: {setup}{pace}")
+            print(f"case {case}: another run of {command}: {setup}{pace}")
     # Frames of a year apart: a schedule as long as a silence would never end.
     apart = room / "apart.pcap"
     made(apart, draw, 3)

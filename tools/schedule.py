@@ -40,7 +40,9 @@ class Fed:
         return self.times[-1] if self.times else 0
 
 
-def shape_of(setup: Setup) -> Shape:
+def shape_of(setup: Setup, is_v2: bool = False) -> Shape:
+    if is_v2:
+        return Shape(setup.number("members", 1), setup.number("frame_size"), setup.number("frame_nr"), None)
     return Shape(
         setup.number("members", 1), setup.number("block_size"), setup.number("block_nr"),
         setup.number("tov", 0) or DEFAULT_TIMEOUT,
@@ -148,6 +150,7 @@ def pace_of(args: argparse.Namespace) -> Pace:
 def parser_of() -> ToolParser:
     parser = ToolParser(__doc__, "demo/small.txt --pause 4 -o small.sched")
     parser.add_argument("setup", type=Path, metavar="SETUP", help="the setup")
+    parser.add_argument("--replay2", action="store_true", help="for rings of TPACKET_V2: a step takes a slot, and nothing ticks")
     parser.add_argument("-o", "--output", type=Path, metavar="FILE", help="where the schedule goes (standard output)")
     add_pace(parser)
     add_json(parser)
@@ -167,7 +170,7 @@ def main(words: list[str]) -> int:
     args = parser_of().parse_args(words)
     setup, pace = read_setup(args.setup), pace_of(args)
     check_outputs([args.output], [], setup)
-    text = schedule_of(feeds(map(CaptureStream, setup.capture_paths()), pace.speed), pace, shape_of(setup))
+    text = schedule_of(feeds(map(CaptureStream, setup.capture_paths()), pace.speed), pace, shape_of(setup, args.replay2))
     if args.output:
         write_text(args.output, text)
     if args.json:
