@@ -34,7 +34,7 @@ held_take [] (suc n) held = tt
 held_take (frame ∷ frames) (suc n) held = (held.0, none_take _ frames n held.1, held_take frames n held.2)
 
 -- a place of the last frame is in none before it
-last_alone : (frames : List Frame) (new : Frame) (place : ℕ) → AreHeld (frames ++ new ∷ []) → covers new place ≡ true → is_covered frames place ≡ false
+pub last_alone : (frames : List Frame) (new : Frame) (place : ℕ) → AreHeld (frames ++ new ∷ []) → covers new place ≡ true → is_covered frames place ≡ false
 last_alone [] new place held here = refl
 last_alone (frame ∷ frames) new place held here =
     or_from _ _ (not_first (covers frame place) refl) (last_alone frames new place held.2 here)

@@ -1,11 +1,11 @@
 -- What a new frame is to held ones: any one that it conflicts with tells it, and where it shares no place with any, its place and
 -- the end do.
-use Rattle.std.proofs.Common.{◌≡◌, ◌⊎◌, ℕ, zero, suc, ◌+◌, ◌<◌, ◌≤◌, max, Bool, true, false, ◌&&◌, ◌||◌, nat_lt, length, get_or, subst, inl, inr, List, [], ◌∷◌, Option, None, Some, option_map, is_some, find, cond, if◌then◌else◌, arith, refl, ap, ◌∙◌, sym}
+use Rattle.std.proofs.Common.{◌≡◌, ◌⊎◌, ℕ, zero, suc, ◌-◌, ◌*◌, ◌/◌, ◌<◌, ◌≤◌, max, Bool, true, false, ◌&&◌, ◌||◌, nat_lt, length, get_or, subst, inl, inr, List, [], ◌∷◌, Option, None, Some, option_map, is_some, find, cond, if◌then◌else◌, arith, refl, ap, ◌∙◌, sym}
 use Rattle.std.specs.List.{list_any, AllByRecursion}
 use Rattle.std.proofs.lemmas.Bool.{cases_lt, lt-ltb, or_parts, or_from, both_ways}
 use Rattle.std.proofs.lemmas.Bool.Decides.{nat_tests}
 use Rattle.frame_view.specs.declared.frames.Frame.{Frame}
-use Rattle.ip_defrag.specs.Datagrams.{shares}
+use Rattle.ip_defrag.specs.Datagrams.{covers, is_covered, shares}
 use Rattle.ip_defrag.specs.Extents.{AreKept, reach_of, end_of, extent_of}
 use Rattle.ip_defrag.specs.Fold.{conflicts, contradicts, is_copy}
 use Rattle.ip_defrag.specs.Fragments.{takes_part, from_of, to_of, is_last}
@@ -14,11 +14,10 @@ use Rattle.ip_defrag.specs.Held.{AreHeld}
 use Rattle.ip_defrag.specs.declared.extents.Extent.{Extent}
 use Rattle.ip_defrag.specs.declared.rules.Judgement.{Judgement}
 use Rattle.ip_defrag.specs.declared.rules.Judgement.TheVariants.{Copy, Conflict, Fits}
-use Rattle.ip_defrag.specs.Ranges.{AreRanges, AreSorted, HaveRanges, IsRangeIn, met, range_of}
-use Rattle.ip_defrag.specs.declared.ranges.Range.{Range}
+use Rattle.ip_defrag.specs.Marks.{AreMarks, own_marks}
 use Rattle.ip_defrag.proofs.Covers.{all_past, before_no_end, has_data}
 use Rattle.ip_defrag.proofs.Places.{shares_is}
-use Rattle.ip_defrag.proofs.Ranged.{IsApart, none_met, one_met}
+use Rattle.ip_defrag.proofs.Marked.{none_met, one_met, unit_of_from}
 
 -- a copy has the places of the other, and is last where that is
 record AreAlike (frame other : Frame) : Type 0 where
@@ -183,20 +182,40 @@ ends_before new (frame ∷ frames) held apart before =
       | inr past ↦ let some = (has_data frame held.0).0 in omega (arith, past, some)
     ]
 
--- a frame that meets no range of the frames shares no place with them
-apart_from : (new : Frame) (at : ℕ) (frames : List Frame) (ranges : List Range) → AreSorted 0 ranges → met (from_of new) (to_of new) ranges ≡ None → HaveRanges at frames ranges → AreApart new frames
-apart_from new at [] ranges sorted none each = tt
-apart_from new at (frame ∷ frames) ranges sorted none each =
-    (none_met 0 (from_of new) (to_of new) ranges (range_of frame at) sorted none each.0, apart_from new (at + 1) frames ranges sorted none each.1)
+-- two frames that share no unit's first place are apart
+apart_from : (new : Frame) (frames : List Frame) → from_of new < to_of new → AreHeld frames
+    → ((unit : ℕ) → from_of new ≤ 8 * unit → 8 * unit < to_of new → is_covered frames (8 * unit) ≡ false) → AreApart new frames
+apart_from new [] some held none = tt
+apart_from new (frame ∷ frames) some held none =
+    (here, apart_from new frames some held.2 (λ unit low high. (or_parts (covers frame (8 * unit)) (is_covered frames (8 * unit)) (none unit low high)).1))
+  where
+    clear : (unit : ℕ) → from_of new ≤ 8 * unit → 8 * unit < to_of new → covers frame (8 * unit) ≡ false
+    clear unit low high = (or_parts (covers frame (8 * unit)) (is_covered frames (8 * unit)) (none unit low high)).0
+
+    here : (to_of frame ≤ from_of new) ⊎ (to_of new ≤ from_of frame)
+    here =
+        let mine = unit_of_from new in
+        let other = unit_of_from frame in
+        elim (cases_lt (from_of new) (to_of frame)) [
+          | inr after ↦ inl after
+          | inl ends ↦ elim (cases_lt (from_of frame) (to_of new)) [
+            | inr before ↦ inr before
+            | inl begins ↦ elim (cases_lt (from_of frame) (from_of new)) [
+              | inl early ↦ let no = clear (from_of new / 8) (omega (arith, mine)) (omega (arith, mine, some)) in absurd (grind (arith, nat_tests))
+              | inr late ↦ let no = clear (from_of frame / 8) (omega (arith, other, late)) (omega (arith, other, begins)) in
+                  let other_some = (has_data frame held.0).0 in absurd (grind (arith, nat_tests))
+            ]
+          ]
+        ]
 
 -- a frame that meets none, and begins before the end of all
-pub unmet : (new : Frame) (frames : List Frame) (extent : Extent) (ranges : List Range) → AreKept frames extent → AreRanges ranges frames → from_of new < to_of new → from_of new < extent.reach
-    → met (from_of new) (to_of new) ranges ≡ None → judgement new frames ≡ (if is_last new then Conflict else Fits)
+pub unmet : (new : Frame) (frames : List Frame) (extent : Extent) (marks : List ℕ) → AreKept frames extent → AreMarks marks frames → from_of new < to_of new → from_of new < extent.reach
+    → find (λ mark. nat_lt 0 mark) (own_marks new marks) ≡ None → judgement new frames ≡ (if is_last new then Conflict else Fits)
 unfolding extent_of
-unmet new frames extent ranges kept are some before none =
+unmet new frames extent marks kept are some before none =
     let reach : extent.reach ≡ reach_of frames = ap (λ (e : Extent). e.reach) kept.counted in
     let early : from_of new < reach_of frames = omega (arith, reach, before) in
-    let apart = apart_from new 0 frames ranges are.sorted none are.each in
+    let apart = apart_from new frames some kept.held (λ unit low high. none_met marks frames new unit are none low high) in
     let each = apart_each new frames kept.held some apart (early_each new (reach_of frames) frames early (last_reaches frames kept.held)) in
     let past = lt-ltb (to_of new) (reach_of frames) (ends_before new frames kept.held apart early) in
     let any : list_any (conflicts new) frames ≡ is_last new = each.1 ∙ ap (λ (b : Bool). is_last new && b) past ∙ same (is_last new) in
@@ -265,37 +284,29 @@ decided new (frame ∷ frames) (suc at) d held within is = by_test (decided new 
         ∙ sym (judged new frames held.2)
         ∙ rest
 
--- two frames that share a place conflict, and two that don't conflict are apart
+-- two frames that share a place conflict
 sharing : (new frame : Frame) → from_of new < to_of new → takes_part frame ≡ true → from_of new < to_of frame → from_of frame < to_of new → conflicts new frame ≡ true
 unfolding conflicts
 sharing new frame some taken ends begins =
     let s = shares_is new frame some (has_data frame taken).0 in
     grind (arith, nat_tests)
 
-clear_apart : (new frame : Frame) → from_of new < to_of new → takes_part frame ≡ true → conflicts new frame ≡ false → (to_of frame ≤ from_of new) ⊎ (to_of new ≤ from_of frame)
-unfolding conflicts
-clear_apart new frame some taken e =
-    let s = shares_is new frame some (has_data frame taken).0 in
-    elim (cases_lt (from_of new) (to_of frame)) [
-      | inl ends ↦ inr (grind (arith, nat_tests))
-      | inr after ↦ inl after
-    ]
-
--- a frame that meets a range
-pub met_one : (new : Frame) (frames : List Frame) (ranges : List Range) (at : ℕ) → AreHeld frames → AreRanges ranges frames → from_of new < to_of new
-    → met (from_of new) (to_of new) ranges ≡ Some at → (at < length frames) × ((d : Frame) → judgement new frames ≡ (if is_copy new (get_or frames at d) then Copy else Conflict))
-met_one new frames ranges at held are some is =
-    let one = one_met frames (from_of new) (to_of new) at ranges are.own is in
-    (one.within, λ d. decided new frames at d held one.within (sharing new (get_or frames at d) some (taken_at frames at d held one.within) (one.ends d) (one.begins d)))
-
--- a frame that conflicts with none is apart from all ranges
-pub apart_ranges : (new : Frame) (frames : List Frame) (ranges : List Range) → AreHeld frames → from_of new < to_of new → list_any (conflicts new) frames ≡ false
-    → AllByRecursion (IsRangeIn frames) ranges → AllByRecursion (IsApart (from_of new) (to_of new)) ranges
-apart_ranges new frames [] held some none own = tt
-apart_ranges new frames (range ∷ ranges) held some none own = (here, apart_ranges new frames ranges held some none own.1)
+-- a frame of which a unit is marked
+pub met_one : (new : Frame) (frames : List Frame) (marks : List ℕ) (mark : ℕ) → AreHeld frames → AreMarks marks frames → from_of new < to_of new
+    → find (λ mark. nat_lt 0 mark) (own_marks new marks) ≡ Some mark
+    → (0 < mark) × (mark - 1 < length frames) × ((d : Frame) → judgement new frames ≡ (if is_copy new (get_or frames (mark - 1) d) then Copy else Conflict))
+met_one new frames marks mark held are some is =
+    let one = one_met marks frames new mark are is in
+    (one.some, one.within, λ d. decided new frames (mark - 1) d held one.within (shared one.unit one.low one.high d (one.covers_it d)))
   where
-    frame : Frame
-    frame = get_or frames range.at new
+    shared : (unit : ℕ) → from_of new ≤ 8 * unit → 8 * unit < to_of new → (d : Frame) → covers (get_or frames (mark - 1) d) (8 * unit) ≡ true → conflicts new (get_or frames (mark - 1) d) ≡ true
+    shared unit low high d here =
+        let ends : from_of new < to_of (get_or frames (mark - 1) d) = grind (arith, nat_tests) in
+        let begins : from_of (get_or frames (mark - 1) d) < to_of new = grind (arith, nat_tests) in
+        let one = one_met marks frames new mark are is in
+        sharing new (get_or frames (mark - 1) d) some (taken_at frames (mark - 1) d held one.within) ends begins
 
-    here : IsApart (from_of new) (to_of new) range
-    here = subst (IsApart (from_of new) (to_of new)) (sym (own.0.same new)) (clear_apart new frame some (taken_at frames range.at new held own.0.within) (none_at (conflicts new) frames range.at new none own.0.within))
+-- the highest place, by the extent
+pub reach_is : (frames : List Frame) (extent : Extent) → AreKept frames extent → extent.reach ≡ reach_of frames
+unfolding extent_of
+reach_is frames extent kept = ap (λ (e : Extent). e.reach) kept.counted

@@ -5,10 +5,10 @@ pub mod Groups
 pub mod JoinedFrames
 pub mod Judged
 pub mod Kept
+pub mod Marked
 pub mod Passed
 pub mod Places
 pub mod Pushed
-pub mod Ranged
 pub mod Rows
 pub mod Taken
 pub mod Walks

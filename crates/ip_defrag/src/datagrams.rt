@@ -7,8 +7,8 @@ ghost use Rattle.ip_defrag.specs.Grouped.{FitsIn, completed_with, is_fresh, is_l
 use crate::NoPush;
 use crate::extents::Extent;
 use crate::fragments::Fragment;
+use crate::marks::{UNIT, mark, met, units_to, widen};
 use crate::names::Name;
-use crate::ranges::{Range, insert, met};
 use crate::rules::{Judgement, apart, beside};
 use crate::wholes::completed;
 use frame_view::Frame;
@@ -27,8 +27,8 @@ pub(crate) struct Datagram {
     opened: u32,
     /// The fragments, in the order in which they were pushed.
     fragments: Vec<Fragment>,
-    /// Where each of them lies, sorted.
-    ranges: Vec<Range>,
+    /// Which of them has which unit of eight bytes: its number, from 1, and 0 where none has it.
+    marks: Vec<u16>,
     /// What they are in all.
     extent: Extent,
 }
@@ -39,7 +39,7 @@ impl Model for Datagram {
     ghost Value = { Group };
 
     ghost use Rattle.ip_defrag.specs.Extents.{AreKept};
-    ghost use Rattle.ip_defrag.specs.Ranges.{AreRanges};
+    ghost use Rattle.ip_defrag.specs.Marks.{AreMarks};
 
     ghost view = { λ it. record {
       name = it.name;
@@ -48,7 +48,7 @@ impl Model for Datagram {
     } };
 
     ghost invariant = { λ it.
-        AreKept it.fragments.items it.extent × AreRanges it.ranges.items it.fragments.items };
+        AreKept it.fragments.items it.extent × AreMarks it.marks.items it.fragments.items };
 }
 
 impl Datagram {
@@ -60,12 +60,14 @@ impl Datagram {
         let name = fragment.name();
         let opened = fragment.frame().sec;
         let extent = Extent::new().with(&fragment);
-        let mut ranges = Vec::new(alloc);
-        if let Err(_) = ranges.push(Range::of(&fragment, 0)) {
+        let (first, last) = (fragment.from() / UNIT, units_to(fragment.to()));
+        let mut marks = Vec::new(alloc);
+        if let Err(_) = widen(&mut marks, last) {
             return Err(NoPush {
                 frame: fragment.into_frame(),
             });
         }
+        mark(&mut marks, first, last, 1);
         let mut fragments = Vec::new(alloc);
         if let Err(refused) = fragments.push(fragment) {
             return Err(NoPush {
@@ -76,7 +78,7 @@ impl Datagram {
             name,
             opened,
             fragments,
-            ranges,
+            marks,
             extent,
         })
     }
@@ -112,8 +114,8 @@ impl Datagram {
         if new.from() >= self.extent.reach {
             return apart(self.extent.end.is_some());
         }
-        match met(&self.ranges, new.from(), new.to()) {
-            Some(at) => beside(new, &self.fragments[at]),
+        match met(&self.marks, new) {
+            Some(number) => beside(new, &self.fragments[number as usize - 1]),
             None => apart(new.is_last()),
         }
     }
@@ -128,15 +130,16 @@ impl Datagram {
         ensures unchanged { OnErr result (self.new ≡ self.old) }
         ensures handed_back { IfErr result (λ no. no.frame ≡ fragment) }
     {
-        if self.ranges.try_reserve(1).is_err() {
+        let (first, last) = (fragment.from() / UNIT, units_to(fragment.to()));
+        if let Err(_) = widen(&mut self.marks, last) {
             return Err(NoPush {
                 frame: fragment.into_frame(),
             });
         }
-        let range = Range::of(&fragment, self.fragments.len());
+        let number = (self.fragments.len() + 1) as u16;
         let extent = self.extent.with(&fragment);
         let whole = add_to(alloc, &mut self.fragments, extent, fragment)?;
-        insert(&mut self.ranges, range);
+        mark(&mut self.marks, first, last, number);
         self.extent = extent;
         Ok(whole)
     }
