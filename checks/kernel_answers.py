@@ -5,6 +5,7 @@ from __future__ import annotations
 
 import errno
 import fcntl
+import itertools
 import mmap
 import os
 import socket
@@ -20,6 +21,9 @@ from kernel_wire import RECEIVER, SENDER, NoRight, Wire, bring_up, silence
 
 AVAILABLE, SEND_REQUEST, WRONG_FORMAT = 0, 1, 4
 SLOT_HEADER, SLOT_STATUS = 48, 20  # of a slot of TPACKET_V3: the bytes before its data, and where its status word is
+NETLINK_SOCK_DIAG, SOCK_DIAG_BY_FAMILY, NLM_DUMP, SHOW_RINGS = 4, 20, 0x301, 4
+NLMSG_ERROR, NLMSG_DONE, PACKET_DIAG_RX_RING = 2, 3, 2
+SO_TIMESTAMP = 29
 TUNSETIFF, IFF_TAP, IFF_NO_PI, IFF_MULTI_QUEUE = 0x400454CA, 2, 0x1000, 0x100
 SECONDS = 10.0  # that sent slots may take to be free again
 
@@ -355,33 +359,34 @@ def time_outs(_: Wire) -> list[str]:
     return found
 
 
-def told_time_out(sock: socket.socket) -> int | None:
+def told_time_out(sock: socket.socket) -> int:
     """The time-out of a socket's ring, as the kernel tells it to `ss`."""
     inode = os.fstat(sock.fileno()).st_ino
-    with socket.socket(socket.AF_NETLINK, socket.SOCK_RAW, 4) as diag:
+    with socket.socket(socket.AF_NETLINK, socket.SOCK_RAW, NETLINK_SOCK_DIAG) as diag:
         diag.settimeout(SECONDS)
-        asked = struct.pack("=BBHIIII", 17, 0, 0, 0, 4, 0xFFFFFFFF, 0xFFFFFFFF)
-        diag.send(struct.pack("=IHHII", 16 + len(asked), 20, 0x301, 1, 0) + asked)
+        asked = struct.pack("=BBHIIII", socket.AF_PACKET, 0, 0, 0, SHOW_RINGS, 0xFFFFFFFF, 0xFFFFFFFF)
+        diag.send(struct.pack("=IHHII", 16 + len(asked), SOCK_DIAG_BY_FAMILY, NLM_DUMP, 1, 0) + asked)
         while True:
             answer = diag.recv(1 << 16)
             at = 0
             while at < len(answer):
                 size, kind = struct.unpack_from("=IH", answer, at)
-                if kind in (2, 3):
-                    return None
+                if kind in (NLMSG_ERROR, NLMSG_DONE):
+                    raise NoRight("the kernel tells nothing of packet sockets")
                 if struct.unpack_from("=I", answer, at + 20)[0] == inode:
                     return ring_time_out(answer[at + 32 : at + size])
                 at += (size + 3) & ~3
 
 
-def ring_time_out(attributes: bytes) -> int | None:
+def ring_time_out(attributes: bytes) -> int:
+    """The time-out of the `struct packet_diag_ring` among them."""
     at = 0
     while at < len(attributes):
         size, kind = struct.unpack_from("=HH", attributes, at)
-        if kind == 2:  # PACKET_DIAG_RX_RING
+        if kind == PACKET_DIAG_RX_RING:
             return struct.unpack_from("=I", attributes, at + 20)[0]
         at += (size + 3) & ~3
-    return None
+    raise NoRight("the kernel tells nothing of a packet socket's ring")
 
 
 def copied(wire: Wire) -> list[str]:
@@ -401,11 +406,11 @@ def copied(wire: Wire) -> list[str]:
 
 
 def reserved(wire: Wire) -> list[str]:
-    """Where the data begin with tp_reserve 32."""
+    """Where the data begin without tp_reserve, with 4, which libpcap asks for, and with 32."""
     found = []
-    for version in (V2, V3):
+    for version, reserve in itertools.product((V2, V3), (0, 4, 32)):
         sock = opened(version)
-        sock.setsockopt(SOL_PACKET, RESERVE, 32)
+        sock.setsockopt(SOL_PACKET, RESERVE, reserve)
         ring = Ring(sock, version, Request(tov=60_000))
         ring.start(RECEIVER)
         wire.send(ethernet(60))
@@ -420,7 +425,7 @@ def stamped(wire: Wire) -> list[str]:
     """The status of a packet while some socket has asked for times: TP_STATUS_TS_SOFTWARE is 1 << 29."""
     ring = ring_of(V2, Request())
     with socket.socket(socket.AF_INET, socket.SOCK_DGRAM) as other:
-        other.setsockopt(socket.SOL_SOCKET, 29, 1)  # SO_TIMESTAMP
+        other.setsockopt(socket.SOL_SOCKET, SO_TIMESTAMP, 1)
         until = time.monotonic() + SECONDS
         while not (ring.taken and ring.word(ring.at(len(ring.taken) - 1)) >> 29) and time.monotonic() < until:
             wire.send(ethernet(60))  # the kernel begins a little later
@@ -514,7 +519,8 @@ QUESTIONS = [
     Question("copy_threshold", "a frame that is cut is in the socket's queue too", "a frame that is longer than its slot",
              ("status 3, 1982 bytes", "the whole from the queue: True"), copied),
     Question("reserve", "tp_reserve moves the data", "where a slot's data and its network header begin (`tp_mac`, `tp_net`)",
-             ("tp_mac 98, tp_net 112", "tp_mac 114, tp_net 128"), reserved),
+             ("tp_mac 66, tp_net 80", "tp_mac 70, tp_net 84", "tp_mac 98, tp_net 112",
+              "tp_mac 82, tp_net 96", "tp_mac 86, tp_net 100", "tp_mac 114, tp_net 128"), reserved),
     Question("stamped", "a packet says where its time is from, once some socket wants times", "the other bits of `tp_status`",
              ("status 0x20000001",), stamped),
     Question("own_filters", "each member has a filter of its own", "where the filter stands", ("0 packets", "2 packets"),

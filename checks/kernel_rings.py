@@ -201,10 +201,14 @@ def judge_all(records: Iterable[Fields], program: str, room: Path) -> tuple[dict
     """The cases that are wrong, with why, and how much was compared."""
     wrong, total = {}, Tally()
     with ThreadPoolExecutor(WORKERS) as threads:
-        for name, why, tally in threads.map(lambda fields: judge(fields, program, room), records):
-            total.add(tally)
-            if why:
-                wrong[name] = why
+        try:
+            for name, why, tally in threads.map(lambda fields: judge(fields, program, room), records):
+                total.add(tally)
+                if why:
+                    wrong[name] = why
+        except BaseException:  # as at a signal: what wasn't begun isn't
+            threads.shutdown(wait=False, cancel_futures=True)
+            raise
     return wrong, total
 
 

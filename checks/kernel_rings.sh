@@ -6,5 +6,14 @@ set -u
 wants python3
 find_programs
 make_room
-TMPDIR=$room python3 -B checks/kernel_rings.py "${programs[@]}" || wrong "ringtap and a kernel differ"
+# Wherever the check ends, nobody writes into the room any more.
+comparing=
+trap 'stop_comparing; remove_room' EXIT
+stop_comparing() {
+    [ -z "$comparing" ] || { kill "$comparing" && wait "$comparing"; } 2>/dev/null
+}
+TMPDIR=$room python3 -B checks/kernel_rings.py "${programs[@]}" &
+comparing=$!
+wait "$comparing" || wrong "ringtap and a kernel differ"
+comparing=
 exit "$failed"
