@@ -224,10 +224,9 @@ def test_captures():
     for data, wanted in CAPTURES:
         (room / "a.pcap.gz").write_bytes(data)
         explained(f"capture: {data[:20]!r}", ["replay", "refused.txt", "none.sched"], f"refused.txt, line 6: {wanted.replace('{}', 'a.pcap.gz')}")
-    with open(room / "a.pcap.gz", "wb") as file:
-        file.write(header())
-        file.truncate(33_554_433)
-    explained("a large capture", ["replay", "refused.txt", "none.sched"], "refused.txt, line 6: a.pcap.gz has 33,554,433 bytes, of which the first "
+    record = struct.pack("<IIII", 1, 0, 262_144, 262_144) + bytes(262_144)
+    (room / "a.pcap.gz").write_bytes(header() + 128 * record)  # 24 bytes and 128 times 262,160
+    explained("a large capture", ["replay", "refused.txt", "none.sched"], "refused.txt, line 6: a.pcap.gz has 33,556,504 bytes, of which the first "
               "33,554,432 were run: `tcpdump -r a.pcap.gz -C 33 -w part.pcap` makes parts of it")
     text("runts.txt", BLOCK + "cpu runts.pcap\n")
     capture("runts.pcap", [(0, bytes(13))] * 3)
