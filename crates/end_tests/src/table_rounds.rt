@@ -1,6 +1,6 @@
 //! A ring between two threads, both ends driven by one: each block is filled, taken and released at once, so that an end
 //! that finds its block held, or none there, hasn't looked.
-ghost use Rattle.std.specs.Prelude.{◌≡◌, ◌<◌, ◌≤◌, false, length};
+ghost use Rattle.std.specs.Prelude.{◌≡◌, false, length};
 
 use crate::letters::Letter;
 use crate::table_steps::{fill, read};
@@ -29,16 +29,17 @@ fn first_miss(feeder: &mut TableFeeder<Letter>, walker: &mut TableWalker<Letter>
     None
 }
 
-/// The first such round with a new ring of these many blocks.
-fn miss_with(alloc: Global, blocks: &[u8]) -> Result<Option<u32>, Memory>
-    requires some { 2 ≤ length blocks.now }
-    requires few { length blocks.now ≤ 65536 }
-{
-    let mut letters = Vec::new(alloc);
-    for block in blocks {
-        letters.push(Letter(*block))?;
-    }
-    let (mut feeder, mut walker) = table_ring(alloc, letters)?;
+/// The first such round with a new ring of two blocks.
+fn miss_of_two(alloc: Global) -> Result<Option<u32>, Memory> {
+    let blocks = Vec::from_array(alloc, [Letter(0), Letter(0)])?;
+    let (mut feeder, mut walker) = table_ring(alloc, blocks)?;
+    Ok(first_miss(&mut feeder, &mut walker))
+}
+
+/// The first such round with a new ring of three blocks.
+fn miss_of_three(alloc: Global) -> Result<Option<u32>, Memory> {
+    let blocks = Vec::from_array(alloc, [Letter(0), Letter(0), Letter(0)])?;
+    let (mut feeder, mut walker) = table_ring(alloc, blocks)?;
     Ok(first_miss(&mut feeder, &mut walker))
 }
 
@@ -46,7 +47,7 @@ fn miss_with(alloc: Global, blocks: &[u8]) -> Result<Option<u32>, Memory>
 fn a_block_that_was_released_is_free_and_one_that_was_retired_is_there(
     rt: HostRuntime,
 ) -> Result<(), Fail> {
-    assert_eq!(rt; miss_with(rt.alloc(), &[0; 2])?, None);
-    assert_eq!(rt; miss_with(rt.alloc(), &[0; 5])?, None);
+    assert_eq!(rt; miss_of_two(rt.alloc())?, None);
+    assert_eq!(rt; miss_of_three(rt.alloc())?, None);
     Ok(())
 }
