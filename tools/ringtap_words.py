@@ -8,7 +8,7 @@ import textwrap
 from fractions import Fraction
 from typing import NoReturn
 
-VERSION, DATE = "0.9", "2026-11-29"  # of the tools and their man pages
+VERSION, DATE = "0.1.0", "2026-11-29"  # of the tools and their man pages
 COLUMNS = 79
 UNITS = {"K": 1 << 10, "M": 1 << 20, "G": 1 << 30}
 
