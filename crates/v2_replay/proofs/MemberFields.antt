@@ -255,6 +255,19 @@ closing_read shape asked m after ring h free view end =
     (subst (λ (ns : List Note). HasReadSlots shape asked (slot_state_of (ns ++ Finished ∷ [])).done m.producer.end m.reader) notes
     (subst (λ (d : List (Offer × ℕ)). HasReadSlots shape asked d m.producer.end m.reader) (sym done) (h.read free)))
 
+-- a ring that is closing has given up its free slots, which no reader reads
+pub read_closing : (shape : RingRequest) (asked : Bool) (done : List (Offer × ℕ)) (ring : PlainState) (reader : SlotReaderValue)
+    → HasReadSlots shape asked done ring reader → HasReadSlots shape asked done (record ring { contents = [] }) reader
+read_closing shape asked done ring reader h = record {
+  shape_is = h.shape_is;
+  asked_is = h.asked_is;
+  kind_is = h.kind_is;
+  texts = h.texts;
+  none_held = h.none_held;
+  none_in_hand = h.none_in_hand;
+  outputs_are = h.outputs_are;
+}
+
 pub few_closed : (shape : RingRequest) (asked : Bool) (m : Parts) (ring : Ring) → KeepsSlots shape asked m → ring_of m.producer ≡ ring
     → length (ring.notes ++ Finished ∷ []) ≤ 2 ^ 40
 few_closed shape asked m ring h view =

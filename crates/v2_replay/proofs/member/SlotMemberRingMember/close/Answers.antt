@@ -7,7 +7,7 @@ use Rattle.tp_layout.specs.Requests.{numbers_of}
 use Rattle.tp_layout.specs.declared.requests.RingRequest.{RingRequest}
 use Rattle.v2_replay.specs.SlotsRead.{HasReadSlots}
 use Rattle.v2_replay.proofs.LastReads.{closed_report}
-use Rattle.v2_replay.proofs.MemberFields.{closing_read, few_closed, few_read}
+use Rattle.v2_replay.proofs.MemberFields.{closing_read, few_closed, few_read, read_closing}
 use Rattle.v2_replay.proofs.ReadSlots.{all_read, fewer_wait, free_hand, next_read, none_read}
 use Rattle.v2_replay.proofs.member.SlotMemberRingMember.close.Goals as goal
 
@@ -15,9 +15,10 @@ pub waiting-init : goal.waiting-init
 waiting-init g c =
     let done = (slot_state_of (c.args.self.notes ++ Finished ∷ [])).done in
     subst (λ (ring : PlainState). HasReadSlots g.K.Setting.shape g.K.Setting.dumps done ring c.self.inside.reader) (sym c.in_ok-waiting.ensures)
+    (read_closing g.K.Setting.shape g.K.Setting.dumps done c.finish-ring.result.0 c.self.inside.reader
     (closing_read g.K.Setting.shape g.K.Setting.dumps
     (record { producer = c.self.inside.producer; reader = c.self.inside.reader; stuck = c.self.inside.stuck })
-    c.finish-ring.result.0 c.args.self c.self.invariant c.if-self.false c.self.view_is c.finish-ring.ensures.end)
+    c.finish-ring.result.0 c.args.self c.self.invariant c.if-self.false c.self.view_is c.finish-ring.ensures.end))
 
 pub step-requires-clause-kind : goal.step-requires-clause-kind
 step-requires-clause-kind g c =
