@@ -1,10 +1,10 @@
-"""Reads the tables of docs/reference.md, has a program answer each text that stands there, and compares what it prints."""
+"""Reads the tables of docs/reference.md and checks/refused_texts.md, has a program answer each text that they show, and compares what it prints."""
 import re
 import sys
 
 import runs
 
-program, document, room = sys.argv[1:]
+program, *documents, room = sys.argv[1:]
 
 # What stands in words in a table of lines, and isn't shown.
 SHOWN = {"an empty line": "", "a line of blanks": " \t"}
@@ -39,7 +39,7 @@ def rows_below(text, head):
     """The rows of all tables with this first line."""
     rows = [row for first, rows in tables(text) if first == head for row in rows]
     if not rows:
-        sys.exit(f"{document} has no table {head}")
+        sys.exit(f"{' and '.join(documents)} have no table {head}")
     return rows
 
 
@@ -148,8 +148,10 @@ def other_texts(needed, rows):
         expect(cell, 3, printed, ["replay", "conf", "sched"], texts)
 
 
-with open(document, encoding="utf-8") as file:
-    text = file.read()
+text = ""
+for document in documents:
+    with open(document, encoding="utf-8") as file:
+        text += file.read()
 words = [lines_of(row[0])[0] for row in rows_below(text, WORDS_HEAD)]
 needed = words[: len(NEEDED)]
 answer([], {"tcp.ddd": b"1\n6 0 0 262144\n", "t.txt": b"1\n8\n8\n"})
