@@ -20,7 +20,7 @@ INSTALLED = HERE.parent.parent / "bin" / "ringtap"  # where install.sh puts it, 
 
 STATUSES = {
     0: "done",
-    1: "the words are no command",
+    1: "the arguments aren't a command",
     2: "the setup is refused",
     3: "a filter, moments or a schedule is refused",
     4: "a capture is damaged or cut; what precedes that was run and saved",
