@@ -1,5 +1,5 @@
 #!/usr/bin/env python3
-"""Makes docs/definitions.md: which definitions the contract of `run` reaches, and which modules of specs/ there are besides.
+"""Makes docs/definitions.md: which definitions the contract of `run` reaches, by crate and module of specs/.
 
     definitions.py             the status is 1 where the page isn't what the sources give
     definitions.py --write     writes the page anew
@@ -12,6 +12,7 @@ from __future__ import annotations
 import argparse
 import re
 import sys
+import textwrap
 from dataclasses import dataclass, field
 from pathlib import Path
 
@@ -139,22 +140,27 @@ def page() -> str:
         "",
         "Made by `python3 checks/definitions.py --write`; `checks/docs.sh` says where it is out of date.",
         "",
-        "Contracts say that the code does what the definitions in the crates' `specs/` say: functions and records over",
-        "plain lists and whole numbers, each under one sentence. They have to be believed, and nothing else of a proof.",
-        "Places and sizes are in bytes, times in nanoseconds or milliseconds; blocks are counted from 1, CPUs, members,",
-        "frames and instructions from 0.",
+        *wrapped(
+            "Contracts say that the code does what the definitions in the crates' `specs/` say: functions and records over plain lists "
+            "and whole numbers, each under one sentence. You have to believe them, and nothing else of a proof. Places and sizes are in "
+            "bytes, times in nanoseconds or milliseconds; blocks count from 1, CPUs, members, frames and instructions from 0."
+        ),
         "",
-        f"The contract of `run` reaches {sum(map(len, found.values()))} definitions in {len(found)} of {len(known)} modules. These are to be read; of the other modules a",
-        "crate's own contracts speak, or its laws and proofs.",
+        *wrapped(
+            f"The contract of `run` reaches {sum(map(len, found.values()))} definitions in {len(found)} of {len(known)} modules. Those are "
+            "to be read; the other modules are for a crate's own contracts, laws and proofs."
+        ),
     ]
-    for crate in sorted({place[0] for place in known}, key=order_of):
-        own = [place for place in known if place[0] == crate]
+    for crate in sorted({place[0] for place in found}, key=order_of):
         lines += ["", f"## {crate}", ""]
-        read = [place for place in own if place in found]
-        lines += [f"- `{place[1]}`: {known[place].sentence}" for place in read]
-        rest = [f"`{place[1]}`" for place in own if place not in found]
-        lines += ([""] if read and rest else []) + (["Besides: " + ", ".join(rest) + "."] if rest else [])
+        for place in (place for place in known if place[0] == crate and place in found):
+            lines += wrapped(f"- `{place[1]}`: {known[place].sentence}")
     return "\n".join(lines) + "\n"
+
+
+def wrapped(text: str) -> list[str]:
+    """A paragraph, or an item of a list, in lines of at most 100 columns."""
+    return textwrap.wrap(text, 100, subsequent_indent="  " * text.startswith("- "), break_long_words=False, break_on_hyphens=False)
 
 
 def order_of(crate: str) -> int:
