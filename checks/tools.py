@@ -236,7 +236,7 @@ def examples(document):
 
 
 def test_examples():
-    """The commands of docs/tools.md print what stands below them; of a schedule and of a dump the first lines."""
+    """The commands of docs/tools.md print what is shown below them; of a schedule, a timeline and a dump the first lines."""
     here = room / "examples"
     here.mkdir()
     (here / "demo").symlink_to(TOP / "demo")
@@ -254,7 +254,7 @@ def test_examples():
             words = [sys.executable, "-B", TOP / words[1], *words[2:], *["--program", program] * has_program]
         printed, said, status = answer(words, here)
         given = (printed + said).rstrip("\n") if isinstance(status, int) else status
-        if "schedule.py" in what or "blocks.py" in what:
+        if any(tool in what for tool in ("schedule.py", "timeline.py", "blocks.py")):
             given = "\n".join(given.split("\n")[: wanted.count("\n") + 1])
         expect(what, given, wanted)
     expect("examples", len(examples(TOP / "docs" / "tools.md")) >= 8, True)
