@@ -1,8 +1,9 @@
 -- Readers whose members are numbered, and blocks that were given back.
-use Rattle.std.proofs.Common.{◌≡◌, ℕ, ◌+◌, zero, suc, List, [], ◌∷◌, ◌++◌, length, replicate, refl, sym, ap, ◌∙◌, subst, arith, append_assoc}
+use Rattle.std.proofs.Common.{◌≡◌, ℕ, ◌+◌, List, [], ◌∷◌, ◌++◌, length, replicate, refl, sym, ap, ◌∙◌, subst, arith, append_assoc}
+use Rattle.ring_words.specs.Rings.{Entry}
 use Rattle.ring_words.specs.TableEnds.{Walking}
 use Rattle.cpu_feeders.specs.FreshWorkers.{AreNumbered}
-use Rattle.cpu_feeders.specs.Walks.{FreedSome}
+use Rattle.cpu_feeders.specs.Walks.{FreedMore}
 use Rattle.cpu_feeders.specs.declared.walker.Walker.{Walker}
 
 -- ---- readers
@@ -19,15 +20,17 @@ numbered_more {T = T} xs now x is all one = subst (λ (ys : List (Walker T)). Ar
 zeros : ℕ → List ℕ
 zeros blocks = replicate blocks 0
 
-one_zero : (blocks : ℕ) → zeros blocks ++ 0 ∷ [] ≡ zeros (suc blocks)
+both_zeros : (some more : List Entry) → zeros (length some) ++ zeros (length more) ≡ zeros (length (some ++ more))
 unfolding zeros
-one_zero zero = refl
-one_zero (suc blocks) = ap (λ (xs : List ℕ). 0 ∷ xs) (one_zero blocks)
+both_zeros [] more = refl
+both_zeros (entry ∷ some) more = ap (λ (xs : List ℕ). 0 ∷ xs) (both_zeros some more)
 
-pub freed_more : (first before after : Walking) → FreedSome first before → after.marks ≡ before.marks ++ 0 ∷ [] → FreedSome first after
+pub freed_more : (first before after : Walking) → FreedMore first before → FreedMore before after → FreedMore first after
 unfolding zeros
-freed_more first before after some one = (
-  suc some.0,
-  one ∙ ap (λ (xs : List ℕ). xs ++ 0 ∷ []) some.1 ∙ append_assoc first.marks (zeros some.0) (0 ∷ [])
-      ∙ ap (λ (xs : List ℕ). first.marks ++ xs) (one_zero some.0),
-)
+freed_more first before after some one = record {
+  more = some.more ++ one.more;
+  taken = one.taken ∙ ap (λ (xs : List Entry). xs ++ one.more) some.taken ∙ append_assoc first.taken some.more one.more;
+  marks = one.marks ∙ ap (λ (xs : List ℕ). xs ++ zeros (length one.more)) some.marks
+      ∙ append_assoc first.marks (zeros (length some.more)) (zeros (length one.more))
+      ∙ ap (λ (xs : List ℕ). first.marks ++ xs) (both_zeros some.more one.more);
+}

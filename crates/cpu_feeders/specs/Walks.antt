@@ -1,5 +1,5 @@
 -- What the reader of a member does.
-use Rattle.std.specs.Prelude.{◌≡◌, ℕ, ◌++◌, false, List, length, map, replicate}
+use Rattle.std.specs.Prelude.{◌≡◌, ◌++◌, false, List, length, map, replicate}
 use Rattle.cpu_feeders.specs.declared.walker.Walker.{Walker}
 use Rattle.reader_walk.specs.Takers.{Base, Taken, taken_in}
 use Rattle.ring_words.specs.Rings.{Entry}
@@ -9,6 +9,12 @@ use Rattle.tp_layout.specs.Requests.{numbers_of}
 -- what is read of blocks
 abbrev pub taken_of : Base → List Entry → List Taken
 taken_of base entries = map (λ (entry : Entry). taken_in base.shape entry.0) entries
+
+-- the reader took these further blocks, and gave back as many, each with the word of a free one, which is 0
+pub record FreedMore (before after : Walking) : Type 0 where
+  pub more : List Entry
+  pub taken : after.taken ≡ before.taken ++ more
+  pub marks : after.marks ≡ before.marks ++ replicate (length more) 0
 
 module _ {T : Type 0} (base_of : T → Base) (taken_by : T → List Taken) where
   -- a reader with no block in hand: unless a request for memory was refused its taker has read all
@@ -25,10 +31,7 @@ module _ {T : Type 0} (base_of : T → Base) (taken_by : T → List Taken) where
     pub walks : Walks base after
     pub member : after.member ≡ before.member
     pub ring : after.end.id ≡ before.end.id
-
--- the reader gave back some blocks, each with the word of a free one, which is 0
-abbrev pub FreedSome : Walking → Walking → Type 0
-FreedSome before after = (blocks : ℕ) × (after.marks ≡ before.marks ++ replicate blocks 0)
+    pub freed : FreedMore before.end after.end
 
 -- the last look found nothing
 pub record FoundNone (after : Walking) : Type 0 where

