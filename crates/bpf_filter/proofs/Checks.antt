@@ -1,8 +1,8 @@
 -- What a loop over the instructions of a program has checked.
-use Rattle.std.proofs.Common.{◌≡◌, ℕ, ◌+◌, ◌-◌, ◌<◌, ◌≤◌, Bool, true, false, List, [], ◌∷◌, ◌++◌, length, take, drop, get_or, refl, ap, sym, ◌∙◌, subst, arith, Some, None, Option, add-one}
+use Rattle.std.proofs.Common.{◌≡◌, ℕ, ◌+◌, ◌-◌, ◌<◌, ◌≤◌, Bool, true, false, List, [], ◌∷◌, length, drop, get_or, refl, ap, sym, ◌∙◌, subst, arith, Some, None, Option, add-one}
 use Rattle.std.specs.Option.{option_or}
 use Rattle.std.proofs.lemmas.Grind.{common_steps}
-use Rattle.std.proofs.Math.Seq.{drop-cons, take-length, drop-length, take-suc}
+use Rattle.std.proofs.Math.Seq.{drop-cons, drop-length}
 use Rattle.std.proofs.lemmas.List.{length-drop}
 use Rattle.bpf_filter.specs.declared.insn.Insn.{Insn}
 use Rattle.bpf_filter.specs.declared.error.FilterError.{FilterError}
@@ -11,8 +11,8 @@ use Rattle.std.specs.Prelude.{Result, Ok, Err, if◌then◌else◌, is_some, nat
 use Rattle.std.proofs.lemmas.Option.{none-some}
 use Rattle.bpf_filter.specs.Answers.{Refuses}
 use Rattle.bpf_filter.specs.Codes.{is_code}
-use Rattle.bpf_filter.specs.Programs.{program_of, program_after, fault_of, fault_of_known, first_fault, ends_with_return, is_among, has_bad_constant, has_bad_word, IsRunnable}
-use Rattle.bpf_filter.proofs.Runs.{AreRunnable}
+use Rattle.bpf_filter.specs.Programs.{program_of, program_after, fault_of, fault_of_known, first_fault, ends_with_return, is_among, has_bad_constant, has_bad_word, has_bad_place, has_bad_jump}
+use Rattle.bpf_filter.proofs.Leads.{AllFit, Fits, is_return}
 
 -- no instruction before the place has a fault
 pub record Checked (code : List Insn) (at : ℕ) : Type 0 where
@@ -59,30 +59,38 @@ ends_by_last (i ∷ j ∷ code) d l =
     ends_by_last (j ∷ code) d (omega arith) ∙ ap (λ insn. is_among (0x06 ∷ 0x16 ∷ []) insn.code) (last_behind i j code d)
 
 -- where no fault is found, no test of the chain holds
-second_test_fails : (first second : Bool) (a b : FilterError) (rest : Option FilterError) → (if first then Some a else if second then Some b else rest) ≡ None → second ≡ false
-second_test_fails true second a b rest h = absurd (none-some a (sym h))
-second_test_fails false true a b rest h = absurd (none-some b (sym h))
-second_test_fails false false a b rest h = refl
+no_test_holds : (a b c d : Bool) (w x y z : FilterError)
+    → (if a then Some w else if b then Some x else if c then Some y else if d then Some z else None) ≡ None → (b ≡ false) × (d ≡ false)
+no_test_holds true b c d w x y z h = absurd (none-some w (sym h))
+no_test_holds false true c d w x y z h = absurd (none-some x (sym h))
+no_test_holds false false true d w x y z h = absurd (none-some y (sym h))
+no_test_holds false false false true w x y z h = absurd (none-some z (sym h))
+no_test_holds false false false false w x y z h = (refl, refl)
 
-pub has_no_bad_word : (at behind : ℕ) (i : Insn) → fault_of_known at behind i ≡ None → has_bad_word i ≡ false
-has_no_bad_word at behind i h = second_test_fails (has_bad_constant i) (has_bad_word i) _ _ _ h
+no_bad : (at behind : ℕ) (i : Insn) → fault_of_known at behind i ≡ None → (has_bad_word i ≡ false) × (has_bad_jump behind i ≡ false)
+no_bad at behind i h = no_test_holds (has_bad_constant i) (has_bad_word i) (has_bad_place i) (has_bad_jump behind i) _ _ _ _ h
 
--- where no instruction has a fault, each can be run
-one_is_runnable : (at behind : ℕ) (i : Insn) → fault_of at behind i ≡ None → IsRunnable i
+-- where no instruction has a fault, and the last one returns, each fits its place
+one_fits : (at behind : ℕ) (i : Insn) → fault_of at behind i ≡ None → (behind ≡ 0 → is_return i.code ≡ true) → Fits behind i
 unfolding fault_of
-one_is_runnable at behind i h = by_test (is_code i.code) refl h
+one_fits at behind i h last = by_test (is_code i.code) refl h
   where
-    by_test : (known : Bool) → is_code i.code ≡ known → (if known then fault_of_known at behind i else Some (BadCode at)) ≡ None → IsRunnable i
-    by_test true is h = record { known = is; word = has_no_bad_word at behind i h }
+    by_test : (known : Bool) → is_code i.code ≡ known → (if known then fault_of_known at behind i else Some (BadCode at)) ≡ None → Fits behind i
+    by_test true is h =
+        let none = no_bad at behind i h in
+        record { runnable = record { known = is; word = none.0 }; jump = none.1; last = last }
     by_test false is h = absurd (none-some (BadCode at) (sym h))
 
-pub are_runnable : (at : ℕ) (code : List Insn) → first_fault at code ≡ None → AreRunnable code
-are_runnable at [] h = tt
-are_runnable at (i ∷ code) h = by_fault (fault_of at (length code) i) refl h (λ rest. are_runnable (at + 1) code rest)
-  where
-    by_fault : (fault : Option FilterError) → fault_of at (length code) i ≡ fault → option_or fault (first_fault (at + 1) code) ≡ None → (first_fault (at + 1) code ≡ None → AreRunnable code) → AreRunnable (i ∷ code)
-    by_fault None e h rest = (one_is_runnable at (length code) i e, rest h)
-    by_fault (Some fault) e h rest = absurd (none-some fault (sym h))
+no_fault : (fault rest : Option FilterError) → option_or fault rest ≡ None → (fault ≡ None) × (rest ≡ None)
+no_fault None rest h = (refl, h)
+no_fault (Some fault) rest h = absurd (none-some fault (sym h))
+
+all_fit : (at : ℕ) (code : List Insn) → first_fault at code ≡ None → ends_with_return code ≡ true → AllFit code
+all_fit at [] h e = tt
+all_fit at (i ∷ []) h e = (one_fits at 0 i (no_fault (fault_of at 0 i) None h).0 (λ none. e), tt)
+all_fit at (i ∷ j ∷ code) h e =
+    let none = no_fault (fault_of at (length (j ∷ code)) i) (first_fault (at + 1) (j ∷ code)) h in
+    (one_fits at (length (j ∷ code)) i none.0 (λ none. absurd (omega arith)), all_fit (at + 1) (j ∷ code) none.1 e)
 
 -- ---- the whole program
 
@@ -118,3 +126,45 @@ program_of-no_return code l h e = program_of-small code l ∙ ap (λ fault. prog
 
 pub program_of-good : (code : List Insn) → length code ≤ 4096 → first_fault 0 code ≡ None → ends_with_return code ≡ true → program_of code ≡ Ok code
 program_of-good code l h e = program_of-small code l ∙ ap (λ fault. program_after fault code) h ∙ rw e refl
+
+-- ---- what is known of a program that was accepted
+
+pub record Parts (fault : Option FilterError) (code : List Insn) : Type 0 where
+  pub none : fault ≡ None
+  pub ends : ends_with_return code ≡ true
+
+ends_with : (ends : Bool) (code : List Insn) → ◌≡◌ {A = Result (List Insn) FilterError} (if ends then Ok code else Err NoReturn) (Ok code) → ends ≡ true
+ends_with true code h = refl
+ends_with false code h = cc
+
+parts_after : (fault : Option FilterError) (code : List Insn) → program_after fault code ≡ Ok code → Parts fault code
+parts_after None code h = record { none = refl; ends = ends_with (ends_with_return code) code h }
+parts_after (Some fault) code h = cc
+
+parts_of : (code : List Insn) → program_of code ≡ Ok code → Parts (first_fault 0 code) code
+unfolding program_of
+parts_of code h = by_test (nat_lt 4096 (length code)) h
+  where
+    by_test : (long : Bool) → ◌≡◌ {A = Result (List Insn) FilterError} (if long then Err BadCount else program_after (first_fault 0 code) code) (Ok code) → Parts (first_fault 0 code) code
+    by_test true h = cc
+    by_test false h = parts_after (first_fault 0 code) code h
+
+pub accepted_fit : (code : List Insn) → program_of code ≡ Ok code → AllFit code
+accepted_fit code h =
+    let parts = parts_of code h in
+    all_fit 0 code parts.none parts.ends
+
+some_by_end : (code : List Insn) → ends_with_return code ≡ true → 0 < length code
+some_by_end [] h = cc
+some_by_end (i ∷ code) h = omega arith
+
+pub accepted_some : (code : List Insn) → program_of code ≡ Ok code → 0 < length code
+accepted_some code h = some_by_end code (parts_of code h).ends
+
+pub accepted_small : (code : List Insn) → program_of code ≡ Ok code → length code ≤ 4096
+unfolding program_of
+accepted_small code h = by_test (nat_lt 4096 (length code)) refl h
+  where
+    by_test : (long : Bool) → nat_lt 4096 (length code) ≡ long → ◌≡◌ {A = Result (List Insn) FilterError} (if long then Err BadCount else program_after (first_fault 0 code) code) (Ok code) → length code ≤ 4096
+    by_test true l h = cc
+    by_test false l h = grind arith

@@ -1,3 +1,4 @@
 mod Checks
+mod Leads
 mod Listed
 mod Runs

@@ -1,13 +1,12 @@
 -- A counter over the instructions, and the instructions that are still to be done.
-use Rattle.std.proofs.Common.{◌≡◌, ℕ, zero, suc, ◌+◌, ◌<◌, ◌≤◌, true, false, List, [], ◌∷◌, length, drop, get_or, refl, ap, sym, ◌∙◌, subst, arith, Some}
-use Rattle.std.specs.Prelude.{slice_get, nat_lt}
-use Rattle.std.proofs.lemmas.List.{drop-drop}
-use Rattle.std.proofs.Math.ListN.{drop_of_length-le}
-use Rattle.std.specs.List.{AllByRecursion}
-use Rattle.std.proofs.lemmas.Option.{same_Some, none-some, slice_get_read}
+use Rattle.std.proofs.Common.{◌≡◌, ℕ, zero, suc, ◌+◌, ◌<◌, List, [], ◌∷◌, length, drop, get_or, refl, ap, sym, ◌∙◌, subst, arith}
+use Rattle.std.specs.Prelude.{Ok}
+use Rattle.std.proofs.lemmas.List.{drop-drop, length-drop}
 use Rattle.bpf_filter.specs.declared.insn.Insn.{Insn}
 use Rattle.bpf_filter.specs.Codes.{State, Next, Answers, GoesOn, effect}
-use Rattle.bpf_filter.specs.Programs.{IsRunnable}
+use Rattle.bpf_filter.proofs.Checks.{accepted_fit, accepted_some}
+use Rattle.bpf_filter.proofs.Leads.{AllFit, Fits, skip_inside}
+use Rattle.bpf_filter.specs.Programs.{program_of}
 use Rattle.bpf_filter.specs.Sight.{Sight}
 use Rattle.bpf_filter.specs.Verdict.{go, follow, verdict_of, first_state}
 
@@ -19,35 +18,23 @@ go-drop [] (suc skip) p s = refl
 go-drop (i ∷ rest) zero p s = refl
 go-drop (i ∷ rest) (suc skip) p s = go-drop rest skip p s
 
--- each instruction has a known code, and its memory word is there
-abbrev pub AreRunnable : List Insn → Type 0
-AreRunnable code = AllByRecursion IsRunnable code
-
 -- the instruction at a place
 pub record At (code : List Insn) (at : ℕ) (insn : Insn) : Type 0 where
   pub here : drop at code ≡ insn ∷ drop (suc at) code
-  pub runnable : IsRunnable insn
+  pub fits : Fits (length (drop (suc at) code)) insn
 
-insn_at : (code : List Insn) (at : ℕ) (insn : Insn) → AreRunnable code → slice_get code at ≡ Some insn → At code at insn
-insn_at [] at insn h e = absurd (none-some insn e)
-insn_at (i ∷ code) zero insn h e =
-    let same = same_Some i insn e in
-    record { here = ap (λ (j : Insn). j ∷ code) same; runnable = subst IsRunnable same h.0 }
-insn_at (i ∷ code) (suc at) insn h e =
-    let behind = insn_at code at insn h.1 e in
-    record { here = behind.here; runnable = behind.runnable }
+insn_at : (code : List Insn) (at : ℕ) (d : Insn) → AllFit code → at < length code → At code at (get_or code at d)
+insn_at [] at d h l = absurd (omega arith)
+insn_at (i ∷ code) zero d h l = record { here = refl; fits = h.0 }
+insn_at (i ∷ code) (suc at) d h l =
+    let behind = insn_at code at d h.1 (omega arith) in
+    record { here = behind.here; fits = behind.fits }
 
--- an instruction that was read from them
-pub read_at : (code given : List Insn) (at : ℕ) (insn : Insn) → AreRunnable code → given ≡ code → true ≡ nat_lt at (length given) → insn ≡ get_or given at insn → At code at insn
-read_at code given at insn h e l r =
-    let small : at < length given = grind arith in
-    insn_at code at insn h (ap (λ code. slice_get code at) (sym e) ∙ slice_get_read given (length given) at insn refl small r)
+pub accepted_at : (code : List Insn) (at : ℕ) (d : Insn) → program_of code ≡ Ok code → at < length code → At code at (get_or code at d)
+accepted_at code at d h l = insn_at code at d (accepted_fit code h) l
 
--- no instruction was left to be read
-pub none_at : (code given : List Insn) (at : ℕ) → given ≡ code → false ≡ nat_lt at (length given) → drop at code ≡ []
-none_at code given at e l =
-    let past : length given ≤ at = grind arith in
-    drop_of_length-le code (subst (λ code. length code ≤ at) e past)
+pub same_accepted : (code given : List Insn) → program_of code ≡ Ok code → given ≡ code → program_of given ≡ Ok given
+same_accepted code given h e = subst (λ code. program_of code ≡ Ok code) (sym e) h
 
 -- what is after an instruction may be said in another way
 follow-same : (next : Next) (behind other : ℕ → State → ℕ) → ((skip : ℕ) (s : State) → behind skip s ≡ other skip s) → follow next behind ≡ follow next other
@@ -65,13 +52,14 @@ go-step code at insn p s a =
     ∙ ap (λ program. go program 0 p s) (drop-drop skip (suc at) code)
     ∙ ap (λ n. go (drop n code) 0 p s) (omega arith))
 
--- the instructions from the counter on give the verdict
+-- the instructions from the counter on give the verdict, and there is one
 pub record Goes (code : List Insn) (at : ℕ) (p : Sight) (s : State) : Type 0 where
   pub same : go (drop at code) 0 p s ≡ verdict_of code p
+  pub inside : at < length code
 
-pub goes_first : (code : List Insn) (p : Sight) (s : State) → s ≡ first_state → Goes code 0 p s
+pub goes_first : (code : List Insn) (p : Sight) (s : State) → program_of code ≡ Ok code → s ≡ first_state → Goes code 0 p s
 unfolding verdict_of
-goes_first code p s e = record { same = ap (λ s. go code 0 p s) e }
+goes_first code p s h e = record { same = ap (λ s. go code 0 p s) e; inside = accepted_some code h }
 
 pub goes_to_answer : (code : List Insn) (at : ℕ) (insn : Insn) (p : Sight) (s : State) (answer : ℕ) → Goes code at p s → At code at insn → Answers answer ≡ effect insn p s → answer ≡ verdict_of code p
 goes_to_answer code at insn p s answer g a e =
@@ -81,8 +69,5 @@ pub goes_on : (code : List Insn) (at : ℕ) (insn : Insn) (p : Sight) (s : State
 goes_on code at insn p s skip next g a e = record {
   same = ap (λ next. follow next (λ skip next. go (drop (at + (1 + skip)) code) 0 p next)) e
       ∙ sym (go-step code at insn p s a) ∙ g.same;
+  inside = omega (arith, skip_inside _ insn p s skip next a.fits e, length-drop (suc at) code);
 }
-
-pub goes_to_end : (code : List Insn) (at : ℕ) (p : Sight) (s : State) → Goes code at p s → drop at code ≡ [] → 0 ≡ verdict_of code p
-unfolding go
-goes_to_end code at p s g e = sym (ap (λ program. go program 0 p s) e) ∙ g.same

@@ -1,11 +1,12 @@
 -- What the code's machine stands for.
-use Rattle.std.specs.Prelude.{ℕ}
+use Rattle.std.specs.Prelude.{ℕ, Bool, [], ◌∷◌}
 use Rattle.bpf_filter.specs.declared.loads.Size.{Size}
 use Rattle.bpf_filter.specs.declared.loads.Size.TheVariants.{Word, Half, Byte}
 use Rattle.bpf_filter.specs.declared.machine.Machine.{Machine}
 use Rattle.bpf_filter.specs.declared.machine.Next as code
-use Rattle.bpf_filter.specs.declared.machine.Next.TheVariants.{Answer, Go, Skip}
+use Rattle.bpf_filter.specs.declared.machine.Next.TheVariants.{Answer, Skip}
 use Rattle.bpf_filter.specs.Codes.{State, Next, Answers, GoesOn}
+use Rattle.bpf_filter.specs.Programs.{is_among}
 
 abbrev pub state_of : Machine → State
 state_of machine = record { a = machine.a; x = machine.x; memory = machine.memory }
@@ -13,7 +14,6 @@ state_of machine = record { a = machine.a; x = machine.x; memory = machine.memor
 -- where a step led, with the machine after it
 abbrev pub next_of : code.Next → Machine → Next
 next_of (Answer number) machine = Answers number
-next_of Go machine = GoesOn 0 (state_of machine)
 next_of (Skip skip) machine = GoesOn skip (state_of machine)
 
 -- how many bytes a load takes
@@ -21,3 +21,8 @@ abbrev pub bytes_of : Size → ℕ
 bytes_of Word = 4
 bytes_of Half = 2
 bytes_of Byte = 1
+
+-- the codes by which A takes a number that k and the registers always give: LD IMM, TXA, and ALU less DIV and MOD
+abbrev pub is_calculation : ℕ → Bool
+is_calculation code =
+    is_among (0x00 ∷ 0x87 ∷ 0x84 ∷ 0x04 ∷ 0x0c ∷ 0x14 ∷ 0x1c ∷ 0x24 ∷ 0x2c ∷ 0x44 ∷ 0x4c ∷ 0x54 ∷ 0x5c ∷ 0x64 ∷ 0x6c ∷ 0x74 ∷ 0x7c ∷ 0xa4 ∷ 0xac ∷ []) code

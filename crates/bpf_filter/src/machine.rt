@@ -1,10 +1,10 @@
 //! The machine that runs a program: its registers and its memory. The names beside the codes are those of
 //! `linux/bpf_common.h` and `linux/filter.h`.
-ghost use Rattle.std.specs.Prelude.{◌≡◌, ◌<◌, Some, if◌then◌else◌};
-ghost use Rattle.bpf_filter.specs.Codes.{GoesOn, effect, left_shift, load_a, load_x, right_shift, to_word};
-ghost use Rattle.bpf_filter.specs.Machines.{next_of, state_of};
+ghost use Rattle.std.specs.Prelude.{◌≡◌, ◌<◌, Some, if◌then◌else◌, true};
+ghost use Rattle.bpf_filter.specs.Codes.{GoesOn, effect, left_shift, load_a, load_x, right_shift, to_a, to_word};
+ghost use Rattle.bpf_filter.specs.Machines.{is_calculation, next_of, state_of};
 ghost use Rattle.bpf_filter.specs.Programs.{IsRunnable};
-ghost use Rattle.bpf_filter.specs.Sight.{sight_of};
+ghost use Rattle.bpf_filter.specs.Sight.{Sight, sight_of};
 ghost use Rattle.bpf_filter.specs.Verdict.{first_state};
 
 use crate::insn::Insn;
@@ -19,10 +19,8 @@ pub(crate) const WORDS: usize = 16;
 pub(crate) enum Next {
     /// The verdict is known.
     Answer(u32),
-    /// The program goes on with the next instruction.
-    Go,
     /// The program goes on after that many further instructions.
-    Skip(u32),
+    Skip(usize),
 }
 
 /// The registers and the memory words.
@@ -54,11 +52,11 @@ impl Machine {
     #[tactic(auto, unfolding(crate::specs::Codes::codes))]
     pub(crate) fn perform(&mut self, insn: &Insn, packet: &Seen<'_>) -> Next
         requires { IsRunnable insn.now }
-        ensures { next_of result self.new ≡ effect insn.now (sight_of packet.now) (state_of self.old) }
+        ensures { next_of result self.new
+            ≡ effect insn.now (sight_of packet.now) (state_of self.old) }
     {
         let (k, a, x) = (insn.k, self.a, self.x);
         match insn.code {
-            0x00 => self.load(Some(k)), // LD IMM
             0x20 => self.load(absolute(Size::Word, k, packet)), // LD W ABS
             0x28 => self.load(absolute(Size::Half, k, packet)), // LD H ABS
             0x30 => self.load(absolute(Size::Byte, k, packet)), // LD B ABS
@@ -71,30 +69,14 @@ impl Machine {
             0x61 => self.load_index(Some(self.memory[k as usize])), // LDX MEM
             0x81 => self.load_index(Some(packet.wire)), // LDX LEN
             0xb1 => self.load_index(header_length(k, packet)), // LDX B MSH
+            0x07 => self.load_index(Some(a)), // MISC TAX
             0x02 => self.store(k, a), // ST
             0x03 => self.store(k, x), // STX
-            0x84 => self.load(Some(a.wrapping_neg())), // ALU NEG
-            0x04 => self.load(Some(a.wrapping_add(k))), // ALU ADD, by k and by X
-            0x0c => self.load(Some(a.wrapping_add(x))),
-            0x14 => self.load(Some(a.wrapping_sub(k))), // ALU SUB
-            0x1c => self.load(Some(a.wrapping_sub(x))),
-            0x24 => self.load(Some(a.wrapping_mul(k))), // ALU MUL
-            0x2c => self.load(Some(a.wrapping_mul(x))),
-            0x34 => self.load(a.checked_div(k)), // ALU DIV
+            0x34 => self.load(a.checked_div(k)), // ALU DIV, by k and by X
             0x3c => self.load(a.checked_div(x)),
-            0x44 => self.load(Some(a | k)), // ALU OR
-            0x4c => self.load(Some(a | x)),
-            0x54 => self.load(Some(a & k)), // ALU AND
-            0x5c => self.load(Some(a & x)),
-            0x64 => self.load(Some(shifted_left(a, k))), // ALU LSH
-            0x6c => self.load(Some(shifted_left(a, x))),
-            0x74 => self.load(Some(shifted_right(a, k))), // ALU RSH
-            0x7c => self.load(Some(shifted_right(a, x))),
             0x94 => self.load(a.checked_rem(k)), // ALU MOD
             0x9c => self.load(a.checked_rem(x)),
-            0xa4 => self.load(Some(a ^ k)), // ALU XOR
-            0xac => self.load(Some(a ^ x)),
-            0x05 => Next::Skip(k), // JMP JA
+            0x05 => Next::Skip(k as usize), // JMP JA
             0x15 => branch(a == k, insn), // JMP JEQ, by k and by X
             0x1d => branch(a == x, insn),
             0x25 => branch(a > k, insn), // JMP JGT
@@ -105,8 +87,39 @@ impl Machine {
             0x4d => branch(a & x != 0, insn),
             0x06 => Next::Answer(k), // RET K
             0x16 => Next::Answer(a), // RET A
-            0x07 => self.load_index(Some(a)), // MISC TAX
-            0x87 => self.load(Some(x)), // MISC TXA
+            _ => self.load(Some(self.calculated(insn))), // LD IMM, TXA, the rest of ALU
+        }
+    }
+
+    /// The number that A takes by an instruction which makes it of k and the registers alone, and always gives one.
+    #[inline]
+    #[tactic(auto, unfolding(crate::specs::Codes::codes))]
+    fn calculated(&self, insn: &Insn) -> u32
+        requires { is_calculation insn.now.code ≡ true }
+        ensures { (p : Sight) → effect insn.now p (state_of self.now)
+            ≡ to_a result (state_of self.now) }
+    {
+        let (k, a, x) = (insn.k, self.a, self.x);
+        match insn.code {
+            0x00 => k, // LD IMM
+            0x87 => x, // MISC TXA
+            0x84 => a.wrapping_neg(), // ALU NEG
+            0x04 => a.wrapping_add(k), // ALU ADD, by k and by X
+            0x0c => a.wrapping_add(x),
+            0x14 => a.wrapping_sub(k), // ALU SUB
+            0x1c => a.wrapping_sub(x),
+            0x24 => a.wrapping_mul(k), // ALU MUL
+            0x2c => a.wrapping_mul(x),
+            0x44 => a | k, // ALU OR
+            0x4c => a | x,
+            0x54 => a & k, // ALU AND
+            0x5c => a & x,
+            0x64 => shifted_left(a, k), // ALU LSH
+            0x6c => shifted_left(a, x),
+            0x74 => shifted_right(a, k), // ALU RSH
+            0x7c => shifted_right(a, x),
+            0xa4 => a ^ k, // ALU XOR
+            0xac => a ^ x,
             _ => unreachable!(),
         }
     }
@@ -120,7 +133,7 @@ impl Machine {
             Some(number) => self.a = number,
             None => return Next::Answer(0),
         }
-        Next::Go
+        Next::Skip(0)
     }
 
     /// X takes a number. Without one the verdict is 0.
@@ -132,7 +145,7 @@ impl Machine {
             Some(number) => self.x = number,
             None => return Next::Answer(0),
         }
-        Next::Go
+        Next::Skip(0)
     }
 
     /// A memory word takes a number.
@@ -142,7 +155,7 @@ impl Machine {
         ensures { next_of result self.new ≡ to_word word number (state_of self.old) }
     {
         self.memory[word as usize] = number;
-        Next::Go
+        Next::Skip(0)
     }
 }
 
@@ -152,7 +165,7 @@ fn branch(holds: bool, insn: &Insn) -> Next
     ensures { (machine : Machine) → next_of result machine
         ≡ GoesOn (if holds then insn.now.jt else insn.now.jf) (state_of machine) }
 {
-    Next::Skip(u32::from(if holds { insn.jt } else { insn.jf }))
+    Next::Skip(usize::from(if holds { insn.jt } else { insn.jf }))
 }
 
 /// A number shifted left. A shift by 32 or more gives 0.

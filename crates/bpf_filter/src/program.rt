@@ -20,22 +20,21 @@ pub const LARGEST_PROGRAM: usize = 4096;
 /// A program that was accepted. Contracts see it as the list of its instructions.
 #[derive(Drop)]
 pub struct Program {
-    /// The instructions as they were given. Each has a known code and names a memory word that is there, if one, so that no
-    /// step has to test that.
+    /// The instructions as they were given. `check` accepted them: each has a known code, names a memory word that is there,
+    /// if one, and leads to an instruction that is there or to a verdict, so that no step has to test that.
     code: Vec<Insn>,
 }
 
 impl Model for Program {
-    ghost use Rattle.std.specs.Prelude.{List};
+    ghost use Rattle.std.specs.Prelude.{◌≡◌, List, Ok};
     ghost use Rattle.bpf_filter.specs.declared.insn.Insn.{Insn};
-    ghost use Rattle.std.specs.List.{AllByRecursion};
-    ghost use Rattle.bpf_filter.specs.Programs.{IsRunnable};
+    ghost use Rattle.bpf_filter.specs.Programs.{program_of};
 
     ghost Value = { List Insn };
 
     ghost view = { λ program. program.code.items };
 
-    ghost invariant = { λ program. AllByRecursion IsRunnable program.code.items };
+    ghost invariant = { λ program. program_of program.code.items ≡ Ok program.code.items };
 }
 
 impl Program {
@@ -73,16 +72,15 @@ impl Program {
     pub fn verdict(&self, packet: &Seen<'_>) -> u32
         ensures { result ≡ verdict_of self.now (sight_of packet.now) }
     {
+        let code = self.code.as_slice();
         let mut machine = Machine::new();
         let mut at = 0;
-        while let Some(insn) = self.code.get(at) {
-            match machine.perform(insn, packet) {
+        loop {
+            match machine.perform(&code[at], packet) {
                 Next::Answer(answer) => return answer,
-                Next::Go => at += 1,
-                Next::Skip(skip) => at += 1 + skip as usize,
+                Next::Skip(skip) => at += 1 + skip,
             }
         }
-        0
     }
 }
 

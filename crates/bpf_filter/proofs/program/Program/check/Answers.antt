@@ -1,6 +1,6 @@
-use Rattle.std.proofs.Common.{sym, ap, ◌∙◌, ◌≡◌, arith, ◌≤◌, length, None}
+use Rattle.std.proofs.Common.{sym, ap, ◌∙◌, arith}
 use Rattle.bpf_filter.specs.Programs.{first_fault, ends_with_return}
-use Rattle.bpf_filter.proofs.Checks.{are_runnable, program_of-large, program_of-no_return, program_of-good, refuses_fault}
+use Rattle.bpf_filter.proofs.Checks.{program_of-large, program_of-no_return, program_of-good, refuses_fault}
 use Rattle.bpf_filter.proofs.program.Program.check.Goals as goal
 
 pub returns-then-len-gt-LARGEST_PROGRAM : goal.returns-then-len-gt-LARGEST_PROGRAM
@@ -19,7 +19,9 @@ returns-then-not-ends_with_return c =
 
 pub invariant_of-result : goal.invariant_of-result
 invariant_of-result c =
-    are_runnable 0 c.args.code.items (ap (first_fault 0) (sym c.as_slice.ensures.value) ∙ sym c.first_fault.ensures ∙ c.in_default.is)
+    program_of-good c.args.code.items (omega arith)
+    (ap (first_fault 0) (sym c.as_slice.ensures.value) ∙ sym c.first_fault.ensures ∙ c.in_default.is)
+    (ap ends_with_return (sym c.as_slice-2.ensures.value) ∙ sym c.if-not-ends_with_return.ensures)
 
 pub returns : goal.returns
 returns c =
