@@ -4,6 +4,8 @@
 #![tactic(auto)]
 
 #[cfg(test)]
+mod each_worker;
+#[cfg(test)]
 mod failing_saves;
 #[cfg(test)]
 mod gates;

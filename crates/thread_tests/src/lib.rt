@@ -18,6 +18,8 @@ mod modes;
 #[cfg(test)]
 mod outside;
 #[cfg(test)]
+mod points;
+#[cfg(test)]
 mod printing;
 #[cfg(test)]
 mod reading;
