@@ -1,12 +1,13 @@
 -- All that an answer is worth, by what was found or where memory ran out.
 use Rattle.std.proofs.Common.{◌≡◌, Option, None, inr, subst, sym}
-use Rattle.std.specs.Prelude.{◌⊎◌, IfSome}
+use Rattle.std.specs.Prelude.{IfSome}
 use Rattle.std.specs.List.{AllByRecursion}
 use Rattle.setup_text.specs.declared.reports.RunReport.{RunReport}
 use Rattle.tap_outside.specs.Seen.{SinkSeen, StoreSeen}
+use Rattle.tap_outside.specs.Sinks.{AppendsFront}
 use Rattle.tap_engine.specs.Answers.{IsAnswer}
 use Rattle.tap_engine.specs.Commands.{Named}
-use Rattle.tap_engine.specs.Conclusions.{IsCut, IsCutShort, Tells}
+use Rattle.tap_engine.specs.Conclusions.{IsStopped, Tells, memory_line}
 use Rattle.tap_engine.specs.Headline.{IsWorth}
 use Rattle.tap_engine.specs.InnerErrors.{IsOfCapture, IsOfTexts}
 use Rattle.tap_engine.specs.declared.outcomes.Outcome.{Outcome}
@@ -30,14 +31,15 @@ told command outcome old new before after tells = record {
 }
 
 pub gave_up : (command : Option Named) (outcome : Outcome) (old new : StoreSeen)
-    (before after : SinkSeen)
+    (before between after : SinkSeen)
     → outcome.status ≡ statuses.Memory → outcome.report ≡ None
-    → IsCut command old new ⊎ IsCutShort command old new
+    → IsStopped command old new before between
+    → AppendsFront between.written after.written memory_line
     → IsAnswer command outcome old new before after
-gave_up command outcome old new before after memory none cut = record {
+gave_up command outcome old new before between after memory none cut front = record {
   headline = subst (λ (r : Option RunReport). IsWorth command old.held r) (sym none) tt;
   told = λ other. absurd (other memory);
-  gave_up = λ same. record { report = none; store = cut };
+  gave_up = λ same. record { report = none; told = between; stopped = cut; line = front };
   no_memory = record {
     status = subst (λ (s : Status). IsOfTexts s) (sym memory) tt;
     ends = subst (λ (r : Option RunReport). IfSome r (λ report. AllByRecursion

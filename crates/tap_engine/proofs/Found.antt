@@ -53,6 +53,11 @@ pub on_err : {A E : Type 0} (P Q : Type 0) (result : Result A E) → (P → Q) �
 on_err P Q (Ok x) f p = p
 on_err P Q (Err e) f p = f p
 
+pub on_errs : {A E : Type 0} (P Q R : Type 0) (result : Result A E) → (P → Q → R)
+    → OnErr result P → OnErr result Q → OnErr result R
+on_errs P Q R (Ok x) f p q = p
+on_errs P Q R (Err e) f p q = f p q
+
 pub err_with : {A E : Type 0} (P : Type 0) (result : Result A E) → P → OnErr result P
 err_with P (Ok x) p = tt
 err_with P (Err e) p = p

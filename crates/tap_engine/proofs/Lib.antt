@@ -13,4 +13,5 @@ pub mod MadeRuns
 pub mod InnerErrors
 pub mod Worked
 pub mod Answered
+pub mod Printed
 pub mod Forwarded

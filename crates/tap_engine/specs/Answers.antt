@@ -15,7 +15,7 @@ pub record IsAnswer (command : Option Named) (outcome : Outcome) (old new : Stor
     (before after : SinkSeen) : Type 0 where
   pub headline : IsWorth command old.held outcome.report
   pub told : outcome.status ≢ Memory → Tells command outcome old new before after
-  pub gave_up : outcome.status ≡ Memory → GivesUp command outcome old new
+  pub gave_up : outcome.status ≡ Memory → GivesUp command outcome old new before after
   pub no_memory : HoldsNoMemory outcome
   pub complete : IsComplete command old new before after outcome.status
   pub faultless : IsFaultless old new before after outcome.status

@@ -1,5 +1,5 @@
 -- What a call answers, prints and saves, by what it found.
-use Rattle.std.specs.Prelude.{◌≡◌, ◌⊎◌, ◌<◌, ℕ, Bool, true, false, List, Option, None, Some}
+use Rattle.std.specs.Prelude.{◌≡◌, ◌⊎◌, ◌<◌, ℕ, Bool, true, false, List, Option, None, Some, codes}
 use Rattle.std.specs.Prelude.{IfOk, OnErr, Result}
 use Rattle.std.specs.Io.KnownBytes.{Appends}
 use Rattle.frame_view.specs.declared.want.Memory.{Memory}
@@ -21,6 +21,15 @@ IsPrinted before after lines true =
     Appends before.written after.written lines × (after.faults ≡ before.faults)
 IsPrinted before after lines false =
     Rose before.faults after.faults × AppendsFront before.written after.written lines
+
+-- memory ran out before all lines were printed: a prefix of them was, and no write failed
+pub record PrintedSome (before after : SinkSeen) (lines : List ℕ) : Type 0 where
+  pub front : AppendsFront before.written after.written lines
+  pub faultless : after.faults ≡ before.faults
+
+-- the line that is printed where memory ran out, after whatever was printed before
+abbrev pub memory_line : List ℕ
+memory_line = codes "out of memory\n"
 
 -- all lines were printed and all files saved
 pub record IsDone (finding : Finding) (status : Status) (old new : StoreSeen)
@@ -77,16 +86,28 @@ pub record IsSearched (command : Option Named) (old new : StoreSeen)
   pub cut : OnErr answer (IsCut command old new)
 
 -- memory ran out after this was found: each name of its files holds what it held, or the file's
--- bytes, but for as many as saving failed
-pub record IsCutShort (command : Option Named) (old new : StoreSeen) : Type 0 where
+-- bytes, but for as many as saving failed, and a prefix of its lines was printed
+pub record IsCutShort (command : Option Named) (old new : StoreSeen) (before after : SinkSeen)
+    : Type 0 where
   pub read : StoreSeen
   pub reads : OnlyReads old read
   pub finding : Finding
   pub found : IsFound command old read finding
   pub touches : Touches read new (names_of finding)
   pub saved : SavedSome read new (files_of finding)
+  pub printed : PrintedSome before after (lines_of finding)
 
--- there is no report, and no more of the store has changed than that
-pub record GivesUp (command : Option Named) (outcome : Outcome) (old new : StoreSeen) : Type 0 where
+-- memory ran out: before anything was found, and nothing was printed, or after that
+abbrev pub IsStopped : Option Named → StoreSeen → StoreSeen → SinkSeen → SinkSeen → Type 0
+IsStopped command old new before after =
+    (IsCut command old new × (after ≡ before)) ⊎ IsCutShort command old new before after
+
+-- there is no report, no more of the store has changed than that, and no more was printed than that
+-- and then a prefix of the line that says so
+pub record GivesUp (command : Option Named) (outcome : Outcome) (old new : StoreSeen)
+    (before after : SinkSeen) : Type 0 where
   pub report : outcome.report ≡ None
-  pub store : IsCut command old new ⊎ IsCutShort command old new
+  -- the sink before that line
+  pub told : SinkSeen
+  pub stopped : IsStopped command old new before told
+  pub line : AppendsFront told.written after.written memory_line

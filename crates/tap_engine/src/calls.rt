@@ -1,11 +1,12 @@
 //! The top calls.
-ghost use Rattle.std.specs.Prelude.{◌≡◌, ◌≢◌, ◌⊎◌, None, Option, IfOk, IsTrue, OnErr};
+ghost use Rattle.std.specs.Prelude.{◌≡◌, ◌≢◌, None, Option, IfOk, IsTrue, OnErr};
 ghost use Rattle.std.specs.List.{AllByRecursion};
 ghost use Rattle.tap_outside.specs.Seen.{StoreSeen};
+ghost use Rattle.tap_outside.specs.Sinks.{AppendsFront};
 ghost use Rattle.tap_engine.specs.Answers.{IsAnswer};
 ghost use Rattle.tap_engine.specs.Commands.{Named, command_of, plain_command};
 ghost use Rattle.tap_engine.specs.Complete.{IsComplete};
-ghost use Rattle.tap_engine.specs.Conclusions.{GivesUp, IsCut, IsCutShort, IsSearched, Tells};
+ghost use Rattle.tap_engine.specs.Conclusions.{GivesUp, IsSearched, IsStopped, Tells, memory_line};
 ghost use Rattle.tap_engine.specs.Faults.{IsFaultless};
 ghost use Rattle.tap_engine.specs.Findings.{IsReady, names_of};
 ghost use Rattle.tap_engine.specs.Headline.{IsWorth};
@@ -58,9 +59,10 @@ pub fn run<S: Store, O: Sink, G: Gate + Sync, R: Threads + Wait + Sync>(
     ensures told { result.status ≢ Status.Memory → Tells (command_of words.now) result
         (S.seen store.old) (S.seen store.new) (O.seen out.old) (O.seen out.new) }
 
-    // Where memory ran out: no report, and no file but those of what was found has changed.
+    // Where memory ran out: no report, no file but those of what was found has changed, and a
+    // prefix of its lines was printed, and then one of `out of memory`.
     ensures gave_up { result.status ≡ Status.Memory → GivesUp (command_of words.now) result
-        (S.seen store.old) (S.seen store.new) }
+        (S.seen store.old) (S.seen store.new) (O.seen out.old) (O.seen out.new) }
 
     // No error within the status or the report says that memory ran out.
     ensures no_memory { HoldsNoMemory result }
@@ -110,9 +112,10 @@ pub fn run_plain<S: Store, O: Sink>(
     ensures told { result.status ≢ Status.Memory → Tells (plain_command words.now) result
         (S.seen store.old) (S.seen store.new) (O.seen out.old) (O.seen out.new) }
 
-    // Where memory ran out: no report, and no file but those of what was found has changed.
+    // Where memory ran out: no report, no file but those of what was found has changed, and a
+    // prefix of its lines was printed, and then one of `out of memory`.
     ensures gave_up { result.status ≡ Status.Memory → GivesUp (plain_command words.now) result
-        (S.seen store.old) (S.seen store.new) }
+        (S.seen store.old) (S.seen store.new) (O.seen out.old) (O.seen out.new) }
 
     // No error within the status or the report says that memory ran out.
     ensures no_memory { HoldsNoMemory result }
@@ -165,7 +168,7 @@ fn attempt<S: Store, O: Sink>(
         → Tells command outcome old (S.seen store.new) (O.seen out.old) (O.seen out.new)) }
     ensures cut { OnErr result ((command : Option Named) (old : StoreSeen)
         → IsSearched command old (S.seen store.old) found
-        → IsCut command old (S.seen store.new) ⊎ IsCutShort command old (S.seen store.new)) }
+        → IsStopped command old (S.seen store.new) (O.seen out.old) (O.seen out.new)) }
 {
     let finding = found?;
     conclude(alloc, finding, store, out)
@@ -175,6 +178,7 @@ fn attempt<S: Store, O: Sink>(
 fn give_up<O: Sink>(out: &mut O) -> Outcome
     ensures status { result.status ≡ Status.Memory }
     ensures report { result.report ≡ None }
+    ensures line { AppendsFront (O.seen out.old).written (O.seen out.new).written memory_line }
 {
     let _ = write_whole(out, b"out of memory\n");
     Outcome {

@@ -2,8 +2,8 @@
 ghost use Rattle.std.specs.Prelude.{◌≡◌, ◌⊎◌, ◌&&◌, if◌then◌else◌, IfOk, IsTrue, OnErr};
 ghost use Rattle.std.specs.List.{AllByRecursion};
 ghost use Rattle.tap_saving.specs.Saving.{Saved, SavedSome, Touches};
-ghost use Rattle.tap_engine.specs.Conclusions.{Concludes, IsDone, IsFailed, IsPrinted};
-ghost use Rattle.tap_engine.specs.Findings.{IsReady, files_of, names_of};
+ghost use Rattle.tap_engine.specs.Conclusions.{Concludes, IsDone, IsFailed, IsPrinted, PrintedSome};
+ghost use Rattle.tap_engine.specs.Findings.{IsReady, files_of, lines_of, names_of};
 
 use crate::findings::Finding;
 use crate::{Outcome, Status};
@@ -27,6 +27,8 @@ pub(crate) fn conclude<S: Store, O: Sink>(
     ensures touches { Touches (S.seen store.old) (S.seen store.new) (names_of finding) }
     ensures early { OnErr result
         (SavedSome (S.seen store.old) (S.seen store.new) (files_of finding)) }
+    ensures printed { OnErr result
+        (PrintedSome (O.seen out.old) (O.seen out.new) (lines_of finding)) }
 {
     let status = save_and_print(alloc, &finding, store, out)?;
     Ok(Outcome {
@@ -54,6 +56,8 @@ fn save_and_print<S: Store, O: Sink>(
     ensures touches { Touches (S.seen store.old) (S.seen store.new) (names_of finding.now) }
     ensures early { OnErr result
         (SavedSome (S.seen store.old) (S.seen store.new) (files_of finding.now)) }
+    ensures printed { OnErr result
+        (PrintedSome (O.seen out.old) (O.seen out.new) (lines_of finding.now)) }
 {
     let lines = finding.lines(alloc)?;
     let saved = save(alloc, finding, store)?;
@@ -84,7 +88,8 @@ fn save<S: Store>(alloc: Global, finding: &Finding, store: &mut S) -> Result<boo
 
 /// Prints lines, and says whether all were printed.
 fn print<O: Sink>(out: &mut O, lines: &[u8]) -> Result<bool, Memory>
-    ensures { IfOk result (IsPrinted (O.seen out.old) (O.seen out.new) lines.now) }
+    ensures told { IfOk result (IsPrinted (O.seen out.old) (O.seen out.new) lines.now) }
+    ensures cut { OnErr result (PrintedSome (O.seen out.old) (O.seen out.new) lines.now) }
 {
     match write_whole(out, lines) {
         Ok(()) => Ok(true),

@@ -1,5 +1,5 @@
 use Rattle.std.proofs.Common.{inr}
-use Rattle.tap_engine.proofs.Found.{if_ok, of_ok, on_err}
+use Rattle.tap_engine.proofs.Found.{if_ok, of_ok, on_errs}
 use Rattle.tap_engine.proofs.calls.attempt.Goals as goal
 
 pub returns-clause-told : goal.returns-clause-told
@@ -16,13 +16,14 @@ returns-clause-told g c =
 
 pub returns-clause-cut : goal.returns-clause-cut
 returns-clause-cut g c =
-    on_err _ _ c.conclude.result
-    (λ early command old searched. inr (record {
+    on_errs _ _ _ c.conclude.result
+    (λ early front command old searched. inr (record {
       read = g.S.Store.seen c.args.store.now;
       reads = searched.reads;
       finding = c.in_ok-finding.finding;
       found = of_ok _ c.args.found c.in_ok-finding.finding c.in_ok-finding.was searched.found;
       touches = c.conclude.ensures.touches;
       saved = early;
+      printed = front;
     }))
-    c.conclude.ensures.early
+    c.conclude.ensures.early c.conclude.ensures.printed
