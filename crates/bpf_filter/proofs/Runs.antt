@@ -1,5 +1,5 @@
 -- A counter over the instructions, and the instructions that are still to be done.
-use Rattle.std.proofs.Common.{◌≡◌, ℕ, zero, suc, ◌+◌, ◌<◌, List, [], ◌∷◌, length, drop, get_or, refl, ap, sym, ◌∙◌, subst, arith}
+use Rattle.std.proofs.Common.{◌≡◌, ℕ, zero, suc, ◌+◌, ◌<◌, List, [], ◌∷◌, length, drop, get_or, ◌-◌, refl, ap, sym, ◌∙◌, subst, arith}
 use Rattle.std.specs.Prelude.{Ok}
 use Rattle.std.proofs.lemmas.List.{drop-drop, length-drop}
 use Rattle.bpf_filter.specs.declared.insn.Insn.{Insn}
@@ -65,9 +65,15 @@ pub goes_to_answer : (code : List Insn) (at : ℕ) (insn : Insn) (p : Sight) (s 
 goes_to_answer code at insn p s answer g a e =
     ap (λ next. follow next (λ skip next. go (drop (at + (1 + skip)) code) 0 p next)) e ∙ sym (go-step code at insn p s a) ∙ g.same
 
-pub goes_on : (code : List Insn) (at : ℕ) (insn : Insn) (p : Sight) (s : State) (skip : ℕ) (next : State) → Goes code at p s → At code at insn → GoesOn skip next ≡ effect insn p s → Goes code (at + (1 + skip)) p next
+goes_on : (code : List Insn) (at : ℕ) (insn : Insn) (p : Sight) (s : State) (skip : ℕ) (next : State) → Goes code at p s → At code at insn → GoesOn skip next ≡ effect insn p s → Goes code (at + (1 + skip)) p next
 goes_on code at insn p s skip next g a e = record {
   same = ap (λ next. follow next (λ skip next. go (drop (at + (1 + skip)) code) 0 p next)) e
       ∙ sym (go-step code at insn p s a) ∙ g.same;
   inside = omega (arith, skip_inside _ insn p s skip next a.fits e, length-drop (suc at) code);
 }
+
+-- a step by more than no instruction
+pub goes_further : (code : List Insn) (at : ℕ) (insn : Insn) (p : Sight) (s : State) (further : ℕ) (next : State) → Goes code at p s → At code at insn → 0 < further → GoesOn (further - 1) next ≡ effect insn p s → Goes code (at + further) p next
+goes_further code at insn p s further next g a l e =
+    let same : at + (1 + (further - 1)) ≡ at + further = omega arith in
+    subst (λ at. Goes code at p next) same (goes_on code at insn p s (further - 1) next g a e)

@@ -1,10 +1,10 @@
 -- What the code's machine stands for.
-use Rattle.std.specs.Prelude.{ℕ, Bool, [], ◌∷◌}
+use Rattle.std.specs.Prelude.{ℕ, ◌-◌, ◌<◌, Bool, [], ◌∷◌}
 use Rattle.bpf_filter.specs.declared.loads.Size.{Size}
 use Rattle.bpf_filter.specs.declared.loads.Size.TheVariants.{Word, Half, Byte}
 use Rattle.bpf_filter.specs.declared.machine.Machine.{Machine}
 use Rattle.bpf_filter.specs.declared.machine.Next as code
-use Rattle.bpf_filter.specs.declared.machine.Next.TheVariants.{Answer, Skip}
+use Rattle.bpf_filter.specs.declared.machine.Next.TheVariants.{Answer, Go}
 use Rattle.bpf_filter.specs.Codes.{State, Next, Answers, GoesOn}
 use Rattle.bpf_filter.specs.Programs.{is_among}
 
@@ -14,7 +14,12 @@ state_of machine = record { a = machine.a; x = machine.x; memory = machine.memor
 -- where a step led, with the machine after it
 abbrev pub next_of : code.Next → Machine → Next
 next_of (Answer number) machine = Answers number
-next_of (Skip skip) machine = GoesOn skip (state_of machine)
+next_of (Go further) machine = GoesOn (further - 1) (state_of machine)
+
+-- a step that leads to no verdict goes on at least one instruction
+abbrev pub GoesFurther : code.Next → Type 0
+GoesFurther (Answer number) = Unit {0}
+GoesFurther (Go further) = 0 < further
 
 -- how many bytes a load takes
 abbrev pub bytes_of : Size → ℕ

@@ -2,7 +2,7 @@
 //! `linux/bpf_common.h` and `linux/filter.h`.
 ghost use Rattle.std.specs.Prelude.{◌≡◌, ◌<◌, Some, if◌then◌else◌, true};
 ghost use Rattle.bpf_filter.specs.Codes.{GoesOn, effect, left_shift, load_a, load_x, right_shift, to_a, to_word};
-ghost use Rattle.bpf_filter.specs.Machines.{is_calculation, next_of, state_of};
+ghost use Rattle.bpf_filter.specs.Machines.{GoesFurther, is_calculation, next_of, state_of};
 ghost use Rattle.bpf_filter.specs.Programs.{IsRunnable};
 ghost use Rattle.bpf_filter.specs.Sight.{Sight, sight_of};
 ghost use Rattle.bpf_filter.specs.Verdict.{first_state};
@@ -19,8 +19,8 @@ pub(crate) const WORDS: usize = 16;
 pub(crate) enum Next {
     /// The verdict is known.
     Answer(u32),
-    /// The program goes on after that many further instructions.
-    Skip(usize),
+    /// The program goes on that many instructions after this one, at least one.
+    Go(usize),
 }
 
 /// The registers and the memory words.
@@ -52,8 +52,9 @@ impl Machine {
     #[tactic(auto, unfolding(crate::specs::Codes::codes))]
     pub(crate) fn perform(&mut self, insn: &Insn, packet: &Seen<'_>) -> Next
         requires { IsRunnable insn.now }
-        ensures { next_of result self.new
+        ensures next { next_of result self.new
             ≡ effect insn.now (sight_of packet.now) (state_of self.old) }
+        ensures further { GoesFurther result }
     {
         let (k, a, x) = (insn.k, self.a, self.x);
         match insn.code {
@@ -76,7 +77,7 @@ impl Machine {
             0x3c => self.load(a.checked_div(x)),
             0x94 => self.load(a.checked_rem(k)), // ALU MOD
             0x9c => self.load(a.checked_rem(x)),
-            0x05 => Next::Skip(k as usize), // JMP JA
+            0x05 => Next::Go(1 + k as usize), // JMP JA
             0x15 => branch(a == k, insn), // JMP JEQ, by k and by X
             0x1d => branch(a == x, insn),
             0x25 => branch(a > k, insn), // JMP JGT
@@ -127,45 +128,49 @@ impl Machine {
     /// A takes a number. Without one the verdict is 0.
     #[inline]
     fn load(&mut self, number: Option<u32>) -> Next
-        ensures { next_of result self.new ≡ load_a number (state_of self.old) }
+        ensures next { next_of result self.new ≡ load_a number (state_of self.old) }
+        ensures further { GoesFurther result }
     {
         match number {
             Some(number) => self.a = number,
             None => return Next::Answer(0),
         }
-        Next::Skip(0)
+        Next::Go(1)
     }
 
     /// X takes a number. Without one the verdict is 0.
     #[inline]
     fn load_index(&mut self, number: Option<u32>) -> Next
-        ensures { next_of result self.new ≡ load_x number (state_of self.old) }
+        ensures next { next_of result self.new ≡ load_x number (state_of self.old) }
+        ensures further { GoesFurther result }
     {
         match number {
             Some(number) => self.x = number,
             None => return Next::Answer(0),
         }
-        Next::Skip(0)
+        Next::Go(1)
     }
 
     /// A memory word takes a number.
     #[inline]
     fn store(&mut self, word: u32, number: u32) -> Next
         requires { word < 16 }
-        ensures { next_of result self.new ≡ to_word word number (state_of self.old) }
+        ensures next { next_of result self.new ≡ to_word word number (state_of self.old) }
+        ensures further { GoesFurther result }
     {
         self.memory[word as usize] = number;
-        Next::Skip(0)
+        Next::Go(1)
     }
 }
 
 /// Where a test leads.
 #[inline]
 fn branch(holds: bool, insn: &Insn) -> Next
-    ensures { (machine : Machine) → next_of result machine
+    ensures next { (machine : Machine) → next_of result machine
         ≡ GoesOn (if holds then insn.now.jt else insn.now.jf) (state_of machine) }
+    ensures further { GoesFurther result }
 {
-    Next::Skip(usize::from(if holds { insn.jt } else { insn.jf }))
+    Next::Go(1 + usize::from(if holds { insn.jt } else { insn.jf }))
 }
 
 /// A number shifted left. A shift by 32 or more gives 0.

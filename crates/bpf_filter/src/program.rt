@@ -78,7 +78,7 @@ impl Program {
         loop {
             match machine.perform(&code[at], packet) {
                 Next::Answer(answer) => return answer,
-                Next::Skip(skip) => at += 1 + skip,
+                Next::Go(further) => at += further,
             }
         }
     }
