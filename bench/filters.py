@@ -18,7 +18,7 @@ import tempfile
 TOP = os.path.join(os.path.dirname(os.path.abspath(__file__)), "..")
 CRATE = os.path.join(TOP, "crates", "filter_table")
 PROGRAM = os.path.join(CRATE, "out", "filter_table")
-MOST = 1.7
+MOST = 1.5
 FEW, MANY = 500, 1_000
 STRAIGHT = 4_096
 # TCP of IPv4 from 10.0.0.2, port 1234, to 10.0.0.1, port 80.

@@ -31,7 +31,7 @@ it would take the time too that the system needs to empty them.
 
 It ends with status 1 where a run fails, where CPU time or memory grows by more than 2.2 times from 16 to 32 MiB or from 10,000
 to 20,000 made frames, where memory grows by more than 256 bytes for each frame that a filter refuses, where an instruction of a filter
-takes more than 1.7 times what it takes of libpcap (bench/filters.py), or where a capture on threads that keeps all frames, with a member for
+takes more than 1.5 times what it takes of libpcap (bench/filters.py), or where a capture on threads that keeps all frames, with a member for
 each CPU, takes more than 2.5 times the CPU time of the replay.
 """
 import argparse
