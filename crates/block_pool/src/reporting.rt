@@ -4,7 +4,7 @@ ghost use Rattle.std.specs.List.{AllZip};
 ghost use Rattle.block_pool.specs.Reports.{AreOutputsOf, HaveRun};
 ghost use Rattle.capture_reports.specs.Reported.{AreReported};
 ghost use Rattle.cpu_feeders.specs.Runs.{IsCaptureRun};
-ghost use Rattle.setup_text.specs.Sound.{IsSetup};
+ghost use Rattle.setup_text.specs.Runnable.{IsRunnable};
 ghost use Rattle.tap_outside.specs.Seen.{SourceSeen};
 ghost use Rattle.tp_layout.specs.declared.requests.RingRequest.{RingRequest};
 
@@ -65,7 +65,7 @@ pub(crate) fn report_run<S: Source>(
     sources: Vec<Option<S>>,
     outputs: Vec<Outputs>,
 ) -> Result<Ran<S>, Memory>
-    requires setup { IsSetup job.now.setup }
+    requires setup { IsRunnable job.now.setup }
     requires outputs { length outputs.items ≡ length notes.items }
     requires rings { length rings.items ≡ length notes.items }
     ensures ran { IfOk result (λ ran. (moments : List ℕ) (old : List (Option SourceSeen))

@@ -5,7 +5,8 @@ ghost use Rattle.block_pool.specs.Takers.{handing_base, handing_taken};
 ghost use Rattle.block_pool.specs.Workers.{HasDecoded, IsFreshDecoder};
 ghost use Rattle.cpu_feeders.specs.Feeds.{IsFreshSeat};
 ghost use Rattle.cpu_feeders.specs.Runs.{IsFreshTaker, IsTakerRun};
-ghost use Rattle.setup_text.specs.Sound.{AreMoments, IsSetup};
+ghost use Rattle.setup_text.specs.Runnable.{IsRunnable};
+ghost use Rattle.setup_text.specs.Sound.{AreMoments};
 
 use crate::takers::Handing;
 use crate::workers::{Decoder, run_decoder};
@@ -98,7 +99,7 @@ fn take_all<'a, S: Source + Send, G: Gate + Sync, R: Threads + Wait + Sync>(
     takers: Vec<Handing<'a, R>>,
     seat: DealerSeat,
 ) -> Result<Workers<S, Handing<'a, R>>, Memory>
-    requires setup { IsSetup job.now.setup }
+    requires setup { IsRunnable job.now.setup }
     requires sources { length sources.items ≡ length job.now.setup.cpus }
     requires moments { AreMoments ticks.now }
     requires takers { length takers.items ≡ job.now.setup.plan.members }
@@ -130,7 +131,7 @@ pub(crate) fn run_both<'a, S: Source + Send, G: Gate + Sync, R: Threads + Wait +
     decoders: Vec<Decoder>,
     seat: DealerSeat,
 ) -> (Vec<Decoder>, Result<Workers<S, Handing<'a, R>>, Memory>)
-    requires setup { IsSetup job.now.setup }
+    requires setup { IsRunnable job.now.setup }
     requires sources { length sources.items ≡ length job.now.setup.cpus }
     requires moments { AreMoments ticks.now }
     requires takers { length takers.items ≡ job.now.setup.plan.members }
@@ -166,7 +167,7 @@ pub(crate) fn run_both<'a, S: Source + Send, G: Gate + Sync, R: Threads + Wait +
             serve(rt, &pool, decoders)
         },
         move || -> Result<Workers<S, Handing<R>>, Memory>
-            requires { IsSetup job.now.setup
+            requires { IsRunnable job.now.setup
                 × (length sources.items ≡ length job.now.setup.cpus)
                 × AreMoments ticks.now
                 × (length takers.items ≡ job.now.setup.plan.members)

@@ -1,6 +1,6 @@
 -- What threads leave is a group's run.
 use Rattle.std.proofs.Common.{◌≡◌, ℕ, zero, suc, ◌+◌, ◌<◌, List, [], ◌∷◌, length, get_or, Option, sym, ap, ◌∙◌, subst, arith}
-use Rattle.std.specs.Prelude.{map, All, is_some}
+use Rattle.std.specs.Prelude.{map, All}
 use Rattle.std.specs.List.{AllByRecursion}
 use Rattle.std.proofs.lemmas.List.{get_or-map, length-map}
 use Rattle.std.proofs.lemmas.List.Elements.{All-cons, All-nil}
@@ -21,8 +21,8 @@ use Rattle.ring_model.specs.Ring.{IsWholeRun}
 use Rattle.ring_model.specs.declared.notes.Note.{Note}
 use Rattle.run_reports.specs.Jobs.{arriving_of, rules_of}
 use Rattle.run_reports.specs.Reports.{logged}
-use Rattle.run_reports.proofs.ArrivalOrder.{AreNumbered, arrive, some_members}
-use Rattle.setup_text.specs.Sound.{IsSetup}
+use Rattle.run_reports.proofs.ArrivalOrder.{AreNumbered, arrive}
+use Rattle.setup_text.specs.Runnable.{IsRunnable}
 use Rattle.setup_text.specs.declared.jobs.Job.{Job}
 use Rattle.tap_outside.specs.Seen.{SourceSeen}
 use Rattle.ticket_dealer.specs.Seats.{SeatValue}
@@ -54,7 +54,7 @@ notes_in member = member.notes
 
 module _ (numbered : AreNumbered) (ticks : Ticks) (counts : Counts) (joins : Joins) (job : Job) (moments : List ℕ) (cpus : List CpuLeft)
     (members : List MemberLeft) (timer : List Seat) (seats : List SeatValue) (number : ℕ) (nows : List (Option SourceSeen)) (logs : List CpuLog)
-    (setup : IsSetup job.setup) (left : AreLeft job moments cpus members timer seats number) (close : AllClose (feeds_of cpus) nows logs) where
+    (setup : IsRunnable job.setup) (left : AreLeft job moments cpus members timer seats number) (close : AllClose (feeds_of cpus) nows logs) where
   fed : AllFed job (locks_of members) 0 cpus
   fed = all_fed job (locks_of members) 0 cpus (λ cpu none within.
       let same : cpu ≡ 0 + cpu = omega arith in
@@ -141,7 +141,7 @@ module _ (numbered : AreNumbered) (ticks : Ticks) (counts : Counts) (joins : Joi
 
   threads : AreThreads (rules_of job) (room_of job.setup.shape) (map logged_of cpus) seats number (notes_of_members members)
   threads = record {
-    some = some_members job.setup.plan.members job.setup.plan.mode job.setup.plan.flags (is_some job.setup.key) setup.group;
+    some = setup.some_members;
     count = length-map members notes_in ∙ left.member_count;
     frames = frames_at;
     lawful = λ cpu. lawful_at job (locks_of members) 0 cpus cpu fed;

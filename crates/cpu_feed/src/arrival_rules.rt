@@ -2,7 +2,6 @@
 ghost use Rattle.std.specs.Prelude.{◌≡◌, ◌%◌, ◌<◌};
 ghost use Rattle.fanout_group.specs.Judgements.{AgreesAt};
 ghost use Rattle.fanout_group.specs.Lenses.{lens_of};
-ghost use Rattle.setup_text.specs.Sound.{IsSetup};
 ghost use Rattle.run_reports.specs.Jobs.{lens_of as lens_of_job};
 ghost use Rattle.tp_layout.specs.Requests.{room_of};
 
@@ -13,7 +12,6 @@ use tp_layout::a_shape_is_sound;
 /// What the arrivals of a CPU are looked at with: the job's key, filter and address, the CPU's
 /// receive queue, and the room of a block.
 pub fn rules_at(job: &Job, cpu: usize) -> ArrivalRules
-    requires setup { IsSetup job.now.setup }
     ensures agrees { AgreesAt cpu (lens_of_job job.now) (lens_of result) }
     ensures queue { result.queue ≡ (lens_of_job job.now).queue cpu }
     ensures room { result.room ≡ room_of job.now.setup.shape }

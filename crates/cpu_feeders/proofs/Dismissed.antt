@@ -18,7 +18,7 @@ use Rattle.member_turns.specs.Seats.{Lock, Seat}
 use Rattle.reader_walk.specs.Takers.{Base, Taken}
 use Rattle.ring_model.specs.declared.notes.Note.{Note}
 use Rattle.ring_words.specs.Pendings.{Pends}
-use Rattle.setup_text.specs.Sound.{IsSetup}
+use Rattle.setup_text.specs.Runnable.{IsRunnable}
 use Rattle.setup_text.specs.declared.jobs.Job.{Job}
 use Rattle.tap_outside.specs.Seen.{SourceSeen}
 use Rattle.ticket_dealer.specs.Seats.{AreDealt, DealerValue, IsFreshOf, IsSeatOf, SeatValue}
@@ -45,7 +45,7 @@ use Rattle.cpu_feeders.proofs.WorkerOrder as order
 -- the law on what threads leave, and that on what sources gave
 abbrev pub LeavesGroup : Type 0
 LeavesGroup = (job : Job) (moments : List ℕ) (cpus : List CpuLeft) (members : List MemberLeft) (timer : List Seat) (seats : List SeatValue)
-    (number : ℕ) (nows : List (Option SourceSeen)) (logs : List CpuLog) → IsSetup job.setup → AreLeft job moments cpus members timer seats number
+    (number : ℕ) (nows : List (Option SourceSeen)) (logs : List CpuLog) → IsRunnable job.setup → AreLeft job moments cpus members timer seats number
     → AllClose (feeds_of cpus) nows logs
     → IsGroupRun job moments (bytes_of (feeds_of cpus)) (ends_of logs) logs (notes_of_members members) (rings_of members)
 
@@ -280,7 +280,7 @@ module _ {S T : Type 0} (base_of : T → Base) (taken_by : T → List Taken) (jo
         ∙ ap (λ (cs : List Feeding). firsts_of cs) worked.hired.feeds_are ∙ fed.firsts_are job.setup.plan 0 firsts
 
     -- what the run leaves
-    pub taker_run : LeavesGroup → LeavesGiven → closed.ReadsNotes base_of taken_by dealer job → IsSetup job.setup → (number : ℕ) (seats : List SeatValue)
+    pub taker_run : LeavesGroup → LeavesGiven → closed.ReadsNotes base_of taken_by dealer job → IsRunnable job.setup → (number : ℕ) (seats : List SeatValue)
         (cpus : List Feeding) (nows : List (Option SourceSeen)) (logs : List CpuLog) → seats ≡ all_seats → AreDealt seats number
         → cpus ≡ map fed.feed_in feeders → AllClose cpus nows logs
         → IsTakerRun base_of taken_by job moments firsts takers nows (map closed.taker_left all) logs (map closed.notes_in all) (map closed.ring_in all)

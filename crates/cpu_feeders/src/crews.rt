@@ -4,7 +4,7 @@ ghost use Rattle.std.specs.List.{AllByRecursion};
 ghost use Rattle.cpu_feeders.specs.FreshWorkers.{AreHired, IsDealt};
 ghost use Rattle.cpu_feeders.specs.Openings.{IsGroupOf};
 ghost use Rattle.cpu_feeders.specs.Runs.{IsFreshTaker};
-ghost use Rattle.setup_text.specs.Sound.{IsSetup};
+ghost use Rattle.setup_text.specs.Runnable.{IsRunnable};
 
 use crate::Timer;
 use crate::fresh_workers::{feeders_of, walkers_of, workers_of};
@@ -68,7 +68,7 @@ fn crew_of<S: Source, T: Taker + Drop>(
     group: OpenGroup,
     dealt: Dealt,
 ) -> Result<Crew<S, T>, Memory>
-    requires setup { IsSetup job.now.setup }
+    requires setup { IsRunnable job.now.setup }
     requires sources { length sources.items ≡ length job.now.setup.cpus }
     requires takers { length takers.items ≡ job.now.setup.plan.members }
     requires fresh { AllByRecursion (IsFreshTaker T.base T.taken job.now.setup.shape) takers.items }
@@ -103,7 +103,7 @@ pub(crate) fn hire<S: Source, T: Taker + Drop>(
     sources: Vec<Option<S>>,
     takers: Vec<T>,
 ) -> Result<Crew<S, T>, Memory>
-    requires setup { IsSetup job.now.setup }
+    requires setup { IsRunnable job.now.setup }
     requires sources { length sources.items ≡ length job.now.setup.cpus }
     requires takers { length takers.items ≡ job.now.setup.plan.members }
     requires fresh { AllByRecursion (IsFreshTaker T.base T.taken job.now.setup.shape) takers.items }

@@ -9,7 +9,6 @@ ghost use Rattle.cpu_feeders.specs.Feeds.{AreMembersFor, FeedsOut, HasEnded, IsF
 ghost use Rattle.fanout_group.specs.Arrivals.{IsArrival};
 ghost use Rattle.fanout_group.specs.Rules.{HasTicket};
 ghost use Rattle.member_turns.specs.Desks.{AreForDesk, TakesAt};
-ghost use Rattle.setup_text.specs.Sound.{IsSetup};
 ghost use Rattle.ticket_dealer.specs.Seats.{IsSeatOf};
 
 use crate::{Gate, Point};
@@ -125,7 +124,6 @@ fn arrive<S: Source, R: Wait, G: Gate>(
     feeder: &mut Feeder<S>,
     arrival: Frame,
 ) -> Result<(), Memory>
-    requires setup { IsSetup job.now.setup }
     requires members { AreMembersFor job.now feeder.old.feed.number members.now }
     requires arrival { IsArrival arrival }
     requires seat { IsDrawing dealer.now feeder.old.seat }
@@ -163,7 +161,6 @@ fn feed_next<S: Source, R: Wait, G: Gate>(
     gate: &G,
     feeder: &mut Feeder<S>,
 ) -> Result<bool, Memory>
-    requires setup { IsSetup job.now.setup }
     requires members { AreMembersFor job.now feeder.old.feed.number members.now }
     requires seat { IsDrawing dealer.now feeder.old.seat }
     requires goes { Goes job.now members.now
@@ -193,7 +190,6 @@ fn feed_all<S: Source, R: Wait, G: Gate>(
     gate: &G,
     feeder: &mut Feeder<S>,
 ) -> Result<(), Memory>
-    requires setup { IsSetup job.now.setup }
     requires fresh { IsFreshFeeder job.now members.now dealer.now feeder.old }
     ensures fed { OnOk result (FeedsOut job.now members.now feeder.old feeder.new) }
     ensures seat { IsDrawing dealer.now feeder.new.seat }
@@ -212,7 +208,6 @@ fn feed_or_fill<S: Source, R: Wait, G: Gate>(
     gate: &G,
     feeder: &mut Feeder<S>,
 )
-    requires setup { IsSetup job.now.setup }
     requires fresh { IsFreshFeeder job.now members.now dealer.now feeder.old }
     ensures fed { feeder.new.full ≡ false → FeedsOut job.now members.now feeder.old feeder.new }
     ensures seat { IsDrawing dealer.now feeder.new.seat }
@@ -234,7 +229,6 @@ pub fn run_feeder<S: Source, R: Wait, G: Gate>(
     gate: &G,
     feeder: &mut Feeder<S>,
 )
-    requires setup { IsSetup job.now.setup }
     requires fresh { IsFreshFeeder job.now members.now dealer.now feeder.old }
     ensures fed { feeder.new.full ≡ false → FeedsOut job.now members.now feeder.old feeder.new }
     ensures ended { HasEnded dealer.now feeder.new.seat }

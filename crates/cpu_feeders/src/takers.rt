@@ -3,7 +3,8 @@ ghost use Rattle.std.specs.Prelude.{◌≡◌, ◌++◌, ◌∷◌, [], ℕ, Lis
 ghost use Rattle.std.specs.List.{AllByRecursion};
 ghost use Rattle.cpu_feeders.specs.Crews.{HaveWorked};
 ghost use Rattle.cpu_feeders.specs.Runs.{IsFreshTaker, IsTakerRun};
-ghost use Rattle.setup_text.specs.Sound.{AreMoments, IsSetup};
+ghost use Rattle.setup_text.specs.Runnable.{IsRunnable};
+ghost use Rattle.setup_text.specs.Sound.{AreMoments};
 ghost use Rattle.tap_outside.specs.Seen.{SourceSeen};
 
 use crate::Gate;
@@ -121,7 +122,7 @@ fn dismiss<S: Source, T: Taker + Drop>(
     job: &Job,
     crew: Crew<S, T>,
 ) -> Result<Workers<S, T>, Memory>
-    requires setup { IsSetup job.now.setup }
+    requires setup { IsRunnable job.now.setup }
     requires worked { (moments : List ℕ) × (firsts : List (Option SourceSeen)) × (takers : List _)
         × HaveWorked T.base T.taken job.now moments firsts takers
         crew.members.items crew.dealer crew.spare.items crew.workers.items }
@@ -170,7 +171,7 @@ pub fn run_takers<
     gate: &G,
     takers: Vec<T>,
 ) -> Result<Workers<S, T>, Memory>
-    requires setup { IsSetup job.now.setup }
+    requires setup { IsRunnable job.now.setup }
     requires sources { length sources.items ≡ length job.now.setup.cpus }
     requires moments { AreMoments ticks.now }
     requires takers { length takers.items ≡ job.now.setup.plan.members }

@@ -1,7 +1,7 @@
 //! The workers of a run: readers, a timer and feeders, each on a thread of its own.
 ghost use Rattle.std.specs.Prelude.{◌≡◌, ◌<◌, ℕ, length, slice_index_or, All};
 ghost use Rattle.cpu_feeders.specs.WorkerEffects.{IsDoneWorker, IsReadyWorker};
-ghost use Rattle.setup_text.specs.Sound.{AreMoments, IsSetup};
+ghost use Rattle.setup_text.specs.Sound.{AreMoments};
 
 use crate::feeder::{Feeder, run_feeder};
 use crate::{Gate, Timer, Walker, run_timer, run_walker};
@@ -49,7 +49,6 @@ fn work<S: Source, T: Taker + Drop, G: Gate, R: Wait>(
     shared: &Shared<G>,
     worker: &mut Worker<S, T>,
 )
-    requires setup { IsSetup shared.now.job.now.setup }
     requires moments { AreMoments shared.now.moments.now }
     requires ready { IsReadyWorker T.base T.taken
         shared.now.job.now shared.now.members.now shared.now.dealer.now worker.old }
@@ -85,7 +84,6 @@ pub(crate) fn run_all<
     G: Gate + Sync,
     R: Threads + Wait + Sync,
 >(rt: &R, shared: &Shared<G>, workers: &mut [Worker<S, T>])
-    requires setup { IsSetup shared.now.job.now.setup }
     requires moments { AreMoments shared.now.moments.now }
     requires some { 0 < length workers.old }
     requires ready { All (IsReadyWorker T.base T.taken
@@ -101,7 +99,7 @@ pub(crate) fn run_all<
         workers,
         count,
         &|_, worker|
-            requires { IsSetup shared.now.job.now.setup × AreMoments shared.now.moments.now
+            requires { AreMoments shared.now.moments.now
                 × IsReadyWorker T.base T.taken
                 shared.now.job.now shared.now.members.now shared.now.dealer.now worker.now }
             ensures { IsDoneWorker T.base T.taken

@@ -5,7 +5,8 @@ ghost use Rattle.capture_reports.specs.Reported.{AreReported};
 ghost use Rattle.cpu_feeders.specs.Readers.{IsReaderOf};
 ghost use Rattle.cpu_feeders.specs.Runs.{IsCaptureRun};
 ghost use Rattle.reader_walk.specs.Readers.{new_reader};
-ghost use Rattle.setup_text.specs.Sound.{AreMoments, IsSetup};
+ghost use Rattle.setup_text.specs.Runnable.{IsRunnable};
+ghost use Rattle.setup_text.specs.Sound.{AreMoments};
 ghost use Rattle.tp_layout.specs.declared.requests.RingRequest.{RingRequest};
 
 use crate::taking::first_of;
@@ -79,7 +80,7 @@ pub fn run_workers<S: Source + Send, G: Gate + Sync, R: Threads + Wait + Sync>(
     ticks: &MomentList,
     gate: &G,
 ) -> Result<Ran<S>, Memory>
-    requires setup { IsSetup job.now.setup }
+    requires setup { IsRunnable job.now.setup }
     requires sources { length sources.items ≡ length job.now.setup.cpus }
     requires moments { AreMoments ticks.now }
     ensures ran { IfOk result (λ ran. IsCaptureRun job.now ticks.now

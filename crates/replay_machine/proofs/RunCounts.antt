@@ -1,8 +1,8 @@
 -- A run has few notes and tickets, since its captures have few frames and its schedule few lines.
 use Rattle.std.proofs.Common.{◌≡◌, ℕ, zero, suc, ◌+◌, ◌*◌, ◌^◌, ◌<◌, ◌≤◌, Bool, true, false, List, [], ◌∷◌, length, get_or, Option, None, Some, inl, inr, refl, sym, ap, ◌∙◌, subst, arith, length-append, length-set}
-use Rattle.std.specs.Prelude.{All, map, if◌then◌else◌, nat_lt, slice_index_or, slice_set, unwrap_or}
+use Rattle.std.specs.Prelude.{All, map, slice_index_or, slice_set, unwrap_or}
 use Rattle.std.specs.List.{AllByRecursion}
-use Rattle.std.proofs.lemmas.Bool.{cases_lt, ltb-false}
+use Rattle.std.proofs.lemmas.Bool.{cases_lt}
 use Rattle.std.proofs.lemmas.List.{set_past}
 use Rattle.std.proofs.lemmas.List.Elements.{All-map, All-replicate, All-set}
 use Rattle.replay_model.specs.RingSteps.{RingSteps, read_by, ticked, ticked_by}
@@ -17,7 +17,6 @@ use Rattle.fanout_group.specs.declared.logs.Fate.TheVariants.{Kept}
 use Rattle.fanout_group.specs.declared.logs.Try.{Try}
 use Rattle.fanout_group.specs.declared.modes.Mode.{Mode}
 use Rattle.fanout_group.specs.declared.modes.Mode.TheVariants.{Hash, Lb, Cpu, Rollover, Qm}
-use Rattle.fanout_group.specs.declared.plan_error.PlanError.{PlanError}
 use Rattle.frame_view.specs.declared.frames.Frame.{Frame}
 use Rattle.replay_model.specs.Replay.{next_ticket, no_ring, noted_at}
 use Rattle.replay_model.proofs.KeptOpen.{read_notes}
@@ -26,7 +25,6 @@ use Rattle.ring_model.specs.declared.notes.Found.{Found}
 use Rattle.ring_model.specs.declared.notes.Note.{Note}
 use Rattle.ring_model.specs.declared.notes.Note.TheVariants.{Counted, Ticked}
 use Rattle.ring_model.specs.declared.notes.Offer.{Offer}
-use Rattle.setup_text.specs.Sound.{IsSetup}
 use Rattle.setup_text.specs.declared.jobs.Job.{Job}
 use Rattle.tap_outside.specs.Seen.{SourceSeen}
 use Rattle.replay_machine.specs.Deliveries.{AreTried, IsTried}
@@ -135,15 +133,6 @@ made_most steps plan present queue ticket (Some offer) tries old new most few h 
     let home = home_by plan.mode plan.members offer.hash (unwrap_or ticket 0) offer.frame.cpu queue present in
     let count = few_tries (rolls_over plan) plan.members home tries few h.0 in
     wider (most + length tries) (most + 9) new (omega (arith, count)) (tried_most steps offer tries old new most h.1 all)
-
-second_test : (a b : Bool) (first second : PlanError) (rest : Option PlanError) → (if a then Some first else if b then Some second else rest) ≡ None → b ≡ false
-second_test true b first second rest e = cc
-second_test false true first second rest e = cc
-second_test false false first second rest e = refl
-
--- a valid group has few members
-pub few_members : (job : Job) → IsSetup job.setup → job.setup.plan.members ≤ 8
-few_members job setup = ltb-false 8 job.setup.plan.members (second_test _ (nat_lt 8 job.setup.plan.members) _ _ _ setup.group)
 
 pub drawn_most : (mode : Mode) (ticket : ℕ) → next_ticket mode ticket ≤ ticket + 1
 drawn_most Hash ticket = omega arith

@@ -11,7 +11,7 @@ ghost use Rattle.replay_model.specs.TakenOffers.{MayCome, Takes};
 ghost use Rattle.replay_model.specs.RingSteps.{read_by, ticked};
 ghost use Rattle.ring_model.specs.Unreleased.{last_moment};
 ghost use Rattle.ring_model.specs.declared.notes.Note.TheVariants.{Counted};
-ghost use Rattle.setup_text.specs.Sound.{IsSetup};
+ghost use Rattle.setup_text.specs.Runnable.{IsRunnable};
 ghost use Rattle.cpu_feed.specs.Fed.{arrival_of};
 ghost use Rattle.replay_machine.specs.RunStates.{Arrives, Feeds, HasCount, HasRoom, IsLogged, IsRoomOf, IsRun, Nexts, cpu_in};
 ghost use Rattle.replay_machine.specs.RunEffects.{FedRest, FedWhole, LineDone};
@@ -122,7 +122,7 @@ impl<S: Source, M: RingMember> ReplayRun<S, M> {
         cpu: usize,
         arrival: Frame,
     ) -> Result<(), Memory>
-        requires setup { IsSetup job.now.setup }
+        requires setup { IsRunnable job.now.setup }
         requires bytes { IsRoomOf M.steps room }
         requires run { IsRun M.steps job.now self.old }
         requires cpu { cpu < length self.old.cpus }
@@ -142,7 +142,7 @@ impl<S: Source, M: RingMember> ReplayRun<S, M> {
 
     /// Feeds a CPU its next frame; gives whether it had one.
     fn feed(&mut self, alloc: Global, job: &Job, room: u32, cpu: usize) -> Result<bool, Memory>
-        requires setup { IsSetup job.now.setup }
+        requires setup { IsRunnable job.now.setup }
         requires bytes { IsRoomOf M.steps room }
         requires run { IsRun M.steps job.now self.old }
         requires counted { HasCount self.old }
@@ -167,7 +167,7 @@ impl<S: Source, M: RingMember> ReplayRun<S, M> {
         room: u32,
         line: Line,
     ) -> Result<(), Memory>
-        requires setup { IsSetup job.now.setup }
+        requires setup { IsRunnable job.now.setup }
         requires bytes { IsRoomOf M.steps room }
         requires run { IsRun M.steps job.now self.old }
         requires counted { HasCount self.old }
@@ -184,7 +184,7 @@ impl<S: Source, M: RingMember> ReplayRun<S, M> {
 
     /// Feeds a CPU its next frame, if there is such a CPU.
     fn feed_line(&mut self, alloc: Global, job: &Job, room: u32, cpu: u32) -> Result<(), Memory>
-        requires setup { IsSetup job.now.setup }
+        requires setup { IsRunnable job.now.setup }
         requires bytes { IsRoomOf M.steps room }
         requires run { IsRun M.steps job.now self.old }
         requires counted { HasCount self.old }
@@ -240,7 +240,7 @@ impl<S: Source, M: RingMember> ReplayRun<S, M> {
 
     /// Feeds the frames that are left: those of CPU 0, then those of CPU 1, and so on.
     pub(crate) fn feed_rest(&mut self, alloc: Global, job: &Job, room: u32) -> Result<(), Memory>
-        requires setup { IsSetup job.now.setup }
+        requires setup { IsRunnable job.now.setup }
         requires bytes { IsRoomOf M.steps room }
         requires run { IsRun M.steps job.now self.old }
         requires counted { HasCount self.old }
@@ -254,7 +254,7 @@ impl<S: Source, M: RingMember> ReplayRun<S, M> {
 
     /// Feeds all frames of a CPU that are left.
     fn feed_all(&mut self, alloc: Global, job: &Job, room: u32, cpu: usize) -> Result<(), Memory>
-        requires setup { IsSetup job.now.setup }
+        requires setup { IsRunnable job.now.setup }
         requires bytes { IsRoomOf M.steps room }
         requires run { IsRun M.steps job.now self.old }
         requires counted { HasCount self.old }

@@ -3,7 +3,6 @@ ghost use Rattle.std.specs.Prelude.{◌≡◌};
 ghost use Rattle.fanout_group.specs.Judgements.{AgreesAt};
 ghost use Rattle.fanout_group.specs.Lenses.{lens_of};
 ghost use Rattle.run_reports.specs.Jobs.{lens_of as lens_of_job};
-ghost use Rattle.setup_text.specs.Sound.{IsSetup};
 
 use cpu_feed::rules_at;
 use fanout_group::ArrivalRules;
@@ -11,7 +10,6 @@ use setup_text::Job;
 
 /// What the arrivals of a CPU of a job are looked at with, for this room.
 pub(crate) fn rules_with(job: &Job, cpu: usize, room: u32) -> ArrivalRules
-    requires setup { IsSetup job.now.setup }
     ensures agrees { AgreesAt cpu (lens_of_job job.now) (lens_of result) }
     ensures queue { result.queue ≡ (lens_of_job job.now).queue cpu }
     ensures room { result.room ≡ room }

@@ -3,7 +3,7 @@
 ghost use Rattle.std.specs.Prelude.{◌≡◌, ◌^◌, ◌<◌, length, map, option_map, replicate, IfOk};
 ghost use Rattle.ring_model.specs.Rings.{fresh};
 ghost use Rattle.schedule_lines.specs.Ascending.{IsSchedule};
-ghost use Rattle.setup_text.specs.Sound.{IsSetup};
+ghost use Rattle.setup_text.specs.Runnable.{IsRunnable};
 ghost use Rattle.replay_machine.specs.RunStates.{IsRoomOf};
 ghost use Rattle.replay_machine.specs.Runs.{IsReplayedOver};
 
@@ -28,7 +28,7 @@ pub fn replay_over<S: Source, M: RingMember>(
     sources: Vec<Option<S>>,
     schedule: &Schedule,
 ) -> Result<Ran<S>, Memory>
-    requires setup { IsSetup job.now.setup }
+    requires setup { IsRunnable job.now.setup }
     requires bytes { IsRoomOf M.steps room }
     requires members { members.items
         ≡ replicate job.now.setup.plan.members (fresh M.steps.size) }

@@ -1,12 +1,11 @@
 -- The arrivals of each CPU have its number, and indexes that rise.
-use Rattle.std.proofs.Common.{◌≡◌, ℕ, zero, suc, ◌+◌, ◌<◌, Bool, List, [], ◌∷◌, length, get_or, None, refl, ◌∙◌, subst, arith}
+use Rattle.std.proofs.Common.{◌≡◌, ℕ, zero, suc, ◌+◌, ◌<◌, Bool, List, [], ◌∷◌, length, get_or, refl, ◌∙◌, subst, arith}
 use Rattle.std.specs.Prelude.{IfSome, map, slice_get}
 use Rattle.capture_file.specs.Capture.{frames_of}
 use Rattle.capture_file.specs.Laws.{IsNumbered}
 use Rattle.fanout_group.specs.Arrivals.{arrivals_at, somes}
 use Rattle.fanout_group.specs.Once.{AreOf}
-use Rattle.fanout_group.specs.Plans.{fault_of, has_defrag}
-use Rattle.fanout_group.specs.declared.modes.Mode.{Mode}
+use Rattle.fanout_group.specs.Plans.{has_defrag}
 use Rattle.fanout_group.proofs.RisingPlaces.{arrivals_are_of}
 use Rattle.frame_view.specs.declared.frames.Frame.{Frame}
 use Rattle.setup_text.specs.declared.jobs.Job.{Job}
@@ -50,8 +49,3 @@ arrive law job all k =
 pub count_from : (number : ℕ) (all : List (List ℕ)) → length (captures_from number all) ≡ length all
 count_from number [] = refl
 count_from number (bytes ∷ all) = let rest = count_from (number + 1) all in omega (arith, rest)
-
--- a group that there may be has a member
-pub some_members : (members : ℕ) (mode : Mode) (flags : ℕ) (key : Bool) → fault_of members mode flags key ≡ None → 0 < members
-some_members zero mode flags key e = cc
-some_members (suc members) mode flags key e = omega arith

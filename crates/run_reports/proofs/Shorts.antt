@@ -1,8 +1,7 @@
 -- Each packet that a group reports is short enough for an output file: it was cut to the room of a block.
-use Rattle.std.proofs.Common.{◌≡◌, ℕ, ◌<◌, ◌≤◌, Bool, true, false, List, [], ◌∷◌, length, get_or, Option, None, Some, refl, sym, subst, arith}
-use Rattle.std.specs.Prelude.{All, map, nat_lt, ◌||◌, if◌then◌else◌, ◌==◌, not, ◌%◌}
+use Rattle.std.proofs.Common.{◌≡◌, ℕ, ◌<◌, ◌≤◌, Bool, List, [], ◌∷◌, length, get_or, Option, sym, subst, arith}
+use Rattle.std.specs.Prelude.{All, map}
 use Rattle.std.specs.List.{AllByRecursion}
-use Rattle.std.proofs.lemmas.Bool.{ltb-false}
 use Rattle.std.proofs.lemmas.List.{length-map, length-take, get_or-map}
 use Rattle.std.proofs.lemmas.List.Elements.{All-from_recursion}
 use Rattle.fanout_group.specs.Joined.{AreNotesOf, Logged, attempts_at, nothing_logged}
@@ -14,30 +13,15 @@ use Rattle.ring_model.specs.Fates.{frame_notes, kept_of}
 use Rattle.ring_model.specs.Offers.{packet_of}
 use Rattle.ring_model.specs.declared.notes.Note.{Note}
 use Rattle.ring_model.specs.declared.notes.Offer.{Offer}
-use Rattle.setup_text.specs.Sound.{IsSetup}
+use Rattle.setup_text.specs.Runnable.{IsRunnable}
 use Rattle.setup_text.specs.declared.jobs.Job.{Job}
 use Rattle.setup_text.specs.declared.reports.MemberReport.{MemberReport}
 use Rattle.setup_text.specs.declared.reports.RunReport.{RunReport}
-use Rattle.tp_layout.specs.Requests.{fills_hash, receive_fault, room_of}
-use Rattle.tp_layout.specs.declared.error.RequestError.{RequestError}
-use Rattle.tp_layout.specs.declared.error.RequestError.TheVariants.{BlockSize}
-use Rattle.tp_layout.specs.declared.requests.RingRequest.{RingRequest}
+use Rattle.tp_layout.specs.Requests.{fills_hash, room_of}
 use Rattle.run_reports.specs.Jobs.{rules_of}
 use Rattle.run_reports.specs.Members.{AreShort}
 use Rattle.run_reports.specs.Reports.{IsReport, logged, notes_of}
 use Rattle.run_reports.proofs.KeptOffers.{IsCut, all_cut}
-
-no_fault : (a b c : Bool) (rest : Option RequestError) → (if a || b || c then Some BlockSize else rest) ≡ None → c ≡ false
-no_fault true b c rest e = cc
-no_fault false true c rest e = cc
-no_fault false false true rest e = cc
-no_fault false false false rest e = refl
-
-room_small : (request : RingRequest) → receive_fault request ≡ None → room_of request ≤ 1048576
-unfolding receive_fault
-room_small request e =
-    let small = ltb-false 1048576 request.block_size (no_fault (request.block_size == 0) (not (request.block_size % 4096 == 0)) (nat_lt 1048576 request.block_size) _ e) in
-    omega (arith, small)
 
 packets_short : (fills : Bool) (room : ℕ) (offers : List Offer) → room ≤ 4294967373 → AllByRecursion (IsCut room) offers
     → AllByRecursion (λ packet. length packet.bytes ≤ 4294967291) (map (packet_of fills) offers)
@@ -69,10 +53,10 @@ module _ (rules : Rules) (room : ℕ) (fills : Bool) (cpus : List Logged) (membe
       subst (λ (ps : List Packet). All IsShort ps) (sym (walked at d within))
       (All-from_recursion IsShort _ (packets_short fills room (kept_of (get_or members at d).notes) small (cut_at at d within)))
 
-pub are_short : (job : Job) (arriving : List (List (Option Frame))) (report : RunReport) → IsSetup job.setup
+pub are_short : (job : Job) (arriving : List (List (Option Frame))) (report : RunReport) → IsRunnable job.setup
     → IsReport (rules_of job) job.setup.shape job.setup.dump arriving report → AreShort report.members
 are_short job arriving report setup h =
     let room = room_of job.setup.shape in
-    let low : room ≤ 1048576 = subst (λ (r : RingRequest). room_of r ≤ 1048576) (sym setup.shape) (room_small job.setup.request setup.ring) in
+    let low = setup.ring.small in
     short_members (rules_of job) room (fills_hash job.setup.shape) (logged arriving report.cpus) report.members (omega (arith, low)) h.group
     (λ at d within. let member = h.members at d within in member.walked)

@@ -6,6 +6,7 @@ pub mod KeyFaults
 pub mod KindWords
 pub mod Moments
 pub mod Orders
+pub mod Runnable
 pub mod Schedules
 pub mod SetupWords
 pub mod Setups

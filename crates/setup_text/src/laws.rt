@@ -1,9 +1,10 @@
 //! Laws of the definitions, each the contract of a function that does nothing.
-ghost use Rattle.std.specs.Prelude.{◌≡◌, ◌≤◌, ◌+◌, ◌⊎◌, ℕ, List, length, Err, None, Ok};
+ghost use Rattle.std.specs.Prelude.{◌≡◌, ◌<◌, ◌≤◌, ◌+◌, ◌⊎◌, ℕ, List, length, Err, None, Ok};
 ghost use Rattle.text_lines.specs.Lines.{lines_of};
 ghost use Rattle.setup_text.specs.Drafts.{line_after, nothing_said};
 ghost use Rattle.setup_text.specs.FirstFaults.{HasFirstFault, HaveNoFault};
 ghost use Rattle.setup_text.specs.Orders.{AreReordered};
+ghost use Rattle.setup_text.specs.Runnable.{IsRunnable};
 ghost use Rattle.setup_text.specs.Setups.{request_fault, setup_of};
 ghost use Rattle.setup_text.specs.Written.{CanBeWritten, text_of};
 ghost use Rattle.setup_text.specs.declared.commands.Command.{Command};
@@ -11,6 +12,9 @@ ghost use Rattle.setup_text.specs.declared.commands.Command.TheVariants.{Make};
 ghost use Rattle.setup_text.specs.declared.setup_error.SetupKind.{SetupKind};
 ghost use Rattle.setup_text.specs.declared.setup_error.SetupKind.TheVariants.{TooLarge};
 ghost use Rattle.setup_text.specs.declared.setups.Setup.{Setup};
+
+use crate::Setup;
+use tp_layout::a_shape_is_sound;
 
 /// The first fault of a setup: each line before it is without fault, and it has the fault. With
 /// line 0 the text is too large, or no line has a fault.
@@ -39,3 +43,13 @@ pub fn a_written_setup_is_read_back()
         → request_fault command setup.request ≡ None → (command ≡ Make → 1 ≤ setup.count)
         → setup_of (text_of setup) command ≡ Ok setup }
 {}
+
+/// A setup with 1 to 8 CPUs can be run: its ring's shape and its group are valid, as they were made.
+pub fn a_setup_with_cpus_can_be_run(setup: &Setup)
+    requires some { 0 < length setup.now.cpus }
+    requires few { length setup.now.cpus ≤ 8 }
+    ensures { IsRunnable setup.now }
+{
+    a_shape_is_sound(&setup.shape);
+    let _members = setup.plan.members();
+}

@@ -15,7 +15,7 @@ use crate::sources::{close_captures, fetch_captures};
 use block_pool::run_pool;
 use cpu_feeders::{Gate, run_workers};
 use frame_view::{ItemList, Memory, MomentList};
-use setup_text::{Forwards, Job, Ran, RunReport};
+use setup_text::{Forwards, Job, Ran, RunReport, a_setup_with_cpus_can_be_run};
 use std::alloc::Global;
 use std::sync::Wait;
 use std::thread::Threads;
@@ -117,6 +117,7 @@ fn run_sources<S: Source + Send, G: Gate + Sync, R: Threads + Wait + Sync>(
         run.0.report) }
     ensures sent { IfOk result (λ run. IsSentBy sends job.now.setup run.0.report run.1) }
 {
+    a_setup_with_cpus_can_be_run(&job.setup);
     if !sends {
         let ran = capture_sources(rt, alloc, job, sources, moments, gate)?;
         return Ok((ran, None));
@@ -153,6 +154,7 @@ fn capture_sources<S: Source + Send, G: Gate + Sync, R: Threads + Wait + Sync>(
         (map (option_map S.seen) ran.sources.items)
         ran.report) }
 {
+    a_setup_with_cpus_can_be_run(&job.setup);
     let workers = job.setup.workers;
     if workers == 0 {
         run_workers(rt, alloc, job, sources, moments, gate)

@@ -21,7 +21,7 @@ use crate::sources::{close_captures, fetch_captures};
 use frame_view::Memory;
 use made_captures::{made_schedule, made_sources};
 use schedule_lines::Schedule;
-use setup_text::{Command, Job, Ran, RunReport};
+use setup_text::{Command, Job, Ran, RunReport, a_setup_with_cpus_can_be_run};
 use std::alloc::Global;
 use tap_outside::{Source, Store};
 use tap_printing::RingKind;
@@ -107,6 +107,7 @@ fn replay_over<I: Source>(
         (map (option_map I.seen) ran.sources.items)
         ran.report) }
 {
+    a_setup_with_cpus_can_be_run(&job.setup);
     match rings {
         RingKind::Blocks => replay(alloc, job, sources, schedule),
         RingKind::Slots => replay_v2(alloc, job, sources, schedule),
@@ -122,6 +123,7 @@ pub(crate) fn replay_made(alloc: Global, job: &Job) -> Result<RunReport, Memory>
     ensures faults { IfOk result (λ report. faults_in report.cpus ≡ 0) }
     ensures small { IfOk result IsSmall }
 {
+    a_setup_with_cpus_can_be_run(&job.setup);
     let setup = &job.setup;
     let cpus = setup.cpus.len() as u32;
     let sources = made_sources(alloc, setup.seed, setup.count, cpus)?;

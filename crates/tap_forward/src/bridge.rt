@@ -3,7 +3,8 @@ ghost use Rattle.std.specs.Prelude.{◌≡◌, Bool, None, length, map, option_m
 ghost use Rattle.std.specs.List.{AllZip};
 ghost use Rattle.capture_reports.specs.Reported.{AreReported};
 ghost use Rattle.cpu_feeders.specs.Runs.{IsCaptureRun};
-ghost use Rattle.setup_text.specs.Sound.{AreMoments, IsSetup};
+ghost use Rattle.setup_text.specs.Runnable.{IsRunnable};
+ghost use Rattle.setup_text.specs.Sound.{AreMoments};
 ghost use Rattle.tap_forward.specs.Bridges.{IsForwarderOf, sent_for, skipped_for, tx_request};
 ghost use Rattle.tap_forward.specs.Forwarders.{new_forwarder};
 ghost use Rattle.tp_layout.specs.Requests.{receive_fault, transmit_fault};
@@ -138,7 +139,9 @@ pub fn forward_workers<S: Source + Send, G: Gate + Sync, R: Threads + Wait + Syn
     ticks: &MomentList,
     gate: &G,
 ) -> Result<ForwardRan<S>, Memory>
-    requires setup { IsSetup job.now.setup }
+    requires setup { IsRunnable job.now.setup }
+    requires request { receive_fault job.now.setup.request ≡ None }
+    requires shape { job.now.setup.shape ≡ job.now.setup.request }
     requires sources { length sources.items ≡ length job.now.setup.cpus }
     requires moments { AreMoments ticks.now }
 

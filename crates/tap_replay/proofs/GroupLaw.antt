@@ -13,10 +13,10 @@ use Rattle.run_reports.specs.Jobs.{arriving_of, rules_of}
 use Rattle.run_reports.specs.Logs.{AreLogsFrom}
 use Rattle.run_reports.specs.Members.{IsMember}
 use Rattle.run_reports.specs.Reports.{IsReport}
-use Rattle.run_reports.proofs.ArrivalOrder.{AreNumbered, arrive, some_members}
+use Rattle.run_reports.proofs.ArrivalOrder.{AreNumbered, arrive}
 use Rattle.schedule_lines.specs.Ascending.{IsSchedule}
 use Rattle.schedule_lines.specs.declared.lines.Line.{Line}
-use Rattle.setup_text.specs.Sound.{IsSetup}
+use Rattle.setup_text.specs.Runnable.{IsRunnable}
 use Rattle.setup_text.specs.declared.jobs.Job.{Job}
 use Rattle.tp_layout.specs.Requests.{size_of}
 use Rattle.tp_layout.specs.declared.requests.RingRequest.{RingRequest}
@@ -36,13 +36,13 @@ member_lawful shape asked ring h = record {
   blocks = ap (λ (s : Size). length (state_of s ring.notes).done) h.size_is;
 }
 
-module _ (law : AreNumbered) (reports : ReportsGroup) (job : Job) (lines : List Line) (all : List (List ℕ)) (ends : List CpuEnd) (setup : IsSetup job.setup)
+module _ (law : AreNumbered) (reports : ReportsGroup) (job : Job) (lines : List Line) (all : List (List ℕ)) (ends : List CpuEnd) (setup : IsRunnable job.setup)
     (schedule : IsSchedule lines) (many : length ends ≡ length all) where
   abbrev steps : RingSteps
   steps = block_steps (size_of job.setup.shape)
 
   report : IsReplayReport (rules_of job) steps.size.room (IsRingReport (size_of job.setup.shape)) (arriving_of job all) (replay_of job lines all)
-  report = reports (rules_of job) (size_of job.setup.shape) (arriving_of job all) lines (some_members job.setup.plan.members job.setup.plan.mode job.setup.plan.flags _ setup.group)
+  report = reports (rules_of job) (size_of job.setup.shape) (arriving_of job all) lines setup.some_members
       (arrive law job all) schedule
 
   pub is_group : IsReport (rules_of job) job.setup.shape job.setup.dump (arriving_of job all) (report_of job lines all ends)

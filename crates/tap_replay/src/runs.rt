@@ -4,7 +4,7 @@ ghost use Rattle.capture_file.specs.declared.cpu_end.CpuEnd.{CpuEnd};
 ghost use Rattle.schedule_lines.specs.declared.lines.Line.{Line};
 ghost use Rattle.schedule_lines.specs.Ascending.{IsSchedule};
 ghost use Rattle.run_reports.specs.Reports.{IsRunReport};
-ghost use Rattle.setup_text.specs.Sound.{IsSetup};
+ghost use Rattle.setup_text.specs.Runnable.{IsRunnable};
 ghost use Rattle.setup_text.specs.declared.jobs.Job.{Job};
 ghost use Rattle.replay_machine.specs.RunStates.{IsRoomOf};
 ghost use Rattle.replay_model.specs.RingSteps.{block_steps};
@@ -35,7 +35,7 @@ pub fn replay<S: Source>(
     sources: Vec<Option<S>>,
     schedule: &Schedule,
 ) -> Result<Ran<S>, Memory>
-    requires setup { IsSetup job.now.setup }
+    requires setup { IsRunnable job.now.setup }
     requires sources { length sources.items ≡ length job.now.setup.cpus }
     requires schedule { IsSchedule schedule.now }
     requires few { length schedule.now < 2 ^ 32 }
@@ -56,7 +56,7 @@ fn replay_as<S: Source, K: Setting>(
 ) -> Result<Ran<S>, Memory>
     requires shape { job.now.setup.shape ≡ K.shape }
     requires dump { job.now.setup.dump ≡ K.dumps }
-    requires setup { IsSetup job.now.setup }
+    requires setup { IsRunnable job.now.setup }
     requires sources { length sources.items ≡ length job.now.setup.cpus }
     requires schedule { IsSchedule schedule.now }
     requires few { length schedule.now < 2 ^ 32 }
@@ -86,7 +86,7 @@ fn room_of_blocks(shape: &Shape) -> u32
 /// a member's reader read is what was kept.
 pub fn a_job_reports_a_group()
     ensures run { (job : Job) (lines : List Line) (all : List (List ℕ)) (ends : List CpuEnd)
-        → IsSetup job.setup → IsSchedule lines → length ends ≡ length all
+        → IsRunnable job.setup → IsSchedule lines → length ends ≡ length all
         → IsRunReport job all ends (report_of job lines all ends) }
 {
     frames_are_numbered();

@@ -16,10 +16,10 @@ use Rattle.run_reports.specs.Jobs.{arriving_of, rules_of}
 use Rattle.run_reports.specs.Once.{EachArrivalStandsOnce}
 use Rattle.run_reports.specs.Reports.{logged}
 use Rattle.run_reports.proofs.Shorts.{short_members}
-use Rattle.run_reports.proofs.ArrivalOrder.{AreNumbered, arrive, some_members}
+use Rattle.run_reports.proofs.ArrivalOrder.{AreNumbered, arrive}
 use Rattle.schedule_lines.specs.Ascending.{IsSchedule}
 use Rattle.schedule_lines.specs.declared.lines.Line.{Line}
-use Rattle.setup_text.specs.Sound.{IsSetup}
+use Rattle.setup_text.specs.Runnable.{IsRunnable}
 use Rattle.setup_text.specs.declared.jobs.Job.{Job}
 use Rattle.setup_text.specs.declared.reports.RunReport.{RunReport}
 use Rattle.slot_layout.proofs.SlotBounds.{slot_bounds}
@@ -37,7 +37,7 @@ abbrev pub EachOnce : Type 0
 EachOnce = (rules : Rules) (room : ℕ) (cpus : List Logged) (members : List (List Note)) → IsGroupReport rules room cpus members
     → EachArrivalStandsOnce rules cpus members
 
-module _ (law : AreNumbered) (once : EachOnce) (job : Job) (lines : List Line) (all : List (List ℕ)) (ends : List CpuEnd) (setup : IsSetup job.setup)
+module _ (law : AreNumbered) (once : EachOnce) (job : Job) (lines : List Line) (all : List (List ℕ)) (ends : List CpuEnd) (setup : IsRunnable job.setup)
     (slots : IsSlotShape job.setup.shape) (schedule : IsSchedule lines) (many : length ends ≡ length all) where
   abbrev size : Size
   size = slot_size_of job.setup.shape
@@ -47,7 +47,7 @@ module _ (law : AreNumbered) (once : EachOnce) (job : Job) (lines : List Line) (
 
   report : IsReplayReport (rules_of job) size.room (IsSlotRingReport size) (arriving_of job all) (slot_replay_of job lines all)
   report = report_is (IsOpenSlots size) (rules_of job) steps (slots_keep size) (IsSlotRingReport size) (closed_slots size) (arriving_of job all) lines
-      (some_members job.setup.plan.members job.setup.plan.mode job.setup.plan.flags _ setup.group) (arrive law job all) schedule
+      setup.some_members (arrive law job all) schedule
 
   abbrev of : RunReport
   of = report_with (slot_member_of job.setup.dump) all ends (slot_replay_of job lines all)

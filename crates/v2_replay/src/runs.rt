@@ -4,7 +4,7 @@ ghost use Rattle.capture_file.specs.declared.cpu_end.CpuEnd.{CpuEnd};
 ghost use Rattle.replay_machine.specs.RunStates.{IsRoomOf};
 ghost use Rattle.schedule_lines.specs.Ascending.{IsSchedule};
 ghost use Rattle.schedule_lines.specs.declared.lines.Line.{Line};
-ghost use Rattle.setup_text.specs.Sound.{IsSetup};
+ghost use Rattle.setup_text.specs.Runnable.{IsRunnable};
 ghost use Rattle.setup_text.specs.declared.jobs.Job.{Job};
 ghost use Rattle.slot_layout.specs.SlotShapes.{IsSlotShape, slot_size_of};
 ghost use Rattle.v2_replay.specs.SlotReplays.{slot_steps};
@@ -36,7 +36,7 @@ pub fn replay_v2<S: Source>(
     sources: Vec<Option<S>>,
     schedule: &Schedule,
 ) -> Result<Ran<S>, Memory>
-    requires setup { IsSetup job.now.setup }
+    requires setup { IsRunnable job.now.setup }
     requires slots { IsSlotShape job.now.setup.shape }
     requires sources { length sources.items ≡ length job.now.setup.cpus }
     requires schedule { IsSchedule schedule.now }
@@ -58,7 +58,7 @@ fn replay_as<S: Source, K: Setting>(
 ) -> Result<Ran<S>, Memory>
     requires shape { job.now.setup.shape ≡ K.shape }
     requires dump { job.now.setup.dump ≡ K.dumps }
-    requires setup { IsSetup job.now.setup }
+    requires setup { IsRunnable job.now.setup }
     requires slots { IsSlotShape job.now.setup.shape }
     requires sources { length sources.items ≡ length job.now.setup.cpus }
     requires schedule { IsSchedule schedule.now }
@@ -96,11 +96,11 @@ fn room_of_slots(shape: &Shape) -> u32
 /// that says that a slot was still the reader's names one that wasn't released.
 pub fn a_job_over_slots_reports_a_group()
     ensures run { (job : Job) (lines : List Line) (all : List (List ℕ)) (ends : List CpuEnd)
-        → IsSetup job.setup → IsSlotShape job.setup.shape → IsSchedule lines
+        → IsRunnable job.setup → IsSlotShape job.setup.shape → IsSchedule lines
         → length ends ≡ length all
         → IsSlotRunReport job all ends (slot_report_of job lines all ends) }
     ensures rings { (job : Job) (lines : List Line) (all : List (List ℕ)) (ends : List CpuEnd)
-        → IsSetup job.setup → IsSlotShape job.setup.shape → IsSchedule lines
+        → IsRunnable job.setup → IsSlotShape job.setup.shape → IsSchedule lines
         → length ends ≡ length all
         → All (IsSlotRingReport (slot_size_of job.setup.shape))
         (slot_replay_of job lines all).members }

@@ -6,7 +6,7 @@ use bpf_filter::{Program, read_ddd};
 use cpu_feeders::NoGate;
 use frame_view::{ByteList, Memory, MomentList};
 use row_building::push_fields;
-use setup_text::{Command, Job, Setup, read_setup};
+use setup_text::{Command, Job, Setup, a_setup_with_cpus_can_be_run, read_setup};
 use std::alloc::Global;
 use std::sync::Wait;
 use std::test::Fail;
@@ -89,6 +89,7 @@ pub(crate) fn carry<R: Threads + Wait + Sync>(
     requires sound { IsSetup job.now.setup }
     requires one { length job.now.setup.cpus ≡ 1 }
 {
+    a_setup_with_cpus_can_be_run(&job.setup);
     let sources = sources_of(alloc, capture(alloc, frames)?)?;
     let ticks = MomentList::new(alloc);
     Ok(forward_workers(rt, alloc, job, sources, &ticks, &NoGate)?)

@@ -1,13 +1,12 @@
 //! Runs with pools of one, two and eight workers.
 ghost use Rattle.std.specs.Prelude.{◌≡◌, ◌<◌, ◌≤◌, length};
-ghost use Rattle.setup_text.specs.Sound.{IsSetup};
 
 use crate::bridged::{job_of, sources_of};
 use block_pool::run_pool;
 use cpu_feeders::NoGate;
 use frame_view::{ByteList, Memory, MomentList, Packet};
 use row_building::push_fields;
-use setup_text::{Job, MemberReport, Ran};
+use setup_text::{Job, MemberReport, Ran, a_setup_with_cpus_can_be_run};
 use std::alloc::Global;
 use std::sync::Wait;
 use std::test::Fail;
@@ -68,11 +67,11 @@ fn run_job<R: Threads + Wait + Sync>(
     job: &Job,
     workers: u32,
 ) -> Result<(usize, bool), Fail>
-    requires sound { IsSetup job.now.setup }
     requires one { length job.now.setup.cpus ≡ 1 }
     requires some { 0 < workers }
     requires few { workers ≤ 8 }
 {
+    a_setup_with_cpus_can_be_run(&job.setup);
     let sources = sources_of(alloc, capture(alloc)?)?;
     let ticks = MomentList::new(alloc);
     let ran = run_pool(rt, alloc, job, sources, &ticks, &NoGate, workers)?;

@@ -1,4 +1,3 @@
-use Rattle.capture_reports.proofs.BlockSizes.{block_small}
 use Rattle.capture_reports.proofs.Reporting.{read_all}
 use Rattle.capture_reports.proofs.laws.blocks_are_read_as_they_were_noted.Goals as goal
 use Rattle.ring_model.specs.Ring.{state_of}
@@ -7,4 +6,4 @@ use Rattle.tp_layout.specs.Requests.{size_of}
 pub returns : goal.returns
 returns c = λ job notes ring setup of.
     read_all c.a_text_is_read_as_it_was_written.ensures job.setup.shape 1 ring.retired (state_of (size_of job.setup.shape) notes).done
-    (block_small job setup) of.texts
+    setup.ring.small of.texts

@@ -10,9 +10,6 @@ use Rattle.cpu_feeders.proofs.Hired.{hired_ready, some_hired}
 use Rattle.cpu_feeders.proofs.WorkedCrew.{have_worked}
 use Rattle.cpu_feeders.proofs.takers.run_takers.Goals as goal
 
-pub run_all-requires-clause-setup : goal.run_all-requires-clause-setup
-run_all-requires-clause-setup g c κs within = c.requires.setup
-
 pub run_all-requires-clause-moments : goal.run_all-requires-clause-moments
 run_all-requires-clause-moments g c κs within = subst AreMoments (sym c.as_slice.ensures) c.requires.moments
 

@@ -15,7 +15,6 @@ for_each_mut-requires-send-T g c κs within =
 
 pub for_each_mut-requires-clause-accepts : goal.for_each_mut-requires-clause-accepts
 for_each_mut-requires-clause-accepts g c κs within = λ i p below at. (
-  c.requires.setup,
   c.requires.moments,
   subst (λ (w : declared.Worker g.row.S.Denot g.row.T.Denot). IsReadyWorker g.T.Taker.base g.T.Taker.taken
       c.args.shared.now.job.now c.args.shared.now.members.now c.args.shared.now.dealer.now w) (sym at) (c.requires.ready i p.now below),

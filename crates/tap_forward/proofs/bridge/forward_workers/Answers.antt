@@ -50,7 +50,7 @@ returns-clause-sent g c =
     c.in_ok-forwarders.forwarders.items c.in_ok-workers.workers.takers.items c.in_ok-forwarders.ensures c.in_ok-workers.ensures.ran.takers in
     IfOk-weaker c.report.result _ _ (λ ran law.
     law setup.shape c.tx_shape-tx.result setup.dump forwarders
-    ∙ ap (λ (room : ℕ). map (sent_for room) ran.report.members) (one_room setup.request setup.shape c.tx_shape-tx.result c.tx_shape-tx.ensures.shape c.requires.setup.shape))
+    ∙ ap (λ (room : ℕ). map (sent_for room) ran.report.members) (one_room setup.request setup.shape c.tx_shape-tx.result c.tx_shape-tx.ensures.shape c.requires.shape))
     c.report.ensures.sent
 
 pub returns-clause-skipped : goal.returns-clause-skipped
@@ -60,5 +60,5 @@ returns-clause-skipped g c =
     c.in_ok-forwarders.forwarders.items c.in_ok-workers.workers.takers.items c.in_ok-forwarders.ensures c.in_ok-workers.ensures.ran.takers in
     IfOk-weaker c.report.result _ _ (λ ran law.
     law setup.shape c.tx_shape-tx.result setup.dump forwarders
-    ∙ ap (λ (room : ℕ). map (skipped_for room) ran.report.members) (one_room setup.request setup.shape c.tx_shape-tx.result c.tx_shape-tx.ensures.shape c.requires.setup.shape))
+    ∙ ap (λ (room : ℕ). map (skipped_for room) ran.report.members) (one_room setup.request setup.shape c.tx_shape-tx.result c.tx_shape-tx.ensures.shape c.requires.shape))
     c.report.ensures.skipped

@@ -3,7 +3,6 @@ use Rattle.fanout_group.specs.Lenses.{lens_of}
 use Rattle.fanout_group.specs.declared.logs.ArrivalLog.{ArrivalLog}
 use Rattle.replay_model.specs.Replay.{next_ticket, ticket_of}
 use Rattle.replay_machine.specs.RunStates.{RunValue}
-use Rattle.replay_machine.proofs.RunCounts.{few_members}
 use Rattle.replay_machine.proofs.RunSteps.{all_take_it, arrives_as, members_there, shape_at, ticket_fits}
 use Rattle.replay_machine.proofs.replay_run.ReplayRun.arrive.Goals as goal
 
@@ -25,7 +24,7 @@ returns g c =
     arrives_as g.M.RingMember.steps c.args.job.now c.args.cpu c.args.arrival (lens_of c.rules_with-rules.result) c.rules_with-rules.result.room c.rules_with-rules.result.queue
     c.judge-judged.result.entry c.judge-judged.result.offer c.mode-mode.result c.args.self.now c.log.new.self _ (record {
       run = c.requires.run;
-      few = few_members c.args.job.now c.requires.setup;
+      few = c.requires.setup.few_members;
       within = c.requires.cpu;
       place = c.requires.place;
       mode_is = c.mode-mode.ensures;
