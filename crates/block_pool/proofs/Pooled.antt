@@ -17,7 +17,8 @@ use Rattle.block_pool.proofs.Zips.{zip_append}
 use Rattle.block_pool.specs.Reports.{AreOutputsOf}
 use Rattle.cpu_feeders.specs.Runs.{AreTakersOf}
 use Rattle.reader_walk.specs.Readers.{dump_by, walked_of}
-use Rattle.reader_walk.specs.Takers.{Base, Taken}
+use Rattle.reader_walk.specs.Takers.{Base}
+use Rattle.tp_layout.specs.Layouts.{Taken}
 use Rattle.ring_model.specs.declared.notes.Note.{Note}
 use Rattle.tp_layout.specs.declared.requests.RingRequest.{RingRequest}
 use Rattle.work_queue.proofs.Counts.{found_of_handed, handed_of_found}

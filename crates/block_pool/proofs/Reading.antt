@@ -11,8 +11,8 @@ use Rattle.block_pool.specs.declared.pieces.Piece.{Piece}
 use Rattle.block_pool.proofs.Placing.{IsHeldAs}
 use Rattle.block_pool.proofs.Zips.{zip_long}
 use Rattle.frame_view.specs.declared.frames.Packet.{Packet}
-use Rattle.reader_walk.specs.Readers.{dump_by, texts_of, walked_of}
-use Rattle.reader_walk.specs.Texts.{text_of_taken}
+use Rattle.reader_walk.specs.Readers.{dump_by, texts_by, texts_of, walked_of}
+use Rattle.tp_layout.specs.Layouts.{text_of_taken}
 use Rattle.tp_layout.specs.declared.requests.RingRequest.{RingRequest}
 use Rattle.work_queue.specs.declared.works.Work.{Work}
 
@@ -93,7 +93,7 @@ none_dumped (work ∷ works) (slot ∷ shelf) filled =
 
 all_dumped : (member : ℕ) (shape : RingRequest) (first : ℕ) (works : List Work) (shelf : List (Option Piece)) → AreNumbered member shape first works
     → AllZip (IsFilled true) works shelf → texts_at shelf ≡ texts_of shape (works_taken works)
-unfolding texts_of
+unfolding texts_by
 all_dumped member shape first [] [] numbered filled = refl
 all_dumped member shape first [] (slot ∷ shelf) numbered filled = absurd filled
 all_dumped member shape first (work ∷ works) [] numbered filled = absurd filled

@@ -5,8 +5,8 @@ use Rattle.std.proofs.Math.Logic.{∥∥₁_elim}
 use Rattle.std.proofs.Props.{props}
 use Rattle.std.proofs.lemmas.List.{take_all}
 use Rattle.frame_view.specs.declared.frames.Packet.{Packet}
-use Rattle.reader_walk.specs.Takers.{IsRetired, Taken, taken_in}
-use Rattle.reader_walk.specs.Texts.{text_of_taken}
+use Rattle.reader_walk.specs.Takers.{IsRetired}
+use Rattle.tp_layout.specs.Layouts.{Taken, taken_in, text_of_taken}
 use Rattle.tp_layout.proofs.Opens.{length-block_text}
 use Rattle.tp_layout.specs.Blocks.{BeginsWith, HasText, block_text}
 use Rattle.tp_layout.specs.Reading.{IsTextOf}

@@ -1,7 +1,7 @@
 -- Works that were decoded.
 use Rattle.std.specs.Prelude.{◌≡◌, Bool}
 use Rattle.block_pool.specs.declared.pieces.Piece.{Piece}
-use Rattle.reader_walk.specs.Takers.{Taken, taken_in}
+use Rattle.tp_layout.specs.Layouts.{Taken, taken_in}
 use Rattle.reader_walk.specs.Texts.{text_by}
 use Rattle.work_queue.specs.declared.works.Work.{Work}
 

@@ -1,7 +1,8 @@
 -- A taker that hands each block in as a work.
 use Rattle.std.specs.Prelude.{◌≡◌, ℕ, ◌+◌, List, [], ◌∷◌, length, map, ⊤}
 use Rattle.block_pool.specs.Pieces.{work_taken}
-use Rattle.reader_walk.specs.Takers.{Base, Taken}
+use Rattle.reader_walk.specs.Takers.{Base}
+use Rattle.tp_layout.specs.Layouts.{Taken}
 use Rattle.tp_layout.specs.declared.requests.RingRequest.{RingRequest}
 use Rattle.work_queue.specs.Passes.{IsPassOf, PassValue, QueueValue}
 use Rattle.work_queue.specs.declared.works.Work.{Work}

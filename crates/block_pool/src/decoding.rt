@@ -1,6 +1,6 @@
 //! How a work is decoded.
 ghost use Rattle.std.specs.Prelude.{◌≡◌, IfOk};
-ghost use Rattle.reader_walk.specs.Takers.{taken_in};
+ghost use Rattle.tp_layout.specs.Layouts.{taken_in};
 ghost use Rattle.tp_layout.specs.Reading.{IsTextOf};
 ghost use Rattle.work_queue.specs.Works.{IsLawfulWork};
 

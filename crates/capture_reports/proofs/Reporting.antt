@@ -5,7 +5,7 @@ use Rattle.std.proofs.lemmas.List.Elements.{All-cons, All-head, All-nil, All-tai
 use Rattle.block_ring.specs.Texts.{AreTexts}
 use Rattle.frame_view.specs.declared.frames.Packet.{Packet}
 use Rattle.reader_walk.specs.Readers.{dump_by}
-use Rattle.reader_walk.specs.Takers.{Taken, taken_in}
+use Rattle.tp_layout.specs.Layouts.{Taken, taken_in}
 use Rattle.ring_model.specs.Fates.{kept_of}
 use Rattle.ring_model.specs.Offers.{packet_of}
 use Rattle.ring_model.specs.Ring.{IsWholeRun, state_of}

@@ -4,7 +4,7 @@ use Rattle.capture_file.specs.declared.cpu_end.CpuEnd.{CpuEnd}
 use Rattle.fanout_group.specs.Once.{IsGroupReport}
 use Rattle.fanout_group.specs.declared.runs.CpuLog.{CpuLog}
 use Rattle.reader_walk.specs.Readers.{dump_by, walked_of}
-use Rattle.reader_walk.specs.Takers.{Taken}
+use Rattle.tp_layout.specs.Layouts.{Taken}
 use Rattle.ring_model.specs.Ring.{IsWholeRun, state_of}
 use Rattle.ring_model.specs.declared.notes.Note.{Note}
 use Rattle.ring_words.specs.Pendings.{Pends}

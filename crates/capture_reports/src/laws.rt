@@ -6,7 +6,7 @@ ghost use Rattle.cpu_feed.specs.Closing.{AllClose, bytes_of, ends_of, firsts_of}
 ghost use Rattle.cpu_feed.specs.Feeding.{Feeding};
 ghost use Rattle.fanout_group.specs.declared.runs.CpuLog.{CpuLog};
 ghost use Rattle.member_turns.specs.Seats.{Seat};
-ghost use Rattle.reader_walk.specs.Takers.{taken_in};
+ghost use Rattle.tp_layout.specs.Layouts.{taken_in};
 ghost use Rattle.ring_model.specs.declared.notes.Note.{Note};
 ghost use Rattle.ring_words.specs.Pendings.{Pends};
 ghost use Rattle.ring_words.specs.Rings.{Entry};

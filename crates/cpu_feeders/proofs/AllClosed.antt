@@ -5,7 +5,8 @@ use Rattle.std.specs.List.{AllByRecursion, AllZip}
 use Rattle.capture_reports.specs.Closed.{IsClosedOver, IsRingOf, MemberLeft, locks_of, notes_of_members, rings_of}
 use Rattle.capture_reports.specs.Reported.{taken_of_notes}
 use Rattle.member_turns.specs.Seats.{Lock, Seat}
-use Rattle.reader_walk.specs.Takers.{Base, Taken, taken_in}
+use Rattle.reader_walk.specs.Takers.{Base}
+use Rattle.tp_layout.specs.Layouts.{Taken, taken_in}
 use Rattle.ring_model.specs.declared.notes.Note.{Note}
 use Rattle.ring_words.specs.Pendings.{Pends}
 use Rattle.ring_words.specs.Rings.{Entry}

@@ -15,7 +15,8 @@ use Rattle.cpu_feed.specs.Closing.{AllClose, bytes_of, ends_of, firsts_of}
 use Rattle.cpu_feed.specs.Feeding.{Feeding}
 use Rattle.fanout_group.specs.declared.runs.CpuLog.{CpuLog}
 use Rattle.member_turns.specs.Seats.{Lock, Seat}
-use Rattle.reader_walk.specs.Takers.{Base, Taken}
+use Rattle.reader_walk.specs.Takers.{Base}
+use Rattle.tp_layout.specs.Layouts.{Taken}
 use Rattle.ring_model.specs.declared.notes.Note.{Note}
 use Rattle.ring_words.specs.Pendings.{Pends}
 use Rattle.setup_text.specs.Runnable.{IsRunnable}

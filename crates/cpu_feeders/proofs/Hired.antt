@@ -9,7 +9,8 @@ use Rattle.cpu_feed.specs.Feeding.{Feeding}
 use Rattle.member_turns.specs.Entries.{may_note}
 use Rattle.member_turns.specs.Seats.{IsReady, Lock, Seat, own_of}
 use Rattle.member_turns.specs.declared.ring_base.RingBase.{RingBase}
-use Rattle.reader_walk.specs.Takers.{Base, Taken}
+use Rattle.reader_walk.specs.Takers.{Base}
+use Rattle.tp_layout.specs.Layouts.{Taken}
 use Rattle.ring_model.specs.declared.notes.Note.{Note}
 use Rattle.ring_words.specs.Rings.{Entry}
 use Rattle.ring_words.specs.TableEnds.{Walking}

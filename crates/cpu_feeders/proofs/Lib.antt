@@ -1,5 +1,4 @@
 pub mod Ticking
-pub mod Shapes
 pub mod StandLists
 pub mod WorkerOrder
 pub mod FedFeeders

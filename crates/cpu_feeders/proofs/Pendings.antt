@@ -4,7 +4,8 @@ use Rattle.std.specs.Prelude.{slice_get}
 use Rattle.std.proofs.lemmas.List.{length-append, length-map, length-take-le, map-append, take_more}
 use Rattle.std.proofs.lemmas.Option.{get_or_from_slice_get}
 use Rattle.member_turns.specs.Closings.{contents_of}
-use Rattle.reader_walk.specs.Takers.{Base, Taken, taken_in}
+use Rattle.reader_walk.specs.Takers.{Base}
+use Rattle.tp_layout.specs.Layouts.{Taken, taken_in}
 use Rattle.ring_words.specs.Rings.{Entry}
 use Rattle.tp_layout.specs.Writing.{ShapedBytes}
 use Rattle.cpu_feeders.specs.Walks.{taken_of}

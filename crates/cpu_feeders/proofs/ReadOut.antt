@@ -7,7 +7,8 @@ use Rattle.capture_reports.specs.Reported.{AreReported, IsReported}
 use Rattle.reader_walk.specs.Readers.{ReaderValue, base_of, dump_by, new_reader, number_of_flag, outputs_of, walked_of}
 use Rattle.reader_walk.specs.declared.outputs.Outputs.{Outputs}
 use Rattle.setup_text.specs.declared.reports.MemberReport.{MemberReport}
-use Rattle.reader_walk.specs.Takers.{Base, Taken}
+use Rattle.reader_walk.specs.Takers.{Base}
+use Rattle.tp_layout.specs.Layouts.{Taken}
 use Rattle.ring_model.specs.declared.notes.Note.{Note}
 use Rattle.ring_words.specs.Pendings.{Pends}
 use Rattle.tp_layout.specs.Writing.{ShapedBytes}

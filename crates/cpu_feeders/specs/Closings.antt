@@ -7,7 +7,8 @@ use Rattle.cpu_feeders.specs.declared.closed_members.Closed.{Closed}
 use Rattle.cpu_feeders.specs.declared.walker.Walker.{Walker}
 use Rattle.member_turns.specs.Entries.{table_numbers}
 use Rattle.member_turns.specs.Seats.{Lock, Seat}
-use Rattle.reader_walk.specs.Takers.{Base, Taken}
+use Rattle.reader_walk.specs.Takers.{Base}
+use Rattle.tp_layout.specs.Layouts.{Taken}
 use Rattle.turn_lock.specs.Seats.{IsIdleSeatOf}
 
 module _ {T : Type 0} (base_of : T → Base) (taken_by : T → List Taken) where

@@ -5,7 +5,8 @@ use Rattle.cpu_feeders.specs.FreshWorkers.{AreHired}
 use Rattle.cpu_feeders.specs.WorkerEffects.{IsDoneWorker}
 use Rattle.cpu_feeders.specs.declared.worker.Worker.{Worker}
 use Rattle.member_turns.specs.Seats.{Lock}
-use Rattle.reader_walk.specs.Takers.{Base, Taken}
+use Rattle.reader_walk.specs.Takers.{Base}
+use Rattle.tp_layout.specs.Layouts.{Taken}
 use Rattle.setup_text.specs.declared.jobs.Job.{Job}
 use Rattle.tap_outside.specs.Seen.{SourceSeen}
 use Rattle.ticket_dealer.specs.Seats.{DealerValue, SeatValue}

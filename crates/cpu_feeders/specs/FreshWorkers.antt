@@ -15,7 +15,8 @@ use Rattle.fanout_group.specs.Paths.{first_path}
 use Rattle.fanout_group.specs.Plans.{Shape}
 use Rattle.member_turns.specs.Entries.{table_numbers}
 use Rattle.member_turns.specs.Seats.{Lock}
-use Rattle.reader_walk.specs.Takers.{Base, Taken}
+use Rattle.reader_walk.specs.Takers.{Base}
+use Rattle.tp_layout.specs.Layouts.{Taken}
 use Rattle.setup_text.specs.declared.jobs.Job.{Job}
 use Rattle.tap_outside.specs.Seen.{SourceSeen}
 use Rattle.ticket_dealer.specs.Seats.{DealerValue, IsFreshOf, SeatValue}

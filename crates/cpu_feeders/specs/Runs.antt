@@ -4,7 +4,8 @@ use Rattle.capture_file.specs.declared.cpu_end.CpuEnd.{CpuEnd}
 use Rattle.capture_reading.specs.Sources.{AllGave}
 use Rattle.capture_reports.specs.Reported.{IsCaptured, IsGroupRun, taken_of_notes}
 use Rattle.fanout_group.specs.declared.runs.CpuLog.{CpuLog}
-use Rattle.reader_walk.specs.Takers.{Base, Taken}
+use Rattle.reader_walk.specs.Takers.{Base}
+use Rattle.tp_layout.specs.Layouts.{Taken}
 use Rattle.ring_model.specs.declared.notes.Note.{Note}
 use Rattle.ring_words.specs.Pendings.{Pends}
 use Rattle.run_reports.specs.Reports.{IsRunReport}

@@ -1,7 +1,8 @@
 -- What the reader of a member does.
 use Rattle.std.specs.Prelude.{◌≡◌, ◌++◌, false, List, length, map, replicate}
 use Rattle.cpu_feeders.specs.declared.walker.Walker.{Walker}
-use Rattle.reader_walk.specs.Takers.{Base, Taken, taken_in}
+use Rattle.reader_walk.specs.Takers.{Base}
+use Rattle.tp_layout.specs.Layouts.{Taken, taken_in}
 use Rattle.ring_words.specs.Rings.{Entry}
 use Rattle.ring_words.specs.TableEnds.{FoundEven, Walking}
 use Rattle.tp_layout.specs.Requests.{numbers_of}

@@ -9,7 +9,8 @@ use Rattle.cpu_feeders.specs.declared.walker.Walker.{Walker}
 use Rattle.cpu_feeders.specs.declared.worker.Worker.{Worker}
 use Rattle.cpu_feeders.specs.declared.worker.Worker.TheVariants as worker
 use Rattle.member_turns.specs.Seats.{Lock}
-use Rattle.reader_walk.specs.Takers.{Base, Taken}
+use Rattle.reader_walk.specs.Takers.{Base}
+use Rattle.tp_layout.specs.Layouts.{Taken}
 use Rattle.setup_text.specs.declared.jobs.Job.{Job}
 use Rattle.ticket_dealer.specs.Seats.{DealerValue, IsFreshOf}
 

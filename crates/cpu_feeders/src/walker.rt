@@ -2,7 +2,8 @@
 ghost use Rattle.std.specs.Prelude.{◌≡◌, ◌^◌, ◌<◌, false, [], ◌∷◌, ◌++◌, length};
 ghost use Rattle.cpu_feeders.specs.Walks.{FoundNone, HasWalked, Walks};
 ghost use Rattle.ring_words.specs.TableEnds.{FoundEven};
-ghost use Rattle.reader_walk.specs.Takers.{IsReadable, taken_in};
+ghost use Rattle.reader_walk.specs.Takers.{IsReadable};
+ghost use Rattle.tp_layout.specs.Layouts.{taken_in};
 ghost use Rattle.ticket_dealer.specs.Seats.{IsFreshOf};
 
 use crate::{Gate, Idler, Point};

@@ -47,14 +47,14 @@ fn do_act(alloc: Global, ring: &mut Ring, reader: &mut SlotReader, act: Act) -> 
     requires kind { ring.old.end.kind ≡ numbers_of reader.old.shape }
     requires hand { has_block ring.old.end ≡ false }
     requires held { reader.old.held ≡ None }
-    requires read { reader.old.outputs.blocks < 1000 }
+    requires read { length reader.old.taken < 1000 }
     ensures shape { IfOk result (λ came. ring.new.shape ≡ ring.old.shape) }
     ensures few { IfOk result (λ came. length ring.new.notes ≤ length ring.old.notes + 1) }
     ensures kind { IfOk result (λ came. ring.new.end.kind ≡ numbers_of reader.new.shape) }
     ensures hand { IfOk result (λ came. has_block ring.new.end ≡ false) }
     ensures held { IfOk result (λ came. reader.new.held ≡ None) }
     ensures read { IfOk result
-        (λ came. reader.new.outputs.blocks ≤ reader.old.outputs.blocks + 1) }
+        (λ came. length reader.new.taken ≤ length reader.old.taken + 1) }
 {
     match act {
         Act::Put(index) => match put(alloc, ring, index)? {

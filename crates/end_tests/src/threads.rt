@@ -81,7 +81,7 @@ fn read_all(
     requires kind { walker.kind ≡ numbers_of reader.shape }
     requires held { reader.held ≡ None }
     requires hand { walker.in_hand ≡ false }
-    requires none { reader.outputs.blocks ≡ 0 }
+    requires taken { reader.taken ≡ [] }
     ensures ring { IfOk result (λ read. read.1.id ≡ walker.id) }
     ensures hand { IfOk result (λ read. read.1.in_hand ≡ false) }
 {
@@ -119,7 +119,7 @@ fn pass_on<R: Threads + Sync>(
         { feed_all(alloc, ring, count) },
         move || -> Result<((u64, usize, bool), TableWalker<Slot>), Memory>
             requires { (walker.kind ≡ numbers_of reader.shape) × (reader.held ≡ None)
-                × (walker.in_hand ≡ false) × (reader.outputs.blocks ≡ 0) }
+                × (walker.in_hand ≡ false) × (reader.taken ≡ []) }
             ensures { IfOk result (λ read. (read.1.id ≡ walker.id) × (read.1.in_hand ≡ false)) }
         { read_all(reader, walker, count as u64) },
     );

@@ -1,66 +1,69 @@
--- A reader with a block more.
-use Rattle.std.proofs.Common.{◌≡◌, ℕ, List, [], ◌∷◌, ◌++◌, length, refl, sym}
-use Rattle.std.specs.Prelude.{OnErr, OnOk, Result, Ok, Err}
-use Rattle.frame_view.specs.declared.frames.Packet.{Packet}
+-- A reader with a block or a slot more.
+use Rattle.std.proofs.Common.{◌≡◌, ℕ, Bool, List, [], ◌∷◌, ◌++◌, ◌∙◌, ap, refl, subst, sym}
+use Rattle.std.specs.Prelude.{OnErr, OnOk, Option, Result, Ok, Err}
 use Rattle.frame_view.specs.declared.want.Memory.{Memory}
-use Rattle.reader_walk.specs.ReadersInside.{IsSound, blocks_of}
-use Rattle.reader_walk.specs.Takers.{taken_in}
-use Rattle.tp_layout.specs.Faults.{packets_of}
-use Rattle.tp_layout.specs.Rows.{number_at}
+use Rattle.tp_layout.specs.Layouts.{Taken}
 use Rattle.tp_layout.specs.declared.requests.RingRequest.{RingRequest}
-use Rattle.reader_walk.specs.Texts.{text_by}
-use Rattle.reader_walk.specs.declared.piles.Mark.{Mark}
+use Rattle.reader_walk.specs.Readers.{ReaderValue, has_read}
+use Rattle.reader_walk.specs.ReadersInside.{IsSound, blocks_of, mark_of, reader_value}
+use Rattle.reader_walk.specs.Texts.{kept_if}
 use Rattle.reader_walk.specs.declared.piles.Pile.{Pile}
-use Rattle.reader_walk.specs.declared.reader.Reader.TheInside.{Inside}
-use Rattle.reader_walk.proofs.Heaps.{block_by, counted_more, dump_more, one_more}
+use Rattle.reader_walk.proofs.Heaps.{counted_more, dump_more, one_more}
 
--- a block was added to what was read, or all is as before
-pub record Adds (mark : Mark) (packets : List Packet) (text : List ℕ) (before after : Pile) (result : Result (Unit {0}) Memory) : Type 0 where
-  pub marks : OnOk result (after.marks.items ≡ before.marks.items ++ mark ∷ [])
-  pub walked : OnOk result (after.walked.items ≡ before.walked.items ++ packets)
+-- what was taken was added to what was read, with this of its text, or all is as before
+pub record Adds (taken : Taken) (text : List ℕ) (before after : Pile) (result : Result (Unit {0}) Memory) : Type 0 where
+  pub marks : OnOk result (after.marks.items ≡ before.marks.items ++ mark_of taken ∷ [])
+  pub walked : OnOk result (after.walked.items ≡ before.walked.items ++ taken.packets)
   pub dump : OnOk result (after.dump.items ≡ before.dump.items ++ text)
   pub same_marks : OnErr result (after.marks.items ≡ before.marks.items)
   pub same_walked : OnErr result (after.walked.items ≡ before.walked.items)
   pub same_dump : OnErr result (after.dump.items ≡ before.dump.items)
 
-pub sound_after : (r : Inside) (pile : Pile) (mark : Mark) (packets : List Packet) (text : List ℕ) (result : Result (Unit {0}) Memory)
-    → IsSound r → mark.packets ≡ length packets → text ≡ text_by r.dumps r.shape (block_by mark packets)
-    → Adds mark packets text r.pile pile result → IsSound (record r { pile = pile })
-sound_after r pile mark packets text (Ok u) sound count is adds = record {
-  counted = rw (adds.marks, adds.walked) (counted_more r.pile.marks.items mark r.pile.walked.items packets sound.counted count);
-  dump = rw (adds.dump, adds.marks, adds.walked, sound.dump, is, one_more r.pile.marks.items mark r.pile.walked.items packets sound.counted count)
-      (sym (dump_more r.dumps r.shape (blocks_of r.pile) (block_by mark packets)));
-  readable = sound.readable;
+sound_with : (text : RingRequest → Taken → List ℕ) (shape : RingRequest) (dumps : Bool) (before after : Pile) (taken : Taken)
+    (result : Result (Unit {0}) Memory) → IsSound text shape dumps before
+    → Adds taken (kept_if dumps (text shape taken)) before after result → IsSound text shape dumps after
+sound_with text shape dumps before after taken (Ok u) sound adds = record {
+  counted = rw (adds.marks, adds.walked) (counted_more before.marks.items before.walked.items taken sound.counted);
+  dump = rw (adds.dump, adds.marks, adds.walked, sound.dump, one_more before.marks.items before.walked.items taken sound.counted)
+      (sym (dump_more text dumps shape (blocks_of before) taken));
 }
-sound_after r pile mark packets text (Err e) sound count is adds = record {
+sound_with text shape dumps before after taken (Err e) sound adds = record {
   counted = rw (adds.same_marks, adds.same_walked) sound.counted;
   dump = rw (adds.same_dump, adds.same_marks, adds.same_walked) sound.dump;
-  readable = sound.readable;
 }
 
-pub taken_after : (r : Inside) (pile : Pile) (mark : Mark) (packets : List Packet) (text : List ℕ) (result : Result (Unit {0}) Memory)
-    → IsSound r → mark.packets ≡ length packets → Adds mark packets text r.pile pile result
-    → OnOk result (blocks_of pile ≡ blocks_of r.pile ++ block_by mark packets ∷ [])
-taken_after r pile mark packets text (Ok u) sound count adds =
-    rw (adds.marks, adds.walked) (one_more r.pile.marks.items mark r.pile.walked.items packets sound.counted count)
-taken_after r pile mark packets text (Err e) sound count adds = tt
+ok_with : (text : RingRequest → Taken → List ℕ) (taken_in : RingRequest → List ℕ → Taken) (shape : RingRequest) (dumps : Bool)
+    (held : Option (List ℕ)) (bytes : List ℕ) (before after : Pile) (value : ReaderValue) (kept : List ℕ) (result : Result (Unit {0}) Memory)
+    → reader_value shape dumps before held ≡ value → IsSound text shape dumps before → Adds (taken_in shape bytes) kept before after result
+    → OnOk result (reader_value shape dumps after held ≡ record (has_read taken_in bytes value) { held = value.held })
+ok_with text taken_in shape dumps held bytes before after value kept (Ok u) view sound adds =
+    ap (λ (blocks : List Taken). record (reader_value shape dumps before held) { taken = blocks })
+    (rw (adds.marks, adds.walked) (one_more before.marks.items before.walked.items (taken_in shape bytes) sound.counted))
+    ∙ ap (λ (v : ReaderValue). record (has_read taken_in bytes v) { held = v.held }) view
+ok_with text taken_in shape dumps held bytes before after value kept (Err e) view sound adds = tt
 
-pub same_after : (r : Inside) (pile : Pile) (mark : Mark) (packets : List Packet) (text : List ℕ) (result : Result (Unit {0}) Memory)
-    → Adds mark packets text r.pile pile result → OnErr result (blocks_of pile ≡ blocks_of r.pile)
-same_after r pile mark packets text (Ok u) adds = tt
-same_after r pile mark packets text (Err e) adds = rw (adds.same_marks, adds.same_walked) refl
+err_with : (taken : Taken) (kept : List ℕ) (shape : RingRequest) (dumps : Bool) (held : Option (List ℕ)) (before after : Pile)
+    (value : ReaderValue) (result : Result (Unit {0}) Memory) → reader_value shape dumps before held ≡ value
+    → Adds taken kept before after result → OnErr result (reader_value shape dumps after held ≡ value)
+err_with taken kept shape dumps held before after value (Ok u) view adds = tt
+err_with taken kept shape dumps held before after value (Err e) view adds =
+    ap (λ (blocks : List Taken). record (reader_value shape dumps before held) { taken = blocks })
+    (rw (adds.same_marks, adds.same_walked) refl) ∙ view
 
--- a block as it is read
-pub is_taken : (shape : RingRequest) (bytes : List ℕ) (mark : Mark) (packets : List Packet) → mark.number ≡ number_at 8 24 bytes
-    → mark.status ≡ number_at 4 8 bytes → packets ≡ packets_of shape bytes → block_by mark packets ≡ taken_in shape bytes
-unfolding taken_in
-is_taken shape bytes mark packets number status all = rw (number, status, all) refl
+-- a block or a slot of its own shape, which is the reader's, was added or not
+module _ (text : RingRequest → Taken → List ℕ) (taken_in : RingRequest → List ℕ → Taken) (own shape : RingRequest) (dumps : Bool)
+    (held : Option (List ℕ)) (bytes : List ℕ) (before after : Pile) (value : ReaderValue) (result : Result (Unit {0}) Memory)
+    (is_own : own ≡ value.shape) (view : reader_value shape dumps before held ≡ value) (sound : IsSound text shape dumps before)
+    (adds : Adds (taken_in own bytes) (kept_if dumps (text own (taken_in own bytes))) before after result) where
+  added : Adds (taken_in shape bytes) (kept_if dumps (text shape (taken_in shape bytes))) before after result
+  added = subst (λ (s : RingRequest). Adds (taken_in s bytes) (kept_if dumps (text s (taken_in s bytes))) before after result)
+      (is_own ∙ sym (ap (λ (v : ReaderValue). v.shape) view)) adds
 
--- what follows where a block was added, and where it wasn't
-pub on_ok : {P Q : Type 0} (result : Result (Unit {0}) Memory) → (P → Q) → OnOk result P → OnOk result Q
-on_ok (Ok u) f p = f p
-on_ok (Err e) f p = tt
+  pub sound_after : IsSound text shape dumps after
+  sound_after = sound_with text shape dumps before after (taken_in shape bytes) result sound added
 
-pub on_err : {P Q : Type 0} (result : Result (Unit {0}) Memory) → (P → Q) → OnErr result P → OnErr result Q
-on_err (Ok u) f p = tt
-on_err (Err e) f p = f p
+  pub ok_after : OnOk result (reader_value shape dumps after held ≡ record (has_read taken_in bytes value) { held = value.held })
+  ok_after = ok_with text taken_in shape dumps held bytes before after value _ result view sound added
+
+  pub err_after : OnErr result (reader_value shape dumps after held ≡ value)
+  err_after = err_with _ _ shape dumps held before after value result view added

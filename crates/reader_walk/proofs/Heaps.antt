@@ -5,16 +5,12 @@ use Rattle.std.proofs.lemmas.Grind.{flat_map-append}
 use Rattle.std.proofs.lemmas.List.{append-nil, take-append-drop, take-append-le, drop-append-le, length-take-le, length-append}
 use Rattle.std.specs.Prelude.{flat_map}
 use Rattle.frame_view.specs.declared.frames.Packet.{Packet}
-use Rattle.reader_walk.specs.Readers.{dump_by, walked_of, texts_of}
-use Rattle.reader_walk.specs.ReadersInside.{packets_in, taken_by}
-use Rattle.reader_walk.specs.Takers.{Taken}
-use Rattle.reader_walk.specs.Texts.{text_by, text_of_taken}
-use Rattle.reader_walk.specs.declared.piles.Mark.{Mark}
+use Rattle.tp_layout.specs.Layouts.{Taken}
 use Rattle.tp_layout.specs.declared.requests.RingRequest.{RingRequest}
-
--- a block of a mark and its packets
-abbrev pub block_by : Mark → List Packet → Taken
-block_by mark packets = record { number = mark.number; status = mark.status; packets = packets }
+use Rattle.reader_walk.specs.Readers.{kept_texts, texts_by, walked_of}
+use Rattle.reader_walk.specs.ReadersInside.{mark_of, packets_in, taken_by}
+use Rattle.reader_walk.specs.Texts.{kept_if}
+use Rattle.reader_walk.specs.declared.piles.Mark.{Mark}
 
 pub as_many : (marks : List Mark) (packets : List Packet) → length (taken_by marks packets) ≡ length marks
 unfolding taken_by
@@ -38,39 +34,34 @@ all_walked (mark ∷ marks) packets e =
     (take-append-drop mark.packets packets)
 
 -- a block more
-pub one_more : (marks : List Mark) (mark : Mark) (packets more : List Packet) → packets_in marks ≡ length packets → mark.packets ≡ length more
-    → taken_by (marks ++ mark ∷ []) (packets ++ more) ≡ taken_by marks packets ++ block_by mark more ∷ []
+pub one_more : (marks : List Mark) (packets : List Packet) (more : Taken) → packets_in marks ≡ length packets
+    → taken_by (marks ++ mark_of more ∷ []) (packets ++ more.packets) ≡ taken_by marks packets ++ more ∷ []
 unfolding taken_by
-one_more [] mark [] more e m = rw (m, take-length more) refl
-one_more [] mark (packet ∷ packets) more e m = cc
-one_more (first ∷ marks) mark packets more e m =
+one_more [] [] more e = rw (take-length more.packets) refl
+one_more [] (packet ∷ packets) more e = cc
+one_more (first ∷ marks) packets more e =
     let short : first.packets ≤ length packets = omega arith in
     rw (
-      take-append-le first.packets packets more short,
-      drop-append-le first.packets packets more short,
-      one_more marks mark (drop first.packets packets) more (length_drop first.packets (packets_in marks) packets e) m,
+      take-append-le first.packets packets more.packets short,
+      drop-append-le first.packets packets more.packets short,
+      one_more marks (drop first.packets packets) more (length_drop first.packets (packets_in marks) packets e),
     ) refl
 
-pub counted_more : (marks : List Mark) (mark : Mark) (packets more : List Packet) → packets_in marks ≡ length packets → mark.packets ≡ length more
-    → packets_in (marks ++ mark ∷ []) ≡ length (packets ++ more)
-counted_more [] mark packets more e m =
-    let split = length-append packets more in omega arith
-counted_more (first ∷ marks) mark packets more e m =
-    let rest = counted_more marks mark (drop first.packets packets) more (length_drop first.packets (packets_in marks) packets e) m in
-    let split = length-append (drop first.packets packets) more in
-    let all = length-append packets more in
+pub counted_more : (marks : List Mark) (packets : List Packet) (more : Taken) → packets_in marks ≡ length packets
+    → packets_in (marks ++ mark_of more ∷ []) ≡ length (packets ++ more.packets)
+counted_more [] packets more e =
+    let split = length-append packets more.packets in omega arith
+counted_more (first ∷ marks) packets more e =
+    let rest = counted_more marks (drop first.packets packets) more (length_drop first.packets (packets_in marks) packets e) in
+    let split = length-append (drop first.packets packets) more.packets in
+    let all = length-append packets more.packets in
     let left = length_drop first.packets (packets_in marks) packets e in
     omega arith
 
--- its text follows the others
-pub text_more : (shape : RingRequest) (taken : List Taken) (block : Taken)
-    → texts_of shape (taken ++ block ∷ []) ≡ texts_of shape taken ++ text_of_taken shape block
-unfolding texts_of
-text_more shape taken block =
-    flat_map-append (text_of_taken shape) taken (block ∷ []) ∙ ap (λ (rest : List ℕ). flat_map (text_of_taken shape) taken ++ rest) (append-nil (text_of_taken shape block))
-
--- and what is kept of it
-pub dump_more : (dumps : Bool) (shape : RingRequest) (taken : List Taken) (block : Taken)
-    → dump_by dumps shape (taken ++ block ∷ []) ≡ dump_by dumps shape taken ++ text_by dumps shape block
-dump_more true shape taken block = text_more shape taken block
-dump_more false shape taken block = refl
+-- what is kept of its text follows the others
+pub dump_more : (text : RingRequest → Taken → List ℕ) (dumps : Bool) (shape : RingRequest) (taken : List Taken) (more : Taken)
+    → kept_texts text dumps shape (taken ++ more ∷ []) ≡ kept_texts text dumps shape taken ++ kept_if dumps (text shape more)
+unfolding texts_by
+dump_more text true shape taken more =
+    flat_map-append (text shape) taken (more ∷ []) ∙ ap (λ (rest : List ℕ). flat_map (text shape) taken ++ rest) (append-nil (text shape more))
+dump_more text false shape taken more = refl

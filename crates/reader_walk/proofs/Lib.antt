@@ -1,4 +1,4 @@
 mod Adding
 mod Heaps
-mod Numbers
+mod Units
 mod Telling

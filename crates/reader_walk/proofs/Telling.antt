@@ -1,24 +1,15 @@
--- A block that begins with a lawful text is read as what the text says.
-use Rattle.std.proofs.Common.{◌≡◌, ℕ, ◌*◌, ◌≤◌, List, [], ◌∷◌, length, refl, subst, sym, arith}
+-- How many packets a block has that begins with a lawful text.
+use Rattle.std.proofs.Common.{ℕ, ◌*◌, ◌≤◌, List, [], ◌∷◌, length, subst, sym, arith}
 use Rattle.std.proofs.Math.Logic.{∥∥₁_elim}
 use Rattle.std.proofs.Props.{props}
 use Rattle.frame_view.specs.declared.frames.Packet.{Packet}
-use Rattle.tp_layout.proofs.Answering.{begins_stands}
 use Rattle.tp_layout.proofs.Opens.{needs-cons}
-use Rattle.tp_layout.specs.Blocks.{BeginsWith, end_may, needs_of}
+use Rattle.tp_layout.proofs.Telling.{tells}
+use Rattle.tp_layout.specs.Blocks.{BeginsWith, needs_of}
+use Rattle.tp_layout.specs.Layouts.{Taken, taken_in}
 use Rattle.tp_layout.specs.Writing.{ShapedBytes}
 use Rattle.tp_layout.specs.declared.requests.RingRequest.{RingRequest}
-use Rattle.reader_walk.specs.Takers.{IsReadable, Taken, taken_in}
-
-pub tells : (shape : RingRequest) (number status : ℕ) (packets : List Packet) (bytes : List ℕ) → shape.block_size ≤ 1048576
-    → BeginsWith shape number status packets bytes
-    → taken_in shape bytes ≡ record { number = number; status = status; packets = packets }
-unfolding taken_in
-tells shape number status packets bytes small begins =
-    let stands = begins_stands (end_may shape) shape number status packets bytes small (λ end may. may) begins in
-    rw (stands.number_is, stands.status_is, stands.packets_are) refl
-
--- ---- how many packets a block has
+use Rattle.reader_walk.specs.Takers.{IsReadable}
 
 -- each packet takes at least 80 bytes
 needs_80 : (packets : List Packet) → 80 * length packets ≤ needs_of packets
@@ -37,5 +28,5 @@ pub few_packets : (shape : RingRequest) (block : ShapedBytes) → block.shape.bl
     → length (taken_in shape block.bytes).packets ≤ 16383
 few_packets shape block sound readable =
     let text = readable.text in
-    let small = subst (λ (s : RingRequest). s.block_size ≤ 1048576) readable.shape_is sound in
-    ∥∥₁_elim text.2 (search props) (λ found. few_in_text shape text.0 text.1 found.0 block.bytes small found.1)
+    subst (λ (s : RingRequest). length (taken_in s block.bytes).packets ≤ 16383) readable.shape_is
+    (∥∥₁_elim text.2 (search props) (λ found. few_in_text block.shape text.0 text.1 found.0 block.bytes sound found.1))

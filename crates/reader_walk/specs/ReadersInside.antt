@@ -1,11 +1,15 @@
 -- What the fields of a reader stand for.
-use Rattle.std.specs.Prelude.{◌≡◌, ℕ, ◌+◌, List, [], ◌∷◌, length, take, drop, IfSome, option_map}
+use Rattle.std.specs.Prelude.{◌≡◌, ℕ, ◌+◌, Bool, List, [], ◌∷◌, length, take, drop, Option}
 use Rattle.frame_view.specs.declared.frames.Packet.{Packet}
-use Rattle.reader_walk.specs.Readers.{ReaderValue, dump_by}
-use Rattle.reader_walk.specs.Takers.{IsReadable, Taken}
+use Rattle.tp_layout.specs.Layouts.{Taken}
+use Rattle.tp_layout.specs.declared.requests.RingRequest.{RingRequest}
+use Rattle.reader_walk.specs.Readers.{ReaderValue, kept_texts}
 use Rattle.reader_walk.specs.declared.piles.Mark.{Mark}
 use Rattle.reader_walk.specs.declared.piles.Pile.{Pile}
-use Rattle.reader_walk.specs.declared.reader.Reader.TheInside.{Inside}
+
+-- what is kept of a block or a slot beside its packets
+abbrev pub mark_of : Taken → Mark
+mark_of taken = record { number = taken.number; status = taken.status; packets = length taken.packets }
 
 -- the blocks of some marks, whose packets stand one after another
 unfoldable pub taken_by : List Mark → List Packet → List Taken
@@ -18,21 +22,15 @@ taken_by (mark ∷ marks) packets =
 abbrev pub blocks_of : Pile → List Taken
 blocks_of pile = taken_by pile.marks.items pile.walked.items
 
-abbrev pub reader_value : Inside → ReaderValue
-reader_value reader = record {
-  shape = reader.shape;
-  dumps = reader.dumps;
-  taken = blocks_of reader.pile;
-  held = option_map (λ block. block.bytes) reader.held;
-}
+abbrev pub reader_value : RingRequest → Bool → Pile → Option (List ℕ) → ReaderValue
+reader_value shape dumps pile held = record { shape = shape; dumps = dumps; taken = blocks_of pile; held = held }
 
 -- how many packets the blocks of some marks have
 abbrev pub packets_in : List Mark → ℕ
 packets_in [] = 0
 packets_in (mark ∷ marks) = mark.packets + packets_in marks
 
--- what the fields keep
-pub record IsSound (reader : Inside) : Type 0 where
-  pub counted : packets_in reader.pile.marks.items ≡ length reader.pile.walked.items
-  pub dump : reader.pile.dump.items ≡ dump_by reader.dumps reader.shape (blocks_of reader.pile)
-  pub readable : IfSome reader.held (IsReadable reader.shape)
+-- what the fields keep of what was read, where this is the text of one block or slot
+pub record IsSound (text : RingRequest → Taken → List ℕ) (shape : RingRequest) (dumps : Bool) (pile : Pile) : Type 0 where
+  pub counted : packets_in pile.marks.items ≡ length pile.walked.items
+  pub dump : pile.dump.items ≡ kept_texts text dumps shape (blocks_of pile)

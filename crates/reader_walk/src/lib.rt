@@ -9,5 +9,5 @@ mod taker;
 
 pub use laws::{a_block_has_few_packets, a_text_is_read_as_it_was_written};
 pub use outputs::Outputs;
-pub use reader::Reader;
+pub use reader::{Reader, RingReader};
 pub use taker::Taker;

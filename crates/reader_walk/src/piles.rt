@@ -1,11 +1,12 @@
-//! The packets of the blocks that were read, and what tells them apart again.
-ghost use Rattle.std.specs.Prelude.{◌≡◌, [], ◌∷◌, ◌++◌, length, OnErr, OnOk};
+//! The packets of the blocks or slots that were read, and what tells them apart again.
+ghost use Rattle.std.specs.Prelude.{◌≡◌, ℕ, [], ◌∷◌, ◌++◌, OnErr, OnOk};
+ghost use Rattle.reader_walk.specs.Texts.{kept_if};
 
 use frame_view::{Memory, Packet};
 use std::alloc::Global;
-use tp_layout::PacketWalk;
+use tp_layout::Layout;
 
-/// What is kept of a block beside its packets.
+/// What is kept of a block or a slot beside its packets.
 #[derive(Clone, Copy)]
 pub(crate) struct Mark {
     /// Its number.
@@ -19,7 +20,7 @@ pub(crate) struct Mark {
 /// What was read.
 #[derive(Drop)]
 pub(crate) struct Pile {
-    /// The blocks, in order.
+    /// The blocks or slots, in order.
     pub(crate) marks: Vec<Mark>,
     /// Their packets, in order.
     pub(crate) walked: Vec<Packet>,
@@ -28,34 +29,39 @@ pub(crate) struct Pile {
 }
 
 impl Pile {
-    /// Adds a block of this number and status with copies of its packets, and with what is kept of its text. After
-    /// `Memory` all is as before.
-    pub(crate) fn add(
+    ghost use Rattle.reader_walk.specs.ReadersInside.{mark_of};
+
+    /// Adds a block or a slot that may stand retired, with copies of its packets, and with its text where texts are
+    /// kept. After `Memory` all is as before.
+    pub(crate) fn add<B: Layout>(
         &mut self,
         alloc: Global,
-        number: u64,
-        status: u32,
-        packets: PacketWalk<'_>,
-        text: &[u8],
+        unit: &B,
+        dumps: bool,
     ) -> Result<(), Memory>
+        requires ready { (number : ℕ) × (status : ℕ) × B.ready unit.now number status }
         ensures marks { OnOk result (self.new.marks.items ≡ self.old.marks.items
-            ++ record { number = number; status = status; packets = length packets.entry } ∷ []) }
-        ensures walked { OnOk result
-            (self.new.walked.items ≡ self.old.walked.items ++ packets.entry) }
-        ensures dump { OnOk result (self.new.dump.items ≡ self.old.dump.items ++ text.now) }
+            ++ mark_of (B.taken_in (B.shape unit.now) (B.bytes unit.now)) ∷ []) }
+        ensures walked { OnOk result (self.new.walked.items ≡ self.old.walked.items
+            ++ (B.taken_in (B.shape unit.now) (B.bytes unit.now)).packets) }
+        ensures dump { OnOk result (self.new.dump.items ≡ self.old.dump.items ++ kept_if dumps
+            (B.text_of (B.shape unit.now) (B.taken_in (B.shape unit.now) (B.bytes unit.now)))) }
         ensures same_marks { OnErr result (self.new.marks.items ≡ self.old.marks.items) }
         ensures same_walked { OnErr result (self.new.walked.items ≡ self.old.walked.items) }
         ensures same_dump { OnErr result (self.new.dump.items ≡ self.old.dump.items) }
     {
         self.marks.reserve(1)?;
         let texts = self.dump.len();
-        self.dump.extend_from_slice(text)?;
+        if dumps {
+            self.dump.extend_from_slice(unit.text())?;
+        }
         let earlier = self.walked.len();
-        if packets.push_copies(alloc, &mut self.walked).is_err() {
+        if unit.push_packets(alloc, &mut self.walked).is_err() {
             self.walked.truncate(earlier);
             self.dump.truncate(texts);
             return Err(Memory);
         }
+        let (number, status) = unit.head();
         self.marks.push_reserved(Mark {
             number,
             status,

@@ -1,14 +1,11 @@
-//! A reader: it takes each retired block of a ring, copies its packets, and gives the block back.
+//! A reader: it takes each retired block of a ring, or each filled slot, copies its packets, and gives it back.
 //!
-//! A step looks once at the next block. Where the block was retired the reader takes it, walks over its packets, and
-//! releases it with the word of a free block (TP_STATUS_KERNEL, 0). Out of memory in between it keeps the
-//! block, and the next step goes on with it: no packet is lost and none is read twice.
-ghost use Rattle.std.specs.Prelude.{◌≡◌, ◌≢◌, ◌+◌, ◌<◌, ◌≤◌, ◌^◌, ℕ, List, Bool, true, false, None, Some, Ok, length, is_some, IfNone, IfOk, IfSome, IsTrue, OnErr, OnOk, OnSome};
+//! A step looks once at the next block or slot. Where it was retired the reader takes it, walks over its packets, and
+//! releases it with the word of a free one (TP_STATUS_KERNEL, 0). Out of memory in between it keeps it, and the next
+//! step goes on with it: no packet is lost and none is read twice.
+ghost use Rattle.std.specs.Prelude.{◌≡◌, ◌≢◌, ◌+◌, ◌<◌, ◌≤◌, ◌^◌, ℕ, List, false, None, Some, Ok, length, is_some, IfNone, IfOk, IfSome, IsTrue, OnErr, OnOk, OnSome};
 ghost use Rattle.ring_words.specs.Counts.{Rose};
-ghost use Rattle.reader_walk.specs.Texts.{text_by, text_of_taken};
-ghost use Rattle.reader_walk.specs.Takers.{IsReadable, taken_in};
 ghost use Rattle.tp_layout.specs.Requests.{numbers_of};
-ghost use Rattle.tp_layout.specs.Rows.{number_at};
 
 use crate::piles::Pile;
 use crate::{Outputs, Taker};
@@ -16,48 +13,55 @@ use frame_view::{ByteList, Memory, Packet, Packets};
 use ring_words::WalkerEnd;
 use std::alloc::Global;
 use std::marker::Model;
-use tp_layout::fields::{u32_at, u64_at};
-use tp_layout::{Block, Shape, a_shape_is_sound, packets_of, text_of};
+use tp_layout::{Block, Layout, Shape};
 
-/// TP_STATUS_KERNEL of `linux/if_packet.h`: the word of a free block.
+/// TP_STATUS_KERNEL of `linux/if_packet.h`: the word of a free block or slot.
 const FREE: u32 = 0;
 
-/// Reads the blocks of a ring. Contracts see the blocks that it has read, and the one that it holds.
+/// Reads the blocks or the slots of a ring. Contracts see those that it has read, and the one that it holds.
 #[derive(Drop)]
-pub struct Reader {
+pub struct RingReader<B: Layout> {
     /// Gives the memory for the copies.
     alloc: Global,
-    /// The shape of the blocks.
+    /// The shape of the ring.
     shape: Shape,
-    /// Whether the texts of the blocks are kept.
+    /// Whether texts are kept.
     dumps: bool,
     /// What was read.
     pile: Pile,
-    /// A block that was taken and not read, since memory was wanted.
-    held: Option<Block>,
+    /// A block or a slot that was taken and not read, since memory was wanted.
+    held: Option<B>,
 }
 
-impl Model for Reader {
+/// The reader of a ring of blocks (TPACKET_V3).
+pub type Reader = RingReader<Block>;
+
+impl<B: Layout> Model for RingReader<B> {
+    ghost use Rattle.std.specs.Prelude.{IfSome, option_map};
     ghost use Rattle.reader_walk.specs.Readers.{ReaderValue};
 
     ghost Value = { ReaderValue };
 
-    ghost use Rattle.reader_walk.specs.ReadersInside.{reader_value, IsSound};
+    ghost use Rattle.reader_walk.specs.ReadersInside.{IsSound, reader_value};
+    ghost use Rattle.reader_walk.specs.Takers.{IsRetiredUnit};
 
-    ghost view = { reader_value };
+    ghost view = { λ reader.
+        reader_value reader.shape reader.dumps reader.pile (option_map B.bytes reader.held) };
 
-    ghost invariant = { IsSound };
+    ghost invariant = { λ reader. IsSound B.text_of reader.shape reader.dumps reader.pile
+        × IfSome reader.held (IsRetiredUnit B.shape B.ready reader.shape) };
 }
 
-impl Reader {
-    ghost use Rattle.reader_walk.specs.Readers.{ComesFrom, GivesBack, Keeps, Reads, has_read, new_reader, outputs_of, walked_of};
+impl<B: Layout> RingReader<B> {
+    ghost use Rattle.reader_walk.specs.Readers.{ComesFrom, GivesBack, Keeps, Reads, has_read, new_reader, outputs_by, walked_of};
+    ghost use Rattle.reader_walk.specs.Takers.{IsRetiredUnit};
 
-    /// A reader that has read nothing, and that keeps the texts of its blocks where it is asked to. It takes no memory.
-    #[tactic(auto, unfolding(crate::specs::ReadersInside::taken_by, crate::specs::Readers::texts_of))]
-    pub fn new(alloc: Global, shape: Shape, dump: bool) -> Reader
+    /// A reader that has read nothing, and that keeps texts where it is asked to. It takes no memory.
+    #[tactic(auto, unfolding(crate::specs::ReadersInside::taken_by, crate::specs::Readers::texts_by))]
+    pub fn new(alloc: Global, shape: Shape, dump: bool) -> RingReader<B>
         ensures { result ≡ new_reader shape dump }
     {
-        Reader {
+        RingReader {
             alloc,
             shape,
             dumps: dump,
@@ -70,22 +74,22 @@ impl Reader {
         }
     }
 
-    /// Takes one block of a ring, reads it and gives it back; `false` where no block waits. After `Memory` the block
-    /// stays in the reader unread, and the next step goes on with it.
-    pub fn step<W: WalkerEnd<Block>>(&mut self, end: &mut W) -> Result<bool, Memory>
+    /// Takes one block or slot of a ring, reads it and gives it back; `false` where none waits. After `Memory` it stays
+    /// in the reader unread, and the next step goes on with it.
+    pub fn step<W: WalkerEnd<B>>(&mut self, end: &mut W) -> Result<bool, Memory>
         requires kind { (W.walk end.old).ring.kind ≡ numbers_of self.old.shape }
         requires hand { (W.walk end.old).in_hand ≡ is_some self.old.held }
         requires few { length self.old.taken < 2 ^ 55 }
 
-        // One block more is read: the one that it held, or else the one that was taken in this call.
+        // One block or slot more is read: the one that it held, or else the one that was taken in this call.
         ensures read { IfOk result (λ stepped. IsTrue stepped
-            → Reads (W.took end.old end.new) self.old self.new) }
+            → Reads B.taken_in (W.took end.old end.new) self.old self.new) }
 
-        // That block was given back.
+        // That one was given back.
         ensures gave_back { IfOk result (λ stepped. IsTrue stepped
             → GivesBack W.took W.gave_back self.old.held end.old end.new) }
 
-        // No block was there: a look found none, and nothing changes but the count of such looks.
+        // None was there: a look found none, and nothing changes but the count of such looks.
         ensures none { IfOk result (λ stepped. stepped ≡ false → self.old.held ≡ None) }
         ensures same { IfOk result (λ stepped. stepped ≡ false → self.new ≡ self.old) }
         ensures stays { IfOk result (λ stepped. stepped ≡ false → W.stays end.old end.new) }
@@ -96,49 +100,49 @@ impl Reader {
         ensures waiting { IfOk result (λ stepped. stepped ≡ false
             → (blocks : ℕ) → (W.walk end.old).waiting ≡ Some blocks → blocks ≡ 0) }
 
-        // Where it has a block, no look found none.
+        // Where it has one, no look found none.
         ensures found { result ≢ Ok false
             → (W.walk end.new).empties ≡ (W.walk end.old).empties }
 
-        // After `Memory` the block is in the reader.
+        // After `Memory` it is in the reader.
         ensures kept { OnErr result (Keeps (W.took end.old end.new) self.old self.new) }
 
-        // Where it held that block before, the end is as before.
+        // Where the reader held it before, the end is as before.
         ensures unmoved { OnErr result ((content : List ℕ) → self.old.held ≡ Some content
             → end.new ≡ end.old) }
 
-        // A block that was taken in an earlier call is still the one that was taken then.
+        // One that was taken in an earlier call is still the one that was taken then.
         ensures goes_on { (earlier : W) (content : List ℕ) → self.old.held ≡ Some content
             → W.took earlier end.old content → W.took earlier end.new content }
 
         ensures hand { (W.walk end.new).in_hand ≡ is_some self.new.held }
         ensures ring { (W.walk end.new).ring ≡ (W.walk end.old).ring }
     {
-        let Some(block) = self.next_block(end) else {
+        let Some(unit) = self.next_unit(end) else {
             return Ok(false);
         };
-        match self.read(&block) {
+        match self.walk_block(&unit) {
             Ok(()) => {
-                end.release(block, FREE);
+                end.release(unit, FREE);
                 Ok(true)
             }
             Err(Memory) => {
-                self.held = Some(block);
+                self.held = Some(unit);
                 Err(Memory)
             }
         }
     }
 
-    /// Reads a block that is handed in: appends its packets and, where it is asked to, its text. After `Memory` nothing
-    /// has changed.
-    pub fn walk_block(&mut self, block: &Block) -> Result<(), Memory>
-        requires readable { IsReadable self.old.shape block.now }
+    /// Reads a block or a slot that is handed in: appends its packets and, where it is asked to, its text. After
+    /// `Memory` nothing has changed.
+    pub fn walk_block(&mut self, unit: &B) -> Result<(), Memory>
+        requires readable { IsRetiredUnit B.shape B.ready self.old.shape unit.now }
         requires few { length self.old.taken < 2 ^ 55 }
         ensures read { OnOk result (self.new
-            ≡ record (has_read block.now.bytes self.old) { held = self.old.held }) }
+            ≡ record (has_read B.taken_in (B.bytes unit.now) self.old) { held = self.old.held }) }
         ensures err { OnErr result (self.new ≡ self.old) }
     {
-        self.read(block)
+        self.pile.add(self.alloc, unit, self.dumps)
     }
 
     /// The packets that were read so far, in order.
@@ -153,7 +157,7 @@ impl Reader {
     #[tactic(auto, using(crate::proofs::Heaps::all_walked, crate::proofs::Heaps::as_many))]
     pub fn outputs(self) -> Outputs
         requires { self.held ≡ None }
-        ensures { result ≡ outputs_of self }
+        ensures { result ≡ outputs_by B.text_of self }
     {
         let blocks = self.pile.marks.len() as u64;
         Outputs {
@@ -163,15 +167,14 @@ impl Reader {
         }
     }
 
-    /// The block that it held, or else the next one that was retired.
-    fn next_block<W: WalkerEnd<Block>>(&mut self, end: &mut W) -> Option<Block>
+    /// The block or slot that it held, or else the next one that was retired.
+    fn next_unit<W: WalkerEnd<B>>(&mut self, end: &mut W) -> Option<B>
         requires kind { (W.walk end.old).ring.kind ≡ numbers_of self.old.shape }
         requires hand { (W.walk end.old).in_hand ≡ is_some self.old.held }
-        ensures comes { IfSome result (λ block.
-            ComesFrom self.old.held (W.took end.old end.new) block.bytes) }
-        ensures readable { IfSome result (IsReadable self.old.shape) }
-        ensures kind { IfSome result (λ block.
-            numbers_of block.shape ≡ (W.walk end.new).ring.kind) }
+        ensures comes { IfSome result (λ unit.
+            ComesFrom self.old.held (W.took end.old end.new) (B.bytes unit)) }
+        ensures readable { IfSome result (IsRetiredUnit B.shape B.ready self.old.shape) }
+        ensures kind { IfSome result (λ unit. B.kind unit ≡ (W.walk end.new).ring.kind) }
         ensures hand { (W.walk end.new).in_hand ≡ is_some result }
         ensures emptied { self.new ≡ record self.old { held = None } }
         ensures none { IfNone result (self.old.held ≡ None) }
@@ -185,23 +188,10 @@ impl Reader {
         ensures goes_on { (content : List ℕ) → self.old.held ≡ Some content → end.new ≡ end.old }
         ensures ring { (W.walk end.new).ring ≡ (W.walk end.old).ring }
     {
-        if let Some(block) = self.held.take() {
-            return Some(block);
+        if let Some(unit) = self.held.take() {
+            return Some(unit);
         }
         end.take()
-    }
-
-    /// Reads a block that can be read.
-    fn read(&mut self, block: &Block) -> Result<(), Memory>
-        requires readable { IsReadable self.old.shape block.now }
-        ensures read { OnOk result (self.new
-            ≡ record (has_read block.now.bytes self.old) { held = self.old.held }) }
-        ensures err { OnErr result (self.new ≡ self.old) }
-    {
-        let packets = packets_of(block.bytes(), &self.shape);
-        let (number, status) = head_of(block, &self.shape);
-        let text = kept_text(block, &self.shape, self.dumps);
-        self.pile.add(self.alloc, number, status, packets, text)
     }
 }
 
@@ -215,34 +205,4 @@ impl Taker for Reader {
     fn block(&mut self, block: &Block) -> Result<(), Memory> {
         self.walk_block(block)
     }
-}
-
-/// What is kept of the text of a block that can be read.
-fn kept_text<'a>(block: &'a Block, shape: &Shape, dumps: bool) -> &'a [u8]
-    requires { IsReadable shape.now block.now }
-    ensures { result.now ≡ text_by dumps shape.now (taken_in shape.now block.now.bytes) }
-{
-    if dumps { whole_text(block, shape) } else { &[] }
-}
-
-/// The text of a block that can be read.
-fn whole_text<'a>(block: &'a Block, shape: &Shape) -> &'a [u8]
-    requires { IsReadable shape.now block.now }
-    ensures { result.now ≡ text_of_taken shape.now (taken_in shape.now block.now.bytes) }
-{
-    // A block has at most 1 MiB, so its lengths are what its fields say.
-    a_shape_is_sound(shape);
-    text_of(block)
-}
-
-/// The number of a block and the status that it was retired with.
-fn head_of(block: &Block, shape: &Shape) -> (u64, u32)
-    requires { IsReadable shape.now block.now }
-    ensures number { result.0 ≡ number_at 8 24 block.now.bytes }
-    ensures status { result.1 ≡ number_at 4 8 block.now.bytes }
-{
-    // A block has whole pages, so its descriptor is there.
-    a_shape_is_sound(shape);
-    let bytes = block.bytes();
-    (u64_at(bytes, 24), u32_at(bytes, 8))
 }

@@ -1,6 +1,7 @@
 //! What reads the blocks of a ring.
 ghost use Rattle.std.specs.Prelude.{◌≡◌, ◌<◌, ◌^◌, [], ◌∷◌, ◌++◌, length, List, OnOk};
-ghost use Rattle.reader_walk.specs.Takers.{Base, IsReadable, Taken, taken_in};
+ghost use Rattle.reader_walk.specs.Takers.{Base, IsReadable};
+ghost use Rattle.tp_layout.specs.Layouts.{Taken, taken_in};
 
 use frame_view::Memory;
 use tp_layout::Block;

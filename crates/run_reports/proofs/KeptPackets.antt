@@ -12,7 +12,7 @@ use Rattle.ring_model.specs.declared.notes.Found.{Found}
 use Rattle.ring_model.specs.declared.notes.Found.TheVariants.{NotAsked, Free, Held}
 use Rattle.ring_model.specs.declared.notes.Note.{Note}
 use Rattle.ring_model.specs.declared.notes.Note.TheVariants.{Kept, Refused, Dropped, Ticked, Counted, Finished}
-use Rattle.reader_walk.specs.Readers.{texts_of, walked_of}
+use Rattle.reader_walk.specs.Readers.{texts_by, texts_of, walked_of}
 use Rattle.tp_layout.specs.Blocks.{block_text}
 use Rattle.tp_layout.specs.Dump.{dump_from, packets_of_offers}
 use Rattle.tp_layout.specs.Requests.{fills_hash}
@@ -120,7 +120,7 @@ walked_are shape number (block ∷ done) =
 
 -- their texts
 pub texts_are : (shape : RingRequest) (number : ℕ) (done : List (List Offer × ℕ)) → texts_of shape (taken_from shape number done) ≡ dump_from shape number done
-unfolding texts_of
+unfolding texts_by
 texts_are shape number [] = refl
 texts_are shape number (block ∷ done) =
     ap (λ (bytes : List ℕ). block_text shape number block.1 (packets_of_offers shape block.0) ++ bytes) (texts_are shape (number + 1) done)

@@ -1,6 +1,6 @@
 -- What a reader takes out of the blocks that a ring retired.
 use Rattle.std.specs.Prelude.{ℕ, ◌+◌, List, [], ◌∷◌}
-use Rattle.reader_walk.specs.Takers.{Taken}
+use Rattle.tp_layout.specs.Layouts.{Taken}
 use Rattle.ring_model.specs.declared.notes.Offer.{Offer}
 use Rattle.tp_layout.specs.Dump.{packets_of_offers}
 use Rattle.tp_layout.specs.declared.requests.RingRequest.{RingRequest}

@@ -4,3 +4,4 @@ pub mod SlotFaults
 pub mod SlotDump
 pub mod SlotLaws
 pub mod SlotsInside
+pub mod SlotLayouts

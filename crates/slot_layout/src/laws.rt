@@ -1,7 +1,10 @@
 //! Laws of the definitions, each the contract of a function that does nothing.
-ghost use Rattle.std.specs.Prelude.{◌≡◌};
+ghost use Rattle.std.specs.Prelude.{◌≡◌, ℕ, List};
+ghost use Rattle.frame_view.specs.declared.frames.Packet.{Packet};
+ghost use Rattle.slot_layout.specs.SlotLayouts.{slot_taken, slot_taken_in};
 ghost use Rattle.slot_layout.specs.SlotShapes.{IsSlotShape, SlotBounds};
 ghost use Rattle.slot_layout.specs.SlotLaws.{HaveOneSlotText, SlotSaid};
+ghost use Rattle.slot_layout.specs.SlotTexts.{SlotBegins};
 ghost use Rattle.tp_layout.specs.declared.requests.RingRequest.{RingRequest};
 
 /// A lawful text reports the status and the packet of its slot: two that are equal say the same.
@@ -14,4 +17,11 @@ pub fn a_slot_text_says_one_thing()
 #[tactic(auto, using(crate::proofs::SlotBounds::slot_bounds))]
 pub fn a_checked_ring_is_bounded()
     ensures { (shape : RingRequest) → IsSlotShape shape → SlotBounds shape }
+{}
+
+/// A law and no call to make: of a slot that begins with a lawful text are read that text's status and packet.
+pub fn a_slot_is_read_as_it_was_written()
+    ensures { (shape : RingRequest) (status : ℕ) (packet : Packet) (bytes : List ℕ)
+        → SlotBegins shape status packet bytes
+        → slot_taken_in shape bytes ≡ slot_taken status packet }
 {}

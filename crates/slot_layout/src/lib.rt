@@ -4,13 +4,16 @@
 mod checking;
 mod contents;
 mod laws;
+mod layouts;
 mod numbers;
 mod packet_fields;
 mod reading;
 mod ring_slots;
 mod writing;
 
-pub use laws::{a_checked_ring_is_bounded, a_slot_text_says_one_thing};
+pub use laws::{
+    a_checked_ring_is_bounded, a_slot_is_read_as_it_was_written, a_slot_text_says_one_thing,
+};
 pub use reading::{packet_of, read_slot};
 pub use ring_slots::{Slot, slots};
 pub use writing::write_slot;

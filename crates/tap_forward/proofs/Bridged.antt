@@ -5,9 +5,10 @@ use Rattle.std.specs.List.{AllByRecursion, AllZip}
 use Rattle.std.proofs.lemmas.List.{map-append}
 use Rattle.capture_reports.specs.Reported.{IsReported}
 use Rattle.cpu_feeders.specs.Runs.{AreTakersOf, IsFreshTaker, IsTakerOf}
-use Rattle.cpu_feeders.proofs.Shapes.{one_shape}
+use Rattle.tp_layout.proofs.OneShape.{one_shape}
 use Rattle.reader_walk.specs.Readers.{dump_by, number_of_flag, walked_of}
-use Rattle.reader_walk.specs.Takers.{Base, Taken}
+use Rattle.reader_walk.specs.Takers.{Base}
+use Rattle.tp_layout.specs.Layouts.{Taken}
 use Rattle.ring_model.specs.declared.notes.Note.{Note}
 use Rattle.ring_words.specs.Pendings.{Pends}
 use Rattle.tp_layout.specs.Requests.{numbers_of}

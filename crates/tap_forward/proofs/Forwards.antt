@@ -6,7 +6,8 @@ use Rattle.std.specs.Prelude.{flat_map}
 use Rattle.std.proofs.Math.Seq.{take-length}
 use Rattle.frame_view.specs.declared.frames.Packet.{Packet}
 use Rattle.reader_walk.specs.Readers.{ReaderValue, dump_by, has_read, new_reader, outputs_of, walked_of}
-use Rattle.reader_walk.specs.Takers.{IsReadable, Taken, taken_in}
+use Rattle.reader_walk.specs.Takers.{IsReadable}
+use Rattle.tp_layout.specs.Layouts.{Taken, taken_in}
 use Rattle.tp_layout.specs.Writing.{ShapedBytes}
 use Rattle.reader_walk.specs.declared.outputs.Outputs.{Outputs}
 use Rattle.tp_layout.specs.declared.requests.RingRequest.{RingRequest}
@@ -80,7 +81,7 @@ gave forwarder sender count packets sound same going within given =
 
 -- a block was read
 received : (forwarder : Inside) (reader : ReaderValue) (bytes : List ℕ) → IsSound forwarder
-    → reader ≡ record (has_read bytes forwarder.reader) { held = forwarder.reader.held }
+    → reader ≡ record (has_read taken_in bytes forwarder.reader) { held = forwarder.reader.held }
     → length (taken_in forwarder.reader.shape bytes).packets ≤ 16383 → length forwarder.reader.taken < 2 ^ 40
     → IsSound (record forwarder { reader = reader })
 received forwarder reader bytes sound reader_is few blocks =
@@ -107,7 +108,7 @@ received forwarder reader bytes sound reader_is few blocks =
 
 -- the same, by what contracts see of the forwarder
 pub read_on : (forwarder : Inside) (value : ForwarderValue) (reader : ReaderValue) (block : ShapedBytes) → IsSound forwarder
-    → forwarder_value forwarder ≡ value → reader ≡ record (has_read block.bytes forwarder.reader) { held = forwarder.reader.held }
+    → forwarder_value forwarder ≡ value → reader ≡ record (has_read taken_in block.bytes forwarder.reader) { held = forwarder.reader.held }
     → ((shape : RingRequest) → IsReadable shape block → length (taken_in shape block.bytes).packets ≤ 16383)
     → IsReadable value.shape block → length value.taken < 2 ^ 40 → IsSound (record forwarder { reader = reader })
 read_on forwarder value reader block sound is read few readable blocks =

@@ -1,7 +1,8 @@
 -- A forwarder, by the blocks that it has read.
 use Rattle.std.specs.Prelude.{ℕ, Bool, List, [], ◌∷◌, ◌++◌, None}
 use Rattle.reader_walk.specs.Readers.{number_of_flag, outputs_of, walked_of}
-use Rattle.reader_walk.specs.Takers.{Base, Taken, taken_in}
+use Rattle.reader_walk.specs.Takers.{Base}
+use Rattle.tp_layout.specs.Layouts.{Taken, taken_in}
 use Rattle.tp_layout.specs.Requests.{numbers_of}
 use Rattle.tp_layout.specs.declared.requests.RingRequest.{RingRequest}
 use Rattle.tx_ring.specs.Rings.{room_of}

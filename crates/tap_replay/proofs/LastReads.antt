@@ -3,7 +3,7 @@ use Rattle.std.proofs.Common.{◌≡◌, ℕ, Bool, true, false, List, [], ◌�
 use Rattle.block_ring.specs.Producing.{Producing}
 use Rattle.frame_view.specs.declared.frames.Packet.{Packet}
 use Rattle.reader_walk.specs.Readers.{ReaderValue, dump_by, outputs_of, walked_of}
-use Rattle.reader_walk.specs.Takers.{Taken}
+use Rattle.tp_layout.specs.Layouts.{Taken}
 use Rattle.reader_walk.specs.declared.outputs.Outputs.{Outputs}
 use Rattle.ring_model.specs.Fates.{kept_of}
 use Rattle.ring_model.specs.Offers.{packet_of}

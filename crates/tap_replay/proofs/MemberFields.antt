@@ -10,7 +10,7 @@ use Rattle.block_ring.specs.Producing.{Adds, Opens, Producing, Stays}
 use Rattle.block_ring.specs.Texts.{StandsForTexts}
 use Rattle.block_ring.specs.Walking.{StaysBy, TookBy}
 use Rattle.reader_walk.specs.Readers.{ReaderValue, Reads, new_reader}
-use Rattle.reader_walk.specs.Takers.{Taken}
+use Rattle.tp_layout.specs.Layouts.{Taken, taken_in}
 use Rattle.replay_machine.proofs.MemberFacts.{some_same}
 use Rattle.ring_model.specs.Offers.{IsSound}
 use Rattle.ring_model.specs.Ring.{state_of}
@@ -176,7 +176,7 @@ ring_end before after released e f =
     ring_by before after (ap (λ (p : Producing PlainState). p.shape) e) before.notes (ap (λ (p : Producing PlainState). p.notes) e) released f
 
 pub read_member : (tells : Tells) (shape : RingRequest) (asked : Bool) (m : Parts) (after : Producing PlainState) (next : ReaderValue)
-    → IsMember shape asked m → m.stuck ≡ false → Reads (λ content. TookBy Took m.producer after content) m.reader next
+    → IsMember shape asked m → m.stuck ≡ false → Reads taken_in (λ content. TookBy Took m.producer after content) m.reader next
     → has_block after.end ≡ is_some next.held → ReadMember shape asked m after next
 read_member tells shape asked m after next h free reads hand =
     let has = h.read free in
@@ -216,7 +216,7 @@ unread_member shape asked m after next h free stays same waiting =
 -- a step of its reader
 pub step_member : (tells : Tells) (shape : RingRequest) (asked : Bool) (m : Parts) (after : Producing PlainState) (next : ReaderValue) (stepped : Bool)
     → IsMember shape asked m → m.stuck ≡ false
-    → (stepped ≡ true → Reads (λ content. TookBy Took m.producer after content) m.reader next)
+    → (stepped ≡ true → Reads taken_in (λ content. TookBy Took m.producer after content) m.reader next)
     → (stepped ≡ false → StaysBy plain.Stays m.producer after) → (stepped ≡ false → next ≡ m.reader)
     → (stepped ≡ false → (blocks : ℕ) → Some (length m.producer.end.shown) ≡ Some blocks → blocks ≡ 0)
     → has_block after.end ≡ is_some next.held → ReadMember shape asked m after next

@@ -6,7 +6,7 @@ use Rattle.std.proofs.lemmas.List.{length-drop, nil_from_length, take_all}
 use Rattle.block_ring.specs.Texts.{AreTexts}
 use Rattle.frame_view.specs.declared.frames.Packet.{Packet}
 use Rattle.reader_walk.specs.Readers.{ComesFrom, ReaderValue, Reads, has_read}
-use Rattle.reader_walk.specs.Takers.{Taken, taken_in}
+use Rattle.tp_layout.specs.Layouts.{Taken, taken_in}
 use Rattle.ring_model.specs.declared.notes.Offer.{Offer}
 use Rattle.ring_words.specs.PlainLaws.{stays_leaves, took_leaves}
 use Rattle.ring_words.specs.PlainRings.{PlainState, Stays, Took, has_block}
@@ -76,8 +76,8 @@ released_done shape asked done ring reader h =
     omega (arith, many, count, front, same)
 
 -- what a step brought to a reader that held no block
-pub came : (took : List ℕ → Type 0) (before after : ReaderValue) → before.held ≡ None → Reads took before after
-    → (content : List ℕ) × took content × (after ≡ has_read content before)
+pub came : (took : List ℕ → Type 0) (before after : ReaderValue) → before.held ≡ None → Reads taken_in took before after
+    → (content : List ℕ) × took content × (after ≡ has_read taken_in content before)
 came took before after none r =
     (r.content, subst (λ (held : Option (List ℕ)). ComesFrom held took r.content) none r.comes, r.read)
 
@@ -89,7 +89,7 @@ pub record ReadOne (shape : RingRequest) (asked : Bool) (done : List (List Offer
 
 pub one_read : (tells : Tells) (shape : RingRequest) (asked : Bool) (done : List (List Offer × ℕ)) (ring after : PlainState) (reader next : ReaderValue)
     (content : List ℕ) → shape.block_size ≤ 1048576 → HasRead shape asked done ring reader → Took ring after content
-    → next ≡ has_read content reader → has_block after ≡ is_some next.held → ReadOne shape asked done ring after next
+    → next ≡ has_read taken_in content reader → has_block after ≡ is_some next.held → ReadOne shape asked done ring after next
 one_read tells shape asked done ring after reader next content small h t is hand =
     let none : next.held ≡ None = ap (λ (r : ReaderValue). r.held) is in
     let free : has_block after ≡ false = hand ∙ ap (λ (held : Option (List ℕ)). is_some held) none in
@@ -125,7 +125,7 @@ one_read tells shape asked done ring after reader next content small h t is hand
     }
 
 pub next_read : (tells : Tells) (shape : RingRequest) (asked : Bool) (done : List (List Offer × ℕ)) (ring after : PlainState) (reader next : ReaderValue)
-    → shape.block_size ≤ 1048576 → HasRead shape asked done ring reader → Reads (λ content. Took ring after content) reader next
+    → shape.block_size ≤ 1048576 → HasRead shape asked done ring reader → Reads taken_in (λ content. Took ring after content) reader next
     → has_block after ≡ is_some next.held → ReadOne shape asked done ring after next
 next_read tells shape asked done ring after reader next small h reads hand =
     let came_in = came (λ content. Took ring after content) reader next h.none_held reads in
@@ -133,7 +133,7 @@ next_read tells shape asked done ring after reader next small h reads hand =
 
 -- so one block fewer waits
 pub fewer_wait : (shape : RingRequest) (asked : Bool) (done : List (List Offer × ℕ)) (ring after : PlainState) (reader next : ReaderValue)
-    → HasRead shape asked done ring reader → Reads (λ content. Took ring after content) reader next → suc (length after.shown) ≤ length ring.shown
+    → HasRead shape asked done ring reader → Reads taken_in (λ content. Took ring after content) reader next → suc (length after.shown) ≤ length ring.shown
 fewer_wait shape asked done ring after reader next h reads =
     let came_in = came (λ content. Took ring after content) reader next h.none_held reads in
     let all : length ring.shown ≡ suc (length after.shown) = ap (λ (es : List Entry). length es) came_in.1.first.1 in

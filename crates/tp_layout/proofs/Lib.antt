@@ -8,3 +8,5 @@ pub mod PacketTexts
 pub mod BlockTexts
 pub mod Answering
 pub mod Filling
+pub mod Telling
+pub mod OneShape

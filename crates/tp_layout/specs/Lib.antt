@@ -11,3 +11,4 @@ pub mod Reading
 pub mod Checks
 pub mod Dump
 pub mod Laws
+pub mod Layouts

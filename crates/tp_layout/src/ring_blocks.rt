@@ -48,6 +48,13 @@ impl Block {
         self.bytes.as_slice()
     }
 
+    /// The shape of the ring's blocks.
+    pub(crate) fn shape(&self) -> &Shape
+        ensures { result.now ≡ self.now.shape }
+    {
+        &self.shape
+    }
+
     /// Writes the header of a block without packets, and zeros up to the place of the first packet.
     pub(crate) fn put_empty(&mut self, first: u32, number: u64)
         requires order { 48 ≤ first }

@@ -1,11 +1,12 @@
 -- A member's fields stand for its ring after each call.
 use Rattle.std.proofs.Common.{◌≡◌, ℕ, ◌+◌, ◌^◌, ◌<◌, ◌≤◌, Bool, true, false, List, [], ◌∷◌, ◌++◌, length, take, zero, suc, Some, refl, sym, ap, ◌∙◌, subst, arith, length-append}
 use Rattle.std.specs.Prelude.{is_some, if◌then◌else◌, replicate}
+use Rattle.slot_layout.specs.SlotDump.{slot_packet_of}
 use Rattle.std.specs.List.{AllByRecursion}
 use Rattle.std.proofs.Math.Seq.{drop-nil}
-use Rattle.std.proofs.lemmas.List.{append-nil, length-take, take-append-le}
+use Rattle.std.proofs.lemmas.List.{append-nil, length-map, length-take, take-append-le}
 use Rattle.std.proofs.lemmas.Bool.{le-ltb, lt-ltb}
-use Rattle.reader_walk.specs.declared.outputs.Outputs.{Outputs}
+use Rattle.reader_walk.specs.Readers.{ReaderValue, Reads, new_reader}
 use Rattle.replay_machine.proofs.MemberFacts.{some_same}
 use Rattle.replay_model.specs.RingSteps.{read_by}
 use Rattle.ring_model.specs.Offers.{IsSound}
@@ -17,7 +18,8 @@ use Rattle.ring_words.specs.PlainRings as plain
 use Rattle.ring_words.specs.PlainRings.{PlainState, Took, feed_of, has_block}
 use Rattle.ring_words.specs.Rings as words
 use Rattle.ring_words.specs.Rings.{Entry}
-use Rattle.slot_layout.specs.SlotDump.{slot_texts_of}
+use Rattle.slot_layout.specs.SlotLayouts.{slot_taken, slot_taken_in}
+use Rattle.tp_layout.specs.Layouts.{Taken}
 use Rattle.slot_layout.specs.SlotShapes.{slot_size_of, zero_slot}
 use Rattle.slot_model.proofs.Runs.{slot_counted, slot_state_push}
 use Rattle.slot_model.specs.SlotSteps.{SlotState, slot_after, slot_state_of, slot_status}
@@ -26,11 +28,10 @@ use Rattle.tp_layout.specs.declared.requests.RingRequest.{RingRequest}
 use Rattle.v2_ring.specs.SlotContents.{StandsForSlots}
 use Rattle.v2_ring.specs.SlotMachines.{IsFreshSlots, KeepsSlotEnd}
 use Rattle.v2_ring.specs.SlotProducing.{SlotAdds, SlotProducing}
-use Rattle.v2_ring.specs.SlotReaders.{ReadsSlot, SlotReaderValue, new_slot_reader}
 use Rattle.v2_ring.specs.SlotWalking.{SlotStaysBy, SlotTookBy}
 use Rattle.v2_replay.specs.SlotMembers.{KeepsSlots, Parts, ring_of}
 use Rattle.v2_replay.specs.SlotReplays.{slot_steps}
-use Rattle.v2_replay.specs.SlotsRead.{HasReadSlots, read_of_slots}
+use Rattle.v2_replay.specs.SlotsRead.{HasReadSlots, slots_taken}
 use Rattle.v2_replay.proofs.ReadSlots.{Tells, came, none_read, one_read, released_done}
 
 -- ---- offers
@@ -66,7 +67,7 @@ front_stays : (count : ℕ) (before now : List (Offer × ℕ)) → Grows before 
 front_stays count before now g h = ap (λ done. take count done) g.is ∙ take-append-le count before g.more h
 
 -- the feeder's side went on, and the reader has what it had
-read_on : (shape : RingRequest) (asked : Bool) (before now : List (Offer × ℕ)) (ring after : PlainState) (reader : SlotReaderValue)
+read_on : (shape : RingRequest) (asked : Bool) (before now : List (Offer × ℕ)) (ring after : PlainState) (reader : ReaderValue)
     → HasReadSlots shape asked before ring reader → Grows before now → StandsForSlots shape now (feed_of after) → KeepsSlotEnd (feed_of ring) (feed_of after)
     → HasReadSlots shape asked now after reader
 read_on shape asked before now ring after reader h more texts keeps =
@@ -79,9 +80,9 @@ read_on shape asked before now ring after reader h more texts keeps =
       texts = texts;
       none_held = h.none_held;
       none_in_hand = taken ∙ h.none_in_hand ∙ sym released;
-      outputs_are = h.outputs_are
-          ∙ ap (λ (d : List (Offer × ℕ)). read_of_slots asked d) (sym (front_stays ring.released before now more (released_done shape asked before ring reader h)))
-          ∙ ap (λ n. read_of_slots asked (take n now)) (sym released);
+      taken_is = h.taken_is
+          ∙ ap (λ (d : List (Offer × ℕ)). slots_taken d) (sym (front_stays ring.released before now more (released_done shape asked before ring reader h)))
+          ∙ ap (λ n. slots_taken (take n now)) (sym released);
     }
 
 -- ---- a call of the feeder's side
@@ -129,14 +130,9 @@ pub one_kind : (shape : RingRequest) (n : ℕ) → AllByRecursion (λ slot. numb
 one_kind shape zero = tt
 one_kind shape (suc n) = (refl, one_kind shape n)
 
-nothing_read : (asked : Bool) → ◌≡◌ {A = Outputs} (record { walked = []; dump = []; blocks = 0 }) (read_of_slots asked [])
-unfolding slot_texts_of
-nothing_read true = refl
-nothing_read false = refl
-
-pub new_member : (shape : RingRequest) (asked : Bool) (count : ℕ) (contents : List (List ℕ)) (ring : PlainState) (producer : SlotProducing PlainState) (reader : SlotReaderValue)
+pub new_member : (shape : RingRequest) (asked : Bool) (count : ℕ) (contents : List (List ℕ)) (ring : PlainState) (producer : SlotProducing PlainState) (reader : ReaderValue)
     → ring ≡ plain.fresh count ring.kind contents → ring.kind ≡ numbers_of shape → producer ≡ record { shape = shape; notes = []; end = ring }
-    → reader ≡ new_slot_reader shape asked → KeepsSlots shape asked (record { producer = producer; reader = reader; stuck = false })
+    → reader ≡ new_reader shape asked → KeepsSlots shape asked (record { producer = producer; reader = reader; stuck = false })
 new_member shape asked count contents ring producer reader e kind opens is =
     let released : ring.released ≡ 0 = ap (λ (r : PlainState). r.released) e in
     let taken : ring.taken ≡ 0 = ap (λ (r : PlainState). r.taken) e in
@@ -148,13 +144,13 @@ new_member shape asked count contents ring producer reader e kind opens is =
       shape_is = refl;
       few = omega arith;
       read = λ free. record {
-        shape_is = ap (λ (r : SlotReaderValue). r.shape) is;
-        asked_is = ap (λ (r : SlotReaderValue). r.dumps) is;
+        shape_is = ap (λ (r : ReaderValue). r.shape) is;
+        asked_is = ap (λ (r : ReaderValue). r.dumps) is;
         kind_is = kind;
         texts = none;
-        none_held = ap (λ (r : SlotReaderValue). r.held) is;
+        none_held = ap (λ (r : ReaderValue). r.held) is;
         none_in_hand = taken ∙ sym released;
-        outputs_are = ap (λ (r : SlotReaderValue). r.outputs) is ∙ nothing_read asked ∙ ap (λ n. read_of_slots asked (take n [])) (sym released);
+        taken_is = ap (λ (r : ReaderValue). r.taken) is ∙ ap (λ n. slots_taken (take n [])) (sym released);
       };
     })
 
@@ -165,12 +161,12 @@ as_set shape common asked all m s a h =
 
 -- ---- a read
 
-pub record ReadMember (shape : RingRequest) (asked : Bool) (m : Parts) (after : SlotProducing PlainState) (next : SlotReaderValue) : Type 0 where
+pub record ReadMember (shape : RingRequest) (asked : Bool) (m : Parts) (after : SlotProducing PlainState) (next : ReaderValue) : Type 0 where
   pub is : KeepsSlots shape asked (record { producer = after; reader = next; stuck = m.stuck })
   pub once : ring_of after ≡ read_by (slot_steps (slot_size_of shape)) (ring_of m.producer)
 
 -- the ring's end changed, and nothing else
-with_end : (shape : RingRequest) (asked : Bool) (m : Parts) (after : SlotProducing PlainState) (next : SlotReaderValue) → KeepsSlots shape asked m
+with_end : (shape : RingRequest) (asked : Bool) (m : Parts) (after : SlotProducing PlainState) (next : ReaderValue) → KeepsSlots shape asked m
     → after ≡ record m.producer { end = after.end } → HasReadSlots shape asked (slot_state_of m.producer.notes).done after.end next
     → KeepsSlots shape asked (record { producer = after; reader = next; stuck = m.stuck })
 with_end shape asked m after next h e has = record {
@@ -185,8 +181,8 @@ ring_end : (before after : SlotProducing PlainState) (released : ℕ) → after 
 ring_end before after released e f =
     rw (ap (λ (p : SlotProducing PlainState). p.shape) e, ap (λ (p : SlotProducing PlainState). p.notes) e, f) refl
 
-read_member : (tells : Tells) (shape : RingRequest) (asked : Bool) (m : Parts) (after : SlotProducing PlainState) (next : SlotReaderValue)
-    → KeepsSlots shape asked m → m.stuck ≡ false → ReadsSlot (λ content. SlotTookBy Took m.producer after content) m.reader next
+read_member : (tells : Tells) (shape : RingRequest) (asked : Bool) (m : Parts) (after : SlotProducing PlainState) (next : ReaderValue)
+    → KeepsSlots shape asked m → m.stuck ≡ false → Reads slot_taken_in (λ content. SlotTookBy Took m.producer after content) m.reader next
     → has_block after.end ≡ is_some next.held → ReadMember shape asked m after next
 read_member tells shape asked m after next h free reads hand =
     let has = h.read free in
@@ -201,7 +197,7 @@ read_member tells shape asked m after next h free reads hand =
     }
 
 -- a read that finds no slot
-unread_member : (shape : RingRequest) (asked : Bool) (m : Parts) (after : SlotProducing PlainState) (next : SlotReaderValue)
+unread_member : (shape : RingRequest) (asked : Bool) (m : Parts) (after : SlotProducing PlainState) (next : ReaderValue)
     → KeepsSlots shape asked m → m.stuck ≡ false → SlotStaysBy plain.Stays m.producer after → next ≡ m.reader
     → ((slots : ℕ) → Some (length m.producer.end.shown) ≡ Some slots → slots ≡ 0) → ReadMember shape asked m after next
 unread_member shape asked m after next h free stays same waiting =
@@ -216,9 +212,9 @@ unread_member shape asked m after next h free stays same waiting =
     }
 
 -- a step of its reader
-pub step_member : (tells : Tells) (shape : RingRequest) (asked : Bool) (m : Parts) (after : SlotProducing PlainState) (next : SlotReaderValue) (stepped : Bool)
+pub step_member : (tells : Tells) (shape : RingRequest) (asked : Bool) (m : Parts) (after : SlotProducing PlainState) (next : ReaderValue) (stepped : Bool)
     → KeepsSlots shape asked m → m.stuck ≡ false
-    → (stepped ≡ true → ReadsSlot (λ content. SlotTookBy Took m.producer after content) m.reader next)
+    → (stepped ≡ true → Reads slot_taken_in (λ content. SlotTookBy Took m.producer after content) m.reader next)
     → (stepped ≡ false → SlotStaysBy plain.Stays m.producer after) → (stepped ≡ false → next ≡ m.reader)
     → (stepped ≡ false → (slots : ℕ) → Some (length m.producer.end.shown) ≡ Some slots → slots ≡ 0)
     → has_block after.end ≡ is_some next.held → ReadMember shape asked m after next
@@ -228,16 +224,17 @@ step_member tells shape asked m after next false h free reads stays same waiting
     unread_member shape asked m after next h free (stays refl) (same refl) (waiting refl)
 
 -- few slots were read
-pub few_read : (shape : RingRequest) (asked : Bool) (notes : List Note) (ring : PlainState) (reader : SlotReaderValue)
-    → HasReadSlots shape asked (slot_state_of notes).done ring reader → length notes ≤ 2 ^ 40 → reader.outputs.blocks < 2 ^ 55
+pub few_read : (shape : RingRequest) (asked : Bool) (notes : List Note) (ring : PlainState) (reader : ReaderValue)
+    → HasReadSlots shape asked (slot_state_of notes).done ring reader → length notes ≤ 2 ^ 40 → length reader.taken < 2 ^ 55
 few_read shape asked notes ring reader h few =
     let done = (slot_state_of notes).done in
-    let count : reader.outputs.blocks ≡ length (take ring.released done) = ap (λ (o : Outputs). o.blocks) h.outputs_are in
+    let count : length reader.taken ≡ length (take ring.released done) =
+    ap (λ (taken : List Taken). length taken) h.taken_is ∙ length-map (take ring.released done) (λ slot. slot_taken slot.1 (slot_packet_of slot.0)) in
     let front = length-take ring.released done in
     let all = (slot_counted notes).slots in
     omega (arith, count, front, all, few)
 
-pub few_taken : (shape : RingRequest) (asked : Bool) (m : Parts) → KeepsSlots shape asked m → m.stuck ≡ false → m.reader.outputs.blocks < 2 ^ 55
+pub few_taken : (shape : RingRequest) (asked : Bool) (m : Parts) → KeepsSlots shape asked m → m.stuck ≡ false → length m.reader.taken < 2 ^ 55
 few_taken shape asked m h free =
     let few = h.few in
     few_read shape asked m.producer.notes m.producer.end m.reader (h.read free) (omega (arith, few))
@@ -256,7 +253,7 @@ closing_read shape asked m after ring h free view end =
     (subst (λ (d : List (Offer × ℕ)). HasReadSlots shape asked d m.producer.end m.reader) (sym done) (h.read free)))
 
 -- a ring that is closing has given up its free slots, which no reader reads
-pub read_closing : (shape : RingRequest) (asked : Bool) (done : List (Offer × ℕ)) (ring : PlainState) (reader : SlotReaderValue)
+pub read_closing : (shape : RingRequest) (asked : Bool) (done : List (Offer × ℕ)) (ring : PlainState) (reader : ReaderValue)
     → HasReadSlots shape asked done ring reader → HasReadSlots shape asked done (record ring { contents = [] }) reader
 read_closing shape asked done ring reader h = record {
   shape_is = h.shape_is;
@@ -265,7 +262,7 @@ read_closing shape asked done ring reader h = record {
   texts = h.texts;
   none_held = h.none_held;
   none_in_hand = h.none_in_hand;
-  outputs_are = h.outputs_are;
+  taken_is = h.taken_is;
 }
 
 pub few_closed : (shape : RingRequest) (asked : Bool) (m : Parts) (ring : Ring) → KeepsSlots shape asked m → ring_of m.producer ≡ ring

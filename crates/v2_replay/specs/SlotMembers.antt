@@ -1,5 +1,6 @@
 -- What the fields of a member stand for.
 use Rattle.std.specs.Prelude.{◌≡◌, ◌^◌, ◌≤◌, Bool, false, length}
+use Rattle.reader_walk.specs.Readers.{ReaderValue}
 use Rattle.ring_model.specs.Rings.{Ring}
 use Rattle.ring_words.specs.PlainRings.{PlainState}
 use Rattle.slot_layout.specs.SlotShapes.{slot_size_of}
@@ -7,12 +8,11 @@ use Rattle.slot_model.specs.SlotSteps.{slot_state_of}
 use Rattle.tp_layout.specs.declared.requests.RingRequest.{RingRequest}
 use Rattle.v2_replay.specs.SlotsRead.{HasReadSlots}
 use Rattle.v2_ring.specs.SlotProducing.{SlotProducing}
-use Rattle.v2_ring.specs.SlotReaders.{SlotReaderValue}
 
 -- the fields
 pub record Parts : Type 0 where
   pub producer : SlotProducing PlainState
-  pub reader : SlotReaderValue
+  pub reader : ReaderValue
   pub stuck : Bool
 
 -- the ring that contracts see

@@ -13,11 +13,11 @@ use replay_machine::{RingMember, Setting};
 use ring_model::{Offer, Put, Tried, Unput};
 use ring_words::PlainRing;
 use setup_text::MemberReport;
-use slot_layout::{Slot, a_checked_ring_is_bounded, slots};
+use slot_layout::{Slot, a_checked_ring_is_bounded, a_slot_is_read_as_it_was_written, slots};
 use std::alloc::Global;
 use std::marker::{Model, PhantomData};
 use tp_layout::Shape;
-use v2_ring::{SlotProducer, SlotReader, a_slot_is_read_as_it_was_written};
+use v2_ring::{SlotProducer, SlotReader};
 
 /// A ring of slots with its reader. Contracts see the ring: its size, its notes, and how many slots
 /// its reader has released.

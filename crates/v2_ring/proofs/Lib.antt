@@ -1,4 +1,2 @@
-mod SlotKinds
 mod SlotFilling
 mod SlotAdding
-pub mod SlotTold

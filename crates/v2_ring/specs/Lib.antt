@@ -2,5 +2,3 @@ pub mod SlotContents
 pub mod SlotMachines
 pub mod SlotProducing
 pub mod SlotWalking
-pub mod SlotReaders
-pub mod SlotReadersInside

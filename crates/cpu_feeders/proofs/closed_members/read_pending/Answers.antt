@@ -1,9 +1,8 @@
-use Rattle.std.proofs.Common.{◌≡◌, ◌<◌, ◌∙◌, length, sym, ap, subst, arith}
-use Rattle.reader_walk.specs.Takers.{Base, IsRetired}
+use Rattle.std.proofs.Common.{◌≡◌, ◌<◌, ◌∙◌, length, sym, ap, arith}
+use Rattle.reader_walk.specs.Takers.{Base}
 use Rattle.tp_layout.specs.Requests.{numbers_of}
-use Rattle.tp_layout.specs.declared.requests.RingRequest.{RingRequest}
 use Rattle.cpu_feeders.proofs.Pendings.{pending_length, pending_more}
-use Rattle.cpu_feeders.proofs.Shapes.{one_shape}
+use Rattle.tp_layout.proofs.OneShape.{one_shape}
 use Rattle.cpu_feeders.proofs.closed_members.read_pending.Goals as goal
 
 pub block-requires-clause-readable : goal.block-requires-clause-readable
@@ -11,10 +10,9 @@ block-requires-clause-readable g c =
     let block = c.in-Some.block.now in
     let same : numbers_of (g.T.Taker.base c.args.taker.now).shape ≡ numbers_of (g.T.Taker.base c.loop-at.taker).shape =
     ap (λ (base : Base). numbers_of base.shape) (sym c.loop-at.invariant.base) in
-    let one = one_shape block.shape (g.T.Taker.base c.loop-at.taker).shape (c.in-Some.ensures.kind ∙ c.requires.kind ∙ same) in
     record {
-      shape_is = one;
-      text = subst (λ (shape : RingRequest). IsRetired shape block.bytes) one (_, _, c.in-Some.ensures.ready);
+      shape_is = one_shape block.shape (g.T.Taker.base c.loop-at.taker).shape (c.in-Some.ensures.kind ∙ c.requires.kind ∙ same);
+      text = (_, _, c.in-Some.ensures.ready);
     }
 
 pub block-requires-clause-few : goal.block-requires-clause-few

@@ -11,6 +11,6 @@ invariant-loop-act l = record {
   kind : l.ring.end.kind ≡ numbers_of l.reader.shape;
   hand : has_block l.ring.end ≡ false;
   held : l.reader.held ≡ None;
-  read : l.reader.outputs.blocks ≤ l.act-index;
+  read : length l.reader.taken ≤ l.act-index;
   others : l.others ≤ l.act-index;
 }

@@ -1,4 +1,4 @@
-use Rattle.std.proofs.Common.{◌≡◌, ◌≤◌, false, None}
+use Rattle.std.proofs.Common.{◌≡◌, ◌≤◌, false, None, length}
 use Rattle.tp_layout.specs.Requests.{numbers_of}
 use Rattle.end_tests.proofs.threads.read_all.Given as goal
 
@@ -8,6 +8,6 @@ invariant-loop-look l = record {
   kind : l.walker.kind ≡ numbers_of l.reader.shape;
   held : l.reader.held ≡ None;
   hand : l.walker.in_hand ≡ false;
-  few : l.reader.outputs.blocks ≤ l.look;
+  few : length l.reader.taken ≤ l.look;
   ring : l.walker.id ≡ l.initial.walker.id;
 }

@@ -1,11 +1,12 @@
-use Rattle.std.proofs.Common.{◌≡◌, ◌∷◌, [], ◌∙◌, ap, refl, arith}
+use Rattle.std.proofs.Common.{◌≡◌, ◌∷◌, [], ◌∙◌, ap, refl, subst, sym, arith}
 use Rattle.std.proofs.lemmas.List.{length-take-le}
 use Rattle.ring_model.specs.Offers.{packet_of}
 use Rattle.ring_model.specs.Sizes.{need_of}
 use Rattle.tp_layout.specs.Requests.{fills_hash}
-use Rattle.tp_layout.specs.Blocks.{needs_of}
+use Rattle.tp_layout.specs.Blocks.{BeginsWith, needs_of}
 use Rattle.tp_layout.specs.Packets.{need_of_packet}
 use Rattle.tp_layout.specs.Writing.{ShapedBytes, end_of}
+use Rattle.tp_layout.specs.declared.requests.RingRequest.{RingRequest}
 use Rattle.ring_tests.proofs.reading.block_with.Goals as goal
 
 pub returns : goal.returns
@@ -22,4 +23,8 @@ returns c =
     let same : c.close_header.new.block.shape ≡ shape =
     ap (λ (b : ShapedBytes). b.shape) c.close_header.ensures.written ∙ ap (λ (b : ShapedBytes). b.shape) c.write_packet.ensures.written
     ∙ ap (λ (b : ShapedBytes). b.shape) c.write_header.ensures.written ∙ ap (λ (b : ShapedBytes). b.shape) c.in_ok-block.ensures in
-    record { shape_is = same; text = (1, 1, ∣ (packet ∷ [], text) ∣₁) }
+    let block = c.close_header.new.block in
+    record {
+      shape_is = same;
+      text = (1, 1, ∣ (packet ∷ [], subst (λ (s : RingRequest). BeginsWith s 1 1 (packet ∷ []) block.bytes) (sym same) text) ∣₁);
+    }

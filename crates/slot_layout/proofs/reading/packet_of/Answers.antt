@@ -1,8 +1,7 @@
-use Rattle.std.proofs.Common.{◌+◌, ◌≤◌, length, arith}
+use Rattle.std.proofs.Common.{arith}
 use Rattle.std.proofs.Math.Bridge.{le_prop}
 use Rattle.std.proofs.Math.Logic.{∥∥₁_elim}
 use Rattle.tp_layout.proofs.Opens.{within}
-use Rattle.tp_layout.specs.Rows.{number_at}
 use Rattle.slot_layout.specs.SlotTexts.{slot_text}
 use Rattle.slot_layout.proofs.SlotNumbers.{length-slot_text}
 use Rattle.slot_layout.proofs.SlotStands.{begins_stands}

@@ -1,4 +1,4 @@
-use Rattle.std.proofs.Common.{◌≡◌, arith, refl, ◌∙◌}
+use Rattle.std.proofs.Common.{arith, refl, ◌∙◌}
 use Rattle.tp_layout.specs.Faults.{packets_of}
 use Rattle.tp_layout.specs.Requests.{first_of}
 use Rattle.tp_layout.proofs.Answering.{begins_has, begins_read, begins_well}

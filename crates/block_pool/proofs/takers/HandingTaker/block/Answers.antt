@@ -1,6 +1,6 @@
 use Rattle.std.proofs.Common.{◌≡◌, ◌+◌, ◌++◌, ◌∷◌, [], List, ℕ, refl, sym, ap, ◌∙◌, subst, rules}
 use Rattle.std.proofs.lemmas.List.{map-append}
-use Rattle.reader_walk.specs.Takers.{Taken, taken_in}
+use Rattle.tp_layout.specs.Layouts.{Taken, taken_in}
 use Rattle.tp_layout.specs.Blocks.{BeginsLawfully}
 use Rattle.tp_layout.specs.declared.requests.RingRequest.{RingRequest}
 use Rattle.work_queue.specs.Passes.{PassValue}
@@ -12,9 +12,7 @@ use Rattle.block_pool.proofs.Texts.{copied_text, copy_lawful, copy_says}
 use Rattle.block_pool.proofs.takers.HandingTaker.block.Goals as goal
 
 pub text_of-requires : goal.text_of-requires
-text_of-requires g c =
-    let t = c.requires.readable.text in
-    (t.0, t.1, subst (λ (s : RingRequest). BeginsLawfully s t.0 t.1 c.args.block.now.bytes) (sym c.requires.readable.shape_is) t.2)
+text_of-requires g c = c.requires.readable.text
 
 pub hand-requires-clause-lawful : goal.hand-requires-clause-lawful
 hand-requires-clause-lawful g c =
@@ -23,7 +21,7 @@ hand-requires-clause-lawful g c =
     let text = c.from_vec-text.result in
     let same_shape : shape ≡ c.args.self.now.shape = ap (λ (v : HandingValue). v.shape) c.self.view_is in
     let same : text ≡ c.text_of.result.now = search rules in
-    let t = subst (λ (s : RingRequest). (number : ℕ) × (status : ℕ) × BeginsLawfully s number status bytes) (sym same_shape) c.requires.readable.text in
+    let t = subst (λ (s : RingRequest). (number : ℕ) × (status : ℕ) × BeginsLawfully s number status bytes) (c.requires.readable.shape_is ∙ sym same_shape) c.requires.readable.text in
     copy_lawful c.a_text_is_read_as_it_was_written.ensures shape bytes text c.a_shape_is_sound.ensures.sound.small
     (copied_text shape c.args.block.now.shape bytes text c.text_of.result.now (c.requires.readable.shape_is ∙ sym same_shape) same c.text_of.ensures) t
 
@@ -42,7 +40,7 @@ returns-in-Ok-clause-read g c =
     let same_shape : shape ≡ c.args.self.now.shape = ap (λ (v : HandingValue). v.shape) c.self.view_is in
     let same_pass : old ≡ c.args.self.now.pass.handed = ap (λ (v : HandingValue). v.pass.handed) c.self.view_is in
     let same : text ≡ c.text_of.result.now = search rules in
-    let t = subst (λ (s : RingRequest). (number : ℕ) × (status : ℕ) × BeginsLawfully s number status bytes) (sym same_shape) c.requires.readable.text in
+    let t = subst (λ (s : RingRequest). (number : ℕ) × (status : ℕ) × BeginsLawfully s number status bytes) (c.requires.readable.shape_is ∙ sym same_shape) c.requires.readable.text in
     let says = copy_says c.a_text_is_read_as_it_was_written.ensures shape bytes text c.a_shape_is_sound.ensures.sound.small
     (copied_text shape c.args.block.now.shape bytes text c.text_of.result.now (c.requires.readable.shape_is ∙ sym same_shape) same c.text_of.ensures) t in
     ap (λ (p : PassValue). works_taken p.handed) c.in-Ok.ensures.handed

@@ -41,8 +41,7 @@ waiting-smaller g c =
 
 pub waiting-preserved : goal.waiting-preserved
 waiting-preserved g c =
-    let law = c.a_slot_is_read_as_it_was_written.ensures in
-    let one = next_read (record { packet = law.packet; text = law.text }) g.K.Setting.shape g.K.Setting.dumps
+    let one = next_read c.a_slot_is_read_as_it_was_written.ensures g.K.Setting.shape g.K.Setting.dumps
     (slot_state_of (c.args.self.notes ++ Finished ∷ [])).done c.waiting.waiting c.step.new.end c.waiting.reader c.step.new.self
     c.waiting.invariant (c.in_ok-step.ensures.read c.if-branch.true) c.in_ok-step.ensures.hand in
     one.has

@@ -15,8 +15,7 @@ step-requires-clause-few g c =
 pub invariant_of-self : goal.invariant_of-self
 invariant_of-self g c =
     let free : c.self.inside.stuck ≡ false = search rules in
-    let law = c.a_slot_is_read_as_it_was_written.ensures in
-    let step = step_member (record { packet = law.packet; text = law.text }) g.K.Setting.shape g.K.Setting.dumps
+    let step = step_member c.a_slot_is_read_as_it_was_written.ensures g.K.Setting.shape g.K.Setting.dumps
     (record { producer = c.self.inside.producer; reader = c.self.inside.reader; stuck = c.self.inside.stuck })
     c.step.new.end c.step.new.self c.in-Ok.field-0 c.self.invariant free c.in-Ok.ensures.read c.in-Ok.ensures.stays c.in-Ok.ensures.same
     c.in-Ok.ensures.waiting c.in-Ok.ensures.hand in
@@ -25,8 +24,7 @@ invariant_of-self g c =
 pub returns-in-Ok : goal.returns-in-Ok
 returns-in-Ok g c =
     let free : c.self.inside.stuck ≡ false = search rules in
-    let law = c.a_slot_is_read_as_it_was_written.ensures in
-    let step = step_member (record { packet = law.packet; text = law.text }) g.K.Setting.shape g.K.Setting.dumps
+    let step = step_member c.a_slot_is_read_as_it_was_written.ensures g.K.Setting.shape g.K.Setting.dumps
     (record { producer = c.self.inside.producer; reader = c.self.inside.reader; stuck = c.self.inside.stuck })
     c.step.new.end c.step.new.self c.in-Ok.field-0 c.self.invariant free c.in-Ok.ensures.read c.in-Ok.ensures.stays c.in-Ok.ensures.same
     c.in-Ok.ensures.waiting c.in-Ok.ensures.hand in

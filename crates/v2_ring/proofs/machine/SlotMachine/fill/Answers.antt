@@ -4,7 +4,7 @@ use Rattle.slot_layout.specs.SlotDump.{slot_packet_of}
 use Rattle.slot_layout.specs.SlotTexts.{SlotBegins}
 use Rattle.slot_model.specs.SlotSteps.{status_of_slot}
 use Rattle.v2_ring.proofs.SlotFilling.{filled_at}
-use Rattle.v2_ring.proofs.SlotKinds.{one_shape}
+use Rattle.tp_layout.proofs.OneShape.{one_shape}
 use Rattle.v2_ring.proofs.machine.SlotMachine.fill.Goals as goal
 
 pub returns-clause-at : goal.returns-clause-at

@@ -1,0 +1,5 @@
+use Rattle.tp_layout.proofs.Telling.{tells}
+use Rattle.reader_walk.proofs.laws.a_text_is_read_as_it_was_written.Goals as goal
+
+pub returns : goal.returns
+returns c = tells
