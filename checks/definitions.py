@@ -75,11 +75,14 @@ def module_of(path: Path) -> Module:
 
 
 def modules() -> dict[Place, Module]:
-    return {
-        (path.parent.parent.name, path.stem): module_of(path)
-        for path in sorted(TOP.glob("crates/*/specs/*.antt"))
-        if path.stem != "Lib"
-    }
+    """Those of specs/, and of its folder `inside`, which no public contract cites."""
+    found = {}
+    for specs in sorted(TOP.glob("crates/*/specs")):
+        for path in sorted(specs.rglob("*.antt")):
+            if path.stem not in ("Lib", "inside"):
+                name = ".".join(path.relative_to(specs).with_suffix("").parts)
+                found[(specs.parent.name, name)] = module_of(path)
+    return found
 
 
 def model_of(crate: str, module: str) -> Module | None:

@@ -27,7 +27,7 @@ HoldsText shape text (Some offers) (Some block) = Holds shape text block
 HoldsText shape text None (Some block) = ⊥
 HoldsText shape text (Some offers) None = ⊥
 
--- the machine is at this state; beside its open block it has so many blocks in hand
+-- the machine is at this state; beside its open block it holds `in_hand` blocks
 pub record IsAt {E : Type 0} (feed : E → Feed) (in_hand : ℕ) (state : State) (machine : Machine E) : Type 0 where
   pub places : (feed machine.end).ring.places ≡ machine.shape.block_nr
   pub kind : (feed machine.end).ring.kind ≡ numbers_of machine.shape

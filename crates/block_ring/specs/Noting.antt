@@ -35,11 +35,13 @@ abbrev pub listed : Option ℕ → List ℕ
 listed None = []
 listed (Some number) = number ∷ []
 
--- the numbers of the blocks that Refused, Dropped and held Ticked notes report as the reader's, in order
+-- the numbers of the blocks that Refused, Dropped and held Ticked notes report as the reader's, in
+-- order
 abbrev pub held_numbers : List Note → List ℕ
 held_numbers notes = flat_map (λ note. listed (held_number note)) notes
 
--- an end that reports the numbers which its looks found has found those of these notes, and no other
+-- an end that reports the numbers which its looks found has found those of these notes, and no
+-- other
 abbrev pub FoundAsNoted : List Note → Option (List ℕ) → Type 0
 FoundAsNoted notes None = Unit {0}
 FoundAsNoted notes (Some numbers) = numbers ≡ held_numbers notes

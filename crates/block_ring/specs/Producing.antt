@@ -24,7 +24,7 @@ pub record Producing (E : Type 0) : Type 0 where
   pub shape : RingRequest
   -- what happened so far
   pub notes : List Note
-  -- so many more notes need no memory
+  -- the number of notes that need no more memory
   pub spare : ℕ
   -- its end of the ring
   pub end : E
@@ -43,8 +43,8 @@ pub record Opens {E : Type 0} (feed : E → Feed) (request : RingRequest) (given
   pub notes : ring.notes ≡ []
   pub end : feed ring.end ≡ record (feed given_end) { given = 1 }
 
--- a call added this note, which may stand. The end stands for the texts of all retired blocks, and its looks found
--- the blocks held that the notes report
+-- a call added this note, which may stand. The end stands for the texts of all retired blocks, and
+-- its looks found the blocks held that the notes report
 pub record Adds {E : Type 0} (feed : E → Feed) (before after : Producing E) (note : Note) : Type 0 where
   pub shape : after.shape ≡ before.shape
   pub notes : after.notes ≡ before.notes ++ note ∷ []
@@ -55,8 +55,8 @@ pub record Adds {E : Type 0} (feed : E → Feed) (before after : Producing E) (n
   pub spare : before.spare ≤ after.spare + 1
   pub end : KeepsEnd (feed before.end) (feed after.end)
 
--- a put found this. Where the block was held one look of this call reported its number, else no look found one held; where
--- the end reports how many blocks were released, what is found is exact
+-- a put found this. Where the block was held one look of this call reported its number, else no
+-- look found one held; where the end reports how many blocks were released, what is found is exact
 pub record Puts {E : Type 0} (feed : E → Feed) (before after : Producing E) (offer : Offer) (found : Found) (put : Put) : Type 0 where
   pub adds : Adds feed before after (put_by offer found)
   pub told : put ≡ put_told (put_by offer found)

@@ -6,7 +6,8 @@ use Rattle.tp_layout.specs.Blocks.{BeginsWith}
 use Rattle.tp_layout.specs.Dump.{packets_of_offers}
 use Rattle.tp_layout.specs.declared.requests.RingRequest.{RingRequest}
 
--- each content begins with the text of its block, and has its status; the first block has this number
+-- each content begins with the text of its block, and has its status; the first block has this
+-- number
 abbrev pub AreTexts : RingRequest → ℕ → List Entry → List (List Offer × ℕ) → Type 0
 AreTexts shape number [] [] = Unit {0}
 AreTexts shape number [] (block ∷ done) = ⊥

@@ -1,17 +1,19 @@
 //! The ring as a machine, in the manner of the kernel's `tpacket_rcv` with TPACKET_V3.
 //!
-//! It begins with block 1 open. A packet goes after the others of the open block while it fits; one that ends exactly
-//! where the block ends still fits, which the kernel does otherwise. Where it doesn't fit the block is retired, which
-//! hands it to the reader, and the machine looks once at the place of the next block. Where that block is free it is
-//! opened and the packet is its first. Where the reader still has it the ring freezes: no block is open, and the packet
-//! is dropped. In a frozen ring each packet looks again, and the first that finds the next block free thaws the ring. A
-//! packet that is only tried looks before anything is retired, so that a refusal leaves all as it was; the kernel tests
-//! the room of a member of a fanout group by other rules.
+//! It begins with block 1 open. A packet goes after the others of the open block while it fits; one
+//! that ends exactly where the block ends still fits, which the kernel does otherwise. Where it
+//! doesn't fit the block is retired, which hands it to the reader, and the machine looks once at
+//! the place of the next block. Where that block is free it is opened and the packet is its first.
+//! Where the reader still has it the ring freezes: no block is open, and the packet is dropped. In
+//! a frozen ring each packet looks again, and the first that finds the next block free thaws the
+//! ring. A packet that is only tried looks before anything is retired, so that a refusal leaves all
+//! as it was; the kernel tests the room of a member of a fanout group by other rules.
 //!
-//! A tick brings the clock forward. At the deadline the open block's time is over. If it has packets it is retired, and
-//! the next one is opened, or the ring freezes; if it has none it stays. A frozen ring looks again. Each opening, and
-//! each tick at the deadline, sets the deadline one time-out after the clock: the kernel has a timer for that, which
-//! starts anew once more after a packet froze the ring.
+//! A tick brings the clock forward. At the deadline the open block's time is over. If it has
+//! packets it is retired, and the next one is opened, or the ring freezes; if it has none it stays.
+//! A frozen ring looks again. Each opening, and each tick at the deadline, sets the deadline one
+//! time-out after the clock: the kernel has a timer for that, which starts anew once more after a
+//! packet froze the ring.
 //!
 //! In the end an open block that has packets is retired. An empty one is given up.
 ghost use Rattle.std.specs.Prelude.{◌≡◌, ◌+◌, ◌^◌, ◌<◌, ◌≤◌, ◌≢◌, ◌∷◌, ℕ, [], true, false, IsTrue, None, Some};
@@ -91,8 +93,8 @@ impl<E: FeederEnd<Block> + Drop> Machine<E> {
         }
     }
 
-    /// Puts a packet: reports that no next block was needed, or what the look at it found. Where it was held the packet
-    /// is dropped, and the ring is frozen.
+    /// Puts a packet: reports that no next block was needed, or what the look at it found. Where it
+    /// was held the packet is dropped, and the ring is frozen.
     pub(crate) fn put(&mut self, offer: &Offer) -> Found
         ghost state: { State }
         requires at { IsAt E.feed 0 state self.old }
@@ -130,8 +132,8 @@ impl<E: FeederEnd<Block> + Drop> Machine<E> {
         }
     }
 
-    /// Tries a packet, as `put` does, but looks before anything is retired: where the next block was held the packet is
-    /// refused, and all is as before.
+    /// Tries a packet, as `put` does, but looks before anything is retired: where the next block
+    /// was held the packet is refused, and all is as before.
     pub(crate) fn try_put(&mut self, offer: &Offer) -> Found
         ghost state: { State }
         requires at { IsAt E.feed 0 state self.old }
@@ -165,7 +167,8 @@ impl<E: FeederEnd<Block> + Drop> Machine<E> {
         }
     }
 
-    /// Brings the clock forward to a moment, in milliseconds, and reports what was found where a next block was needed.
+    /// Brings the clock forward to a moment, in milliseconds, and reports what was found where a
+    /// next block was needed.
     pub(crate) fn tick(&mut self, ms: u64) -> Found
         ghost state: { State }
         requires at { IsAt E.feed 0 state self.old }
@@ -274,7 +277,8 @@ impl<E: FeederEnd<Block> + Drop> Machine<E> {
         stats
     }
 
-    /// Closes the ring, and gives its end and the notes back: an open block that has packets is retired, an empty one is given up.
+    /// Closes the ring, and gives its end and the notes back: an open block that has packets is
+    /// retired, an empty one is given up.
     pub(crate) fn finish(mut self) -> (E, Vec<Note>)
         ghost state: { State }
         requires at { IsAt E.feed 0 state self }

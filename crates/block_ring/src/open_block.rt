@@ -1,4 +1,5 @@
-//! The open block: packets are written one after the other, and what its close will write is kept beside it.
+//! The open block: packets are written one after the other, and what its close will write is kept
+//! beside it.
 ghost use Rattle.std.specs.Prelude.{◌≡◌, ◌+◌, ◌^◌, ◌<◌, ◌≤◌, ◌++◌, ◌∷◌, ℕ, IsTrue, List, [], length, ◌↔◌};
 ghost use Rattle.ring_model.specs.Offers.{packet_of};
 ghost use Rattle.ring_model.specs.Sizes.{fits, need_of};
@@ -18,7 +19,8 @@ use tp_layout::{
 #[derive(Drop)]
 pub(crate) struct OpenBlock {
     block: Block,
-    /// What its close will write, but for the status. Its `length` is the place of the next packet, in bytes.
+    /// What its close will write, but for the status. Its `length` is the place of the next packet,
+    /// in bytes.
     closing: Closing,
 }
 
@@ -54,7 +56,7 @@ impl OpenBlock {
         self.closing.packets == 0
     }
 
-    /// Whether a packet that takes so many bytes has room after the others.
+    /// Whether a packet of `need` bytes has room after the others.
     pub(crate) fn has_room(&self, shape: &Shape, need: u32) -> bool
         ghost text: { OpenText }
         requires holds { Holds shape.now text self.now }
@@ -89,8 +91,8 @@ impl OpenBlock {
         };
     }
 
-    /// Closes the block, with the status of retirement: TP_STATUS_USER (1), with TP_STATUS_LOSING (4),
-    /// TP_STATUS_BLK_TMO (32) or both.
+    /// Closes the block, with the status of retirement: TP_STATUS_USER (1), with TP_STATUS_LOSING
+    /// (4), TP_STATUS_BLK_TMO (32) or both.
     pub(crate) fn close(self, shape: &Shape, status: u32) -> Block
         ghost text: { OpenText }
         requires holds { Holds shape.now text self }

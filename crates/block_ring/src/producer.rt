@@ -18,8 +18,8 @@ use std::alloc::Global;
 use std::marker::Model;
 use tp_layout::{Block, Shape, a_shape_is_sound};
 
-/// A receive ring: the feeder's side, which keeps, refuses or drops packets. Contracts see its shape, its notes, its
-/// end, and how many more notes need no memory.
+/// A receive ring: the feeder's side, which keeps, refuses or drops packets. Contracts see its
+/// shape, its notes, its end, and how many more notes need no memory.
 #[derive(Drop)]
 pub struct Producer<E: FeederEnd<Block> + Drop> {
     pub(crate) machine: Machine<E>,
@@ -53,8 +53,8 @@ impl<E: FeederEnd<Block> + Drop> Producer<E> {
     ghost use Rattle.block_ring.specs.declared.error.TickError.{TickError};
     ghost use Rattle.block_ring.specs.declared.error.TickError.TheVariants.{Backwards};
 
-    /// A ring of blocks of this shape, with block 1 open. The end is fresh, and its ring has as many blocks of the
-    /// shape as the shape says. After `Memory` the end is dropped.
+    /// A ring of blocks of this shape, with block 1 open. The end is fresh, and its ring has as
+    /// many blocks of the shape as the shape says. After `Memory` the end is dropped.
     pub fn new(alloc: Global, shape: Shape, end: E) -> Result<Producer<E>, Memory>
         requires { IsFresh shape (E.feed end) }
         ensures { IfOk result (λ ring. Opens E.feed shape end ring) }
@@ -66,7 +66,8 @@ impl<E: FeederEnd<Block> + Drop> Producer<E> {
         })
     }
 
-    /// Takes room for so many notes, which then need no memory: each call that notes something takes one of them.
+    /// Reserves room for `notes` notes, which then need no memory: each call that notes something
+    /// takes one of them.
     pub fn reserve(&mut self, notes: u32) -> Result<(), Memory>
         ensures ok { OnOk result (notes ≤ self.new.spare) }
         ensures stays { Stays self.old self.new }
@@ -77,8 +78,9 @@ impl<E: FeederEnd<Block> + Drop> Producer<E> {
         Ok(())
     }
 
-    /// Keeps a packet, or hands it back where it finds no room in the open block and the next block is still the
-    /// reader's; then all but the notes is as before. The condition on the offer is that of `put`.
+    /// Keeps a packet, or hands it back where it finds no room in the open block and the next block
+    /// is still the reader's; then all but the notes is as before. The condition on the offer is
+    /// that of `put`.
     pub fn try_put(&mut self, offer: Offer) -> Result<Tried, Unput>
         requires room { 82 + offer.snap ≤ room_of self.old.shape }
         requires sound { IsWritable offer }
@@ -99,9 +101,9 @@ impl<E: FeederEnd<Block> + Drop> Producer<E> {
         Ok(tried)
     }
 
-    /// Keeps a packet, or drops it where it finds no room in the open block and the next block is still the reader's;
-    /// an open block is then retired, and the ring is frozen. The offer keeps at least one byte of what was captured,
-    /// no more than goes into a block, and is sound.
+    /// Keeps a packet, or drops it where it finds no room in the open block and the next block is
+    /// still the reader's; an open block is then retired, and the ring is frozen. The offer keeps
+    /// at least one byte of what was captured, no more than goes into a block, and is sound.
     pub fn put(&mut self, offer: Offer) -> Result<Put, Unput>
         requires room { 82 + offer.snap ≤ room_of self.old.shape }
         requires sound { IsWritable offer }
@@ -122,8 +124,8 @@ impl<E: FeederEnd<Block> + Drop> Producer<E> {
         Ok(put)
     }
 
-    /// Brings the clock forward to a moment, in milliseconds. At the deadline an open block that has packets is retired
-    /// and a next one is asked for; a frozen ring asks too.
+    /// Brings the clock forward to a moment, in milliseconds. At the deadline an open block that
+    /// has packets is retired and a next one is asked for; a frozen ring asks too.
     pub fn tick(&mut self, ms: u64) -> Result<(), TickError>
         requires small { ms ≤ 2 ^ 63 }
         requires few { length self.old.notes < 2 ^ 39 }
@@ -160,8 +162,8 @@ impl<E: FeederEnd<Block> + Drop> Producer<E> {
         Ok(stats)
     }
 
-    /// Closes the ring: an open block that has packets is retired, an empty one is given up. It gives back the end and
-    /// the notes, of which the last says that the ring was closed.
+    /// Closes the ring: an open block that has packets is retired, an empty one is given up. It
+    /// gives back the end and the notes, of which the last says that the ring was closed.
     pub fn finish(self) -> (E, Notes)
         ensures notes { result.1 ≡ self.notes ++ Finished ∷ [] }
         ensures run { IsWholeRun (size_of self.shape) result.1 }

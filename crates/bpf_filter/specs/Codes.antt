@@ -1,4 +1,5 @@
--- What the codes of classic BPF do. The names beside them are those of linux/bpf_common.h and linux/filter.h.
+-- What the codes of classic BPF do. The names beside them are those of linux/bpf_common.h and
+-- linux/filter.h.
 use Rattle.std.specs.Prelude.{ℕ, ◌+◌, ◌-◌, ◌*◌, ◌/◌, ◌%◌, ◌^◌, Bool, not, List, [], ◌∷◌, length, take, drop, slice_index, slice_set, nat_lt, nat_le, ◌==◌, if◌then◌else◌, bit_and, bit_or, bit_xor, Option, None, Some, is_some}
 use Rattle.std.specs.List.{fold}
 use Rattle.std.specs.Option.{option_map, option_or}
@@ -12,7 +13,8 @@ pub record State : Type 0 where
   pub x : ℕ
   pub memory : List ℕ
 
--- where an instruction leads: to a verdict, or on, less that many further instructions, with a state
+-- where an instruction leads: to a verdict, or on, less that many further instructions, with a
+-- state
 pub data Next : Type 0 where
   Answers : ℕ → Next
   GoesOn : ℕ → State → Next
@@ -23,7 +25,7 @@ Effect = Insn → Sight → State → Next
 
 -- ---- loads
 
--- the number that so many bytes from a place on write, in network order, where all of them are captured
+-- the number that n bytes from a place on hold, in network order, if all of them were captured
 abbrev pub number_at : ℕ → ℕ → List ℕ → Option ℕ
 number_at size place bytes =
     if nat_le (place + size) (length bytes)

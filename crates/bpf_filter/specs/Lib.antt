@@ -1,9 +1,9 @@
 pub mod Answers
 pub mod Codes
 pub mod Listings
-pub mod Machines
 pub mod Programs
 pub mod Sight
 pub mod Tables
 pub mod Verdict
 pub mod Words
+pub mod inside

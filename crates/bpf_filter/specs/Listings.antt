@@ -1,4 +1,5 @@
--- The text of `tcpdump -ddd`: a line with the number of instructions, then a line for each instruction.
+-- The text of `tcpdump -ddd`: a line with the number of instructions, then a line for each
+-- instruction.
 use Rattle.std.specs.Prelude.{ℕ, ◌+◌, Bool, true, false, ◌&&◌, List, [], ◌∷◌, length, nat_lt, nat_le, ◌==◌, if◌then◌else◌, Option, None, Some, Result, Ok, Err}
 use Rattle.std.specs.List.{list_all}
 use Rattle.std.specs.Option.{option_and_then}

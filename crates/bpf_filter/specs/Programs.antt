@@ -32,7 +32,8 @@ has_bad_jump behind i =
     || (is_among (0x15 ∷ 0x1d ∷ 0x25 ∷ 0x2d ∷ 0x35 ∷ 0x3d ∷ 0x45 ∷ 0x4d ∷ []) i.code
     && (nat_le behind i.jt || nat_le behind i.jf))
 
--- the first fault of the instruction of a number, after which that many stand, where its code is known
+-- the first fault of the instruction of a number, after which that many stand, where its code is
+-- known
 abbrev pub fault_of_known : ℕ → ℕ → Insn → Option FilterError
 fault_of_known at behind i =
     if has_bad_constant i then Some (BadConstant at)

@@ -7,8 +7,8 @@ use std::alloc::{AllocError, AllocFailed};
 use std::error::Error;
 use std::fmt;
 
-/// Why a text or a program is refused. Of several faults the first one is reported: all of the text's come before all of
-/// the program's.
+/// Why a text or a program is refused. Of several faults the first one is reported: all of the
+/// text's come before all of the program's.
 #[derive(Clone, Copy, Debug, PartialEq, Eq)]
 pub enum FilterError {
     /// A line of the text of a wrong form, with its number from 1.
@@ -19,13 +19,15 @@ pub enum FilterError {
     BadCode(u32),
     /// A jump past the last instruction, with the jump's number from 0.
     BadJump(u32),
-    /// A division by the constant 0, or a shift by a constant of 32 or more, with the instruction's number from 0.
+    /// A division by the constant 0, or a shift by a constant of 32 or more, with the instruction's
+    /// number from 0.
     BadConstant(u32),
     /// A memory word that isn't there, with the instruction's number from 0.
     BadMemory(u32),
     /// A program without an instruction, or whose last one is no return.
     NoReturn,
-    /// A place in the packet that is neither one nor names an ancillary number, with the instruction's number from 0.
+    /// A place in the packet that is neither one nor names an ancillary number, with the
+    /// instruction's number from 0.
     BadAncillary(u32),
     /// Out of memory.
     Memory,

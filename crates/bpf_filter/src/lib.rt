@@ -1,4 +1,5 @@
-//! Classic BPF: the text of `tcpdump -ddd`, the programs that a filter accepts, and the verdict on a packet.
+//! Classic BPF: the text of `tcpdump -ddd`, the programs that a filter accepts, and the verdict on
+//! a packet.
 #![tactic(auto)]
 
 mod error;

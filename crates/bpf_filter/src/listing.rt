@@ -11,12 +11,14 @@ use crate::program::LARGEST_PROGRAM;
 use std::alloc::Global;
 use text_lines::{LARGEST_TEXT, next_line, next_word, number};
 
-/// Reads the instructions of a text as `tcpdump -ddd` writes it: a line with their number, 1 to 4096, then for each a
-/// line with code, jt, jf and k in decimal. They aren't checked any further: `Program::check` does that.
+/// Reads the instructions of a text as `tcpdump -ddd` writes it: a line with their number, 1 to
+/// 4096, then for each a line with code, jt, jf and k in decimal. They aren't checked any further:
+/// `Program::check` does that.
 ///
-/// `TooLarge` comes for more than 1,048,576 bytes. Then `BadLine` comes with the first line, from 1, that is of another
-/// form; blank lines may stand at the end alone. Last, `BadCount` comes for a number out of its range or unlike the
-/// number of instructions, and for a text of blank lines or of none.
+/// `TooLarge` comes for more than 1,048,576 bytes. Then `BadLine` comes with the first line, from
+/// 1, that is of another form; blank lines may stand at the end alone. Last, `BadCount` comes for a
+/// number out of its range or unlike the number of instructions, and for a text of blank lines or
+/// of none.
 pub fn read_ddd(alloc: Global, text: &[u8]) -> Result<Vec<Insn>, FilterError>
     ensures { Gives (λ code. code.items) result (instructions_of text.now) }
 {

@@ -2,13 +2,14 @@
 ghost use Rattle.std.specs.Prelude.{◌≡◌, ◌+◌, is_some};
 ghost use Rattle.std.specs.Option.{option_map};
 ghost use Rattle.bpf_filter.specs.Codes.{absolute, ancillary, header_length, number_at};
-ghost use Rattle.bpf_filter.specs.Machines.{bytes_of};
+ghost use Rattle.bpf_filter.specs.inside.Machines.{bytes_of};
 ghost use Rattle.bpf_filter.specs.Sight.{sight_of};
 ghost use Rattle.bpf_filter.specs.Tables.{item_at};
 
 use crate::packets::Seen;
 
-/// The first place in a packet that stands for something else than bytes (`SKF_AD_OFF` of `linux/filter.h`).
+/// The first place in a packet that stands for something else than bytes (`SKF_AD_OFF` of
+/// `linux/filter.h`).
 const ANCILLARY: u32 = 0xffff_f000;
 
 /// The number of a packet's interface, by this project's own choice.
@@ -28,8 +29,8 @@ pub(crate) enum Size {
     Byte,
 }
 
-/// What stands at a place of a packet: the fact for which it stands, or the number of its bytes. `None` comes where
-/// these aren't all there.
+/// What stands at a place of a packet: the fact for which it stands, or the number of its bytes.
+/// `None` comes where these aren't all there.
 #[inline]
 pub(crate) fn absolute(size: Size, place: u32, packet: &Seen<'_>) -> Option<u32>
     ensures { result ≡ absolute (bytes_of size) place (sight_of packet.now) }
@@ -58,7 +59,8 @@ fn fact(place: u32, packet: &Seen<'_>) -> Option<u32>
     }
 }
 
-/// The number at the place that X and a number make together. `None` comes where its bytes aren't all there.
+/// The number at the place that X and a number make together. `None` comes where its bytes aren't
+/// all there.
 #[inline]
 pub(crate) fn behind_index(size: Size, x: u32, place: u32, packet: &Seen<'_>) -> Option<u32>
     ensures { result ≡ number_at (bytes_of size) (x + place) packet.now.bytes.now }
@@ -75,7 +77,8 @@ pub(crate) fn header_length(place: u32, packet: &Seen<'_>) -> Option<u32>
     Some(byte % 16 * 4)
 }
 
-/// The number that the bytes from a place on write, in network order. `None` comes where they aren't all there.
+/// The number that the bytes from a place on write, in network order. `None` comes where they
+/// aren't all there.
 #[inline]
 fn number_at(size: Size, at: usize, bytes: &[u8]) -> Option<u32>
     ensures { result ≡ number_at (bytes_of size) at bytes.now }

@@ -1,8 +1,8 @@
-//! The machine that runs a program: its registers and its memory. The names beside the codes are those of
-//! `linux/bpf_common.h` and `linux/filter.h`.
+//! The machine that runs a program: its registers and its memory. The names beside the codes are
+//! those of `linux/bpf_common.h` and `linux/filter.h`.
 ghost use Rattle.std.specs.Prelude.{◌≡◌, ◌<◌, Some, if◌then◌else◌, true};
 ghost use Rattle.bpf_filter.specs.Codes.{GoesOn, effect, left_shift, load_a, load_x, right_shift, to_a, to_word};
-ghost use Rattle.bpf_filter.specs.Machines.{GoesFurther, is_calculation, next_of, state_of};
+ghost use Rattle.bpf_filter.specs.inside.Machines.{GoesFurther, is_calculation, next_of, state_of};
 ghost use Rattle.bpf_filter.specs.Programs.{IsRunnable};
 ghost use Rattle.bpf_filter.specs.Sight.{Sight, sight_of};
 ghost use Rattle.bpf_filter.specs.Verdict.{first_state};
@@ -35,8 +35,8 @@ pub(crate) struct Machine {
 }
 
 impl Machine {
-    /// The machine before the first instruction: every register and every word is 0. That words which no instruction
-    /// wrote are 0 is this project's own choice.
+    /// The machine before the first instruction: every register and every word is 0. That words
+    /// which no instruction wrote are 0 is this project's own choice.
     pub(crate) fn new() -> Machine
         ensures { state_of result ≡ first_state }
     {
@@ -92,7 +92,8 @@ impl Machine {
         }
     }
 
-    /// The number that A takes by an instruction which makes it of k and the registers alone, and always gives one.
+    /// The number that A takes by an instruction which makes it of k and the registers alone, and
+    /// always gives one.
     #[inline]
     #[tactic(auto, unfolding(crate::specs::Codes::codes))]
     fn calculated(&self, insn: &Insn) -> u32

@@ -20,8 +20,9 @@ pub const LARGEST_PROGRAM: usize = 4096;
 /// A program that was accepted. Contracts see it as the list of its instructions.
 #[derive(Drop)]
 pub struct Program {
-    /// The instructions as they were given. `check` accepted them: each has a known code, names a memory word that is there,
-    /// if one, and leads to an instruction that is there or to a verdict, so that no step has to test that.
+    /// The instructions as they were given. `check` accepted them: each has a known code, names a
+    /// memory word that is there, if one, and leads to an instruction that is there or to a
+    /// verdict, so that no step has to test that.
     code: Vec<Insn>,
 }
 
@@ -40,11 +41,13 @@ impl Model for Program {
 impl Program {
     /// Accepts a program, or says what is the first fault of one that isn't accepted.
     ///
-    /// `BadCount` comes for more than 4096 instructions. Then, for each instruction from the first on, `BadCode` for a
-    /// code that isn't known, `BadConstant` for a division by the constant 0 or a shift by a constant of 32 or more,
-    /// `BadMemory` for a memory word from 16 on, `BadAncillary` for a place in the packet from 0x80000000 on that
-    /// isn't ancillary, and `BadJump` for a jump past the last instruction. Last, `NoReturn` comes for a program that
-    /// doesn't end with a return. That memory words may be read before they are written is this project's own choice.
+    /// `BadCount` comes for more than 4096 instructions. Then, for each instruction from the first
+    /// on, `BadCode` for a code that isn't known, `BadConstant` for a division by the constant 0 or
+    /// a shift by a constant of 32 or more, `BadMemory` for a memory word from 16 on,
+    /// `BadAncillary` for a place in the packet from 0x80000000 on that isn't ancillary, and
+    /// `BadJump` for a jump past the last instruction. Last, `NoReturn` comes for a program that
+    /// doesn't end with a return. That memory words may be read before they are written is this
+    /// project's own choice.
     pub fn check(_alloc: Global, code: Vec<Insn>) -> Result<Program, FilterError>
         ensures { Gives (λ program. program) result (program_of code.items) }
     {
@@ -67,8 +70,8 @@ impl Program {
         self.code.as_slice()
     }
 
-    /// How many bytes of a packet to keep; 0 refuses it. It takes no memory, and always returns, since all jumps go
-    /// forward.
+    /// How many bytes of a packet to keep; 0 refuses it. It takes no memory, and always returns,
+    /// since all jumps go forward.
     pub fn verdict(&self, packet: &Seen<'_>) -> u32
         ensures { result ≡ verdict_of self.now (sight_of packet.now) }
     {
@@ -84,8 +87,8 @@ impl Program {
     }
 }
 
-/// The verdict of a filter on a packet: how many bytes to keep. Without a filter it is the greatest number, which keeps
-/// all.
+/// The verdict of a filter on a packet: how many bytes to keep. Without a filter it is the greatest
+/// number, which keeps all.
 pub fn verdict_with(filter: Option<&Program>, packet: &Seen<'_>) -> u32
     ensures { result ≡ verdict_with (option_copied filter.entry) (sight_of packet.now) }
 {

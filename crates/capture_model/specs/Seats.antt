@@ -5,7 +5,7 @@ use Rattle.member_turns.specs.Entries.{may_add}
 use Rattle.ring_model.specs.declared.notes.Note.{Note}
 use Rattle.ring_model.specs.declared.notes.Note.TheVariants.{Finished}
 
--- a seat of a ring that so many CPUs put frames into may add the note
+-- a seat of a ring that n CPUs put frames into may add the note
 abbrev pub IsOfSeat : ℕ → Note → Type 0
 IsOfSeat cpus note = (number : ℕ) × (may_add cpus number note ≡ true)
 

@@ -14,8 +14,8 @@ use tp_layout::{LayoutKind, Shape};
 /// A fault with its place.
 type Fault = Option<(LayoutKind, u32)>;
 
-/// The fault of a slot whose byte at this place was changed by an exclusive or with 1, the frame's length being 14, its
-/// nanoseconds 2,000 and its packet type 1; the tag's fields are tested apart.
+/// The fault of a slot whose byte at this place was changed by an exclusive or with 1, the frame's
+/// length being 14, its nanoseconds 2,000 and its packet type 1; the tag's fields are tested apart.
 fn fault_at(place: u32) -> Fault {
     match place {
         0..=3 => Some((LayoutKind::Field, 0)),
@@ -30,7 +30,8 @@ fn fault_at(place: u32) -> Fault {
     }
 }
 
-/// The same, with the fields of the tag: they are 0 in a slot without one, and with one the control information may be any.
+/// The same, with the fields of the tag: they are 0 in a slot without one, and with one the control
+/// information may be any.
 fn fault_with_tag(place: u32, tagged: bool) -> Fault {
     match place {
         24..=25 => {

@@ -71,7 +71,7 @@ fn write<R: Wait>(
     }
 }
 
-/// Writes so many lines, a turn each.
+/// Writes `lines` lines, a turn each.
 fn write_all<R: Wait>(
     rt: &R,
     lock: &TurnLock<Diary>,
@@ -90,7 +90,7 @@ fn write_all<R: Wait>(
     }
 }
 
-/// Each seat writes so many lines in a thread of its own.
+/// Each seat writes `lines` lines in a thread of its own.
 fn all_write<R: Threads + Wait + Sync>(
     rt: &R,
     lock: &TurnLock<Diary>,
@@ -116,7 +116,7 @@ fn all_write<R: Threads + Wait + Sync>(
     );
 }
 
-/// What seats in as many threads write, each so many lines.
+/// What the seats write, a thread each, each `lines` lines.
 fn written_by_all<R: Threads + Wait + Sync>(
     rt: &R,
     alloc: Global,

@@ -1,4 +1,5 @@
-//! A ring of four slots on one thread, with the answers, the statistics and the dump that follow from the rules by hand.
+//! A ring of four slots on one thread, with the answers, the statistics and the dump that follow
+//! from the rules by hand.
 ghost use Rattle.std.specs.Prelude.{◌≡◌, ◌+◌, ◌<◌, ◌≤◌, false, None, length, IfOk};
 ghost use Rattle.ring_words.specs.PlainRings.{has_block};
 ghost use Rattle.slot_layout.specs.SlotShapes.{IsSlotShape};
@@ -101,7 +102,8 @@ fn status(dump: &ByteList, at: usize) -> Option<u8> {
     dump.get(TEXT.checked_mul(at)?).copied()
 }
 
-/// How many packets, bytes of a dump and slots were read, and the status of the first slot, the fourth and the fifth.
+/// How many packets, bytes of a dump and slots were read, and the status of the first slot, the
+/// fourth and the fifth.
 type Seen = ((usize, usize, u64), [Option<u8>; 3]);
 
 /// What is seen of what was read.
@@ -111,7 +113,8 @@ fn seen_of(outputs: Outputs) -> Seen {
     (sizes, [status(dump, 0), status(dump, 3), status(dump, 4)])
 }
 
-/// Does these things to a new ring, and gives how many of them came out otherwise, and what is seen of what was read.
+/// Does these things to a new ring, and gives how many of them came out otherwise, and what is seen
+/// of what was read.
 fn run(alloc: Global, shape: &Shape, acts: &[(Act, Came)]) -> Result<(u32, Seen), Memory>
     requires checked { IsSlotShape shape.now }
     requires fits { 126 ≤ shape.now.frame_size }

@@ -8,7 +8,8 @@ use ring_words::{FeederEnd, Next, PlainRing, WalkerEnd};
 use std::alloc::Global;
 use std::test::Fail;
 
-/// Fills the next block with a letter and retires it; or the number of the block that is still there.
+/// Fills the next block with a letter and retires it; or the number of the block that is still
+/// there.
 fn fill(ring: &mut PlainRing<Letter>, letter: u8) -> Option<u64>
     requires hand { ring.old.given ≡ ring.old.retired }
     requires few { ring.old.given < 1000 }
@@ -38,8 +39,8 @@ fn read(ring: &mut PlainRing<Letter>) -> Option<u8>
     Some(read)
 }
 
-/// What is read of an empty ring, how three blocks are filled, what is read then, how two more are filled, and what is
-/// read in the end.
+/// What is read of an empty ring, how three blocks are filled, what is read then, how two more are
+/// filled, and what is read in the end.
 type Steps = (
     Option<u8>,
     [Option<u64>; 3],

@@ -79,8 +79,8 @@ fn read_all<R: Wait>(
     (walker, letters)
 }
 
-/// Sends letters through a ring of two blocks from one thread to another, which reads so many of them. It gives these
-/// and what is left in the ring.
+/// Sends letters through a ring of two blocks from one thread to another, which reads `count` of
+/// them. It returns these and what is left in the ring.
 fn relay<R: Threads + Wait + Sync>(
     rt: &R,
     alloc: Global,

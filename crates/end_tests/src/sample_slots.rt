@@ -1,4 +1,5 @@
-//! Frames, and the slots that they make, byte for byte by the fields of `struct tpacket2_hdr` and `struct sockaddr_ll`.
+//! Frames, and the slots that they make, byte for byte by the fields of `struct tpacket2_hdr` and
+//! `struct sockaddr_ll`.
 ghost use Rattle.std.specs.Prelude.{◌≡◌, ◌≤◌, IfOk, IfSome};
 ghost use Rattle.slot_layout.specs.SlotShapes.{IsSlotShape};
 ghost use Rattle.tp_layout.specs.Writing.{IsWritable};
@@ -51,8 +52,9 @@ pub(crate) const TAG: Tag = Tag {
     tci: 100,
 };
 
-/// The bytes of its slot before the data: status 1, lengths 14 and 14, places 66 and 80, 1 second and 2,000 nanoseconds, no
-/// tag; AF_PACKET, 0x0806, interface 1, ARPHRD_ETHER, broadcast, the sender's address.
+/// The bytes of its slot before the data: status 1, lengths 14 and 14, places 66 and 80, 1 second
+/// and 2,000 nanoseconds, no tag; AF_PACKET, 0x0806, interface 1, ARPHRD_ETHER, broadcast, the
+/// sender's address.
 pub(crate) static HEADER: [u8; 66] = [
     1, 0, 0, 0, 14, 0, 0, 0, 14, 0, 0, 0, 66, 0, 80, 0, 1, 0, 0, 0, 0xd0, 7, 0, 0, 0, 0, 0, 0, 0,
     0, 0, 0, 17, 0, 8, 6, 1, 0, 0, 0, 1, 0, 1, 6, 2, 0, 0, 0, 0, 1, 0, 0, 0, 0, 0, 0, 0, 0, 0, 0,

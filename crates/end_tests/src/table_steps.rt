@@ -10,7 +10,8 @@ use std::alloc::Global;
 use std::process::Abort;
 use std::test::Fail;
 
-/// Fills the next block with a letter and retires it; or the number of the block that is still there.
+/// Fills the next block with a letter and retires it; or the number of the block that is still
+/// there.
 pub(crate) fn fill(feeder: &mut TableFeeder<Letter>, letter: u8) -> Option<u64>
     requires hand { feeder.old.given ≡ length feeder.old.retired }
     requires few { feeder.old.given < 1000000 }
@@ -40,7 +41,8 @@ pub(crate) fn read(walker: &mut TableWalker<Letter>) -> Option<u8>
     Some(read)
 }
 
-/// What is read of an empty ring, how three blocks are filled, what is read then, and whether the next block is free.
+/// What is read of an empty ring, how three blocks are filled, what is read then, and whether the
+/// next block is free.
 type Steps = (Option<u8>, [Option<u64>; 3], Option<u8>, bool);
 
 /// These steps with a new ring, and what is pending then.
@@ -66,8 +68,8 @@ fn letter_at(pending: &Pending<Letter>, at: usize) -> Option<(u8, u32)> {
     Some((letter.0, status))
 }
 
-/// The third block isn't filled, and once the first was read its place is free; then one block with the letter b is
-/// pending.
+/// The third block isn't filled, and once the first was read its place is free; then one block with
+/// the letter b is pending.
 fn check_steps(rt: &impl Abort, steps: Steps, pending: &Pending<Letter>, text: &str) {
     let first = letter_at(pending, 0);
     let second = letter_at(pending, 1);

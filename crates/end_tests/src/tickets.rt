@@ -63,7 +63,7 @@ fn close(
     Ok(dealer.close(seats))
 }
 
-/// What two threads draw, each so many, and the number of all.
+/// What two threads draw, `each` tickets each, and the number of all.
 fn drawn_by_two<R: Threads + Sync>(
     rt: &R,
     alloc: Global,
@@ -123,8 +123,8 @@ fn each_ticket_is_drawn_once(rt: HostRuntime) -> Result<(), Fail> {
     Ok(())
 }
 
-/// How many feeders are live at first, once one has ended and once both have, a ticket that is drawn after a feeder has
-/// ended, and the number of tickets that were drawn.
+/// How many feeders are live at first, once one has ended and once both have, a ticket that is
+/// drawn after a feeder has ended, and the number of tickets that were drawn.
 fn ended(alloc: Global) -> Result<([u64; 3], u64, u64), Memory> {
     let (dealer, mut first, mut second, seats) = two_feeders(alloc)?;
     let both = dealer.live(&mut first);

@@ -1,7 +1,7 @@
 -- A round of the group, one member further.
 use Rattle.std.proofs.Common.{◌≡◌, ℕ, zero, suc, ◌+◌, ◌-◌, ◌%◌, List, [], ◌∷◌, ◌++◌, length, refl, sym, ap, ◌∙◌, subst, append_assoc, arith}
 use Rattle.std.specs.Prelude.{slice_get, IfSome, Option, Some}
-use Rattle.fanout_group.specs.TryEffects.{Tells, fate_by}
+use Rattle.fanout_group.specs.inside.TryEffects.{Tells, fate_by}
 use Rattle.ring_model.specs.declared.notes.Offer.{Offer}
 use Rattle.fanout_group.specs.Desks.{TakesTheSame}
 use Rattle.fanout_group.specs.Routes.{a_try, behind, last_member, refused_from}

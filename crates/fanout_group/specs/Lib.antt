@@ -7,8 +7,8 @@ pub mod Logs
 pub mod Joined
 pub mod Once
 pub mod Desks
-pub mod TryEffects
 pub mod Judgements
 pub mod Lenses
 pub mod Paths
 pub mod PathsInside
+pub mod inside

@@ -31,7 +31,7 @@ abbrev pub is_hash : Mode → Bool
 is_hash Hash = true
 is_hash mode = false
 
--- why there is no group of so many members, in this mode, with these flags and with or without a
+-- why there is no group of n members, in this mode, with these flags and with or without a
 -- key of the flow hash: the first that applies
 abbrev pub fault_of : ℕ → Mode → ℕ → Bool → Option PlanError
 fault_of members mode flags has_key =

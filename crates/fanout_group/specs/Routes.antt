@@ -9,13 +9,13 @@ use Rattle.fanout_group.specs.declared.logs.Try.{Try}
 abbrev pub a_try : ℕ → Fate → Try
 a_try member fate = record { member = member; fate = fate }
 
--- so many tries from a member on round the group, each refused
+-- n tries from a member on round the group, each refused
 abbrev pub refused_from : ℕ → ℕ → ℕ → List Try
 refused_from members at zero = []
 refused_from members at (suc count) =
     a_try at Refused ∷ refused_from members ((at + 1) % members) count
 
--- the member so many places after another
+-- the member n places after another
 abbrev pub behind : ℕ → ℕ → ℕ → ℕ
 behind members at zero = at
 behind members at (suc count) = behind members ((at + 1) % members) count

@@ -20,8 +20,8 @@ pub trait Desk {
     ghost follows: { Self → Self → Type 0 };
 
     /// Offers a packet to a member, which keeps it, or refuses it and is as it was; then the offer
-    /// comes back. After `Unput`, which is memory that ran out and hands the offer back too, no try was
-    /// made.
+    /// comes back. After `Unput`, which is memory that ran out and hands the offer back too, no try
+    /// was made.
     fn try_put(&mut self, member: u32, offer: Offer) -> Result<Tried, Unput>
         requires takes { takes self.old member offer }
         requires few { length (tried self.old) < 9 }

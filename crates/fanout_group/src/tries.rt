@@ -4,7 +4,7 @@ ghost use Rattle.std.specs.Prelude.{◌≡◌, ◌<◌, [], ◌∷◌, ◌++◌,
 ghost use Rattle.smallvec.specs.SmallVec.{HasRoomFor};
 ghost use Rattle.fanout_group.specs.Desks.{TakesTheSame};
 ghost use Rattle.fanout_group.specs.Routes.{IsSettled, a_try};
-ghost use Rattle.fanout_group.specs.TryEffects.{Tells, SaysNothing, fate_by};
+ghost use Rattle.fanout_group.specs.inside.TryEffects.{Tells, SaysNothing, fate_by};
 
 use crate::{Desk, Fate, Try};
 use frame_view::Memory;

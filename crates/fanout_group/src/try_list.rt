@@ -47,7 +47,8 @@ impl TryList {
         self.tries.is_empty()
     }
 
-    /// The try at a place, counted from 0. `None` comes exactly where the place isn't below the length.
+    /// The try at a place, counted from 0. `None` comes exactly where the place isn't below the
+    /// length.
     pub fn get(&self, at: usize) -> Option<&Try>
         ensures { option_copied result ≡ slice_get self.now at }
     {

@@ -53,8 +53,8 @@ fn arrive(
     path.arrive(fragment(alloc, index, place, content)?)
 }
 
-/// Whether something arrives at the last fragment of a datagram, at its first after that, and at a copy once it is whole;
-/// and what arrives at the second, which makes it whole.
+/// Whether something arrives at the last fragment of a datagram, at its first after that, and at a
+/// copy once it is whole; and what arrives at the second, which makes it whole.
 fn arrivals(alloc: Global, plan: Plan) -> Result<([bool; 3], Option<Frame>), Memory> {
     let mut path = ReceivePath::new(alloc, plan);
     let last = arrive(alloc, &mut path, 0, 2, &[20, 21, 22, 23])?.is_some();

@@ -238,7 +238,7 @@ fn check_hashes(rt: &impl Abort, log: &ArrivalList) {
     }
 }
 
-/// Holds the hash and the tries of both directions at so many members to what is wanted.
+/// Holds the hash and the tries of both directions at this number of members to what is wanted.
 fn check_flow(
     rt: &impl Abort,
     alloc: Global,

@@ -2,8 +2,8 @@
 use crate::judging::{judged, packet};
 use bpf_filter::verdict_with;
 
-/// A name, the text of a program, and the verdict that its documented meaning gives on the bytes below. There is one
-/// program for each code, and for each choice at its edges.
+/// A name, the text of a program, and the verdict that its documented meaning gives on the bytes
+/// below. There is one program for each code, and for each choice at its edges.
 static VERDICTS: [(&str, &str, u32); 76] = [
     ("ld imm", "2\n0 0 0 7\n22 0 0 0\n", 7),
     ("ld w abs", "2\n32 0 0 2\n22 0 0 0\n", 1450744508),

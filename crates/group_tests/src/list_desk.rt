@@ -8,7 +8,7 @@ use frame_view::Memory;
 use ring_model::{Offer, Put, Tried, Unput};
 use std::alloc::Global;
 
-/// Members that each have room for so many packets more, and the tries of one delivery.
+/// Members that each have room for some more packets, and the tries of one delivery.
 #[derive(Drop)]
 pub(crate) struct ListDesk {
     pub rooms: Vec<u32>,

@@ -3,7 +3,8 @@ use crate::judging::{judged, packet};
 use bpf_filter::{FilterError, Insn, Program, read_ddd};
 use std::test::Fail;
 
-/// Texts at the edges of the form, with the fault of each that is refused, and the verdict of each that isn't.
+/// Texts at the edges of the form, with the fault of each that is refused, and the verdict of each
+/// that isn't.
 static TEXTS: [(&str, Result<u32, FilterError>); 37] = [
     // the last instruction is no return
     ("1\n0 0 0 5\n", Err(FilterError::NoReturn)),

@@ -69,7 +69,8 @@ fn one_byte_changed(rt: HostRuntime) -> Result<(), Fail> {
     check_changes(&rt, rt.alloc(), &shape, &CHANGES)
 }
 
-/// A place that is changed, and what is then read of the packet: its length on the wire, and the first byte of its data.
+/// A place that is changed, and what is then read of the packet: its length on the wire, and the
+/// first byte of its data.
 type Read = (usize, u32, u8);
 
 static READS: [Read; 2] = [(64, 15, 0xff), (130, 14, 0xfe)];

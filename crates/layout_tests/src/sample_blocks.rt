@@ -40,7 +40,7 @@ pub(crate) const TEXT: &[u8] = b"\x02\x00\x00\x00\x30\x00\x00\x00\x01\x00\x00\x0
     \x00\x01\x00\x00\x00\x00\x00\x00\x00\x00\x00\x00\x00\x00\x00\x00\
     \x00\x00\xff\xff\xff\xff\xff\xff\x02\x00\x00\x00\x00\x01\x08\x06";
 
-/// The offer of a frame of these bytes, of which so many are kept.
+/// The offer of a frame of these bytes, of which some are kept.
 pub(crate) fn offer(
     alloc: Global,
     bytes: &[u8],

@@ -61,7 +61,7 @@ static ROWS: [Row; 5] = [
     },
 ];
 
-/// Frames of so many zeros each, numbered from 0.
+/// Frames of zeros of these lengths, numbered from 0.
 fn frames(alloc: Global, lengths: &[usize]) -> Result<Frames, Fail>
     requires { length lengths.now < 100 }
     ensures { IfOk result (λ frames. length frames ≡ length lengths.now) }

@@ -26,7 +26,7 @@ pub(crate) const SLOTS: RingRequest = RingRequest {
 enum Act {
     /// So many bytes are queued.
     Queue(usize),
-    /// A frame of this length, with this offset to a next one, is placed with so many bytes.
+    /// A frame of this length, with this offset to a next one, is placed with this number of bytes.
     Place(u32, u32, usize),
     Send,
     /// The status of a slot is asked.
@@ -261,7 +261,8 @@ fn what_a_ring_says(rt: HostRuntime) -> Result<(), Fail> {
     check_rows(&rt, rt.alloc(), &ROWS)
 }
 
-/// What a ring sends of a frame of 16 bytes of which 14 were given, 6 each, after frames that filled its slots.
+/// What a ring sends of a frame of 16 bytes of which 14 were given, 6 each, after frames that
+/// filled its slots.
 fn padded(alloc: Global) -> Result<Packets, Fail> {
     let mut ring = four_slots(alloc, false)?;
     let mut out = Packets::new(alloc);

@@ -140,8 +140,8 @@ fn three_frames(alloc: Global, shape: &Shape) -> Result<Block, Fail>
     Ok(block)
 }
 
-/// The number of packets, where the first one starts and where the text ends; and the offset from each packet to the
-/// next one, 0 of the last.
+/// The number of packets, where the first one starts and where the text ends; and the offset from
+/// each packet to the next one, 0 of the last.
 static THREE: [Bytes; 4] = [
     (12, &[3, 0, 0, 0, 48, 0, 0, 0, 0xe0, 1, 0, 0]),
     (48, &[144, 0, 0, 0]),
@@ -165,7 +165,7 @@ fn three_frames_one_after_another(rt: HostRuntime) -> Result<(), Fail> {
 /// Where the text ends that fills a block.
 static FILLED: [Bytes; 1] = [(20, &[0, 16, 0, 0])];
 
-/// Of a packet of so many bytes on the wire, of which 3,966 are kept: whether its block's text is said
+/// Of a packet of this wire length, of which 3,966 bytes are kept: whether its block's text is said
 /// to end elsewhere, how many bytes the text has, and how many the packet had and has.
 fn filled(
     alloc: Global,

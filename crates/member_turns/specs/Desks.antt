@@ -95,7 +95,7 @@ pub record IsDesk (desk : DeskValue) : Type 0 where
       (slice_index_or desk.seats member seat).entered ≤ 2 ^ 32 - 9 + turns_at desk
   pub turns : turns_at desk ≤ 9
 
--- seats of so many members, each ready to be entered nine times by an offer's CPU
+-- the seats of all members, each ready to be entered nine times by an offer's CPU
 pub record AreForDesk (made : Offer) (members : List Lock) (stands : List Seat) : Type 0 where
   pub count : length stands ≡ length members
   pub ready : (member : ℕ) (lock : Lock) (seat : Seat) → member < length stands →

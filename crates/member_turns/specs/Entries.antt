@@ -11,7 +11,7 @@ abbrev pub table_numbers : TableId → List ℕ
 table_numbers id =
     id.words ∷ id.slots ∷ id.views_name ∷ id.atom ∷ id.block ∷ id.offset ∷ id.slot_names
 
--- of a ring that so many CPUs put frames into, the seat of this number may add notes about frames
+-- of a ring that n CPUs put frames into, the seat of this number may add notes about frames
 -- of a CPU: it is the CPU's, which is one of them
 abbrev pub is_seat_of : ℕ → ℕ → ℕ → Bool
 is_seat_of cpus number cpu = (cpu == number) && nat_lt cpu cpus

@@ -67,8 +67,8 @@ pub fn put_turn<R: Wait>(
 }
 
 /// Brings a member's clock forward to a moment, in milliseconds, which isn't before the last one
-/// that this stand reported. It waits for the turn of the stand, which is the timer's and has entered
-/// fewer than 2^32 times.
+/// that this stand reported. It waits for the turn of the stand, which is the timer's and has
+/// entered fewer than 2^32 times.
 ///
 /// After `Memory` the turn added no note.
 pub fn tick_turn<R: Wait>(rt: &R, member: &Member, stand: &mut Stand, ms: u64) -> Result<(), Memory>

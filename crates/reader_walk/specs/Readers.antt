@@ -83,7 +83,8 @@ GivesBack took gave_back (Some bytes) before after = gave_back before after byte
 GivesBack took gave_back None before after =
     (between : _) × (content : List ℕ) × took before between content × gave_back between after content 0
 
--- what no block changes of a reader: its shape, whether it keeps texts, and whether it holds a block
+-- what no block changes of a reader: its shape, whether it keeps texts, and whether it holds a
+-- block
 abbrev pub number_of_flag : Bool → ℕ
 number_of_flag false = 0
 number_of_flag true = 1

@@ -4,7 +4,8 @@ use Rattle.tp_layout.specs.Blocks.{BeginsLawfully}
 use Rattle.tp_layout.specs.Writing.{ShapedBytes}
 use Rattle.tp_layout.specs.declared.requests.RingRequest.{RingRequest}
 
--- what no block changes of a taker: the shape of the blocks that it reads, and what else tells it from others
+-- what no block changes of a taker: the shape of the blocks that it reads, and what else tells it
+-- from others
 pub record Base : Type 0 where
   pub shape : RingRequest
   pub further : List ℕ

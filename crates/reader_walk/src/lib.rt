@@ -1,4 +1,5 @@
-//! The reader of a ring: it takes retired blocks, walks over their packets and gives the blocks back.
+//! The reader of a ring: it takes retired blocks, walks over their packets and gives the blocks
+//! back.
 #![tactic(auto)]
 
 mod laws;

@@ -31,8 +31,8 @@ pub(crate) struct Pile {
 impl Pile {
     ghost use Rattle.reader_walk.specs.ReadersInside.{mark_of};
 
-    /// Adds a block or a slot that may stand retired, with copies of its packets, and with its text where texts are
-    /// kept. After `Memory` all is as before.
+    /// Adds a block or a slot that may stand retired, with copies of its packets, and with its text
+    /// where texts are kept. After `Memory` all is as before.
     pub(crate) fn add<B: Layout>(
         &mut self,
         alloc: Global,

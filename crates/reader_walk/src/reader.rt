@@ -1,8 +1,10 @@
-//! A reader: it takes each retired block of a ring, or each filled slot, copies its packets, and gives it back.
+//! A reader: it takes each retired block of a ring, or each filled slot, copies its packets, and
+//! gives it back.
 //!
-//! A step looks once at the next block or slot. Where it was retired the reader takes it, walks over its packets, and
-//! releases it with the word of a free one (TP_STATUS_KERNEL, 0). Out of memory in between it keeps it, and the next
-//! step goes on with it: no packet is lost and none is read twice.
+//! A step looks once at the next block or slot. Where it was retired the reader takes it, walks
+//! over its packets, and releases it with the word of a free one (TP_STATUS_KERNEL, 0). Out of
+//! memory in between it keeps it, and the next step goes on with it: no packet is lost and none is
+//! read twice.
 ghost use Rattle.std.specs.Prelude.{◌≡◌, ◌≢◌, ◌+◌, ◌<◌, ◌≤◌, ◌^◌, ℕ, List, false, None, Some, Ok, length, is_some, IfNone, IfOk, IfSome, IsTrue, OnErr, OnOk, OnSome};
 ghost use Rattle.ring_words.specs.Counts.{Rose};
 ghost use Rattle.tp_layout.specs.Requests.{numbers_of};
@@ -18,7 +20,8 @@ use tp_layout::{Block, Layout, Shape};
 /// TP_STATUS_KERNEL of `linux/if_packet.h`: the word of a free block or slot.
 const FREE: u32 = 0;
 
-/// Reads the blocks or the slots of a ring. Contracts see those that it has read, and the one that it holds.
+/// Reads the blocks or the slots of a ring. Contracts see those that it has read, and the one that
+/// it holds.
 #[derive(Drop)]
 pub struct RingReader<B: Layout> {
     /// Gives the memory for the copies.
@@ -56,7 +59,8 @@ impl<B: Layout> RingReader<B> {
     ghost use Rattle.reader_walk.specs.Readers.{ComesFrom, GivesBack, Keeps, Reads, has_read, new_reader, outputs_by, walked_of};
     ghost use Rattle.reader_walk.specs.Takers.{IsRetiredUnit};
 
-    /// A reader that has read nothing, and that keeps texts where it is asked to. It takes no memory.
+    /// A reader that has read nothing, and that keeps texts where it is asked to. It takes no
+    /// memory.
     #[tactic(auto, unfolding(crate::specs::ReadersInside::taken_by, crate::specs::Readers::texts_by))]
     pub fn new(alloc: Global, shape: Shape, dump: bool) -> RingReader<B>
         ensures { result ≡ new_reader shape dump }
@@ -74,14 +78,15 @@ impl<B: Layout> RingReader<B> {
         }
     }
 
-    /// Takes one block or slot of a ring, reads it and gives it back; `false` where none waits. After `Memory` it stays
-    /// in the reader unread, and the next step goes on with it.
+    /// Takes one block or slot of a ring, reads it and gives it back; `false` where none waits.
+    /// After `Memory` it stays in the reader unread, and the next step goes on with it.
     pub fn step<W: WalkerEnd<B>>(&mut self, end: &mut W) -> Result<bool, Memory>
         requires kind { (W.walk end.old).ring.kind ≡ numbers_of self.old.shape }
         requires hand { (W.walk end.old).in_hand ≡ is_some self.old.held }
         requires few { length self.old.taken < 2 ^ 55 }
 
-        // One block or slot more is read: the one that it held, or else the one that was taken in this call.
+        // One block or slot more is read: the one that it held, or else the one that was taken in
+        // this call.
         ensures read { IfOk result (λ stepped. IsTrue stepped
             → Reads B.taken_in (W.took end.old end.new) self.old self.new) }
 
@@ -133,8 +138,8 @@ impl<B: Layout> RingReader<B> {
         }
     }
 
-    /// Reads a block or a slot that is handed in: appends its packets and, where it is asked to, its text. After
-    /// `Memory` nothing has changed.
+    /// Reads a block or a slot that is handed in: appends its packets and, where it is asked to,
+    /// its text. After `Memory` nothing has changed.
     pub fn walk_block(&mut self, unit: &B) -> Result<(), Memory>
         requires readable { IsRetiredUnit B.shape B.ready self.old.shape unit.now }
         requires few { length self.old.taken < 2 ^ 55 }

@@ -46,7 +46,8 @@ fn say(note: &Note) -> Said {
     }
 }
 
-/// What came of a ring: its notes, the number, status and end of each block that was read, and the statistics.
+/// What came of a ring: its notes, the number, status and end of each block that was read, and the
+/// statistics.
 #[derive(Drop)]
 pub(crate) struct Ran {
     pub(crate) notes: Notes,

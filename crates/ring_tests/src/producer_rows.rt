@@ -1,5 +1,5 @@
-//! Rings of two blocks of a page. A block has room for two frames of 1,514 bytes, which need 1,600 bytes each; its packets
-//! begin at 48.
+//! Rings of two blocks of a page. A block has room for two frames of 1,514 bytes, which need 1,600
+//! bytes each; its packets begin at 48.
 use crate::acts::Act::{self, Put, Read, Stats, Tick, Try};
 use crate::acts::Said::{self, Dropped, Finished, Kept, Refused, Ticked};
 use crate::acts::{run, says};

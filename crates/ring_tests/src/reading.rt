@@ -76,11 +76,12 @@ fn block_with(alloc: Global, shape: &Shape, offer: &Offer) -> Result<Block, Memo
     Ok(block)
 }
 
-/// What was read: how many blocks and packets, how many bytes of them are kept, and whether each of two packets is that
-/// frame.
+/// What was read: how many blocks and packets, how many bytes of them are kept, and whether each of
+/// two packets is that frame.
 type Seen = ((u64, usize, usize), [bool; 2]);
 
-/// Whether a packet is that frame, with its time, its length on the wire, its hash, and its sender's address.
+/// Whether a packet is that frame, with its time, its length on the wire, its hash, and its
+/// sender's address.
 fn is_that_packet(packet: &Packet) -> bool {
     (packet.sec, packet.nsec, packet.wire, packet.rxhash) == (1, 2_000, 14, 0)
         && (packet.protocol, packet.pkttype, packet.tag) == (0x0806, 1, None)

@@ -38,7 +38,7 @@ fn new_sides(alloc: Global, shape: &Shape) -> Result<(Ring, TableWalker<Block>),
     Ok((ring, walker))
 }
 
-/// Lets so many time-outs pass: a block that is open is retired.
+/// Lets `passed` milliseconds pass: a block that is open is retired.
 fn retire_open(ring: &mut Ring, passed: u32) -> Result<(), Memory>
     requires few { length ring.old.notes < 2 * 1000000000 }
     ensures shape { IfOk result (λ done. ring.new.shape ≡ ring.old.shape) }
@@ -52,7 +52,7 @@ fn retire_open(ring: &mut Ring, passed: u32) -> Result<(), Memory>
     }
 }
 
-/// Puts so many frames, each into a block of its own.
+/// Puts `count` frames, each into a block of its own.
 fn feed(alloc: Global, ring: &mut Ring, count: u32) -> Result<(), Memory>
     requires room { 142 ≤ room_of ring.old.shape }
     requires notes { ring.old.notes ≡ [] }
@@ -101,7 +101,7 @@ fn seen_of(outputs: &Outputs) -> (u64, usize, bool) {
     (outputs.blocks, packets.len(), are_in_place(packets))
 }
 
-/// Reads so many blocks, and gives what is seen of them, and the end.
+/// Reads `count` blocks, and gives what is seen of them, and the end.
 fn read_all(
     mut reader: Reader,
     mut walker: TableWalker<Block>,
@@ -128,7 +128,8 @@ fn read_all(
     Ok((seen_of(&reader.outputs()), walker))
 }
 
-/// What is seen of so many blocks by a reader in a thread of its own, and how many blocks are then left.
+/// What is seen of `count` blocks by a reader in a thread of its own, and how many blocks are then
+/// left.
 fn pass_on<R: Threads + Sync>(
     rt: &R,
     alloc: Global,

@@ -3,7 +3,7 @@ use Rattle.std.specs.Prelude.{ℕ, ◌+◌}
 use Rattle.bpf_filter.specs.declared.error.FilterError.{FilterError}
 use Rattle.bpf_filter.specs.declared.error.FilterError.TheVariants.{BadLine, BadCount, BadCode, BadJump, BadConstant, BadMemory, NoReturn, BadAncillary, Memory, TooLarge}
 
--- The line of a fault, where the text has so many instructions: the first line has their number,
+-- The line of a fault, in a text of n instructions: the first line has their number,
 -- and instruction n, from 0, stands in line n + 2. What isn't in a line is in line 0.
 abbrev pub line_of : FilterError → ℕ → ℕ
 line_of (BadLine line) instructions = line

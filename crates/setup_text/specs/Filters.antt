@@ -9,7 +9,7 @@ use Rattle.setup_text.specs.declared.text_error.TextError.{TextError}
 use Rattle.setup_text.specs.declared.text_error.TextKind.TheVariants as kind
 use Rattle.setup_text.specs.declared.text_error.Which.TheVariants as which
 
--- a fault of a filter whose text has so many instructions
+-- a fault of a filter whose text has n instructions
 abbrev pub filter_fault : ℕ → FilterError → TextError
 filter_fault instructions fault = record { which = which.Filter; line = line_of fault instructions; kind = kind.Filter fault }
 

@@ -7,7 +7,7 @@ use Rattle.text_lines.specs.Words.{is_passed_over, words_of}
 abbrev pub HaveNoFault : {S K : Type 0} → (S → List ℕ → Result S K) → S → List (List ℕ) → Type 0
 HaveNoFault {S = S} step start lines = (last : S) × (read_lines step 1 start lines ≡ Ok last)
 
--- so many lines, which have no fault, are before a line that counts and has this fault
+-- the first lines have no fault, and the line after them counts and has this fault
 pub record HasFirstFault {S K : Type 0} (step : S → List ℕ → Result S K) (start : S)
     (lines : List (List ℕ)) (count : ℕ) (kind : K) : Type 0 where
   pub before : List (List ℕ)

@@ -21,7 +21,7 @@ pub record ChangePlaces (lines next : List (List ℕ)) : Type 0 where
   pub next_are : next ≡ before ++ second ∷ first ∷ after
   pub free : (is_cpu_line first && is_cpu_line second) ≡ false
 
--- so many such changes, one after the other, lead from these lines to those
+-- such changes, one after the other, lead from these lines to those
 abbrev pub AreReordered : List (List ℕ) → List (List (List ℕ)) → List (List ℕ) → Type 0
 AreReordered lines [] last = lines ≡ last
 AreReordered lines (next ∷ more) last = ChangePlaces lines next × AreReordered next more last

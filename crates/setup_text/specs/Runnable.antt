@@ -3,7 +3,8 @@ use Rattle.std.specs.Prelude.{◌<◌, ◌≤◌, length}
 use Rattle.setup_text.specs.declared.setups.Setup.{Setup}
 use Rattle.tp_layout.specs.Requests.{IsShape}
 
--- a run asks for 1 to 8 CPUs. The rest holds of every setup, as its shape and its plan were made by their tests
+-- a run asks for 1 to 8 CPUs. The rest holds of every setup, as its shape and its plan were made by
+-- their tests
 pub record IsRunnable (setup : Setup) : Type 0 where
   -- the number of CPUs
   pub some : 0 < length setup.cpus

@@ -31,7 +31,7 @@ clock_after clock line = clock
 abbrev pub clock_of : List Line → ℕ
 clock_of lines = fold clock_after 0 lines
 
--- what is done with a number: there are so many CPUs and members, and the clock doesn't go back
+-- what is done with a number: it names a CPU or member that exists, and the clock doesn't go back
 unfoldable pub line_with : ℕ → ℕ → ℕ → Verb → ℕ → Result Line TextKind
 line_with cpus members clock verb.Feed number = if nat_lt number cpus then Ok (line.Feed number) else Err NoSuchCpu
 line_with cpus members clock verb.Read number = if nat_lt number members then Ok (line.Read number) else Err NoSuchMember
@@ -58,6 +58,6 @@ worded cpus members clock (first ∷ values) = named cpus members clock (verb_na
 unfoldable pub line_in : ℕ → ℕ → ℕ → List ℕ → Result Line TextKind
 line_in cpus members clock text = if is_plain text then worded cpus members clock (words_of text) else Err BadLine
 
--- what a text says, for so many CPUs and members, or its first fault
+-- what a text says, for these numbers of CPUs and members, or its first fault
 unfoldable pub schedule_of : ℕ → ℕ → List ℕ → Result (List Line) TextError
 schedule_of cpus members text = items_of Schedule (λ lines line. line_in cpus members (clock_of lines) line) text

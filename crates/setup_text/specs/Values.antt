@@ -56,6 +56,6 @@ abbrev pub decoded : Result (List ℕ) FromHexError → Result (List ℕ) SetupK
 decoded (Ok bytes) = Ok bytes
 decoded (Err error) = Err BadNumber
 
--- so many bytes, each of two hexadecimal digits in either case
+-- n bytes, each of two hexadecimal digits in either case
 unfoldable pub bytes_in : ℕ → List ℕ → Result (List ℕ) SetupKind
 bytes_in count word = decoded (decode_sized word count)

@@ -109,7 +109,7 @@ is_graphic b = nat_le 33 b && nat_le b 126
 abbrev pub IsGraphic : List ℕ → Type 0
 IsGraphic word = list_all is_graphic word ≡ true
 
--- so many bytes
+-- there are n bytes
 abbrev pub IsSized : ℕ → List ℕ → Type 0
 IsSized count bytes = (length bytes ≡ count) × IsBytes bytes
 

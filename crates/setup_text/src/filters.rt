@@ -29,7 +29,7 @@ pub fn read_filter(alloc: Global, text: &[u8]) -> Result<Program, TextError>
     }
 }
 
-/// The fault of a filter whose text has so many instructions.
+/// The fault of a filter whose text has `instructions` instructions.
 fn fault(error: FilterError, instructions: u32) -> TextError
     requires few { instructions + 1 < 2 ^ 32 }
     requires place { place_of error + 2 < 2 ^ 32 }

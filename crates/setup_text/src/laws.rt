@@ -44,7 +44,8 @@ pub fn a_written_setup_is_read_back()
         → setup_of (text_of setup) command ≡ Ok setup }
 {}
 
-/// A setup with 1 to 8 CPUs can be run: its ring's shape and its group are valid, as they were made.
+/// A setup with 1 to 8 CPUs can be run: its ring's shape and its group are valid, as they were
+/// made.
 pub fn a_setup_with_cpus_can_be_run(setup: &Setup)
     requires some { 0 < length setup.now.cpus }
     requires few { length setup.now.cpus ≤ 8 }

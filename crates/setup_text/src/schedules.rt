@@ -12,8 +12,8 @@ use schedule_lines::{Line, Schedule};
 use std::alloc::Global;
 use text_lines::{LARGEST_TEXT, is_passed_over, is_plain, next_line, next_word, number};
 
-/// Reads a schedule for so many CPUs and members. Its lines are `feed C`, `read M`, `tick MS` and
-/// `stats M`.
+/// Reads a schedule for these numbers of CPUs and members. Its lines are `feed C`, `read M`, `tick
+/// MS` and `stats M`.
 ///
 /// `TooLarge` comes for more than 1,048,576 bytes, with line 0. Then the first line with a fault
 /// answers, with its number from 1. Within a line the first of these comes: `BadLine` for a byte

@@ -1,4 +1,5 @@
--- The text of a filled slot: `struct tpacket2_hdr`, `struct sockaddr_ll`, a gap, the data. Sizes and places are in bytes.
+-- The text of a filled slot: `struct tpacket2_hdr`, `struct sockaddr_ll`, a gap, the data. Sizes
+-- and places are in bytes.
 use Rattle.std.specs.Prelude.{◌≡◌, ℕ, ◌+◌, ◌≤◌, Bool, ◌||◌, ◌==◌, IsTrue, if◌then◌else◌, List, [], ◌∷◌, ◌++◌, length, take, drop, Option, None, Some}
 use Rattle.frame_view.specs.Headers.{address_of}
 use Rattle.frame_view.specs.declared.frames.Packet.{Packet}
@@ -21,15 +22,16 @@ slot_header_rows status packet =
     ∷ row 26 2 (tpid_of packet.tag)  -- tp_vlan_tpid
     ∷ []
 
--- the bytes of a slot with this status and packet: the header, 4 bytes of padding, from place 32 on the address with two
--- zeros after it and a gap of 14 bytes, from place 66 on the data. The address is that of a packet in a block.
+-- the bytes of a slot with this status and packet: the header, 4 bytes of padding, from place 32 on
+-- the address with two zeros after it and a gap of 14 bytes, from place 66 on the data. The address
+-- is that of a packet in a block.
 unfoldable pub slot_text : ℕ → Packet → List ℕ
 slot_text status packet =
     bytes_of (slot_header_rows status packet) ++ (bytes_of (zeros 28 4)
     ++ (bytes_of (address_rows packet) ++ (bytes_of (zeros 50 16) ++ packet.bytes)))
 
--- a filled slot may have this status: TP_STATUS_USER (1), with TP_STATUS_LOSING (4) or not, and with a tag
--- TP_STATUS_VLAN_VALID (16) and TP_STATUS_VLAN_TPID_VALID (64)
+-- a filled slot may have this status: TP_STATUS_USER (1), with TP_STATUS_LOSING (4) or not, and
+-- with a tag TP_STATUS_VLAN_VALID (16) and TP_STATUS_VLAN_TPID_VALID (64)
 abbrev pub slot_status_may : Option Tag → ℕ → Bool
 slot_status_may None status = (status == 1) || (status == 5)
 slot_status_may (Some tag) status = (status == 81) || (status == 85)

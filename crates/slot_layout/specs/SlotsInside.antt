@@ -1,4 +1,5 @@
--- A slot by its fields: its bytes are kept once they are written, and until then it lends zeros that all slots share.
+-- A slot by its fields: its bytes are kept once they are written, and until then it lends zeros
+-- that all slots share.
 use Rattle.std.specs.Prelude.{◌≡◌, length, replicate}
 use Rattle.std.specs.Arc.{arc_value}
 use Rattle.tp_layout.specs.Writing.{ShapedBytes, bytes_or_zeros}

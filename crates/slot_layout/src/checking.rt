@@ -25,7 +25,8 @@ pub(crate) fn check_fields(bytes: &[u8], shape: &Shape) -> Result<(), LayoutErro
     check_zeros(bytes, 0, 50, 66)
 }
 
-/// Tests the fields of `struct tpacket2_hdr` whose faults come first: tp_status, tp_snaplen, tp_mac, tp_net, tp_nsec.
+/// Tests the fields of `struct tpacket2_hdr` whose faults come first: tp_status, tp_snaplen,
+/// tp_mac, tp_net, tp_nsec.
 #[tactic(auto, unfolding(crate::specs::SlotFaults::slot_head_fault))]
 fn check_head(bytes: &[u8], shape: &Shape) -> Result<(), LayoutError>
     requires { length bytes.now ≡ shape.now.frame_size }
@@ -60,7 +61,8 @@ fn is_status(status: u32) -> bool
     status == 1 || status == 5 || status == 81 || status == 85
 }
 
-/// Whether a snap length is at least 1 and at most the wire length, and the data ends within a slot of so many bytes.
+/// Whether a snap length is at least 1 and at most the wire length, and the data ends within a slot
+/// of `size` bytes.
 fn snap_may(snap: u32, wire: u32, size: u32) -> bool
     requires { 66 ≤ size }
     ensures { result ≡ (nat_le 1 snap && nat_le snap wire && nat_le snap (size - 66)) }

@@ -19,7 +19,8 @@ pub fn a_checked_ring_is_bounded()
     ensures { (shape : RingRequest) → IsSlotShape shape → SlotBounds shape }
 {}
 
-/// A law and no call to make: of a slot that begins with a lawful text are read that text's status and packet.
+/// A law and no call to make: of a slot that begins with a lawful text are read that text's status
+/// and packet.
 pub fn a_slot_is_read_as_it_was_written()
     ensures { (shape : RingRequest) (status : ℕ) (packet : Packet) (bytes : List ℕ)
         → SlotBegins shape status packet bytes

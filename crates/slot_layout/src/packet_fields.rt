@@ -12,7 +12,8 @@ use ring_model::Offer;
 use tp_layout::fields::{put_bytes, put_u16, put_u32, put_zeros};
 use tp_layout::link_addresses::put_link_address;
 
-/// Writes the text of an offer's packet with this status: the header, zeros, the address, the gap, the data.
+/// Writes the text of an offer's packet with this status: the header, zeros, the address, the gap,
+/// the data.
 #[tactic(auto, unfolding(crate::specs::SlotTexts::slot_text))]
 pub(crate) fn put_packet(bytes: &mut [u8], status: u32, offer: &Offer)
     requires fits { 66 + offer.now.snap ≤ length bytes.old }

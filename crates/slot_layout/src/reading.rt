@@ -13,8 +13,8 @@ use tp_layout::fields::{u16_at, u32_at};
 use tp_layout::link_addresses::link_address_at;
 use tp_layout::{LayoutError, PacketRef, Shape};
 
-/// Tests a slot, and gives its packet. It is Ok exactly where the slot begins with a lawful text; else it reports the first
-/// test that fails, and where.
+/// Tests a slot, and gives its packet. It is Ok exactly where the slot begins with a lawful text;
+/// else it reports the first test that fails, and where.
 pub fn read_slot<'a>(bytes: &'a [u8], shape: &Shape) -> Result<PacketRef<'a>, LayoutError>
     requires { length bytes.now ≡ shape.now.frame_size }
     ensures fault { told result ≡ slot_text_fault shape.now bytes.now }

@@ -127,6 +127,6 @@ sent_line told =
     codes "send sent " ++ (decimal told.sent ++ (codes " skipped " ++ (decimal told.skipped
     ++ (codes " stop " ++ (stop_text told.stop ++ codes "\n")))))
 
--- the lines of a capture of so many frames that ended so and was sent
+-- the lines of a capture of n frames that was sent, with its end
 unfoldable pub send_lines : ℕ → CpuEnd → Transmitted → List ℕ
 send_lines frames end told = sent_cpu_line frames end ++ sent_line told

@@ -8,9 +8,9 @@ use frame_view::Memory;
 use std::alloc::Global;
 use tx_ring::Transmitted;
 
-/// The lines of a capture of so many frames that ended so and was sent, each ended by a line feed:
-/// that of the capture, and that of what became of its frames. The lines are this project's own
-/// choice.
+/// The lines of a capture of `frames` frames that was sent, with its end, each ended by a line
+/// feed: that of the capture, and that of what became of its frames. The lines are this project's
+/// own choice.
 #[tactic(auto, unfolding(crate::specs::Lines::send_lines))]
 pub fn send_lines(
     alloc: Global,

@@ -36,7 +36,8 @@ fn push_ring(text: &mut String, setup: &Setup) -> Result<(), Memory> {
     )
 }
 
-/// Appends the frames and the time-out that are asked for, the time-out that counts, and the feature.
+/// Appends the frames and the time-out that are asked for, the time-out that counts, and the
+/// feature.
 fn push_asked(text: &mut String, setup: &Setup) -> Result<(), Memory> {
     push_numbers(
         text,

@@ -10,8 +10,8 @@ use tap_printing::{RingKind, summary};
 /// The log of a CPU: the number of frames, the verdicts of the arrivals, and the end.
 pub(crate) type Cpu<'a> = (u32, &'a [u32], CpuEnd);
 
-/// The report of a member: a letter for each event of its ring, the moments of those that are ticks,
-/// and the number of blocks that were walked.
+/// The report of a member: a letter for each event of its ring, the moments of those that are
+/// ticks, and the number of blocks that were walked.
 ///
 /// `k` keeps a packet in the open block and `n` in the next one; `r` refuses one and `d` drops one;
 /// at a tick the next block isn't asked for with `t`, is free with `T` and is held with `H`; `c`

@@ -46,7 +46,7 @@ fn answers(alloc: Global, text: Vec<u8>, wanted: &str) -> Result<bool, Memory> {
     Ok(answer.as_str() == wanted)
 }
 
-/// A setup whose last line is a word and a name of so many bytes, 256 at most.
+/// A setup whose last line is a word and a name of `size` bytes, 256 at most.
 fn named(alloc: Global, word: &str, size: usize) -> Result<Vec<u8>, Memory> {
     let mut text = joined(alloc, NEEDED, word)?;
     text.extend_from_slice(&[b'n'; 256][..size.min(256)])?;

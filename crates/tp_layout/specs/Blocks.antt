@@ -8,7 +8,8 @@ use Rattle.tp_layout.specs.Requests.{first_of}
 use Rattle.tp_layout.specs.Rows.{Row, row, bound, zeros, bytes_of}
 use Rattle.tp_layout.specs.Packets.{packet_text, need_of_packet, IsLawfulPacket}
 
--- a status of a retired block: TP_STATUS_USER (1), with TP_STATUS_LOSING (4), TP_STATUS_BLK_TMO (32) or both
+-- a status of a retired block: TP_STATUS_USER (1), with TP_STATUS_LOSING (4), TP_STATUS_BLK_TMO
+-- (32) or both
 abbrev pub is_status : ℕ → Bool
 is_status status = (status == 1) || (status == 5) || (status == 33) || (status == 37)
 
@@ -26,7 +27,8 @@ pub record Descriptor : Type 0 where
   pub last_sec : ℕ
   pub last_nsec : ℕ
 
--- whether the packets of a block may end there: a multiple of 8 after the first packet's place, within the block
+-- whether the packets of a block may end there: a multiple of 8 after the first packet's place,
+-- within the block
 abbrev pub end_may : RingRequest → ℕ → Bool
 end_may shape end = (end % 8 == 0) && nat_lt (first_of shape) end && nat_le end shape.block_size
 
@@ -118,6 +120,7 @@ pub record BeginsWith (shape : RingRequest) (number status : ℕ) (packets : Lis
 abbrev pub HasText : RingRequest → List ℕ → List Packet → Type 0
 HasText shape bytes packets = (number : ℕ) × (status : ℕ) × BeginsWith shape number status packets bytes
 
--- a block begins with a lawful text of this number and status: that is a fact, since the text gives the packets
+-- a block begins with a lawful text of this number and status: that is a fact, since the text gives
+-- the packets
 abbrev pub BeginsLawfully : RingRequest → ℕ → ℕ → List ℕ → Type 0
 BeginsLawfully shape number status bytes = ∥ ((packets : List Packet) × BeginsWith shape number status packets bytes) ∥₁

@@ -1,4 +1,5 @@
--- A block by its fields: its bytes are kept once they are written, and until then it lends zeros that all blocks share.
+-- A block by its fields: its bytes are kept once they are written, and until then it lends zeros
+-- that all blocks share.
 use Rattle.std.specs.Prelude.{◌≡◌, ◌≤◌, [], length, replicate}
 use Rattle.std.specs.Arc.{arc_value}
 use Rattle.std.specs.Vec.{vec_capacity}

@@ -70,7 +70,7 @@ packet_tests last at bytes =
     else option_or (fixed_tests at (next_of last bytes) bytes)
     (first_fault at (82 + number_at 4 12 bytes) (padding_rows (number_at 4 12 bytes)) bytes)
 
--- the tests of so many packets
+-- the tests of n packets
 unfoldable pub packets_tests : ℕ → ℕ → List ℕ → Option LayoutError
 packets_tests count at bytes = packets_fault_by packet_tests count at bytes
 
@@ -91,10 +91,10 @@ block_tests fits shape bytes =
     (option_or (packets_tests (number_at 4 12 bytes) (first_of shape) (area_of shape bytes))
     (time_tests (number_at 4 4 (area_of shape bytes), number_at 4 8 (area_of shape bytes)) (last_time (packets_in (number_at 4 12 bytes) (area_of shape bytes))) bytes))
 
--- where packets may end is after the first packet's place and within so many bytes
+-- where packets may end is after the first packet's place and within n bytes
 abbrev pub EndsWithin : RingRequest → (ℕ → Bool) → ℕ → Type 0
 EndsWithin shape fits size = (end : ℕ) → fits end ≡ true → (first_of shape < end) × (end ≤ size)
 
--- bytes that begin with so many packets that passed their tests
+-- bytes that begin with n packets that passed their tests
 abbrev pub Stands : ℕ → List ℕ → Type 0
 Stands count bytes = (at : ℕ) × (packets_tests count at bytes ≡ None) × (length bytes ≤ 1048576)

@@ -10,7 +10,8 @@ use Rattle.tp_layout.specs.Rows.{number_at, first_fault}
 use Rattle.tp_layout.specs.Packets.{packet_rows, padding_rows, packet_at, need_at}
 use Rattle.tp_layout.specs.Blocks.{Descriptor, head_rows, time_rows, private_rows, end_may, first_time, last_time}
 
--- the snap length of the packet at the start: at least 1, at most its wire length, and the packet ends within the bytes
+-- the snap length of the packet at the start: at least 1, at most its wire length, and the packet
+-- ends within the bytes
 abbrev pub snap_may : List ℕ → Bool
 snap_may bytes =
     nat_le 1 (number_at 4 12 bytes) && nat_le (number_at 4 12 bytes) (number_at 4 16 bytes) && nat_le (need_at bytes) (length bytes)
@@ -19,7 +20,8 @@ snap_may bytes =
 abbrev pub next_of : Bool → List ℕ → ℕ
 next_of last bytes = if last then 0 else need_at bytes
 
--- the first fault of the packet at the start of bytes that stand at `at`; `last` says that it is the last by num_pkts
+-- the first fault of the packet at the start of bytes that stand at `at`; `last` says that it is
+-- the last by num_pkts
 unfoldable pub packet_fault : Bool → ℕ → List ℕ → Option LayoutError
 packet_fault last at bytes =
     if nat_lt (length bytes) 88 then Some (record { kind = Count; at = 12 })
@@ -27,19 +29,19 @@ packet_fault last at bytes =
     else option_or (first_fault at 0 (packet_rows (next_of last bytes) (packet_at bytes)) bytes)
     (first_fault at (82 + number_at 4 12 bytes) (padding_rows (number_at 4 12 bytes)) bytes)
 
--- the first fault of so many packets in bytes that stand at `at`, given that of the packet at the start: after them no
--- byte is left
+-- the first fault of n packets in bytes that begin at `at`, given that of the packet at the start:
+-- after them no byte is left
 unfoldable pub packets_fault_by : (Bool → ℕ → List ℕ → Option LayoutError) → ℕ → ℕ → List ℕ → Option LayoutError
 packets_fault_by fault zero at [] = None
 packets_fault_by fault zero at (byte ∷ bytes) = Some (record { kind = Length; at = 20 })
 packets_fault_by fault (suc more) at bytes = option_or (fault (more == 0) at bytes)
     (packets_fault_by fault more (at + need_at bytes) (drop (need_at bytes) bytes))
 
--- the first fault of so many packets in bytes that stand at `at`
+-- the first fault of n packets in bytes that begin at `at`
 unfoldable pub packets_fault : ℕ → ℕ → List ℕ → Option LayoutError
 packets_fault count at bytes = packets_fault_by packet_fault count at bytes
 
--- so many packets from the start of the bytes
+-- n packets from the start of the bytes
 unfoldable pub packets_in : ℕ → List ℕ → List Packet
 packets_in zero bytes = []
 packets_in (suc more) bytes = packet_at bytes ∷ packets_in more (drop (need_at bytes) bytes)
@@ -65,7 +67,8 @@ descriptor_at packets bytes = record {
   last_nsec = (last_time packets).1;
 }
 
--- the first fault of a block: its head, its private area, its packets, their times; `fits` says where packets may end
+-- the first fault of a block: its head, its private area, its packets, their times; `fits` says
+-- where packets may end
 unfoldable pub fault_by : (ℕ → Bool) → RingRequest → List ℕ → Option LayoutError
 fault_by fits shape bytes =
     let desc = descriptor_at (packets_of shape bytes) bytes in

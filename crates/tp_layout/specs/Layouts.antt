@@ -6,7 +6,8 @@ use Rattle.tp_layout.specs.Faults.{packets_of}
 use Rattle.tp_layout.specs.Rows.{number_at}
 use Rattle.tp_layout.specs.declared.requests.RingRequest.{RingRequest}
 
--- a block or a slot that was read: its number, which is 0 for a slot, the status that it was retired with, its packets
+-- a block or a slot that was read: its number, which is 0 for a slot, the status that it was
+-- retired with, its packets
 pub record Taken : Type 0 where
   pub number : ℕ
   pub status : ℕ

@@ -1,4 +1,5 @@
--- A packet in a block: `struct tpacket3_hdr`, `struct sockaddr_ll`, a gap, the data. Sizes and places are in bytes.
+-- A packet in a block: `struct tpacket3_hdr`, `struct sockaddr_ll`, a gap, the data. Sizes and
+-- places are in bytes.
 use Rattle.std.specs.Prelude.{◌≡◌, ℕ, ◌+◌, ◌-◌, ◌/◌, ◌%◌, ◌^◌, ◌<◌, ◌≤◌, Bool, true, ◌==◌, nat_le, if◌then◌else◌, IfSome, IsTrue, All, List, [], ◌∷◌, ◌++◌, length, take, drop, slice_index, Option, None, Some}
 use Rattle.frame_view.specs.Headers.{address_of}
 use Rattle.frame_view.specs.Vlan.{is_tpid}
@@ -8,7 +9,8 @@ use Rattle.ring_model.specs.Sizes.{need_of}
 use Rattle.tp_layout.specs.declared.error.LayoutKind.TheVariants.{Offset}
 use Rattle.tp_layout.specs.Rows.{Row, row, bound, zeros, bytes_of, number_at, network_at}
 
--- the packet's status: TP_STATUS_USER (1), and with a tag TP_STATUS_VLAN_VALID (16) and TP_STATUS_VLAN_TPID_VALID (64)
+-- the packet's status: TP_STATUS_USER (1), and with a tag TP_STATUS_VLAN_VALID (16) and
+-- TP_STATUS_VLAN_TPID_VALID (64)
 abbrev pub status_of_tag : Option Tag → ℕ
 status_of_tag None = 1
 status_of_tag (Some tag) = 81
@@ -56,7 +58,8 @@ address_rows packet =
     ∷ row 63 1 (slice_index packet.addr 3) ∷ row 64 1 (slice_index packet.addr 4) ∷ row 65 1 (slice_index packet.addr 5)
     ∷ []
 
--- all 82 bytes before the data: the header, 8 bytes of padding, the address with two zeros after it, a gap of 14 bytes
+-- all 82 bytes before the data: the header, 8 bytes of padding, the address with two zeros after
+-- it, a gap of 14 bytes
 unfoldable pub packet_rows : ℕ → Packet → List Row
 packet_rows next packet = header_rows next packet ++ (zeros 40 8 ++ (address_rows packet ++ zeros 66 16))
 

@@ -22,7 +22,8 @@ receive_fault request =
     else if nat_lt 1 request.features then Some Feature
     else None
 
--- the first test of a transmit ring that fails: it has neither a time-out nor a private area nor a feature
+-- the first test of a transmit ring that fails: it has neither a time-out nor a private area nor a
+-- feature
 unfoldable pub transmit_fault : RingRequest → Option RequestError
 transmit_fault request = option_or (receive_fault request)
     (if (request.tov == 0) && (request.sizeof_priv == 0) && (request.features == 0) then None else Some Transmit)
@@ -36,7 +37,8 @@ abbrev pub answer_of : RingRequest → Option RequestError → Result RingReques
 answer_of request None = Ok request
 answer_of request (Some fault) = Err fault
 
--- what holds of each shape: whole pages, at most 1 MiB a block and 64 MiB in all, a private area of at most 1 KiB
+-- what holds of each shape: whole pages, at most 1 MiB a block and 64 MiB in all, a private area of
+-- at most 1 KiB
 pub record IsShape (shape : RingRequest) : Type 0 where
   pub some : 0 < shape.block_size
   pub pages : shape.block_size % 4096 ≡ 0
@@ -50,7 +52,8 @@ pub record IsShape (shape : RingRequest) : Type 0 where
   pub frames : frames_in shape ≡ shape.frame_nr
   pub features : shape.features ≤ 1
 
--- the place of a block's first packet: after the descriptor of 48 bytes and the private area, rounded up to 8
+-- the place of a block's first packet: after the descriptor of 48 bytes and the private area,
+-- rounded up to 8
 abbrev pub first_of : RingRequest → ℕ
 first_of shape = 48 + (shape.sizeof_priv + 7) / 8 * 8
 

@@ -1,4 +1,5 @@
--- A layout as a table: one row for each field, in the order in which they stand. Sizes and places are in bytes.
+-- A layout as a table: one row for each field, in the order in which they stand. Sizes and places
+-- are in bytes.
 use Rattle.std.specs.Prelude.{ℕ, zero, suc, ◌+◌, Bool, true, ◌&&◌, ◌==◌, if◌then◌else◌, List, [], ◌∷◌, ◌++◌, drop, Option, None, Some}
 use Rattle.byteorder.specs.Endian.{little_bytes, little_number, big_number}
 use Rattle.tp_layout.specs.declared.error.LayoutError.{LayoutError}
@@ -25,7 +26,7 @@ row at size value = record { at = at; size = size; value = value; kind = Field; 
 abbrev pub bound : ℕ → ℕ → ℕ → Bool → Row
 bound at size value may = record { at = at; size = size; value = value; kind = Field; may = may }
 
--- so many bytes of zero, each a field of its own
+-- n bytes of zero, each a field of its own
 abbrev pub zeros : ℕ → ℕ → List Row
 zeros at zero = []
 zeros at (suc n) = row at 1 0 ∷ zeros (at + 1) n
@@ -48,7 +49,8 @@ abbrev pub size_of_rows : List Row → ℕ
 size_of_rows [] = 0
 size_of_rows (row ∷ rows) = row.size + size_of_rows rows
 
--- the first field of a table that isn't in the bytes from `from` on as the table has it; the header stands at `base`
+-- the first field of a table that isn't in the bytes from `from` on as the table has it; the header
+-- stands at `base`
 unfoldable pub first_fault : ℕ → ℕ → List Row → List ℕ → Option LayoutError
 first_fault base from [] bytes = None
 first_fault base from (row ∷ rows) bytes =

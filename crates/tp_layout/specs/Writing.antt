@@ -1,4 +1,5 @@
--- How a block is filled: an open block, each packet of which says where the next one is to stand, is closed at the end.
+-- How a block is filled: an open block, each packet of which says where the next one is to stand,
+-- is closed at the end.
 use Rattle.std.specs.Prelude.{◌≡◌, ℕ, ◌+◌, ◌^◌, ◌<◌, ◌≤◌, IfSome, IsTrue, List, [], ◌∷◌, ◌++◌, length, take, drop, replicate}
 use Rattle.std.specs.List.{AllByRecursion, flat_map}
 use Rattle.byteorder.specs.Endian.{little_bytes}
@@ -25,8 +26,8 @@ bytes_or_zeros size (byte ∷ bytes) = byte ∷ bytes
 abbrev pub put : ℕ → List ℕ → List ℕ → List ℕ
 put at text bytes = take at bytes ++ (text ++ drop (at + length text) bytes)
 
--- an offer whose packet may be written: some of its bytes are kept, no more than there are or were on the wire, and the
--- rest of it is sound
+-- an offer whose packet may be written: some of its bytes are kept, no more than there are or were
+-- on the wire, and the rest of it is sound
 pub record IsWritable (offer : Offer) : Type 0 where
   pub some : 0 < offer.snap
   pub captured : offer.snap ≤ length offer.frame.bytes
@@ -103,7 +104,8 @@ closing_times closing =
     little_bytes 4 closing.first_sec ++ (little_bytes 4 closing.first_nsec
     ++ (little_bytes 4 closing.last_sec ++ little_bytes 4 closing.last_nsec))
 
--- the bytes with the fields of the descriptor closed, and no offset to a next packet at the last one
+-- the bytes with the fields of the descriptor closed, and no offset to a next packet at the last
+-- one
 unfoldable pub closed : Closing → List ℕ → List ℕ
 closed closing bytes =
     put closing.last_at (little_bytes 4 0)

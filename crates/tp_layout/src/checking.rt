@@ -54,8 +54,8 @@ pub(crate) fn check_head(bytes: &[u8], shape: &Shape, ends: Ends) -> Result<(), 
     Ok(())
 }
 
-/// Whether a retired block may have this status: TP_STATUS_USER (1), with TP_STATUS_LOSING (4), TP_STATUS_BLK_TMO (32)
-/// or both.
+/// Whether a retired block may have this status: TP_STATUS_USER (1), with TP_STATUS_LOSING (4),
+/// TP_STATUS_BLK_TMO (32) or both.
 fn is_status(status: u32) -> bool
     ensures { result ≡ is_status status }
 {
@@ -75,8 +75,8 @@ fn ends_well(end: u32, shape: &Shape, ends: Ends) -> bool
     }
 }
 
-/// Tests that the bytes from one place to another are zeros, of a header that itself stands at `base`; a fault is told
-/// with its place from there.
+/// Tests that the bytes from one place to another are zeros, of a header that itself stands at
+/// `base`; a fault is told with its place from there.
 #[tactic(auto, using(crate::proofs::Chains::zero_rules))]
 pub fn check_zeros(bytes: &[u8], base: u32, from: u32, to: u32) -> Result<(), LayoutError>
     requires order { from ≤ to }
@@ -92,7 +92,8 @@ pub fn check_zeros(bytes: &[u8], base: u32, from: u32, to: u32) -> Result<(), La
     Ok(())
 }
 
-/// Tests the packet at the start of bytes that stand at `at`, and reports how many of them it takes.
+/// Tests the packet at the start of bytes that stand at `at`, and reports how many of them it
+/// takes.
 #[tactic(auto, unfolding(crate::specs::Checks::packet_tests))]
 pub(crate) fn check_packet(bytes: &[u8], at: u32, last: bool) -> Result<u32, LayoutError>
     requires small { at + length bytes.now ≤ 1048576 }
@@ -115,8 +116,8 @@ pub(crate) fn check_packet(bytes: &[u8], at: u32, last: bool) -> Result<u32, Lay
 /// The fewest bytes that a packet takes: a header of 82 and one byte of data, rounded up to 8.
 const LEAST_PACKET: usize = 88;
 
-/// Whether the snap length of the packet at the start is at least 1 and at most its wire length, and the packet ends
-/// within the bytes.
+/// Whether the snap length of the packet at the start is at least 1 and at most its wire length,
+/// and the packet ends within the bytes.
 fn snap_may(bytes: &[u8]) -> bool
     requires header { 88 ≤ length bytes.now }
     requires small { length bytes.now ≤ 1048576 }

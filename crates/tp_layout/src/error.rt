@@ -9,9 +9,11 @@ use std::fmt;
 /// Why a ring is invalid. The tests are made in this order, and the first that fails is reported.
 #[derive(Clone, Copy, Debug, PartialEq, Eq)]
 pub enum RequestError {
-    /// A block is no whole number of pages of 4096 bytes, at least 1, or has more than 1,048,576 bytes.
+    /// A block is no whole number of pages of 4096 bytes, at least 1, or has more than 1,048,576
+    /// bytes.
     BlockSize,
-    /// There are fewer than 2 blocks or more than 256, or they have more than 67,108,864 bytes in all.
+    /// There are fewer than 2 blocks or more than 256, or they have more than 67,108,864 bytes in
+    /// all.
     BlockCount,
     /// The private area has more than 1024 bytes.
     Private,
@@ -19,7 +21,8 @@ pub enum RequestError {
     FrameSmall,
     /// The size of a frame is no multiple of 16 (TPACKET_ALIGNMENT).
     FrameAlign,
-    /// No frame goes into a block, or another number of frames goes into all blocks than is asked for.
+    /// No frame goes into a block, or another number of frames goes into all blocks than is asked
+    /// for.
     FrameCount,
     /// A feature is asked for that isn't TP_FT_REQ_FILL_RXHASH (1).
     Feature,

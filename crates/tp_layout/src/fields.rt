@@ -17,7 +17,7 @@ pub fn put_bytes(bytes: &mut [u8], at: usize, from: &[u8])
     place.copy_from_slice(from);
 }
 
-/// Writes zeros over so many bytes from a place on.
+/// Writes zeros over `count` bytes from a place on.
 pub fn put_zeros(bytes: &mut [u8], at: usize, count: usize)
     requires { at + count ≤ length bytes.old }
     ensures { bytes.new ≡ put at (replicate count 0) bytes.old }

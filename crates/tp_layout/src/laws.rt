@@ -6,14 +6,15 @@ ghost use Rattle.tp_layout.specs.Dump.{packets_of_offers};
 ghost use Rattle.tp_layout.specs.Laws.{GoIn, HaveOneText, Said, written};
 ghost use Rattle.tp_layout.specs.declared.requests.RingRequest.{RingRequest};
 
-/// A lawful text reports the number, the status and the packets of its block: two that are equal say the same.
+/// A lawful text reports the number, the status and the packets of its block: two that are equal
+/// say the same.
 pub fn a_text_says_one_thing()
     ensures { (shape : RingRequest) (first second : Said)
         → HaveOneText shape first second → first ≡ second }
 {}
 
-/// A block that was opened, filled with the packets of offers one after another and closed begins with the lawful text
-/// of its number, its status and these packets.
+/// A block that was opened, filled with the packets of offers one after another and closed begins
+/// with the lawful text of its number, its status and these packets.
 pub fn a_closed_block_begins_with_its_text()
     ensures { (shape : RingRequest) (number status : ℕ) (offers : List Offer) (bytes : List ℕ)
         → GoIn shape number status offers bytes

@@ -10,8 +10,8 @@ use block_content::Content;
 use frame_view::{Memory, Packet};
 use std::alloc::Global;
 
-/// A block or a slot of a ring, whose packets can be read where it may stand retired. Contracts see what is read of its
-/// bytes, and the text of that.
+/// A block or a slot of a ring, whose packets can be read where it may stand retired. Contracts see
+/// what is read of its bytes, and the text of that.
 pub trait Layout: Content + Drop {
     // The shape of its ring.
     ghost shape: { Self → RingRequest };
@@ -36,7 +36,8 @@ pub trait Layout: Content + Drop {
         ensures text { result.now
             ≡ text_of (shape self.now) (taken_in (shape self.now) (Self.bytes self.now)) };
 
-    /// Appends copies of its packets. After `Memory` some of them stand after those that were there.
+    /// Appends copies of its packets. After `Memory` some of them stand after those that were
+    /// there.
     fn push_packets(&self, alloc: Global, into: &mut Vec<Packet>) -> Result<(), Memory>
         requires ready { (number : ℕ) × (status : ℕ) × Self.ready self.now number status }
         ensures copies { OnOk result (into.new.items

@@ -38,7 +38,8 @@ impl LazyBytes {
         })
     }
 
-    /// As many bytes as there are zeros, with room for this size, which costs nothing more until the first write.
+    /// As many bytes as there are zeros, with room for this size, which costs nothing more until
+    /// the first write.
     pub fn with_room(
         alloc: Global,
         zeros: &Arc<Vec<u8>, Global>,
@@ -65,7 +66,8 @@ impl LazyBytes {
         self.written.as_slice()
     }
 
-    /// Makes them bytes of this size that can be written, where they were never written and have room for it.
+    /// Makes them bytes of this size that can be written, where they were never written and have
+    /// room for it.
     pub fn begin(&mut self, size: u32)
         requires room { self.old.written.items ≡ [] → size ≤ vec_capacity self.old.written }
         ensures written { self.new.written.items ≡ bytes_or_zeros size self.old.written.items }
@@ -74,8 +76,8 @@ impl LazyBytes {
         zeros_first(&mut self.written, size);
     }
 
-    /// Makes them bytes of this size that can be written. Where they were never written they take this room, of which
-    /// the content is lost.
+    /// Makes them bytes of this size that can be written. Where they were never written they take
+    /// this room, of which the content is lost.
     pub fn begin_in(&mut self, room: &mut Vec<u8>, size: u32)
         requires room { size ≤ vec_capacity room.old }
         ensures written { self.new.written.items ≡ bytes_or_zeros size self.old.written.items }

@@ -1,4 +1,5 @@
-//! The address of a packet (`struct sockaddr_ll` of packet(7)), which a packet of a block and a slot have alike.
+//! The address of a packet (`struct sockaddr_ll` of packet(7)), which a packet of a block and a
+//! slot have alike.
 ghost use Rattle.std.specs.Prelude.{◌≡◌, ◌+◌, ◌^◌, ◌<◌, ◌≤◌, ℕ, length, slice_index};
 ghost use Rattle.frame_view.specs.Headers.{address_of};
 ghost use Rattle.frame_view.specs.declared.frames.Packet.{Packet};
@@ -38,8 +39,8 @@ pub struct LinkAddress {
     pub addr: [u8; 6],
 }
 
-/// Writes the 18 bytes of `struct sockaddr_ll` up to the last byte of the address, from a place on. The address is
-/// `from`, of 6 bytes.
+/// Writes the 18 bytes of `struct sockaddr_ll` up to the last byte of the address, from a place on.
+/// The address is `from`, of 6 bytes.
 pub fn put_link_address(bytes: &mut [u8], at: usize, protocol: u16, pkttype: u8, from: &[u8])
     requires fits { at + 18 ≤ length bytes.old }
     requires six { length from.now ≡ 6 }
@@ -57,8 +58,8 @@ pub fn put_link_address(bytes: &mut [u8], at: usize, protocol: u16, pkttype: u8,
     put_bytes(bytes, at + 12, from);
 }
 
-/// Tests the fields of `struct sockaddr_ll` from a place on, of a header that itself stands at `base`; a fault is told
-/// with its place from there.
+/// Tests the fields of `struct sockaddr_ll` from a place on, of a header that itself stands at
+/// `base`; a fault is told with its place from there.
 #[tactic(auto, unfolding(crate::specs::Checks::address_tests))]
 pub fn check_link_address(bytes: &[u8], base: u32, at: u32) -> Result<(), LayoutError>
     requires small { base + at ≤ 2097152 }

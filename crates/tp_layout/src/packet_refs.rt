@@ -95,7 +95,8 @@ pub(crate) fn tag_at(bytes: &[u8]) -> Option<Tag>
     })
 }
 
-/// What a header says of a tag: the packet's status, the control information, the protocol identifier.
+/// What a header says of a tag: the packet's status, the control information, the protocol
+/// identifier.
 pub(crate) fn vlan_fields(tag: Option<Tag>) -> (u32, u32, u16)
     ensures fields { result ≡ (status_of_tag tag, tci_of tag, tpid_of tag) }
     ensures typed { IfSome tag (λ tag. tag.tci < 2 ^ 16) }

@@ -10,7 +10,8 @@ use ring_model::need;
 use std::alloc::Global;
 use std::marker::Model;
 
-/// The packets of a block, read in place. Contracts see it as the list of the packets that are left.
+/// The packets of a block, read in place. Contracts see it as the list of the packets that are
+/// left.
 #[derive(Debug, Drop)]
 pub struct PacketWalk<'a> {
     /// How many packets are left.
@@ -42,7 +43,8 @@ impl<'a> PacketWalk<'a> {
         PacketWalk { left, rest }
     }
 
-    /// Appends copies of all packets. After `Memory` some of them stand after those that were there.
+    /// Appends copies of all packets. After `Memory` some of them stand after those that were
+    /// there.
     pub fn push_copies(self, alloc: Global, into: &mut Vec<Packet>) -> Result<(), Memory>
         ensures copies { OnOk result (into.new.items ≡ into.old.items ++ self.entry) }
         ensures front { take (length into.old.items) into.new.items ≡ into.old.items }

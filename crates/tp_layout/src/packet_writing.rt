@@ -13,7 +13,8 @@ use crate::packet_refs::vlan_fields;
 use frame_view::link_header;
 use ring_model::{Offer, need};
 
-/// Writes the packet of an offer at a place: the header, the address, the data, and zeros up to what it needs.
+/// Writes the packet of an offer at a place: the header, the address, the data, and zeros up to
+/// what it needs.
 #[tactic(auto, unfolding(crate::specs::Packets::packet_text))]
 pub(crate) fn put_packet(bytes: &mut [u8], at: usize, offer: &Offer, fill: bool)
     requires fits { at + need_of offer.now.snap ≤ length bytes.old }

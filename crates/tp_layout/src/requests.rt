@@ -54,8 +54,8 @@ const FILL_RXHASH: u32 = 1;
 const MOST_SLOTS: u32 = 65_536;
 
 impl RingRequest {
-    /// The shape of a receive ring, or why it is invalid (the tests of `packet_set_ring` in the kernel, with this
-    /// project's own limits).
+    /// The shape of a receive ring, or why it is invalid (the tests of `packet_set_ring` in the
+    /// kernel, with this project's own limits).
     #[tactic(auto, unfolding(crate::specs::Requests::receive_fault))]
     pub fn check(&self) -> Result<Shape, RequestError>
         ensures { result ≡ answer_of self.now (receive_fault self.now) }
@@ -87,7 +87,8 @@ impl RingRequest {
         Ok(Shape::of(*self))
     }
 
-    /// The shape of a transmit ring, or why it is invalid: it has no time-out, no private area and no feature.
+    /// The shape of a transmit ring, or why it is invalid: it has no time-out, no private area and
+    /// no feature.
     #[tactic(auto, unfolding(crate::specs::Requests::transmit_fault))]
     pub fn check_tx(&self) -> Result<Shape, RequestError>
         ensures { result ≡ answer_of self.now (transmit_fault self.now) }
@@ -99,8 +100,8 @@ impl RingRequest {
         Ok(shape)
     }
 
-    /// The shape of a ring of TPACKET_V2, or why it is invalid: beside what holds of a transmit ring it has at most
-    /// 65,536 slots.
+    /// The shape of a ring of TPACKET_V2, or why it is invalid: beside what holds of a transmit
+    /// ring it has at most 65,536 slots.
     #[tactic(auto, unfolding(crate::specs::Requests::slot_fault))]
     pub fn check_v2(&self) -> Result<Shape, RequestError>
         ensures { result ≡ answer_of self.now (slot_fault self.now) }

@@ -82,7 +82,8 @@ impl Block {
         put_packet(self.bytes.written.as_mut_slice(), at as usize, offer, fill);
     }
 
-    /// Writes the fields of the descriptor that the end of a block says, and that no packet follows the last one.
+    /// Writes the fields of the descriptor that the end of a block says, and that no packet follows
+    /// the last one.
     pub(crate) fn put_closing(&mut self, closing: &Closing)
         requires behind { 48 ≤ closing.now.last_at }
         requires fits { closing.now.last_at + 4 ≤ self.old.shape.block_size }
@@ -94,7 +95,8 @@ impl Block {
     }
 }
 
-/// The blocks of a ring of this shape, of zeros. Their bytes have room, and cost nothing more until they are written.
+/// The blocks of a ring of this shape, of zeros. Their bytes have room, and cost nothing more until
+/// they are written.
 pub fn blocks(alloc: Global, shape: &Shape) -> Result<Vec<Block>, Memory>
     ensures { IfOk result (λ blocks.
         blocks.items ≡ replicate shape.now.block_nr (zero_block shape.now)) }

@@ -72,7 +72,8 @@ impl Shape {
         self.request.frame_nr
     }
 
-    /// The place of a block's first packet, in bytes: after the descriptor and the private area, rounded up to 8.
+    /// The place of a block's first packet, in bytes: after the descriptor and the private area,
+    /// rounded up to 8.
     pub fn first(&self) -> u32
         ensures value { result ≡ first_of self.now }
         ensures aligned { result % 8 ≡ 0 }
@@ -110,8 +111,8 @@ impl Shape {
     }
 }
 
-/// A law: a shape passed the tests of its request, and the room of its blocks is what they have after the place of the
-/// first packet. The call does nothing.
+/// A law: a shape passed the tests of its request, and the room of its blocks is what they have
+/// after the place of the first packet. The call does nothing.
 pub fn a_shape_is_sound(shape: &Shape)
     ensures sound { IsShape shape.now }
     ensures room { first_of shape.now + room_of shape.now ≡ shape.now.block_size }

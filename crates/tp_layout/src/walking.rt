@@ -12,8 +12,8 @@ use crate::checking::{Ends, check_head, check_packet, check_zeros};
 use crate::fields::u32_at;
 use crate::{Block, LayoutError, LayoutKind, PacketWalk, Shape, a_shape_is_sound};
 
-/// Tests a whole block up to its end (`blk_len`), and gives its packets. It is Ok exactly where the block begins with
-/// a lawful text; else it reports the first test that fails, and where.
+/// Tests a whole block up to its end (`blk_len`), and gives its packets. It is Ok exactly where the
+/// block begins with a lawful text; else it reports the first test that fails, and where.
 pub fn walk<'a>(bytes: &'a [u8], shape: &Shape) -> Result<PacketWalk<'a>, LayoutError>
     requires { length bytes.now ≡ shape.now.block_size }
     ensures fault { told result ≡ fault_of shape.now bytes.now }
@@ -26,8 +26,8 @@ pub fn walk<'a>(bytes: &'a [u8], shape: &Shape) -> Result<PacketWalk<'a>, Layout
     walk_by(bytes, shape, Ends::UpTo(shape.block_size()))
 }
 
-/// Tests the text of a block that stands alone, and gives its packets. It answers as `walk` does on the text with
-/// zeros after it, save that the packets have to end with the text.
+/// Tests the text of a block that stands alone, and gives its packets. It answers as `walk` does on
+/// the text with zeros after it, save that the packets have to end with the text.
 pub fn walk_text<'a>(text: &'a [u8], shape: &Shape) -> Result<PacketWalk<'a>, LayoutError>
     requires header { 48 ≤ length text.now }
     requires size { length text.now ≤ shape.now.block_size }
@@ -53,8 +53,8 @@ pub fn text_of(block: &Block) -> &[u8]
     text
 }
 
-/// The packets of at most a block of bytes that begin with a lawful text of this shape: a block, or a text that stands
-/// alone. The text isn't tested again.
+/// The packets of at most a block of bytes that begin with a lawful text of this shape: a block, or
+/// a text that stands alone. The text isn't tested again.
 pub fn packets_of<'a>(bytes: &'a [u8], shape: &Shape) -> PacketWalk<'a>
     requires size { length bytes.now ≤ shape.now.block_size }
     requires lawful { (number : ℕ) × (status : ℕ)
@@ -112,7 +112,7 @@ fn area_of<'a>(bytes: &'a [u8], shape: &Shape) -> &'a [u8]
     area
 }
 
-/// Tests so many packets in bytes that stand at `at`, and reports the time of the last one.
+/// Tests `count` packets in bytes that begin at `at`, and reports the time of the last one.
 #[tactic(auto, using(crate::proofs::Walks::packet_rules))]
 fn check_packets(bytes: &[u8], at: u32, count: u32) -> Result<(u32, u32), LayoutError>
     requires small { at + length bytes.now ≤ 1048576 }
@@ -138,7 +138,8 @@ fn check_packets(bytes: &[u8], at: u32, count: u32) -> Result<(u32, u32), Layout
     Ok(time)
 }
 
-/// Tests the times of a descriptor: those of the packet at the start of the area, and of the last packet.
+/// Tests the times of a descriptor: those of the packet at the start of the area, and of the last
+/// packet.
 #[tactic(auto, unfolding(crate::specs::Checks::time_tests))]
 fn check_times(bytes: &[u8], area: &[u8], last: (u32, u32)) -> Result<(), LayoutError>
     requires header { 48 ≤ length bytes.now }

@@ -1,4 +1,5 @@
-//! How a block is filled: its header when it is opened, packet after packet, and at last what only its end can tell.
+//! How a block is filled: its header when it is opened, packet after packet, and at last what only
+//! its end can tell.
 ghost use Rattle.std.specs.Prelude.{◌≡◌, ◌+◌, ◌%◌, ◌^◌, ◌<◌, ◌≤◌, ◌++◌, ℕ, IsTrue, List, [], ◌∷◌, length};
 ghost use Rattle.frame_view.specs.declared.frames.Packet.{Packet};
 ghost use Rattle.ring_model.specs.Offers.{packet_of};
@@ -14,7 +15,8 @@ use ring_model::Offer;
 /// What the close of a block writes into its header.
 #[derive(Clone, Copy, Debug, PartialEq, Eq)]
 pub struct Closing {
-    /// The status of retirement: TP_STATUS_USER (1), with TP_STATUS_LOSING (4), TP_STATUS_BLK_TMO (32) or both.
+    /// The status of retirement: TP_STATUS_USER (1), with TP_STATUS_LOSING (4), TP_STATUS_BLK_TMO
+    /// (32) or both.
     pub status: u32,
     /// The number of packets.
     pub packets: u32,
@@ -32,9 +34,9 @@ pub struct Closing {
     pub last_nsec: u32,
 }
 
-/// Opens a block: writes the header of a block without packets, with status 0 and this number, and zeros up to the
-/// place of the first packet. The other bytes stay (`prb_open_block` of the kernel; the zeros and the times of 0 are
-/// this project's own choice).
+/// Opens a block: writes the header of a block without packets, with status 0 and this number, and
+/// zeros up to the place of the first packet. The other bytes stay (`prb_open_block` of the kernel;
+/// the zeros and the times of 0 are this project's own choice).
 pub fn write_header(block: &mut Block, shape: &Shape, number: u64)
     requires shape { block.old.shape ≡ shape.now }
     ensures written { block.new
@@ -45,7 +47,8 @@ pub fn write_header(block: &mut Block, shape: &Shape, number: u64)
     block.put_empty(first, number);
 }
 
-/// Writes the packet of an offer at a place, `need` bytes in all. The other bytes stay (`tpacket_rcv` of the kernel).
+/// Writes the packet of an offer at a place, `need` bytes in all. The other bytes stay
+/// (`tpacket_rcv` of the kernel).
 pub fn write_packet(block: &mut Block, shape: &Shape, at: u32, offer: &Offer)
     requires shape { block.old.shape ≡ shape.now }
     requires aligned { at % 8 ≡ 0 }
@@ -65,8 +68,8 @@ pub fn write_packet(block: &mut Block, shape: &Shape, at: u32, offer: &Offer)
     block.put_packet(at, offer, fill);
 }
 
-/// Closes a block: writes what only its end can tell, and that no packet follows the last one. The other bytes stay
-/// (`prb_close_block` of the kernel).
+/// Closes a block: writes what only its end can tell, and that no packet follows the last one. The
+/// other bytes stay (`prb_close_block` of the kernel).
 pub fn close_header(block: &mut Block, shape: &Shape, closing: &Closing)
     requires shape { block.old.shape ≡ shape.now }
     requires behind { first_of shape.now ≤ closing.now.last_at }

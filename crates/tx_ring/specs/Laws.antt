@@ -5,7 +5,8 @@ use Rattle.tx_ring.specs.Sending.{after_send, packets_sent, send_answer}
 use Rattle.tx_ring.specs.declared.error.SendError.TheVariants.{BadSlot}
 use Rattle.tx_ring.specs.declared.error.TxError.TheVariants.{TooLong, Stopped}
 
--- a ring that stopped at a slot: a send reports that slot, sends nothing and changes nothing, and a place is refused
+-- a ring that stopped at a slot: a send reports that slot, sends nothing and changes nothing, and a
+-- place is refused
 pub record HasStoppedAt (slot : ℕ) (ring : TxState) : Type 0 where
   pub answer : send_answer ring ≡ Err (BadSlot slot)
   pub same : after_send ring ≡ ring

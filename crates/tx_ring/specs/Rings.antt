@@ -5,8 +5,8 @@ use Rattle.tx_ring.specs.Slots.{Request}
 use Rattle.tx_ring.specs.declared.error.TxError.{TxError}
 use Rattle.tx_ring.specs.declared.error.TxError.TheVariants.{TooLong, Stopped, Full}
 
--- the shape of the ring, whether bad slots are skipped, the number of slots that were placed so far, the requests
--- that weren't taken yet, and the slot where the ring stopped
+-- the shape of the ring, whether bad slots are skipped, the number of slots that were placed so
+-- far, the requests that weren't taken yet, and the slot where the ring stopped
 pub record TxState : Type 0 where
   pub shape : RingRequest
   pub skip_bad : Bool
@@ -62,13 +62,13 @@ abbrev pub after_place : TxState → Request → TxState
 after_place ring request =
     if is_ok (place_answer ring request.bytes) then with_request ring request else ring
 
--- whether a place is the slot of one of so many numbers from `from` on
+-- whether a place is the slot of one of n numbers from `from` on
 abbrev pub is_among : ℕ → ℕ → ℕ → ℕ → Bool
 is_among places at from zero = false
 is_among places at from (suc count) = (from % places == at) || is_among places at (from + 1) count
 
--- the status of a slot: WRONG_FORMAT (4) where the ring stopped, else SEND_REQUEST (1) where it is requested, else
--- AVAILABLE (0)
+-- the status of a slot: WRONG_FORMAT (4) where the ring stopped, else SEND_REQUEST (1) where it is
+-- requested, else AVAILABLE (0)
 abbrev pub status_by : Option ℕ → Bool → ℕ → ℕ
 status_by None requested at = if requested then 1 else 0
 status_by (Some stop) requested at = if stop == at then 4 else (if requested then 1 else 0)
@@ -79,6 +79,6 @@ status_of ring at =
     let count = length ring.requests in
     status_by ring.stopped (is_among ring.shape.frame_nr at (ring.placed - count) count) at
 
--- what is reported of the status of a slot, of which there are so many
+-- what is reported of the status of slot n
 abbrev pub status_at : TxState → ℕ → Option ℕ
 status_at ring at = if nat_lt at ring.shape.frame_nr then Some (status_of ring at) else None

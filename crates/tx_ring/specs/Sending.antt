@@ -8,7 +8,8 @@ use Rattle.tx_ring.specs.declared.error.SendError.{SendError}
 use Rattle.tx_ring.specs.declared.error.SendError.TheVariants.{BadSlot, Memory}
 use Rattle.tx_ring.specs.declared.ring.Sent.{Sent}
 
--- a request is good where it has no next frame, and from 14 bytes to as many as fit after the header of a slot
+-- a request is good where it has no next frame, and from 14 bytes to as many as fit after the
+-- header of a slot
 abbrev pub is_good : ℕ → Request → Bool
 is_good room request =
     (request.next_offset == 0) && (nat_le 14 request.length && nat_le request.length room)
@@ -44,7 +45,8 @@ good_front room [] = []
 good_front room (request ∷ requests) =
     if is_good room request then request ∷ good_front room requests else []
 
--- the requests that a send takes from the start: with `skip_bad` all, without it the good ones before the first bad one
+-- the requests that a send takes from the start: with `skip_bad` all, without it the good ones
+-- before the first bad one
 abbrev pub taken_by : TxState → List Request
 taken_by ring = if ring.skip_bad then ring.requests else good_front (room_of ring.shape) ring.requests
 
@@ -101,7 +103,8 @@ abbrev pub counted : Sent → Bool → Sent
 counted counts true = record counts { sent = counts.sent + 1 }
 counted counts false = record counts { skipped = counts.skipped + 1 }
 
--- what became of the first request of a ring: it was sent or skipped, the ring stopped there, or memory ran out
+-- what became of the first request of a ring: it was sent or skipped, the ring stopped there, or
+-- memory ran out
 abbrev pub FrontTaken : TxState → TxState → List Packet → List Packet → Result Bool SendError → Type 0
 FrontTaken old new before after (Ok true) =
     (is_good (room_of old.shape) (front_of old.requests) ≡ true) × (new ≡ after_taking 1 old)
@@ -115,7 +118,8 @@ FrontTaken old new before after (Err (BadSlot slot)) =
 FrontTaken old new before after (Err Memory) =
     (is_good (room_of old.shape) (front_of old.requests) ≡ true) × (new ≡ old) × (after ≡ before)
 
--- a send that was broken off took so many requests of those that it takes, and the next one is still requested
+-- a send that was broken off took `count` of the requests that it takes, and the next one is still
+-- requested
 pub record IsBrokenOff (count : ℕ) (old new : TxState) (before after : List Packet) : Type 0 where
   pub some_left : count < length (taken_by old)
   pub ring : new ≡ after_taking count old

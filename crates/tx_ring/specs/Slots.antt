@@ -1,15 +1,16 @@
--- A slot of a transmit ring, as bytes: a header of 48 bytes, the bytes that were given, and zeros. Sizes and places are
--- in bytes.
+-- A slot of a transmit ring, as bytes: a header of 48 bytes, the bytes that were given, and zeros.
+-- Sizes and places are in bytes.
 use Rattle.std.specs.Prelude.{◌≡◌, ℕ, ◌+◌, ◌-◌, ◌^◌, ◌<◌, ◌≤◌, List, [], ◌++◌, length, take, drop, replicate, slice_index_or}
 use Rattle.byteorder.specs.Endian.{little_bytes, little_number}
 
--- what a slot asks for: the offset to a next frame, the length of the frame and the bytes that it begins with
+-- what a slot asks for: the offset to a next frame, the length of the frame and the bytes that it
+-- begins with
 pub record Request : Type 0 where
   pub next_offset : ℕ
   pub length : ℕ
   pub bytes : List ℕ
 
--- a slot of so many bytes, its status and what it asks for
+-- a slot of n bytes: its status and what it asks for
 pub record SlotState : Type 0 where
   pub size : ℕ
   pub status : ℕ
@@ -27,8 +28,8 @@ empty_slot size = record { size = size; status = 0; request = no_request }
 abbrev pub slot_at : List SlotState → ℕ → SlotState
 slot_at slots at = slice_index_or slots at (empty_slot 0)
 
--- the header of a slot (`struct tpacket3_hdr`): tp_next_offset at 0, tp_snaplen at 12, tp_len at 16 and tp_status at
--- 20, the lowest byte first; the other fields are 0
+-- the header of a slot (`struct tpacket3_hdr`): tp_next_offset at 0, tp_snaplen at 12, tp_len at 16
+-- and tp_status at 20, the lowest byte first; the other fields are 0
 unfoldable pub header_text : ℕ → Request → List ℕ
 header_text status request =
     little_bytes 4 request.next_offset ++ (replicate 8 0 ++ (little_bytes 4 (length request.bytes)

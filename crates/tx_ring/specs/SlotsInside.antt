@@ -1,20 +1,22 @@
--- The slots of a ring by their fields: those that were written stand in its bytes, and those after them have none yet.
+-- The slots of a ring by their fields: those that were written stand in its bytes, and those after
+-- them have none yet.
 use Rattle.std.specs.Prelude.{◌≡◌, ℕ, zero, suc, ◌-◌, ◌*◌, ◌^◌, ◌<◌, ◌≤◌, List, [], ◌∷◌, ◌++◌, length, take, drop, replicate}
 use Rattle.std.specs.Vec.{vec_capacity}
 use Rattle.tx_ring.specs.Slots.{IsSlot, SlotState, empty_slot, slot_in}
 use Rattle.tx_ring.specs.declared.slots.Slots.TheInside.{Inside}
 
--- so many slots of this size, in their bytes
+-- n slots of this size, in their bytes
 abbrev pub slots_in : ℕ → ℕ → List ℕ → List SlotState
 slots_in size zero bytes = []
 slots_in size (suc count) bytes = slot_in (take size bytes) ∷ slots_in size count (drop size bytes)
 
--- the bytes are those of so many slots of this size
+-- the bytes are those of n slots of this size
 abbrev pub AreSlots : ℕ → ℕ → List ℕ → Type 0
 AreSlots size zero bytes = bytes ≡ []
 AreSlots size (suc count) bytes = IsSlot (take size bytes) × AreSlots size count (drop size bytes)
 
--- `count` slots of this size: those that were written, and after them those that nothing was written into
+-- `count` slots of this size: those that were written, and after them those that nothing was
+-- written into
 abbrev pub slots_by : ℕ → ℕ → ℕ → List ℕ → List SlotState
 slots_by size count written bytes = slots_in size written bytes ++ replicate (count - written) (empty_slot size)
 
@@ -22,7 +24,8 @@ slots_by size count written bytes = slots_in size written bytes ++ replicate (co
 abbrev pub all_slots : Inside → List SlotState
 all_slots slots = slots_by slots.shape.frame_size slots.shape.frame_nr slots.written slots.bytes.items
 
--- `count` slots of this size, of which so many were written: these bytes are theirs, and there is room for those of all
+-- `count` slots of this size, of which `written` were written: these bytes are theirs, and there is
+-- room for those of all
 pub record IsKept (size count written room : ℕ) (bytes : List ℕ) : Type 0 where
   pub least : 48 ≤ size
   pub small : count * size < 2 ^ 64

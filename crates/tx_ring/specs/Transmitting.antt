@@ -42,7 +42,8 @@ abbrev pub first_long : ℕ → List Frame → Option ℕ
 first_long room [] = None
 first_long room (frame ∷ frames) = if is_long room frame then Some frame.index else first_long room frames
 
--- the frames of which packets are sent: with `skip_bad` the longer ones are skipped, else the first of them stops all
+-- the frames of which packets are sent: with `skip_bad` the longer ones are skipped, else the first
+-- of them stops all
 abbrev pub reached : ℕ → Bool → List Frame → List Frame
 reached room skip frames = if skip then frames else before_long room frames
 
@@ -55,7 +56,8 @@ transmitted_of room skip frames = record {
   stop = if skip then None else first_long room frames;
 }
 
--- what is placed of a frame: all of it, or of a longer one its length and the first bytes, as many as fit
+-- what is placed of a frame: all of it, or of a longer one its length and the first bytes, as many
+-- as fit
 abbrev pub request_for : ℕ → List ℕ → Request
 request_for room bytes =
     if nat_lt room (length bytes) then request_of 0 (min (length bytes) (2 ^ 32 - 1)) (take room bytes)

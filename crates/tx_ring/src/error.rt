@@ -6,7 +6,8 @@ use frame_view::Memory;
 use std::error::Error;
 use std::fmt;
 
-/// Why a frame isn't placed. The tests are made in this order, and the first that fails is reported.
+/// Why a frame isn't placed. The tests are made in this order, and the first that fails is
+/// reported.
 #[derive(Clone, Copy, Debug, PartialEq, Eq)]
 pub enum TxError {
     /// There are more bytes than fit after a slot's header.

@@ -5,7 +5,8 @@ ghost use Rattle.tx_ring.specs.Rings.{TxState};
 ghost use Rattle.tx_ring.specs.Sending.{after_send, send_answer, taken_by};
 ghost use Rattle.tx_ring.specs.declared.error.SendError.TheVariants as errors;
 
-/// No request is lost: those that a send takes, and then those that it leaves, are all that there were, in their order.
+/// No request is lost: those that a send takes, and then those that it leaves, are all that there
+/// were, in their order.
 pub fn no_request_is_lost()
     ensures { (ring : TxState) → taken_by ring ++ (after_send ring).requests ≡ ring.requests }
 {}

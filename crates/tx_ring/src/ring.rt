@@ -1,11 +1,12 @@
 //! The ring of slots, in the manner of the kernel's `tpacket_snd` with TPACKET_V3.
 //!
-//! All slots are available at first. A sender places frames in turn: it writes a slot, which requests it, and goes on to
-//! the next one, after the last of which comes the first again. It can go on until all slots are requested. A send takes
-//! the requested slots in the order in which they were placed. Of a good one comes a packet, and the slot is available
-//! again. A bad one is skipped where that is asked for (PACKET_LOSS of packet(7)), and is available then; else it
-//! stays where it is, in wrong format, and the ring has stopped for good: nothing more is placed or sent. The kernel lets
-//! the sender mend such a slot.
+//! All slots are available at first. A sender places frames in turn: it writes a slot, which
+//! requests it, and goes on to the next one, after the last of which comes the first again. It can
+//! go on until all slots are requested. A send takes the requested slots in the order in which they
+//! were placed. Of a good one comes a packet, and the slot is available again. A bad one is skipped
+//! where that is asked for (PACKET_LOSS of packet(7)), and is available then; else it stays where
+//! it is, in wrong format, and the ring has stopped for good: nothing more is placed or sent. The
+//! kernel lets the sender mend such a slot.
 ghost use Rattle.std.specs.Prelude.{◌≡◌, ◌+◌, ◌-◌, ◌^◌, ◌<◌, ◌≤◌, ◌++◌, ◌==◌, ℕ, false, true, None, Some, IfOk, is_some, length};
 ghost use Rattle.tp_layout.specs.Requests.{transmit_fault};
 ghost use Rattle.tx_ring.specs.Rings.{after_place, new_ring, place_answer, request_of, room_of, slot_of, status_at, whole_request, with_request};
@@ -29,7 +30,8 @@ pub struct Sent {
     pub skipped: u32,
 }
 
-/// A transmit ring (PACKET_TX_RING). Contracts see what was placed in it and not sent yet, as a list.
+/// A transmit ring (PACKET_TX_RING). Contracts see what was placed in it and not sent yet, as a
+/// list.
 #[derive(Debug, Drop)]
 pub struct TxRing {
     /// The allocator, for the packets that are sent.
@@ -64,7 +66,8 @@ impl Model for TxRing {
 }
 
 impl TxRing {
-    /// A ring of this shape, which is that of a request that passed `RingRequest::check_tx`. All its slots are available.
+    /// A ring of this shape, which is that of a request that passed `RingRequest::check_tx`. All
+    /// its slots are available.
     pub fn new(alloc: Global, shape: Shape, skip_bad: bool) -> Result<TxRing, Memory>
         requires { transmit_fault shape ≡ None }
         ensures { IfOk result (λ ring. ring ≡ new_ring shape skip_bad) }
@@ -81,8 +84,9 @@ impl TxRing {
         })
     }
 
-    /// Writes the next slot and requests it: the offset to a next frame (0 where there is none), the length of the frame
-    /// and the bytes that it begins with. The rest of the slot is zeros. After a refusal the ring is unchanged.
+    /// Writes the next slot and requests it: the offset to a next frame (0 where there is none),
+    /// the length of the frame and the bytes that it begins with. The rest of the slot is zeros.
+    /// After a refusal the ring is unchanged.
     pub fn place(&mut self, next_offset: u32, length: u32, bytes: &[u8]) -> Result<(), TxError>
         requires few { self.old.placed < 2 ^ 54 }
         ensures answer { result ≡ place_answer self.old bytes.now }
@@ -101,7 +105,8 @@ impl TxRing {
         Ok(())
     }
 
-    /// Places a whole frame: `place` with no next frame and the number of its bytes. After a refusal the ring is unchanged.
+    /// Places a whole frame: `place` with no next frame and the number of its bytes. After a
+    /// refusal the ring is unchanged.
     pub fn queue(&mut self, bytes: &[u8]) -> Result<(), TxError>
         requires few { self.old.placed < 2 ^ 54 }
         ensures answer { result ≡ place_answer self.old bytes.now }
@@ -113,8 +118,9 @@ impl TxRing {
         self.place(0, bytes.len() as u32, bytes)
     }
 
-    /// The status of a slot (tp_status): TP_STATUS_AVAILABLE (0), TP_STATUS_SEND_REQUEST (1), or TP_STATUS_WRONG_FORMAT
-    /// (4) where the ring stopped. `None` comes exactly where there is no slot of this number.
+    /// The status of a slot (tp_status): TP_STATUS_AVAILABLE (0), TP_STATUS_SEND_REQUEST (1), or
+    /// TP_STATUS_WRONG_FORMAT (4) where the ring stopped. `None` comes exactly where there is no
+    /// slot of this number.
     pub fn status(&self, slot: u32) -> Option<u32>
         ensures { result ≡ status_at self.now slot }
     {

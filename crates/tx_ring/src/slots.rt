@@ -12,15 +12,17 @@ use std::alloc::Global;
 use std::marker::Model;
 use tp_layout::Shape;
 
-/// The slots of a ring. Contracts see a list of slots, each by its size, its status and what it asks for, and nothing
-/// else stands in a slot: after the bytes that were given there are zeros.
+/// The slots of a ring. Contracts see a list of slots, each by its size, its status and what it
+/// asks for, and nothing else stands in a slot: after the bytes that were given there are zeros.
 #[derive(Debug, Drop)]
 pub(crate) struct Slots {
     /// The shape of the ring.
     shape: Shape,
-    /// How many slots were written so far, from the first one on. The others are available, and have no bytes yet.
+    /// How many slots were written so far, from the first one on. The others are available, and
+    /// have no bytes yet.
     written: usize,
-    /// The bytes of those that were written, header and data. There is room for those of the others.
+    /// The bytes of those that were written, header and data. There is room for those of the
+    /// others.
     bytes: Vec<u8>,
 }
 
@@ -38,8 +40,8 @@ impl Model for Slots {
 }
 
 impl Slots {
-    /// The slots of a ring of this shape, all of them available. Their bytes have room, and cost nothing more until they
-    /// are written.
+    /// The slots of a ring of this shape, all of them available. Their bytes have room, and cost
+    /// nothing more until they are written.
     pub(crate) fn new(alloc: Global, shape: Shape) -> Result<Slots, Memory>
         ensures empty { IfOk result (λ slots.
             slots ≡ replicate shape.frame_nr (empty_slot shape.frame_size)) }
@@ -53,7 +55,8 @@ impl Slots {
         })
     }
 
-    /// Writes what is asked for into a slot, and requests it. The slots before it that were never written become zeros.
+    /// Writes what is asked for into a slot, and requests it. The slots before it that were never
+    /// written become zeros.
     pub(crate) fn request(&mut self, at: usize, next_offset: u32, asked: u32, bytes: &[u8])
         requires within { at < length self.old }
         requires fits { 48 + length bytes.now ≤ (slot_at self.old at).size }
@@ -109,7 +112,8 @@ impl Slots {
         self.field(at, LENGTH)
     }
 
-    /// The frame that a slot asks for, which isn't empty and fits: the bytes that were given, and zeros after them.
+    /// The frame that a slot asks for, which isn't empty and fits: the bytes that were given, and
+    /// zeros after them.
     pub(crate) fn frame(&self, at: usize) -> &[u8]
         requires within { at < length self.now }
         requires some { 0 < (slot_at self.now at).request.length }
@@ -139,8 +143,8 @@ impl Slots {
     }
 }
 
-/// Makes zeros of the slots of this size up to `least` of them, where fewer were written, and returns how many are
-/// written then. There is room for them.
+/// Makes zeros of the slots of this size up to `least` of them, where fewer were written, and
+/// returns how many are written then. There is room for them.
 fn write_zeros(bytes: &mut Vec<u8>, size: usize, written: usize, least: usize) -> usize
     requires whole { length bytes.old.items ≡ written * size }
     requires small { least * size < 2 ^ 64 }
@@ -171,7 +175,8 @@ fn piece_of(bytes: &[u8], from: usize, count: usize) -> &[u8]
     piece
 }
 
-/// Writes the slot of this size at a place, and requests it. After the bytes that were given before, it has zeros.
+/// Writes the slot of this size at a place, and requests it. After the bytes that were given
+/// before, it has zeros.
 fn write_slot(
     bytes: &mut [u8],
     from: usize,

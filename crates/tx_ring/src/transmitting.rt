@@ -1,5 +1,5 @@
-//! The frames of a capture, sent through a transmit ring: each is placed in turn, and the ring sends whenever all its
-//! slots are requested, and at the end.
+//! The frames of a capture, sent through a transmit ring: each is placed in turn, and the ring
+//! sends whenever all its slots are requested, and at the end.
 ghost use Rattle.std.specs.Prelude.{◌≡◌, ◌+◌, ◌^◌, ◌<◌, ◌≤◌, if◌then◌else◌, None, IfOk, OnOk, length};
 ghost use Rattle.frame_view.specs.declared.frames.Frame.{Frame};
 ghost use Rattle.tp_layout.specs.Requests.{transmit_fault};
@@ -87,8 +87,8 @@ impl Transmitter {
         Ok(())
     }
 
-    /// What became of the frames that it was given. Where the ring stopped, it stopped at the first one that is longer
-    /// than what fits.
+    /// What became of the frames that it was given. Where the ring stopped, it stopped at the first
+    /// one that is longer than what fits.
     fn tell(self, frames: &[Frame]) -> Transmitted
         ensures told { result ≡ told_of self frames.now }
         ensures least { 20 ≤ room_of self.ring.shape }
@@ -109,8 +109,9 @@ impl Transmitter {
     }
 }
 
-/// Sends frames through a new ring of this shape, in order. Runts are left out. With `skip_bad` a frame that is longer
-/// than what fits into a slot is skipped, without it the first of them stops the ring.
+/// Sends frames through a new ring of this shape, in order. Runts are left out. With `skip_bad` a
+/// frame that is longer than what fits into a slot is skipped, without it the first of them stops
+/// the ring.
 pub fn transmit_frames(
     alloc: Global,
     shape: Shape,

@@ -36,8 +36,8 @@ pub record SlotAdds {E : Type 0} (feed : E → Feed) (before after : SlotProduci
   pub texts : StandsForSlots after.shape (slots_filled after).done (feed after.end)
   pub end : KeepsSlotEnd (feed before.end) (feed after.end)
 
--- what the one look of a call found. Where the slot was still the reader's one look more is counted, else none; where the
--- end reports how many slots were released, what is found is exact
+-- what the one look of a call found. Where the slot was still the reader's one look more is
+-- counted, else none; where the end reports how many slots were released, what is found is exact
 pub record SlotLooks (slots : ℕ) (state : SlotState) (found : Found) (before after : Feed) : Type 0 where
   pub looked : WasHeld found (Rose before.holds after.holds)
   pub count : CountsHeld found before.holds after.holds

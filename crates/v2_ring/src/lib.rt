@@ -1,4 +1,5 @@
-//! The receive ring of slots (TPACKET_V2): each frame goes into a slot of its own, which goes to the reader at once.
+//! The receive ring of slots (TPACKET_V2): each frame goes into a slot of its own, which goes to
+//! the reader at once.
 #![tactic(auto)]
 
 mod machine;

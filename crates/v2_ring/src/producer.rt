@@ -16,8 +16,8 @@ use std::alloc::Global;
 use std::marker::Model;
 use tp_layout::Shape;
 
-/// A receive ring of slots: the feeder's side, which keeps, refuses or drops packets. Contracts see its shape, its notes
-/// and its end.
+/// A receive ring of slots: the feeder's side, which keeps, refuses or drops packets. Contracts see
+/// its shape, its notes and its end.
 #[derive(Drop)]
 pub struct SlotProducer<E: FeederEnd<Slot> + Drop> {
     pub(crate) machine: SlotMachine<E>,
@@ -45,8 +45,8 @@ impl<E: FeederEnd<Slot> + Drop> SlotProducer<E> {
     ghost use Rattle.v2_ring.specs.SlotMachines.{IsFreshSlots};
     ghost use Rattle.v2_ring.specs.SlotProducing.{SlotAdds, SlotPuts, SlotTries, slots_filled};
 
-    /// A ring of slots of this shape, which came from `check_v2`. The end is fresh, and its ring has as many slots of the
-    /// shape as the shape has frames. After `Memory` the end is dropped.
+    /// A ring of slots of this shape, which came from `check_v2`. The end is fresh, and its ring
+    /// has as many slots of the shape as the shape has frames. After `Memory` the end is dropped.
     pub fn new(alloc: Global, shape: Shape, end: E) -> Result<SlotProducer<E>, Memory>
         requires checked { IsSlotShape shape }
         requires fresh { IsFreshSlots shape (E.feed end) }
@@ -59,8 +59,8 @@ impl<E: FeederEnd<Slot> + Drop> SlotProducer<E> {
         })
     }
 
-    /// Keeps a packet in the next slot, or hands it back where that slot is still the reader's; then all but the notes is
-    /// as before. The condition on the offer is that of `put`.
+    /// Keeps a packet in the next slot, or hands it back where that slot is still the reader's;
+    /// then all but the notes is as before. The condition on the offer is that of `put`.
     pub fn try_put(&mut self, offer: Offer) -> Result<Tried, Unput>
         requires fits { 66 + offer.snap ≤ self.old.shape.frame_size }
         requires sound { IsWritable offer }
@@ -79,8 +79,9 @@ impl<E: FeederEnd<Slot> + Drop> SlotProducer<E> {
         Ok(tried)
     }
 
-    /// Keeps a packet in the next slot, or drops it where that slot is still the reader's. The offer keeps at least one
-    /// byte of what was captured, no more than goes into a slot after the 66 bytes of its header, and is sound.
+    /// Keeps a packet in the next slot, or drops it where that slot is still the reader's. The
+    /// offer keeps at least one byte of what was captured, no more than goes into a slot after the
+    /// 66 bytes of its header, and is sound.
     pub fn put(&mut self, offer: Offer) -> Result<Put, Unput>
         requires fits { 66 + offer.snap ≤ self.old.shape.frame_size }
         requires sound { IsWritable offer }
@@ -99,7 +100,8 @@ impl<E: FeederEnd<Slot> + Drop> SlotProducer<E> {
         Ok(put)
     }
 
-    /// Takes the statistics, which start anew (PACKET_STATISTICS of packet(7)). There are no freezes.
+    /// Takes the statistics, which start anew (PACKET_STATISTICS of packet(7)). There are no
+    /// freezes.
     pub fn take_stats(&mut self) -> Result<Stats, Memory>
         ensures taken { IfOk result (λ stats. SlotAdds E.feed self.old self.new Counted) }
         ensures stats { IfOk result (λ stats. stats ≡ slot_stats_of (slots_filled self.old)) }
@@ -112,7 +114,8 @@ impl<E: FeederEnd<Slot> + Drop> SlotProducer<E> {
         Ok(stats)
     }
 
-    /// Closes the ring. It gives back the end and the notes, of which the last says that the ring was closed.
+    /// Closes the ring. It gives back the end and the notes, of which the last says that the ring
+    /// was closed.
     pub fn finish(self) -> (E, Notes)
         ensures end { result.0 ≡ self.end }
         ensures notes { result.1 ≡ self.notes ++ Finished ∷ [] }

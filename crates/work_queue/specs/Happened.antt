@@ -8,8 +8,8 @@ use Rattle.work_queue.specs.Logs.{HasDone, named, once_below}
 use Rattle.work_queue.specs.declared.knowledge.Log.{Log}
 use Rattle.work_queue.specs.declared.works.Work.{Work}
 
--- What is so of a pass that stands for some of so many: it knows what these did, and how many there are. One that
--- stands for all has all works that were taken out
+-- What holds of a pass that stands for some of `count` passes: it knows what these did, and how
+-- many there are. One that stands for all has all works that were taken out
 pub record LogOk (count : ℕ) (left : List Work) (handed gone : List Place) (v : Log) : Type 0 where
   pub done : AllByRecursion (HasDone handed gone) v.parts
   pub knows : 0 < length v.parts → v.all ≡ count
@@ -23,8 +23,9 @@ pub record OneHasAll (views : List Log) : Type 0 where
   pub some_parts : 0 < length view.parts
   pub all_parts : length view.parts ≡ view.all
 
--- Each work that was handed was fetched, or taken out as the queue is closed, or is in the queue, in this order. Only a
--- pass that stands for all takes works out. Each name below the number of passes is that of one of them.
+-- Each work that was handed was fetched, or taken out as the queue is closed, or is in the queue,
+-- in this order. Only a pass that stands for all takes works out. Each name below the number of
+-- passes is that of one of them.
 pub record Happened (items : List Work) (views : List Log) : Type 0 where
   pub count : ℕ
   pub handed : List Place

@@ -19,12 +19,12 @@ abbrev pub own : ℕ → List Place → List Work
 own name [] = []
 own name (place ∷ places) = if place.by == name then place.work ∷ own name places else own name places
 
--- the place belongs to one of so many passes
+-- the place belongs to one of n passes
 abbrev pub IsNamed : ℕ → Place → Type 0
 IsNamed count place = place.by < count
 
--- What so many passes did: the works that were handed are those that were fetched, and then those that are left, which
--- have lawful texts
+-- What `count` passes did: the works that were handed are those that were fetched, and then those
+-- that are left, which have lawful texts
 pub record History (count : ℕ) (left : List Work) (handed gone : List Place) : Type 0 where
   pub order : works_of handed ≡ works_of gone ++ left
   pub by_passes : AllByRecursion (IsNamed count) handed

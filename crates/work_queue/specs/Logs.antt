@@ -12,7 +12,7 @@ log all parts left = record { all = all; parts = parts; left = left }
 abbrev pub fresh : ℕ → Part
 fresh name = record { name = name; handed = []; fetched = [] }
 
--- those of so many names from this one up
+-- those of n names from this one up
 abbrev pub fresh_parts : ℕ → ℕ → List Part
 fresh_parts name zero = []
 fresh_parts name (suc more) = fresh name ∷ fresh_parts (name + 1) more

@@ -11,8 +11,9 @@ pub record QueueValue : Type 0 where
   pub id : WebId
   pub passes : ℕ
 
--- Contracts see a pass as this: the queue that it belongs to and its number of passes, its name among them, the works
--- that it handed and that it fetched, in order, and how often `fetch` was called with it
+-- Contracts see a pass as this: the queue that it belongs to and its number of passes, its name
+-- among them, the works that it handed and that it fetched, in order, and how often `fetch` was
+-- called with it
 pub record PassValue : Type 0 where
   pub queue : WebId
   pub of : ℕ
@@ -21,7 +22,7 @@ pub record PassValue : Type 0 where
   pub fetched : List Work
   pub calls : ℕ
 
--- the pass belongs to the queue with this web and so many passes
+-- the pass belongs to the queue with this web and n passes
 abbrev pub IsPassAt : WebId → ℕ → PassValue → Type 0
 IsPassAt id passes pass = (pass.queue ≡ id) × (pass.of ≡ passes)
 
@@ -34,7 +35,7 @@ abbrev pub fresh_pass : WebId → ℕ → ℕ → PassValue
 fresh_pass id passes name =
     record { queue = id; of = passes; name = name; handed = []; fetched = []; calls = 0 }
 
--- passes of so many names from this one up
+-- the passes of n names from this one up
 abbrev pub fresh_passes : WebId → ℕ → ℕ → ℕ → List PassValue
 fresh_passes id passes name zero = []
 fresh_passes id passes name (suc more) = fresh_pass id passes name ∷ fresh_passes id passes (name + 1) more
@@ -64,8 +65,9 @@ pub record HasPlaces (handed gone : List Place) (pass : PassValue) : Type 0 wher
   pub handed_is : pass.handed ≡ own pass.name handed
   pub fetched_is : pass.fetched ≡ own pass.name gone
 
--- What all passes of a queue did, and what is left: the works that were handed are those that were fetched and then
--- those that are left, which have lawful texts. Each place belongs to one pass, which has its places in order.
+-- What all passes of a queue did, and what is left: the works that were handed are those that were
+-- fetched and then those that are left, which have lawful texts. Each place belongs to one pass,
+-- which has its places in order.
 pub record IsHistory (passes : List PassValue) (left : List Work) : Type 0 where
   pub handed : List Place
   pub gone : List Place

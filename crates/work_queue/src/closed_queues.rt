@@ -63,8 +63,9 @@ fn drain<R: Wait>(
 }
 
 impl WorkQueue {
-    /// The works that were handed and not fetched, in order, when all passes are handed in. What all passes fetched
-    /// and what is left are then together what was handed, each once. The only error is that an allocation fails.
+    /// The works that were handed and not fetched, in order, when all passes are handed in. What
+    /// all passes fetched and what is left are then together what was handed, each once. The only
+    /// error is that an allocation fails.
     pub fn close<R: Wait>(
         self,
         rt: &R,

@@ -1,4 +1,5 @@
-//! A queue of works between threads: some passes hand works in, others fetch them, each work once and in order.
+//! A queue of works between threads: some passes hand works in, others fetch them, each work once
+//! and in order.
 #![tactic(auto)]
 
 mod closed_queues;

@@ -11,7 +11,7 @@ use crossbeam_queue::{RuledSegQueue, SegPass};
 use frame_view::Memory;
 use std::alloc::Global;
 
-/// Lets the first pass stand for so many more.
+/// Lets the first pass stand for `passes` more.
 fn grow(queue: &RuledSegQueue<Work, Log, EachOnce>, root: &mut SegPass<Work, Log>, passes: u32)
     requires own { IsSegPassOf queue.now root.old }
     requires some { 0 < passes }
@@ -69,8 +69,8 @@ fn make_passes(
 }
 
 impl WorkQueue {
-    /// An empty queue, and so many passes, 1 to 17: the passes of a run's members and workers. The names of the
-    /// passes are their numbers, from 0. The only error is that an allocation fails.
+    /// An empty queue, and `passes` passes, 1 to 17: the passes of a run's members and workers. The
+    /// names of the passes are their numbers, from 0. The only error is that an allocation fails.
     pub fn new(alloc: Global, passes: u32) -> Result<(WorkQueue, Vec<WorkPass>), Memory>
         requires some { 0 < passes }
         requires few { passes ≤ 17 }

@@ -8,8 +8,8 @@ use crate::{Unhanded, Work, WorkPass, WorkQueue};
 use std::sync::Wait;
 
 impl WorkQueue {
-    /// Puts a work at the back of the queue. The pass has handed fewer than 2^40 works. The only error is that an
-    /// allocation fails; the work comes back then, and nothing was put.
+    /// Puts a work at the back of the queue. The pass has handed fewer than 2^40 works. The only
+    /// error is that an allocation fails; the work comes back then, and nothing was put.
     pub fn hand<R: Wait>(&self, rt: &R, pass: &mut WorkPass, work: Work) -> Result<(), Unhanded>
         requires own { IsPassOf self.now pass.old }
         requires few { length pass.old.handed < 2 ^ 40 }
@@ -24,7 +24,8 @@ impl WorkQueue {
         }
     }
 
-    /// Takes the work at the front of the queue, if there is one. It was called fewer than 2^40 times with the pass.
+    /// Takes the work at the front of the queue, if there is one. It was called fewer than 2^40
+    /// times with the pass.
     pub fn fetch<R: Wait>(&self, rt: &R, pass: &mut WorkPass) -> Option<Work>
         requires own { IsPassOf self.now pass.old }
         requires few { pass.old.calls < 2 ^ 40 }

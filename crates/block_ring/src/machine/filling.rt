@@ -71,7 +71,8 @@ impl<E: FeederEnd<Block> + Drop> Machine<E> {
         self.kept += 1;
     }
 
-    /// Retires the open block, which has packets, by time-out or not. A frozen ring has none to retire.
+    /// Retires the open block, which has packets, by time-out or not. A frozen ring has none to
+    /// retire.
     pub(super) fn retire_open(&mut self, timed_out: bool)
         ghost at: { At }
         requires at { IsAt E.feed at.in_hand at.state self.old }
@@ -90,8 +91,8 @@ impl<E: FeederEnd<Block> + Drop> Machine<E> {
         }
     }
 
-    /// The status of a block that is retired now: TP_STATUS_USER, TP_STATUS_BLK_TMO where its time is over, and
-    /// TP_STATUS_LOSING where packets were dropped since the statistics were taken.
+    /// The status of a block that is retired now: TP_STATUS_USER, TP_STATUS_BLK_TMO where its time
+    /// is over, and TP_STATUS_LOSING where packets were dropped since the statistics were taken.
     fn status(&self, timed_out: bool) -> u32
         ghost state: { State }
         requires { self.now.dropped ≡ state.dropped }

@@ -14,9 +14,9 @@ use tp_layout::a_shape_is_sound;
 const LEAST: usize = 14;
 
 impl TxRing {
-    /// Takes the requested slots in order, and appends the packet of each good one, which is available then. A bad slot
-    /// stops the ring for good, or with `skip_bad` is skipped. What was appended before an error stays; after
-    /// `Memory` the slot in question is still requested.
+    /// Takes the requested slots in order, and appends the packet of each good one, which is
+    /// available then. A bad slot stops the ring for good, or with `skip_bad` is skipped. What was
+    /// appended before an error stays; after `Memory` the slot in question is still requested.
     pub fn send(&mut self, out: &mut Packets) -> Result<Sent, SendError>
         ensures answer { UnlessMemory result (result ≡ send_answer self.old) }
         ensures ring { UnlessMemory result (self.new ≡ after_send self.old) }
@@ -48,7 +48,8 @@ impl TxRing {
         (self.placed - self.taken) as u32
     }
 
-    /// Takes the first requested slot: sends it, skips it, or stops the ring there. It reports whether it was sent.
+    /// Takes the first requested slot: sends it, skips it, or stops the ring there. It reports
+    /// whether it was sent.
     fn take_front(&mut self, out: &mut Packets) -> Result<bool, SendError>
         requires some { 0 < length self.old.requests }
         ensures { FrontTaken self.old self.new out.old out.new result }

@@ -1,5 +1,5 @@
 use Rattle.std.proofs.Common.{length, ◌-◌}
-use Rattle.bpf_filter.specs.Machines.{state_of}
+use Rattle.bpf_filter.specs.inside.Machines.{state_of}
 use Rattle.bpf_filter.specs.Sight.{sight_of}
 use Rattle.bpf_filter.proofs.Runs.{Goes}
 use Rattle.bpf_filter.proofs.program.Program.verdict.Given as goal

@@ -27,7 +27,8 @@ bytes_of Word = 4
 bytes_of Half = 2
 bytes_of Byte = 1
 
--- the codes by which A takes a number that k and the registers always give: LD IMM, TXA, and ALU less DIV and MOD
+-- the codes by which A takes a number that k and the registers always give: LD IMM, TXA, and ALU
+-- less DIV and MOD
 abbrev pub is_calculation : ℕ → Bool
 is_calculation code =
     is_among (0x00 ∷ 0x87 ∷ 0x84 ∷ 0x04 ∷ 0x0c ∷ 0x14 ∷ 0x1c ∷ 0x24 ∷ 0x2c ∷ 0x44 ∷ 0x4c ∷ 0x54 ∷ 0x5c ∷ 0x64 ∷ 0x6c ∷ 0x74 ∷ 0x7c ∷ 0xa4 ∷ 0xac ∷ []) code
