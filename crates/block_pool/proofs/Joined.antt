@@ -4,8 +4,8 @@ use Rattle.std.specs.Prelude.{map}
 use Rattle.std.specs.List.{AllByRecursion, AllZip}
 use Rattle.std.proofs.lemmas.List.{length-drop, length-map, length-take-le}
 use Rattle.block_pool.specs.Pieces.{IsPieceOf}
-use Rattle.block_pool.specs.Reports.{AreOutputsOf}
-use Rattle.block_pool.specs.Shelves.{AreFull, HasPlaceIn, counts_of, empty_shelf, put_each, read_of}
+use Rattle.block_pool.specs.inside.Reports.{AreOutputsOf}
+use Rattle.block_pool.specs.inside.Shelves.{AreFull, HasPlaceIn, counts_of, empty_shelf, put_each, read_of}
 use Rattle.block_pool.specs.Takers.{HandingValue, HasNumbered, first_takers, handing_base, handing_taken}
 use Rattle.block_pool.specs.Workers.{HasDecoded, IsFreshPassOf}
 use Rattle.block_pool.specs.declared.pieces.Piece.{Piece}

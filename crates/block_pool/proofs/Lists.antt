@@ -2,7 +2,7 @@
 use Rattle.std.proofs.Common.{◌≡◌, ℕ, zero, suc, ◌+◌, ◌-◌, List, [], ◌∷◌, ◌++◌, length, length-set, get_or, set, Option, Some, append_assoc, append-nil, length-append, refl, sym, ap, ◌∙◌, subst}
 use Rattle.std.specs.Prelude.{flat_map}
 use Rattle.std.specs.List.{AllByRecursion}
-use Rattle.block_pool.specs.Shelves.{HasPlaceIn, counts_of, packets_at, put_each, put_one, texts_at}
+use Rattle.block_pool.specs.inside.Shelves.{HasPlaceIn, counts_of, packets_at, put_each, put_one, texts_at}
 use Rattle.block_pool.specs.Takers.{HandingValue, first_takers, handing_value}
 use Rattle.block_pool.specs.declared.pieces.Piece.{Piece}
 use Rattle.frame_view.specs.declared.frames.Packet.{Packet}

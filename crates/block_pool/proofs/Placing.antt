@@ -6,7 +6,7 @@ use Rattle.std.proofs.lemmas.List.{length-map}
 use mathlib.Core.Logic.{dite}
 use native.Mathlib.Decide.{ℕ_discrete}
 use Rattle.block_pool.specs.Pieces.{IsPieceOf}
-use Rattle.block_pool.specs.Shelves.{HasPlaceIn, counts_of, empty_shelf, put_each, put_one}
+use Rattle.block_pool.specs.inside.Shelves.{HasPlaceIn, counts_of, empty_shelf, put_each, put_one}
 use Rattle.block_pool.specs.declared.pieces.Piece.{Piece}
 use Rattle.block_pool.proofs.Members.{IsPlaced}
 use Rattle.block_pool.proofs.Zips.{at_below, set_at, set_by, zip_at, zip_long, zip_set}

@@ -5,7 +5,7 @@ use Rattle.std.specs.List.{AllByRecursion, AllZip}
 use mathlib.Core.Option.{some}
 use lib.ListN.{get_elem?}
 use Rattle.block_pool.specs.Pieces.{IsPieceOf}
-use Rattle.block_pool.specs.Shelves.{AreFull, HasPlaceIn, counts_of, empty_shelf, put_each, read_of}
+use Rattle.block_pool.specs.inside.Shelves.{AreFull, HasPlaceIn, counts_of, empty_shelf, put_each, read_of}
 use Rattle.block_pool.specs.Takers.{AreNumbered, HandingValue, HasNumbered, first_takers, handing_base, handing_taken, handing_value}
 use Rattle.block_pool.specs.Workers.{HasDecoded}
 use Rattle.block_pool.specs.declared.pieces.Piece.{Piece}
@@ -14,7 +14,7 @@ use Rattle.block_pool.proofs.Members.{AreMembers, IsPlaced, fetched_else, handed
 use Rattle.block_pool.proofs.Placing.{IsThere, all_empty, all_fit, all_held, all_there}
 use Rattle.block_pool.proofs.Reading.{HasAt, IsFilled, blocks_row, dumped_row, filled_all, full_all, walked_row}
 use Rattle.block_pool.proofs.Zips.{zip_append}
-use Rattle.block_pool.specs.Reports.{AreOutputsOf}
+use Rattle.block_pool.specs.inside.Reports.{AreOutputsOf}
 use Rattle.cpu_feeders.specs.Runs.{AreTakersOf}
 use Rattle.reader_walk.specs.Readers.{dump_by, walked_of}
 use Rattle.reader_walk.specs.Takers.{Base}

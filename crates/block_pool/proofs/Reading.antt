@@ -5,7 +5,7 @@ use Rattle.std.proofs.lemmas.List.{length-map}
 use mathlib.Core.Option.{some}
 use lib.ListN.{get_elem?}
 use Rattle.block_pool.specs.Pieces.{IsPieceOf, work_taken}
-use Rattle.block_pool.specs.Shelves.{AreFull, IsFull, packets_at, texts_at}
+use Rattle.block_pool.specs.inside.Shelves.{AreFull, IsFull, packets_at, texts_at}
 use Rattle.block_pool.specs.Takers.{AreNumbered, works_taken}
 use Rattle.block_pool.specs.declared.pieces.Piece.{Piece}
 use Rattle.block_pool.proofs.Placing.{IsHeldAs}

@@ -1,5 +1,4 @@
 pub mod Pieces
 pub mod Takers
 pub mod Workers
-pub mod Shelves
-pub mod Reports
+pub mod inside

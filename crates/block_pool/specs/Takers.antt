@@ -22,7 +22,8 @@ first_takers shape member [] = []
 first_takers shape member (pass ∷ passes) =
     handing_value member shape pass ∷ first_takers shape (member + 1) passes
 
--- what no block changes: the shape, the member, the name of the pass, and the queue that it belongs to
+-- what no block changes: the shape, the member, the name of the pass, and the queue that it belongs
+-- to
 abbrev pub handing_base : HandingValue → Base
 handing_base taker = record {
   shape = taker.shape;
@@ -48,15 +49,16 @@ AreNumbered member shape number [] = ⊤
 AreNumbered member shape number (work ∷ works) =
     IsWorkOf member shape number work × AreNumbered member shape (number + 1) works
 
--- a taker of this queue: the works that it has handed have its member's number and its shape, and the numbers from 1 in
--- order; it fetches none
+-- a taker of this queue: the works that it has handed have its member's number and its shape, and
+-- the numbers from 1 in order; it fetches none
 pub record IsHanding (queue : QueueValue) (pass : PassValue) (member : ℕ) (shape : RingRequest) (handed : ℕ) : Type 0 where
   pub own : IsPassOf queue pass
   pub counted : handed ≡ length pass.handed
   pub numbered : AreNumbered member shape 1 pass.handed
   pub none_fetched : pass.fetched ≡ []
 
--- its works have its member's number and its shape, and the numbers from 1 in order, and it has fetched none
+-- its works have its member's number and its shape, and the numbers from 1 in order, and it has
+-- fetched none
 pub record HasNumbered (taker : HandingValue) : Type 0 where
   pub numbered : AreNumbered taker.member taker.shape 1 taker.pass.handed
   pub none_fetched : taker.pass.fetched ≡ []

@@ -21,8 +21,8 @@ pub record IsFreshDecoder (queue : QueueValue) (dealer : DealerValue) (decoder :
   pub full : decoder.full ≡ false
   pub seat : IsFreshOf dealer decoder.seat
 
--- A worker of this queue, which hands nothing: unless an allocation failed it has a piece of each work that it fetched,
--- in order
+-- A worker of this queue, which hands nothing: unless an allocation failed it has a piece of each
+-- work that it fetched, in order
 pub record HasDecoded (dumps : Bool) (queue : QueueValue) (before after : Decoder) : Type 0 where
   pub own : IsPassOf queue after.pass
   pub name : after.pass.name ≡ before.pass.name

@@ -2,7 +2,7 @@
 ghost use Rattle.std.specs.Prelude.{◌≡◌, ◌++◌, [], List, false, flat_map, length, map, IfOk, OnOk};
 ghost use Rattle.std.specs.List.{AllByRecursion, AllZip};
 ghost use Rattle.block_pool.specs.Pieces.{IsPieceOf};
-ghost use Rattle.block_pool.specs.Shelves.{AreFull, HasPlaceIn, counts_of, empty_shelf, put_each, read_of};
+ghost use Rattle.block_pool.specs.inside.Shelves.{AreFull, HasPlaceIn, counts_of, empty_shelf, put_each, read_of};
 ghost use Rattle.block_pool.specs.Takers.{HasNumbered};
 ghost use Rattle.work_queue.specs.Works.{IsLawfulWork};
 
@@ -28,7 +28,8 @@ pub(crate) struct Parted {
     pub(crate) pieces: Vec<Piece>,
 }
 
-/// Takes the takers of a run apart: their passes, and for each an empty shelf with a place for each of its works.
+/// Takes the takers of a run apart: their passes, and for each an empty shelf with a place for each
+/// of its works.
 fn part_takers<'a, R: Wait>(
     alloc: Global,
     takers: Vec<Handing<'a, R>>,
@@ -49,8 +50,8 @@ fn part_takers<'a, R: Wait>(
     Ok(shelves)
 }
 
-/// Takes the workers of a run apart: their passes, and their pieces. The error is also that one of them ran out of
-/// memory.
+/// Takes the workers of a run apart: their passes, and their pieces. The error is also that one of
+/// them ran out of memory.
 fn part_decoders(
     alloc: Global,
     decoders: Vec<Decoder>,
@@ -75,7 +76,8 @@ fn part_decoders(
     Ok(pieces)
 }
 
-/// Takes the takers and the workers of a run apart. The error is also that a worker ran out of memory.
+/// Takes the takers and the workers of a run apart. The error is also that a worker ran out of
+/// memory.
 pub(crate) fn part_all<'a, R: Wait>(
     alloc: Global,
     takers: Vec<Handing<'a, R>>,

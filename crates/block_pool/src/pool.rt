@@ -22,7 +22,8 @@ use std::thread::Threads;
 use tap_outside::Source;
 use work_queue::{WorkPass, WorkQueue};
 
-/// A queue with a pass for each taker and each worker: the queue, the takers' passes and the workers'.
+/// A queue with a pass for each taker and each worker: the queue, the takers' passes and the
+/// workers'.
 fn queue_for(
     alloc: Global,
     members: u32,
@@ -55,13 +56,13 @@ fn deal_one(alloc: Global) -> Result<(Dealer, DealerSeat, Vec<DealerSeat>), Memo
     Ok((dealer, seat, others))
 }
 
-/// Runs a job on threads with a pool: a reader for each member, which copies the text of each block into a work and hands
-/// it in; so many workers, 1 to 8, which fetch the works and decode them; a timer that reports the moments, and a feeder
-/// for each CPU. What was decoded is put together by number after the joins, so the report is that of a run whose
-/// readers decode.
+/// Runs a job on threads with a pool: a reader for each member, which copies the text of each block
+/// into a work and hands it in; 1 to 8 workers, which fetch the works and decode them; a timer that
+/// reports the moments, and a feeder for each CPU. What was decoded is put together by number after
+/// the joins, so the report is that of a run whose readers decode.
 ///
-/// The sources are one for each CPU, and come back less the bytes that they gave; a CPU without one ends with a fault.
-/// The only error is that an allocation fails, and the sources are dropped then.
+/// The sources are one for each CPU, and come back less the bytes that they gave; a CPU without one
+/// ends with a fault. The only error is that an allocation fails, and the sources are dropped then.
 pub fn run_pool<S: Source + Send, G: Gate + Sync, R: Threads + Wait + Sync>(
     rt: &R,
     alloc: Global,

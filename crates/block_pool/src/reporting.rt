@@ -1,7 +1,7 @@
 //! The report of a run with a pool.
 ghost use Rattle.std.specs.Prelude.{◌≡◌, ℕ, Bool, List, Option, length, map, option_map, IfOk};
 ghost use Rattle.std.specs.List.{AllZip};
-ghost use Rattle.block_pool.specs.Reports.{AreOutputsOf, HaveRun};
+ghost use Rattle.block_pool.specs.inside.Reports.{AreOutputsOf, HaveRun};
 ghost use Rattle.capture_reports.specs.Reported.{AreReported};
 ghost use Rattle.cpu_feeders.specs.Runs.{IsCaptureRun};
 ghost use Rattle.setup_text.specs.Runnable.{IsRunnable};
@@ -54,8 +54,8 @@ fn members_of(
     Ok(members)
 }
 
-/// Reports what a run on threads leaves: what is logged of each CPU, the notes and the ring of each member, and what was
-/// read of the member's blocks.
+/// Reports what a run on threads leaves: what is logged of each CPU, the notes and the ring of each
+/// member, and what was read of the member's blocks.
 pub(crate) fn report_run<S: Source>(
     alloc: Global,
     job: &Job,

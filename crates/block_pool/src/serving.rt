@@ -88,8 +88,8 @@ fn serve<G: Gate + Sync, R: Threads + Wait + Sync>(
     decoders
 }
 
-/// Runs a job with these takers. Whatever it answers, the dealer then has no live feeder: its one seat of a feeder
-/// stands for the takers.
+/// Runs a job with these takers. Whatever it answers, the dealer then has no live feeder: its one
+/// seat of a feeder stands for the takers.
 fn take_all<'a, S: Source + Send, G: Gate + Sync, R: Threads + Wait + Sync>(
     rt: &R,
     pool: &Pool<G>,
@@ -119,8 +119,8 @@ fn take_all<'a, S: Source + Send, G: Gate + Sync, R: Threads + Wait + Sync>(
 
 /// Runs the workers and the run that hands works to them side by side.
 ///
-/// Where no thread can be made, the second of the two runs first. So the workers are the first: the takers wait for none
-/// of them, and a worker waits until the takers have ended.
+/// Where no thread can be made, the second of the two runs first. So the workers are the first: the
+/// takers wait for none of them, and a worker waits until the takers have ended.
 pub(crate) fn run_both<'a, S: Source + Send, G: Gate + Sync, R: Threads + Wait + Sync>(
     rt: &R,
     pool: &Pool<G>,

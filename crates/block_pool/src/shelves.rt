@@ -1,7 +1,7 @@
 //! Pieces of members, put together by number.
 ghost use Rattle.std.specs.Prelude.{◌≡◌, ◌<◌, length, map, slice_set, Some, IfOk};
 ghost use Rattle.std.specs.List.{AllByRecursion};
-ghost use Rattle.block_pool.specs.Shelves.{AreFull, HasPlaceIn, IsFull, counts_of, empty_shelf, put_each, read_of};
+ghost use Rattle.block_pool.specs.inside.Shelves.{AreFull, HasPlaceIn, IsFull, counts_of, empty_shelf, put_each, read_of};
 
 use crate::pieces::Piece;
 use frame_view::{ByteList, Memory, Packets};
@@ -26,7 +26,7 @@ impl Model for Shelf {
 }
 
 impl Shelf {
-    /// Places for so many pieces.
+    /// Empty places for `count` pieces.
     pub(crate) fn new(alloc: Global, count: usize) -> Result<Shelf, Memory>
         ensures { IfOk result (λ shelf. shelf ≡ empty_shelf count) }
     {
@@ -45,7 +45,8 @@ impl Shelf {
         self.places[at] = Some(piece);
     }
 
-    /// All packets and texts, one after another, and the number of pieces, where each place has one.
+    /// All packets and texts, one after another, and the number of pieces, where each place has
+    /// one.
     pub(crate) fn read_out(self, alloc: Global) -> Result<Outputs, Memory>
         requires full { IsFull self }
         ensures { IfOk result (λ outputs. outputs ≡ read_of self) }

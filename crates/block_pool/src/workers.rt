@@ -1,4 +1,5 @@
-//! A worker of the pool: it fetches works and decodes them until the takers have ended and no work is left.
+//! A worker of the pool: it fetches works and decodes them until the takers have ended and no work
+//! is left.
 ghost use Rattle.std.specs.Prelude.{◌≡◌, [], ◌∷◌, ◌++◌, OnOk};
 ghost use Rattle.block_pool.specs.Pieces.{IsPieceOf};
 ghost use Rattle.block_pool.specs.Workers.{HasDecoded, IsFreshDecoder};
@@ -54,8 +55,8 @@ pub(crate) fn keep<G: Gate>(
     Ok(())
 }
 
-/// Fetches works and decodes them. It ends where a look found no work after the takers had ended, where an allocation
-/// failed, and after as many looks as a pass may make.
+/// Fetches works and decodes them. It ends where a look found no work after the takers had ended,
+/// where an allocation failed, and after as many looks as a pass may make.
 ///
 /// The takers are counted before each look, so that what they handed before they ended is seen.
 pub fn run_decoder<R: Wait, G: Gate>(

@@ -14,8 +14,8 @@ use Rattle.setup_text.specs.declared.jobs.Job.{Job}
 use Rattle.ticket_dealer.specs.Seats.{DealerValue, IsFreshOf, SeatValue}
 use Rattle.tp_layout.specs.Writing.{ShapedBytes}
 use Rattle.tp_layout.specs.declared.requests.RingRequest.{RingRequest}
-use Rattle.cpu_feeders.specs.Closings.{AllAtEnd, AllClosedWith, AreAtEnd, IsClosedWith}
-use Rattle.cpu_feeders.specs.FreshWorkers.{IsFreshReader, IsMemberOf}
+use Rattle.cpu_feeders.specs.inside.Closings.{AllAtEnd, AllClosedWith, AreAtEnd, IsClosedWith}
+use Rattle.cpu_feeders.specs.inside.FreshWorkers.{IsFreshReader, IsMemberOf}
 use Rattle.cpu_feeders.specs.Runs.{AreTakersOf}
 use Rattle.cpu_feeders.specs.WorkerEffects.{IsWalkedOut}
 use Rattle.cpu_feeders.specs.declared.closed_members.Closed.{Closed}

@@ -11,7 +11,7 @@ use Rattle.fanout_group.specs.Routes.{present_after}
 use Rattle.fanout_group.specs.Rules.{Rules}
 use Rattle.fanout_group.specs.declared.logs.ArrivalLog.{ArrivalLog}
 use Rattle.frame_view.specs.declared.frames.Frame.{Frame}
-use Rattle.cpu_feeders.specs.FeedSteps.{arrived_of}
+use Rattle.cpu_feeders.specs.inside.FeedSteps.{arrived_of}
 
 -- what arrives at some frames and at the others
 split_from : (defrag : Bool) (held frames : List Frame) (n : ℕ)

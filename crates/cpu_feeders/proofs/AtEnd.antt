@@ -11,9 +11,9 @@ use Rattle.tp_layout.specs.Layouts.{Taken}
 use Rattle.setup_text.specs.declared.jobs.Job.{Job}
 use Rattle.ticket_dealer.specs.Seats.{DealerValue}
 use Rattle.turn_lock.specs.Seats.{IsIdleSeatOf}
-use Rattle.cpu_feeders.specs.Closings.{AllAtEnd}
-use Rattle.cpu_feeders.specs.FreshWorkers.{IsFreshReader, IsMemberOf, IsReaderAt}
-use Rattle.cpu_feeders.specs.Stands.{with_all}
+use Rattle.cpu_feeders.specs.inside.Closings.{AllAtEnd}
+use Rattle.cpu_feeders.specs.inside.FreshWorkers.{IsFreshReader, IsMemberOf, IsReaderAt}
+use Rattle.cpu_feeders.specs.inside.Stands.{with_all}
 use Rattle.cpu_feeders.specs.Walks.{Walks}
 use Rattle.cpu_feeders.specs.WorkerEffects.{IsWalkedOut}
 use Rattle.cpu_feeders.specs.declared.feeder.Feeder.{Feeder}

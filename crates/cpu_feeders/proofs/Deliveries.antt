@@ -21,7 +21,7 @@ use Rattle.run_reports.specs.Jobs.{lens_of, rules_of}
 use Rattle.setup_text.specs.declared.jobs.Job.{Job}
 use Rattle.ticket_dealer.specs.Seats.{SeatValue}
 use Rattle.tp_layout.specs.Requests.{room_of}
-use Rattle.cpu_feeders.specs.FeedSteps.{AreFedAt, AreStands, Awaits, Goes, IsLogged, IsTriedAs, has_drawn_for}
+use Rattle.cpu_feeders.specs.inside.FeedSteps.{AreFedAt, AreStands, Awaits, Goes, IsLogged, IsTriedAs, has_drawn_for}
 
 -- what the delivery of an arrival adds to a seat's notes, by the law on it
 abbrev pub DeliveryAdds : Type 0

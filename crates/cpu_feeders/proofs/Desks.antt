@@ -16,7 +16,7 @@ use Rattle.setup_text.specs.declared.jobs.Job.{Job}
 use Rattle.tp_layout.specs.Requests.{room_of}
 use Rattle.tp_layout.specs.Writing.{IsWritable}
 use Rattle.tp_layout.specs.declared.requests.RingRequest.{RingRequest}
-use Rattle.cpu_feeders.specs.FeedSteps.{AreStands, IsLogged}
+use Rattle.cpu_feeders.specs.inside.FeedSteps.{AreStands, IsLogged}
 use Rattle.cpu_feeders.specs.Feeds.{AreMembersFor}
 
 -- the members take the offer of which the desk is made

@@ -24,12 +24,12 @@ use Rattle.setup_text.specs.declared.jobs.Job.{Job}
 use Rattle.tap_outside.specs.Seen.{SourceSeen}
 use Rattle.ticket_dealer.specs.Seats.{AreDealt, DealerValue, IsFreshOf, IsSeatOf, SeatValue}
 use Rattle.tp_layout.specs.Writing.{ShapedBytes}
-use Rattle.cpu_feeders.specs.Closings.{AllAtEnd, AllClosedWith}
-use Rattle.cpu_feeders.specs.Crews.{HaveWorked}
-use Rattle.cpu_feeders.specs.FreshWorkers.{IsMemberOf}
-use Rattle.cpu_feeders.specs.WorkerKinds.{feeders_in, is_full, timers_in, walkers_in}
+use Rattle.cpu_feeders.specs.inside.Closings.{AllAtEnd, AllClosedWith}
+use Rattle.cpu_feeders.specs.inside.Crews.{HaveWorked}
+use Rattle.cpu_feeders.specs.inside.FreshWorkers.{IsMemberOf}
+use Rattle.cpu_feeders.specs.inside.WorkerKinds.{feeders_in, is_full, timers_in, walkers_in}
 use Rattle.cpu_feeders.specs.Runs.{AreTakersOf, IsTakerRun}
-use Rattle.cpu_feeders.specs.Stands.{with_all}
+use Rattle.cpu_feeders.specs.inside.Stands.{with_all}
 use Rattle.cpu_feeders.specs.Timing.{TimesOut}
 use Rattle.cpu_feeders.specs.WorkerEffects.{IsFedOut, IsWalkedOut}
 use Rattle.cpu_feeders.specs.declared.closed_members.Closed.{Closed}

@@ -14,7 +14,7 @@ use Rattle.tap_outside.specs.Seen.{SourceSeen}
 use Rattle.ticket_dealer.specs.Seats.{DealerValue, IsSeatOf, SeatValue}
 use Rattle.turn_lock.specs.Seats.{IsIdleSeatOf}
 use Rattle.cpu_feeders.specs.Feeds.{FeedsOut}
-use Rattle.cpu_feeders.specs.FreshWorkers.{first_feed, first_feeds}
+use Rattle.cpu_feeders.specs.inside.FreshWorkers.{first_feed, first_feeds}
 use Rattle.cpu_feeders.specs.WorkerEffects.{IsFedOut}
 use Rattle.cpu_feeders.specs.declared.feeder.Feeder.{Feeder}
 

@@ -14,7 +14,7 @@ use Rattle.run_reports.specs.Jobs.{rules_of}
 use Rattle.setup_text.specs.declared.jobs.Job.{Job}
 use Rattle.ticket_dealer.specs.Seats.{DealerValue, SeatValue}
 use Rattle.tp_layout.specs.Requests.{room_of}
-use Rattle.cpu_feeders.specs.FeedSteps.{AreFedAt, AreStands, Goes}
+use Rattle.cpu_feeders.specs.inside.FeedSteps.{AreFedAt, AreStands, Goes}
 use Rattle.cpu_feeders.specs.Feeds.{FeedsOut, IsFreshSeat, IsFreshStand}
 use Rattle.cpu_feeders.specs.declared.feeder.Feeder.{Feeder}
 use Rattle.cpu_feeders.proofs.NextFrames.{fed_same}

@@ -23,10 +23,10 @@ use Rattle.tp_layout.specs.declared.requests.RingRequest.{RingRequest}
 use Rattle.turn_lock.specs.Histories.{own}
 use Rattle.turn_lock.specs.Seats.{fresh_seat}
 use Rattle.cpu_feeders.specs.Feeds.{IsFreshFeeder, IsFreshSeat, IsFreshStand}
-use Rattle.cpu_feeders.specs.FreshWorkers.{AreHired, IsFreshReader, IsMemberOf, IsReaderAt, first_feed, first_feeds, in_order}
-use Rattle.cpu_feeders.specs.Openings.{IsOpened}
+use Rattle.cpu_feeders.specs.inside.FreshWorkers.{AreHired, IsFreshReader, IsMemberOf, IsReaderAt, first_feed, first_feeds, in_order}
+use Rattle.cpu_feeders.specs.inside.Openings.{IsOpened}
 use Rattle.cpu_feeders.specs.Runs.{IsFreshTaker}
-use Rattle.cpu_feeders.specs.Stands.{fresh_stands, fresh_users}
+use Rattle.cpu_feeders.specs.inside.Stands.{fresh_stands, fresh_users}
 use Rattle.cpu_feeders.specs.Walks.{Walks, taken_of}
 use Rattle.cpu_feeders.specs.WorkerEffects.{IsReadyWorker}
 use Rattle.cpu_feeders.specs.declared.feeder.Feeder.{Feeder}

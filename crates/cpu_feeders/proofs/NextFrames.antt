@@ -16,7 +16,7 @@ use Rattle.run_reports.specs.Jobs.{rules_of}
 use Rattle.setup_text.specs.declared.jobs.Job.{Job}
 use Rattle.ticket_dealer.specs.Seats.{SeatValue}
 use Rattle.capture_reports.specs.Feeders.{HasFed, IsFedAt}
-use Rattle.cpu_feeders.specs.FeedSteps.{AreFedAt, AreStands, Awaits, Goes, arrived_of}
+use Rattle.cpu_feeders.specs.inside.FeedSteps.{AreFedAt, AreStands, Awaits, Goes, arrived_of}
 use Rattle.cpu_feeders.proofs.Arrived.{arrived_more, held_behind_all, one_each, so_far}
 
 stands_more : (cpu other most more : ℕ) (locks : List Lock) (stands : List Seat) → other ≡ cpu → most ≤ more

@@ -2,7 +2,7 @@
 use Rattle.std.proofs.Common.{◌≡◌, ℕ, ◌+◌, List, [], ◌∷◌, ◌++◌, length, replicate, refl, sym, ap, ◌∙◌, subst, arith, append_assoc}
 use Rattle.ring_words.specs.Rings.{Entry}
 use Rattle.ring_words.specs.TableEnds.{Walking}
-use Rattle.cpu_feeders.specs.FreshWorkers.{AreNumbered}
+use Rattle.cpu_feeders.specs.inside.FreshWorkers.{AreNumbered}
 use Rattle.cpu_feeders.specs.Walks.{FreedMore}
 use Rattle.cpu_feeders.specs.declared.walker.Walker.{Walker}
 

@@ -6,7 +6,7 @@ use Rattle.std.proofs.lemmas.List.{map-append}
 use Rattle.std.proofs.lemmas.Slice.Zip.{all_zipped_more}
 use Rattle.member_turns.specs.Seats.{Lock, Seat}
 use Rattle.turn_lock.specs.Seats.{fresh_seats}
-use Rattle.cpu_feeders.specs.Stands.{fresh_users, with_all, with_each}
+use Rattle.cpu_feeders.specs.inside.Stands.{fresh_users, with_all, with_each}
 use Rattle.cpu_feeders.proofs.StandLists.{one_member}
 
 -- ---- items that are handed on from one list to another

@@ -13,7 +13,7 @@ use Rattle.ring_model.specs.declared.notes.Note.{Note}
 use Rattle.ring_words.specs.Pendings.{Pends}
 use Rattle.tp_layout.specs.Writing.{ShapedBytes}
 use Rattle.tp_layout.specs.declared.requests.RingRequest.{RingRequest}
-use Rattle.cpu_feeders.specs.Readers.{IsReaderOf}
+use Rattle.cpu_feeders.specs.inside.Readers.{IsReaderOf}
 use Rattle.cpu_feeders.specs.Runs.{AreTakersOf, IsFreshTaker, IsTakerOf}
 
 abbrev pub taken_in_reader : ReaderValue → List Taken

@@ -5,7 +5,7 @@ use Rattle.std.specs.List.{AllByRecursion}
 use Rattle.std.proofs.lemmas.List.{map-append}
 use Rattle.member_turns.specs.Seats.{Lock, Seat}
 use Rattle.turn_lock.specs.Seats.{fresh_seat, fresh_seats}
-use Rattle.cpu_feeders.specs.Stands.{fresh_stands, fresh_users, with_all, with_each}
+use Rattle.cpu_feeders.specs.inside.Stands.{fresh_stands, fresh_users, with_all, with_each}
 
 module _ {A : Type 0} where
   pub with_each_long : (lists : List (List A)) (items : List A) → length (with_each lists items) ≡ length lists

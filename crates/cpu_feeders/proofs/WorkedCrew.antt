@@ -7,8 +7,8 @@ use Rattle.tp_layout.specs.Layouts.{Taken}
 use Rattle.setup_text.specs.declared.jobs.Job.{Job}
 use Rattle.tap_outside.specs.Seen.{SourceSeen}
 use Rattle.ticket_dealer.specs.Seats.{DealerValue, SeatValue}
-use Rattle.cpu_feeders.specs.Crews.{HaveWorked}
-use Rattle.cpu_feeders.specs.FreshWorkers.{AreHired}
+use Rattle.cpu_feeders.specs.inside.Crews.{HaveWorked}
+use Rattle.cpu_feeders.specs.inside.FreshWorkers.{AreHired}
 use Rattle.cpu_feeders.specs.WorkerEffects.{IsDoneWorker}
 use Rattle.cpu_feeders.specs.declared.worker.Worker.{Worker}
 use Rattle.cpu_feeders.proofs.WorkerOrder.{worked_through}

@@ -3,8 +3,8 @@ use Rattle.std.proofs.Common.{◌≡◌, ◌<◌, ℕ, zero, suc, false, List, [
 use Rattle.std.specs.Prelude.{map}
 use Rattle.std.specs.List.{AllByRecursion, AllZip}
 use Rattle.turn_lock.proofs.SeatLists.{changed_whole}
-use Rattle.cpu_feeders.specs.FreshWorkers.{in_order}
-use Rattle.cpu_feeders.specs.WorkerKinds.{feeders_in, is_full, timers_in, walkers_in}
+use Rattle.cpu_feeders.specs.inside.FreshWorkers.{in_order}
+use Rattle.cpu_feeders.specs.inside.WorkerKinds.{feeders_in, is_full, timers_in, walkers_in}
 use Rattle.cpu_feeders.specs.Timing.{TimesOut}
 use Rattle.cpu_feeders.specs.WorkerEffects.{IsDoneWorker, IsFedOut, IsReadyWorker, IsWalkedOut}
 use Rattle.cpu_feeders.specs.declared.feeder.Feeder.{Feeder}

@@ -1,13 +1,6 @@
 pub mod Timing
 pub mod Walks
-pub mod Stands
-pub mod Openings
 pub mod Feeds
 pub mod WorkerEffects
-pub mod FreshWorkers
-pub mod WorkerKinds
-pub mod Closings
-pub mod Crews
-pub mod Readers
-pub mod FeedSteps
 pub mod Runs
+pub mod inside

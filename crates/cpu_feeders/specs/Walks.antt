@@ -11,7 +11,8 @@ use Rattle.tp_layout.specs.Requests.{numbers_of}
 abbrev pub taken_of : Base → List Entry → List Taken
 taken_of base entries = map (λ (entry : Entry). taken_in base.shape entry.0) entries
 
--- the reader took these further blocks, and gave back as many, each with the word of a free one, which is 0
+-- the reader took these further blocks, and gave back as many, each with the word of a free one,
+-- which is 0
 pub record FreedMore (before after : Walking) : Type 0 where
   pub more : List Entry
   pub taken : after.taken ≡ before.taken ++ more

@@ -1,8 +1,8 @@
 //! The crew of a run: its members, its dealer and its workers.
 ghost use Rattle.std.specs.Prelude.{◌≡◌, ◌<◌, ◌≤◌, length, map, option_map, IfOk};
 ghost use Rattle.std.specs.List.{AllByRecursion};
-ghost use Rattle.cpu_feeders.specs.FreshWorkers.{AreHired, IsDealt};
-ghost use Rattle.cpu_feeders.specs.Openings.{IsGroupOf};
+ghost use Rattle.cpu_feeders.specs.inside.FreshWorkers.{AreHired, IsDealt};
+ghost use Rattle.cpu_feeders.specs.inside.Openings.{IsGroupOf};
 ghost use Rattle.cpu_feeders.specs.Runs.{IsFreshTaker};
 ghost use Rattle.setup_text.specs.Runnable.{IsRunnable};
 
@@ -43,7 +43,7 @@ struct Dealt {
     spare: Vec<DealerSeat>,
 }
 
-/// Makes a dealer for so many feeders.
+/// Makes a dealer for the feeders of `cpus` CPUs.
 fn deal(alloc: Global, cpus: usize) -> Result<Dealt, Memory>
     requires some { 0 < cpus }
     requires few { cpus ≤ 8 }

@@ -1,7 +1,7 @@
 //! What feeders and the timer leave after the joins.
 ghost use Rattle.std.specs.Prelude.{◌≡◌, ◌++◌, ◌∷◌, [], length, map, replicate, IfOk, OnOk};
 ghost use Rattle.std.specs.List.{AllByRecursion};
-ghost use Rattle.cpu_feeders.specs.Stands.{with_all, with_each};
+ghost use Rattle.cpu_feeders.specs.inside.Stands.{with_all, with_each};
 
 use crate::Timer;
 use crate::feeder::Feeder;
@@ -24,7 +24,7 @@ pub(crate) struct Left<S: Source> {
 }
 
 impl<S: Source> Left<S> {
-    /// Nothing is left yet, of no CPU and at so many members. There is room for so many CPUs.
+    /// Nothing is left yet of any CPU or member. There is room for `cpus` CPUs.
     fn new(alloc: Global, cpus: usize, members: usize) -> Result<Left<S>, Memory>
         ensures cpus { IfOk result (λ left. left.cpus.items ≡ []) }
         ensures seats { IfOk result (λ left. left.seats.items ≡ []) }
@@ -65,7 +65,7 @@ fn add_timers(stands: &mut Vec<StandList>, timers: Vec<Timer>) -> Result<(), Mem
     Ok(())
 }
 
-/// Takes feeders and the timer apart, who have a stand at each of so many members.
+/// Takes feeders and the timer apart, who have a stand at each of `members` members.
 pub(crate) fn gather<S: Source>(
     alloc: Global,
     members: usize,

@@ -4,7 +4,7 @@
 //! In mode `Lb` an arrival draws its ticket first, whatever becomes of it. Then its hash and
 //! verdict are found, and then its tries are made, each in a turn at its member.
 ghost use Rattle.std.specs.Prelude.{◌≡◌, ◌<◌, ◌≤◌, ◌^◌, ℕ, [], Some, false, length, IfOk, IfSome, OnOk};
-ghost use Rattle.cpu_feeders.specs.FeedSteps.{Awaits, FeedsOn, Goes, IsDrawing, IsLogged, IsSameSource, has_drawn_for};
+ghost use Rattle.cpu_feeders.specs.inside.FeedSteps.{Awaits, FeedsOn, Goes, IsDrawing, IsLogged, IsSameSource, has_drawn_for};
 ghost use Rattle.cpu_feeders.specs.Feeds.{AreMembersFor, FeedsOut, HasEnded, IsFreshFeeder};
 ghost use Rattle.fanout_group.specs.Arrivals.{IsArrival};
 ghost use Rattle.fanout_group.specs.Rules.{HasTicket};

@@ -2,7 +2,7 @@
 ghost use Rattle.std.specs.Prelude.{◌≡◌, ◌+◌, ◌<◌, ◌≤◌, ◌++◌, ◌∷◌, [], false, length, map, option_map, IfOk, OnOk};
 ghost use Rattle.std.specs.List.{AllByRecursion};
 ghost use Rattle.cpu_feeders.specs.Feeds.{IsFreshSeat};
-ghost use Rattle.cpu_feeders.specs.FreshWorkers.{AreNumbered, first_feed, first_feeds, in_order};
+ghost use Rattle.cpu_feeders.specs.inside.FreshWorkers.{AreNumbered, first_feed, first_feeds, in_order};
 ghost use Rattle.cpu_feeders.specs.declared.worker.Worker.TheVariants as worker;
 ghost use Rattle.ticket_dealer.specs.Seats.{DealerValue, IsFreshOf};
 
@@ -81,8 +81,8 @@ pub(crate) fn feeders_of<S: Source>(
     Ok(feeders)
 }
 
-/// A reader for each taker, with the end of its member's ring: the members are numbered from 0. Their
-/// seats come off the list.
+/// A reader for each taker, with the end of its member's ring: the members are numbered from 0.
+/// Their seats come off the list.
 pub(crate) fn walkers_of<T: Taker + Drop>(
     alloc: Global,
     takers: Vec<T>,

@@ -12,7 +12,7 @@ pub enum Point {
     Ticking {
         ms: u64,
     },
-    /// The reader of a member released a block, and so many in all so far.
+    /// The reader of a member released a block, the `blocks`-th so far.
     Released {
         member: u32,
         blocks: u64,

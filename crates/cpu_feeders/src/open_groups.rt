@@ -1,8 +1,8 @@
 //! A group before its threads start: its members have empty rings.
 ghost use Rattle.std.specs.Prelude.{◌≡◌, ◌+◌, ◌≤◌, ◌∷◌, ◌++◌, [], length, IfOk, OnOk};
 ghost use Rattle.std.specs.List.{AllZip};
-ghost use Rattle.cpu_feeders.specs.Openings.{IsOpened};
-ghost use Rattle.cpu_feeders.specs.Stands.{fresh_users};
+ghost use Rattle.cpu_feeders.specs.inside.Openings.{IsOpened};
+ghost use Rattle.cpu_feeders.specs.inside.Stands.{fresh_users};
 
 use crate::stands::{StandList, add_to_each, empty_lists};
 use frame_view::Memory;
@@ -43,7 +43,7 @@ impl OpenGroup {
     }
 }
 
-/// Opens so many members, whose rings have this shape, for so many CPUs.
+/// Opens the members, whose rings have this shape, for `cpus` CPUs.
 pub(crate) fn open_group(
     alloc: Global,
     shape: &Shape,

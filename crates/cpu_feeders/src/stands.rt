@@ -1,6 +1,6 @@
 //! The stands of a run: each member has one for each user, and each user has one at each member.
 ghost use Rattle.std.specs.Prelude.{◌≡◌, [], length, replicate, IfOk, OnOk};
-ghost use Rattle.cpu_feeders.specs.Stands.{with_each};
+ghost use Rattle.cpu_feeders.specs.inside.Stands.{with_each};
 
 use frame_view::{ItemList, Memory};
 use member_turns::Stand;

@@ -1,7 +1,7 @@
 //! A run on threads with takers of the caller's.
 ghost use Rattle.std.specs.Prelude.{◌≡◌, ◌++◌, ◌∷◌, [], ℕ, List, Option, length, map, option_map, IfOk, OnOk};
 ghost use Rattle.std.specs.List.{AllByRecursion};
-ghost use Rattle.cpu_feeders.specs.Crews.{HaveWorked};
+ghost use Rattle.cpu_feeders.specs.inside.Crews.{HaveWorked};
 ghost use Rattle.cpu_feeders.specs.Runs.{IsFreshTaker, IsTakerRun};
 ghost use Rattle.setup_text.specs.Runnable.{IsRunnable};
 ghost use Rattle.setup_text.specs.Sound.{AreMoments};
@@ -44,7 +44,7 @@ pub struct Workers<S: Source, T: Taker + Drop> {
     pub rings: Vec<Pending<Block>>,
 }
 
-/// What closed CPUs leave, with room for what so many members leave.
+/// What closed CPUs leave, with room for what the members leave.
 fn without_members<S: Source, T: Taker + Drop>(
     alloc: Global,
     cpus: ClosedCpus<S>,

@@ -1,7 +1,7 @@
 //! The workers of a run after the joins, by their kinds.
 ghost use Rattle.std.specs.Prelude.{◌≡◌, ◌∷◌, ◌++◌, [], false, IfOk, OnOk};
 ghost use Rattle.std.specs.List.{AllByRecursion};
-ghost use Rattle.cpu_feeders.specs.WorkerKinds.{feeders_in, is_full, timers_in, walkers_in};
+ghost use Rattle.cpu_feeders.specs.inside.WorkerKinds.{feeders_in, is_full, timers_in, walkers_in};
 
 use crate::feeder::Feeder;
 use crate::worker::Worker;

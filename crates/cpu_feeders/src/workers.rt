@@ -2,7 +2,7 @@
 ghost use Rattle.std.specs.Prelude.{◌≡◌, Bool, None, length, map, option_map, replicate, IfOk};
 ghost use Rattle.std.specs.List.{AllByRecursion, AllZip};
 ghost use Rattle.capture_reports.specs.Reported.{AreReported};
-ghost use Rattle.cpu_feeders.specs.Readers.{IsReaderOf};
+ghost use Rattle.cpu_feeders.specs.inside.Readers.{IsReaderOf};
 ghost use Rattle.cpu_feeders.specs.Runs.{IsCaptureRun};
 ghost use Rattle.reader_walk.specs.Readers.{new_reader};
 ghost use Rattle.setup_text.specs.Runnable.{IsRunnable};

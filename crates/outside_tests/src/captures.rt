@@ -18,7 +18,7 @@ static THREE_FRAMES: [u8; 78] = [
     2, 0, 0, 0, 9, 0, 0, 0, 1, 0, 0, 0, 64, 0, 0, 0, 41, // third
 ];
 
-/// The start of the capture, in a source that gives so many bytes at a time and fails at these
+/// The start of the capture, in a source that gives `piece` bytes at a time and fails at these
 /// reads.
 fn source_of(
     alloc: Global,
@@ -41,8 +41,8 @@ fn read(alloc: Global, count: usize, piece: usize, failing: &[u64]) -> Result<Re
     )
 }
 
-/// What is read of a frame: its CPU and index, its time and its bytes on the wire, and how many were
-/// captured.
+/// What is read of a frame: its CPU and index, its time and its bytes on the wire, and how many
+/// were captured.
 type Seen = ((u32, u32), (u32, u32, u32), usize);
 
 static SEEN: [Seen; 3] = [
@@ -64,7 +64,7 @@ fn seen(alloc: Global, reading: &Reading) -> Result<Vec<Seen>, Memory> {
     Ok(seen)
 }
 
-/// The capture whose source gives so many bytes at a time is read whole.
+/// The capture whose source gives `piece` bytes at a time is read whole.
 fn check_piece(rt: &impl Abort, alloc: Global, piece: usize) -> Result<(), Fail> {
     let reading = read(alloc, 78, piece, &[])?;
     let seen = seen(alloc, &reading)?;

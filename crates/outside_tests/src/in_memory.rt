@@ -47,7 +47,8 @@ fn words_have_their_bytes(rt: HostRuntime) -> Result<(), Fail> {
     Ok(())
 }
 
-/// The most bytes that one read gives, the reads that fail, and the answers of four reads of five bytes.
+/// The most bytes that one read gives, the reads that fail, and the answers of four reads of five
+/// bytes.
 type Answers = (usize, &'static [u64], [Result<usize, Failed>; 4]);
 
 static SOURCES: [Answers; 4] = [

@@ -1,5 +1,5 @@
-//! Tests of the outside: sources, sinks and stores in memory, real files, standard output, captures that are
-//! read out of sources, and made captures with the schedule that replays them.
+//! Tests of the outside: sources, sinks and stores in memory, real files, standard output, captures
+//! that are read out of sources, and made captures with the schedule that replays them.
 #![tactic(auto)]
 
 #[cfg(test)]

@@ -26,7 +26,8 @@ fn told_of(source: Option<SureSource>) -> Option<(usize, u32)> {
     told(&mut source?).ok()
 }
 
-/// The captures of so many frames of a seed have, for each CPU, this length and this hash of its bytes.
+/// The captures of `count` frames of a seed have, for each CPU, this length and this hash of its
+/// bytes.
 fn check_seed(
     rt: &impl Abort,
     alloc: Global,

@@ -1,4 +1,5 @@
-//! Standard output over a printer that does as it is told: it takes few bytes, is interrupted, or fails.
+//! Standard output over a printer that does as it is told: it takes few bytes, is interrupted, or
+//! fails.
 use std::cell::Cell;
 use std::fmt::Display;
 use std::io;
@@ -9,7 +10,7 @@ use tap_outside::{OutError, StdSink, write_whole};
 /// What a printer does at a write.
 #[derive(Clone, Copy, Debug)]
 enum Does {
-    /// It takes at most so many bytes.
+    /// It takes at most this number of bytes.
     Takes(usize),
     /// It fails, and takes none.
     Fails(ErrorKind),
@@ -81,7 +82,8 @@ impl Print for Printer {
     }
 }
 
-/// Its name, what the printer does, the answer to a whole write of `abcdefg`, what was taken, and the faults.
+/// Its name, what the printer does, the answer to a whole write of `abcdefg`, what was taken, and
+/// the faults.
 type Row = (
     &'static str,
     Does,

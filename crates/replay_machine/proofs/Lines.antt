@@ -22,7 +22,7 @@ use Rattle.cpu_feed.specs.Fed.{FedOne, IsAtItsEnd}
 use Rattle.cpu_feed.specs.Feeding.{Feeding, IsAllOfCpu, frames_in}
 use Rattle.replay_machine.specs.RunStates.{AreAllOf, Feeds, HasCount, IsCounted, IsRun, RunValue, cpu_in, cpus_of, firsts_of, no_feeding, whole, cpu_of}
 use Rattle.run_reports.specs.Jobs.{rules_of}
-use Rattle.replay_machine.specs.RunEffects.{FedRest, FedWhole, LineDone, fed_whole}
+use Rattle.replay_machine.specs.inside.RunEffects.{FedRest, FedWhole, LineDone, fed_whole}
 use Rattle.replay_machine.proofs.RunCounts.{keeps_count, more_lines, read_counted, stats_counted, tick_counted}
 use Rattle.replay_machine.proofs.CpuSteps.{run_with}
 use Rattle.replay_machine.proofs.Timed.{set_one}

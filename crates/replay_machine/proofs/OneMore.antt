@@ -4,7 +4,7 @@ use Rattle.std.specs.Prelude.{map, Option}
 use Rattle.cpu_feed.specs.Feeding.{Feeding}
 use Rattle.fanout_group.specs.Plans.{Shape}
 use Rattle.tap_outside.specs.Seen.{SourceSeen}
-use Rattle.replay_machine.specs.RunEffects.{first_feeding, starting_from}
+use Rattle.replay_machine.specs.inside.RunEffects.{first_feeding, starting_from}
 
 -- a made CPU is that of the next source
 pub next_feeding : {A : Type 0} (seen : A → Option SourceSeen) (plan : Shape) (done now all : List Feeding) (rest after : List A) (x : A) (y : Feeding) → rest ≡ x ∷ after

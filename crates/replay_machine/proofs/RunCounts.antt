@@ -29,7 +29,7 @@ use Rattle.setup_text.specs.declared.jobs.Job.{Job}
 use Rattle.tap_outside.specs.Seen.{SourceSeen}
 use Rattle.replay_machine.specs.Deliveries.{AreTried, IsTried}
 use Rattle.replay_machine.specs.RunStates.{Arrives, HasCount, HasRoom, HaveAtMost, IsCounted, IsTriedAs, Nexts, RunValue, cpu_in, fed_of, no_feeding}
-use Rattle.replay_machine.specs.RunEffects.{Starts, starting_from}
+use Rattle.replay_machine.specs.inside.RunEffects.{Starts, starting_from}
 
 -- ---- how many frames were fed
 

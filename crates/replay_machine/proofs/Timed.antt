@@ -22,7 +22,7 @@ use Rattle.schedule_lines.specs.Ascending.{AreAscending}
 use Rattle.schedule_lines.specs.declared.lines.Line.{Line}
 use Rattle.schedule_lines.specs.declared.lines.Line.TheVariants.{Feed, Read, Tick, Stats}
 use Rattle.replay_machine.specs.Deliveries.{AreTried, ChangedByTries, IsNoteOf, IsTried}
-use Rattle.replay_machine.specs.RunEffects.{MembersAfter}
+use Rattle.replay_machine.specs.inside.RunEffects.{MembersAfter}
 
 -- the last tick of a ring isn't past a moment
 abbrev IsEarly : ℕ → Ring → Type 0

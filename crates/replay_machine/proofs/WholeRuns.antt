@@ -28,7 +28,7 @@ use Rattle.run_reports.specs.Jobs.{captures_from, rules_of}
 use Rattle.replay_machine.specs.Runs.{IsReplayedOver, log_of, logs_from, replay_over, report_with}
 use Rattle.capture_reading.specs.Sources.{AllGave}
 use Rattle.tap_outside.specs.Seen.{SourceSeen}
-use Rattle.replay_machine.specs.RunEffects.{FedRest, Finishes, LineDone, Starts, starting_from}
+use Rattle.replay_machine.specs.inside.RunEffects.{FedRest, Finishes, LineDone, Starts, starting_from}
 use Rattle.replay_machine.proofs.RunCounts.{starts_counted}
 use Rattle.replay_machine.proofs.Whole.{as-many}
 

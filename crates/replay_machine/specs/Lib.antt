@@ -1,5 +1,5 @@
 pub mod Deliveries
 pub mod DeskLaws
 pub mod RunStates
-pub mod RunEffects
 pub mod Runs
+pub mod inside

@@ -89,11 +89,11 @@ abbrev pub fed_of : List Feeding → ℕ
 fed_of [] = 0
 fed_of (cpu ∷ cpus) = cpu.fed + fed_of cpus
 
--- each ring has at most so many notes
+-- each ring has at most n notes
 abbrev pub HaveAtMost : ℕ → List Ring → Type 0
 HaveAtMost most members = All (λ ring. length ring.notes ≤ most) members
 
--- so many lines were done: each frame that was fed drew at most one ticket and made at most 9 notes
+-- `lines` lines were done: each frame that was fed drew at most one ticket and made at most 9 notes
 -- at a ring, each line at most one note more; a capture has at most 2,097,150 frames
 pub record IsCounted (lines : ℕ) (run : RunValue) : Type 0 where
   pub few : length run.cpus ≤ 8

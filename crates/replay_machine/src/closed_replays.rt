@@ -2,7 +2,7 @@
 ghost use Rattle.std.specs.Prelude.{◌≡◌, map, option_map, IfOk, IsSome};
 ghost use Rattle.std.specs.List.{AllByRecursion};
 ghost use Rattle.replay_model.specs.Replay.{finished_ring};
-ghost use Rattle.replay_machine.specs.RunEffects.{Finishes};
+ghost use Rattle.replay_machine.specs.inside.RunEffects.{Finishes};
 
 use crate::member::{Member, RingMember};
 use crate::replay_run::ReplayRun;

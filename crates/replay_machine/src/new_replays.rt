@@ -1,7 +1,7 @@
 //! A replay before its first line.
 ghost use Rattle.std.specs.Prelude.{◌≡◌, ◌≤◌, length, map, option_map, replicate, IfOk};
 ghost use Rattle.ring_model.specs.Rings.{fresh};
-ghost use Rattle.replay_machine.specs.RunEffects.{Starts, starting_from};
+ghost use Rattle.replay_machine.specs.inside.RunEffects.{Starts, starting_from};
 
 use crate::member::{Member, RingMember};
 use crate::replay_run::ReplayRun;

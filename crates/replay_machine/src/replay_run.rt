@@ -14,7 +14,7 @@ ghost use Rattle.ring_model.specs.declared.notes.Note.TheVariants.{Counted};
 ghost use Rattle.setup_text.specs.Runnable.{IsRunnable};
 ghost use Rattle.cpu_feed.specs.Fed.{arrival_of};
 ghost use Rattle.replay_machine.specs.RunStates.{Arrives, Feeds, HasCount, HasRoom, IsLogged, IsRoomOf, IsRun, Nexts, cpu_in};
-ghost use Rattle.replay_machine.specs.RunEffects.{FedRest, FedWhole, LineDone};
+ghost use Rattle.replay_machine.specs.inside.RunEffects.{FedRest, FedWhole, LineDone};
 
 use crate::member::{Member, RingMember};
 use crate::ring_desk::RingDesk;

@@ -5,7 +5,7 @@ use Rattle.std.specs.List.{AllByRecursion}
 use Rattle.setup_text.specs.declared.reports.RunReport.{RunReport}
 use Rattle.tap_outside.specs.Seen.{SinkSeen, StoreSeen}
 use Rattle.tap_outside.specs.Sinks.{AppendsFront}
-use Rattle.tap_engine.specs.Answers.{IsAnswer}
+use Rattle.tap_engine.specs.inside.Answers.{IsAnswer}
 use Rattle.tap_engine.specs.Commands.{Named}
 use Rattle.tap_engine.specs.Conclusions.{IsStopped, Tells, memory_line}
 use Rattle.tap_engine.specs.Headline.{IsWorth}

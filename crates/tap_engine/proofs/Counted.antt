@@ -14,7 +14,7 @@ use Rattle.tap_outside.specs.Counts.{Rose}
 use Rattle.tap_outside.specs.Seen.{NoReadFailed, OnlyReads, SourceSeen, StoreSeen}
 use Rattle.tap_engine.specs.Faults.{IsCounted}
 use Rattle.tap_engine.specs.Findings.{fault_at, faults_in}
-use Rattle.tap_engine.specs.Sources.{AreFetched, faulty_in, missing_in}
+use Rattle.tap_engine.specs.inside.Sources.{AreFetched, faulty_in, missing_in}
 use Rattle.tap_engine.proofs.Ends.{AreEnds}
 use Rattle.tap_engine.proofs.Fetched.{faults_are, fetched_more, map_more, missing_more, one_more}
 use Rattle.tap_engine.proofs.Fetched.{rose_earlier, rose_less, rose_then, unfailed_then}

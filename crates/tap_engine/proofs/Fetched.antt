@@ -21,7 +21,7 @@ use Rattle.capture_reading.specs.Sources.{WhereFault, end_by}
 use Rattle.tap_outside.specs.Seen.{NoReadFailed, OnlyReads, SourceSeen, StoreSeen}
 use Rattle.tap_engine.specs.Findings.{fault_at, faults_in}
 use Rattle.tap_engine.specs.Headline.{AreCaptures, IsCapture}
-use Rattle.tap_engine.specs.Sources.{AreFetched, IsFresh, faulty_in, missing_in}
+use Rattle.tap_engine.specs.inside.Sources.{AreFetched, IsFresh, faulty_in, missing_in}
 use Rattle.tap_engine.proofs.Ends.{AreEnds}
 
 -- ---- counts

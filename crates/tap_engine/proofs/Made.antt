@@ -25,8 +25,8 @@ use Rattle.tap_engine.specs.Findings.{IsReported, IsSmall, faults_in}
 use Rattle.tap_engine.specs.Headline.{AreCaptures, CapturesFor, IsCaptureOf, IsReplayOf}
 use Rattle.tap_engine.specs.Headline.{IsReportBy, IsRunOf, replay_by}
 use Rattle.tap_engine.specs.Jobs.{HasJob, HasLines, HasTicks}
-use Rattle.tap_engine.specs.Replays.{IsReplayedBy}
-use Rattle.tap_engine.specs.Sources.{AreFetched, faulty_in, missing_in}
+use Rattle.tap_engine.specs.inside.Replays.{IsReplayedBy}
+use Rattle.tap_engine.specs.inside.Sources.{AreFetched, faulty_in, missing_in}
 use Rattle.tap_engine.proofs.Ends.{as_many_logs, report_ends, report_members, report_short}
 use Rattle.tap_engine.proofs.Counted.{counts_run}
 use Rattle.tap_engine.proofs.Fetched.{bytes_as_many, captures_are}

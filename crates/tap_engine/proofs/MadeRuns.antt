@@ -29,7 +29,7 @@ use Rattle.tap_replay.specs.Runs.{IsReplayed}
 use Rattle.tap_engine.specs.Commands.{Named}
 use Rattle.tap_engine.specs.Findings.{IsReported, IsSmall, fault_at, faults_in}
 use Rattle.tap_engine.specs.Headline.{AreMade}
-use Rattle.tap_engine.specs.Replays.{IsReplayedBy}
+use Rattle.tap_engine.specs.inside.Replays.{IsReplayedBy}
 use Rattle.tap_engine.specs.Jobs.{HasJob, HasLines, LinesFor}
 use Rattle.tap_engine.proofs.Complete.{whole_end}
 use Rattle.tap_engine.proofs.Ends.{AreEnds, report_ends}

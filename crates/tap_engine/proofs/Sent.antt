@@ -23,7 +23,7 @@ use Rattle.tap_engine.specs.Findings.{fault_at}
 use Rattle.tap_engine.specs.Headline.{IsCapture}
 use Rattle.tap_engine.specs.Names.{first_file}
 use Rattle.tap_engine.specs.Sendings.{IsFirst}
-use Rattle.tap_engine.specs.Sources.{AreFetched, faulty_in, missing_in}
+use Rattle.tap_engine.specs.inside.Sources.{AreFetched, faulty_in, missing_in}
 use Rattle.tap_engine.proofs.Counted.{counts_less, counts_run}
 use Rattle.tap_engine.proofs.Fetched.{captures_are}
 

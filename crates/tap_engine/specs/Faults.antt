@@ -6,7 +6,7 @@ use Rattle.tap_saving.specs.Saving.{NoSaveFailed}
 use Rattle.tap_engine.specs.declared.outcomes.Status.{Status}
 use Rattle.tap_engine.specs.declared.outcomes.Status.TheVariants.{Memory, ReadFault, WriteFault}
 
--- there were so many faults, or more, and where that is none no read failed
+-- there were at least `faults` faults, and if `faults` is 0 no read failed
 pub record IsCounted (old new : StoreSeen) (faults : ℕ) : Type 0 where
   pub rose : RoseBy faults old.read_faults new.read_faults
   pub faultless : faults ≡ 0 → NoReadFailed old new

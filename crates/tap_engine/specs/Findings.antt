@@ -40,7 +40,7 @@ pub record IsReported (held : Option Contents) (named : Named) (setup : Setup) (
   pub setup_is : headline.job.setup ≡ setup
 
 -- what members sent and skipped is what is forwarded of the packets that each read, through slots
--- of so many bytes
+-- of `room` bytes
 pub record IsForwarded (room : ℕ) (members : List MemberReport) (forwards : Forwards)
     : Type 0 where
   pub sent : forwards.sent ≡ map (sent_for room) members
@@ -65,7 +65,8 @@ faults_in [] = 0
 faults_in (log ∷ logs) = fault_at log.end + faults_in logs
 
 -- A command finds this in a store. A text that can't be read comes only where reading failed, and
--- as many captures end with a fault as reading failed, or fewer. Where neither comes no read failed.
+-- as many captures end with a fault as reading failed, or fewer. Where neither comes no read
+-- failed.
 abbrev pub IsFound : Option Named → StoreSeen → StoreSeen → Finding → Type 0
 IsFound None old new finding.NoCommand = NoReadFailed old new
 IsFound None old new found = ⊥

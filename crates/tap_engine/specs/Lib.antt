@@ -2,14 +2,11 @@ pub mod Commands
 pub mod Names
 pub mod Jobs
 pub mod Headline
-pub mod Replays
 pub mod Sendings
 pub mod Faults
 pub mod Findings
-pub mod Dones
 pub mod Conclusions
-pub mod Sources
 pub mod Complete
 pub mod Numbers
 pub mod InnerErrors
-pub mod Answers
+pub mod inside

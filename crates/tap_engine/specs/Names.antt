@@ -38,8 +38,8 @@ abbrev pub first_file : List CpuSetup → List ℕ
 first_file [] = []
 first_file (cpu ∷ cpus) = cpu.file
 
--- after these `replay` and `replay2` read the schedule and the captures, `capture` and `forward` the
--- captures, and `send` the first capture
+-- after these `replay` and `replay2` read the schedule and the captures, `capture` and `forward`
+-- the captures, and `send` the first capture
 abbrev pub read_last : Command → List ℕ → Setup → List (List ℕ)
 read_last Check schedule setup = []
 read_last Make schedule setup = []

@@ -3,7 +3,7 @@ ghost use Rattle.std.specs.Prelude.{◌≡◌, ◌≢◌, None, Option, IfOk, Is
 ghost use Rattle.std.specs.List.{AllByRecursion};
 ghost use Rattle.tap_outside.specs.Seen.{StoreSeen};
 ghost use Rattle.tap_outside.specs.Sinks.{AppendsFront};
-ghost use Rattle.tap_engine.specs.Answers.{IsAnswer};
+ghost use Rattle.tap_engine.specs.inside.Answers.{IsAnswer};
 ghost use Rattle.tap_engine.specs.Commands.{Named, command_of, plain_command};
 ghost use Rattle.tap_engine.specs.Complete.{IsComplete};
 ghost use Rattle.tap_engine.specs.Conclusions.{GivesUp, IsSearched, IsStopped, Tells, memory_line};

@@ -1,4 +1,5 @@
-//! What the headline says of a report: that each frame appears exactly once, and where none is dropped.
+//! What the headline says of a report: that each frame appears exactly once, and where none is
+//! dropped.
 ghost use Rattle.std.specs.Prelude.{Option, All};
 ghost use Rattle.run_reports.specs.Jobs.{arriving_of, rules_of};
 ghost use Rattle.run_reports.specs.Members.{DropsNoneBelow};

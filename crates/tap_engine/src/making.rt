@@ -13,7 +13,7 @@ ghost use Rattle.tap_engine.specs.Commands.{Named, has_schedule};
 ghost use Rattle.tap_engine.specs.Faults.{IsCounted};
 ghost use Rattle.tap_engine.specs.Findings.{IsReported, IsSmall, faults_in};
 ghost use Rattle.tap_engine.specs.Jobs.{HasJob, HasLines, Stops};
-ghost use Rattle.tap_engine.specs.Replays.{IsReplayedBy};
+ghost use Rattle.tap_engine.specs.inside.Replays.{IsReplayedBy};
 
 use crate::commands::rings_of;
 use crate::jobs::load_lines;
@@ -29,8 +29,8 @@ use tap_reading::Stop;
 use tap_replay::replay;
 use v2_replay::replay_v2;
 
-/// Replays a job over the captures that a store holds, by the schedule of a name, and over the rings
-/// of a command.
+/// Replays a job over the captures that a store holds, by the schedule of a name, and over the
+/// rings of a command.
 pub(crate) fn replay_scheduled<S: Store>(
     alloc: Global,
     command: Command,

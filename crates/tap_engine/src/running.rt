@@ -6,7 +6,7 @@ ghost use Rattle.tap_outside.specs.Seen.{OnlyReads};
 ghost use Rattle.tap_engine.specs.Commands.{command_of, is_threaded, named_by, plain_command};
 ghost use Rattle.tap_engine.specs.Commands.{rings_of};
 ghost use Rattle.tap_engine.specs.Conclusions.{IsSearched};
-ghost use Rattle.tap_engine.specs.Dones.{finding_by};
+ghost use Rattle.tap_engine.specs.inside.Dones.{finding_by};
 ghost use Rattle.tap_engine.specs.Findings.{IsFound, IsReady, finding_of};
 ghost use Rattle.tap_engine.specs.Jobs.{HasJob, Stops};
 ghost use Rattle.tap_engine.specs.Names.{AreMeantToRead};

@@ -3,7 +3,7 @@ ghost use Rattle.std.specs.Prelude.{◌≡◌, [], ◌∷◌, length, map, optio
 ghost use Rattle.std.specs.Prelude.{IsTrue, OnErr};
 ghost use Rattle.tap_outside.specs.Seen.{NoReadFailed, OnlyReads};
 ghost use Rattle.tap_engine.specs.Faults.{IsCounted};
-ghost use Rattle.tap_engine.specs.Sources.{AreFetched, faulty_in, missing_in};
+ghost use Rattle.tap_engine.specs.inside.Sources.{AreFetched, faulty_in, missing_in};
 
 use frame_view::Memory;
 use setup_text::{CpuSetup, CpuSetupList};

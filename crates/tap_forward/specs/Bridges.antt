@@ -8,7 +8,8 @@ use Rattle.tp_layout.specs.declared.requests.RingRequest.{RingRequest}
 use Rattle.tap_forward.specs.Forwarders.{ForwarderValue}
 use Rattle.tap_forward.specs.Forwarding.{sent_of, skipped_of}
 
--- the request of a transmit ring beside a receive ring: it has no time-out, no private area and no feature
+-- the request of a transmit ring beside a receive ring: it has no time-out, no private area and no
+-- feature
 abbrev pub tx_request : RingRequest → RingRequest
 tx_request request = record request { tov = 0; sizeof_priv = 0; features = 0 }
 

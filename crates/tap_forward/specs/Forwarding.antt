@@ -4,7 +4,8 @@ use Rattle.frame_view.specs.PlainPacket.{plain_of}
 use Rattle.frame_view.specs.Vlan.{frame_of}
 use Rattle.frame_view.specs.declared.frames.Packet.{Packet}
 
--- whether the frame of a packet, with its tag put back, has from 14 bytes to as many as fit after the header of a slot
+-- whether the frame of a packet, with its tag put back, has from 14 bytes to as many as fit after
+-- the header of a slot
 abbrev pub is_sendable : ℕ → Packet → Bool
 is_sendable room packet = nat_le 14 (length (frame_of packet)) && nat_le (length (frame_of packet)) room
 

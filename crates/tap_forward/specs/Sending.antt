@@ -14,8 +14,8 @@ pub record IsGoing (ring : TxState) : Type 0 where
   pub going : ring.stopped ≡ None
   pub good : AllByRecursion (λ request. is_good (room_of ring.shape) request ≡ true) ring.requests
 
--- a sender was given these packets: what it has sent and what is still requested is what is sent of them, in order, and
--- it has counted the others
+-- a sender was given these packets: what it has sent and what is still requested is what is sent of
+-- them, in order, and it has counted the others
 pub record WasGiven (given : List Packet) (sender : Sender) : Type 0 where
   pub sent : sender.sent ++ packets_of (room_of sender.ring.shape) sender.ring.requests
       ≡ sent_of (room_of sender.ring.shape) given

@@ -32,12 +32,13 @@ pub struct ForwardRan<S: Drop> {
     pub sent: Vec<Packets>,
     /// The number of packets that were skipped of each member, from 0 up.
     pub skipped: Vec<u64>,
-    /// The source of each CPU, from 0 up, less the bytes that it gave; nothing where none was handed in.
+    /// The source of each CPU, from 0 up, less the bytes that it gave; nothing where none was
+    /// handed in.
     pub sources: Vec<Option<S>>,
 }
 
-/// The shape of the transmit ring beside a receive ring: that of the same request without a time-out, a private area and
-/// features, which a transmit ring has not.
+/// The shape of the transmit ring beside a receive ring: that of the same request without a
+/// time-out, a private area and features, which a transmit ring has not.
 fn tx_shape(request: &RingRequest) -> Shape
     requires { receive_fault request.now ≡ None }
     ensures shape { result ≡ tx_request request.now }
@@ -125,12 +126,14 @@ fn report<S: Source>(alloc: Global, workers: Workers<S, Forwarder>) -> Result<Fo
     })
 }
 
-/// Runs a job on threads as `run_workers` does, with a reader for each member that also sends the packets that it reads
-/// through a transmit ring of its own: the ring of the setup's request without a time-out, a private area and features.
+/// Runs a job on threads as `run_workers` does, with a reader for each member that also sends the
+/// packets that it reads through a transmit ring of its own: the ring of the setup's request
+/// without a time-out, a private area and features.
 ///
-/// Of each packet the frame is sent, with its tag put back. A packet whose frame has fewer than 14 bytes, or more than
-/// fit after the header of a slot (`frame_size - 48`), is skipped. No slot is refused. The only error is that an
-/// allocation fails, and the sources are dropped then. That anything is sent before the run ends is not promised.
+/// Of each packet the frame is sent, with its tag put back. A packet whose frame has fewer than 14
+/// bytes, or more than fit after the header of a slot (`frame_size - 48`), is skipped. No slot is
+/// refused. The only error is that an allocation fails, and the sources are dropped then. That
+/// anything is sent before the run ends is not promised.
 pub fn forward_workers<S: Source + Send, G: Gate + Sync, R: Threads + Wait + Sync>(
     rt: &R,
     alloc: Global,

@@ -1,9 +1,9 @@
 //! What receives on one ring and transmits on another.
 //!
-//! A forwarder reads each block as a reader does, and gives the packets that were read to a sender. So they go out while
-//! the run goes on, whenever all slots of the transmit ring are requested, and what is then left goes out at the end.
-//! Where memory runs out, the sender was given a part of the packets, and the next call goes on with the rest: none is
-//! lost, and none is sent twice.
+//! A forwarder reads each block as a reader does, and gives the packets that were read to a sender.
+//! So they go out while the run goes on, whenever all slots of the transmit ring are requested, and
+//! what is then left goes out at the end. Where memory runs out, the sender was given a part of the
+//! packets, and the next call goes on with the rest: none is lost, and none is sent twice.
 ghost use Rattle.std.specs.Prelude.{◌≡◌, ◌^◌, ◌<◌, ◌≤◌, length, None, IfOk, OnErr, OnOk};
 ghost use Rattle.reader_walk.specs.Takers.{IsReadable};
 ghost use Rattle.tp_layout.specs.Requests.{transmit_fault};
@@ -20,16 +20,16 @@ use tp_layout::{Block, Shape};
 pub struct Forwarded {
     /// What a reader of the same blocks gives.
     pub outputs: Outputs,
-    /// The packets that were sent, in order. Each is the frame of a packet that was read, its tag put back, with time 0
-    /// and its own length as the length on the wire.
+    /// The packets that were sent, in order. Each is the frame of a packet that was read, its tag
+    /// put back, with time 0 and its own length as the length on the wire.
     pub sent: Packets,
-    /// The number of packets that were skipped: those whose frame has fewer than 14 bytes or more than fit after the
-    /// header of a slot.
+    /// The number of packets that were skipped: those whose frame has fewer than 14 bytes or more
+    /// than fit after the header of a slot.
     pub skipped: u64,
 }
 
-/// Reads the blocks of a ring (PACKET_RX_RING) and sends their packets through another (PACKET_TX_RING). Contracts see
-/// the blocks that it has read.
+/// Reads the blocks of a ring (PACKET_RX_RING) and sends their packets through another
+/// (PACKET_TX_RING). Contracts see the blocks that it has read.
 #[derive(Drop)]
 pub struct Forwarder {
     /// What was received.
@@ -55,8 +55,9 @@ impl Model for Forwarder {
 impl Forwarder {
     ghost use Rattle.tap_forward.specs.Forwarders.{base_of, forwarded_of, has_forwarded, new_forwarder};
 
-    /// A forwarder that has read nothing: it reads blocks of the shape `shape`, keeps their texts where it is asked to,
-    /// and sends through a ring of the shape `tx`, which is that of a request that passed `RingRequest::check_tx`.
+    /// A forwarder that has read nothing: it reads blocks of the shape `shape`, keeps their texts
+    /// where it is asked to, and sends through a ring of the shape `tx`, which is that of a request
+    /// that passed `RingRequest::check_tx`.
     pub fn new(alloc: Global, shape: Shape, tx: Shape, dump: bool) -> Result<Forwarder, Memory>
         requires { transmit_fault tx ≡ None }
         ensures { IfOk result (λ forwarder. forwarder ≡ new_forwarder shape tx dump) }
@@ -68,7 +69,8 @@ impl Forwarder {
         })
     }
 
-    /// Sends what is still requested, and gives all that was read, sent and skipped. No slot is ever refused.
+    /// Sends what is still requested, and gives all that was read, sent and skipped. No slot is
+    /// ever refused.
     pub fn end(self) -> Result<Forwarded, Memory>
         ensures { IfOk result (λ forwarded. forwarded ≡ forwarded_of self) }
     {
@@ -106,8 +108,9 @@ impl Taker for Forwarder {
 
     ghost taken = { λ forwarder. forwarder.taken };
 
-    /// Reads a block, and queues the frame of each of its packets that has from 14 bytes to as many as fit after the
-    /// header of a slot; where all slots are requested it sends first. Every other packet is skipped.
+    /// Reads a block, and queues the frame of each of its packets that has from 14 bytes to as many
+    /// as fit after the header of a slot; where all slots are requested it sends first. Every other
+    /// packet is skipped.
     fn block(&mut self, block: &Block) -> Result<(), Memory> {
         self.forward(block)
     }

@@ -1,4 +1,5 @@
-//! A bridge: it receives on one ring and transmits on another. Each reader of a run sends the packets that it reads.
+//! A bridge: it receives on one ring and transmits on another. Each reader of a run sends the
+//! packets that it reads.
 #![tactic(auto)]
 
 mod bridge;

@@ -1,5 +1,5 @@
-//! A transmit ring that packets are given to one after another: the frame of each waits in its slot until all slots are
-//! requested, or until the end.
+//! A transmit ring that packets are given to one after another: the frame of each waits in its slot
+//! until all slots are requested, or until the end.
 ghost use Rattle.std.specs.Prelude.{◌≡◌, ◌+◌, ◌^◌, ◌<◌, ◌≤◌, [], ◌∷◌, ◌++◌, List, length, take, IfOk, OnErr, OnOk};
 ghost use Rattle.frame_view.specs.Vlan.{frame_of};
 ghost use Rattle.frame_view.specs.declared.frames.Packet.{Packet as GivenPacket};
@@ -45,8 +45,8 @@ impl Sender {
         })
     }
 
-    /// Gives it the packets from number `given` on, and counts them there. After `Memory` it was given those that are
-    /// counted.
+    /// Gives it the packets from number `given` on, and counts them there. After `Memory` it was
+    /// given those that are counted.
     pub(crate) fn give_all(&mut self, packets: &[Packet], given: &mut usize) -> Result<(), Memory>
         requires going { IsGoing self.old.ring }
         requires within { given.old ≤ length packets.now }
@@ -85,8 +85,8 @@ impl Sender {
         }
     }
 
-    /// Gives it a packet: its frame is queued, or skipped where it is no frame of 14 bytes to as many as fit. After
-    /// `Memory` it was not given the packet.
+    /// Gives it a packet: its frame is queued, or skipped where it is no frame of 14 bytes to as
+    /// many as fit. After `Memory` it was not given the packet.
     fn give(&mut self, packet: &Packet) -> Result<(), Memory>
         requires going { IsGoing self.old.ring }
         requires few { self.old.ring.placed < 2 ^ 54 }
@@ -107,8 +107,8 @@ impl Sender {
         self.queue(frame.as_slice())
     }
 
-    /// Queues a frame. One that is a runt, or is longer than what fits into a slot, is skipped. After `Memory` the frame
-    /// was not queued.
+    /// Queues a frame. One that is a runt, or is longer than what fits into a slot, is skipped.
+    /// After `Memory` the frame was not queued.
     fn queue(&mut self, frame: &[u8]) -> Result<(), Memory>
         requires going { IsGoing self.old.ring }
         requires few { self.old.ring.placed < 2 ^ 54 }
@@ -130,8 +130,8 @@ impl Sender {
         self.queue_whole(frame)
     }
 
-    /// Queues a frame that is no runt; where all slots are requested it sends first. A frame that is longer than what
-    /// fits into a slot is skipped. After `Memory` the frame was not queued.
+    /// Queues a frame that is no runt; where all slots are requested it sends first. A frame that
+    /// is longer than what fits into a slot is skipped. After `Memory` the frame was not queued.
     fn queue_whole(&mut self, frame: &[u8]) -> Result<(), Memory>
         requires going { IsGoing self.old.ring }
         requires few { self.old.ring.placed < 2 ^ 54 }

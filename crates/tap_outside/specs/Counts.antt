@@ -5,7 +5,7 @@ use Rattle.std.specs.Prelude.{ℕ, ◌+◌, ◌-◌, ◌^◌, ◌≤◌, min}
 abbrev pub counted : ℕ → ℕ
 counted count = min (count + 1) (2 ^ 64 - 1)
 
--- the count rose by at least so many, or stands at its greatest value
+-- the count rose by at least n, or is at its greatest value
 abbrev pub RoseBy : ℕ → ℕ → ℕ → Type 0
 RoseBy many before now = min (before + many) (2 ^ 64 - 1) ≤ now
 

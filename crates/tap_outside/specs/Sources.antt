@@ -25,7 +25,7 @@ abbrev pub fresh_source : List ℕ → ℕ → List ℕ → MemSourceState
 fresh_source bytes most numbers =
     record { left = bytes; piece = most; failing = numbers; reads = 0; faults = 0 }
 
--- a source after a read of so many bytes
+-- a source after a read of n bytes
 abbrev pub after_read : MemSourceState → ℕ → MemSourceState
 after_read source given =
     record source { left = drop given source.left; reads = counted source.reads }

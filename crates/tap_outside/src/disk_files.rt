@@ -154,8 +154,8 @@ fn open_source<R: Files + AllocGlobal>(rt: &R, name: &[u8]) -> Result<DiskSource
     })
 }
 
-/// Makes a file of these bytes. Once it is open its old bytes are gone, so running out of memory is a
-/// fault from there on: the file may hold anything then.
+/// Makes a file of these bytes. Once it is open its old bytes are gone, so running out of memory is
+/// a fault from there on: the file may hold anything then.
 fn write_file<R: Files>(rt: &R, name: &[u8], bytes: &[u8]) -> Result<(), OutError> {
     let path = str::from_utf8(name).map_err(|_| Failed)?;
     let mut file = fs::create(rt, path)?;

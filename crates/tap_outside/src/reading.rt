@@ -8,8 +8,8 @@ ghost use Rattle.tap_outside.specs.Seen.{SourceSeen};
 use crate::Failed;
 
 /// A stream of bytes that is read from its start. Contracts see the bytes that it has left, where
-/// it reports them, and the number of its faults, which never falls and stands still at the greatest
-/// u64.
+/// it reports them, and the number of its faults, which never falls and stands still at the
+/// greatest u64.
 pub trait Source: Drop {
     ghost seen: { Self → SourceSeen };
 

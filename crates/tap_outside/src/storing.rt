@@ -7,11 +7,11 @@ ghost use Rattle.tap_outside.specs.Seen.{OnlyReads, OnlySaves, StoreSeen};
 
 use crate::{OutError, Source};
 
-/// Files by their names. Contracts see what each name holds, where the store reports it, which names
-/// are meant for reading and which for saving, and the numbers of faults of reading and of saving,
-/// which never fall and stand still at the greatest u64. No call changes what a name is meant for.
-/// Code that is generic over the store learns of a name that it is meant from its own caller, or
-/// from a store that doesn't report what it holds.
+/// Files by their names. Contracts see what each name holds, where the store reports it, which
+/// names are meant for reading and which for saving, and the numbers of faults of reading and of
+/// saving, which never fall and stand still at the greatest u64. No call changes what a name is
+/// meant for. Code that is generic over the store learns of a name that it is meant from its own
+/// caller, or from a store that doesn't report what it holds.
 ///
 /// A call that fails has raised its count. An exact store counts nothing else; another one may
 /// count a fault and still answer.

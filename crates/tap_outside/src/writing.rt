@@ -8,8 +8,9 @@ ghost use Rattle.tap_outside.specs.Sinks.{AppendsFront};
 
 use crate::OutError;
 
-/// A stream that takes bytes at its end. Contracts see the bytes that were written, where it reports
-/// them, and the number of its faults, which never falls and stands still at the greatest u64.
+/// A stream that takes bytes at its end. Contracts see the bytes that were written, where it
+/// reports them, and the number of its faults, which never falls and stands still at the greatest
+/// u64.
 pub trait Sink {
     ghost seen: { Self → SinkSeen };
 

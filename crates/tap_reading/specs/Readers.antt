@@ -28,7 +28,7 @@ pub record Says {A : Type 0} (reader : List ℕ → A) (held : Option Contents) 
 abbrev pub setup_for : Command → List ℕ → Result Setup SetupError
 setup_for command text = setup_of text command
 
--- the reader of schedules for so many CPUs and members
+-- the reader of schedules for these numbers of CPUs and members
 abbrev pub schedule_for : ℕ → ℕ → List ℕ → Result (List Line) TextError
 schedule_for cpus members text = schedule_of cpus members text
 

@@ -9,6 +9,6 @@ use Rattle.setup_text.specs.declared.text_error.TextKind.{TextKind}
 abbrev pub ticks_after : List ℕ → List ℕ → Result (List ℕ) TextKind
 ticks_after = added (λ moments line. moment_in (latest moments) line)
 
--- the lines of a schedule with one more, for so many CPUs and members
+-- the lines of a schedule with one more, for these numbers of CPUs and members
 abbrev pub schedule_after : ℕ → ℕ → List Line → List ℕ → Result (List Line) TextKind
 schedule_after cpus members = added (λ lines line. line_in cpus members (clock_of lines) line)

@@ -24,8 +24,9 @@ pub fn the_first_fault_of_ticks_answers()
         → moments_of text ≡ Err error → error.which ≡ Ticks }
 {}
 
-/// The first fault of a schedule for so many CPUs and members: each line before it is without
-/// fault, and it has the fault. With line 0 the text is too large, and nothing else is at fault.
+/// The first fault of a schedule for these numbers of CPUs and members: each line before it is
+/// without fault, and it has the fault. With line 0 the text is too large, and nothing else is at
+/// fault.
 pub fn the_first_fault_of_a_schedule_answers()
     ensures line { (cpus members : ℕ) (text : List ℕ) (which : Which) (count : ℕ) (kind : TextKind)
         → schedule_of cpus members text

@@ -66,7 +66,7 @@ pub fn load_ticks<S: Store>(alloc: Global, store: &mut S, name: &[u8]) -> Result
     Ok(read_ticks(alloc, text.as_slice())?)
 }
 
-/// Reads the schedule of a name, for so many CPUs and members.
+/// Reads the schedule of a name, for these numbers of CPUs and members.
 pub fn load_schedule<S: Store>(
     alloc: Global,
     store: &mut S,

@@ -33,8 +33,8 @@ impl From<AllocError> for Unread {
 }
 
 /// Reads the text of a name to its end, or until it has more than 1,048,576 bytes; then it has
-/// 1,048,577, and no more is read. Where a read fails the answer is `Failed`; else an exact store is
-/// as before.
+/// 1,048,577, and no more is read. Where a read fails the answer is `Failed`; else an exact store
+/// is as before.
 pub fn read_text<S: Store>(alloc: Global, store: &mut S, name: &[u8]) -> Result<ByteList, Unread>
     requires { IsTrue ((S.seen store.old).to_read name.now) }
     ensures text { IfOk result (λ text. IsTextOf (S.seen store.old).held name.now text) }
@@ -87,7 +87,7 @@ fn read_source<I: Source>(alloc: Global, input: &mut I) -> Result<ByteList, Unre
     Ok(ByteList::from_vec(text))
 }
 
-/// A buffer of so many bytes.
+/// A buffer of `size` bytes.
 pub(crate) fn zeros(alloc: Global, size: usize) -> Result<Vec<u8>, AllocError>
     ensures { IfOk result (λ buffer. vec_len buffer ≡ size) }
 {

@@ -34,7 +34,7 @@ abbrev pub names_at : Setup → Bool → ℕ → List (List ℕ)
 names_at setup false member = output_names setup member
 names_at setup true member = output_names setup member ++ forward_name setup member ∷ []
 
--- and those of so many members, from one on
+-- and those of n members, from one on
 abbrev pub names_from : Setup → Bool → ℕ → ℕ → List (List ℕ)
 names_from setup sends member zero = []
 names_from setup sends member (suc count) =

@@ -1,7 +1,7 @@
 use Rattle.std.proofs.Common.{◌≡◌, ◌++◌, length}
 use Rattle.std.specs.Prelude.{map}
 use Rattle.std.specs.List.{AllByRecursion}
-use Rattle.block_pool.specs.Shelves.{empty_shelf}
+use Rattle.block_pool.specs.inside.Shelves.{empty_shelf}
 use Rattle.block_pool.specs.Takers.{HasNumbered}
 use Rattle.block_pool.proofs.gathering.part_takers.Given as goal
 

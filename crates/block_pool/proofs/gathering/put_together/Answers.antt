@@ -1,6 +1,6 @@
 use Rattle.std.proofs.Common.{◌≡◌, ◌++◌, List, sym, ap, ◌∙◌, subst}
 use Rattle.std.specs.List.{AllByRecursion}
-use Rattle.block_pool.specs.Shelves.{AreFull, HasPlaceIn, counts_of, put_each}
+use Rattle.block_pool.specs.inside.Shelves.{AreFull, HasPlaceIn, counts_of, put_each}
 use Rattle.block_pool.specs.declared.pieces.Piece.{Piece}
 use Rattle.block_pool.proofs.gathering.put_together.Goals as goal
 

@@ -1,5 +1,5 @@
 use Rattle.std.proofs.Common.{◌≡◌, ◌++◌, ◌∷◌, [], List, Some, length, refl, ap, ◌∙◌, subst, arith, append-nil, append_assoc, sym}
-use Rattle.block_pool.specs.Reports.{AreOutputsOf}
+use Rattle.block_pool.specs.inside.Reports.{AreOutputsOf}
 use Rattle.capture_reports.specs.Reported.{AreReported}
 use Rattle.setup_text.specs.declared.reports.MemberReport.{MemberReport}
 use Rattle.cpu_feeders.proofs.OneMore.{empty}

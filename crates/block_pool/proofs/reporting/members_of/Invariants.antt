@@ -1,6 +1,6 @@
 use Rattle.std.proofs.Common.{◌≡◌, ◌++◌, Bool, List, length}
 use Rattle.std.specs.List.{AllZip}
-use Rattle.block_pool.specs.Reports.{AreOutputsOf}
+use Rattle.block_pool.specs.inside.Reports.{AreOutputsOf}
 use Rattle.capture_reports.specs.Reported.{AreReported}
 use Rattle.setup_text.specs.declared.reports.MemberReport.{MemberReport}
 use Rattle.tp_layout.specs.declared.requests.RingRequest.{RingRequest}

@@ -1,7 +1,7 @@
 use Rattle.std.proofs.Common.{◌≡◌, ◌-◌, ◌<◌, [], List, Option, Some, length, get_or, set, sym, ap, ◌∙◌, arith}
 use Rattle.std.proofs.lemmas.List.{get_or_read, length-map}
 use Rattle.cpu_feeders.proofs.OneMore.{next_all}
-use Rattle.block_pool.specs.Shelves.{HasPlaceIn, counts_of, put_one}
+use Rattle.block_pool.specs.inside.Shelves.{HasPlaceIn, counts_of, put_one}
 use Rattle.block_pool.specs.declared.pieces.Piece.{Piece}
 use Rattle.block_pool.proofs.Lists.{next_places, next_put}
 use Rattle.block_pool.proofs.shelves.put_all.Goals as goal

@@ -1,6 +1,6 @@
 use Rattle.std.proofs.Common.{◌≡◌}
 use Rattle.std.specs.List.{AllByRecursion}
-use Rattle.block_pool.specs.Shelves.{HasPlaceIn, counts_of, put_each}
+use Rattle.block_pool.specs.inside.Shelves.{HasPlaceIn, counts_of, put_each}
 use Rattle.block_pool.proofs.shelves.put_all.Given as goal
 
 abbrev pub invariant-loop-piece : goal.invariant-loop-piece

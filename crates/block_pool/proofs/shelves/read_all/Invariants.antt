@@ -1,6 +1,6 @@
 use Rattle.std.proofs.Common.{◌≡◌, ◌++◌}
 use Rattle.std.specs.Prelude.{map}
-use Rattle.block_pool.specs.Shelves.{AreFull, read_of}
+use Rattle.block_pool.specs.inside.Shelves.{AreFull, read_of}
 use Rattle.block_pool.proofs.shelves.read_all.Given as goal
 
 abbrev pub invariant-loop-shelf : goal.invariant-loop-shelf

@@ -1,5 +1,5 @@
 use Rattle.std.proofs.Common.{◌≡◌, ◌++◌, ◌∷◌, [], List, length, rules, sym, ap, ◌∙◌, subst, arith, append-nil, append_assoc}
-use Rattle.cpu_feeders.specs.Closings.{AllAtEnd, AllClosedWith}
+use Rattle.cpu_feeders.specs.inside.Closings.{AllAtEnd, AllClosedWith}
 use Rattle.cpu_feeders.specs.declared.closed_members.Closed.{Closed}
 use Rattle.cpu_feeders.proofs.AllClosed.{at_end_long, at_end_next, closed_next, none_closed}
 use Rattle.cpu_feeders.proofs.OneMore.{empty}

@@ -1,5 +1,5 @@
 use Rattle.std.proofs.Common.{◌≡◌, ◌++◌, List, length}
-use Rattle.cpu_feeders.specs.Closings.{AllAtEnd, AllClosedWith}
+use Rattle.cpu_feeders.specs.inside.Closings.{AllAtEnd, AllClosedWith}
 use Rattle.cpu_feeders.specs.declared.closed_members.Closed.{Closed}
 use Rattle.cpu_feeders.proofs.closed_members.close_group.Given as goal
 

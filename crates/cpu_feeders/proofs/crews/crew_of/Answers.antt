@@ -3,8 +3,8 @@ use Rattle.std.specs.Prelude.{map, option_map}
 use Rattle.std.proofs.lemmas.List.{length-map}
 use Rattle.std.proofs.lemmas.Slice.Zip.{AllZip-long}
 use Rattle.tap_outside.specs.Seen.{SourceSeen}
-use Rattle.cpu_feeders.specs.Openings.{IsOpened}
-use Rattle.cpu_feeders.specs.Stands.{fresh_stands, fresh_users}
+use Rattle.cpu_feeders.specs.inside.Openings.{IsOpened}
+use Rattle.cpu_feeders.specs.inside.Stands.{fresh_stands, fresh_users}
 use Rattle.cpu_feeders.proofs.Hired.{hired}
 use Rattle.cpu_feeders.proofs.StandLists.{last_apart, last_user, users_long}
 use Rattle.cpu_feeders.proofs.crews.crew_of.Goals as goal

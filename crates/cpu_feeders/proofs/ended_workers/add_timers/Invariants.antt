@@ -1,7 +1,7 @@
 use Rattle.std.proofs.Common.{◌≡◌, length}
 use Rattle.std.specs.Prelude.{map}
 use Rattle.std.specs.List.{AllByRecursion}
-use Rattle.cpu_feeders.specs.Stands.{with_all}
+use Rattle.cpu_feeders.specs.inside.Stands.{with_all}
 use Rattle.cpu_feeders.proofs.ended_workers.add_timers.Given as goal
 
 abbrev pub invariant-loop-timer : goal.invariant-loop-timer

@@ -1,7 +1,7 @@
 use Rattle.std.proofs.Common.{◌≡◌, ◌++◌, [], length}
 use Rattle.std.specs.Prelude.{map, replicate}
 use Rattle.std.specs.List.{AllByRecursion}
-use Rattle.cpu_feeders.specs.Stands.{with_all}
+use Rattle.cpu_feeders.specs.inside.Stands.{with_all}
 use Rattle.cpu_feeders.proofs.ended_workers.gather.Given as goal
 
 abbrev pub invariant-loop-feeder : goal.invariant-loop-feeder

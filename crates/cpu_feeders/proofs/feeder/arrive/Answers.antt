@@ -4,7 +4,7 @@ use Rattle.fanout_group.specs.Judgements.{IsJudged}
 use Rattle.fanout_group.specs.declared.logs.ArrivalLog.{ArrivalLog}
 use Rattle.run_reports.specs.Jobs.{lens_of}
 use Rattle.ticket_dealer.specs.Seats.{SeatValue}
-use Rattle.cpu_feeders.specs.FeedSteps.{Goes}
+use Rattle.cpu_feeders.specs.inside.FeedSteps.{Goes}
 use Rattle.cpu_feeders.proofs.Deliveries.{goes_on, placed}
 use Rattle.cpu_feeders.proofs.Desks.{desk_for}
 use Rattle.cpu_feeders.proofs.feeder.arrive.Goals as goal

@@ -1,5 +1,5 @@
 use Rattle.std.proofs.Common.{◌-◌}
-use Rattle.cpu_feeders.specs.FeedSteps.{Goes, IsDrawing, IsSameSource}
+use Rattle.cpu_feeders.specs.inside.FeedSteps.{Goes, IsDrawing, IsSameSource}
 use Rattle.cpu_feeders.specs.Feeds.{AreMembersFor}
 use Rattle.cpu_feeders.proofs.feeder.feed_all.Given as goal
 

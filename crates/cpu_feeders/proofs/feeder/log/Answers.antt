@@ -1,7 +1,7 @@
 use Rattle.std.proofs.Common.{Option, subst, sym}
 use Rattle.std.specs.Prelude.{OnOk}
 use Rattle.ring_model.specs.declared.notes.Offer.{Offer}
-use Rattle.cpu_feeders.specs.FeedSteps.{IsLogged}
+use Rattle.cpu_feeders.specs.inside.FeedSteps.{IsLogged}
 use Rattle.cpu_feeders.proofs.Desks.{passed_told}
 use Rattle.cpu_feeders.proofs.feeder.log.Goals as goal
 

@@ -5,7 +5,7 @@ use Rattle.tap_outside.specs.Seen.{SourceSeen}
 use Rattle.ticket_dealer.specs.Seats.{SeatValue}
 use Rattle.turn_lock.proofs.SeatLists.{all_but}
 use Rattle.cpu_feeders.specs.Feeds.{IsFreshSeat}
-use Rattle.cpu_feeders.specs.FreshWorkers.{first_feed, first_feeds}
+use Rattle.cpu_feeders.specs.inside.FreshWorkers.{first_feed, first_feeds}
 use Rattle.cpu_feeders.specs.declared.feeder.Feeder.{Feeder}
 use Rattle.cpu_feeders.proofs.FedFeeders.{feed_in, next_feed, stands_in}
 use Rattle.cpu_feeders.proofs.OneMore.{all_more, as_many, both_shorter, both_shorter_at_end, empty, made_all, next_item, some_left}

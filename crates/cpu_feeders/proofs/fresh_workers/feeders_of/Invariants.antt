@@ -2,7 +2,7 @@ use Rattle.std.proofs.Common.{◌≡◌, ◌+◌, ◌++◌, length, false}
 use Rattle.std.specs.Prelude.{map, option_map}
 use Rattle.std.specs.List.{AllByRecursion}
 use Rattle.cpu_feeders.specs.Feeds.{IsFreshSeat}
-use Rattle.cpu_feeders.specs.FreshWorkers.{first_feeds}
+use Rattle.cpu_feeders.specs.inside.FreshWorkers.{first_feeds}
 use Rattle.tap_outside.specs.Seen.{SourceSeen}
 use Rattle.ticket_dealer.specs.Seats.{DealerValue}
 use Rattle.cpu_feeders.proofs.fresh_workers.feeders_of.Given as goal

@@ -1,7 +1,7 @@
 use Rattle.std.proofs.Common.{◌≡◌, ◌+◌, ◌++◌, length, false}
 use Rattle.std.specs.Prelude.{map}
 use Rattle.std.specs.List.{AllByRecursion}
-use Rattle.cpu_feeders.specs.FreshWorkers.{AreNumbered}
+use Rattle.cpu_feeders.specs.inside.FreshWorkers.{AreNumbered}
 use Rattle.ticket_dealer.specs.Seats.{DealerValue, IsFreshOf}
 use Rattle.cpu_feeders.proofs.fresh_workers.walkers_of.Given as goal
 

@@ -1,6 +1,6 @@
 use Rattle.std.proofs.Common.{◌+◌, List, length, sym, ap, ◌∙◌}
 use Rattle.member_turns.specs.Seats.{Lock}
-use Rattle.cpu_feeders.specs.Stands.{fresh_users}
+use Rattle.cpu_feeders.specs.inside.Stands.{fresh_users}
 use Rattle.cpu_feeders.proofs.StandLists.{no_stands}
 use Rattle.cpu_feeders.proofs.open_groups.open_group.Goals as goal
 

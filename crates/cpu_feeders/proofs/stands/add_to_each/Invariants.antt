@@ -1,6 +1,6 @@
 use Rattle.std.proofs.Common.{◌≡◌, ◌++◌, List, length}
 use Rattle.member_turns.specs.Seats.{Seat}
-use Rattle.cpu_feeders.specs.Stands.{with_each}
+use Rattle.cpu_feeders.specs.inside.Stands.{with_each}
 use Rattle.cpu_feeders.proofs.stands.add_to_each.Given as goal
 
 abbrev pub invariant-loop-stand : goal.invariant-loop-stand

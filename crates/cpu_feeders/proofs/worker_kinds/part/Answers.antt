@@ -1,6 +1,6 @@
 use Rattle.std.proofs.Common.{◌≡◌, List, false, length, refl, sym, subst, ◌∙◌}
 use Rattle.std.specs.List.{AllByRecursion}
-use Rattle.cpu_feeders.specs.WorkerKinds.{feeders_in, is_full, timers_in, walkers_in}
+use Rattle.cpu_feeders.specs.inside.WorkerKinds.{feeders_in, is_full, timers_in, walkers_in}
 use Rattle.cpu_feeders.specs.declared.worker.Worker.{Worker}
 use Rattle.cpu_feeders.proofs.OneMore.{empty}
 use Rattle.cpu_feeders.proofs.WorkerOrder.{feeders_on, last_kind, next_kind, timers_on, walkers_on}

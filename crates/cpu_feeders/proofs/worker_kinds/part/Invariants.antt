@@ -1,6 +1,6 @@
 use Rattle.std.proofs.Common.{◌≡◌, ◌++◌, false}
 use Rattle.std.specs.List.{AllByRecursion}
-use Rattle.cpu_feeders.specs.WorkerKinds.{feeders_in, is_full, timers_in, walkers_in}
+use Rattle.cpu_feeders.specs.inside.WorkerKinds.{feeders_in, is_full, timers_in, walkers_in}
 use Rattle.cpu_feeders.proofs.worker_kinds.part.Given as goal
 
 abbrev pub invariant-loop-worker : goal.invariant-loop-worker

@@ -1,6 +1,6 @@
 use Rattle.std.proofs.Common.{◌≡◌, ◌++◌, ◌∷◌, [], List, None, Some, length, sym, ap, ◌∙◌, subst, arith, append-nil, append_assoc}
 use Rattle.capture_reports.specs.Reported.{AreReported}
-use Rattle.cpu_feeders.specs.Readers.{IsReaderOf}
+use Rattle.cpu_feeders.specs.inside.Readers.{IsReaderOf}
 use Rattle.reader_walk.specs.Readers.{ReaderValue}
 use Rattle.setup_text.specs.declared.reports.MemberReport.{MemberReport}
 use Rattle.cpu_feeders.proofs.OneMore.{empty, next_all}

@@ -1,7 +1,7 @@
 use Rattle.std.proofs.Common.{◌≡◌, ◌++◌, Bool, List, None, length}
 use Rattle.std.specs.List.{AllByRecursion, AllZip}
 use Rattle.capture_reports.specs.Reported.{AreReported}
-use Rattle.cpu_feeders.specs.Readers.{IsReaderOf}
+use Rattle.cpu_feeders.specs.inside.Readers.{IsReaderOf}
 use Rattle.setup_text.specs.declared.reports.MemberReport.{MemberReport}
 use Rattle.tp_layout.specs.declared.requests.RingRequest.{RingRequest}
 use Rattle.cpu_feeders.proofs.workers.report.Given as goal

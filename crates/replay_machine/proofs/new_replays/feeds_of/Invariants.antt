@@ -1,7 +1,7 @@
 use Rattle.std.proofs.Common.{◌≡◌, ◌+◌, ◌≤◌, ◌++◌, length}
 use Rattle.std.specs.Prelude.{map, option_map}
 use Rattle.tap_outside.specs.Seen.{SourceSeen}
-use Rattle.replay_machine.specs.RunEffects.{starting_from}
+use Rattle.replay_machine.specs.inside.RunEffects.{starting_from}
 use Rattle.replay_machine.proofs.new_replays.feeds_of.Given as goal
 
 abbrev pub invariant-loop-source : goal.invariant-loop-source

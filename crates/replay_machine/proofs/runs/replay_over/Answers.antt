@@ -6,7 +6,7 @@ use Rattle.schedule_lines.specs.declared.lines.Line.{Line}
 use Rattle.schedule_lines.specs.declared.lines.Line.TheVariants.{Feed}
 use Rattle.replay_machine.proofs.Timed.{may-next}
 use Rattle.tap_outside.specs.Seen.{SourceSeen}
-use Rattle.replay_machine.specs.RunEffects.{LineDone}
+use Rattle.replay_machine.specs.inside.RunEffects.{LineDone}
 use Rattle.replay_machine.proofs.WholeRuns.{Did, did_first, did_more, told}
 use Rattle.replay_machine.proofs.runs.replay_over.Goals as goal
 

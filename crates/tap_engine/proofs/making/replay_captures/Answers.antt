@@ -2,7 +2,7 @@ use Rattle.std.proofs.Common.{map, sym, ap, subst, ◌∙◌}
 use Rattle.std.specs.Prelude.{option_map}
 use Rattle.std.proofs.lemmas.List.{length-map}
 use Rattle.tap_engine.specs.Commands.{rings_of}
-use Rattle.tap_engine.specs.Replays.{IsReplayedBy}
+use Rattle.tap_engine.specs.inside.Replays.{IsReplayedBy}
 use Rattle.tap_engine.proofs.Fetched.{as_many}
 use Rattle.tap_engine.proofs.Made.{faults_counted, replay_reported, replays}
 use Rattle.tap_engine.proofs.Worked.{named_schedule, slots_asked}

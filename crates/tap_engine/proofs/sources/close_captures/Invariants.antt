@@ -2,7 +2,7 @@ use Rattle.std.proofs.Common.{◌≡◌, ℕ, ◌+◌, map}
 use Rattle.std.specs.Prelude.{option_map}
 use Rattle.tap_outside.specs.Seen.{OnlyReads}
 use Rattle.tap_engine.specs.Faults.{IsCounted}
-use Rattle.tap_engine.specs.Sources.{faulty_in}
+use Rattle.tap_engine.specs.inside.Sources.{faulty_in}
 use Rattle.tap_engine.proofs.sources.close_captures.Given as goal
 
 abbrev pub invariant-loop-source : goal.invariant-loop-source

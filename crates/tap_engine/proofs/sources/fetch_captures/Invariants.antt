@@ -2,7 +2,7 @@ use Rattle.std.proofs.Common.{take, map}
 use Rattle.std.specs.Prelude.{option_map}
 use Rattle.tap_outside.specs.Seen.{OnlyReads}
 use Rattle.tap_engine.specs.Faults.{IsCounted}
-use Rattle.tap_engine.specs.Sources.{AreFetched, missing_in}
+use Rattle.tap_engine.specs.inside.Sources.{AreFetched, missing_in}
 use Rattle.tap_engine.proofs.sources.fetch_captures.Given as goal
 
 abbrev pub invariant-loop-cpu : goal.invariant-loop-cpu

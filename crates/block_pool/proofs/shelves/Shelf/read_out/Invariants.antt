@@ -1,5 +1,5 @@
 use Rattle.std.proofs.Common.{◌≡◌, ◌++◌}
-use Rattle.block_pool.specs.Shelves.{IsFull, packets_at, texts_at}
+use Rattle.block_pool.specs.inside.Shelves.{IsFull, packets_at, texts_at}
 use Rattle.block_pool.proofs.shelves.Shelf.read_out.Given as goal
 
 abbrev pub invariant-loop-place : goal.invariant-loop-place

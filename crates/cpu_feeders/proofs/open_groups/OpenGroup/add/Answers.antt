@@ -1,6 +1,6 @@
 use Rattle.std.proofs.Common.{◌+◌, length, sym, ap, ◌∙◌, rules}
 use Rattle.turn_lock.proofs.SeatLists.{fresh_long}
-use Rattle.cpu_feeders.specs.Openings.{IsOpened}
+use Rattle.cpu_feeders.specs.inside.Openings.{IsOpened}
 use Rattle.cpu_feeders.proofs.OneMore.{grown_users, zip_more}
 use Rattle.cpu_feeders.proofs.StandLists.{users_long}
 use Rattle.cpu_feeders.proofs.open_groups.OpenGroup.add.Goals as goal

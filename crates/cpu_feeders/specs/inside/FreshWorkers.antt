@@ -66,7 +66,7 @@ pub record IsFreshReader {T : Type 0} (base_of : T → Base) (taken_by : T → L
   pub walks : Walks base_of taken_by (base_of walker.taker) walker
   pub seat : IsFreshOf dealer walker.seat
 
--- a dealer for so many feeders, with a fresh seat for each of them, and nine for others
+-- a dealer for n feeders, with a fresh seat for each of them, and nine for others
 pub record IsDealt (feeders : ℕ) (dealer : DealerValue) (seats spare : List SeatValue) : Type 0 where
   pub feeders_are : dealer.feeders ≡ feeders
   pub count : length seats ≡ feeders

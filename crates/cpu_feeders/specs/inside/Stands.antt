@@ -18,7 +18,7 @@ with_all lists (column ∷ columns) = with_all (with_each lists column) columns
 abbrev pub fresh_stands : List Lock → ℕ → List Seat
 fresh_stands locks number = map (λ lock. fresh_seat lock number) locks
 
--- those of so many users, the first of this number
+-- those of n users, the first of this number
 abbrev pub fresh_users : List Lock → ℕ → ℕ → List (List Seat)
 fresh_users locks number zero = []
 fresh_users locks number (suc more) = fresh_stands locks number ∷ fresh_users locks (number + 1) more

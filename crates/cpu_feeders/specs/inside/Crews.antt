@@ -1,7 +1,7 @@
 -- The workers of a run after the joins.
 use Rattle.std.specs.Prelude.{ℕ, List, Option}
 use Rattle.std.specs.List.{AllZip}
-use Rattle.cpu_feeders.specs.FreshWorkers.{AreHired}
+use Rattle.cpu_feeders.specs.inside.FreshWorkers.{AreHired}
 use Rattle.cpu_feeders.specs.WorkerEffects.{IsDoneWorker}
 use Rattle.cpu_feeders.specs.declared.worker.Worker.{Worker}
 use Rattle.member_turns.specs.Seats.{Lock}

@@ -5,7 +5,7 @@ use Rattle.block_pool.specs.declared.pieces.Piece.{Piece}
 use Rattle.frame_view.specs.declared.frames.Packet.{Packet}
 use Rattle.reader_walk.specs.declared.outputs.Outputs.{Outputs}
 
--- places for so many pieces
+-- empty places for n pieces
 abbrev pub empty_shelf : ℕ → List (Option Piece)
 empty_shelf count = replicate count None
 

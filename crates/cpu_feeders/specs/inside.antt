@@ -1,0 +1,9 @@
+-- What only this crate's own proofs and private functions cite.
+pub mod Closings
+pub mod Crews
+pub mod FeedSteps
+pub mod FreshWorkers
+pub mod Openings
+pub mod Readers
+pub mod Stands
+pub mod WorkerKinds

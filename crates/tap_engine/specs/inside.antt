@@ -1,0 +1,5 @@
+-- What only this crate's own proofs and private functions cite.
+pub mod Answers
+pub mod Dones
+pub mod Replays
+pub mod Sources
