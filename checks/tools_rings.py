@@ -106,6 +106,8 @@ def test_captures():
     expect("tcpdump", below(printed)[2], "tcpdump -B 512   (tried with the 4 bytes that libpcap has more before each packet)")
     # 163 frames of 1,600 bytes in a block; Suricata takes ring-size / 163, rounded down, and 1.
     expect("Suricata", below(printed)[4:7], ["    block-size: 262144", "    ring-size: 325", "    block-timeout: 1000"])
+    # 325 packets are fewer than the 1,024 of max-pending-packets, for which Suricata would make a ring of 1,025.
+    expect("its pool", below(printed)[7], "    max-pending-packets: 325   (at the left margin; its default, 1024, makes the ring larger)")
     printed, _, _ = with_program("ring_size.py", "one.pcap", "two.pcap", "--phases", "1", "--members", "2")
     expect("a member for each CPU", rows_of(printed)[0], "cpu,2,1000,262144,2,1048576,0,3100,0,0,3,0")
     start = below(printed).index("the largest member to the mean one:")

@@ -14,6 +14,7 @@ from ringtap_files import Fault, Setup
 from ringtap_outputs import write_text
 from ringtap_runs import MemberReport, Progress, Report, Room
 from schedule import DEFAULT_TIMEOUT, Fed, schedule_of
+from suricata_rings import DEFAULT_PENDING
 
 LARGEST_RING, MOST_BLOCKS, MOST_SLOTS = 67_108_864, 256, 65_536
 LEAST_BLOCKS = 2
@@ -273,11 +274,14 @@ def members_of(result: Result) -> tuple[MemberReport, ...]:
 
 def suricata_lines(ring: Ring) -> list[str]:
     """The lines of af-packet in suricata.yaml that make such a ring, by its documentation and source: a frame of 1,514 bytes takes 1,600 there,
-    and a ring has `ring-size` by the frames of a block, rounded down, and one block more."""
+    and a ring has `ring-size` by the frames of a block, rounded down, and one block more. If the rings of all threads have room for fewer packets
+    than `max-pending-packets`, it makes them larger, so that is asked for too."""
     clusters = {"hash": "cluster_flow", "cpu": "cluster_cpu", "qm": "cluster_qm"}
-    lines = [f"block-size: {ring.block_size}", f"ring-size: {ring.block_nr * (ring.block_size // 1600) - 1}",
-             f"block-timeout: {ring.timeout or DEFAULT_TIMEOUT}"]
+    packets = ring.block_nr * (ring.block_size // 1600) - 1
+    lines = [f"block-size: {ring.block_size}", f"ring-size: {packets}", f"block-timeout: {ring.timeout or DEFAULT_TIMEOUT}"]
     if ring.members > 1:
         cluster = clusters.get(ring.mode.removesuffix(ROLLOVER))
         lines += [f"threads: {ring.members}"] + [f"cluster-type: {cluster}"] * (cluster is not None)
+    if packets * ring.members < DEFAULT_PENDING:
+        lines.append(f"max-pending-packets: {packets * ring.members}   (at the left margin; its default, {DEFAULT_PENDING}, makes the ring larger)")
     return lines
