@@ -1,5 +1,7 @@
--- What a capture says, over the whole list of its bytes: pcapng where it begins with the type of a section header, else pcap.
-use Rattle.std.specs.Prelude.{ℕ, Bool, not, ◌&&◌, nat_lt, if◌then◌else◌, bytes_eq, List, [], ◌∷◌, length, take, Option, None, Some, option_map}
+-- What a capture says, over the whole list of its bytes: pcapng where it begins with the type of a
+-- section header, else pcap.
+use Rattle.std.specs.Prelude.{ℕ, Bool, not, ◌&&◌, nat_lt, if◌then◌else◌, bytes_eq, List, [], ◌∷◌}
+use Rattle.std.specs.Prelude.{length, take, Option, None, Some, option_map}
 use Rattle.std.specs.Option.{option_or}
 use Rattle.frame_view.specs.declared.frames.Frame.{Frame}
 use Rattle.pcapng_blocks.specs.Capture as pcapng
@@ -7,7 +9,10 @@ use Rattle.pcapng_blocks.specs.declared.error.BlockError.{BlockError}
 use Rattle.pcapng_blocks.specs.declared.error.BlockError.TheVariants as faults
 use Rattle.capture_file.specs.Pcap as pcap
 use Rattle.capture_file.specs.declared.error.CaptureError.{CaptureError}
-use Rattle.capture_file.specs.declared.error.CaptureError.TheVariants.{BadMagic, BadVersion, BadLink, BadLength, BadInterface, Truncated, TooLarge}
+use Rattle.capture_file.specs.declared.error.CaptureError.TheVariants.{BadMagic, BadVersion}
+use Rattle.capture_file.specs.declared.error.CaptureError.TheVariants.{BadLink, BadLength}
+use Rattle.capture_file.specs.declared.error.CaptureError.TheVariants.{BadInterface, Truncated}
+use Rattle.capture_file.specs.declared.error.CaptureError.TheVariants.{TooLarge}
 
 -- the first four bytes are the type of a section header, which reads alike in either byte order
 unfoldable pub is_pcapng : List ℕ → Bool
@@ -25,7 +30,8 @@ error_from faults.TooLarge = TooLarge
 
 -- the frames of a capture, each with the number of its CPU
 unfoldable pub frames_of : ℕ → List ℕ → List Frame
-frames_of cpu bytes = if is_pcapng bytes then pcapng.frames_of cpu bytes else pcap.frames_of cpu bytes
+frames_of cpu bytes =
+    if is_pcapng bytes then pcapng.frames_of cpu bytes else pcap.frames_of cpu bytes
 
 -- the place after the last whole record or block that was read
 unfoldable pub stop_of : List ℕ → ℕ
@@ -33,7 +39,8 @@ stop_of bytes = if is_pcapng bytes then pcapng.stop_of bytes else pcap.stop_of b
 
 -- the damage of a capture, if it has any
 unfoldable pub damage_of : List ℕ → Option CaptureError
-damage_of bytes = if is_pcapng bytes then option_map error_from (pcapng.damage_of bytes) else pcap.damage_of bytes
+damage_of bytes =
+    if is_pcapng bytes then option_map error_from (pcapng.damage_of bytes) else pcap.damage_of bytes
 
 -- the bytes from the stop on are those of a pcapng block that is skipped, which is headed there
 unfoldable pub is_skipping : List ℕ → Bool

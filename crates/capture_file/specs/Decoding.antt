@@ -1,6 +1,8 @@
 -- What a decoder stands for: the bytes that it was fed.
 use Rattle.std.specs.Result.{result_err}
-use Rattle.std.specs.Prelude.{◌≡◌, ℕ, ◌+◌, ◌≤◌, ◌<◌, IsTrue, IsSome, Bool, true, false, if◌then◌else◌, List, [], ◌++◌, length, Option, None, Some, option_map, Result, Ok, Err, ⊤}
+use Rattle.std.specs.Prelude.{◌≡◌, ℕ, ◌+◌, ◌≤◌, ◌<◌, IsTrue, IsSome, Bool, true, false}
+use Rattle.std.specs.Prelude.{if◌then◌else◌, List, [], ◌++◌, length, Option, None, Some, option_map}
+use Rattle.std.specs.Prelude.{Result, Ok, Err, ⊤}
 use Rattle.frame_view.specs.declared.frames.Frame.{Frame}
 use Rattle.pcapng_blocks.specs.Capture as pcapng
 use Rattle.pcapng_blocks.specs.Decoding as blocks
@@ -11,18 +13,22 @@ use Rattle.capture_file.specs.declared.format_decoder.FormatDecoder.TheVariants.
 use Rattle.capture_file.specs.declared.decoder.Decoder.TheInside.{Inside}
 use Rattle.capture_file.specs.Pcap as pcap
 use Rattle.capture_file.specs.PcapDecoding as records
-use Rattle.capture_file.specs.Capture.{is_pcapng, error_from, frames_of, stop_of, damage_of, end_of, is_skipping}
+use Rattle.capture_file.specs.Capture.{is_pcapng, error_from, frames_of, stop_of, damage_of, end_of}
+use Rattle.capture_file.specs.Capture.{is_skipping}
 
 -- ---- bytes read in one of the formats, whatever they begin with: as pcapng, or as pcap
 
 abbrev pub frames_as : Bool → ℕ → List ℕ → List Frame
-frames_as is_blocks cpu bytes = if is_blocks then pcapng.frames_of cpu bytes else pcap.frames_of cpu bytes
+frames_as is_blocks cpu bytes =
+    if is_blocks then pcapng.frames_of cpu bytes else pcap.frames_of cpu bytes
 
 abbrev pub damage_as : Bool → List ℕ → Option CaptureError
-damage_as is_blocks bytes = if is_blocks then option_map error_from (pcapng.damage_of bytes) else pcap.damage_of bytes
+damage_as is_blocks bytes =
+    if is_blocks then option_map error_from (pcapng.damage_of bytes) else pcap.damage_of bytes
 
 abbrev pub end_as : Bool → List ℕ → Option CaptureError
-end_as is_blocks bytes = if is_blocks then option_map error_from (pcapng.end_of bytes) else pcap.end_of bytes
+end_as is_blocks bytes =
+    if is_blocks then option_map error_from (pcapng.end_of bytes) else pcap.end_of bytes
 
 abbrev pub kept_as : Bool → List ℕ → List ℕ
 kept_as is_blocks bytes = if is_blocks then blocks.kept_of bytes else records.kept_of bytes
@@ -38,24 +44,39 @@ abbrev pub StandsAs : ℕ → FormatDecoder → List ℕ → Type 0
 StandsAs cpu (Pcap decoder) fed = records.Stands cpu decoder fed
 StandsAs cpu (Pcapng decoder) fed = blocks.Stands cpu decoder fed
 
--- a feed of a decoder that stood for these bytes: it stands for the piece too, and its frames and its damage are reported
-pub record FeedsAs (old : FormatDecoder) (piece : List ℕ) (damage : Option CaptureError) (new : FormatDecoder) (before after : List Frame) (cpu : ℕ) (fed : List ℕ) : Type 0 where
+-- a feed of a decoder that stood for these bytes: it stands for the piece too, and its frames and
+-- its damage are reported
+pub record FeedsAs (old : FormatDecoder) (piece : List ℕ) (damage : Option CaptureError)
+    (new : FormatDecoder) (before after : List Frame) (cpu : ℕ) (fed : List ℕ) : Type 0 where
   pub stands : StandsAs cpu new (fed ++ piece)
-  pub frames : (more : List Frame) × (after ≡ before ++ more) × (frames_as (reads_blocks old) cpu (fed ++ piece) ≡ frames_as (reads_blocks old) cpu fed ++ more)
+  pub frames :
+      (more : List Frame)
+      × (after ≡ before ++ more)
+      × (frames_as (reads_blocks old) cpu (fed ++ piece)
+      ≡ frames_as (reads_blocks old) cpu fed ++ more)
   pub damage_is : damage ≡ damage_as (reads_blocks old) (fed ++ piece)
 
-abbrev pub FeedsFrom : FormatDecoder → List ℕ → Option CaptureError → FormatDecoder → List Frame → List Frame → Type 0
+abbrev pub FeedsFrom :
+    FormatDecoder → List ℕ → Option CaptureError → FormatDecoder → List Frame → List Frame → Type 0
 FeedsFrom old piece damage new before after =
-    (cpu : ℕ) (fed : List ℕ) → StandsAs cpu old fed → FeedsAs old piece damage new before after cpu fed
+    (cpu : ℕ) (fed : List ℕ) → StandsAs cpu old fed
+    → FeedsAs old piece damage new before after cpu fed
 
 abbrev pub EndsAs : FormatDecoder → Result Unit CaptureError → Type 0
-EndsAs decoder answer = (cpu : ℕ) (fed : List ℕ) → StandsAs cpu decoder fed → result_err answer ≡ end_as (reads_blocks decoder) fed
+EndsAs decoder answer =
+    (cpu : ℕ) (fed : List ℕ)
+    → StandsAs cpu decoder fed
+    → result_err answer ≡ end_as (reads_blocks decoder) fed
 
 abbrev pub CountsAs : FormatDecoder → ℕ → Type 0
-CountsAs decoder count = (cpu : ℕ) (fed : List ℕ) → StandsAs cpu decoder fed → count ≡ length (kept_as (reads_blocks decoder) fed)
+CountsAs decoder count =
+    (cpu : ℕ) (fed : List ℕ)
+    → StandsAs cpu decoder fed
+    → count ≡ length (kept_as (reads_blocks decoder) fed)
 
 -- a decoder of the format that the first bytes say was fed them and those after them
-pub record IsBegun (cpu : ℕ) (first rest : List ℕ) (decoder : FormatDecoder) (damage : Option CaptureError) (before after : List Frame) : Type 0 where
+pub record IsBegun (cpu : ℕ) (first rest : List ℕ) (decoder : FormatDecoder)
+    (damage : Option CaptureError) (before after : List Frame) : Type 0 where
   pub format : reads_blocks decoder ≡ is_pcapng first
   pub stands : StandsAs cpu decoder (first ++ rest)
   pub frames : after ≡ before ++ frames_as (is_pcapng first) cpu (first ++ rest)
@@ -63,7 +84,8 @@ pub record IsBegun (cpu : ℕ) (first rest : List ℕ) (decoder : FormatDecoder)
 
 -- ---- a decoder of either format
 
--- A decoder: its CPU, the first bytes while they don't say the format, and the decoder of the format
+-- A decoder: its CPU, the first bytes while they don't say the format, and the decoder of the
+-- format
 pub record DecoderValue : Type 0 where
   pub cpu : ℕ
   pub start : List ℕ
@@ -75,10 +97,15 @@ decoder_value d = record { cpu = d.cpu; start = d.start.items; format = d.format
 pub record IsSound (d : Inside) : Type 0 where
   pub few : length d.start.items < 4
 
--- the bytes that were fed are the first ones, fewer than four, or the decoder of their format stands for them
+-- the bytes that were fed are the first ones, fewer than four, or the decoder of their format
+-- stands for them
 abbrev pub StandsBy : ℕ → List ℕ → Option FormatDecoder → List ℕ → Type 0
 StandsBy number start None fed = (start ≡ fed) × (length fed < 4)
-StandsBy number start (Some decoder) fed = (start ≡ []) × (4 ≤ length fed) × (reads_blocks decoder ≡ is_pcapng fed) × StandsAs number decoder fed
+StandsBy number start (Some decoder) fed =
+    (start ≡ [])
+    × (4 ≤ length fed)
+    × (reads_blocks decoder ≡ is_pcapng fed)
+    × StandsAs number decoder fed
 
 -- the decoder stands for the bytes that it was fed
 pub record Stands (number : ℕ) (decoder : DecoderValue) (fed : List ℕ) : Type 0 where
@@ -106,38 +133,48 @@ UnlessMemory (Err error) P = UnlessWanted error P
 
 -- what stood for some bytes before a feed stands for them and the piece after it
 abbrev pub StandsOn : DecoderValue → DecoderValue → List ℕ → Type 0
-StandsOn old new piece = (cpu : ℕ) (fed : List ℕ) → Stands cpu old fed → Stands cpu new (fed ++ piece)
+StandsOn old new piece =
+    (cpu : ℕ) (fed : List ℕ) → Stands cpu old fed → Stands cpu new (fed ++ piece)
 
 -- a feed appended the frames that are new with the piece
 abbrev pub AppendsNew : DecoderValue → List ℕ → List Frame → List Frame → Type 0
 AppendsNew decoder piece before after =
     (cpu : ℕ) (fed : List ℕ) → Stands cpu decoder fed
-    → (more : List Frame) × (after ≡ before ++ more) × (frames_of cpu (fed ++ piece) ≡ frames_of cpu fed ++ more)
+    → (more : List Frame)
+    × (after ≡ before ++ more)
+    × (frames_of cpu (fed ++ piece) ≡ frames_of cpu fed ++ more)
 
 -- the damage is that of all bytes that were fed, the piece with them
 abbrev pub IsDamage : DecoderValue → List ℕ → Option CaptureError → Type 0
-IsDamage decoder piece damage = (cpu : ℕ) (fed : List ℕ) → Stands cpu decoder fed → damage ≡ damage_of (fed ++ piece)
+IsDamage decoder piece damage =
+    (cpu : ℕ) (fed : List ℕ) → Stands cpu decoder fed → damage ≡ damage_of (fed ++ piece)
 
 -- a feed answered the damage of all bytes that were fed, the piece with them
 abbrev pub AnswersDamage : {X : Type 0} → DecoderValue → List ℕ → Result X CaptureError → Type 0
-AnswersDamage decoder piece answer = (cpu : ℕ) (fed : List ℕ) → Stands cpu decoder fed → result_err answer ≡ damage_of (fed ++ piece)
+AnswersDamage decoder piece answer =
+    (cpu : ℕ) (fed : List ℕ) → Stands cpu decoder fed → result_err answer ≡ damage_of (fed ++ piece)
 
 -- the answer is the end of all bytes that were fed
 abbrev pub AnswersEnd : {X : Type 0} → DecoderValue → Result X CaptureError → Type 0
-AnswersEnd decoder answer = (cpu : ℕ) (fed : List ℕ) → Stands cpu decoder fed → result_err answer ≡ end_of fed
+AnswersEnd decoder answer =
+    (cpu : ℕ) (fed : List ℕ) → Stands cpu decoder fed → result_err answer ≡ end_of fed
 
 -- the number of bytes that are kept of those that were fed
 abbrev pub CountsKept : DecoderValue → ℕ → Type 0
-CountsKept decoder count = (cpu : ℕ) (fed : List ℕ) → Stands cpu decoder fed → count ≡ length (kept_of fed)
+CountsKept decoder count =
+    (cpu : ℕ) (fed : List ℕ) → Stands cpu decoder fed → count ≡ length (kept_of fed)
 
 -- no more bytes are kept than there are from the stop on
 abbrev pub KeepsAfterStop : DecoderValue → ℕ → Type 0
-KeepsAfterStop decoder count = (cpu : ℕ) (fed : List ℕ) → Stands cpu decoder fed → stop_of fed + count ≤ length fed
+KeepsAfterStop decoder count =
+    (cpu : ℕ) (fed : List ℕ) → Stands cpu decoder fed → stop_of fed + count ≤ length fed
 
 -- in a block that is skipped at most three bytes are kept
 abbrev pub KeepsNoBody : DecoderValue → ℕ → Type 0
-KeepsNoBody decoder count = (cpu : ℕ) (fed : List ℕ) → Stands cpu decoder fed → IsTrue (is_skipping fed) → count ≤ 3
+KeepsNoBody decoder count =
+    (cpu : ℕ) (fed : List ℕ) → Stands cpu decoder fed → IsTrue (is_skipping fed) → count ≤ 3
 
 -- after damage no byte is kept
 abbrev pub KeepsNoDamage : DecoderValue → ℕ → Type 0
-KeepsNoDamage decoder count = (cpu : ℕ) (fed : List ℕ) → Stands cpu decoder fed → IsSome (damage_of fed) → count ≡ 0
+KeepsNoDamage decoder count =
+    (cpu : ℕ) (fed : List ℕ) → Stands cpu decoder fed → IsSome (damage_of fed) → count ≡ 0

@@ -33,9 +33,18 @@ pub record IsWritable (packet : Packet) : Type 0 where
   pub wire : packet.wire ≤ 4294967291
   pub frame : length (frame_of packet) ≤ 262144
 
--- the frames that stand for packets, numbered from `index`: their times, their original lengths and their frames
+-- the frames that stand for packets, numbered from `index`: their times, their original lengths and
+-- their frames
 abbrev pub frames_back : ℕ → ℕ → List Packet → List Frame
 frames_back cpu index [] = []
 frames_back cpu index (packet ∷ packets) =
-    record { cpu = cpu; index = index; sec = packet.sec; nsec = packet.nsec; wire = original packet; bytes = frame_of packet; tag = None }
+    record {
+      cpu = cpu;
+      index = index;
+      sec = packet.sec;
+      nsec = packet.nsec;
+      wire = original packet;
+      bytes = frame_of packet;
+      tag = None;
+    }
     ∷ frames_back cpu (index + 1) packets

@@ -14,7 +14,9 @@ four_bytes number = little_bytes 4 number
 unfoldable pub output_header : List ℕ
 output_header =
     four_bytes 0xa1b23c4d
-    ++ (little_bytes 2 2 ++ (little_bytes 2 4 ++ (four_bytes 0 ++ (four_bytes 0 ++ (four_bytes 262144 ++ four_bytes 1)))))
+    ++ (little_bytes 2 2
+    ++ (little_bytes 2 4
+    ++ (four_bytes 0 ++ (four_bytes 0 ++ (four_bytes 262144 ++ four_bytes 1)))))
 
 -- a tag has four bytes on the wire
 abbrev pub tag_size : Option Tag → ℕ
@@ -25,11 +27,13 @@ tag_size (Some tag) = 4
 abbrev pub original : Packet → ℕ
 original packet = min (packet.wire + tag_size packet.tag) 4294967295
 
--- the record of a packet: its time, the number of bytes of its frame, the length on the wire, its frame
+-- the record of a packet: its time, the number of bytes of its frame, the length on the wire, its
+-- frame
 unfoldable pub record_text : Packet → List ℕ
 record_text packet =
     four_bytes packet.sec
-    ++ (four_bytes packet.nsec ++ (four_bytes (length (frame_of packet)) ++ (four_bytes (original packet) ++ frame_of packet)))
+    ++ (four_bytes packet.nsec
+    ++ (four_bytes (length (frame_of packet)) ++ (four_bytes (original packet) ++ frame_of packet)))
 
 -- the whole output file
 unfoldable pub output_of : List Packet → List ℕ

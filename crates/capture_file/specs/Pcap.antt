@@ -1,11 +1,16 @@
--- What a pcap capture of version 2.4 says, over the whole list of its bytes. Places are counted in bytes from 0.
-use Rattle.std.specs.Prelude.{ℕ, zero, suc, ◌+◌, ◌*◌, ◌%◌, Bool, ◌&&◌, ◌==◌, nat_le, nat_lt, min, max, if◌then◌else◌, List, [], ◌∷◌, length, take, drop, Option, None, Some, Result, Ok, Err, option_map}
+-- What a pcap capture of version 2.4 says, over the whole list of its bytes. Places are counted in
+-- bytes from 0.
+use Rattle.std.specs.Prelude.{ℕ, zero, suc, ◌+◌, ◌*◌, ◌%◌, Bool, ◌&&◌, ◌==◌, nat_le, nat_lt, min}
+use Rattle.std.specs.Prelude.{max, if◌then◌else◌, List, [], ◌∷◌, length, take, drop, Option, None}
+use Rattle.std.specs.Prelude.{Some, Result, Ok, Err, option_map}
 use Rattle.std.specs.Option.{option_or}
 use Rattle.std.specs.List.{concat}
 use Rattle.byteorder.specs.Endian.{little_number, big_number}
 use Rattle.frame_view.specs.declared.frames.Frame.{Frame}
 use Rattle.capture_file.specs.declared.error.CaptureError.{CaptureError}
-use Rattle.capture_file.specs.declared.error.CaptureError.TheVariants.{BadMagic, BadVersion, BadLink, BadLength, Truncated, TooLarge}
+use Rattle.capture_file.specs.declared.error.CaptureError.TheVariants.{BadMagic, BadVersion}
+use Rattle.capture_file.specs.declared.error.CaptureError.TheVariants.{BadLink, BadLength}
+use Rattle.capture_file.specs.declared.error.CaptureError.TheVariants.{Truncated, TooLarge}
 use Rattle.capture_file.specs.declared.format.Format.{Format}
 use Rattle.capture_file.specs.declared.format.Order.{Order}
 use Rattle.capture_file.specs.declared.format.Order.TheVariants.{Little, Big}
@@ -17,21 +22,25 @@ number_at Big n at bytes = big_number n (drop at bytes)
 
 -- the nanoseconds of one unit of a fraction of a second, by the magic: microseconds or nanoseconds
 abbrev pub unit_of : ℕ → Option ℕ
-unit_of magic = if magic == 0xa1b2c3d4 then Some 1000 else if magic == 0xa1b23c4d then Some 1 else None
+unit_of magic =
+    if magic == 0xa1b2c3d4 then Some 1000 else if magic == 0xa1b23c4d then Some 1 else None
 
 -- the format where the magic stands in this byte order
 abbrev pub format_in : Order → List ℕ → Option Format
-format_in order bytes = option_map (λ unit. record { order = order; unit = unit }) (unit_of (number_at order 4 0 bytes))
+format_in order bytes =
+    option_map (λ unit. record { order = order; unit = unit }) (unit_of (number_at order 4 0 bytes))
 
 -- the version is 2.4, and the low 16 bits of the link field say Ethernet
 abbrev pub checked : Option Format → List ℕ → Result Format CaptureError
 checked None bytes = Err BadMagic
 checked (Some format) bytes =
     if (number_at format.order 2 4 bytes == 2) && (number_at format.order 2 6 bytes == 4)
-    then (if number_at format.order 4 20 bytes % 65536 == 1 then Ok format else Err (BadLink (number_at format.order 4 20 bytes)))
+    then (if number_at format.order 4 20 bytes % 65536 == 1 then Ok format
+    else Err (BadLink (number_at format.order 4 20 bytes)))
     else Err BadVersion
 
--- what the 24 bytes of a header say; the magic is read in either byte order and gives that of all other fields
+-- what the 24 bytes of a header say; the magic is read in either byte order and gives that of all
+-- other fields
 unfoldable pub header_of : List ℕ → Result Format CaptureError
 header_of bytes = checked (option_or (format_in Little bytes) (format_in Big bytes)) bytes
 
@@ -46,7 +55,8 @@ record_size order record_bytes = 16 + captured order record_bytes
 -- the bytes begin with a whole record of at most 262,144 captured bytes
 unfoldable pub begins_whole : Order → List ℕ → Bool
 begins_whole order bytes =
-    nat_le 16 (length bytes) && (nat_le (captured order bytes) 262144 && nat_le (record_size order bytes) (length bytes))
+    nat_le 16 (length bytes)
+    && (nat_le (captured order bytes) 262144 && nat_le (record_size order bytes) (length bytes))
 
 -- the bytes begin with the header of a record of more than 262,144 captured bytes
 unfoldable pub begins_oversized : Order → List ℕ → Bool
@@ -57,7 +67,8 @@ unfoldable pub records_within : ℕ → Order → List ℕ → List (List ℕ)
 records_within zero order bytes = []
 records_within (suc most) order bytes =
     if begins_whole order bytes
-    then take (record_size order bytes) bytes ∷ records_within most order (drop (record_size order bytes) bytes)
+    then take (record_size order bytes) bytes
+    ∷ records_within most order (drop (record_size order bytes) bytes)
     else []
 
 -- the bytes split from the start into records, up to the first that isn't whole or is oversized
@@ -79,7 +90,8 @@ frame_of_record cpu format index bytes = record {
 -- the frames of records, numbered from `index`
 abbrev pub frames_from : ℕ → Format → ℕ → List (List ℕ) → List Frame
 frames_from cpu format index [] = []
-frames_from cpu format index (bytes ∷ records) = frame_of_record cpu format index bytes ∷ frames_from cpu format (index + 1) records
+frames_from cpu format index (bytes ∷ records) =
+    frame_of_record cpu format index bytes ∷ frames_from cpu format (index + 1) records
 
 -- the bytes that count: no more than the first 33,554,432
 abbrev pub counted : List ℕ → List ℕ
@@ -118,7 +130,8 @@ damage_behind (Ok format) stop bytes =
 
 -- the damage of a capture; one that is shorter than a header has none
 unfoldable pub damage_of : List ℕ → Option CaptureError
-damage_of bytes = if nat_lt (length bytes) 24 then None else damage_behind (header_of bytes) (stop_of bytes) bytes
+damage_of bytes =
+    if nat_lt (length bytes) 24 then None else damage_behind (header_of bytes) (stop_of bytes) bytes
 
 abbrev pub cut_of : List ℕ → Option CaptureError
 cut_of bytes =

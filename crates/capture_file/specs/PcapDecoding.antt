@@ -1,6 +1,7 @@
 -- What a decoder of pcap stands for: the bytes that it was fed.
 use Rattle.std.specs.Result.{result_err}
-use Rattle.std.specs.Prelude.{◌≡◌, ℕ, nat_lt, if◌then◌else◌, List, [], ◌++◌, length, drop, Option, None, Some, Result, Ok, Err}
+use Rattle.std.specs.Prelude.{◌≡◌, ℕ, nat_lt, if◌then◌else◌, List, [], ◌++◌, length, drop, Option}
+use Rattle.std.specs.Prelude.{None, Some, Result, Ok, Err}
 use Rattle.frame_view.specs.declared.frames.Frame.{Frame}
 use Rattle.capture_file.specs.declared.error.CaptureError.{CaptureError}
 use Rattle.capture_file.specs.declared.format.Format.{Format}
@@ -10,7 +11,8 @@ use Rattle.capture_file.specs.declared.stage.Stage.TheVariants.{Header, Records,
 use Rattle.capture_file.specs.Reading.{IsSoundAt}
 use Rattle.capture_file.specs.Pcap.{frames_of, damage_of, end_of, stop_of, header_of}
 
--- A decoder: its CPU, what comes next, the place where its kept bytes begin, the number of the next frame, and the kept bytes
+-- A decoder: its CPU, what comes next, the place where its kept bytes begin, the number of the next
+-- frame, and the kept bytes
 pub record PcapValue : Type 0 where
   pub cpu : ℕ
   pub stage : Stage
@@ -19,7 +21,13 @@ pub record PcapValue : Type 0 where
   pub rest : List ℕ
 
 abbrev pub pcap_value : Inside → PcapValue
-pcap_value d = record { cpu = d.cpu; stage = d.stage; stop = d.next.stop; index = d.next.index; rest = d.kept.items }
+pcap_value d = record {
+  cpu = d.cpu;
+  stage = d.stage;
+  stop = d.next.stop;
+  index = d.next.index;
+  rest = d.kept.items;
+}
 
 abbrev pub IsSound : Inside → Type 0
 IsSound d = IsSoundAt d.stage d.next d.kept.items
@@ -55,22 +63,28 @@ pub record Stands (number : ℕ) (decoder : PcapValue) (fed : List ℕ) : Type 0
 
 -- what stood for some bytes before a feed stands for them and the piece after it
 abbrev pub StandsOn : PcapValue → PcapValue → List ℕ → Type 0
-StandsOn old new piece = (cpu : ℕ) (fed : List ℕ) → Stands cpu old fed → Stands cpu new (fed ++ piece)
+StandsOn old new piece =
+    (cpu : ℕ) (fed : List ℕ) → Stands cpu old fed → Stands cpu new (fed ++ piece)
 
 -- a feed appended the frames that are new with the piece
 abbrev pub AppendsNew : PcapValue → List ℕ → List Frame → List Frame → Type 0
 AppendsNew decoder piece before after =
     (cpu : ℕ) (fed : List ℕ) → Stands cpu decoder fed
-    → (more : List Frame) × (after ≡ before ++ more) × (frames_of cpu (fed ++ piece) ≡ frames_of cpu fed ++ more)
+    → (more : List Frame)
+    × (after ≡ before ++ more)
+    × (frames_of cpu (fed ++ piece) ≡ frames_of cpu fed ++ more)
 
 -- a feed answered the damage of all bytes that were fed, the piece with them
 abbrev pub IsDamage : PcapValue → List ℕ → Option CaptureError → Type 0
-IsDamage decoder piece damage = (cpu : ℕ) (fed : List ℕ) → Stands cpu decoder fed → damage ≡ damage_of (fed ++ piece)
+IsDamage decoder piece damage =
+    (cpu : ℕ) (fed : List ℕ) → Stands cpu decoder fed → damage ≡ damage_of (fed ++ piece)
 
 -- the answer is the end of all bytes that were fed
 abbrev pub AnswersEnd : {X : Type 0} → PcapValue → Result X CaptureError → Type 0
-AnswersEnd decoder answer = (cpu : ℕ) (fed : List ℕ) → Stands cpu decoder fed → result_err answer ≡ end_of fed
+AnswersEnd decoder answer =
+    (cpu : ℕ) (fed : List ℕ) → Stands cpu decoder fed → result_err answer ≡ end_of fed
 
 -- the number of bytes that are kept of those that were fed
 abbrev pub CountsKept : PcapValue → ℕ → Type 0
-CountsKept decoder count = (cpu : ℕ) (fed : List ℕ) → Stands cpu decoder fed → count ≡ length (kept_of fed)
+CountsKept decoder count =
+    (cpu : ℕ) (fed : List ℕ) → Stands cpu decoder fed → count ≡ length (kept_of fed)

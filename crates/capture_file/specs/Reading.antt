@@ -1,16 +1,20 @@
 -- What reading bytes that follow a capture's header gives, for the steps of a feed.
-use Rattle.std.specs.Prelude.{◌≡◌, ◌≢◌, ℕ, ◌+◌, ◌*◌, ◌≤◌, ◌<◌, Option, None, Some, Bool, true, false, nat_lt, if◌then◌else◌, MatchBool, ◌⊎◌, List, [], ◌++◌, length, take, drop, Result, Ok, Err}
+use Rattle.std.specs.Prelude.{◌≡◌, ◌≢◌, ℕ, ◌+◌, ◌*◌, ◌≤◌, ◌<◌, Option, None, Some, Bool, true}
+use Rattle.std.specs.Prelude.{false, nat_lt, if◌then◌else◌, MatchBool, ◌⊎◌, List, [], ◌++◌, length}
+use Rattle.std.specs.Prelude.{take, drop, Result, Ok, Err}
 use Rattle.std.specs.List.{concat}
 use Rattle.frame_view.specs.declared.frames.Frame.{Frame}
 use Rattle.capture_file.specs.declared.error.CaptureError.{CaptureError}
-use Rattle.capture_file.specs.declared.error.CaptureError.TheVariants.{BadLength, Truncated, TooLarge, Memory}
+use Rattle.capture_file.specs.declared.error.CaptureError.TheVariants.{BadLength, Truncated}
+use Rattle.capture_file.specs.declared.error.CaptureError.TheVariants.{TooLarge, Memory}
 use Rattle.capture_file.specs.declared.format.Format.{Format}
 use Rattle.capture_file.specs.declared.format.Order.{Order}
 use Rattle.capture_file.specs.declared.reading.Place.{Place}
 use Rattle.capture_file.specs.declared.reading.Progress.{Progress}
 use Rattle.capture_file.specs.declared.stage.Stage.{Stage}
 use Rattle.capture_file.specs.declared.stage.Stage.TheVariants.{Header, Records, Damaged}
-use Rattle.capture_file.specs.Pcap.{header_of, begins_whole, begins_oversized, record_size, records_in, frames_from}
+use Rattle.capture_file.specs.Pcap.{header_of, begins_whole, begins_oversized, record_size}
+use Rattle.capture_file.specs.Pcap.{records_in, frames_from}
 
 -- where reading came to: the place, the frames so far, and the bytes from that place on
 pub record Reached : Type 0 where
@@ -45,7 +49,8 @@ read_from cpu format next frames bytes = record {
 
 -- what comes next at a place where these bytes stand: damage where they begin an oversized record
 unfoldable pub stage_at : Format → ℕ → List ℕ → Stage
-stage_at format stop left = if begins_oversized format.order left then Damaged (BadLength stop) else Records format
+stage_at format stop left =
+    if begins_oversized format.order left then Damaged (BadLength stop) else Records format
 
 -- the bytes begin no record that can be recognised: neither a whole one nor an oversized one
 pub record IsPart (order : Order) (bytes : List ℕ) : Type 0 where
@@ -64,7 +69,8 @@ pub record Completes (order : Order) (old new piece fresh : List ℕ) : Type 0 w
   pub part : begins_whole order new ≡ false → (fresh ≡ []) ⊎ (new ≡ [])
 
 -- fresh bytes were read after kept ones, of which the first `read` had been read before
-pub record IsRead (format : Format) (reached : Reached) (read : ℕ) (old : List ℕ) (progress : Progress) (new : List ℕ) (appended : List Frame) : Type 0 where
+pub record IsRead (format : Format) (reached : Reached) (read : ℕ) (old : List ℕ)
+    (progress : Progress) (new : List ℕ) (appended : List Frame) : Type 0 where
   pub next : progress.next ≡ reached.next
   pub frames : appended ≡ reached.frames
   pub kept : new ≡ old ++ reached.left
@@ -72,12 +78,14 @@ pub record IsRead (format : Format) (reached : Reached) (read : ℕ) (old : List
   pub cut : progress.cut ≡ read
 
 -- a feed came to where reading came, with these bytes kept and these frames
-pub record Comes (format : Format) (reached : Reached) (progress : Progress) (kept : List ℕ) (appended : List Frame) : Type 0 where
+pub record Comes (format : Format) (reached : Reached) (progress : Progress) (kept : List ℕ)
+    (appended : List Frame) : Type 0 where
   pub next : progress.next ≡ reached.next
   pub frames : appended ≡ reached.frames
   pub stage : progress.stage ≡ stage_at format reached.next.stop reached.left
   pub cut : progress.cut ≤ length kept
-  pub left : begins_oversized format.order reached.left ≡ false → drop progress.cut kept ≡ reached.left
+  pub left :
+      begins_oversized format.order reached.left ≡ false → drop progress.cut kept ≡ reached.left
 
 -- the place before all bytes, and the place after a header
 abbrev pub start : Place
@@ -87,7 +95,8 @@ abbrev pub first_place : Place
 first_place = record { stop = 24; index = 0 }
 
 -- a feed came to the end of a whole header
-abbrev pub ComesBehind : ℕ → Result Format CaptureError → List ℕ → Progress → List ℕ → List Frame → List Frame → Type 0
+abbrev pub ComesBehind :
+    ℕ → Result Format CaptureError → List ℕ → Progress → List ℕ → List Frame → List Frame → Type 0
 ComesBehind cpu (Err damage) bytes progress kept old new =
     (progress ≡ record { stage = Damaged damage; next = start; cut = 0 }) × (new ≡ old)
 ComesBehind cpu (Ok format) bytes progress kept old new =
@@ -112,7 +121,8 @@ stage_with Header beyond = if beyond then Damaged TooLarge else Header
 stage_with (Records format) beyond = if beyond then Damaged TooLarge else Records format
 stage_with (Damaged damage) beyond = Damaged damage
 
--- how a capture ends at a stage, where its last whole record ends at `stop`, and no byte is after it or some
+-- how a capture ends at a stage, where its last whole record ends at `stop`, and no byte is after
+-- it or some
 abbrev pub end_at : Stage → ℕ → Bool → Option CaptureError
 end_at Header stop none_behind = Some (Truncated stop)
 end_at (Records format) stop none_behind = if none_behind then None else Some (Truncated stop)
@@ -139,6 +149,7 @@ pub record IsSoundAt (stage : Stage) (next : Place) (bytes : List ℕ) : Type 0 
 -- what a feed of bytes at a stage came to
 abbrev pub Feeds : ℕ → Stage → Place → List ℕ → Progress → List ℕ → List Frame → List Frame → Type 0
 Feeds cpu Header next bytes progress kept old new = Begins cpu bytes progress kept old new
-Feeds cpu (Records format) next bytes progress kept old new = Comes format (read_from cpu format next old bytes) progress kept new
+Feeds cpu (Records format) next bytes progress kept old new =
+    Comes format (read_from cpu format next old bytes) progress kept new
 Feeds cpu (Damaged damage) next bytes progress kept old new =
     (progress ≡ record { stage = Damaged damage; next = next; cut = 0 }) × (new ≡ old)

@@ -1,7 +1,9 @@
 //! A capture that comes in pieces.
 //!
-//! The first four bytes are gathered: they say the format, whose decoder is fed them and all that comes after them.
-ghost use Rattle.std.specs.Prelude.{◌≡◌, ◌≢◌, ◌≤◌, [], length, take, None, Some, IfOk, OnErr, IsErrOf, Err};
+//! The first four bytes are gathered: they say the format, whose decoder is fed them and all that
+//! comes after them.
+ghost use Rattle.std.specs.Prelude.{◌≡◌, ◌≢◌, ◌≤◌, [], length, take, None, Some, IfOk, OnErr};
+ghost use Rattle.std.specs.Prelude.{IsErrOf, Err};
 ghost use Rattle.capture_file.specs.Decoding.{IsBegun};
 
 use crate::CaptureError;
@@ -14,8 +16,9 @@ use std::marker::Model;
 /// The number of bytes that say the format.
 const MAGIC_SIZE: usize = 4;
 
-/// Reads a capture, pcap of version 2.4 or pcapng, that is fed piece by piece, however it is cut. That no more than the
-/// first 33,554,432 bytes count, and no more than 262,144 bytes of a packet, is this project's own choice.
+/// Reads a capture, pcap of version 2.4 or pcapng, that is fed piece by piece, however it is cut.
+/// That no more than the first 33,554,432 bytes count, and no more than 262,144 bytes of a packet,
+/// is this project's own choice.
 #[derive(Debug, Drop)]
 pub struct Decoder {
     /// Gives the memory for the frames.
@@ -39,7 +42,10 @@ impl Model for Decoder {
 }
 
 impl Decoder {
-    ghost use Rattle.capture_file.specs.Decoding.{Stands, StandsOn, AppendsNew, IsDamage, AnswersDamage, AnswersEnd, CountsKept, KeepsAfterStop, KeepsNoBody, KeepsNoDamage, UnlessMemory};
+    ghost use Rattle.capture_file.specs.Decoding.{Stands, StandsOn, AppendsNew, IsDamage};
+    ghost use Rattle.capture_file.specs.Decoding.{AnswersDamage, AnswersEnd, CountsKept};
+    ghost use Rattle.capture_file.specs.Decoding.{KeepsAfterStop, KeepsNoBody, KeepsNoDamage};
+    ghost use Rattle.capture_file.specs.Decoding.{UnlessMemory};
 
     /// A decoder that nothing was fed to. It takes no memory.
     pub fn new(alloc: Global, cpu: u32) -> Decoder
@@ -53,9 +59,10 @@ impl Decoder {
         }
     }
 
-    /// Takes the next bytes of the capture, and appends the frames that are whole now. The error is the capture's
-    /// damage, with the frames before it in `into`; after it every call gives the same error and appends nothing.
-    /// After `Memory` the decoder and `into` are as before the call.
+    /// Takes the next bytes of the capture, and appends the frames that are whole now. The error is
+    /// the capture's damage, with the frames before it in `into`; after it every call gives the
+    /// same error and appends nothing. After `Memory` the decoder and `into` are as before the
+    /// call.
     pub fn feed(&mut self, piece: &[u8], into: &mut Frames) -> Result<(), CaptureError>
         // The decoder stands for all bytes that it was fed.
         ensures stands { UnlessMemory result (StandsOn self.old self.new piece.now) }
@@ -120,8 +127,8 @@ impl Decoder {
         Ok(damage)
     }
 
-    /// How the capture ends where nothing more comes: its damage, or `Truncated` with the place of the header, record or
-    /// block that isn't whole. It takes no memory and is never `Memory`.
+    /// How the capture ends where nothing more comes: its damage, or `Truncated` with the place of
+    /// the header, record or block that isn't whole. It takes no memory and is never `Memory`.
     pub fn end(&self) -> Result<(), CaptureError>
         ensures end { AnswersEnd self.now result }
         ensures memory { result ≢ Err CaptureError.Memory }
@@ -132,8 +139,8 @@ impl Decoder {
         }
     }
 
-    /// The number of bytes that are kept: those after the last whole record or block, at most 3 of a block that is
-    /// skipped, none after damage. It takes no memory.
+    /// The number of bytes that are kept: those after the last whole record or block, at most 3 of
+    /// a block that is skipped, none after damage. It takes no memory.
     pub fn rest(&self) -> u32
         ensures kept { CountsKept self.now result }
         ensures few { result ≤ 524287 }

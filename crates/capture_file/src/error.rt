@@ -6,10 +6,12 @@ use frame_view::Memory;
 use pcapng_blocks::BlockError;
 use std::alloc::{AllocError, AllocFailed};
 
-/// What is wrong with a capture, each place counted in bytes from its start, or that memory ran out.
+/// What is wrong with a capture, each place counted in bytes from its start, or that memory ran
+/// out.
 #[derive(Clone, Copy, Debug, PartialEq, Eq)]
 pub enum CaptureError {
-    /// The magic is none of pcap's four, or a pcapng section's byte-order magic is 0x1a2b3c4d in neither byte order.
+    /// The magic is none of pcap's four, or a pcapng section's byte-order magic is 0x1a2b3c4d in
+    /// neither byte order.
     BadMagic,
     /// The version isn't pcap's 2.4, or a pcapng section's major version isn't 1.
     BadVersion,

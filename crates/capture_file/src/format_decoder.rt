@@ -21,7 +21,8 @@ pub(crate) enum FormatDecoder {
 }
 
 impl FormatDecoder {
-    ghost use Rattle.capture_file.specs.Decoding.{reads_blocks, StandsAs, FeedsFrom, EndsAs, CountsAs};
+    ghost use Rattle.capture_file.specs.Decoding.{reads_blocks, StandsAs, FeedsFrom, EndsAs};
+    ghost use Rattle.capture_file.specs.Decoding.{CountsAs};
 
     /// A decoder that nothing was fed to, of the format that a capture's first four bytes say.
     #[tactic(auto, unfolding(crate::specs::Capture::is_pcapng))]
@@ -37,7 +38,8 @@ impl FormatDecoder {
         }
     }
 
-    /// Takes the next bytes, appends the frames that are whole now, and gives the damage, if there is any.
+    /// Takes the next bytes, appends the frames that are whole now, and gives the damage, if there
+    /// is any.
     pub(crate) fn feed(
         &mut self,
         piece: &[u8],

@@ -1,11 +1,13 @@
 //! Laws of captures, for callers: each function does nothing, and its contract is the law.
-ghost use Rattle.std.specs.Prelude.{◌≡◌, ◌≢◌, ℕ, ◌^◌, ◌<◌, ◌≤◌, List, [], ◌++◌, length, slice_get, All, IsSome, IfSome};
+ghost use Rattle.std.specs.Prelude.{◌≡◌, ◌≢◌, ℕ, ◌^◌, ◌<◌, ◌≤◌, List, [], ◌++◌, length, slice_get};
+ghost use Rattle.std.specs.Prelude.{All, IsSome, IfSome};
 ghost use Rattle.std.specs.List.{sum_by};
 ghost use Rattle.frame_view.specs.declared.frames.Frame.{Frame};
 ghost use Rattle.frame_view.specs.declared.frames.Packet.{Packet};
 ghost use Rattle.capture_file.specs.Capture.{frames_of, damage_of, end_of};
 ghost use Rattle.capture_file.specs.Output.{output_of};
-ghost use Rattle.capture_file.specs.Laws.{IsNumbered, IsCaptured, FitsFrame, IsWritable, frames_back};
+ghost use Rattle.capture_file.specs.Laws.{IsNumbered, IsCaptured, FitsFrame, IsWritable};
+ghost use Rattle.capture_file.specs.Laws.{frames_back};
 ghost use Rattle.capture_file.specs.declared.error.CaptureError.{CaptureError};
 
 /// A capture without a byte has no frame and no damage.
@@ -45,7 +47,8 @@ pub fn frames_are_numbered()
         IfSome (slice_get (frames_of cpu fed) index) (IsNumbered cpu index) }
 {}
 
-/// Each frame has a time within its second, and no more bytes than were on the wire, nor more than 262,144.
+/// Each frame has a time within its second, and no more bytes than were on the wire, nor more than
+/// 262,144.
 pub fn frames_are_captured()
     ensures { (cpu : ℕ) (fed : List ℕ) → All IsCaptured (frames_of cpu fed) }
 {}
@@ -63,8 +66,8 @@ pub fn frames_are_few()
         sum_by (λ frame. length frame.bytes) (frames_of cpu fed) ≤ length fed }
 {}
 
-/// An output file of at most 33,554,432 bytes is a whole capture, and gives back of each packet the time, the frame
-/// and the original length.
+/// An output file of at most 33,554,432 bytes is a whole capture, and gives back of each packet the
+/// time, the frame and the original length.
 pub fn output_reads_back()
     ensures frames { (cpu : ℕ) (packets : List Packet) → All IsWritable packets
         → length (output_of packets) ≤ 33554432

@@ -1,4 +1,5 @@
-//! Captures in the formats pcap and pcapng: a decoder that is fed piece by piece, and the output file of packets.
+//! Captures in the formats pcap and pcapng: a decoder that is fed piece by piece, and the output
+//! file of packets.
 #![tactic(auto)]
 
 mod cpu_end;

@@ -7,15 +7,15 @@ use crate::reading::RECORD_HEADER_SIZE;
 use frame_view::{ByteList, Memory, Packet, Packets};
 use std::alloc::Global;
 
-/// The header of an output file: magic 0xa1b23c4d, version 2.4, time zone 0, accuracy 0, snap length 262,144,
-/// link type Ethernet.
+/// The header of an output file: magic 0xa1b23c4d, version 2.4, time zone 0, accuracy 0, snap
+/// length 262,144, link type Ethernet.
 const HEADER: [u8; 24] = [
     0x4d, 0x3c, 0xb2, 0xa1, 2, 0, 4, 0, 0, 0, 0, 0, 0, 0, 0, 0, 0, 0, 4, 0, 1, 0, 0, 0,
 ];
 
-/// The output file of packets (pcap 2.4): a header, and a record for each packet, with its tag put back. The
-/// original length of a record counts the tag, also where the packet is too short to have it put back; that is
-/// this project's own choice.
+/// The output file of packets (pcap 2.4): a header, and a record for each packet, with its tag put
+/// back. The original length of a record counts the tag, also where the packet is too short to have
+/// it put back; that is this project's own choice.
 #[tactic(auto, unfolding(crate::specs::Output::output_of))]
 pub fn pcap_text(alloc: Global, packets: &Packets) -> Result<ByteList, Memory>
     requires { All (λ packet. length packet.bytes ≤ 4294967291) packets.now }

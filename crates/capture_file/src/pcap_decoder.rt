@@ -1,7 +1,8 @@
 //! A pcap capture that comes in pieces.
 //!
-//! The header is gathered first. Then each piece completes the record of which bytes are kept, its further whole
-//! records are read where they lie, and what is after them is kept for the next piece. Damage ends it all.
+//! The header is gathered first. Then each piece completes the record of which bytes are kept, its
+//! further whole records are read where they lie, and what is after them is kept for the next
+//! piece. Damage ends it all.
 ghost use Rattle.std.specs.Prelude.{◌≡◌, ◌≢◌, ◌≤◌, [], IfOk, OnErr, Err, Some};
 
 use crate::CaptureError;
@@ -14,8 +15,9 @@ use std::marker::Model;
 /// The number of bytes of a capture that count.
 const LARGEST_CAPTURE: usize = 33_554_432;
 
-/// Reads a pcap capture of version 2.4 that is fed piece by piece, however it is cut. That no more than the first
-/// 33,554,432 bytes count, and no more than 262,144 bytes of a record, is this project's own choice.
+/// Reads a pcap capture of version 2.4 that is fed piece by piece, however it is cut. That no more
+/// than the first 33,554,432 bytes count, and no more than 262,144 bytes of a record, is this
+/// project's own choice.
 #[derive(Debug, Drop)]
 pub(crate) struct PcapDecoder {
     /// Gives the memory for the frames.
@@ -41,7 +43,8 @@ impl Model for PcapDecoder {
 }
 
 impl PcapDecoder {
-    ghost use Rattle.capture_file.specs.PcapDecoding.{Stands, StandsOn, AppendsNew, IsDamage, AnswersEnd, CountsKept};
+    ghost use Rattle.capture_file.specs.PcapDecoding.{Stands, StandsOn, AppendsNew, IsDamage};
+    ghost use Rattle.capture_file.specs.PcapDecoding.{AnswersEnd, CountsKept};
 
     /// A decoder that nothing was fed to. It takes no memory.
     pub fn new(alloc: Global, cpu: u32) -> PcapDecoder
@@ -56,9 +59,9 @@ impl PcapDecoder {
         }
     }
 
-    /// Takes the next bytes of the capture, appends the frames that are whole now, and gives the capture's damage, if
-    /// there is any. After damage every call gives the same and appends nothing. After `Memory` the decoder and `into`
-    /// are as before the call.
+    /// Takes the next bytes of the capture, appends the frames that are whole now, and gives the
+    /// capture's damage, if there is any. After damage every call gives the same and appends
+    /// nothing. After `Memory` the decoder and `into` are as before the call.
     pub fn feed(&mut self, piece: &[u8], into: &mut Frames) -> Result<Option<CaptureError>, Memory>
         // The decoder stands for all bytes that it was fed.
         ensures stands { IfOk result (λ damage. StandsOn self.old self.new piece.now) }
@@ -103,8 +106,8 @@ impl PcapDecoder {
         Ok(None)
     }
 
-    /// How the capture ends where nothing more comes: its damage, or `Truncated` with the place of the header or
-    /// record that isn't whole. It takes no memory and is never `Memory`.
+    /// How the capture ends where nothing more comes: its damage, or `Truncated` with the place of
+    /// the header or record that isn't whole. It takes no memory and is never `Memory`.
     pub fn end(&self) -> Result<(), CaptureError>
         ensures end { AnswersEnd self.now result }
         ensures memory { result ≢ Err CaptureError.Memory }
@@ -112,7 +115,8 @@ impl PcapDecoder {
         self.stage.end(self.next.stop, self.kept.is_empty())
     }
 
-    /// The number of bytes that are kept: those after the last whole record, none after damage. It takes no memory.
+    /// The number of bytes that are kept: those after the last whole record, none after damage. It
+    /// takes no memory.
     pub fn rest(&self) -> u32
         ensures kept { CountsKept self.now result }
         ensures few { result ≤ 262159 }

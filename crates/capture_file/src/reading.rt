@@ -1,7 +1,11 @@
 //! Records read from bytes, in one pass: each whole record's bytes are copied once, into its frame.
-ghost use Rattle.std.specs.Prelude.{◌≡◌, ◌+◌, ◌*◌, ◌-◌, ◌≤◌, ◌<◌, ◌⊎◌, [], ◌++◌, false, true, length, take, drop, IfOk, OnOk, OnErr, IfSome, MatchOption};
-ghost use Rattle.capture_file.specs.Pcap.{begins_whole, begins_oversized, record_size, frame_of_record};
-ghost use Rattle.capture_file.specs.Reading.{BeginsWith, place_behind, read_from, IsPart, Completes, IsRead, Comes, Begins, Feeds, IsSoundAt, kept_at};
+ghost use Rattle.std.specs.Prelude.{◌≡◌, ◌+◌, ◌*◌, ◌-◌, ◌≤◌, ◌<◌, ◌⊎◌, [], ◌++◌, false, true};
+ghost use Rattle.std.specs.Prelude.{length, take, drop, IfOk, OnOk, OnErr, IfSome, MatchOption};
+ghost use Rattle.capture_file.specs.Pcap.{begins_whole, begins_oversized, record_size};
+ghost use Rattle.capture_file.specs.Pcap.{frame_of_record};
+ghost use Rattle.capture_file.specs.Reading.{BeginsWith, place_behind, read_from, IsPart};
+ghost use Rattle.capture_file.specs.Reading.{Completes, IsRead, Comes, Begins, Feeds, IsSoundAt};
+ghost use Rattle.capture_file.specs.Reading.{kept_at};
 
 use crate::CaptureError;
 use crate::format::{Format, HEADER_SIZE, Order, read_header};
@@ -49,8 +53,8 @@ pub(crate) struct Reader {
     pub format: Format,
 }
 
-/// Reads on in a capture at a stage, with kept bytes and a piece after them. Frames and bytes are only appended, so
-/// that what was there can be had back after `Memory`.
+/// Reads on in a capture at a stage, with kept bytes and a piece after them. Frames and bytes are
+/// only appended, so that what was there can be had back after `Memory`.
 pub(crate) fn read_on(
     alloc: Global,
     cpu: u32,
@@ -182,8 +186,8 @@ impl Reader {
         Ok(Progress { stage, next, cut })
     }
 
-    /// Appends the frames of the whole records at the start of the bytes, the first of which is at `next`. It gives
-    /// the place after them, and the bytes from there on.
+    /// Appends the frames of the whole records at the start of the bytes, the first of which is at
+    /// `next`. It gives the place after them, and the bytes from there on.
     fn read_records<'a>(
         self,
         next: Place,
@@ -247,7 +251,8 @@ impl Place {
     }
 }
 
-/// The whole record at the start, and what is after it. `None` where none is whole or it is oversized.
+/// The whole record at the start, and what is after it. `None` where none is whole or it is
+/// oversized.
 #[tactic(auto, unfolding(crate::specs::Pcap::begins_whole))]
 fn first_record(order: Order, bytes: &[u8]) -> Option<(&[u8], &[u8])>
     ensures size { IfSome result (λ x. 16 ≤ length x.0.now) }
@@ -277,8 +282,8 @@ fn begins_oversized(order: Order, bytes: &[u8]) -> bool
     bytes.len() >= RECORD_HEADER_SIZE && order.u32_at(bytes, 8) > LARGEST_RECORD
 }
 
-/// Appends to the kept bytes of a record, where there are any, what completes it, and gives the bytes of the piece
-/// after that; none where the record is oversized.
+/// Appends to the kept bytes of a record, where there are any, what completes it, and gives the
+/// bytes of the piece after that; none where the record is oversized.
 fn complete<'a>(order: Order, kept: &mut Vec<u8>, piece: &'a [u8]) -> Result<&'a [u8], Memory>
     requires { IsPart order kept.old.items }
     ensures ok { IfOk result (λ fresh.
@@ -301,7 +306,8 @@ fn complete<'a>(order: Order, kept: &mut Vec<u8>, piece: &'a [u8]) -> Result<&'a
     top_up(kept, RECORD_HEADER_SIZE + captured as usize, behind)
 }
 
-/// Appends bytes of the piece to the kept ones until there are `size`, and gives the bytes after those.
+/// Appends bytes of the piece to the kept ones until there are `size`, and gives the bytes after
+/// those.
 pub(crate) fn top_up<'a>(
     kept: &mut Vec<u8>,
     size: usize,

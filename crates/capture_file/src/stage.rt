@@ -30,7 +30,8 @@ impl Stage {
         }
     }
 
-    /// How a capture ends at this stage, where its last whole record ends at `stop`, and no byte is after it or some.
+    /// How a capture ends at this stage, where its last whole record ends at `stop`, and no byte is
+    /// after it or some.
     pub(crate) fn end(self, stop: usize, none_behind: bool) -> Result<(), CaptureError>
         ensures { result_err result ≡ end_at self stop none_behind }
     {

@@ -10,7 +10,8 @@ use Rattle.frame_view.specs.declared.header_reading.Headers.TheVariants.{V4}
 unfoldable pub link_bytes : Parts → List ℕ
 link_bytes parts = parts.to ++ (parts.from ++ to_be_bytes w16 0x0800)
 
--- the IPv4 header with a given checksum: 20 bytes, don't fragment (0x4000), time to live 64, protocol 17
+-- the IPv4 header with a given checksum: 20 bytes, don't fragment (0x4000), time to live 64,
+-- protocol 17
 unfoldable pub ip_bytes : Parts → ℕ → List ℕ
 ip_bytes parts checksum =
     0x45 ∷ 0 ∷ (to_be_bytes w16 (28 + length parts.payload) ++ (to_be_bytes w16 parts.ident

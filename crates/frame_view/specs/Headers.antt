@@ -1,5 +1,7 @@
 -- What the headers of a frame say. Places are counted in bytes from 0; fields are in network order.
-use Rattle.std.specs.Prelude.{ℕ, ◌+◌, ◌*◌, ◌/◌, ◌%◌, Bool, false, ◌&&◌, ◌||◌, List, [], ◌∷◌, length, slice_index, nat_lt, nat_le, ◌==◌, true, if◌then◌else◌, bytes_eq, Option, None, Some, replicate}
+use Rattle.std.specs.Prelude.{ℕ, ◌+◌, ◌*◌, ◌/◌, ◌%◌, Bool, false, ◌&&◌, ◌||◌, List, [], ◌∷◌, length}
+use Rattle.std.specs.Prelude.{slice_index, nat_lt, nat_le, ◌==◌, true, if◌then◌else◌, bytes_eq}
+use Rattle.std.specs.Prelude.{Option, None, Some, replicate}
 pub use Rattle.frame_view.specs.Numbers.{u16_at, u32_at, u128_at}
 use Rattle.frame_view.specs.declared.header_reading.Headers.{Headers}
 use Rattle.frame_view.specs.declared.header_reading.Headers.TheVariants.{Runt, Plain, V4, V6}
@@ -13,7 +15,8 @@ address_of at bytes =
     slice_index bytes at ∷ slice_index bytes (at + 1) ∷ slice_index bytes (at + 2)
     ∷ slice_index bytes (at + 3) ∷ slice_index bytes (at + 4) ∷ slice_index bytes (at + 5) ∷ []
 
--- the type field; below 0x0600 it is a length, and two bytes of 0xff after it tell raw IPX (1) from 802.2 (4)
+-- the type field; below 0x0600 it is a length, and two bytes of 0xff after it tell raw IPX (1) from
+-- 802.2 (4)
 abbrev pub protocol_of : List ℕ → ℕ
 protocol_of bytes =
     if nat_lt (u16_at 12 bytes) 0x0600
@@ -22,7 +25,11 @@ protocol_of bytes =
 
 -- the link header: destination, source, protocol
 abbrev pub link_of : List ℕ → Link
-link_of bytes = record { to = address_of 0 bytes; from = address_of 6 bytes; protocol = protocol_of bytes }
+link_of bytes = record {
+  to = address_of 0 bytes;
+  from = address_of 6 bytes;
+  protocol = protocol_of bytes;
+}
 
 -- the two numbers from a place, where the next protocol is TCP or UDP and they are captured
 abbrev pub ports_at : ℕ → ℕ → List ℕ → Option (ℕ × ℕ)
@@ -39,7 +46,9 @@ header_of bytes = 4 * (slice_index bytes 14 % 16)
 abbrev pub is_v4 : List ℕ → Bool
 is_v4 bytes =
     if nat_lt (length bytes) 34 then false
-    else (u16_at 12 bytes == 0x0800) && (slice_index bytes 14 / 16 == 4) && nat_le 20 (header_of bytes)
+    else (u16_at 12 bytes == 0x0800)
+    && (slice_index bytes 14 / 16 == 4)
+    && nat_le 20 (header_of bytes)
     && nat_le (14 + header_of bytes) (length bytes) && nat_le (header_of bytes) (u16_at 16 bytes)
 
 -- more fragments follow: the bit 0x2000 of the two bytes of flags and offset
@@ -85,7 +94,8 @@ v6_of bytes = record {
   ports = ports_at 54 (slice_index bytes 20) bytes;
 }
 
--- a frame of fewer than 14 bytes is a runt; after a whole link header may stand an IPv4 or an IPv6 header
+-- a frame of fewer than 14 bytes is a runt; after a whole link header may stand an IPv4 or an IPv6
+-- header
 abbrev pub view_of : List ℕ → Headers
 view_of bytes =
     if nat_lt (length bytes) 14 then Runt

@@ -1,7 +1,8 @@
 -- The Internet checksum of RFC 1071.
 use Rattle.std.specs.Prelude.{ℕ, ◌+◌, ◌-◌, ◌*◌, ◌^◌, List, [], ◌∷◌, nat_lt, if◌then◌else◌}
 
--- the ones' complement sum of two numbers of 16 bits: a carry out of the highest bit is added to the lowest
+-- the ones' complement sum of two numbers of 16 bits: a carry out of the highest bit is added to
+-- the lowest
 abbrev pub ones_sum : ℕ → ℕ → ℕ
 ones_sum a b = if nat_lt (a + b) (2 ^ 16) then a + b else a + b - 2 ^ 16 + 1
 

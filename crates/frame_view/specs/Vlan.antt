@@ -1,5 +1,6 @@
 -- A VLAN tag taken out of a frame, and put back.
-use Rattle.std.specs.Prelude.{ℕ, ◌-◌, Bool, false, ◌||◌, List, ◌++◌, length, take, drop, nat_lt, ◌==◌, if◌then◌else◌, Option, None, Some}
+use Rattle.std.specs.Prelude.{ℕ, ◌-◌, Bool, false, ◌||◌, List, ◌++◌, length, take, drop, nat_lt}
+use Rattle.std.specs.Prelude.{◌==◌, if◌then◌else◌, Option, None, Some}
 use Rattle.std.specs.Int.{to_be_bytes, w16}
 use Rattle.frame_view.specs.Headers.{u16_at}
 use Rattle.frame_view.specs.declared.frames.Frame.{Frame}
@@ -22,11 +23,16 @@ tag_of bytes = record { tpid = u16_at 12 bytes; tci = u16_at 14 bytes }
 abbrev pub without_tag : List ℕ → List ℕ
 without_tag bytes = take 12 bytes ++ drop 16 bytes
 
--- the frame with its first tag, if it has one, apart from its bytes; on the wire it is 4 bytes shorter
+-- the frame with its first tag, if it has one, apart from its bytes; on the wire it is 4 bytes
+-- shorter
 abbrev pub untagged : Frame → Frame
 untagged frame =
     if is_tagged frame.bytes
-    then record frame { wire = frame.wire - 4; bytes = without_tag frame.bytes; tag = Some (tag_of frame.bytes) }
+    then record frame {
+      wire = frame.wire - 4;
+      bytes = without_tag frame.bytes;
+      tag = Some (tag_of frame.bytes);
+    }
     else frame
 
 -- the bytes with a tag put back after the addresses, where both addresses are there

@@ -4,8 +4,8 @@ ghost use Rattle.frame_view.specs.InternetChecksum.{checksum_of};
 
 use crate::numbers::u16_at;
 
-/// The Internet checksum of a header (RFC 1071): the ones' complement of the ones' complement sum of its
-/// words of 16 bits.
+/// The Internet checksum of a header (RFC 1071): the ones' complement of the ones' complement sum
+/// of its words of 16 bits.
 #[tactic(auto, using(crate::proofs::Words::words))]
 pub fn checksum(header: &[u8]) -> u16
     requires even { length header.now % 2 ≡ 0 }

@@ -1,7 +1,9 @@
 //! A UDP datagram in one IPv4 packet in an Ethernet frame, made from its parts.
-ghost use Rattle.std.specs.Prelude.{◌≡◌, ◌+◌, ◌%◌, ◌≤◌, ◌<◌, ◌^◌, ◌++◌, length, take, drop, IfOk, OnOk};
+ghost use Rattle.std.specs.Prelude.{◌≡◌, ◌+◌, ◌%◌, ◌≤◌, ◌<◌, ◌^◌, ◌++◌, length, take, drop, IfOk};
+ghost use Rattle.std.specs.Prelude.{OnOk};
 ghost use Rattle.frame_view.specs.Headers.{view_of};
-ghost use Rattle.frame_view.specs.Built.{built, link_bytes, ip_bytes, ip_checksum, udp_bytes, headers_of};
+ghost use Rattle.frame_view.specs.Built.{built, link_bytes, ip_bytes, ip_checksum, udp_bytes};
+ghost use Rattle.frame_view.specs.Built.{headers_of};
 ghost use Rattle.frame_view.specs.InternetChecksum.{checksum_of};
 
 use crate::{ByteList, Memory, checksum};
@@ -28,9 +30,10 @@ pub struct Parts {
     pub payload: ByteList,
 }
 
-/// Makes the frame of some parts: an Ethernet header with the type of IPv4, an IPv4 header without options
-/// (RFC 791) with don't-fragment, time to live 64 and its checksum, a UDP header (RFC 768) with no checksum,
-/// and the payload. `view` of the frame gives the parts back, and its bytes from 42 on are the payload.
+/// Makes the frame of some parts: an Ethernet header with the type of IPv4, an IPv4 header without
+/// options (RFC 791) with don't-fragment, time to live 64 and its checksum, a UDP header (RFC 768)
+/// with no checksum, and the payload. `view` of the frame gives the parts back, and its bytes from
+/// 42 on are the payload.
 #[tactic(auto, unfolding(crate::specs::Built::built))]
 pub fn build(alloc: Global, parts: &Parts) -> Result<ByteList, Memory>
     requires { length parts.now.payload ≤ 1472 }

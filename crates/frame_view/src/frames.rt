@@ -4,7 +4,8 @@ ghost use Rattle.frame_view.specs.PlainPacket.{plain_of};
 
 use crate::{ByteList, ItemList, link_header, pkttype};
 
-/// One IEEE 802.1Q tag: its protocol identifier and its control information, both read in network order.
+/// One IEEE 802.1Q tag: its protocol identifier and its control information, both read in network
+/// order.
 #[derive(Clone, Copy, Debug, PartialEq, Eq)]
 pub struct Tag {
     /// The tag protocol identifier, 0x8100 or 0x88a8 where `untag` took it out.
@@ -56,9 +57,9 @@ pub struct Packet {
 }
 
 impl Packet {
-    /// The packet of a frame that stands alone, as one that is to be sent: times and hash are 0, the length on
-    /// the wire is its own, no tag was taken out, and the packet type is that without an own address. It takes
-    /// no memory.
+    /// The packet of a frame that stands alone, as one that is to be sent: times and hash are 0,
+    /// the length on the wire is its own, no tag was taken out, and the packet type is that without
+    /// an own address. It takes no memory.
     pub fn plain(bytes: ByteList) -> Packet
         requires whole { 14 ≤ length bytes }
         requires short { length bytes < 2 ^ 32 }

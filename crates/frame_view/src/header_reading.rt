@@ -1,6 +1,7 @@
 //! What the headers of a frame say, and the packet type that follows from its destination.
 ghost use Rattle.std.specs.Prelude.{◌≡◌, ◌+◌, ◌≤◌, length};
-ghost use Rattle.frame_view.specs.Headers.{view_of, link_of, packet_type_of, protocol_of, address_of};
+ghost use Rattle.frame_view.specs.Headers.{view_of, link_of, packet_type_of, protocol_of};
+ghost use Rattle.frame_view.specs.Headers.{address_of};
 
 use crate::ip_reading::{V4Part, V6Part, has_v4, has_v6, read_v4, read_v6};
 use crate::numbers::u16_at;
@@ -25,8 +26,8 @@ pub struct Link {
     pub to: [u8; 6],
     /// The source address.
     pub from: [u8; 6],
-    /// The protocol: the type field from 0x0600 on; for a length field below it ETH_P_802_3 (0x0001)
-    /// where a raw IPX frame follows, else ETH_P_802_2 (0x0004).
+    /// The protocol: the type field from 0x0600 on; for a length field below it ETH_P_802_3
+    /// (0x0001) where a raw IPX frame follows, else ETH_P_802_2 (0x0004).
     pub protocol: u16,
 }
 
@@ -37,8 +38,8 @@ const BROADCAST: [u8; 6] = [0xff; 6];
 const LEAST_TYPE: u16 = 0x0600;
 
 /// Reads the headers of a frame, by IEEE 802.3, RFC 791, RFC 8200 and the protocol numbers of
-/// `linux/if_ether.h`. An IP header that is cut off, or whose lengths contradict each other, leaves the frame
-/// `Plain`; its checksum isn't tested.
+/// `linux/if_ether.h`. An IP header that is cut off, or whose lengths contradict each other, leaves
+/// the frame `Plain`; its checksum isn't tested.
 pub fn view(bytes: &[u8]) -> Headers
     ensures { result ≡ view_of bytes.now }
 {
@@ -67,8 +68,9 @@ pub fn link_header(bytes: &[u8]) -> Link
     }
 }
 
-/// The packet type of a frame (`PACKET_HOST` and its kin of `linux/if_packet.h`): 1 for the broadcast
-/// address, else 2 for a multicast one, else 0 where no own address is given or it is the destination, else 3.
+/// The packet type of a frame (`PACKET_HOST` and its kin of `linux/if_packet.h`): 1 for the
+/// broadcast address, else 2 for a multicast one, else 0 where no own address is given or it is the
+/// destination, else 3.
 pub fn pkttype(bytes: &[u8], own: Option<[u8; 6]>) -> u8
     requires { 14 ≤ length bytes.now }
     ensures { result ≡ packet_type_of bytes.now own }

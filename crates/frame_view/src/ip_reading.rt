@@ -1,6 +1,7 @@
 //! The IPv4 or the IPv6 header after the link header of a frame, and the ports after it.
 ghost use Rattle.std.specs.Prelude.{◌≡◌, ◌+◌, ◌≤◌, length, IsTrue};
-ghost use Rattle.frame_view.specs.Headers.{is_v4, v4_of, v4_ports, header_of, is_v6, v6_of, ports_at};
+ghost use Rattle.frame_view.specs.Headers.{is_v4, v4_of, v4_ports, header_of, is_v6, v6_of};
+ghost use Rattle.frame_view.specs.Headers.{ports_at};
 
 use crate::numbers::{u16_at, u32_at, u128_at};
 
@@ -23,8 +24,8 @@ pub struct V4Part {
     pub from: u32,
     /// The destination address, as a number.
     pub to: u32,
-    /// The source port and the destination port, where this is no fragment, the data is TCP or UDP, and its
-    /// first four bytes are captured.
+    /// The source port and the destination port, where this is no fragment, the data is TCP or UDP,
+    /// and its first four bytes are captured.
     pub ports: Option<(u16, u16)>,
 }
 
@@ -37,8 +38,8 @@ pub struct V6Part {
     pub from: u128,
     /// The destination address, as a number.
     pub to: u128,
-    /// The source port and the destination port, where the next header is TCP or UDP and its first four
-    /// bytes are captured.
+    /// The source port and the destination port, where the next header is TCP or UDP and its first
+    /// four bytes are captured.
     pub ports: Option<(u16, u16)>,
 }
 

@@ -1,11 +1,13 @@
 //! One list type, which contracts see as a list, and the names that it has for its items.
-ghost use Rattle.std.specs.Prelude.{◌≡◌, ◌+◌, ◌^◌, ◌<◌, ◌≤◌, ◌↔◌, [], ◌∷◌, ◌++◌, length, take, drop, slice_get, IsTrue, OnOk, OnErr, option_copied};
+ghost use Rattle.std.specs.Prelude.{◌≡◌, ◌+◌, ◌^◌, ◌<◌, ◌≤◌, ◌↔◌, [], ◌∷◌, ◌++◌, length, take};
+ghost use Rattle.std.specs.Prelude.{drop, slice_get, IsTrue, OnOk, OnErr, option_copied};
 
 use crate::Memory;
 use std::alloc::Global;
 use std::marker::Model;
 
-/// A list of items, kept in order in one piece of memory. Contracts see it as the list of its items.
+/// A list of items, kept in order in one piece of memory. Contracts see it as the list of its
+/// items.
 #[derive(Debug, Drop)]
 pub struct ItemList<T> {
     items: Vec<T>,
@@ -64,7 +66,8 @@ impl<T> ItemList<T> {
         self.items.is_empty()
     }
 
-    /// The item at a place, counted from 0. `None` comes exactly where the place isn't below the length.
+    /// The item at a place, counted from 0. `None` comes exactly where the place isn't below the
+    /// length.
     pub fn get(&self, at: usize) -> Option<&T>
         ensures { option_copied result ≡ slice_get self.now at }
     {

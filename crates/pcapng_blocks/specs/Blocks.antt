@@ -1,5 +1,6 @@
 -- The bytes of a capture split from the start into blocks.
-use Rattle.std.specs.Prelude.{ℕ, zero, suc, ◌+◌, ◌≤◌, ⊤, nat_lt, if◌then◌else◌, List, [], ◌∷◌, ◌++◌, length, take, drop, Option, None, Some, Result, Ok, Err}
+use Rattle.std.specs.Prelude.{ℕ, zero, suc, ◌+◌, ◌≤◌, ⊤, nat_lt, if◌then◌else◌, List, [], ◌∷◌, ◌++◌}
+use Rattle.std.specs.Prelude.{length, take, drop, Option, None, Some, Result, Ok, Err}
 use Rattle.frame_view.specs.declared.frames.Frame.{Frame}
 use Rattle.pcapng_blocks.specs.declared.byte_order.Order.{Order}
 use Rattle.pcapng_blocks.specs.declared.error.BlockError.{BlockError}
@@ -14,7 +15,8 @@ use Rattle.pcapng_blocks.specs.declared.fronts.Front.TheVariants.{Part, Fault, B
 use Rattle.pcapng_blocks.specs.Heads.{look_at}
 use Rattle.pcapng_blocks.specs.Bodies.{meaning_of, frames_in, IsWithin}
 
--- A place between blocks: the number of bytes and of packets before it, the section's byte order and its interfaces
+-- A place between blocks: the number of bytes and of packets before it, the section's byte order
+-- and its interfaces
 pub record Spot : Type 0 where
   pub stop : ℕ
   pub index : ℕ
@@ -36,22 +38,44 @@ front_by looks.Short interfaces place bytes = Part
 front_by (looks.Bad error) interfaces place bytes = Fault error
 front_by (looks.Headed head) interfaces place bytes = front_behind interfaces place head bytes
 
--- what the bytes from a place on begin with: a block that passes its tests, a fault, or a part of a block
+-- what the bytes from a place on begin with: a block that passes its tests, a fault, or a part of a
+-- block
 unfoldable pub front_of : Order → List Interface → ℕ → List ℕ → Front
 front_of order interfaces place bytes = front_by (look_at order place bytes) interfaces place bytes
 
 -- the place after a block; a section header forgets the interfaces, an interface block adds one
 abbrev pub spot_after : Spot → Head → Meaning → Spot
 spot_after spot head meanings.Section =
-    record { stop = spot.stop + head.total; index = spot.index; order = head.order; interfaces = [] }
+    record {
+      stop = spot.stop + head.total;
+      index = spot.index;
+      order = head.order;
+      interfaces = [];
+    }
 spot_after spot head (meanings.Interface interface) =
-    record { stop = spot.stop + head.total; index = spot.index; order = spot.order; interfaces = spot.interfaces ++ interface ∷ [] }
+    record {
+      stop = spot.stop + head.total;
+      index = spot.index;
+      order = spot.order;
+      interfaces = spot.interfaces ++ interface ∷ [];
+    }
 spot_after spot head (meanings.Packet packet) =
-    record { stop = spot.stop + head.total; index = spot.index + 1; order = spot.order; interfaces = spot.interfaces }
+    record {
+      stop = spot.stop + head.total;
+      index = spot.index + 1;
+      order = spot.order;
+      interfaces = spot.interfaces;
+    }
 spot_after spot head meanings.Skipped =
-    record { stop = spot.stop + head.total; index = spot.index; order = spot.order; interfaces = spot.interfaces }
+    record {
+      stop = spot.stop + head.total;
+      index = spot.index;
+      order = spot.order;
+      interfaces = spot.interfaces;
+    }
 
--- Where the split stops: the place, the frames so far, the test that failed, if one did, and the bytes from the place on
+-- Where the split stops: the place, the frames so far, the test that failed, if one did, and the
+-- bytes from the place on
 pub record Reached : Type 0 where
   pub spot : Spot
   pub frames : List Frame
@@ -59,15 +83,31 @@ pub record Reached : Type 0 where
   pub left : List ℕ
 
 abbrev pub split_on : Front → Spot → List Frame → List ℕ → (Head → Meaning → Reached) → Reached
-split_on Part spot frames bytes next = record { spot = spot; frames = frames; fault = None; left = bytes }
-split_on (Fault error) spot frames bytes next = record { spot = spot; frames = frames; fault = Some error; left = bytes }
+split_on Part spot frames bytes next = record {
+  spot = spot;
+  frames = frames;
+  fault = None;
+  left = bytes;
+}
+split_on (Fault error) spot frames bytes next = record {
+  spot = spot;
+  frames = frames;
+  fault = Some error;
+  left = bytes;
+}
 split_on (Block head meaning) spot frames bytes next = next head meaning
 
 -- at most so many blocks
 unfoldable pub split_within : ℕ → ℕ → Spot → List Frame → List ℕ → Reached
-split_within zero cpu spot frames bytes = record { spot = spot; frames = frames; fault = None; left = bytes }
+split_within zero cpu spot frames bytes = record {
+  spot = spot;
+  frames = frames;
+  fault = None;
+  left = bytes;
+}
 split_within (suc most) cpu spot frames bytes =
-    split_on (front_of spot.order spot.interfaces spot.stop bytes) spot frames bytes (λ head meaning.
+    split_on (front_of spot.order spot.interfaces spot.stop bytes) spot frames bytes
+    (λ head meaning.
     split_within most cpu (spot_after spot head meaning)
     (frames ++ frames_in cpu spot.index meaning (take head.total bytes)) (drop head.total bytes))
 

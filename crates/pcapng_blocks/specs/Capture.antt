@@ -1,5 +1,6 @@
 -- What a pcapng capture says, over the whole list of its bytes, which begins with a section header.
-use Rattle.std.specs.Prelude.{ℕ, Bool, false, nat_lt, if◌then◌else◌, List, [], length, take, Option, None, Some}
+use Rattle.std.specs.Prelude.{ℕ, Bool, false, nat_lt, if◌then◌else◌, List, [], length, take, Option}
+use Rattle.std.specs.Prelude.{None, Some}
 use Rattle.std.specs.Option.{option_or}
 use Rattle.frame_view.specs.declared.frames.Frame.{Frame}
 use Rattle.pcapng_blocks.specs.declared.byte_order.Order.TheVariants.{Little}
@@ -37,7 +38,9 @@ skips (looks.Headed head) = is_skipped head.kind
 
 -- the bytes from the stop on are those of a block that is skipped, which is headed there
 abbrev pub is_skipping : List ℕ → Bool
-is_skipping bytes = skips (look_at (reached_in 0 bytes).spot.order (reached_in 0 bytes).spot.stop (reached_in 0 bytes).left)
+is_skipping bytes =
+    skips (look_at (reached_in 0 bytes).spot.order (reached_in 0 bytes).spot.stop
+    (reached_in 0 bytes).left)
 
 abbrev pub too_large : List ℕ → Option BlockError
 too_large bytes = if nat_lt 33554432 (length bytes) then Some TooLarge else None
@@ -47,7 +50,8 @@ abbrev pub damage_of : List ℕ → Option BlockError
 damage_of bytes = option_or (reached_in 0 bytes).fault (too_large bytes)
 
 abbrev pub cut_of : List ℕ → Option BlockError
-cut_of bytes = if nat_lt (stop_of bytes) (length bytes) then Some (Truncated (stop_of bytes)) else None
+cut_of bytes =
+    if nat_lt (stop_of bytes) (length bytes) then Some (Truncated (stop_of bytes)) else None
 
 -- how a capture ends: its damage, else the place where it is cut, else nothing
 abbrev pub end_of : List ℕ → Option BlockError

@@ -1,5 +1,6 @@
 -- What a decoder of blocks stands for: the bytes that it was fed.
-use Rattle.std.specs.Prelude.{◌≡◌, ℕ, ◌≤◌, Bool, nat_lt, if◌then◌else◌, List, ◌++◌, length, Option, None, Some, Result}
+use Rattle.std.specs.Prelude.{◌≡◌, ℕ, ◌≤◌, Bool, nat_lt, if◌then◌else◌, List, ◌++◌, length, Option}
+use Rattle.std.specs.Prelude.{None, Some, Result}
 use Rattle.std.specs.Result.{result_err}
 use Rattle.frame_view.specs.declared.frames.Frame.{Frame}
 use Rattle.pcapng_blocks.specs.declared.error.BlockError.{BlockError}
@@ -11,7 +12,8 @@ use Rattle.pcapng_blocks.specs.Blocks.{Spot}
 use Rattle.pcapng_blocks.specs.Capture.{counted, reached_in, frames_of, damage_of, end_of}
 use Rattle.pcapng_blocks.specs.Reading.{spot_of, stage_at, rest_in, IsSoundAt}
 
--- A decoder: its CPU, the number of bytes that were fed of those that count, what comes next and where, and the kept bytes
+-- A decoder: its CPU, the number of bytes that were fed of those that count, what comes next and
+-- where, and the kept bytes
 pub record DecoderValue : Type 0 where
   pub cpu : ℕ
   pub fed : ℕ
@@ -45,7 +47,8 @@ error_of Blocks = None
 error_of (Skipping skip) = None
 error_of (Damaged error) = Some error
 
--- how a capture ends at a stage, where its last whole block ends at `stop`, and no byte is after it or some
+-- how a capture ends at a stage, where its last whole block ends at `stop`, and no byte is after it
+-- or some
 abbrev pub end_at : Stage → ℕ → Bool → Option BlockError
 end_at Blocks stop none_after = if none_after then None else Some (Truncated stop)
 end_at (Skipping skip) stop none_after = Some (Truncated stop)
@@ -55,7 +58,8 @@ end_at (Damaged error) stop none_after = Some error
 abbrev pub stage_of : List ℕ → Stage
 stage_of bytes = stage_with (stage_at (reached_in 0 bytes)) (nat_lt 33554432 (length bytes))
 
--- the bytes that are kept: those from the stop on, of a block that is skipped only those of its tail, none after damage
+-- the bytes that are kept: those from the stop on, of a block that is skipped only those of its
+-- tail, none after damage
 abbrev pub kept_of : List ℕ → List ℕ
 kept_of bytes = rest_in (stage_of bytes) (reached_in 0 bytes).left
 
@@ -69,22 +73,28 @@ pub record Stands (number : ℕ) (decoder : DecoderValue) (fed : List ℕ) : Typ
 
 -- what stood for some bytes before a feed stands for them and the piece after it
 abbrev pub StandsOn : DecoderValue → DecoderValue → List ℕ → Type 0
-StandsOn old new piece = (cpu : ℕ) (fed : List ℕ) → Stands cpu old fed → Stands cpu new (fed ++ piece)
+StandsOn old new piece =
+    (cpu : ℕ) (fed : List ℕ) → Stands cpu old fed → Stands cpu new (fed ++ piece)
 
 -- a feed appended the frames that are new with the piece
 abbrev pub AppendsNew : DecoderValue → List ℕ → List Frame → List Frame → Type 0
 AppendsNew decoder piece before after =
     (cpu : ℕ) (fed : List ℕ) → Stands cpu decoder fed
-    → (more : List Frame) × (after ≡ before ++ more) × (frames_of cpu (fed ++ piece) ≡ frames_of cpu fed ++ more)
+    → (more : List Frame)
+    × (after ≡ before ++ more)
+    × (frames_of cpu (fed ++ piece) ≡ frames_of cpu fed ++ more)
 
 -- a feed answered the damage of all bytes that were fed, the piece with them
 abbrev pub IsDamage : DecoderValue → List ℕ → Option BlockError → Type 0
-IsDamage decoder piece damage = (cpu : ℕ) (fed : List ℕ) → Stands cpu decoder fed → damage ≡ damage_of (fed ++ piece)
+IsDamage decoder piece damage =
+    (cpu : ℕ) (fed : List ℕ) → Stands cpu decoder fed → damage ≡ damage_of (fed ++ piece)
 
 -- the answer is the end of all bytes that were fed
 abbrev pub IsEnd : DecoderValue → Result Unit BlockError → Type 0
-IsEnd decoder answer = (cpu : ℕ) (fed : List ℕ) → Stands cpu decoder fed → result_err answer ≡ end_of fed
+IsEnd decoder answer =
+    (cpu : ℕ) (fed : List ℕ) → Stands cpu decoder fed → result_err answer ≡ end_of fed
 
 -- the number of bytes that are kept of those that were fed
 abbrev pub CountsKept : DecoderValue → ℕ → Type 0
-CountsKept decoder count = (cpu : ℕ) (fed : List ℕ) → Stands cpu decoder fed → count ≡ length (kept_of fed)
+CountsKept decoder count =
+    (cpu : ℕ) (fed : List ℕ) → Stands cpu decoder fed → count ≡ length (kept_of fed)

@@ -1,10 +1,13 @@
--- What the first 8 bytes of a block say, in a section header the first 12. Places are counted in bytes from 0.
-use Rattle.std.specs.Prelude.{◌≡◌, ℕ, ◌%◌, ◌≤◌, ⊤, Bool, true, false, ◌&&◌, ◌==◌, nat_le, nat_lt, if◌then◌else◌, List, length, Option, None, Some}
+-- What the first 8 bytes of a block say, in a section header the first 12. Places are counted in
+-- bytes from 0.
+use Rattle.std.specs.Prelude.{◌≡◌, ℕ, ◌%◌, ◌≤◌, ⊤, Bool, true, false, ◌&&◌, ◌==◌, nat_le, nat_lt}
+use Rattle.std.specs.Prelude.{if◌then◌else◌, List, length, Option, None, Some}
 use Rattle.pcapng_blocks.specs.declared.byte_order.Order.{Order}
 use Rattle.pcapng_blocks.specs.declared.byte_order.Order.TheVariants.{Little, Big}
 use Rattle.pcapng_blocks.specs.declared.error.BlockError.TheVariants.{BadMagic, BadLength}
 use Rattle.pcapng_blocks.specs.declared.heads.Kind.{Kind}
-use Rattle.pcapng_blocks.specs.declared.heads.Kind.TheVariants.{Section, Interface, Enhanced, Simple, Other}
+use Rattle.pcapng_blocks.specs.declared.heads.Kind.TheVariants.{Section, Interface, Enhanced}
+use Rattle.pcapng_blocks.specs.declared.heads.Kind.TheVariants.{Simple, Other}
 use Rattle.pcapng_blocks.specs.declared.heads.Head.{Head}
 use Rattle.pcapng_blocks.specs.declared.heads.Look.{Look}
 use Rattle.pcapng_blocks.specs.declared.heads.Look.TheVariants.{Short, Bad, Headed}
@@ -46,7 +49,8 @@ is_skipped Other = true
 -- a block may have this total length; one that is skipped may have more than 524,288 bytes
 abbrev pub length_fits : Kind → ℕ → Bool
 length_fits kind total =
-    (total % 4 == 0) && (nat_le (least kind) total && (if is_skipped kind then true else nat_le total 524288))
+    (total % 4 == 0)
+    && (nat_le (least kind) total && (if is_skipped kind then true else nat_le total 524288))
 
 -- the byte order that a section's magic says
 abbrev pub order_by_magic : List ℕ → Option Order
@@ -73,12 +77,14 @@ headed place kind (Some order) bytes =
 
 abbrev pub look_as : Kind → Order → ℕ → List ℕ → Look
 look_as kind order place bytes =
-    if nat_lt (length bytes) (head_size kind) then Short else headed place kind (order_of kind order bytes) bytes
+    if nat_lt (length bytes) (head_size kind) then Short
+    else headed place kind (order_of kind order bytes) bytes
 
 -- what the bytes from a place on begin with, in a section of this byte order
 unfoldable pub look_at : Order → ℕ → List ℕ → Look
 look_at order place bytes =
-    if nat_lt (length bytes) 8 then Short else look_as (kind_of (number_at order 4 0 bytes)) order place bytes
+    if nat_lt (length bytes) 8 then Short
+    else look_as (kind_of (number_at order 4 0 bytes)) order place bytes
 
 -- a headed block has at least the least total length of its kind, which has at least 12
 pub record IsHead (head : Head) : Type 0 where

@@ -1,5 +1,7 @@
 -- An interface of a section, and the moments that its time stamps say.
-use Rattle.std.specs.Prelude.{ℕ, zero, suc, ◌+◌, ◌-◌, ◌*◌, ◌/◌, ◌%◌, ◌^◌, min, Bool, true, false, ◌&&◌, ◌==◌, nat_lt, if◌then◌else◌, List, length, take, drop, slice_index}
+use Rattle.std.specs.Prelude.{ℕ, zero, suc, ◌+◌, ◌-◌, ◌*◌, ◌/◌, ◌%◌, ◌^◌, min, Bool, true, false}
+use Rattle.std.specs.Prelude.{◌&&◌, ◌==◌, nat_lt, if◌then◌else◌, List, length, take, drop}
+use Rattle.std.specs.Prelude.{slice_index}
 use Rattle.pcapng_blocks.specs.declared.byte_order.Order.{Order}
 use Rattle.pcapng_blocks.specs.declared.interfaces.Interface.{Interface}
 use Rattle.pcapng_blocks.specs.Numbers.{number_at, padded}
@@ -15,14 +17,16 @@ begins_option order bytes =
 -- the time resolution after the first of these options (if_tsresol is option 9 and has one byte)
 abbrev pub resolution_after : Order → ℕ → List ℕ → ℕ
 resolution_after order so_far bytes =
-    if (number_at order 2 0 bytes == 9) && (number_at order 2 2 bytes == 1) then slice_index bytes 4 else so_far
+    if (number_at order 2 0 bytes == 9) && (number_at order 2 2 bytes == 1) then slice_index bytes 4
+    else so_far
 
 -- the last time resolution of options, at most so many
 unfoldable pub resolution_within : ℕ → Order → ℕ → List ℕ → ℕ
 resolution_within zero order so_far bytes = so_far
 resolution_within (suc most) order so_far bytes =
     if begins_option order bytes
-    then resolution_within most order (resolution_after order so_far bytes) (drop (4 + padded (number_at order 2 2 bytes)) bytes)
+    then resolution_within most order (resolution_after order so_far bytes)
+    (drop (4 + padded (number_at order 2 2 bytes)) bytes)
     else so_far
 
 -- the last time resolution of the options; without one it is `so_far`
@@ -36,13 +40,15 @@ interface_of order block = record {
   resolution = resolution_of order 6 (drop 16 (take (length block - 4) block));
 }
 
--- the nanoseconds of a time stamp: with the low seven bits k, its unit is 10^-k seconds, or 2^-k with the top bit
+-- the nanoseconds of a time stamp: with the low seven bits k, its unit is 10^-k seconds, or 2^-k
+-- with the top bit
 unfoldable pub nanoseconds : ℕ → ℕ → ℕ
 nanoseconds resolution stamp =
     if nat_lt resolution 128 then stamp * 1000000000 / 10 ^ resolution
     else stamp * 1000000000 / 2 ^ (resolution - 128)
 
--- the seconds of a number of nanoseconds, as far as 32 bits go, and the nanoseconds beyond whole seconds
+-- the seconds of a number of nanoseconds, as far as 32 bits go, and the nanoseconds beyond whole
+-- seconds
 abbrev pub seconds : ℕ → ℕ
 seconds nanos = min (nanos / 1000000000) 4294967295
 

@@ -2,7 +2,8 @@
 use Rattle.std.specs.Prelude.{◌≡◌, ℕ, ◌^◌, ◌<◌, ◌≤◌, length, All, None}
 use Rattle.frame_view.specs.declared.frames.Frame.{Frame}
 
--- frame number `index` of the capture of a CPU: a time within its second, and no more bytes than were on the wire, nor more than 262,144
+-- frame number `index` of the capture of a CPU: a time within its second, and no more bytes than
+-- were on the wire, nor more than 262,144
 pub record IsPacketFrame (number index : ℕ) (frame : Frame) : Type 0 where
   pub cpu : frame.cpu ≡ number
   pub place : frame.index ≡ index

@@ -1,6 +1,8 @@
 //! What a whole block says.
 ghost use Rattle.std.specs.Prelude.{◌≡◌, ◌+◌, ◌≤◌, length, IfOk};
-ghost use Rattle.pcapng_blocks.specs.Bodies.{meaning_of, body_of, enhanced, simple, packet_by, packet_of, simple_size, captured_fits, frame_of, IsWithin};
+ghost use Rattle.pcapng_blocks.specs.Bodies.{meaning_of, body_of, enhanced, simple, packet_by};
+ghost use Rattle.pcapng_blocks.specs.Bodies.{packet_of, simple_size, captured_fits, frame_of};
+ghost use Rattle.pcapng_blocks.specs.Bodies.{IsWithin};
 ghost use Rattle.pcapng_blocks.specs.Heads.{least, IsHead};
 
 use crate::heads::{Head, Kind};

@@ -1,8 +1,8 @@
 //! A pcapng capture that comes in pieces.
 //!
-//! A feed completes the block of which bytes are kept, reads the further whole blocks of the piece where they lie, and
-//! keeps what is after them. Of a block that is skipped no body is kept: its bytes are counted, and its tail is compared
-//! when it comes. A failed test ends it all.
+//! A feed completes the block of which bytes are kept, reads the further whole blocks of the piece
+//! where they lie, and keeps what is after them. Of a block that is skipped no body is kept: its
+//! bytes are counted, and its tail is compared when it comes. A failed test ends it all.
 ghost use Rattle.std.specs.Prelude.{◌≡◌, ◌≤◌, [], IfOk, OnErr};
 
 use crate::BlockError;
@@ -16,9 +16,10 @@ use std::marker::Model;
 /// The number of bytes of a capture that count.
 const LARGEST_CAPTURE: usize = 33_554_432;
 
-/// Reads a pcapng capture that is fed piece by piece, however it is cut; its first bytes are those of a section header.
-/// That no more than the first 33,554,432 bytes count, no more than 262,144 bytes of a packet and no more than 524,288
-/// of a block that is read, is this project's own choice.
+/// Reads a pcapng capture that is fed piece by piece, however it is cut; its first bytes are those
+/// of a section header. That no more than the first 33,554,432 bytes count, no more than 262,144
+/// bytes of a packet and no more than 524,288 of a block that is read, is this project's own
+/// choice.
 #[derive(Debug, Drop)]
 pub struct BlockDecoder {
     /// Gives the memory for the frames.
@@ -46,7 +47,8 @@ impl Model for BlockDecoder {
 }
 
 impl BlockDecoder {
-    ghost use Rattle.pcapng_blocks.specs.Decoding.{Stands, StandsOn, AppendsNew, IsDamage, IsEnd, CountsKept};
+    ghost use Rattle.pcapng_blocks.specs.Decoding.{Stands, StandsOn, AppendsNew, IsDamage, IsEnd};
+    ghost use Rattle.pcapng_blocks.specs.Decoding.{CountsKept};
 
     /// A decoder that nothing was fed to. It takes no memory.
     pub fn new(alloc: Global, cpu: u32) -> BlockDecoder
@@ -70,9 +72,9 @@ impl BlockDecoder {
         }
     }
 
-    /// Takes the next bytes of the capture, appends the frames that are whole now, and gives the capture's damage, if
-    /// there is any. After damage every call gives the same and appends nothing. After `Memory` the decoder and `into`
-    /// are as before the call.
+    /// Takes the next bytes of the capture, appends the frames that are whole now, and gives the
+    /// capture's damage, if there is any. After damage every call gives the same and appends
+    /// nothing. After `Memory` the decoder and `into` are as before the call.
     pub fn feed(&mut self, piece: &[u8], into: &mut Frames) -> Result<Option<BlockError>, Memory>
         // The decoder stands for all bytes that it was fed.
         ensures stands { IfOk result (λ damage. StandsOn self.old self.new piece.now) }
@@ -118,16 +120,16 @@ impl BlockDecoder {
         Ok(None)
     }
 
-    /// How the capture ends where nothing more comes: its damage, or `Truncated` with the place of the block that isn't
-    /// whole. It takes no memory.
+    /// How the capture ends where nothing more comes: its damage, or `Truncated` with the place of
+    /// the block that isn't whole. It takes no memory.
     pub fn end(&self) -> Result<(), BlockError>
         ensures { IsEnd self.now result }
     {
         self.stage.end(self.cursor.stop, self.held.kept.is_empty())
     }
 
-    /// The number of bytes that are kept: those after the last whole block, at most 3 of a block that is skipped, none
-    /// after damage. It takes no memory.
+    /// The number of bytes that are kept: those after the last whole block, at most 3 of a block
+    /// that is skipped, none after damage. It takes no memory.
     pub fn rest(&self) -> u32
         ensures kept { CountsKept self.now result }
         ensures few { result ≤ 524287 }

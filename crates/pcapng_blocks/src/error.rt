@@ -1,6 +1,7 @@
 //! What can be wrong with the blocks of a capture.
 
-/// What is wrong with the blocks of a capture, each place counted in bytes from the capture's start.
+/// What is wrong with the blocks of a capture, each place counted in bytes from the capture's
+/// start.
 #[derive(Clone, Copy, Debug, PartialEq, Eq)]
 pub enum BlockError {
     /// A section header's byte-order magic is 0x1a2b3c4d in neither byte order.

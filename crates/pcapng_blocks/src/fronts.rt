@@ -19,7 +19,8 @@ pub(crate) enum Front {
     Block(Head, Meaning),
 }
 
-/// What bytes begin with at a place of a capture, in a section of this byte order with these interfaces.
+/// What bytes begin with at a place of a capture, in a section of this byte order with these
+/// interfaces.
 #[tactic(auto, unfolding(crate::specs::Blocks::front_of))]
 pub(crate) fn front_of(order: Order, interfaces: &[Interface], place: usize, bytes: &[u8]) -> Front
     ensures front { result ≡ front_of order interfaces.now place bytes.now }

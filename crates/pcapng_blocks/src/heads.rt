@@ -1,6 +1,7 @@
 //! What the first bytes of a block say: its type, its byte order and its total length.
 ghost use Rattle.std.specs.Prelude.{◌≡◌, ◌+◌, ◌≤◌, length};
-ghost use Rattle.pcapng_blocks.specs.Heads.{kind_of, head_size, least, is_skipped, length_fits, order_by_magic, order_of, look_at, HasTotal};
+ghost use Rattle.pcapng_blocks.specs.Heads.{kind_of, head_size, least, is_skipped, length_fits};
+ghost use Rattle.pcapng_blocks.specs.Heads.{order_by_magic, order_of, look_at, HasTotal};
 
 use crate::{BlockError, Order};
 

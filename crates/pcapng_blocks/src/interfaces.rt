@@ -1,6 +1,7 @@
 //! An interface of a section, and the moments that its time stamps say.
 ghost use Rattle.std.specs.Prelude.{◌≡◌, ◌+◌, ◌*◌, ◌^◌, ◌<◌, ◌≤◌, ◌/◌, length, drop};
-ghost use Rattle.pcapng_blocks.specs.Interfaces.{begins_option, resolution_after, resolution_of, interface_of, nanoseconds};
+ghost use Rattle.pcapng_blocks.specs.Interfaces.{begins_option, resolution_after, resolution_of};
+ghost use Rattle.pcapng_blocks.specs.Interfaces.{interface_of, nanoseconds};
 ghost use Rattle.pcapng_blocks.specs.Numbers.{padded, number_at};
 
 use crate::Order;
@@ -19,8 +20,8 @@ const SECOND: u128 = 1_000_000_000;
 pub(crate) struct Interface {
     /// The most bytes of a packet that were captured; 0 is no limit.
     pub snaplen: u32,
-    /// The unit of its time stamps, as if_tsresol says it: with the low seven bits k, 10 to the -k seconds, or 2 to
-    /// the -k seconds where the top bit is set.
+    /// The unit of its time stamps, as if_tsresol says it: with the low seven bits k, 10 to the -k
+    /// seconds, or 2 to the -k seconds where the top bit is set.
     pub resolution: u8,
 }
 

@@ -1,8 +1,10 @@
 //! Laws of pcapng captures, for callers: each function does nothing, and its contract is the law.
-ghost use Rattle.std.specs.Prelude.{◌≡◌, ◌≢◌, ℕ, ◌+◌, ◌*◌, ◌<◌, ◌≤◌, List, ◌++◌, length, slice_get, All, Some, IsTrue, IsSome, IfSome};
+ghost use Rattle.std.specs.Prelude.{◌≡◌, ◌≢◌, ℕ, ◌+◌, ◌*◌, ◌<◌, ◌≤◌, List, ◌++◌, length, slice_get};
+ghost use Rattle.std.specs.Prelude.{All, Some, IsTrue, IsSome, IfSome};
 ghost use Rattle.std.specs.List.{sum_by};
 ghost use Rattle.frame_view.specs.declared.frames.Frame.{Frame};
-ghost use Rattle.pcapng_blocks.specs.Capture.{counted, frames_of, damage_of, stop_of, end_of, is_skipping};
+ghost use Rattle.pcapng_blocks.specs.Capture.{counted, frames_of, damage_of, stop_of, end_of};
+ghost use Rattle.pcapng_blocks.specs.Capture.{is_skipping};
 ghost use Rattle.pcapng_blocks.specs.Numbers.{number_at};
 ghost use Rattle.pcapng_blocks.specs.declared.byte_order.Order.TheVariants.{Little};
 ghost use Rattle.pcapng_blocks.specs.Decoding.{kept_of};
@@ -35,15 +37,15 @@ pub fn too_many_bytes_are_damage()
     ensures { (fed : List ℕ) → 33554432 < length fed → IsSome (damage_of fed) }
 {}
 
-/// Frames are numbered from 0, carry the number of their CPU and have no tag. Each has a time within its second, and
-/// no more bytes than were on the wire, nor more than 262,144.
+/// Frames are numbered from 0, carry the number of their CPU and have no tag. Each has a time
+/// within its second, and no more bytes than were on the wire, nor more than 262,144.
 pub fn frames_are_packets()
     ensures { (cpu index : ℕ) (fed : List ℕ) →
         IfSome (slice_get (frames_of cpu fed) index) (IsPacketFrame cpu index) }
 {}
 
-/// Each frame has at least 16 bytes of the capture before its stop, and together they have no more bytes than that. A
-/// capture that begins with a section header has at most 2,097,150 frames.
+/// Each frame has at least 16 bytes of the capture before its stop, and together they have no more
+/// bytes than that. A capture that begins with a section header has at most 2,097,150 frames.
 pub fn frames_are_few()
     ensures count { (cpu : ℕ) (fed : List ℕ) → 16 * length (frames_of cpu fed) ≤ stop_of fed }
     ensures few { (cpu : ℕ) (fed : List ℕ) → number_at Little 4 0 (counted fed) ≡ 0x0a0d0d0a
@@ -53,8 +55,8 @@ pub fn frames_are_few()
     ensures stop { (fed : List ℕ) → stop_of fed ≤ length fed }
 {}
 
-/// What is kept of a capture is no more than its bytes from the stop on; in a block that is skipped it is at most 3
-/// bytes, and after damage none.
+/// What is kept of a capture is no more than its bytes from the stop on; in a block that is skipped
+/// it is at most 3 bytes, and after damage none.
 pub fn few_bytes_are_kept()
     ensures after { (fed : List ℕ) → stop_of fed + length (kept_of fed) ≤ length fed }
     ensures skipped { (fed : List ℕ) → IsTrue (is_skipping fed) → length (kept_of fed) ≤ 3 }

@@ -1,10 +1,14 @@
-//! Blocks read from bytes, in one pass. The first block of a feed is completed in the kept bytes, those after it are
-//! read where they lie, and of what is left only as much is kept as its block needs: of one that is skipped, the tail.
-ghost use Rattle.std.specs.Prelude.{◌≡◌, ◌+◌, ◌*◌, ◌-◌, ◌≤◌, ◌<◌, ℕ, List, ⊤, [], ◌++◌, false, true, length, take, drop, Some, IfOk, OnOk, OnErr, IfSome, MatchOption, MatchResult};
+//! Blocks read from bytes, in one pass. The first block of a feed is completed in the kept bytes,
+//! those after it are read where they lie, and of what is left only as much is kept as its block
+//! needs: of one that is skipped, the tail.
+ghost use Rattle.std.specs.Prelude.{◌≡◌, ◌+◌, ◌*◌, ◌-◌, ◌≤◌, ◌<◌, ℕ, List, ⊤, [], ◌++◌, false};
+ghost use Rattle.std.specs.Prelude.{true, length, take, drop, Some, IfOk, OnOk, OnErr, IfSome};
+ghost use Rattle.std.specs.Prelude.{MatchOption, MatchResult};
 ghost use Rattle.pcapng_blocks.specs.Heads.{look_at, is_skipped, IsHead};
 ghost use Rattle.pcapng_blocks.specs.Bodies.{IsWithin, frames_in, meaning_of};
 ghost use Rattle.pcapng_blocks.specs.Blocks.{spot_after, split_from, HasBlock};
-ghost use Rattle.pcapng_blocks.specs.Reading.{spot_of, waiting, rest_in, Comes, IsSkipping, IsSkip, IsPart, IsKept, StaysSound, Extends, Feeds, IsReadTo};
+ghost use Rattle.pcapng_blocks.specs.Reading.{spot_of, waiting, rest_in, Comes, IsSkipping, IsSkip};
+ghost use Rattle.pcapng_blocks.specs.Reading.{IsPart, IsKept, StaysSound, Extends, Feeds, IsReadTo};
 ghost use Rattle.pcapng_blocks.specs.declared.heads.Look.TheVariants.{Headed};
 ghost use Rattle.pcapng_blocks.specs.declared.stage.Stage.TheVariants.{Blocks};
 
@@ -77,8 +81,8 @@ pub(crate) struct Reader {
 }
 
 impl Reader {
-    /// Reads on in a capture at a stage. Frames, bytes and interfaces are only appended, so that what was there can
-    /// be restored after `Memory`.
+    /// Reads on in a capture at a stage. Frames, bytes and interfaces are only appended, so that
+    /// what was there can be restored after `Memory`.
     pub(crate) fn read_on(
         self,
         stage: Stage,
@@ -113,7 +117,8 @@ impl Reader {
         }
     }
 
-    /// Reads on where the kept bytes are a part of a block: that block, and then the piece after it.
+    /// Reads on where the kept bytes are a part of a block: that block, and then the piece after
+    /// it.
     fn go_on(
         self,
         cursor: Cursor,
@@ -213,7 +218,8 @@ impl Reader {
         }
     }
 
-    /// Reads on in a block that is skipped, of whose tail the bytes from `cut` on are kept, and then what is after it.
+    /// Reads on in a block that is skipped, of whose tail the bytes from `cut` on are kept, and
+    /// then what is after it.
     fn skip_on(
         self,
         cursor: Cursor,
@@ -267,7 +273,8 @@ impl Reader {
         self.read_fresh(Cursor { stop, ..cursor }, fresh, held, into)
     }
 
-    /// Reads the blocks of fresh bytes, of which none is kept, and keeps what is needed of those after them.
+    /// Reads the blocks of fresh bytes, of which none is kept, and keeps what is needed of those
+    /// after them.
     fn read_fresh(
         self,
         cursor: Cursor,
@@ -400,7 +407,8 @@ impl Reader {
     }
 }
 
-/// Keeps what is needed of the bytes after the last block, which are a part of one, and says what comes next.
+/// Keeps what is needed of the bytes after the last block, which are a part of one, and says what
+/// comes next.
 fn keep_rest(cursor: Cursor, left: &[u8], kept: &mut Vec<u8>) -> Result<Stage, Memory>
     ensures stage { IfOk result (λ stage.
         stage ≡ waiting (look_at cursor.order cursor.stop left.now) left.now) }
@@ -422,7 +430,8 @@ fn keep_rest(cursor: Cursor, left: &[u8], kept: &mut Vec<u8>) -> Result<Stage, M
     }
 }
 
-/// Appends bytes of the piece to the kept ones until there are `size`, and gives the bytes after those.
+/// Appends bytes of the piece to the kept ones until there are `size`, and gives the bytes after
+/// those.
 fn top_up<'a>(kept: &mut Vec<u8>, size: usize, piece: &'a [u8]) -> Result<&'a [u8], Memory>
     ensures kept { OnOk result
         (kept.new.items ≡ kept.old.items ++ take (size - length kept.old.items) piece.now) }

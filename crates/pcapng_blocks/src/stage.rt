@@ -39,7 +39,8 @@ impl Stage {
         }
     }
 
-    /// How a capture ends at this stage, where its last whole block ends at `stop`, and no byte is after it or some.
+    /// How a capture ends at this stage, where its last whole block ends at `stop`, and no byte is
+    /// after it or some.
     pub(crate) fn end(self, stop: usize, none_after: bool) -> Result<(), BlockError>
         ensures { result_err result ≡ end_at self stop none_after }
     {

@@ -1,6 +1,7 @@
 -- What a ring notes where its reader has released a known number of blocks, so that each look has
 -- one answer.
-use Rattle.std.specs.Prelude.{ℕ, ◌-◌, Bool, true, false, ◌||◌, List, [], ◌∷◌, nat_lt, if◌then◌else◌, Option, None, Some}
+use Rattle.std.specs.Prelude.{ℕ, ◌-◌, Bool, true, false, ◌||◌, List, [], ◌∷◌, nat_lt, if◌then◌else◌}
+use Rattle.std.specs.Prelude.{Option, None, Some}
 use Rattle.ring_model.specs.Sizes.{need_of, fits}
 use Rattle.ring_model.specs.Ring.{Size, State, next_number}
 use Rattle.ring_model.specs.declared.notes.Offer.{Offer}

@@ -3,7 +3,8 @@ use Rattle.std.specs.Prelude.{ℕ, ◌+◌, List, [], ◌∷◌, ◌++◌, sum_b
 use Rattle.ring_model.specs.Ring.{Size, State, after, first_state}
 use Rattle.ring_model.specs.declared.notes.Offer.{Offer}
 use Rattle.ring_model.specs.declared.notes.Note.{Note}
-use Rattle.ring_model.specs.declared.notes.Note.TheVariants.{Kept, Refused, Dropped, Ticked, Counted, Finished}
+use Rattle.ring_model.specs.declared.notes.Note.TheVariants.{Kept, Refused, Dropped, Ticked}
+use Rattle.ring_model.specs.declared.notes.Note.TheVariants.{Counted, Finished}
 use Rattle.ring_model.specs.declared.notes.Stats.{Stats}
 
 -- the offers that were kept, in order

@@ -1,5 +1,6 @@
 -- The offer that an arrival makes, and the packet that an offer becomes.
-use Rattle.std.specs.Prelude.{ℕ, ◌-◌, ◌<◌, ◌≤◌, Bool, List, length, take, if◌then◌else◌, IfSome, IsTrue, Option}
+use Rattle.std.specs.Prelude.{ℕ, ◌-◌, ◌<◌, ◌≤◌, Bool, List, length, take, if◌then◌else◌, IfSome}
+use Rattle.std.specs.Prelude.{IsTrue, Option}
 use Rattle.frame_view.specs.Headers.{address_of, packet_type_of, protocol_of}
 use Rattle.frame_view.specs.Vlan.{is_tpid}
 use Rattle.frame_view.specs.declared.frames.Frame.{Frame}

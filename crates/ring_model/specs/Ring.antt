@@ -1,11 +1,14 @@
 -- The ring as a machine of notes. Times are in milliseconds, block numbers count from 1.
-use Rattle.std.specs.Prelude.{◌≡◌, ℕ, ◌+◌, ◌<◌, ◌≤◌, ◌≢◌, ◌⊎◌, Bool, true, false, List, [], ◌∷◌, ◌++◌, length, nat_lt, ◌==◌, if◌then◌else◌, IsTrue, IsFalse, Option, None, Some}
+use Rattle.std.specs.Prelude.{◌≡◌, ℕ, ◌+◌, ◌<◌, ◌≤◌, ◌≢◌, ◌⊎◌, Bool, true, false, List, [], ◌∷◌}
+use Rattle.std.specs.Prelude.{◌++◌, length, nat_lt, ◌==◌, if◌then◌else◌, IsTrue, IsFalse, Option}
+use Rattle.std.specs.Prelude.{None, Some}
 use Rattle.ring_model.specs.Sizes.{need_of, fits}
 use Rattle.ring_model.specs.declared.notes.Offer.{Offer}
 use Rattle.ring_model.specs.declared.notes.Found.{Found}
 use Rattle.ring_model.specs.declared.notes.Found.TheVariants.{NotAsked, Free, Held}
 use Rattle.ring_model.specs.declared.notes.Note.{Note}
-use Rattle.ring_model.specs.declared.notes.Note.TheVariants.{Kept, Refused, Dropped, Ticked, Counted, Finished}
+use Rattle.ring_model.specs.declared.notes.Note.TheVariants.{Kept, Refused, Dropped, Ticked}
+use Rattle.ring_model.specs.declared.notes.Note.TheVariants.{Counted, Finished}
 
 -- what a ring is made of: the bytes of a block that are for packets, the number of blocks, the
 -- time-out

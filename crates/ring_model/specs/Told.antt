@@ -16,7 +16,8 @@ WasHeld NotAsked P = Unit {0}
 WasHeld Free P = Unit {0}
 WasHeld (Held number) P = P
 
--- how often a call found that a block or slot was still the reader's: once at most, and only where this is what it found
+-- how often a call found that a block or slot was still the reader's: once at most, and only where
+-- this is what it found
 abbrev pub CountsHeld : Found → ℕ → ℕ → Type 0
 CountsHeld NotAsked before after = after ≡ before
 CountsHeld Free before after = after ≡ before

@@ -6,8 +6,8 @@ ghost use Rattle.ring_model.specs.Told.{put_told, try_told};
 use crate::sizes::need;
 use crate::{Found, Note, Offer, Put, Tried};
 
-/// The note of a packet that was put, and what the put reports: the packet is dropped where the ring found the next
-/// block or slot still with the reader. The snap length is at most 1,048,576.
+/// The note of a packet that was put, and what the put reports: the packet is dropped where the
+/// ring found the next block or slot still with the reader. The snap length is at most 1,048,576.
 pub fn noted_put(offer: Offer, found: Found) -> (Note, Put)
     requires { offer.snap ≤ 1048576 }
     ensures note { result.0 ≡ put_by offer found }
@@ -27,8 +27,9 @@ pub fn noted_put(offer: Offer, found: Found) -> (Note, Put)
     }
 }
 
-/// The note of a packet that was tried, and what the try reports: the packet is handed back where the ring found the
-/// next block or slot still with the reader. The snap length is at most 1,048,576.
+/// The note of a packet that was tried, and what the try reports: the packet is handed back where
+/// the ring found the next block or slot still with the reader. The snap length is at most
+/// 1,048,576.
 pub fn noted_try(offer: Offer, found: Found) -> (Note, Tried)
     requires { offer.snap ≤ 1048576 }
     ensures note { result.0 ≡ try_by offer found }

@@ -3,7 +3,8 @@
 ghost use Rattle.std.specs.Prelude.{◌≡◌, ◌+◌, ◌<◌, ◌≤◌, ◌^◌, ◌++◌, List, Option, IfOk, OnOk};
 ghost use Rattle.ring_model.specs.Fates.{counts_of, totals_of};
 ghost use Rattle.ring_model.specs.Ledgers.{Counts, open_of, plus, taken_at, with_taken};
-ghost use Rattle.ring_model.specs.Ring.{AtEachSize, State, after, after_drop, after_due, first_state, with_offer};
+ghost use Rattle.ring_model.specs.Ring.{AtEachSize, State, after, after_drop, after_due};
+ghost use Rattle.ring_model.specs.Ring.{first_state, with_offer};
 ghost use Rattle.ring_model.specs.declared.notes.Note.TheVariants as notes;
 ghost use Rattle.ring_model.specs.declared.notes.Offer.{Offer};
 

@@ -28,7 +28,8 @@ entries_of bytes blocks = map (λ one. (bytes one.0, one.1)) blocks
 -- blocks may stand retired under their statuses and the numbers that follow this one
 abbrev pub AreReadyAfter : {B : Type 0} → (B → ℕ → ℕ → Type 0) → ℕ → List (B × ℕ) → Type 0
 AreReadyAfter ready number [] = Unit {0}
-AreReadyAfter ready number (one ∷ rest) = ready one.0 (number + 1) one.1 × AreReadyAfter ready (number + 1) rest
+AreReadyAfter ready number (one ∷ rest) =
+    ready one.0 (number + 1) one.1 × AreReadyAfter ready (number + 1) rest
 
 -- what a seat that knew both ends' sides has left
 abbrev pub pends_of : {B : Type 0} → Holder B → List (B × ℕ) → Pends B
@@ -42,7 +43,8 @@ pends_of me left = record {
 }
 
 -- the pending blocks are the last that were retired, of the ring's kind, and may stand so
-pub record IsLeft {B : Type 0} (bytes kind_of : B → List ℕ) (ready : B → ℕ → ℕ → Type 0) (pends : Pends B) : Type 0 where
+pub record IsLeft {B : Type 0} (bytes kind_of : B → List ℕ) (ready : B → ℕ → ℕ → Type 0)
+    (pends : Pends B) : Type 0 where
   pub last : drop pends.passed pends.retired ≡ entries_of bytes pends.blocks
   pub count : pends.passed + length pends.blocks ≡ length pends.retired
   pub same_kind : AllByRecursion (λ one. kind_of one.0 ≡ pends.kind) pends.blocks

@@ -1,5 +1,6 @@
 -- A ring on one thread, in plain data.
-use Rattle.std.specs.Prelude.{◌≡◌, ℕ, ◌+◌, ◌^◌, ◌<◌, ◌≤◌, Bool, List, [], ◌∷◌, ◌++◌, map, length, replicate, nat_lt, if◌then◌else◌, None, Some}
+use Rattle.std.specs.Prelude.{◌≡◌, ℕ, ◌+◌, ◌^◌, ◌<◌, ◌≤◌, Bool, List, [], ◌∷◌, ◌++◌, map, length}
+use Rattle.std.specs.Prelude.{replicate, nat_lt, if◌then◌else◌, None, Some}
 use Rattle.std.specs.List.{AllByRecursion}
 use Rattle.atomic_table.specs.Seated.{TableId}
 use Rattle.ring_words.specs.Rings.{Entry, Feed, IsMark, IsStatus, Ring, Walk}
@@ -17,7 +18,8 @@ pub record PlainState : Type 0 where
   pub released : ℕ
   -- the retired blocks that weren't taken, by number
   pub shown : List Entry
-  -- the words of the free blocks, by number, and what these blocks hold; a ring that is closing has given them up
+  -- the words of the free blocks, by number, and what these blocks hold; a ring that is closing has
+  -- given them up
   pub marks : List ℕ
   pub contents : List (List ℕ)
   -- how many looks of the feeder found no free block, and how many of the reader no retired one
@@ -84,8 +86,9 @@ walk_of state = record {
   waiting = Some (length state.shown);
 }
 
--- who owns which block of a ring: of the numbers from `released` on, first comes the reader's block in hand, then
--- those that wait for it, then the feeder's in hand, then the free ones, up to one round
+-- who owns which block of a ring: of the numbers from `released` on, first comes the reader's block
+-- in hand, then those that wait for it, then the feeder's in hand, then the free ones, up to one
+-- round
 pub record IsOwned (state : PlainState) : Type 0 where
   pub one_in_hand : (state.released ≤ state.taken) × (state.taken ≤ state.released + 1)
   pub waiting : state.taken + length state.shown ≡ state.retired
@@ -107,7 +110,8 @@ pub record Took (before after : PlainState) (content : List ℕ) : Type 0 where
     contents = after.contents;
   }
 
--- the feeder was given the first free block, which holds this, and this is the word that stood at its place
+-- the feeder was given the first free block, which holds this, and this is the word that stood at
+-- its place
 pub record FoundFree (before after : PlainState) (content : List ℕ) (mark : ℕ) : Type 0 where
   pub block : before.contents ≡ content ∷ after.contents
   pub word : before.marks ≡ mark ∷ after.marks
@@ -121,7 +125,9 @@ pub record FoundFree (before after : PlainState) (content : List ℕ) (mark : �
 pub record GaveBack (before after : PlainState) (mark : ℕ) : Type 0 where
   pub released : after.released ≡ before.released + 1
   pub stored : after.marks ≡ before.marks ++ mark ∷ []
-  pub rest : after ≡ record before { released = after.released; marks = after.marks; contents = after.contents }
+  pub rest :
+      after
+      ≡ record before { released = after.released; marks = after.marks; contents = after.contents }
 
 -- and it stands there with this content
 pub record PutBack (before after : PlainState) (content : List ℕ) (mark : ℕ) : Type 0 where
@@ -132,10 +138,12 @@ pub record PutBack (before after : PlainState) (content : List ℕ) (mark : ℕ)
 abbrev pub Stays : PlainState → PlainState → Type 0
 Stays before after = after ≡ record before { empties = after.empties }
 
--- blocks that wait may stand retired under their numbers, of which the first is this, and their statuses
+-- blocks that wait may stand retired under their numbers, of which the first is this, and their
+-- statuses
 abbrev pub AreReady : {B : Type 0} → (B → ℕ → ℕ → Type 0) → ℕ → List (Filled B) → Type 0
 AreReady ready number [] = Unit {0}
-AreReady ready number (filled ∷ rest) = ready filled.block number filled.status × AreReady ready (number + 1) rest
+AreReady ready number (filled ∷ rest) =
+    ready filled.block number filled.status × AreReady ready (number + 1) rest
 
 abbrev pub entries_of : {B : Type 0} → (B → List ℕ) → List (Filled B) → List Entry
 entries_of bytes blocks = map (λ filled. (bytes filled.block, filled.status)) blocks

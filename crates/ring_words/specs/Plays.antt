@@ -1,5 +1,6 @@
 -- What each step on the table of a ring shows the end that makes it.
-use Rattle.std.specs.Prelude.{◌≡◌, ℕ, ◌+◌, ◌/◌, ◌%◌, ◌^◌, ◌<◌, ◌≤◌, List, [], ◌∷◌, ◌++◌, length, take, Option, Some, None}
+use Rattle.std.specs.Prelude.{◌≡◌, ℕ, ◌+◌, ◌/◌, ◌%◌, ◌^◌, ◌<◌, ◌≤◌, List, [], ◌∷◌, ◌++◌, length}
+use Rattle.std.specs.Prelude.{take, Option, Some, None}
 use Rattle.atomic_table.specs.Table.{Me, Step, rest}
 use Rattle.ring_words.specs.Rings.{Entry, IsMark, IsStatus}
 use Rattle.ring_words.specs.declared.known.Known.{Known}
@@ -16,15 +17,19 @@ entry_of bytes status ((place, Some block) ∷ slots) = (bytes block, status) �
 
 module _ {B : Type 0} (bytes kind_of : B → List ℕ) (ready : B → ℕ → ℕ → Type 0) where
   -- the feeder looked at the next place, found a free block, and has it in hand
-  pub record FoundFree (step : Step (Option B)) (before : Holder B) (word : ℕ) (after : Holder B) : Type 0 where
+  pub record FoundFree (step : Step (Option B)) (before : Holder B) (word : ℕ) (after : Holder B)
+      : Type 0 where
     pub block : B
     pub hand : after.1 ≡ (step.word, Some block) ∷ before.1
     pub same_kind : kind_of block ≡ before.0.kind
     pub mark : IsMark word
-    pub known : after.0 ≡ record before.0 { given = before.0.given + 1; looks = before.0.looks ++ word ∷ [] }
+    pub known :
+        after.0
+        ≡ record before.0 { given = before.0.given + 1; looks = before.0.looks ++ word ∷ [] }
 
   -- it found the block of the reader's side that stands one round before
-  pub record FoundHeld (step : Step (Option B)) (before : Holder B) (word : ℕ) (after : Holder B) : Type 0 where
+  pub record FoundHeld (step : Step (Option B)) (before : Holder B) (word : ℕ) (after : Holder B)
+      : Type 0 where
     pub hand : after.1 ≡ before.1
     pub status : IsStatus (word % 256)
     pub opened : 0 < word / 256
@@ -32,12 +37,14 @@ module _ {B : Type 0} (bytes kind_of : B → List ℕ) (ready : B → ℕ → �
     pub known : after.0 ≡ record before.0 { looks = before.0.looks ++ word ∷ [] }
 
   -- the feeder looked at the next place
-  pub record Looks (step : Step (Option B)) (before : Holder B) (word : ℕ) (after : Holder B) : Type 0 where
+  pub record Looks (step : Step (Option B)) (before : Holder B) (word : ℕ) (after : Holder B)
+      : Type 0 where
     pub free : word % 2 ≡ 0 → FoundFree step before word after
     pub held : word % 2 ≡ 1 → FoundHeld step before word after
 
   -- the feeder stored number and status after the block that it put back at its place
-  pub record Stores (step : Step (Option B)) (before : Holder B) (word : ℕ) (after : Holder B) : Type 0 where
+  pub record Stores (step : Step (Option B)) (before : Holder B) (word : ℕ) (after : Holder B)
+      : Type 0 where
     pub hand : after.1 ≡ rest before.1
     -- how many looks the reader had made
     pub at : ℕ
@@ -47,7 +54,8 @@ module _ {B : Type 0} (bytes kind_of : B → List ℕ) (ready : B → ℕ → �
     }
 
   -- the reader looked at the next place, found a retired block, and has it in hand
-  pub record FoundNext (step : Step (Option B)) (before : Holder B) (word : ℕ) (after : Holder B) : Type 0 where
+  pub record FoundNext (step : Step (Option B)) (before : Holder B) (word : ℕ) (after : Holder B)
+      : Type 0 where
     pub block : B
     pub hand : after.1 ≡ (step.word, Some block) ∷ before.1
     pub same_kind : kind_of block ≡ before.0.kind
@@ -67,7 +75,8 @@ module _ {B : Type 0} (bytes kind_of : B → List ℕ) (ready : B → ℕ → �
     pub known : after.0 ≡ record before.0 { visits = before.0.visits ++ word ∷ [] }
 
   -- the reader looked at the next place
-  pub record Fetches (step : Step (Option B)) (before : Holder B) (word : ℕ) (after : Holder B) : Type 0 where
+  pub record Fetches (step : Step (Option B)) (before : Holder B) (word : ℕ) (after : Holder B)
+      : Type 0 where
     pub some : word % 2 ≡ 1 → FoundNext step before word after
     pub none : word % 2 ≡ 0 → FoundNone before word after
 
@@ -88,6 +97,7 @@ module _ {B : Type 0} (bytes kind_of : B → List ℕ) (ready : B → ℕ → �
     pub front : before.0.taken ≡ take (length before.0.taken) before.0.retired
 
   -- an end for both sides took the next block, without a test, and compared
-  pub record Drains (step : Step (Option B)) (before : Holder B) (word : ℕ) (after : Holder B) : Type 0 where
+  pub record Drains (step : Step (Option B)) (before : Holder B) (word : ℕ) (after : Holder B)
+      : Type 0 where
     pub next : FoundNext step before word after
     pub front : after.0.taken ≡ take (length after.0.taken) before.0.retired

@@ -1,5 +1,7 @@
--- What is said of a ring in plain data. Block numbers count from 1 in the order in which the feeder is given blocks.
-use Rattle.std.specs.Prelude.{◌≡◌, ℕ, ◌%◌, ◌<◌, ◌≤◌, Bool, List, [], ◌∷◌, ◌++◌, length, drop, Option, option_map}
+-- What is said of a ring in plain data. Block numbers count from 1 in the order in which the feeder
+-- is given blocks.
+use Rattle.std.specs.Prelude.{◌≡◌, ℕ, ◌%◌, ◌<◌, ◌≤◌, Bool, List, [], ◌∷◌, ◌++◌, length, drop}
+use Rattle.std.specs.Prelude.{Option, option_map}
 use Rattle.atomic_table.specs.Seated.{TableId}
 
 -- which ring an end belongs to, and what no call changes of it
@@ -31,7 +33,8 @@ pub record IsStatus (status : ℕ) : Type 0 where
 pub record Feed : Type 0 where
   -- the ring that it is an end of
   pub ring : Ring
-  -- how many blocks it was given so far, which is the number of the last one, and how many of them it retired
+  -- how many blocks it was given so far, which is the number of the last one, and how many of them
+  -- it retired
   pub given : ℕ
   pub retired : ℕ
   -- how many of its looks found a word of the reader's side; it may stand still at the greatest u64

@@ -1,5 +1,7 @@
 -- What the two ends of a ring between two threads tell.
-use Rattle.std.specs.Prelude.{◌≡◌, ℕ, zero, suc, ◌+◌, ◌-◌, ◌/◌, ◌%◌, ◌^◌, ◌<◌, ◌≤◌, Bool, true, false, List, [], ◌∷◌, ◌++◌, length, Option, None, Some, nat_eq, if◌then◌else◌}
+use Rattle.std.specs.Prelude.{◌≡◌, ℕ, zero, suc, ◌+◌, ◌-◌, ◌/◌, ◌%◌, ◌^◌, ◌<◌, ◌≤◌, Bool, true}
+use Rattle.std.specs.Prelude.{false, List, [], ◌∷◌, ◌++◌, length, Option, None, Some, nat_eq}
+use Rattle.std.specs.Prelude.{if◌then◌else◌}
 use Rattle.atomic_table.specs.Seated.{TableId}
 use Rattle.ring_words.specs.Looks.{StandsBefore}
 use Rattle.ring_words.specs.Plays.{Holder}
@@ -7,7 +9,8 @@ use Rattle.ring_words.specs.Rings.{Entry, Feed, IsMark, IsStatus, Ring, Walk}
 
 -- the feeder's end
 pub record Feeding : Type 0 where
-  -- the table that it is an end of, the number of its places, and what all its blocks have in common
+  -- the table that it is an end of, the number of its places, and what all its blocks have in
+  -- common
   pub id : TableId
   pub places : ℕ
   pub kind : List ℕ
@@ -20,7 +23,8 @@ pub record Feeding : Type 0 where
 
 -- the reader's end
 pub record Walking : Type 0 where
-  -- the table that it is an end of, the number of its places, and what all its blocks have in common
+  -- the table that it is an end of, the number of its places, and what all its blocks have in
+  -- common
   pub id : TableId
   pub places : ℕ
   pub kind : List ℕ
@@ -41,7 +45,8 @@ odd_count (word ∷ words) = word % 2 + odd_count words
 -- the numbers in those of these words that are odd
 abbrev pub found_in : List ℕ → List ℕ
 found_in [] = []
-found_in (word ∷ words) = (if nat_eq (word % 2) 1 then word / 256 ∷ found_in words else found_in words)
+found_in (word ∷ words) =
+    (if nat_eq (word % 2) 1 then word / 256 ∷ found_in words else found_in words)
 
 -- how many of these words are even, of the feeder's side
 abbrev pub even_count : List ℕ → ℕ
@@ -129,9 +134,10 @@ pub record FoundNumber (before after : Feeding) (number : ℕ) : Type 0 where
   pub holds : odd_count after.looks ≡ odd_count before.looks + 1
   pub found : found_in after.looks ≡ found_in before.looks ++ number ∷ []
 
--- a look of the reader found an odd word, with the next number and the status of this block, which may stand retired
--- under them
-pub record TookWord (ready : ℕ → ℕ → Type 0) (before after : Walking) (content : List ℕ) : Type 0 where
+-- a look of the reader found an odd word, with the next number and the status of this block, which
+-- may stand retired under them
+pub record TookWord (ready : ℕ → ℕ → Type 0) (before after : Walking) (content : List ℕ)
+    : Type 0 where
   pub word : ℕ
   pub odd : IsStatus (word % 256)
   pub number : word / 256 ≡ length before.taken + 1
@@ -163,8 +169,8 @@ pub record IsSeated (table seat : TableId) (places : ℕ) : Type 0 where
   pub some_places : 2 ≤ places
   pub few_places : places ≤ 65536
 
--- what the fields of the feeder's end keep: its counts are those that its seat knows, and the slots of the blocks in
--- hand are out
+-- what the fields of the feeder's end keep: its counts are those that its seat knows, and the slots
+-- of the blocks in hand are out
 pub record KeepsFeed {B : Type 0} (me : Holder B) (places given retired : ℕ) : Type 0 where
   pub feeds : me.0.feeds ≡ true
   pub count : me.0.given ≡ given

@@ -1,5 +1,6 @@
 //! A ring on one thread whose feeder is done: what waits is read, and what was read is dropped.
-ghost use Rattle.std.specs.Prelude.{◌≡◌, ◌+◌, ◌<◌, ◌≤◌, length, vec_capacity, IfOk, IfSome, IfNone, OnSome};
+ghost use Rattle.std.specs.Prelude.{◌≡◌, ◌+◌, ◌<◌, ◌≤◌, length, vec_capacity, IfOk, IfSome, IfNone};
+ghost use Rattle.std.specs.Prelude.{OnSome};
 ghost use Rattle.std.specs.VecDeque.{deque_capacity};
 ghost use Rattle.ring_words.specs.PlainRings.{marks_of};
 
@@ -11,8 +12,9 @@ use std::collections::VecDeque;
 use std::marker::Model;
 use std::snapshot::Snapshot;
 
-/// The reader's end of a ring on one thread whose feeder is done. Contracts see it as they see the ring. A block that
-/// is released is dropped, since nobody fills it again, so that its memory is there for what was read.
+/// The reader's end of a ring on one thread whose feeder is done. Contracts see it as they see the
+/// ring. A block that is released is dropped, since nobody fills it again, so that its memory is
+/// there for what was read.
 #[derive(Drop)]
 pub struct ClosingRing<B: Content + Drop> {
     /// The number of places.

@@ -1,9 +1,12 @@
-//! The two ends of a ring: the feeder fills blocks and retires them, the reader takes them and releases them.
+//! The two ends of a ring: the feeder fills blocks and retires them, the reader takes them and
+//! releases them.
 //!
-//! Each place of a ring has one status word. On the feeder's side it is an even mark below 256, on the reader's side
-//! the number of the block times 256 and the odd status that it was retired with (TP_STATUS_KERNEL and TP_STATUS_USER
-//! of `linux/if_packet.h` are 0 and 1; that a word has the block's number is this project's own choice).
-ghost use Rattle.std.specs.Prelude.{◌≡◌, ◌+◌, ◌<◌, ◌≤◌, ◌^◌, ℕ, true, false, List, [], ◌∷◌, ◌++◌, Some, IfSome, IfNone, OnSome};
+//! Each place of a ring has one status word. On the feeder's side it is an even mark below 256, on
+//! the reader's side the number of the block times 256 and the odd status that it was retired with
+//! (TP_STATUS_KERNEL and TP_STATUS_USER of `linux/if_packet.h` are 0 and 1; that a word has the
+//! block's number is this project's own choice).
+ghost use Rattle.std.specs.Prelude.{◌≡◌, ◌+◌, ◌<◌, ◌≤◌, ◌^◌, ℕ, true, false, List, [], ◌∷◌, ◌++◌};
+ghost use Rattle.std.specs.Prelude.{Some, IfSome, IfNone, OnSome};
 ghost use Rattle.ring_words.specs.Counts.{Rose};
 ghost use Rattle.ring_words.specs.Looks.{IfFree, IfHeld, OnFree, OnHeld, StandsBefore};
 ghost use Rattle.ring_words.specs.Rings.{Feed, IsMark, IsStatus, LeavesFeeder, Walk, and_found};
@@ -25,15 +28,17 @@ pub enum Next<B> {
 
 /// The feeder's end of a ring.
 pub trait FeederEnd<B: Content> {
-    // What the end reports of its ring, of the blocks that it was given and retired, and of what it stands for.
+    // What the end reports of its ring, of the blocks that it was given and retired, and of what it
+    // stands for.
     ghost feed: { Self → Feed };
 
-    // A look between the two states, the earlier one first, found a block of this content at the next place, and this
-    // mark as the word there.
+    // A look between the two states, the earlier one first, found a block of this content at the
+    // next place, and this mark as the word there.
     ghost found_free: { Self → Self → List ℕ → ℕ → Type 0 };
 
-    /// Looks once at the status word of the next place, and takes the block there if it is free. The next place is
-    /// that of the number one above the last block's. Where it isn't free nothing changes, but the look is counted.
+    /// Looks once at the status word of the next place, and takes the block there if it is free.
+    /// The next place is that of the number one above the last block's. Where it isn't free nothing
+    /// changes, but the look is counted.
     fn next(&mut self) -> Next<B>
         requires hand { (feed self.old).given ≤ (feed self.old).retired + 1 }
         requires room { (feed self.old).given + 1 < (feed self.old).ring.bound }
@@ -56,7 +61,8 @@ pub trait FeederEnd<B: Content> {
         ensures once { OnHeld result ((feed self.new).holds ≤ (feed self.old).holds + 1) }
         ensures later { (feed self.old).holds ≤ (feed self.new).holds }
 
-        // Where the end reports the numbers that its looks found, this one comes last, and the first look finds none.
+        // Where the end reports the numbers that its looks found, this one comes last, and the
+        // first look finds none.
         ensures told { IfHeld result (λ number.
             (feed self.new).found ≡ and_found number (feed self.old).found) }
         ensures first { (numbers : List ℕ) → (feed self.old).found ≡ Some numbers →
@@ -68,8 +74,8 @@ pub trait FeederEnd<B: Content> {
         ensures exact_held { (released : ℕ) → (feed self.old).freed ≡ Some released →
             OnHeld result (released + (feed self.old).ring.places < (feed self.old).given + 1) };
 
-    /// Hands the older block in hand over to the reader, with this content, under its number and a status that is odd
-    /// and below 256.
+    /// Hands the older block in hand over to the reader, with this content, under its number and a
+    /// status that is odd and below 256.
     fn retire(&mut self, block: B, status: u32)
         requires hand { (feed self.old).retired < (feed self.old).given }
         requires status { IsStatus status }
@@ -93,14 +99,15 @@ pub trait WalkerEnd<B: Content> {
     // A block of this content was taken between the two states, the earlier one first.
     ghost took: { Self → Self → List ℕ → Type 0 };
 
-    // A block of this content was given back between the two states, the earlier one first, with this word.
+    // A block of this content was given back between the two states, the earlier one first, with
+    // this word.
     ghost gave_back: { Self → Self → List ℕ → ℕ → Type 0 };
 
     // All is the same in the two states, but for the count of looks that found nothing.
     ghost stays: { Self → Self → Type 0 };
 
-    /// Looks once at the status word of the next block to be read, and takes the block if it was retired. Where it
-    /// wasn't nothing changes, but the look is counted.
+    /// Looks once at the status word of the next block to be read, and takes the block if it was
+    /// retired. Where it wasn't nothing changes, but the look is counted.
     fn take(&mut self) -> Option<B>
         requires hand { (walk self.old).in_hand ≡ false }
 
@@ -128,7 +135,8 @@ pub trait WalkerEnd<B: Content> {
         ensures exact_none { (blocks : ℕ) → (walk self.old).waiting ≡ Some blocks →
             IfNone result (blocks ≡ 0) };
 
-    /// Gives the block in hand back to the feeder's side, with this word, which is even and below 256.
+    /// Gives the block in hand back to the feeder's side, with this word, which is even and below
+    /// 256.
     fn release(&mut self, block: B, mark: u32)
         requires hand { (walk self.old).in_hand ≡ true }
         requires mark { IsMark mark }
@@ -146,7 +154,8 @@ pub trait BothEnds<B: Content>: FeederEnd<B> + WalkerEnd<B> {
         Self.took before after content → LeavesFeeder (Self.feed before) (Self.feed after) };
 
     ghost gave_back_leaves: { (before after : Self) (content : List ℕ) (mark : ℕ) →
-        Self.gave_back before after content mark → LeavesFeeder (Self.feed before) (Self.feed after) };
+        Self.gave_back before after content mark →
+        LeavesFeeder (Self.feed before) (Self.feed after) };
 
     ghost stays_leaves: { (before after : Self) →
         Self.stays before after → LeavesFeeder (Self.feed before) (Self.feed after) };

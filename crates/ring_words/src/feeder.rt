@@ -8,8 +8,9 @@ use crate::{Content, FeederEnd, Next};
 use std::marker::Model;
 use std::sync::Arc;
 
-/// The end of a ring between two threads that fills blocks and retires them. Contracts see which ring it belongs to,
-/// how many blocks it was given, the list of those that it retired, and the words that its looks loaded.
+/// The end of a ring between two threads that fills blocks and retires them. Contracts see which
+/// ring it belongs to, how many blocks it was given, the list of those that it retired, and the
+/// words that its looks loaded.
 #[derive(Drop)]
 pub struct TableFeeder<B: Content + Drop> {
     /// The words and the places, which both ends share.

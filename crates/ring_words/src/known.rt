@@ -1,4 +1,5 @@
-//! What an end of a ring between two threads knows, how that is cut in two, and how it comes together again.
+//! What an end of a ring between two threads knows, how that is cut in two, and how it comes
+//! together again.
 ghost use Rattle.ring_words.specs.Knowing.{left_to_feed, left_to_walk, nothing_known, together};
 
 use atomic_table::{Join, Split};
@@ -8,7 +9,8 @@ use std::collections::LinkedList;
 pub struct Known {
     /// Whether it is the feeder's end.
     pub feeds: bool,
-    /// Whether it is the reader's end. One end is both until the ring is made, and again once it is finished.
+    /// Whether it is the reader's end. One end is both until the ring is made, and again once it is
+    /// finished.
     pub walks: bool,
     /// What all blocks of the ring have in common, as numbers.
     pub kind: LinkedList<u64>,
@@ -30,7 +32,8 @@ pub struct Known {
     pub visits: LinkedList<u64>,
 }
 
-/// How what is known is cut: the feeder's end keeps the one half, the reader's end begins with the other.
+/// How what is known is cut: the feeder's end keeps the one half, the reader's end begins with the
+/// other.
 pub(crate) struct Apart;
 
 impl Split<Known> for Apart {

@@ -1,4 +1,5 @@
-//! The two ends of a ring of blocks that are handed over by status words, and such a ring on one thread.
+//! The two ends of a ring of blocks that are handed over by status words, and such a ring on one
+//! thread.
 #![tactic(auto)]
 
 mod closing_ring;

@@ -1,5 +1,7 @@
-//! How a ring between two threads is finished: its ends come together, and what was retired and not taken is left.
-ghost use Rattle.std.specs.Prelude.{◌≡◌, ◌+◌, ◌-◌, ◌^◌, ◌<◌, ◌≤◌, ◌↔◌, true, false, [], ◌∷◌, ◌++◌, length, take, option_map, slice_get, IfOk, IfSome, IsNone};
+//! How a ring between two threads is finished: its ends come together, and what was retired and not
+//! taken is left.
+ghost use Rattle.std.specs.Prelude.{◌≡◌, ◌+◌, ◌-◌, ◌^◌, ◌<◌, ◌≤◌, ◌↔◌, true, false, [], ◌∷◌, ◌++◌};
+ghost use Rattle.std.specs.Prelude.{length, take, option_map, slice_get, IfOk, IfSome, IsNone};
 ghost use Rattle.std.specs.List.{AllByRecursion};
 ghost use Rattle.ring_words.specs.Pendings.{AreReadyAfter, TookOne, entries_of};
 ghost use Rattle.ring_words.specs.TableEnds.{IsSeated, found_in, odd_count};
@@ -14,8 +16,9 @@ use std::fmt;
 use std::marker::Model;
 use std::snapshot::Snapshot;
 
-/// The retired blocks of a ring that weren't taken, by number, each with its status. `finish` alone makes one. Contracts
-/// also see the list of all blocks that the feeder retired, and the numbers of the reader's blocks that its looks found.
+/// The retired blocks of a ring that weren't taken, by number, each with its status. `finish` alone
+/// makes one. Contracts also see the list of all blocks that the feeder retired, and the numbers of
+/// the reader's blocks that its looks found.
 #[derive(Drop)]
 pub struct Pending<B: Content + Drop> {
     /// The blocks, each with the status that it was retired with.
@@ -43,8 +46,8 @@ impl<B: Content + Drop> Pending<B> {
         self.blocks.len()
     }
 
-    /// The pending block at a place, counted from 0, with the status that it was retired with; `None` where the place
-    /// isn't below the length.
+    /// The pending block at a place, counted from 0, with the status that it was retired with;
+    /// `None` where the place isn't below the length.
     pub fn get(&self, at: usize) -> Option<(&B, u32)>
         ensures value { option_map (λ one. (one.0.now, one.1)) result
             ≡ slice_get self.now.blocks at }

@@ -1,6 +1,7 @@
-//! A ring on one thread. It has no words: its blocks stand in two queues by number, the free ones and those that wait
-//! for the reader.
-ghost use Rattle.std.specs.Prelude.{◌≡◌, ◌+◌, ◌-◌, ◌^◌, ◌<◌, ◌≤◌, ℕ, false, true, List, [], ◌∷◌, ◌++◌, length, map, Option, Some, IfOk, IfSome, IfNone, OnSome};
+//! A ring on one thread. It has no words: its blocks stand in two queues by number, the free ones
+//! and those that wait for the reader.
+ghost use Rattle.std.specs.Prelude.{◌≡◌, ◌+◌, ◌-◌, ◌^◌, ◌<◌, ◌≤◌, ℕ, false, true, List, [], ◌∷◌};
+ghost use Rattle.std.specs.Prelude.{◌++◌, length, map, Option, Some, IfOk, IfSome, IfNone, OnSome};
 ghost use Rattle.std.specs.List.{AllByRecursion};
 ghost use Rattle.std.specs.VecDeque.{deque_capacity};
 ghost use Rattle.ring_words.specs.Counts.{Rose};
@@ -32,8 +33,9 @@ pub(crate) struct Filled<B> {
     pub(crate) status: u32,
 }
 
-/// Both ends of a ring, on one thread. Here each look is exact: the feeder finds a block free exactly where the reader
-/// has released the one that stood there, and the reader finds one exactly where one waits.
+/// Both ends of a ring, on one thread. Here each look is exact: the feeder finds a block free
+/// exactly where the reader has released the one that stood there, and the reader finds one exactly
+/// where one waits.
 #[derive(Drop)]
 pub struct PlainRing<B: Content + Drop> {
     /// The number of places.
@@ -61,7 +63,8 @@ pub struct PlainRing<B: Content + Drop> {
 impl<B: Content + Drop> Model for PlainRing<B> {
     ghost use Rattle.std.specs.Prelude.{◌≤◌};
     ghost use Rattle.std.specs.VecDeque.{deque_capacity};
-    ghost use Rattle.ring_words.specs.PlainRings.{Keeps, PlainState, contents_of, entries_of, marks_of};
+    ghost use Rattle.ring_words.specs.PlainRings.{Keeps, PlainState, contents_of, entries_of};
+    ghost use Rattle.ring_words.specs.PlainRings.{marks_of};
 
     ghost Value = { PlainState };
 
@@ -168,7 +171,8 @@ impl<B: Content + Drop> BothEnds<B> for PlainRing<B> {
 }
 
 impl<B: Content + Drop> PlainRing<B> {
-    /// A ring of these blocks, which stand at its places in their order. They are 2 to 1,048,576 of one kind.
+    /// A ring of these blocks, which stand at its places in their order. They are 2 to 1,048,576 of
+    /// one kind.
     pub fn new(alloc: Global, blocks: Vec<B>) -> Result<PlainRing<B>, Memory>
         requires some { 2 ≤ length blocks.items }
         requires few { length blocks.items ≤ 1048576 }
@@ -197,8 +201,8 @@ impl<B: Content + Drop> PlainRing<B> {
         })
     }
 
-    /// The ring after its feeder is done, for the reader alone: the memory of each block that is free or is released is
-    /// given up.
+    /// The ring after its feeder is done, for the reader alone: the memory of each block that is
+    /// free or is released is given up.
     pub fn closing(self, alloc: Global) -> Result<ClosingRing<B>, Memory>
         ensures { IfOk result (λ ring. ring ≡ record self { contents = [] }) }
     {

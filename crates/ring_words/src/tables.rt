@@ -1,23 +1,26 @@
 //! A ring between two threads: how it is made, and who owns which block of it.
 //!
-//! Each place of the ring has a status word and a slot, where its block stands. The feeder looks at the word of the next
-//! place. An even word is of its own side: it takes the block out of the slot, fills it, puts it back, and after that
-//! stores the block's number and an odd status. From this store on the block is the reader's. The reader looks at the
-//! word of the next number. An odd word is of its side: it takes the block out, reads it, puts it back, and after that
-//! stores an even mark. From this store on the block is the feeder's again.
+//! Each place of the ring has a status word and a slot, where its block stands. The feeder looks at
+//! the word of the next place. An even word is of its own side: it takes the block out of the slot,
+//! fills it, puts it back, and after that stores the block's number and an odd status. From this
+//! store on the block is the reader's. The reader looks at the word of the next number. An odd word
+//! is of its side: it takes the block out, reads it, puts it back, and after that stores an even
+//! mark. From this store on the block is the feeder's again.
 //!
-//! A look is one load of one word. Where it finds a word of the other side nothing changes, and the end may look again:
-//! nobody waits here. So a word is stored by the side that has the block and by no other, and a block is touched by one
-//! side alone. The feeder may have two blocks in hand, since it opens the next one before it retires the one before; the
-//! reader has one.
+//! A look is one load of one word. Where it finds a word of the other side nothing changes, and the
+//! end may look again: nobody waits here. So a word is stored by the side that has the block and by
+//! no other, and a block is touched by one side alone. The feeder may have two blocks in hand,
+//! since it opens the next one before it retires the one before; the reader has one.
 //!
-//! When both threads are done, `finish` brings the two ends together, and takes out what was retired and not taken.
+//! When both threads are done, `finish` brings the two ends together, and takes out what was
+//! retired and not taken.
 ghost use Rattle.std.specs.Prelude.{◌≡◌, ◌≤◌, ℕ, List, [], length, map, Option, Some, IfOk};
 ghost use Rattle.std.specs.List.{AllByRecursion};
 ghost use Rattle.ring_words.specs.Knowing.{all_known};
 ghost use Rattle.atomic_table.specs.Table.{State};
 ghost use Rattle.ring_words.specs.TableEnds.{fresh_feeder, fresh_walker};
-ghost use Rattle.ring_words.specs.Tables.{Course, EachKnows, IsOwnedBy, LooksHold, LooksStand, TakesFront, VisitsStand};
+ghost use Rattle.ring_words.specs.Tables.{Course, EachKnows, IsOwnedBy, LooksHold, LooksStand};
+ghost use Rattle.ring_words.specs.Tables.{TakesFront, VisitsStand};
 ghost use Rattle.ring_words.specs.declared.known.Known.{Known};
 ghost use Rattle.std.specs.declared.snapshot.Snapshot.{Snapshot};
 
@@ -30,8 +33,8 @@ use std::alloc::Global;
 use std::snapshot::Snapshot;
 use std::sync::Arc;
 
-/// The two ends of a ring of these blocks, which stand at its places in their order; each end may go to a thread of its
-/// own. The blocks are 2 to 65,536 of one kind.
+/// The two ends of a ring of these blocks, which stand at its places in their order; each end may
+/// go to a thread of its own. The blocks are 2 to 65,536 of one kind.
 pub fn table_ring<B: Content + Drop>(
     alloc: Global,
     blocks: Vec<B>,
@@ -67,8 +70,8 @@ pub fn table_ring<B: Content + Drop>(
     Ok((feeder, walker))
 }
 
-/// Who owns which block of a ring between two threads, and what its ends know of it. It holds between any two steps on
-/// the ring's table: each state of the table meets the rule.
+/// Who owns which block of a ring between two threads, and what its ends know of it. It holds
+/// between any two steps on the ring's table: each state of the table meets the rule.
 pub fn table_ownership_holds<B: Content + Drop>()
     ensures { (sample : Snapshot B) (state : State (Option B) Known) →
         ⟦<Handover as TableRule<Option<B>, Known, Snapshot<B>>>⟧.holds sample state →
@@ -83,9 +86,9 @@ pub fn table_front_holds<B: Content + Drop>()
         TakesFront state.views }
 {}
 
-/// What a look finds is the word that stands there. So `Held` and `None` are no choice of a body: whatever step adds an odd
-/// word to what the feeder's end knows, or an even one to what the reader's end knows, is made while that word stands at
-/// the place of the next block.
+/// What a look finds is the word that stands there. So `Held` and `None` are no choice of a body:
+/// whatever step adds an odd word to what the feeder's end knows, or an even one to what the
+/// reader's end knows, is made while that word stands at the place of the next block.
 pub fn table_looks_hold<B: Content + Drop>()
     ensures looks { (sample : Snapshot B) (before after : State (Option B) Known) →
         ⟦<Handover as TableRule<Option<B>, Known, Snapshot<B>>>⟧.holds sample before →

@@ -1,5 +1,6 @@
 //! The reader's end of a ring between two threads.
-ghost use Rattle.std.specs.Prelude.{◌≡◌, ◌+◌, ◌^◌, ◌<◌, true, false, [], ◌∷◌, ◌++◌, length, IfSome, IfNone, OnSome};
+ghost use Rattle.std.specs.Prelude.{◌≡◌, ◌+◌, ◌^◌, ◌<◌, true, false, [], ◌∷◌, ◌++◌, length, IfSome};
+ghost use Rattle.std.specs.Prelude.{IfNone, OnSome};
 ghost use Rattle.ring_words.specs.Rings.{IsMark};
 
 use crate::handover::{RingSeat, RingTable, WalkerLooks, WalkerStores};
@@ -7,9 +8,9 @@ use crate::{Content, WalkerEnd};
 use std::marker::Model;
 use std::sync::Arc;
 
-/// The end of a ring between two threads that takes retired blocks and releases them. Contracts see which ring it
-/// belongs to, the list of the blocks that it took, whether it has the last of them in hand, and the words that its
-/// looks loaded.
+/// The end of a ring between two threads that takes retired blocks and releases them. Contracts see
+/// which ring it belongs to, the list of the blocks that it took, whether it has the last of them
+/// in hand, and the words that its looks loaded.
 #[derive(Drop)]
 pub struct TableWalker<B: Content + Drop> {
     /// The words and the places, which both ends share.
@@ -47,7 +48,8 @@ impl<B: Content + Drop> Model for TableWalker<B> {
 }
 
 impl<B: Content + Drop> WalkerEnd<B> for TableWalker<B> {
-    ghost use Rattle.ring_words.specs.TableEnds.{FoundEven, GaveBack, Stays, Took, TookWord, walk_of};
+    ghost use Rattle.ring_words.specs.TableEnds.{FoundEven, GaveBack, Stays, Took, TookWord};
+    ghost use Rattle.ring_words.specs.TableEnds.{walk_of};
 
     ghost walk = { walk_of };
 

@@ -7,8 +7,8 @@ abbrev pub starts_with_line_feed : List ℕ → Bool
 starts_with_line_feed [] = false
 starts_with_line_feed (b ∷ bytes) = b == 10
 
--- A line feed ends a line, and the last line may lack it. One carriage return right before a line feed is no part of
--- the line; every other one is a byte of it. An empty text has no line.
+-- A line feed ends a line, and the last line may lack it. One carriage return right before a line
+-- feed is no part of the line; every other one is a byte of it. An empty text has no line.
 unfoldable pub lines_of : List ℕ → List (List ℕ)
 lines_of [] = []
 lines_of (b ∷ bytes) =

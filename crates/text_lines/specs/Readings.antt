@@ -7,9 +7,11 @@ abbrev pub and_then : {S K : Type 0} → ℕ → Result S K → (S → Result S 
 and_then number (Ok state) more = more state
 and_then number (Err kind) more = Err (number, kind)
 
--- Reads lines, the first of which has that number, in order: each leads from what was read so far to what is read then,
--- or to a fault. A line that is skipped changes nothing, whatever its bytes are, but counts. The first fault answers.
-unfoldable pub read_lines : {S K : Type 0} → (S → List ℕ → Result S K) → ℕ → S → List (List ℕ) → Result S (ℕ × K)
+-- Reads lines, the first of which has that number, in order: each leads from what was read so far
+-- to what is read then, or to a fault. A line that is skipped changes nothing, whatever its bytes
+-- are, but counts. The first fault answers.
+unfoldable pub read_lines :
+    {S K : Type 0} → (S → List ℕ → Result S K) → ℕ → S → List (List ℕ) → Result S (ℕ × K)
 read_lines step number state [] = Ok state
 read_lines step number state (line ∷ more) =
     if is_passed_over (words_of line) then read_lines step (number + 1) state more

@@ -1,5 +1,5 @@
-//! The lines of a text, the words of a line, and numbers, read in place and without memory; and the words
-//! of a command, which are kept.
+//! The lines of a text, the words of a line, and numbers, read in place and without memory; and the
+//! words of a command, which are kept.
 #![tactic(auto)]
 
 mod command_words;

@@ -1,5 +1,6 @@
 //! The lines of a text.
-ghost use Rattle.std.specs.Prelude.{◌≡◌, ℕ, ◌<◌, ◌==◌, List, [], ◌∷◌, length, MatchOption, IfNone, IfSome};
+ghost use Rattle.std.specs.Prelude.{◌≡◌, ℕ, ◌<◌, ◌==◌, List, [], ◌∷◌, length, MatchOption, IfNone};
+ghost use Rattle.std.specs.Prelude.{IfSome};
 ghost use Rattle.std.specs.List.{position};
 ghost use Rattle.std.specs.Str.Lines.{lines, strip_carriage_return};
 ghost use Rattle.text_lines.specs.Lines.{lines_of};
@@ -9,8 +10,9 @@ pub const LARGEST_TEXT: usize = 1_048_576;
 
 /// Takes the first line off a text: the line, and the text after it. `None` is the end of the text.
 ///
-/// A line feed ends a line, and the last line may lack it. One carriage return before a line feed is dropped; a last
-/// line without a line feed keeps its carriage return. A text of n bytes is read in n steps by repeated calls.
+/// A line feed ends a line, and the last line may lack it. One carriage return before a line feed
+/// is dropped; a last line without a line feed keeps its carriage return. A text of n bytes is read
+/// in n steps by repeated calls.
 pub fn next_line(text: &[u8]) -> Option<(&[u8], &[u8])>
     ensures line { MatchOption result (lines_of text.now ≡ [])
         (λ cut. lines_of text.now ≡ cut.0.now ∷ lines_of cut.1.now) }

@@ -10,8 +10,8 @@ pub fn is_plain(line: &[u8]) -> bool
     line.iter().all(|byte| matches!(*byte, b' '..=b'~' | b'\t'))
 }
 
-/// Takes the first word off a line: the word, and the line after it. `None` comes where no word is left. Words stand
-/// between spaces or tabs, which may stand round them too.
+/// Takes the first word off a line: the word, and the line after it. `None` comes where no word is
+/// left. Words stand between spaces or tabs, which may stand round them too.
 pub fn next_word(line: &[u8]) -> Option<(&[u8], &[u8])>
     ensures word { MatchOption result (words_of line.now ≡ [])
         (λ cut. words_of line.now ≡ cut.0.now ∷ words_of cut.1.now) }

@@ -16,15 +16,20 @@ pub record IsDrawnOnce (views : List Hand) (ticket : ℕ) : Type 0 where
   pub by_no_other : (j : ℕ) (other : Hand) → j ≢ seat → get_elem? views j ≡ some other →
       times ticket other.drawn ≡ 0
 
--- Word 0 is the number of tickets drawn, word 1 the number of live feeders. A seat that was joined with others has
--- their tickets after one another, and stands for as many seats of the dealer as they did together
+-- Word 0 is the number of tickets drawn, word 1 the number of live feeders. A seat that was joined
+-- with others has their tickets after one another, and stands for as many seats of the dealer as
+-- they did together
 pub record IsDealing (feeders : ℕ) (table : State (Unit {0}) Hand) : Type 0 where
   -- each number below word 0 was drawn once, by one seat, and no others were drawn
   pub each : (ticket : ℕ) → ticket < slice_index table.words 0 → IsDrawnOnce table.views ticket
-  pub none_else : (j : ℕ) (v : Hand) → get_elem? table.views j ≡ some v → AllBelow (slice_index table.words 0) v.drawn
+  pub none_else :
+      (j : ℕ) (v : Hand)
+      → get_elem? table.views j ≡ some v
+      → AllBelow (slice_index table.words 0) v.drawn
   pub number : total (λ v. length v.drawn) table.views ≡ slice_index table.words 0
   -- the tickets of a seat that wasn't joined rise
-  pub rising : (j : ℕ) (v : Hand) → get_elem? table.views j ≡ some v → v.shares ≡ 1 → Rises 0 v.drawn
+  pub rising :
+      (j : ℕ) (v : Hand) → get_elem? table.views j ≡ some v → v.shares ≡ 1 → Rises 0 v.drawn
   -- each of the dealer's seats, one for each feeder and nine more, counts once
   pub seats : total (λ v. v.shares) table.views ≡ feeders + 9
   -- word 1 and all calls of `done` are the number of feeders

@@ -8,8 +8,8 @@ use Rattle.ticket_dealer.specs.declared.knowledge.Hand.{Hand}
 use Rattle.ticket_dealer.specs.Hands.{total}
 use Rattle.ticket_dealer.specs.Tickets.{times, once_below, AllBelow, Rises}
 
--- Of a seat: what it drew is below the next ticket, it drew few, in order where it stands for one of the dealer's,
--- and no more feeders are live than it found
+-- Of a seat: what it drew is below the next ticket, it drew few, in order where it stands for one
+-- of the dealer's, and no more feeders are live than it found
 pub record HandOk (feeders next live : ℕ) (v : Hand) : Type 0 where
   pub below : AllBelow next v.drawn
   pub few : length v.drawn ≤ v.shares * 2 ^ 32
@@ -17,7 +17,8 @@ pub record HandOk (feeders next live : ℕ) (v : Hand) : Type 0 where
   pub later : 0 < v.shares → live ≤ v.live
   pub knows : 0 < v.shares → v.feeders ≡ feeders
 
--- Each number below the next ticket was drawn once, and the live feeders are those that owe a call of `done`
+-- Each number below the next ticket was drawn once, and the live feeders are those that owe a call
+-- of `done`
 pub record Dealt (feeders : ℕ) (s : State (Unit {0}) Hand) : Type 0 where
   pub words_are : length s.words ≡ 2
   pub some_feeders : feeders ≤ 8

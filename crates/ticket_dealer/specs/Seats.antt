@@ -1,5 +1,6 @@
 -- What a seat of a dealer is to its owner.
-use Rattle.std.specs.Prelude.{◌≡◌, ℕ, ◌+◌, ◌≤◌, ◌==◌, nat_lt, if◌then◌else◌, List, [], ◌∷◌, ◌++◌, length, replicate, sum_by, count_by}
+use Rattle.std.specs.Prelude.{◌≡◌, ℕ, ◌+◌, ◌≤◌, ◌==◌, nat_lt, if◌then◌else◌, List, [], ◌∷◌, ◌++◌}
+use Rattle.std.specs.Prelude.{length, replicate, sum_by, count_by}
 use Rattle.std.specs.List.{AllByRecursion}
 use Rattle.atomic_table.specs.Seated.{TableId}
 use Rattle.ticket_dealer.specs.Tickets.{Rises}
@@ -9,9 +10,10 @@ pub record DealerValue : Type 0 where
   pub id : TableId
   pub feeders : ℕ
 
--- Contracts see a seat as this: the dealer that it belongs to and its number of feeders, how many calls of
--- `done` are still to come (one from a feeder's seat that has made none) and how many were made, the tickets
--- that it drew, in order, and the number of live feeders that it found the last time
+-- Contracts see a seat as this: the dealer that it belongs to and its number of feeders, how many
+-- calls of `done` are still to come (one from a feeder's seat that has made none) and how many were
+-- made, the tickets that it drew, in order, and the number of live feeders that it found the last
+-- time
 pub record SeatValue : Type 0 where
   pub dealer : TableId
   pub feeders : ℕ
@@ -69,7 +71,8 @@ has_ended seat = record seat { owes = 0; ended = 1 }
 abbrev pub has_seen : SeatValue → ℕ → SeatValue
 has_seen seat found = record seat { live = found }
 
--- so many feeders are live as haven't called `done` so far: all less those calls, the seat's own among them
+-- so many feeders are live as haven't called `done` so far: all less those calls, the seat's own
+-- among them
 abbrev pub AreLive : SeatValue → ℕ → Type 0
 AreLive seat found =
     (calls : ℕ) × (found + calls ≡ seat.feeders) × (seat.ended ≤ calls) × (seat.owes ≤ found)
@@ -82,7 +85,8 @@ drawn_times ticket seats = sum_by (λ seat. count_by (λ drawn. drawn == ticket)
 abbrev pub RisesIn : SeatValue → Type 0
 RisesIn seat = Rises 0 seat.drawn
 
--- the tickets of all seats are the numbers below this one, each once, rising in each seat, and as many in all
+-- the tickets of all seats are the numbers below this one, each once, rising in each seat, and as
+-- many in all
 pub record AreDealt (seats : List SeatValue) (number : ℕ) : Type 0 where
   pub once : (ticket : ℕ) → drawn_times ticket seats ≡ (if nat_lt ticket number then 1 else 0)
   pub sum : sum_by (λ seat. length seat.drawn) seats ≡ number

@@ -16,7 +16,8 @@ seat_value s = record {
   live = s.me.0.live;
 }
 
--- it stands for one of the dealer's seats, which makes one call of `done` at most, and its tickets rise
+-- it stands for one of the dealer's seats, which makes one call of `done` at most, and its tickets
+-- rise
 pub record IsSeat (s : Seat (Unit {0}) Hand) : Type 0 where
   pub one : s.me.0.shares ≡ 1
   pub once : s.me.0.owes + s.me.0.ended ≤ 1

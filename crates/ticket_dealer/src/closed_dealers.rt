@@ -32,8 +32,8 @@ fn gather(shared: &Shared<(), Hand, u64, EachOnce>, mut seats: Vec<DealerSeat>) 
 }
 
 impl Dealer {
-    /// The number of tickets drawn, when all seats are handed in. The tickets of all seats are then the numbers from 0
-    /// up to one less, each once, rising in each seat.
+    /// The number of tickets drawn, when all seats are handed in. The tickets of all seats are then
+    /// the numbers from 0 up to one less, each once, rising in each seat.
     pub fn close(self, seats: Vec<DealerSeat>) -> u64
         requires all { length seats.items ≡ self.feeders + 9 }
         requires own { AllByRecursion (IsSeatOf self) seats.items }

@@ -7,7 +7,8 @@ pub struct Hand {
     pub feeders: u64,
     /// For how many of the dealer's seats it stands.
     pub shares: u64,
-    /// How many calls of `done` are still to come from it: one from a feeder's seat that has made none.
+    /// How many calls of `done` are still to come from it: one from a feeder's seat that has made
+    /// none.
     pub owes: u64,
     /// How many calls of `done` it has made.
     pub ended: u64,

@@ -1,4 +1,5 @@
-//! Tickets that seats draw in threads of their own, each number once, and a count of the feeders that go on.
+//! Tickets that seats draw in threads of their own, each number once, and a count of the feeders
+//! that go on.
 #![tactic(auto)]
 
 mod closed_dealers;

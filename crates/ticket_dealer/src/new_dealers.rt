@@ -55,8 +55,8 @@ fn make_others(
 }
 
 impl Dealer {
-    /// A dealer of so many feeders, 1 to 8, and its seats: those of the feeders and then nine more. The only error is
-    /// out of memory.
+    /// A dealer of so many feeders, 1 to 8, and its seats: those of the feeders and then nine more.
+    /// The only error is out of memory.
     pub fn new(alloc: Global, feeders: u32) -> Result<(Dealer, Vec<DealerSeat>), Memory>
         requires some { 0 < feeders }
         requires few { feeders ≤ 8 }

@@ -1,6 +1,7 @@
 //! The rule of a dealer's table, and what each step shows. These types are for the proofs alone.
 ghost use Rattle.ticket_dealer.specs.Dealt.{Dealt};
-ghost use Rattle.ticket_dealer.specs.Hands.{opening, without_feeder, feeder_of, without_other, other_of, joined, spent};
+ghost use Rattle.ticket_dealer.specs.Hands.{opening, without_feeder, feeder_of, without_other};
+ghost use Rattle.ticket_dealer.specs.Hands.{other_of, joined, spent};
 ghost use Rattle.ticket_dealer.specs.Steps.{Drew, Ended, Saw};
 
 use crate::knowledge::Hand;

@@ -1,4 +1,5 @@
-//! What a seat does: it draws, ends, and looks how many feeders go on. No call waits or takes memory.
+//! What a seat does: it draws, ends, and looks how many feeders go on. No call waits or takes
+//! memory.
 ghost use Rattle.std.specs.Prelude.{◌≡◌, ◌<◌, ◌≤◌, ◌^◌, length};
 ghost use Rattle.ticket_dealer.specs.Seats.{AreLive, IsSeatOf, has_drawn, has_ended, has_seen};
 ghost use Rattle.ticket_dealer.specs.Tickets.{AllBelow};
@@ -8,8 +9,8 @@ use crate::plays::{Draws, Ends, Looks};
 use crate::{Dealer, DealerSeat};
 
 impl Dealer {
-    /// Draws the next ticket, from 0: the ticket word as it was before it rose by one. The seat has drawn fewer than
-    /// 2^32.
+    /// Draws the next ticket, from 0: the ticket word as it was before it rose by one. The seat has
+    /// drawn fewer than 2^32.
     pub fn draw(&self, seat: &mut DealerSeat) -> u64
         requires own { IsSeatOf self.now seat.old }
         requires few { length seat.old.drawn < 2 ^ 32 }
@@ -23,7 +24,8 @@ impl Dealer {
             .fetch_add::<Draws>(&mut seat.seat, TICKETS, 1)
     }
 
-    /// Lowers the number of live feeders by one. The seat is a feeder's and hasn't called this before.
+    /// Lowers the number of live feeders by one. The seat is a feeder's and hasn't called this
+    /// before.
     pub fn done(&self, seat: &mut DealerSeat)
         requires own { IsSeatOf self.now seat.old }
         requires owes { seat.old.owes ≡ 1 }

@@ -1,5 +1,6 @@
 -- What stands in the list that a value has stored, and which seat added it.
-use Rattle.std.specs.Prelude.{◌≡◌, ◌≢◌, ℕ, ◌+◌, ◌==◌, if◌then◌else◌, Bool, true, List, [], ◌∷◌, ◌++◌, filter}
+use Rattle.std.specs.Prelude.{◌≡◌, ◌≢◌, ℕ, ◌+◌, ◌==◌, if◌then◌else◌, Bool, true, List, [], ◌∷◌}
+use Rattle.std.specs.Prelude.{◌++◌, filter}
 
 -- how many of the tickets belong to the seat; the list has the number of each ticket's seat
 abbrev pub times : ℕ → List ℕ → ℕ

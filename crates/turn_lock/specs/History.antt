@@ -1,5 +1,6 @@
 -- The turn history, in a lock's own words: tickets, turns that have ended, and what each seat left.
-use Rattle.std.specs.Prelude.{◌≡◌, ◌⊎◌, ℕ, suc, ◌<◌, ◌≤◌, ◌^◌, Bool, List, [], ◌∷◌, ◌++◌, length, take, slice_index, Option, Some}
+use Rattle.std.specs.Prelude.{◌≡◌, ◌⊎◌, ℕ, suc, ◌<◌, ◌≤◌, ◌^◌, Bool, List, [], ◌∷◌, ◌++◌, length}
+use Rattle.std.specs.Prelude.{take, slice_index, Option, Some}
 use mathlib.Core.Option.{some, none}
 use mathlib.Core.Option as maybe
 use lib.ListN.{get_elem?}
@@ -10,8 +11,8 @@ use Rattle.turn_lock.specs.declared.knowledge.Stage.TheVariants.{Inside}
 use Rattle.turn_lock.specs.Histories.{times, all_added, IsTurn, GoesOn}
 use Rattle.turn_lock.specs.SeatKnowledge.{drawn_of, total}
 
--- A seat that left this list the last time: it has what the turns added up to the seat's latest one that has
--- ended, and the history goes on from it by what other seats added
+-- A seat that left this list the last time: it has what the turns added up to the seat's latest one
+-- that has ended, and the history goes on from it by what other seats added
 pub record IsLast {E : Type 0} (may_add : ℕ → E → Bool) (first : List E) (owners : List ℕ)
     (added : List (List E)) (number : ℕ) (last : List E) : Type 0 where
   pub turns : ℕ
@@ -35,8 +36,8 @@ module _ {E B : Type 0} where
   IsInside views j v = (get_elem? views j ≡ some v) × (v.stage ≡ Inside)
 
 module _ {V E B : Type 0} (stored : V → List E) (base : V → B) where
-  -- the value is at home with the history stored and the first value's base, or the seat of the ticket that is
-  -- served has it, whose number is the owner
+  -- the value is at home with the history stored and the first value's base, or the seat of the
+  -- ticket that is served has it, whose number is the owner
   abbrev pub HasPlace : B → List E → maybe.Option ℕ → State (Option V) (Knows E B) → Type 0
   HasPlace b history owner table =
       ((x : V) × (table.homes ≡ some (Some x) ∷ []) × (stored x ≡ history) × (base x ≡ b))
@@ -44,8 +45,8 @@ module _ {V E B : Type 0} (stored : V → List E) (base : V → B) where
       × IsInside table.views j v × (v.places ≡ place ∷ []) × (owner ≡ some place.number)))
 
 module _ {V E B : Type 0} (stored : V → List E) (base : V → B) (may_add : B → ℕ → E → Bool) where
-  -- b and f are the base and the list of the first value, n is the number of seats; `owners` has the number of
-  -- each ticket's seat, `added` what each turn that has ended added
+  -- b and f are the base and the list of the first value, n is the number of seats; `owners` has
+  -- the number of each ticket's seat, `added` what each turn that has ended added
   pub record IsHistory (b : B) (f : List E) (n : ℕ) (table : State (Option V) (Knows E B))
       : Type 0 where
     pub owners : List ℕ
@@ -58,8 +59,9 @@ module _ {V E B : Type 0} (stored : V → List E) (base : V → B) (may_add : B 
     -- each ticket belongs to one of the seats, which together have them all, and each has few
     pub owned : (i number : ℕ) → get_elem? owners i ≡ some number → number < n
     pub sum : total drawn_of table.views ≡ length owners
-    -- each ticket's seat is one: a number stands at one place of one seat of the table. A seat of the table that
-    -- was joined with others has a place for each seat of the lock that was joined into it
+    -- each ticket's seat is one: a number stands at one place of one seat of the table. A seat of
+    -- the table that was joined with others has a place for each seat of the lock that was joined
+    -- into it
     pub stands_once : (i j k l : ℕ) (v w : Knows E B) (here there : Place E) →
         StandsAt table.views i k v here → StandsAt table.views j l w there →
         here.number ≡ there.number → (i ≡ j) × (k ≡ l)
@@ -72,10 +74,12 @@ module _ {V E B : Type 0} (stored : V → List E) (base : V → B) (may_add : B 
     pub each_waits : (i j : ℕ) (v : Knows E B) (place : Place E) → StandsFor table.views j v place →
         length added ≤ i → get_elem? owners i ≡ some place.number → v.ticket ≡ i
     -- the value has its place
-    pub value_is : HasPlace stored base b (f ++ all_added added) (get_elem? owners (length added)) table
+    pub value_is :
+        HasPlace stored base b (f ++ all_added added) (get_elem? owners (length added)) table
     -- what each seat left the last time
     pub each_last : (j : ℕ) (v : Knows E B) (place : Place E) → StandsFor table.views j v place →
         IsLast (may_add b) f owners added place.number place.last
     -- no two seats are in their turn at once
-    pub one_inside : (i j : ℕ) (v w : Knows E B) → IsInside table.views i v → IsInside table.views j w →
+    pub one_inside :
+        (i j : ℕ) (v w : Knows E B) → IsInside table.views i v → IsInside table.views j w →
         i ≡ j

@@ -1,5 +1,6 @@
 -- What each step shows the seat that made it.
-use Rattle.std.specs.Prelude.{◌≡◌, ◌≢◌, ℕ, ◌+◌, ◌<◌, ◌≤◌, ◌^◌, Bool, List, [], ◌∷◌, length, Option, Some}
+use Rattle.std.specs.Prelude.{◌≡◌, ◌≢◌, ℕ, ◌+◌, ◌<◌, ◌≤◌, ◌^◌, Bool, List, [], ◌∷◌, length, Option}
+use Rattle.std.specs.Prelude.{Some}
 use Rattle.atomic_table.specs.Table.{Me, Step}
 use Rattle.turn_lock.specs.declared.knowledge.Knows.{Knows}
 use Rattle.turn_lock.specs.declared.knowledge.Place.{Place}

@@ -1,6 +1,7 @@
 -- The turn history: it holds between any two steps of a lock's table.
 -- Word 0 is the number of tickets drawn, word 1 the ticket that is served, slot 0 has the value.
-use Rattle.std.specs.Prelude.{◌≡◌, ◌⊎◌, ℕ, suc, ◌+◌, ◌<◌, ◌≤◌, ◌^◌, Bool, List, [], ◌∷◌, ◌++◌, length, take, slice_index, Option, Some}
+use Rattle.std.specs.Prelude.{◌≡◌, ◌⊎◌, ℕ, suc, ◌+◌, ◌<◌, ◌≤◌, ◌^◌, Bool, List, [], ◌∷◌, ◌++◌}
+use Rattle.std.specs.Prelude.{length, take, slice_index, Option, Some}
 use mathlib.Core.Option.{some, none}
 use mathlib.Core.Option as maybe
 use lib.ListN.{get_elem?}
@@ -31,8 +32,8 @@ module _ {E : Type 0} where
   AreApart places = (k l : ℕ) (p q : Place E) → get_elem? places k ≡ some p →
       get_elem? places l ≡ some q → p.number ≡ q.number → k ≡ l
 
--- A seat of the lock, of which the seat j of the table knows v: it has few tickets, at most one of which isn't
--- served to its end, and `last` has what the turns added up to its latest one
+-- A seat of the lock, of which the seat j of the table knows v: it has few tickets, at most one of
+-- which isn't served to its end, and `last` has what the turns added up to its latest one
 pub record PlaceOk {E B : Type 0} (base : B) (first : List E) (owners : List ℕ)
     (added : List (List E)) (seat_of : ℕ → ℕ) (made j : ℕ) (v : Knows E B) (place : Place E)
     : Type 0 where

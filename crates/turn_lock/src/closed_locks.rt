@@ -35,8 +35,8 @@ fn gather<V: Kept>(
 }
 
 impl<V: Kept> TurnLock<V> {
-    /// Takes the value out, when all seats are handed in and none is in its turn. What the value has stored is what it
-    /// had at first and then what the seats added, each seat's in its order.
+    /// Takes the value out, when all seats are handed in and none is in its turn. What the value
+    /// has stored is what it had at first and then what the seats added, each seat's in its order.
     pub fn close(self, seats: Vec<TurnSeat<V>>) -> V
         requires all { length seats.items ≡ self.seats }
         requires own { AllByRecursion (IsIdleSeatOf self) seats.items }

@@ -37,8 +37,8 @@ fn make_others<V: Kept>(
 }
 
 impl<V: Kept + Drop> TurnLock<V> {
-    /// A lock over the value, and its seats, which have the numbers from 0 in the order of the list. There are 1 to 32
-    /// seats. The only error is out of memory; the value is then dropped.
+    /// A lock over the value, and its seats, which have the numbers from 0 in the order of the
+    /// list. There are 1 to 32 seats. The only error is out of memory; the value is then dropped.
     pub fn new(
         alloc: Global,
         value: V,

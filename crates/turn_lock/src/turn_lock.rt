@@ -6,8 +6,8 @@ use atomic_table::Table;
 use std::alloc::Global;
 use std::marker::Model;
 
-/// A value that seats take in turns. Word 0 of its table is the number of tickets drawn, word 1 the ticket that is
-/// served, and its slot has the value while no seat has it.
+/// A value that seats take in turns. Word 0 of its table is the number of tickets drawn, word 1 the
+/// ticket that is served, and its slot has the value while no seat has it.
 #[derive(Drop)]
 pub struct TurnLock<V: Kept> {
     /// The two words and the slot, under the turn history.

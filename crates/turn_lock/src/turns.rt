@@ -61,7 +61,8 @@ fn wait_turn<V: Kept, R: Wait>(
 }
 
 impl<V: Kept> TurnLock<V> {
-    /// Waits for the seat's turn and gives the value. The seat isn't in its turn, and has entered fewer than 2^32 times.
+    /// Waits for the seat's turn and gives the value. The seat isn't in its turn, and has entered
+    /// fewer than 2^32 times.
     pub fn enter<R: Wait>(&self, rt: &R, seat: &mut TurnSeat<V>) -> V
         requires own { IsSeatOf self.now seat.old }
         requires outside { seat.old.turn ≡ None }
@@ -81,8 +82,8 @@ impl<V: Kept> TurnLock<V> {
         shared.exchange(&mut seat.seat, 0, None).unwrap()
     }
 
-    /// Ends the seat's turn. The value has the base that it was given with, and has stored what it had then, or that
-    /// and one entry more which this seat may add.
+    /// Ends the seat's turn. The value has the base that it was given with, and has stored what it
+    /// had then, or that and one entry more which this seat may add.
     pub fn leave(&self, seat: &mut TurnSeat<V>, value: V)
         requires own { IsSeatOf self.now seat.old }
         requires base { V.base value ≡ self.now.base }
