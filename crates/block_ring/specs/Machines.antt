@@ -1,5 +1,6 @@
 -- The machine of a ring at a state of its notes.
-use Rattle.std.specs.Prelude.{◌≡◌, ℕ, ◌+◌, ◌^◌, ◌≤◌, Bool, List, [], ◌∷◌, length, Option, None, Some}
+use Rattle.std.specs.Prelude.{◌≡◌, ℕ, ◌+◌, ◌^◌, ◌≤◌, Bool, List, [], ◌∷◌, length, Option, None}
+use Rattle.std.specs.Prelude.{Some}
 use Rattle.ring_model.specs.Ring.{MayStand, Size, State, after, open_count, retired, status_of}
 use Rattle.ring_model.specs.declared.notes.Note.{Note}
 use Rattle.ring_model.specs.declared.notes.Offer.{Offer}
@@ -28,7 +29,8 @@ HoldsText shape text None (Some block) = ⊥
 HoldsText shape text (Some offers) None = ⊥
 
 -- the machine is at this state; beside its open block it holds `in_hand` blocks
-pub record IsAt {E : Type 0} (feed : E → Feed) (in_hand : ℕ) (state : State) (machine : Machine E) : Type 0 where
+pub record IsAt {E : Type 0} (feed : E → Feed) (in_hand : ℕ) (state : State) (machine : Machine E)
+    : Type 0 where
   pub places : (feed machine.end).ring.places ≡ machine.shape.block_nr
   pub kind : (feed machine.end).ring.kind ≡ numbers_of machine.shape
   pub far : 2 ^ 40 ≤ (feed machine.end).ring.bound
@@ -56,7 +58,8 @@ pub record KeepsEnd (before after : Feed) : Type 0 where
   pub holds : before.holds ≤ after.holds
 
 -- the machine went on by a note
-pub record Stepped {E : Type 0} (feed : E → Feed) (old_state : State) (note : Note) (before after_it : Machine E) : Type 0 where
+pub record Stepped {E : Type 0} (feed : E → Feed) (old_state : State) (note : Note)
+    (before after_it : Machine E) : Type 0 where
   pub at : IsAt feed 0 (after (size_of before.shape) old_state note) after_it
   pub stands : MayStand (size_of before.shape) old_state note
   pub end : KeepsEnd (feed before.end) (feed after_it.end)
@@ -71,7 +74,10 @@ pub record IsFew {E : Type 0} (machine : Machine E) : Type 0 where
 
 -- the open block is retired, by time-out or not, and none is open
 abbrev pub retire_now : Bool → State → State
-retire_now timed_out state = record state { done = retired state.done (status_of timed_out state) state.now; now = None }
+retire_now timed_out state = record state {
+  done = retired state.done (status_of timed_out state) state.now;
+  now = None;
+}
 
 -- the next block is opened, and its time begins
 abbrev pub open_next : Size → State → State
@@ -80,7 +86,11 @@ open_next size state = record state { now = Some []; deadline = state.clock + si
 -- and a packet is its first
 abbrev pub keep_first : Size → Offer → State → State
 keep_first size offer state =
-    record state { now = Some (offer ∷ []); deadline = state.clock + size.tov; kept = state.kept + 1 }
+    record state {
+      now = Some (offer ∷ []);
+      deadline = state.clock + size.tov;
+      kept = state.kept + 1;
+    }
 
 -- an end that was given nothing yet, of a ring of blocks of this shape
 pub record IsFresh (shape : RingRequest) (feed : Feed) : Type 0 where

@@ -21,7 +21,8 @@ with_packet text offer = record text { offers = text.offers ++ offer ∷ [] }
 -- an open block has this text so far, and knows what its close will write
 pub record Holds (shape : RingRequest) (text : OpenText) (open_block : OpenBlock) : Type 0 where
   pub shape_is : open_block.block.shape ≡ shape
-  pub text_is : IsOpen shape text.number (packets_of_offers shape text.offers) open_block.block.bytes
+  pub text_is :
+      IsOpen shape text.number (packets_of_offers shape text.offers) open_block.block.bytes
   pub closing_is : open_block.closing ≡ closing_of shape 0 (packets_of_offers shape text.offers)
   pub writable : AllByRecursion IsWritable text.offers
   pub end_is : open_block.closing.length ≡ first_of shape + used_by text.offers

@@ -38,14 +38,16 @@ abbrev pub state : {E : Type 0} → Producing E → State
 state ring = state_of (size_of ring.shape) ring.notes
 
 -- a new ring over an end: block 1 is open
-pub record Opens {E : Type 0} (feed : E → Feed) (request : RingRequest) (given_end : E) (ring : Producing E) : Type 0 where
+pub record Opens {E : Type 0} (feed : E → Feed) (request : RingRequest) (given_end : E)
+    (ring : Producing E) : Type 0 where
   pub shape : ring.shape ≡ request
   pub notes : ring.notes ≡ []
   pub end : feed ring.end ≡ record (feed given_end) { given = 1 }
 
 -- a call added this note, which may stand. The end stands for the texts of all retired blocks, and
 -- its looks found the blocks held that the notes report
-pub record Adds {E : Type 0} (feed : E → Feed) (before after : Producing E) (note : Note) : Type 0 where
+pub record Adds {E : Type 0} (feed : E → Feed) (before after : Producing E) (note : Note)
+    : Type 0 where
   pub shape : after.shape ≡ before.shape
   pub notes : after.notes ≡ before.notes ++ note ∷ []
   pub stands : MayStand (size before) (state before) note
@@ -57,7 +59,8 @@ pub record Adds {E : Type 0} (feed : E → Feed) (before after : Producing E) (n
 
 -- a put found this. Where the block was held one look of this call reported its number, else no
 -- look found one held; where the end reports how many blocks were released, what is found is exact
-pub record Puts {E : Type 0} (feed : E → Feed) (before after : Producing E) (offer : Offer) (found : Found) (put : Put) : Type 0 where
+pub record Puts {E : Type 0} (feed : E → Feed) (before after : Producing E) (offer : Offer)
+    (found : Found) (put : Put) : Type 0 where
   pub adds : Adds feed before after (put_by offer found)
   pub told : put ≡ put_told (put_by offer found)
   pub looked : WasHeld found (Rose (feed before.end).holds (feed after.end).holds)
@@ -67,7 +70,8 @@ pub record Puts {E : Type 0} (feed : E → Feed) (before after : Producing E) (o
       → found ≡ found_for (size before) released (state before) (need_of offer.snap)
 
 -- a try found this
-pub record Tries {E : Type 0} (feed : E → Feed) (before after : Producing E) (offer : Offer) (found : Found) (tried : Tried) : Type 0 where
+pub record Tries {E : Type 0} (feed : E → Feed) (before after : Producing E) (offer : Offer)
+    (found : Found) (tried : Tried) : Type 0 where
   pub adds : Adds feed before after (try_by offer found)
   pub told : tried ≡ try_told offer (try_by offer found)
   pub looked : WasHeld found (Rose (feed before.end).holds (feed after.end).holds)
@@ -77,7 +81,8 @@ pub record Tries {E : Type 0} (feed : E → Feed) (before after : Producing E) (
       → found ≡ found_for (size before) released (state before) (need_of offer.snap)
 
 -- a tick found this
-pub record Ticks {E : Type 0} (feed : E → Feed) (before after : Producing E) (ms : ℕ) (found : Found) : Type 0 where
+pub record Ticks {E : Type 0} (feed : E → Feed) (before after : Producing E) (ms : ℕ)
+    (found : Found) : Type 0 where
   pub adds : Adds feed before after (Ticked ms found)
   pub looked : WasHeld found (Rose (feed before.end).holds (feed after.end).holds)
   pub count : CountsHeld found (feed before.end).holds (feed after.end).holds
@@ -97,10 +102,12 @@ GoesOn note = Unit {0}
 -- each note may stand after those before it, and none closes the ring
 abbrev pub IsOpenRun : Size → State → List Note → Type 0
 IsOpenRun size state [] = Unit {0}
-IsOpenRun size state (note ∷ notes) = MayStand size state note × GoesOn note × IsOpenRun size (after size state note) notes
+IsOpenRun size state (note ∷ notes) =
+    MayStand size state note × GoesOn note × IsOpenRun size (after size state note) notes
 
 -- what the fields of a ring keep
-pub record Keeps {E : Type 0} (feed : E → Feed) (machine : Machine E) (notes : List Note) (room : ℕ) : Type 0 where
+pub record Keeps {E : Type 0} (feed : E → Feed) (machine : Machine E) (notes : List Note) (room : ℕ)
+    : Type 0 where
   pub at : IsAt feed 0 (state_of (size_of machine.shape) notes) machine
   pub run : IsOpenRun (size_of machine.shape) (first_state (size_of machine.shape)) notes
   pub looks : held_count notes ≤ (feed machine.end).holds

@@ -3,13 +3,14 @@ use Rattle.std.specs.Prelude.{◌≡◌, ℕ, List}
 use Rattle.block_ring.specs.Producing.{Producing}
 
 -- its end gave this content to the reader, and all else is as before
-pub record TookBy {E : Type 0} (took : E → E → List ℕ → Type 0) (before after : Producing E) (content : List ℕ) : Type 0 where
+pub record TookBy {E : Type 0} (took : E → E → List ℕ → Type 0) (before after : Producing E)
+    (content : List ℕ) : Type 0 where
   pub end : took before.end after.end content
   pub rest : after ≡ record before { end = after.end }
 
 -- its end took a block of this content back, with this word, and all else is as before
-pub record GaveBackBy {E : Type 0} (gave_back : E → E → List ℕ → ℕ → Type 0) (before after : Producing E) (content : List ℕ) (mark : ℕ)
-    : Type 0 where
+pub record GaveBackBy {E : Type 0} (gave_back : E → E → List ℕ → ℕ → Type 0)
+    (before after : Producing E) (content : List ℕ) (mark : ℕ) : Type 0 where
   pub end : gave_back before.end after.end content mark
   pub rest : after ≡ record before { end = after.end }
 

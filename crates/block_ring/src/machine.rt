@@ -16,15 +16,19 @@
 //! packet froze the ring.
 //!
 //! In the end an open block that has packets is retired. An empty one is given up.
-ghost use Rattle.std.specs.Prelude.{◌≡◌, ◌+◌, ◌^◌, ◌<◌, ◌≤◌, ◌≢◌, ◌∷◌, ℕ, [], true, false, IsTrue, None, Some};
-ghost use Rattle.ring_model.specs.Asking.{found_for, has_room, is_empty_block, look, put_by, tick_note, try_by};
+ghost use Rattle.std.specs.Prelude.{◌≡◌, ◌+◌, ◌^◌, ◌<◌, ◌≤◌, ◌≢◌, ◌∷◌, ℕ, [], true, false, IsTrue};
+ghost use Rattle.std.specs.Prelude.{None, Some};
+ghost use Rattle.ring_model.specs.Asking.{found_for, has_room, is_empty_block, look, put_by};
+ghost use Rattle.ring_model.specs.Asking.{tick_note, try_by};
 ghost use Rattle.ring_model.specs.Fates.{stats_of};
-ghost use Rattle.ring_model.specs.Ring.{HasRoom, MayStand, State, after, after_due, first_state, open_count, status_of};
+ghost use Rattle.ring_model.specs.Ring.{HasRoom, MayStand, State, after, after_due, first_state};
+ghost use Rattle.ring_model.specs.Ring.{open_count, status_of};
 ghost use Rattle.ring_model.specs.Sizes.{need_of};
 ghost use Rattle.ring_model.specs.declared.notes.Found.TheVariants as found;
 ghost use Rattle.ring_model.specs.declared.notes.Note.TheVariants as notes;
 ghost use Rattle.ring_words.specs.Counts.{Rose};
-ghost use Rattle.block_ring.specs.Noting.{CountsHeld, FoundAsNoted, IsAsked, WasHeld, deadline_after, found_with};
+ghost use Rattle.block_ring.specs.Noting.{CountsHeld, FoundAsNoted, IsAsked, WasHeld};
+ghost use Rattle.block_ring.specs.Noting.{deadline_after, found_with};
 ghost use Rattle.tp_layout.specs.Blocks.{is_status};
 ghost use Rattle.tp_layout.specs.Requests.{numbers_of, room_of, size_of};
 ghost use Rattle.tp_layout.specs.Writing.{IsWritable};
@@ -62,7 +66,8 @@ pub(crate) struct Machine<E> {
 }
 
 impl<E: FeederEnd<Block> + Drop> Machine<E> {
-    ghost use Rattle.block_ring.specs.Machines.{At, IsAt, IsFew, IsFresh, KeepsEnd, keep_first, open_next, retire_now};
+    ghost use Rattle.block_ring.specs.Machines.{At, IsAt, IsFew, IsFresh, KeepsEnd, keep_first};
+    ghost use Rattle.block_ring.specs.Machines.{open_next, retire_now};
     ghost use Rattle.block_ring.specs.Texts.{StandsForTexts};
 
     /// A machine with block 1 open. The end is fresh, so its first look finds that block free.

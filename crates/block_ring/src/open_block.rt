@@ -1,6 +1,7 @@
 //! The open block: packets are written one after the other, and what its close will write is kept
 //! beside it.
-ghost use Rattle.std.specs.Prelude.{◌≡◌, ◌+◌, ◌^◌, ◌<◌, ◌≤◌, ◌++◌, ◌∷◌, ℕ, IsTrue, List, [], length, ◌↔◌};
+ghost use Rattle.std.specs.Prelude.{◌≡◌, ◌+◌, ◌^◌, ◌<◌, ◌≤◌, ◌++◌, ◌∷◌, ℕ, IsTrue, List, []};
+ghost use Rattle.std.specs.Prelude.{length, ◌↔◌};
 ghost use Rattle.ring_model.specs.Offers.{packet_of};
 ghost use Rattle.ring_model.specs.Sizes.{fits, need_of};
 ghost use Rattle.tp_layout.specs.Blocks.{BeginsWith, first_time, is_status};

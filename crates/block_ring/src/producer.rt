@@ -1,5 +1,6 @@
 //! A ring that frames are put into: its machine, and the notes of what happened.
-ghost use Rattle.std.specs.Prelude.{◌≡◌, ◌+◌, ◌^◌, ◌<◌, ◌≤◌, ◌≢◌, ◌↔◌, ◌∷◌, ◌++◌, ℕ, [], length, IsOk, IfOk, IfErr, OnOk, OnErr, Err};
+ghost use Rattle.std.specs.Prelude.{◌≡◌, ◌+◌, ◌^◌, ◌<◌, ◌≤◌, ◌≢◌, ◌↔◌, ◌∷◌, ◌++◌, ℕ, [], length};
+ghost use Rattle.std.specs.Prelude.{IsOk, IfOk, IfErr, OnOk, OnErr, Err};
 ghost use Rattle.ring_model.specs.Asking.{put_by, try_by};
 ghost use Rattle.ring_model.specs.Told.{put_told, try_told};
 ghost use Rattle.ring_model.specs.Fates.{stats_of};

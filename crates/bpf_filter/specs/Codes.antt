@@ -1,6 +1,8 @@
 -- What the codes of classic BPF do. The names beside them are those of linux/bpf_common.h and
 -- linux/filter.h.
-use Rattle.std.specs.Prelude.{ℕ, ◌+◌, ◌-◌, ◌*◌, ◌/◌, ◌%◌, ◌^◌, Bool, not, List, [], ◌∷◌, length, take, drop, slice_index, slice_set, nat_lt, nat_le, ◌==◌, if◌then◌else◌, bit_and, bit_or, bit_xor, Option, None, Some, is_some}
+use Rattle.std.specs.Prelude.{ℕ, ◌+◌, ◌-◌, ◌*◌, ◌/◌, ◌%◌, ◌^◌, Bool, not, List, [], ◌∷◌, length}
+use Rattle.std.specs.Prelude.{take, drop, slice_index, slice_set, nat_lt, nat_le, ◌==◌}
+use Rattle.std.specs.Prelude.{if◌then◌else◌, bit_and, bit_or, bit_xor, Option, None, Some, is_some}
 use Rattle.std.specs.List.{fold}
 use Rattle.std.specs.Option.{option_map, option_or}
 use Rattle.bpf_filter.specs.declared.insn.Insn.{Insn}
@@ -46,7 +48,8 @@ ancillary =
 
 -- what stands at a place of the packet; an ancillary number is given whole, whatever the size
 abbrev pub absolute : ℕ → ℕ → Sight → Option ℕ
-absolute size place p = option_or (option_map (λ fact. fact p) (item_at ancillary place)) (number_at size place p.bytes)
+absolute size place p =
+    option_or (option_map (λ fact. fact p) (item_at ancillary place)) (number_at size place p.bytes)
 
 -- four times the low half of a byte
 abbrev pub header_length : ℕ → ℕ

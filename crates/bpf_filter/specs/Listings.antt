@@ -1,6 +1,7 @@
 -- The text of `tcpdump -ddd`: a line with the number of instructions, then a line for each
 -- instruction.
-use Rattle.std.specs.Prelude.{ℕ, ◌+◌, Bool, true, false, ◌&&◌, List, [], ◌∷◌, length, nat_lt, nat_le, ◌==◌, if◌then◌else◌, Option, None, Some, Result, Ok, Err}
+use Rattle.std.specs.Prelude.{ℕ, ◌+◌, Bool, true, false, ◌&&◌, List, [], ◌∷◌, length, nat_lt}
+use Rattle.std.specs.Prelude.{nat_le, ◌==◌, if◌then◌else◌, Option, None, Some, Result, Ok, Err}
 use Rattle.std.specs.List.{list_all}
 use Rattle.std.specs.Option.{option_and_then}
 use Rattle.text_lines.specs.Lines.{lines_of}
@@ -55,10 +56,12 @@ are_blank lines = list_all (λ line. has_no_word (words_of line)) lines
 -- the lines up to the last one that has a word
 unfoldable pub without_blank_end : List (List ℕ) → List (List ℕ)
 without_blank_end [] = []
-without_blank_end (line ∷ more) = if are_blank (line ∷ more) then [] else line ∷ without_blank_end more
+without_blank_end (line ∷ more) =
+    if are_blank (line ∷ more) then [] else line ∷ without_blank_end more
 
 -- what a line of that number gives, with what the lines after it give
-abbrev pub with_line : ℕ → Option Insn → Result (List Insn) FilterError → Result (List Insn) FilterError
+abbrev pub with_line :
+    ℕ → Option Insn → Result (List Insn) FilterError → Result (List Insn) FilterError
 with_line number None more = Err (BadLine number)
 with_line number (Some i) (Ok code) = Ok (i ∷ code)
 with_line number (Some i) (Err error) = Err error
@@ -86,4 +89,5 @@ program_in (first ∷ more) = behind_count (count_of (words_of first)) (instruct
 -- the instructions of a text, or its first fault
 unfoldable pub instructions_of : List ℕ → Result (List Insn) FilterError
 instructions_of text =
-    if nat_lt 1048576 (length text) then Err TooLarge else program_in (without_blank_end (lines_of text))
+    if nat_lt 1048576 (length text) then Err TooLarge
+    else program_in (without_blank_end (lines_of text))

@@ -1,10 +1,14 @@
 -- The programs that are accepted, and the first fault of one that isn't.
-use Rattle.std.specs.Prelude.{◌≡◌, ℕ, ◌+◌, Bool, true, false, not, ◌&&◌, ◌||◌, List, [], ◌∷◌, length, nat_lt, nat_le, ◌==◌, if◌then◌else◌, Option, None, Some, is_some, Result, Ok, Err}
+use Rattle.std.specs.Prelude.{◌≡◌, ℕ, ◌+◌, Bool, true, false, not, ◌&&◌, ◌||◌, List, [], ◌∷◌}
+use Rattle.std.specs.Prelude.{length, nat_lt, nat_le, ◌==◌, if◌then◌else◌, Option, None, Some}
+use Rattle.std.specs.Prelude.{is_some, Result, Ok, Err}
 use Rattle.std.specs.List.{list_any}
 use Rattle.std.specs.Option.{option_or}
 use Rattle.bpf_filter.specs.declared.insn.Insn.{Insn}
 use Rattle.bpf_filter.specs.declared.error.FilterError.{FilterError}
-use Rattle.bpf_filter.specs.declared.error.FilterError.TheVariants.{BadCount, BadCode, BadJump, BadConstant, BadMemory, NoReturn, BadAncillary}
+use Rattle.bpf_filter.specs.declared.error.FilterError.TheVariants.{BadCount, BadCode, BadJump}
+use Rattle.bpf_filter.specs.declared.error.FilterError.TheVariants.{BadConstant, BadMemory}
+use Rattle.bpf_filter.specs.declared.error.FilterError.TheVariants.{NoReturn, BadAncillary}
 use Rattle.bpf_filter.specs.Codes.{ancillary, is_code}
 use Rattle.bpf_filter.specs.Tables.{item_at}
 
@@ -14,7 +18,8 @@ is_among codes code = list_any (λ c. c == code) codes
 -- a division by the constant 0, or a shift by a constant of 32 or more
 abbrev pub has_bad_constant : Insn → Bool
 has_bad_constant i =
-    (is_among (0x34 ∷ 0x94 ∷ []) i.code && (i.k == 0)) || (is_among (0x64 ∷ 0x74 ∷ []) i.code && nat_le 32 i.k)
+    (is_among (0x34 ∷ 0x94 ∷ []) i.code && (i.k == 0))
+    || (is_among (0x64 ∷ 0x74 ∷ []) i.code && nat_le 32 i.k)
 
 -- a memory word from 16 on
 abbrev pub has_bad_word : Insn → Bool
@@ -23,7 +28,9 @@ has_bad_word i = is_among (0x60 ∷ 0x61 ∷ 0x02 ∷ 0x03 ∷ []) i.code && nat
 -- a place in the packet from 2 ^ 31 on that isn't ancillary
 abbrev pub has_bad_place : Insn → Bool
 has_bad_place i =
-    is_among (0x20 ∷ 0x28 ∷ 0x30 ∷ []) i.code && nat_le 0x80000000 i.k && not (is_some (item_at ancillary i.k))
+    is_among (0x20 ∷ 0x28 ∷ 0x30 ∷ []) i.code
+    && nat_le 0x80000000 i.k
+    && not (is_some (item_at ancillary i.k))
 
 -- a jump past the last instruction, where that many instructions follow this one
 abbrev pub has_bad_jump : ℕ → Insn → Bool
@@ -63,7 +70,8 @@ program_after None program = if ends_with_return program then Ok program else Er
 
 unfoldable pub program_of : List Insn → Result (List Insn) FilterError
 program_of program =
-    if nat_lt 4096 (length program) then Err BadCount else program_after (first_fault 0 program) program
+    if nat_lt 4096 (length program) then Err BadCount
+    else program_after (first_fault 0 program) program
 
 -- an instruction whose code is known, and whose memory word is there
 pub record IsRunnable (i : Insn) : Type 0 where

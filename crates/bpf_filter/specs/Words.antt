@@ -1,7 +1,10 @@
 -- The words for the faults of a filter.
 use Rattle.std.specs.Prelude.{ℕ, List, codes}
 use Rattle.bpf_filter.specs.declared.error.FilterError.{FilterError}
-use Rattle.bpf_filter.specs.declared.error.FilterError.TheVariants.{BadLine, BadCount, BadCode, BadJump, BadConstant, BadMemory, NoReturn, BadAncillary, Memory, TooLarge}
+use Rattle.bpf_filter.specs.declared.error.FilterError.TheVariants.{BadLine, BadCount, BadCode}
+use Rattle.bpf_filter.specs.declared.error.FilterError.TheVariants.{BadJump, BadConstant, BadMemory}
+use Rattle.bpf_filter.specs.declared.error.FilterError.TheVariants.{NoReturn, BadAncillary, Memory}
+use Rattle.bpf_filter.specs.declared.error.FilterError.TheVariants.{TooLarge}
 
 abbrev pub word_of : FilterError → List ℕ
 word_of (BadLine line) = codes "bad_line"

@@ -3,7 +3,9 @@ ghost use Rattle.std.specs.Prelude.{◌≡◌, ◌+◌, ◌≤◌, [], ◌∷◌
 ghost use Rattle.text_lines.specs.Lines.{lines_of};
 ghost use Rattle.text_lines.specs.Words.{words_of};
 ghost use Rattle.bpf_filter.specs.Answers.{Gives};
-ghost use Rattle.bpf_filter.specs.Listings.{are_blank, count_of, is_count, fields_of, instruction_of, instructions_from, instructions_of, number_to, without_blank_end};
+ghost use Rattle.bpf_filter.specs.Listings.{are_blank, count_of, is_count, fields_of};
+ghost use Rattle.bpf_filter.specs.Listings.{instruction_of, instructions_from, instructions_of};
+ghost use Rattle.bpf_filter.specs.Listings.{number_to, without_blank_end};
 
 use crate::error::FilterError;
 use crate::insn::Insn;

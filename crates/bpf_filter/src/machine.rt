@@ -1,7 +1,8 @@
 //! The machine that runs a program: its registers and its memory. The names beside the codes are
 //! those of `linux/bpf_common.h` and `linux/filter.h`.
 ghost use Rattle.std.specs.Prelude.{◌≡◌, ◌<◌, Some, if◌then◌else◌, true};
-ghost use Rattle.bpf_filter.specs.Codes.{GoesOn, effect, left_shift, load_a, load_x, right_shift, to_a, to_word};
+ghost use Rattle.bpf_filter.specs.Codes.{GoesOn, effect, left_shift, load_a, load_x, right_shift};
+ghost use Rattle.bpf_filter.specs.Codes.{to_a, to_word};
 ghost use Rattle.bpf_filter.specs.inside.Machines.{GoesFurther, is_calculation, next_of, state_of};
 ghost use Rattle.bpf_filter.specs.Programs.{IsRunnable};
 ghost use Rattle.bpf_filter.specs.Sight.{Sight, sight_of};

@@ -2,7 +2,8 @@
 ghost use Rattle.std.specs.Prelude.{◌≡◌, ◌≤◌, length, option_copied};
 ghost use Rattle.bpf_filter.specs.Answers.{Gives};
 ghost use Rattle.bpf_filter.specs.Codes.{is_code};
-ghost use Rattle.bpf_filter.specs.Programs.{program_of, fault_of, fault_of_known, first_fault, ends_with_return};
+ghost use Rattle.bpf_filter.specs.Programs.{program_of, fault_of, fault_of_known, first_fault};
+ghost use Rattle.bpf_filter.specs.Programs.{ends_with_return};
 ghost use Rattle.bpf_filter.specs.Sight.{sight_of};
 ghost use Rattle.bpf_filter.specs.Verdict.{verdict_of, verdict_with};
 

@@ -29,8 +29,8 @@ fn a_cut_between_pieces_changes_nothing(rt: HostRuntime) -> Result<(), Fail> {
     Ok(())
 }
 
-/// What the end of the capture answers that is cut to a length: its blocks begin at 0, 28 and 48, and
-/// end at 96. What is kept is the part of the block that is cut.
+/// What the end of the capture answers that is cut to a length: its blocks begin at 0, 28 and 48,
+/// and end at 96. What is kept is the part of the block that is cut.
 fn end_at(length: u32) -> Ended {
     let place: u32 = match length {
         0..28 => 0,

@@ -6,7 +6,8 @@ use std::alloc::Global;
 /// What the end answers, and the number of bytes that are kept there.
 pub(crate) type Ended = (Result<(), BlockError>, u32);
 
-/// Feeds a capture in pieces of a size. It gives the damage that the last feed named, and what the end answers.
+/// Feeds a capture in pieces of a size. It gives the damage that the last feed named, and what the
+/// end answers.
 pub(crate) fn decode(
     alloc: Global,
     bytes: &[u8],
@@ -23,8 +24,8 @@ pub(crate) fn decode(
     (damage, (decoder.end(), decoder.rest()))
 }
 
-/// What is read of a frame beside its bytes: its CPU and index, its time in seconds and nanoseconds,
-/// and how many bytes it had on the wire.
+/// What is read of a frame beside its bytes: its CPU and index, its time in seconds and
+/// nanoseconds, and how many bytes it had on the wire.
 pub(crate) type Seen = ((u32, u32), (u32, u32), u32);
 
 /// What is read of a frame, where there is one.

@@ -1,4 +1,5 @@
-//! One packet in either byte order, whose frame is known, and what two sections of different byte order give.
+//! One packet in either byte order, whose frame is known, and what two sections of different byte
+//! order give.
 use crate::block_feeding::{bytes_of, decode, seen};
 use crate::block_writing::{push_enhanced, push_interface, push_section, push_simple};
 use frame_view::{Frames, Memory};
@@ -7,7 +8,8 @@ use std::alloc::Global;
 use std::process::Abort;
 use std::test::Fail;
 
-/// A section, an Ethernet interface and an ARP frame of 14 bytes at 1 second and 2 microseconds, little-endian.
+/// A section, an Ethernet interface and an ARP frame of 14 bytes at 1 second and 2 microseconds,
+/// little-endian.
 pub(crate) static LITTLE: [u8; 96] = [
     0x0a, 0x0d, 0x0d, 0x0a, 0x1c, 0, 0, 0, 0x4d, 0x3c, 0x2b, 0x1a, 1, 0, 0, 0, 0xff, 0xff, 0xff,
     0xff, 0xff, 0xff, 0xff, 0xff, 0x1c, 0, 0, 0, 1, 0, 0, 0, 0x14, 0, 0, 0, 1, 0, 0, 0, 0, 0, 4, 0,
@@ -90,7 +92,8 @@ fn two_sections(alloc: Global) -> Result<Vec<u8>, Memory> {
 fn reads_two_sections(rt: HostRuntime) -> Result<(), Fail> {
     let bytes = two_sections(rt.alloc())?;
     let mut frames = Frames::new(rt.alloc());
-    // The second section has one interface, so its second packet, at 104 + 28 + 20 + 24, names one that isn't there.
+    // The second section has one interface, so its second packet, at 104 + 28 + 20 + 24, names one
+    // that isn't there.
     let missing = BlockError::BadInterface(176);
     let answer = decode(rt.alloc(), bytes.as_slice(), 50, &mut frames);
     assert_eq!(rt;

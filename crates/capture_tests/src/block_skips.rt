@@ -7,7 +7,8 @@ use std::alloc::Global;
 use std::process::Abort;
 use std::test::Fail;
 
-/// A section with an interface, a block of type 5 of 1,000,000 bytes whose tail says `tail`, and a packet.
+/// A section with an interface, a block of type 5 of 1,000,000 bytes whose tail says `tail`, and a
+/// packet.
 fn long_capture(alloc: Global, tail: u32) -> Result<Vec<u8>, Memory> {
     let mut bytes = Vec::new(alloc);
     push_section(&mut bytes, Order::Little)?;
@@ -22,8 +23,8 @@ fn long_capture(alloc: Global, tail: u32) -> Result<Vec<u8>, Memory> {
     Ok(bytes)
 }
 
-/// Feeds a capture in pieces of 999 bytes, of which none may be damage. While the long block is fed, at most three bytes
-/// are kept.
+/// Feeds a capture in pieces of 999 bytes, of which none may be damage. While the long block is
+/// fed, at most three bytes are kept.
 fn feed_long(
     rt: &impl Abort,
     decoder: &mut BlockDecoder,

@@ -54,7 +54,8 @@ pub(crate) fn push_interface(
     push_u32(bytes, order, 20)
 }
 
-/// Appends an Ethernet interface with a name, a time resolution and the end of the options: 40 bytes.
+/// Appends an Ethernet interface with a name, a time resolution and the end of the options: 40
+/// bytes.
 pub(crate) fn push_timed(bytes: &mut Vec<u8>, order: Order, resolution: u8) -> Result<(), Memory> {
     push_u32(bytes, order, 1)?;
     push_u32(bytes, order, 40)?;

@@ -56,8 +56,8 @@ fn names_where_pcapng_is_cut(rt: HostRuntime) {
     }
 }
 
-/// Feeds a block of 999,912 bytes, which are 8, 100 times the 9,999 of its body, and 4 of its tail. At most 16 of its
-/// bytes are kept.
+/// Feeds a block of 999,912 bytes, which are 8, 100 times the 9,999 of its body, and 4 of its tail.
+/// At most 16 of its bytes are kept.
 fn feed_skipped(
     rt: &impl Abort,
     decoder: &mut Decoder,

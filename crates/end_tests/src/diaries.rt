@@ -1,5 +1,6 @@
 //! A diary that seats write in turns, each in a thread of its own.
-ghost use Rattle.std.specs.Prelude.{◌≡◌, ◌+◌, ◌*◌, ◌^◌, ◌<◌, ◌≤◌, ℕ, Bool, true, ◌==◌, length, slice_index_or, IfOk};
+ghost use Rattle.std.specs.Prelude.{◌≡◌, ◌+◌, ◌*◌, ◌^◌, ◌<◌, ◌≤◌, ℕ, Bool, true, ◌==◌, length};
+ghost use Rattle.std.specs.Prelude.{slice_index_or, IfOk};
 ghost use Rattle.turn_lock.specs.Seats.{IsIdleSeatOf, IsNth};
 
 use frame_view::Memory;

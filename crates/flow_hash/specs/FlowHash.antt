@@ -1,5 +1,6 @@
 -- What of a frame's headers is hashed: the same in both directions of a flow.
-use Rattle.std.specs.Prelude.{ℕ, Bool, true, false, ◌&&◌, ◌||◌, List, [], ◌++◌, nat_lt, nat_le, ◌==◌, Option, None, Some}
+use Rattle.std.specs.Prelude.{ℕ, Bool, true, false, ◌&&◌, ◌||◌, List, [], ◌++◌, nat_lt, nat_le}
+use Rattle.std.specs.Prelude.{◌==◌, Option, None, Some}
 use Rattle.std.specs.Int.{Width, to_be_bytes, w16, w32, w128}
 use Rattle.frame_view.specs.declared.header_reading.Headers.{Headers}
 use Rattle.frame_view.specs.declared.header_reading.Headers.TheVariants.{Runt, Plain, V4, V6}
@@ -17,7 +18,8 @@ ordered false a b = b ++ a
 -- the two ports, where they are there
 abbrev pub port_bytes : Bool → Option (ℕ × ℕ) → List ℕ
 port_bytes first None = []
-port_bytes first (Some (sport, dport)) = ordered first (to_be_bytes w16 sport) (to_be_bytes w16 dport)
+port_bytes first (Some (sport, dport)) =
+    ordered first (to_be_bytes w16 sport) (to_be_bytes w16 dport)
 
 -- the two addresses of a width, then the ports, the smaller end first, all in network order
 unfoldable pub ends_input : Width → ℕ → ℕ → Option (ℕ × ℕ) → List ℕ

@@ -1,5 +1,7 @@
--- The Toeplitz hash of receive side scaling, over lists of bits. A bit is 0 or 1, and the first of a list is the leftmost.
-use Rattle.std.specs.Prelude.{ℕ, ◌+◌, ◌*◌, ◌^◌, List, [], ◌∷◌, ◌++◌, length, take, drop, ◌==◌, if◌then◌else◌, bit_xor}
+-- The Toeplitz hash of receive side scaling, over lists of bits. A bit is 0 or 1, and the first of
+-- a list is the leftmost.
+use Rattle.std.specs.Prelude.{ℕ, ◌+◌, ◌*◌, ◌^◌, List, [], ◌∷◌, ◌++◌, length, take, drop, ◌==◌}
+use Rattle.std.specs.Prelude.{if◌then◌else◌, bit_xor}
 use Rattle.std.specs.Int.{bit_at}
 
 -- the eight bits of a byte, the highest first

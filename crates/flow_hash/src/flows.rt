@@ -2,15 +2,17 @@
 ghost use Rattle.std.specs.Prelude.{◌≡◌, ◌+◌, ◌≤◌, ◌++◌, length, drop};
 ghost use Rattle.std.specs.Int.{to_be_bytes, w32, w128};
 ghost use Rattle.flow_hash.specs.Toeplitz.{hash_of};
-ghost use Rattle.flow_hash.specs.FlowHash.{flow_input, way_back, ends_input, port_bytes, ordered, source_first};
+ghost use Rattle.flow_hash.specs.FlowHash.{flow_input, way_back, ends_input, port_bytes, ordered};
+ghost use Rattle.flow_hash.specs.FlowHash.{source_first};
 
 use crate::Key;
 use crate::toeplitz_hash::hash_from;
 use frame_view::{Headers, V4Part, V6Part};
 
-/// The hash of a frame's flow: the Toeplitz hash over the two addresses of its IP header and, where it has them,
-/// the two ports, the smaller end first, by address and then port. So both directions of a flow have one hash.
-/// It is 0 for a frame without an IP header. What is hashed is this project's own choice. It takes no memory.
+/// The hash of a frame's flow: the Toeplitz hash over the two addresses of its IP header and, where
+/// it has them, the two ports, the smaller end first, by address and then port. So both directions
+/// of a flow have one hash. It is 0 for a frame without an IP header. What is hashed is this
+/// project's own choice. It takes no memory.
 #[tactic(auto, using(crate::proofs::BothWays::flows), unfolding(crate::specs::FlowHash::flow_input))]
 pub fn flow_hash(key: &Key, view: &Headers) -> u32
     ensures hash { result ≡ hash_of key.now (flow_input view.now) }

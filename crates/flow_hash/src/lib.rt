@@ -1,4 +1,5 @@
-//! The hash of a flow: the Toeplitz hash of receive side scaling over the two ends of a frame's IP header.
+//! The hash of a flow: the Toeplitz hash of receive side scaling over the two ends of a frame's IP
+//! header.
 #![tactic(auto)]
 
 mod flows;

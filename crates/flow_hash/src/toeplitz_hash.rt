@@ -1,12 +1,14 @@
 //! The Toeplitz hash, a byte of the input at a time.
-ghost use Rattle.std.specs.Prelude.{◌≡◌, ◌+◌, ◌-◌, ◌/◌, ◌%◌, ◌^◌, ◌≤◌, ◌<◌, ◌==◌, if◌then◌else◌, length, take, drop};
+ghost use Rattle.std.specs.Prelude.{◌≡◌, ◌+◌, ◌-◌, ◌/◌, ◌%◌, ◌^◌, ◌≤◌, ◌<◌, ◌==◌, if◌then◌else◌};
+ghost use Rattle.std.specs.Prelude.{length, take, drop};
 ghost use Rattle.std.specs.Int.{bit_at};
 ghost use Rattle.flow_hash.specs.Toeplitz.{hash_of, toeplitz_of, bits_of, bits_of_byte, number_of};
 
 use crate::Key;
 
-/// The Toeplitz hash of receive side scaling (Microsoft's "RSS Hashing Types"): for each set bit of the input,
-/// counted from the left, the 32 bits of the key that begin at that bit's place are xored in. It takes no memory.
+/// The Toeplitz hash of receive side scaling (Microsoft's "RSS Hashing Types"): for each set bit of
+/// the input, counted from the left, the 32 bits of the key that begin at that bit's place are
+/// xored in. It takes no memory.
 pub fn toeplitz(key: &Key, input: &[u8]) -> u32
     requires { length input.now ≤ 36 }
     ensures { result ≡ hash_of key.now input.now }
@@ -40,7 +42,8 @@ fn byte_share(key: &[u8], byte: u8) -> u32
     share
 }
 
-/// What one bit of a byte adds, counted from the left: the 32 bits of the window from its place on, where it is set.
+/// What one bit of a byte adds, counted from the left: the 32 bits of the window from its place on,
+/// where it is set.
 fn bit_share(window: u64, byte: u8, bit: u32) -> u32
     requires { bit < 8 }
     ensures { result

@@ -1,11 +1,13 @@
 -- The frames that a seed makes.
-use Rattle.std.specs.Prelude.{ℕ, zero, suc, ◌+◌, ◌*◌, ◌/◌, ◌%◌, ◌^◌, ◌≡◌, ◌≤◌, List, [], ◌∷◌, length, map, None}
+use Rattle.std.specs.Prelude.{ℕ, zero, suc, ◌+◌, ◌*◌, ◌/◌, ◌%◌, ◌^◌, ◌≡◌, ◌≤◌, List, [], ◌∷◌}
+use Rattle.std.specs.Prelude.{length, map, None}
 use Rattle.std.specs.List.{range_with_len}
 use Rattle.frame_view.specs.Built.{built}
 use Rattle.frame_view.specs.declared.frame_building.Parts.{Parts}
 use Rattle.frame_view.specs.declared.frames.Frame.{Frame}
 
--- the state of the generator after a draw: a linear congruence modulo 2 ^ 64, with the numbers of Knuth's MMIX
+-- the state of the generator after a draw: a linear congruence modulo 2 ^ 64, with the numbers of
+-- Knuth's MMIX
 abbrev pub next_state : ℕ → ℕ
 next_state state = (state * 6364136223846793005 + 1442695040888963407) % 2 ^ 64
 
@@ -17,7 +19,8 @@ drawn state = next_state state / 2 ^ 32
 abbrev pub payload_of : ℕ → ℕ → List ℕ
 payload_of i len = map (λ j. (i + j) % 256) (range_with_len 0 len)
 
--- the parts of frame i, of its four draws: 10.0.0.0 and 10.1.0.0 and more, the ports from 1024 on, and 53
+-- the parts of frame i, of its four draws: 10.0.0.0 and 10.1.0.0 and more, the ports from 1024 on,
+-- and 53
 abbrev pub parts_of : ℕ → ℕ → ℕ → ℕ → ℕ → Parts
 parts_of i a b c d = record {
   to = 2 ∷ 0 ∷ 0 ∷ 0 ∷ 0 ∷ 2 ∷ [];

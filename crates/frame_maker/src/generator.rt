@@ -2,7 +2,8 @@
 ghost use Rattle.std.specs.Prelude.{◌≡◌};
 ghost use Rattle.frame_maker.specs.Made.{next_state, drawn};
 
-/// A linear congruential generator modulo 2^64, with the multiplier and the increment of Knuth's MMIX.
+/// A linear congruential generator modulo 2^64, with the multiplier and the increment of Knuth's
+/// MMIX.
 #[derive(Drop)]
 pub(crate) struct Generator {
     /// The state, at first the seed.

@@ -1,14 +1,15 @@
 //! The frames of a seed.
 ghost use Rattle.std.specs.Prelude.{◌≡◌, ◌<◌, ◌≤◌, length, All, IfOk, OnOk};
-ghost use Rattle.frame_maker.specs.Made.{made, made_frame, made_parts, after_frame, payload_of, IsMade};
+ghost use Rattle.frame_maker.specs.Made.{made, made_frame, made_parts, after_frame, payload_of};
+ghost use Rattle.frame_maker.specs.Made.{IsMade};
 
 use crate::generator::Generator;
 use frame_view::{ByteList, Frame, Frames, Memory, Parts, build};
 use std::alloc::Global;
 
-/// Makes the frames of a seed: UDP datagrams from 10.0.0.0/16, ports from 1024 on, to 10.1.0.0/24, port 53,
-/// with 0 to 1,400 bytes, a thousand a second from time 0 on, all of CPU 0, without a tag. Its memory is about
-/// the frames' bytes. The list is this project's own choice.
+/// Makes the frames of a seed: UDP datagrams from 10.0.0.0/16, ports from 1024 on, to 10.1.0.0/24,
+/// port 53, with 0 to 1,400 bytes, a thousand a second from time 0 on, all of CPU 0, without a tag.
+/// Its memory is about the frames' bytes. The list is this project's own choice.
 #[tactic(auto, using(crate::proofs::Steps::steps, crate::proofs::Each::each), unfolding(crate::specs::Made::made))]
 pub fn make(alloc: Global, seed: u64, count: u32) -> Result<Frames, Memory>
     requires { count ≤ 20000 }

@@ -9,7 +9,8 @@ use std::test::Fail;
 const DIGITS: &[u8] =
     b"6d5a56da255b0ec24167253d43a38fb0d0ca2bcbae7b30b477cb2da38030f20c6a42b73bbeac01fa";
 
-/// A row of the suite over IPv4: source, destination, their ports, the hash of the addresses, and with the ports.
+/// A row of the suite over IPv4: source, destination, their ports, the hash of the addresses, and
+/// with the ports.
 type Ipv4Row = ([u8; 4], [u8; 4], u16, u16, u32, u32);
 
 static OVER_IPV4: [Ipv4Row; 5] = [

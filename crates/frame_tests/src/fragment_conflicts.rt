@@ -136,8 +136,8 @@ static AGES: [Age; 5] = [
     (130, 100, 0, 0),
 ];
 
-/// What comes of two fragments with a row's seconds: whether a datagram does, and how many fragments
-/// are given up and held.
+/// What comes of two fragments with a row's seconds: whether a datagram does, and how many
+/// fragments are given up and held.
 fn aged(alloc: Global, age: &Age) -> Result<(bool, u32, u32), Fail> {
     let early = Piece {
         sec: age.0,

@@ -9,8 +9,8 @@ use frame_view::{ByteList, Headers, Link, Packet, V4Part, V6Part, checksum, pktt
 use std::process::Abort;
 use std::test::Fail;
 
-/// An IPv4 header without options from the one station to the other: total length, identification, more,
-/// offset, protocol, ports.
+/// An IPv4 header without options from the one station to the other: total length, identification,
+/// more, offset, protocol, ports.
 const fn v4(
     total: u32,
     ident: u16,

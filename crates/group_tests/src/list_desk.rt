@@ -1,5 +1,6 @@
 //! A desk whose members are numbers: how many packets more each has room for.
-ghost use Rattle.std.specs.Prelude.{◌≡◌, ◌<◌, ◌∷◌, ◌++◌, [], length, refl, IfOk, OnErr, if◌then◌else◌};
+ghost use Rattle.std.specs.Prelude.{◌≡◌, ◌<◌, ◌∷◌, ◌++◌, [], length, refl, IfOk, OnErr};
+ghost use Rattle.std.specs.Prelude.{if◌then◌else◌};
 ghost use Rattle.std.proofs.Common.{◌∙◌};
 ghost use Rattle.fanout_group.specs.declared.logs.Fate.TheVariants.{Kept};
 

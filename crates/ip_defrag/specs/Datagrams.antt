@@ -1,5 +1,8 @@
--- The fragments of one datagram: what they cover, and the frame that they make. Places are in bytes, from 0.
-use Rattle.std.specs.Prelude.{ℕ, zero, suc, ◌+◌, ◌-◌, ◌*◌, ◌/◌, Bool, ◌&&◌, List, [], ◌∷◌, ◌++◌, length, map, take, drop, find, slice_index, nat_lt, nat_le, ◌==◌, if◌then◌else◌, Option, None, Some, option_map}
+-- The fragments of one datagram: what they cover, and the frame that they make. Places are in
+-- bytes, from 0.
+use Rattle.std.specs.Prelude.{ℕ, zero, suc, ◌+◌, ◌-◌, ◌*◌, ◌/◌, Bool, ◌&&◌, List, [], ◌∷◌, ◌++◌}
+use Rattle.std.specs.Prelude.{length, map, take, drop, find, slice_index, nat_lt, nat_le, ◌==◌}
+use Rattle.std.specs.Prelude.{if◌then◌else◌, Option, None, Some, option_map}
 use Rattle.std.specs.List.{list_any, list_all}
 use Rattle.std.specs.Int.{to_be_bytes, w16}
 use Rattle.frame_view.specs.Numbers.{u16_at}
@@ -31,7 +34,8 @@ own_byte frame place = slice_index (data_of frame) (place - from_of frame)
 -- the byte at a place, in the frame that has the place
 abbrev pub byte_at : List Frame → ℕ → ℕ
 byte_at [] place = 0
-byte_at (frame ∷ frames) place = if covers frame place then own_byte frame place else byte_at frames place
+byte_at (frame ∷ frames) place =
+    if covers frame place then own_byte frame place else byte_at frames place
 
 -- the data of a datagram of some length
 unfoldable pub data_from : List Frame → ℕ → List ℕ
@@ -41,8 +45,8 @@ data_from frames end = map (byte_at frames) (places 0 end)
 abbrev pub put_u16 : ℕ → ℕ → List ℕ → List ℕ
 put_u16 at number bytes = take at bytes ++ (to_be_bytes w16 number ++ drop (at + 2) bytes)
 
--- the headers with the total length set, the more bit and the offset 0, the other two flag bits kept, and no
--- checksum
+-- the headers with the total length set, the more bit and the offset 0, the other two flag bits
+-- kept, and no checksum
 abbrev pub unsummed : List ℕ → ℕ → List ℕ
 unsummed headers end =
     put_u16 24 0
@@ -53,7 +57,8 @@ unsummed headers end =
 abbrev pub summed : List ℕ → List ℕ
 summed headers = put_u16 24 (checksum_of (drop 14 headers)) headers
 
--- the headers of a datagram with some length of data: those of its fragment at place 0, made its own
+-- the headers of a datagram with some length of data: those of its fragment at place 0, made its
+-- own
 unfoldable pub headers_from : Frame → ℕ → List ℕ
 headers_from first end = summed (unsummed (take (headers_length first) first.bytes) end)
 
@@ -61,7 +66,8 @@ headers_from first end = summed (unsummed (take (headers_length first) first.byt
 abbrev pub bytes_from : Frame → ℕ → List Frame → List ℕ
 bytes_from first end frames = headers_from first end ++ data_from frames end
 
--- some bytes as a frame: CPU, index and time of the frame that completed the datagram, the tag of its first one
+-- some bytes as a frame: CPU, index and time of the frame that completed the datagram, the tag of
+-- its first one
 abbrev pub framed : Frame → Frame → List ℕ → Frame
 framed newest first bytes = record newest { wire = length bytes; bytes = bytes; tag = first.tag }
 
@@ -85,6 +91,7 @@ completed_at (Some last) frames newest =
     then option_map (λ first. datagram_from first (to_of last) frames newest) (find is_first frames)
     else None
 
--- the datagram of a name's frames, where one is last and every place below its end lies in one of them
+-- the datagram of a name's frames, where one is last and every place below its end lies in one of
+-- them
 unfoldable pub completed : List Frame → Frame → Option Frame
 completed frames newest = completed_at (find is_last frames) frames newest

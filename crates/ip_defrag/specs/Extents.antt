@@ -1,5 +1,7 @@
--- What the code keeps of a datagram's fragments in all, so that a push needn't look at each. In bytes, from 0.
-use Rattle.std.specs.Prelude.{◌≡◌, ℕ, ◌+◌, ◌-◌, max, List, [], ◌∷◌, find, Option, None, Some, option_map, if◌then◌else◌}
+-- What the code keeps of a datagram's fragments in all, so that a push needn't look at each. In
+-- bytes, from 0.
+use Rattle.std.specs.Prelude.{◌≡◌, ℕ, ◌+◌, ◌-◌, max, List, [], ◌∷◌, find, Option, None, Some}
+use Rattle.std.specs.Prelude.{option_map, if◌then◌else◌}
 use Rattle.frame_view.specs.declared.frames.Frame.{Frame}
 use Rattle.ip_defrag.specs.Fragments.{from_of, to_of, is_last}
 use Rattle.ip_defrag.specs.Held.{AreHeld, filled}

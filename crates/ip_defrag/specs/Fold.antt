@@ -1,5 +1,7 @@
 -- Reassembly as a pass over one flat list of held frames, in the order in which they were pushed.
-use Rattle.std.specs.Prelude.{ℕ, ◌+◌, ◌-◌, Bool, not, ◌&&◌, ◌||◌, List, [], ◌∷◌, ◌++◌, length, filter, nat_lt, nat_le, ◌==◌, if◌then◌else◌, bytes_eq, Option, None, Some, option_to_list}
+use Rattle.std.specs.Prelude.{ℕ, ◌+◌, ◌-◌, Bool, not, ◌&&◌, ◌||◌, List, [], ◌∷◌, ◌++◌, length}
+use Rattle.std.specs.Prelude.{filter, nat_lt, nat_le, ◌==◌, if◌then◌else◌, bytes_eq, Option, None}
+use Rattle.std.specs.Prelude.{Some, option_to_list}
 use Rattle.std.specs.List.{list_any}
 use Rattle.std.specs.Bool.{beq}
 use Rattle.frame_view.specs.declared.frames.Frame.{Frame}
@@ -9,7 +11,11 @@ use Rattle.ip_defrag.specs.declared.names.Name.{Name}
 
 -- whether two names are one
 unfoldable pub same_name : Name → Name → Bool
-same_name a b = (a.source == b.source) && (a.dest == b.dest) && (a.protocol == b.protocol) && (a.ident == b.ident)
+same_name a b =
+    (a.source == b.source)
+    && (a.dest == b.dest)
+    && (a.protocol == b.protocol)
+    && (a.ident == b.ident)
 
 -- whether a frame has a name
 abbrev pub is_named : Name → Frame → Bool
@@ -25,7 +31,8 @@ without name held = filter (λ frame. not (is_named name frame)) held
 -- the names of some frames, each once, in the order of their first frames
 abbrev pub names_of : List Frame → List Name
 names_of [] = []
-names_of (frame ∷ held) = name_of frame ∷ filter (λ name. not (same_name name (name_of frame))) (names_of held)
+names_of (frame ∷ held) =
+    name_of frame ∷ filter (λ name. not (same_name name (name_of frame))) (names_of held)
 
 -- the seconds of a name's first frame
 abbrev pub opened_at : Name → List Frame → ℕ
@@ -43,7 +50,8 @@ is_stale now held name = nat_le (opened_at name held + 30) now
 abbrev pub fresh : ℕ → List Frame → List Frame
 fresh now held = filter (λ frame. not (is_stale now held (name_of frame))) held
 
--- rule 2: where the name is a new one and 64 are held, the one whose first frame stands first loses all its frames
+-- rule 2: where the name is a new one and 64 are held, the one whose first frame stands first loses
+-- all its frames
 abbrev pub without_first : List Frame → List Frame
 without_first [] = []
 without_first (frame ∷ held) = without (name_of frame) (frame ∷ held)
@@ -75,7 +83,8 @@ contradicts frame other =
 unfoldable pub conflicts : Frame → Frame → Bool
 conflicts frame other = shares frame other || contradicts frame other
 
--- what a frame leaves held, what comes out, and how many frames are given up, the frame itself counted
+-- what a frame leaves held, what comes out, and how many frames are given up, the frame itself
+-- counted
 pub record Passed : Type 0 where
   pub held : List Frame
   pub whole : Option Frame
@@ -113,4 +122,5 @@ pass held frame =
 -- what comes out of some frames, one after the other
 abbrev pub passed : List Frame → List Frame → List Frame
 passed held [] = []
-passed held (frame ∷ frames) = option_to_list (pass held frame).whole ++ passed (pass held frame).held frames
+passed held (frame ∷ frames) =
+    option_to_list (pass held frame).whole ++ passed (pass held frame).held frames

@@ -1,5 +1,7 @@
--- Which frames take part in reassembly, and where their data stands. Places and lengths are in bytes, from 0.
-use Rattle.std.specs.Prelude.{ℕ, ◌+◌, ◌-◌, ◌*◌, ◌%◌, Bool, false, not, ◌&&◌, ◌||◌, List, length, take, drop, nat_lt, nat_le, ◌==◌}
+-- Which frames take part in reassembly, and where their data stands. Places and lengths are in
+-- bytes, from 0.
+use Rattle.std.specs.Prelude.{ℕ, ◌+◌, ◌-◌, ◌*◌, ◌%◌, Bool, false, not, ◌&&◌, ◌||◌, List, length}
+use Rattle.std.specs.Prelude.{take, drop, nat_lt, nat_le, ◌==◌}
 use Rattle.frame_view.specs.Headers.{view_of, v4_of}
 use Rattle.frame_view.specs.declared.frames.Frame.{Frame}
 use Rattle.frame_view.specs.declared.header_reading.Headers.{Headers}
@@ -11,11 +13,13 @@ use Rattle.ip_defrag.specs.declared.names.Name.{Name}
 abbrev pub most_data : ℕ
 most_data = 65475
 
--- the length of a packet's data: it ends at the total length, whatever padding was captured after it
+-- the length of a packet's data: it ends at the total length, whatever padding was captured after
+-- it
 abbrev pub data_length : V4Part → ℕ
 data_length ip = ip.total - ip.header
 
--- the header is a fragment's, all of its data was captured, some is there, and it lies where data may lie
+-- the header is a fragment's, all of its data was captured, some is there, and it lies where data
+-- may lie
 abbrev pub is_fragment : V4Part → ℕ → Bool
 is_fragment ip captured =
     (ip.more || nat_lt 0 ip.offset)
@@ -35,7 +39,8 @@ takes_part_by (V6 link ip) captured = false
 unfoldable pub takes_part : Frame → Bool
 takes_part frame = takes_part_by (view_of frame.bytes) (length frame.bytes)
 
--- what the fragments of a datagram have in common (RFC 791): both addresses, protocol and identification
+-- what the fragments of a datagram have in common (RFC 791): both addresses, protocol and
+-- identification
 unfoldable pub name_of : Frame → Name
 name_of frame = record {
   source = (v4_of frame.bytes).from;
@@ -58,7 +63,8 @@ is_last frame = not (v4_of frame.bytes).more
 
 -- the data
 unfoldable pub data_of : Frame → List ℕ
-data_of frame = take (data_length (v4_of frame.bytes)) (drop (14 + (v4_of frame.bytes).header) frame.bytes)
+data_of frame =
+    take (data_length (v4_of frame.bytes)) (drop (14 + (v4_of frame.bytes).header) frame.bytes)
 
 -- the length of the two headers before the data
 unfoldable pub headers_length : Frame → ℕ

@@ -1,9 +1,12 @@
 -- The held frames by their names, as the code keeps them.
-use Rattle.std.specs.Prelude.{◌≡◌, ◌≤◌, slice_index_or, false, ℕ, ◌+◌, Bool, not, ◌&&◌, List, [], ◌∷◌, ◌++◌, length, map, filter, set, remove, sum_by, nat_le, ◌==◌, if◌then◌else◌, Option, None, Some}
+use Rattle.std.specs.Prelude.{◌≡◌, ◌≤◌, slice_index_or, false, ℕ, ◌+◌, Bool, not, ◌&&◌, List, []}
+use Rattle.std.specs.Prelude.{◌∷◌, ◌++◌, length, map, filter, set, remove, sum_by, nat_le, ◌==◌}
+use Rattle.std.specs.Prelude.{if◌then◌else◌, Option, None, Some}
 use Rattle.frame_view.specs.declared.frames.Frame.{Frame}
 use Rattle.ip_defrag.specs.Fragments.{name_of}
 use Rattle.std.specs.List.{list_any}
-use Rattle.ip_defrag.specs.Fold.{same_name, of_name, names_of, opened_at, most_names, Passed, pass, is_copy, conflicts}
+use Rattle.ip_defrag.specs.Fold.{same_name, of_name, names_of, opened_at, most_names, Passed, pass}
+use Rattle.ip_defrag.specs.Fold.{is_copy, conflicts}
 use Rattle.ip_defrag.specs.Datagrams.{completed}
 use Rattle.ip_defrag.specs.declared.rules.Judgement.{Judgement}
 use Rattle.ip_defrag.specs.declared.rules.Judgement.TheVariants.{Copy, Conflict, Fits}
@@ -17,7 +20,11 @@ pub record Group : Type 0 where
   pub fragments : List Frame
 
 abbrev pub group_of : List Frame → Name → Group
-group_of held name = record { name = name; opened = opened_at name held; fragments = of_name name held }
+group_of held name = record {
+  name = name;
+  opened = opened_at name held;
+  fragments = of_name name held;
+}
 
 -- all held frames by their names, in the order in which these were opened
 unfoldable pub groups : List Frame → List Group
@@ -74,7 +81,8 @@ with_place some = if length some == most_names then remove some 0 else some
 unfoldable pub after_opening : Frame → List Group → List Group
 after_opening frame some = with_place (filter (is_fresh frame.sec) some) ++ opened_by frame ∷ []
 
--- what a frame leaves that joins the group at a place, the datagram that comes out, and how many frames that has
+-- what a frame leaves that joins the group at a place, the datagram that comes out, and how many
+-- frames that has
 pub record Joined : Type 0 where
   pub left : List Group
   pub whole : Option Frame
@@ -87,7 +95,8 @@ joined_whole (Some whole) frame group some at =
     record { left = remove some at; whole = Some whole; used = length group.fragments + 1 }
 
 unfoldable pub held_by : Frame → Group → List Group → ℕ → Joined
-held_by frame group some at = joined_whole (completed_with frame group.fragments) frame group some at
+held_by frame group some at =
+    joined_whole (completed_with frame group.fragments) frame group some at
 
 abbrev pub joined_by : Judgement → Frame → Group → List Group → ℕ → Joined
 joined_by Copy frame group some at = record { left = some; whole = None; used = 0 }
@@ -98,22 +107,25 @@ unfoldable pub joined : Frame → Group → List Group → ℕ → Joined
 joined frame group some at = joined_by (judgement frame group.fragments) frame group some at
 
 -- what is left, what came out, and the frames counted: each that was held, and the new one
-pub record Agrees (passed : Passed) (before : ℕ) (left : List Group) (whole : Option Frame) (used : ℕ)
-    : Type 0 where
+pub record Agrees (passed : Passed) (before : ℕ) (left : List Group) (whole : Option Frame)
+    (used : ℕ) : Type 0 where
   pub left_is : left ≡ groups passed.held
   pub whole_is : whole ≡ passed.whole
   pub counted : passed.discarded + length passed.held + used ≡ before + 1
 
 -- what was answered and left is what comes of a frame at a place
-pub record IsJoined (frame : Frame) (at : ℕ) (some left : List Group) (answer : Answer) : Type 0 where
+pub record IsJoined (frame : Frame) (at : ℕ) (some left : List Group) (answer : Answer)
+    : Type 0 where
   pub left_is : (d : Group) → left ≡ (joined frame (slice_index_or some at d) some at).left
-  pub whole_is : (d : Group) → answer.whole ≡ (joined frame (slice_index_or some at d) some at).whole
+  pub whole_is :
+      (d : Group) → answer.whole ≡ (joined frame (slice_index_or some at d) some at).whole
   pub used_is : (d : Group) → answer.used ≡ (joined frame (slice_index_or some at d) some at).used
 
 -- the same of a frame that fits there
 pub record IsHeld (frame : Frame) (at : ℕ) (some left : List Group) (answer : Answer) : Type 0 where
   pub left_is : (d : Group) → left ≡ (held_by frame (slice_index_or some at d) some at).left
-  pub whole_is : (d : Group) → answer.whole ≡ (held_by frame (slice_index_or some at d) some at).whole
+  pub whole_is :
+      (d : Group) → answer.whole ≡ (held_by frame (slice_index_or some at d) some at).whole
   pub used_is : (d : Group) → answer.used ≡ (held_by frame (slice_index_or some at d) some at).used
 
 -- what was answered and left agrees with a frame's pass over a flat list
@@ -125,7 +137,8 @@ pub record IsCount (count : ℕ) (held : List Frame) : Type 0 where
   pub counted : count ≡ length held
   pub most : count ≤ 4190400
 
--- the datagrams that the code keeps are the groups of a flat list, and few, and the number is that of its frames
+-- the datagrams that the code keeps are the groups of a flat list, and few, and the number is that
+-- of its frames
 pub record AreGroups (some : List Group) (held : List Frame) (count : ℕ) : Type 0 where
   pub grouped : some ≡ groups held
   pub few : length some ≤ most_names

@@ -1,5 +1,6 @@
 -- What the code's types stand for.
-use Rattle.std.specs.Prelude.{◌≡◌, ℕ, ◌+◌, ◌-◌, ◌*◌, ◌%◌, ◌<◌, ◌≤◌, true, false, not, List, [], ◌∷◌, ◌++◌, length, take, drop, sum_by}
+use Rattle.std.specs.Prelude.{◌≡◌, ℕ, ◌+◌, ◌-◌, ◌*◌, ◌%◌, ◌<◌, ◌≤◌, true, false, not, List, [], ◌∷◌}
+use Rattle.std.specs.Prelude.{◌++◌, length, take, drop, sum_by}
 use Rattle.std.specs.List.{list_any}
 use Rattle.ip_defrag.specs.Fold.{conflicts}
 use Rattle.frame_view.specs.Headers.{v4_of}
@@ -27,7 +28,9 @@ pub record IsRead (frame : Frame) (ip : V4Part) : Type 0 where
 abbrev pub AreHeld : List Frame → Type 0
 AreHeld [] = Unit {0}
 AreHeld (frame ∷ frames) =
-    (takes_part frame ≡ true) × (list_any (λ later. conflicts later frame) frames ≡ false) × AreHeld frames
+    (takes_part frame ≡ true)
+    × (list_any (λ later. conflicts later frame) frames ≡ false)
+    × AreHeld frames
 
 -- some bytes with a frame's data written to its place
 abbrev pub written : Frame → List ℕ → List ℕ

@@ -1,8 +1,10 @@
 //! The fragments of one datagram, as far as they were pushed.
-ghost use Rattle.std.specs.Prelude.{◌≡◌, ◌+◌, ◌≤◌, ◌++◌, ◌∷◌, [], IfErr, IfOk, OnErr, OnOk, true, false, length};
+ghost use Rattle.std.specs.Prelude.{◌≡◌, ◌+◌, ◌≤◌, ◌++◌, ◌∷◌, [], IfErr, IfOk, OnErr, OnOk, true};
+ghost use Rattle.std.specs.Prelude.{false, length};
 ghost use Rattle.ip_defrag.specs.Fragments.{takes_part};
 ghost use Rattle.ip_defrag.specs.Extents.{AreKept};
-ghost use Rattle.ip_defrag.specs.Grouped.{FitsIn, completed_with, is_fresh, is_live, judgement, opened_by, with_frame};
+ghost use Rattle.ip_defrag.specs.Grouped.{FitsIn, completed_with, is_fresh, is_live, judgement};
+ghost use Rattle.ip_defrag.specs.Grouped.{opened_by, with_frame};
 
 use crate::NoPush;
 use crate::extents::Extent;
@@ -106,8 +108,9 @@ impl Datagram {
         self.fragments.len() as u32
     }
 
-    /// What a new fragment is to its fragments. One that shares no place with any contradicts an end where it lies after
-    /// all of them and one is last, or before one of them and is last itself.
+    /// What a new fragment is to its fragments. One that shares no place with any contradicts an
+    /// end where it lies after all of them and one is last, or before one of them and is last
+    /// itself.
     pub(crate) fn judge(&self, new: &Fragment) -> Judgement
         ensures { result ≡ judgement new.now self.now.fragments }
     {
@@ -120,8 +123,8 @@ impl Datagram {
         }
     }
 
-    /// Adds a fragment, and gives the datagram's frame where that completes it. After `NoPush` nothing has
-    /// changed, and the fragment's frame is handed back.
+    /// Adds a fragment, and gives the datagram's frame where that completes it. After `NoPush`
+    /// nothing has changed, and the fragment's frame is handed back.
     pub(crate) fn add(&mut self, alloc: Global, fragment: Fragment) -> Result<Option<Frame>, NoPush>
         requires taken { takes_part fragment ≡ true }
         requires fits { FitsIn fragment self.old }
@@ -145,8 +148,9 @@ impl Datagram {
     }
 }
 
-/// Adds a fragment after others, and gives their datagram's frame where that completes it. The extent is that
-/// of all of them. After `NoPush` nothing has changed, and the fragment's frame is handed back.
+/// Adds a fragment after others, and gives their datagram's frame where that completes it. The
+/// extent is that of all of them. After `NoPush` nothing has changed, and the fragment's frame is
+/// handed back.
 fn add_to(
     alloc: Global,
     fragments: &mut Vec<Fragment>,

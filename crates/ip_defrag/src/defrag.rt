@@ -12,8 +12,8 @@ use frame_view::Frame;
 use std::alloc::Global;
 use std::marker::Model;
 
-/// Puts fragments of IPv4 datagrams (RFC 791) together. Contracts see it as the list of the frames that it
-/// holds, in the order in which they were pushed.
+/// Puts fragments of IPv4 datagrams (RFC 791) together. Contracts see it as the list of the frames
+/// that it holds, in the order in which they were pushed.
 #[derive(Drop)]
 pub struct Defrag {
     /// Where memory comes from.
@@ -53,14 +53,14 @@ impl Defrag {
         }
     }
 
-    /// Pushes a frame: one step of the pass over the held frames. One that takes no part in reassembly comes out
-    /// as it is. A fragment is held, or given up, or completes its datagram, which comes out with the CPU, the
-    /// index and the time of this frame.
+    /// Pushes a frame: one step of the pass over the held frames. One that takes no part in
+    /// reassembly comes out as it is. A fragment is held, or given up, or completes its datagram,
+    /// which comes out with the CPU, the index and the time of this frame.
     ///
-    /// What names a datagram and when it is whole is RFC 791. This project's own choices are that a datagram of
-    /// 30 seconds is given up, that at most 64 are held, and what copies, overlaps and ends that contradict each
-    /// other do. After `NoPush` the frame is handed back and nothing has changed; a frame that takes no part
-    /// never runs out of memory.
+    /// What names a datagram and when it is whole is RFC 791. This project's own choices are that a
+    /// datagram of 30 seconds is given up, that at most 64 are held, and what copies, overlaps and
+    /// ends that contradict each other do. After `NoPush` the frame is handed back and nothing has
+    /// changed; a frame that takes no part never runs out of memory.
     pub fn push(&mut self, frame: Frame) -> Result<Step, NoPush>
         ensures held { OnOk result (self.new ≡ (pass self.old frame).held) }
         ensures whole { IfOk result (λ step. step.whole ≡ (pass self.old frame).whole) }

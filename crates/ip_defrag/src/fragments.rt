@@ -1,6 +1,7 @@
 //! A frame that takes part in reassembly, with what its IPv4 header says.
 ghost use Rattle.std.specs.Prelude.{◌≡◌, ◌≤◌, ◌<◌, ◌+◌, ◌-◌, ◌%◌, take, IfErr, IfOk, is_ok, length};
-ghost use Rattle.ip_defrag.specs.Fragments.{data_of, from_of, headers_length, is_fragment, is_last, name_of, takes_part, to_of};
+ghost use Rattle.ip_defrag.specs.Fragments.{data_of, from_of, headers_length, is_fragment, is_last};
+ghost use Rattle.ip_defrag.specs.Fragments.{name_of, takes_part, to_of};
 
 use crate::names::Name;
 use frame_view::{Frame, Headers, V4Part, view};
@@ -15,7 +16,8 @@ pub(crate) struct Fragment {
     ip: V4Part,
 }
 
-/// The most data of a datagram in bytes: after the longest header of 60 it makes a total length of 65,535.
+/// The most data of a datagram in bytes: after the longest header of 60 it makes a total length of
+/// 65,535.
 const MOST_DATA: usize = 65_475;
 
 impl Model for Fragment {
@@ -121,7 +123,8 @@ impl Fragment {
     }
 }
 
-/// Whether an IPv4 header is that of a fragment with all its data among the captured bytes of its frame.
+/// Whether an IPv4 header is that of a fragment with all its data among the captured bytes of its
+/// frame.
 fn is_fragment(ip: &V4Part, captured: usize) -> bool
     requires within { ip.now.header ≤ ip.now.total }
     requires offset { ip.now.offset < 0x2000 }

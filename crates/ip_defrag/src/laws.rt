@@ -11,8 +11,8 @@ pub fn no_frame_is_lost()
         → (pass held frame).discarded + length (pass held frame).held ≡ length held + 1 }
 {}
 
-/// Of fragments that don't conflict, each that has a place gives the datagram its byte there. So no order of
-/// arrival changes a byte.
+/// Of fragments that don't conflict, each that has a place gives the datagram its byte there. So no
+/// order of arrival changes a byte.
 pub fn each_byte_is_its_fragments()
     ensures { (frames : List Frame) (at place : ℕ) (d : Frame) → AreHeld frames → at < length frames
         → covers (slice_index_or frames at d) place ≡ true

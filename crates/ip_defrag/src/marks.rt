@@ -1,6 +1,8 @@
-//! Which held fragment has which part of a datagram, so that a new one is compared with one of them at most. Each
-//! fragment begins at a multiple of eight bytes, so the datagram is marked in units of eight.
-ghost use Rattle.std.specs.Prelude.{◌≡◌, ◌+◌, ◌-◌, ◌/◌, ◌≤◌, ◌++◌, OnErr, OnOk, drop, find, length, nat_lt, option_copied, replicate, take};
+//! Which held fragment has which part of a datagram, so that a new one is compared with one of them
+//! at most. Each fragment begins at a multiple of eight bytes, so the datagram is marked in units
+//! of eight.
+ghost use Rattle.std.specs.Prelude.{◌≡◌, ◌+◌, ◌-◌, ◌/◌, ◌≤◌, ◌++◌, OnErr, OnOk, drop, find, length};
+ghost use Rattle.std.specs.Prelude.{nat_lt, option_copied, replicate, take};
 ghost use Rattle.ip_defrag.specs.Fragments.{from_of};
 ghost use Rattle.ip_defrag.specs.Marks.{marked, own_marks, units_to};
 

@@ -1,6 +1,7 @@
 //! What the fragments of one datagram have in common.
 
-/// The name of a datagram (RFC 791): its fragments have the same two addresses, protocol and identification.
+/// The name of a datagram (RFC 791): its fragments have the same two addresses, protocol and
+/// identification.
 #[derive(Clone, Copy, PartialEq, Eq)]
 pub(crate) struct Name {
     /// The source address, as a number.

@@ -1,11 +1,14 @@
-//! A fragment's pass over the datagrams that are held, which stand in the order in which they were opened.
+//! A fragment's pass over the datagrams that are held, which stand in the order in which they were
+//! opened.
 //!
 //! What allocates is done first, so that nothing has changed where it is refused.
-ghost use Rattle.std.specs.Prelude.{◌≡◌, ◌≤◌, ◌<◌, IfErr, IfOk, HoldsAt, OnErr, OnOk, true, filter, length, vec_capacity, vec_len};
+ghost use Rattle.std.specs.Prelude.{◌≡◌, ◌≤◌, ◌<◌, IfErr, IfOk, HoldsAt, OnErr, OnOk, true, filter};
+ghost use Rattle.std.specs.Prelude.{length, vec_capacity, vec_len};
 ghost use Rattle.std.specs.List.{position_from};
 ghost use Rattle.ip_defrag.specs.Fold.{pass};
 ghost use Rattle.ip_defrag.specs.Fragments.{takes_part};
-ghost use Rattle.ip_defrag.specs.Grouped.{FitsIn, IsCount, IsHeld, IsJoined, Passes, after_opening, groups, is_fresh, is_live, total};
+ghost use Rattle.ip_defrag.specs.Grouped.{FitsIn, IsCount, IsHeld, IsJoined, Passes, after_opening};
+ghost use Rattle.ip_defrag.specs.Grouped.{groups, is_fresh, is_live, total};
 
 use crate::datagrams::Datagram;
 use crate::fragments::Fragment;
@@ -60,8 +63,8 @@ fn drop_stale(datagrams: &mut Vec<Datagram>, now: u32)
     datagrams.retain(|datagram| datagram.is_fresh(now));
 }
 
-/// Opens a datagram with its first fragment. The stale ones are given up, and where then as many are held as may
-/// be, the one that was opened first.
+/// Opens a datagram with its first fragment. The stale ones are given up, and where then as many
+/// are held as may be, the one that was opened first.
 #[tactic(auto, unfolding(crate::specs::Grouped::after_opening))]
 fn open(alloc: Global, datagrams: &mut Vec<Datagram>, fragment: Fragment) -> Result<(), NoPush>
     ensures left { OnOk result (datagrams.new.items ≡ after_opening fragment datagrams.old.items) }
@@ -83,7 +86,8 @@ fn open(alloc: Global, datagrams: &mut Vec<Datagram>, fragment: Fragment) -> Res
     Ok(())
 }
 
-/// Joins a fragment to the datagram at a place. That leaves where the two conflict, or where it is completed.
+/// Joins a fragment to the datagram at a place. That leaves where the two conflict, or where it is
+/// completed.
 #[tactic(auto, unfolding(crate::specs::Grouped::joined))]
 fn join(
     alloc: Global,
@@ -134,8 +138,8 @@ fn hold(
     Ok(Answer { whole, used })
 }
 
-/// Passes a fragment over the datagrams, and counts what they hold anew. The trace reports which frames that are.
-/// After `NoPush` nothing has changed, and the fragment's frame is handed back.
+/// Passes a fragment over the datagrams, and counts what they hold anew. The trace reports which
+/// frames that are. After `NoPush` nothing has changed, and the fragment's frame is handed back.
 pub(crate) fn pass(
     alloc: Global,
     trace: &Trace,

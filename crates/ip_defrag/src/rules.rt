@@ -27,8 +27,8 @@ fn is_copy(new: &Fragment, held: &Fragment) -> bool
         && new.data() == held.data()
 }
 
-/// What a new fragment is that conflicts with a held one. A copy conflicts with the one that it is a copy of, and with
-/// no other.
+/// What a new fragment is that conflicts with a held one. A copy conflicts with the one that it is
+/// a copy of, and with no other.
 pub(crate) fn beside(new: &Fragment, held: &Fragment) -> Judgement
     ensures { result ≡ (if is_copy new.now held.now then Copy else Conflict) }
 {
@@ -39,7 +39,8 @@ pub(crate) fn beside(new: &Fragment, held: &Fragment) -> Judgement
     }
 }
 
-/// What a new fragment is that shares no byte place with a held one, by whether one contradicts the other's end.
+/// What a new fragment is that shares no byte place with a held one, by whether one contradicts the
+/// other's end.
 pub(crate) fn apart(contradicts: bool) -> Judgement
     ensures { result ≡ (if contradicts then Conflict else Fits) }
 {

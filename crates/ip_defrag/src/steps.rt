@@ -4,7 +4,8 @@ use frame_view::{Frame, Memory};
 /// What came of a frame that was pushed.
 #[derive(Debug, Drop)]
 pub struct Step {
-    /// The frame itself where it doesn't take part in reassembly, or the datagram that it completed.
+    /// The frame itself where it doesn't take part in reassembly, or the datagram that it
+    /// completed.
     pub whole: Option<Frame>,
     /// How many fragments were given up, the frame itself among them where that is its lot.
     pub discarded: u32,

@@ -7,8 +7,8 @@ ghost use Rattle.ip_defrag.specs.Fold.{pass};
 use frame_view::Frame;
 use std::marker::Model;
 
-/// The frames that are held, in the order in which they were pushed. It takes no memory, and its calls do
-/// nothing when they run.
+/// The frames that are held, in the order in which they were pushed. It takes no memory, and its
+/// calls do nothing when they run.
 #[derive(Drop)]
 pub(crate) struct Trace {
     ghost held: { List Frame },

@@ -1,9 +1,11 @@
 //! The datagram that its fragments make.
-ghost use Rattle.std.specs.Prelude.{◌≡◌, ◌+◌, ◌-◌, ◌%◌, ◌≤◌, length, find, option_copied, IfOk, replicate};
+ghost use Rattle.std.specs.Prelude.{◌≡◌, ◌+◌, ◌-◌, ◌%◌, ◌≤◌, length, find, option_copied, IfOk};
+ghost use Rattle.std.specs.Prelude.{replicate};
 ghost use Rattle.std.specs.List.{AllByRecursion};
 ghost use Rattle.ip_defrag.specs.Extents.{AreKept};
 ghost use Rattle.ip_defrag.specs.Fragments.{to_of};
-ghost use Rattle.ip_defrag.specs.Datagrams.{bytes_from, completed, data_from, framed, is_first, put_u16, summed, unsummed};
+ghost use Rattle.ip_defrag.specs.Datagrams.{bytes_from, completed, data_from, framed, is_first};
+ghost use Rattle.ip_defrag.specs.Datagrams.{put_u16, summed, unsummed};
 ghost use Rattle.ip_defrag.specs.Held.{AreHeld, written};
 
 use crate::extents::Extent;
@@ -34,7 +36,8 @@ fn place(fragment: &Fragment, into: &mut [u8])
     into[fragment.from()..fragment.to()].copy_from_slice(fragment.data());
 }
 
-/// Writes the data of some fragments to their places. All of them together fill the room, which holds zeros.
+/// Writes the data of some fragments to their places. All of them together fill the room, which
+/// holds zeros.
 #[tactic(auto, unfolding(crate::specs::Datagrams::data_from))]
 fn fill(fragments: &[Fragment], into: &mut [u8])
     requires held { AreHeld fragments.now }
@@ -47,8 +50,9 @@ fn fill(fragments: &[Fragment], into: &mut [u8])
     }
 }
 
-/// Makes the headers of a fragment those of its datagram, which has so many bytes of data: the total length is
-/// set, the more bit and the offset are cleared, the other flag bits stay, and the checksum is computed anew.
+/// Makes the headers of a fragment those of its datagram, which has so many bytes of data: the
+/// total length is set, the more bit and the offset are cleared, the other flag bits stay, and the
+/// checksum is computed anew.
 fn make_whole(headers: &mut [u8], len: usize)
     requires long { 34 ≤ length headers.old }
     requires short { length headers.old ≤ 74 }
@@ -65,7 +69,8 @@ fn make_whole(headers: &mut [u8], len: usize)
     put_u16(headers, 24, sum);
 }
 
-/// The bytes of the frame that some fragments make, the first of which is given, and their length of data.
+/// The bytes of the frame that some fragments make, the first of which is given, and their length
+/// of data.
 fn whole_bytes(
     alloc: Global,
     first: &Fragment,
@@ -87,8 +92,9 @@ fn whole_bytes(
     Ok(ByteList::from_vec(bytes))
 }
 
-/// The frame of a datagram, where some of its fragments, whose extent is given, are all of them: one is last, and
-/// every place below its end lies in one of them. It has the CPU, the index and the time of the newest.
+/// The frame of a datagram, where some of its fragments, whose extent is given, are all of them:
+/// one is last, and every place below its end lies in one of them. It has the CPU, the index and
+/// the time of the newest.
 #[tactic(auto, unfolding(crate::specs::Datagrams::completed, crate::specs::Datagrams::datagram_from))]
 pub(crate) fn completed(
     alloc: Global,
@@ -112,7 +118,8 @@ pub(crate) fn completed(
     Ok(Some(framed(newest.frame(), first.frame(), bytes)))
 }
 
-/// A datagram's bytes as a frame, with what it has of the frame that completed it and of its first fragment.
+/// A datagram's bytes as a frame, with what it has of the frame that completed it and of its first
+/// fragment.
 fn framed(newest: &Frame, first: &Frame, bytes: ByteList) -> Frame
     requires { length bytes ≤ 65549 }
     ensures { result ≡ framed newest.now first.now bytes }

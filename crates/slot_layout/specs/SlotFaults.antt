@@ -32,7 +32,8 @@ slot_head_fault shape bytes =
 unfoldable pub slot_vlan_fault : List ℕ → Option LayoutError
 slot_vlan_fault bytes =
     unless (number_at 2 24 bytes == tci_of (slot_tag_at bytes)) Field 24
-    (unless ((number_at 2 26 bytes == tpid_of (slot_tag_at bytes)) && tpid_may (slot_tag_at bytes)) Field 26 None)
+    (unless ((number_at 2 26 bytes == tpid_of (slot_tag_at bytes)) && tpid_may (slot_tag_at bytes))
+    Field 26 None)
 
 -- the first fault of a slot; the tests of sockaddr_ll are those of a packet in a block; padding,
 -- the end of the address and the gap are zeros, each byte a field of its own

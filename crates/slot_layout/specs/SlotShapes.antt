@@ -18,7 +18,11 @@ pub record SlotBounds (shape : RingRequest) : Type 0 where
 
 -- what a ring of slots of this shape is made of: as many slots as it has frames, and no time-out
 abbrev pub slot_size_of : RingRequest → Size
-slot_size_of shape = record { room = room_of_slots shape.frame_size; blocks = shape.frame_nr; tov = 0 }
+slot_size_of shape = record {
+  room = room_of_slots shape.frame_size;
+  blocks = shape.frame_nr;
+  tov = 0;
+}
 
 -- a slot of zeros
 abbrev pub zero_slot : RingRequest → ShapedBytes

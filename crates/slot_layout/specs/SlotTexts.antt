@@ -1,6 +1,7 @@
 -- The text of a filled slot: `struct tpacket2_hdr`, `struct sockaddr_ll`, a gap, the data. Sizes
 -- and places are in bytes.
-use Rattle.std.specs.Prelude.{◌≡◌, ℕ, ◌+◌, ◌≤◌, Bool, ◌||◌, ◌==◌, IsTrue, if◌then◌else◌, List, [], ◌∷◌, ◌++◌, length, take, drop, Option, None, Some}
+use Rattle.std.specs.Prelude.{◌≡◌, ℕ, ◌+◌, ◌≤◌, Bool, ◌||◌, ◌==◌, IsTrue, if◌then◌else◌, List, []}
+use Rattle.std.specs.Prelude.{◌∷◌, ◌++◌, length, take, drop, Option, None, Some}
 use Rattle.frame_view.specs.Headers.{address_of}
 use Rattle.frame_view.specs.declared.frames.Packet.{Packet}
 use Rattle.frame_view.specs.declared.frames.Tag.{Tag}
@@ -44,7 +45,8 @@ pub record IsLawfulSlot (shape : RingRequest) (status : ℕ) (packet : Packet) :
   pub fits : 66 + length packet.bytes ≤ shape.frame_size
 
 -- a slot begins with this lawful text; what follows it is free
-pub record SlotBegins (shape : RingRequest) (status : ℕ) (packet : Packet) (bytes : List ℕ) : Type 0 where
+pub record SlotBegins (shape : RingRequest) (status : ℕ) (packet : Packet) (bytes : List ℕ)
+    : Type 0 where
   pub lawful : IsLawfulSlot shape status packet
   pub begins : take (length (slot_text status packet)) bytes ≡ slot_text status packet
 
@@ -54,7 +56,8 @@ HasSlotText shape bytes packet = (status : ℕ) × SlotBegins shape status packe
 
 -- a slot begins with a lawful text of this status: that is a fact, since the text gives the packet
 abbrev pub SlotBeginsLawfully : RingRequest → ℕ → List ℕ → Type 0
-SlotBeginsLawfully shape status bytes = ∥ ((packet : Packet) × SlotBegins shape status packet bytes) ∥₁
+SlotBeginsLawfully shape status bytes =
+    ∥ ((packet : Packet) × SlotBegins shape status packet bytes) ∥₁
 
 -- the tag that a slot says, where its status says that it has one
 abbrev pub slot_tag_at : List ℕ → Option Tag

@@ -1,6 +1,7 @@
 //! The tests of a slot, in the order in which their faults are reported.
 ghost use Rattle.std.specs.Prelude.{◌≡◌, ◌+◌, ◌-◌, ◌≤◌, ◌&&◌, nat_le, IfOk, length};
-ghost use Rattle.slot_layout.specs.SlotFaults.{is_slot_status, slot_head_fault, slot_text_fault, slot_vlan_fault};
+ghost use Rattle.slot_layout.specs.SlotFaults.{is_slot_status, slot_head_fault, slot_text_fault};
+ghost use Rattle.slot_layout.specs.SlotFaults.{slot_vlan_fault};
 ghost use Rattle.tp_layout.specs.Checks.{told};
 ghost use Rattle.tp_layout.specs.Rows.{number_at};
 

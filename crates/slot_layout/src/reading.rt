@@ -2,7 +2,8 @@
 ghost use Rattle.std.specs.Prelude.{◌≡◌, ◌+◌, ◌≤◌, ℕ, IfOk, IsOk, length};
 ghost use Rattle.frame_view.specs.declared.frames.Packet.{Packet};
 ghost use Rattle.slot_layout.specs.SlotFaults.{slot_text_fault};
-ghost use Rattle.slot_layout.specs.SlotTexts.{HasSlotText, SlotBegins, SlotBeginsLawfully, slot_packet_at, slot_tag_at};
+ghost use Rattle.slot_layout.specs.SlotTexts.{HasSlotText, SlotBegins, SlotBeginsLawfully};
+ghost use Rattle.slot_layout.specs.SlotTexts.{slot_packet_at, slot_tag_at};
 ghost use Rattle.tp_layout.specs.Checks.{seen, told};
 ghost use Rattle.tp_layout.specs.Rows.{number_at};
 ghost use Rattle.tp_layout.specs.declared.requests.RingRequest.{RingRequest};

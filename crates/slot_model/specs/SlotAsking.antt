@@ -1,4 +1,5 @@
--- What a ring of slots notes where its reader has released a known number of slots, so that each look has one answer.
+-- What a ring of slots notes where its reader has released a known number of slots, so that each
+-- look has one answer.
 use Rattle.std.specs.Prelude.{ℕ, ◌-◌, nat_lt, if◌then◌else◌}
 use Rattle.ring_model.specs.Asking.{put_by, try_by}
 use Rattle.ring_model.specs.declared.notes.Offer.{Offer}
@@ -7,8 +8,8 @@ use Rattle.ring_model.specs.declared.notes.Found.TheVariants.{Free, Held}
 use Rattle.ring_model.specs.declared.notes.Note.{Note}
 use Rattle.slot_model.specs.SlotSteps.{SlotState, next_slot}
 
--- what the next slot's word says: with n slots, slot number s stands where s - n stood, which is the reader's until it
--- has released that many
+-- what the next slot's word says: with n slots, slot number s stands where s - n stood, which is
+-- the reader's until it has released that many
 abbrev pub slot_look : ℕ → ℕ → SlotState → Found
 slot_look slots released state =
     if nat_lt released (next_slot state - slots) then Held (next_slot state - slots) else Free

@@ -8,18 +8,24 @@ use Rattle.slot_model.specs.SlotSteps.{SlotState, first_slot_state, slot_after}
 
 -- the statistics of a state: packets are those kept and those dropped
 abbrev pub slot_stats_of : SlotState → Stats
-slot_stats_of state = record { packets = state.kept + state.dropped; drops = state.dropped; freezes = 0 }
+slot_stats_of state = record {
+  packets = state.kept + state.dropped;
+  drops = state.dropped;
+  freezes = 0;
+}
 
 -- the statistics that each Counted note took
 abbrev pub slot_counts_from : SlotState → List Note → List Stats
 slot_counts_from state [] = []
-slot_counts_from state (Counted ∷ notes) = slot_stats_of state ∷ slot_counts_from (slot_after state Counted) notes
+slot_counts_from state (Counted ∷ notes) =
+    slot_stats_of state ∷ slot_counts_from (slot_after state Counted) notes
 slot_counts_from state (note ∷ notes) = slot_counts_from (slot_after state note) notes
 
 -- those, and what stands in the statistics at the end
 abbrev pub slot_stretches_from : SlotState → List Note → List Stats
 slot_stretches_from state [] = slot_stats_of state ∷ []
-slot_stretches_from state (Counted ∷ notes) = slot_stats_of state ∷ slot_stretches_from (slot_after state Counted) notes
+slot_stretches_from state (Counted ∷ notes) =
+    slot_stats_of state ∷ slot_stretches_from (slot_after state Counted) notes
 slot_stretches_from state (note ∷ notes) = slot_stretches_from (slot_after state note) notes
 
 -- the statistics that a run's Counted notes took, in order

@@ -8,7 +8,8 @@ ghost use Rattle.ring_model.specs.declared.notes.Note.{Note};
 ghost use Rattle.ring_model.specs.declared.notes.Offer.{Offer};
 ghost use Rattle.slot_model.specs.SlotFates.{slot_counts_of, slot_totals_of, without_freezes};
 ghost use Rattle.slot_model.specs.SlotRings.{slot_note_of_put, slot_note_of_try, slot_state};
-ghost use Rattle.slot_model.specs.SlotSteps.{IsSlotRun, SlotMayStand, first_slot_state, slot_state_of};
+ghost use Rattle.slot_model.specs.SlotSteps.{IsSlotRun, SlotMayStand, first_slot_state};
+ghost use Rattle.slot_model.specs.SlotSteps.{slot_state_of};
 
 /// What a put notes may stand, whatever the reader has released.
 pub fn slot_puts_stand()
@@ -28,7 +29,8 @@ pub fn a_ring_with_slots_left_drops_nothing()
         → length (slot_state_of notes).done < slots → drops_of notes ≡ [] }
 {}
 
-/// Where a put or a try notes that the next slot was still the reader's, the reader hadn't released that slot.
+/// Where a put or a try notes that the next slot was still the reader's, the reader hadn't released
+/// that slot.
 pub fn a_slot_noted_as_held_is_unreleased()
     ensures puts { (ring : Ring) (offer : Offer)
         → IsUnreleased ring.released (slot_note_of_put ring offer) }
@@ -42,8 +44,8 @@ pub fn the_filled_slots_are_the_kept_packets()
         → map (λ slot. slot.0) (slot_state_of notes).done ≡ kept_of notes }
 {}
 
-/// The statistics of a ring of slots are those that a ring of blocks has of the same notes, whatever its size, but for
-/// the freezes, of which it has none.
+/// The statistics of a ring of slots are those that a ring of blocks has of the same notes,
+/// whatever its size, but for the freezes, of which it has none.
 pub fn a_slot_ring_counts_as_a_ring_of_blocks()
     ensures counts { (size : Size) (notes : List Note)
         → slot_counts_of notes ≡ map without_freezes (counts_of size notes) }

@@ -1,5 +1,6 @@
 -- The text of a retired block: its descriptor (`struct tpacket_block_desc`), zeros, its packets.
-use Rattle.std.specs.Prelude.{◌≡◌, ℕ, ◌+◌, ◌-◌, ◌%◌, ◌^◌, ◌<◌, ◌≤◌, Bool, true, ◌||◌, ◌&&◌, ◌==◌, nat_lt, nat_le, IsTrue, List, [], ◌∷◌, ◌++◌, length, take, sum_by}
+use Rattle.std.specs.Prelude.{◌≡◌, ℕ, ◌+◌, ◌-◌, ◌%◌, ◌^◌, ◌<◌, ◌≤◌, Bool, true, ◌||◌, ◌&&◌, ◌==◌}
+use Rattle.std.specs.Prelude.{nat_lt, nat_le, IsTrue, List, [], ◌∷◌, ◌++◌, length, take, sum_by}
 use Rattle.std.specs.List.{AllByRecursion}
 use Rattle.frame_view.specs.declared.frames.Packet.{Packet}
 use Rattle.tp_layout.specs.declared.requests.RingRequest.{RingRequest}
@@ -35,13 +36,20 @@ end_may shape end = (end % 8 == 0) && nat_lt (first_of shape) end && nat_le end 
 -- the fields before the times; `fits` says where packets may end
 abbrev pub head_rows : (ℕ → Bool) → RingRequest → Descriptor → List Row
 head_rows fits shape desc =
-    record { at = 0; size = 4; value = 2; kind = Version; may = true }  -- version
-    ∷ record { at = 4; size = 4; value = 48; kind = Offset; may = true }  -- offset_to_priv
-    ∷ bound 8 4 desc.status (is_status desc.status)  -- block_status
-    ∷ record { at = 12; size = 4; value = desc.count; kind = Count; may = nat_lt 0 desc.count }  -- num_pkts
-    ∷ record { at = 16; size = 4; value = first_of shape; kind = Offset; may = true }  -- offset_to_first_pkt
-    ∷ record { at = 20; size = 4; value = desc.end; kind = Length; may = fits desc.end }  -- blk_len
-    ∷ bound 24 8 desc.number (nat_lt 0 desc.number)  -- seq_num
+    -- version
+    record { at = 0; size = 4; value = 2; kind = Version; may = true }
+    -- offset_to_priv
+    ∷ record { at = 4; size = 4; value = 48; kind = Offset; may = true }
+    -- block_status
+    ∷ bound 8 4 desc.status (is_status desc.status)
+    -- num_pkts
+    ∷ record { at = 12; size = 4; value = desc.count; kind = Count; may = nat_lt 0 desc.count }
+    -- offset_to_first_pkt
+    ∷ record { at = 16; size = 4; value = first_of shape; kind = Offset; may = true }
+    -- blk_len
+    ∷ record { at = 20; size = 4; value = desc.end; kind = Length; may = fits desc.end }
+    -- seq_num
+    ∷ bound 24 8 desc.number (nat_lt 0 desc.number)
     ∷ []
 
 -- the two times, each one field of two numbers
@@ -58,13 +66,15 @@ private_rows shape = zeros 48 (first_of shape - 48)
 -- all bytes before the first packet
 unfoldable pub descriptor_text : RingRequest → Descriptor → List ℕ
 descriptor_text shape desc =
-    bytes_of (head_rows (end_may shape) shape desc) ++ (bytes_of (time_rows desc) ++ bytes_of (private_rows shape))
+    bytes_of (head_rows (end_may shape) shape desc)
+    ++ (bytes_of (time_rows desc) ++ bytes_of (private_rows shape))
 
 -- packets one after another; each but the last says where the next one stands
 unfoldable pub packets_text : List Packet → List ℕ
 packets_text [] = []
 packets_text (packet ∷ []) = packet_text 0 packet
-packets_text (packet ∷ next ∷ packets) = packet_text (need_of_packet packet) packet ++ packets_text (next ∷ packets)
+packets_text (packet ∷ next ∷ packets) =
+    packet_text (need_of_packet packet) packet ++ packets_text (next ∷ packets)
 
 -- the bytes that packets take
 abbrev pub needs_of : List Packet → ℕ
@@ -112,15 +122,20 @@ pub record IsLawful (shape : RingRequest) (number status : ℕ) (packets : List 
   pub fits : first_of shape + needs_of packets ≤ shape.block_size
 
 -- a block begins with this lawful text; what follows it is free
-pub record BeginsWith (shape : RingRequest) (number status : ℕ) (packets : List Packet) (bytes : List ℕ) : Type 0 where
+pub record BeginsWith (shape : RingRequest) (number status : ℕ) (packets : List Packet)
+    (bytes : List ℕ) : Type 0 where
   pub lawful : IsLawful shape number status packets
-  pub begins : take (length (block_text shape number status packets)) bytes ≡ block_text shape number status packets
+  pub begins :
+      take (length (block_text shape number status packets)) bytes
+      ≡ block_text shape number status packets
 
 -- a block begins with a lawful text of these packets
 abbrev pub HasText : RingRequest → List ℕ → List Packet → Type 0
-HasText shape bytes packets = (number : ℕ) × (status : ℕ) × BeginsWith shape number status packets bytes
+HasText shape bytes packets =
+    (number : ℕ) × (status : ℕ) × BeginsWith shape number status packets bytes
 
 -- a block begins with a lawful text of this number and status: that is a fact, since the text gives
 -- the packets
 abbrev pub BeginsLawfully : RingRequest → ℕ → ℕ → List ℕ → Type 0
-BeginsLawfully shape number status bytes = ∥ ((packets : List Packet) × BeginsWith shape number status packets bytes) ∥₁
+BeginsLawfully shape number status bytes =
+    ∥ ((packets : List Packet) × BeginsWith shape number status packets bytes) ∥₁

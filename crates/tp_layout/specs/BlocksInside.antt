@@ -9,11 +9,17 @@ use Rattle.tp_layout.specs.declared.ring_blocks.Block.TheInside.{Inside}
 
 -- the shape and the bytes
 abbrev pub shaped_bytes : Inside → ShapedBytes
-shaped_bytes block = record { shape = block.shape; bytes = bytes_or_zeros block.shape.block_size block.bytes.written.items }
+shaped_bytes block = record {
+  shape = block.shape;
+  bytes = bytes_or_zeros block.shape.block_size block.bytes.written.items;
+}
 
 -- it has the bytes that its shape says, or room for them and as many zeros
 pub record IsBlock (block : Inside) : Type 0 where
   pub sound : IsShape block.shape
-  pub size : length (bytes_or_zeros block.shape.block_size block.bytes.written.items) ≡ block.shape.block_size
-  pub room : block.bytes.written.items ≡ [] → block.shape.block_size ≤ vec_capacity block.bytes.written
+  pub size :
+      length (bytes_or_zeros block.shape.block_size block.bytes.written.items)
+      ≡ block.shape.block_size
+  pub room :
+      block.bytes.written.items ≡ [] → block.shape.block_size ≤ vec_capacity block.bytes.written
   pub zeros : (arc_value block.bytes.zeros).items ≡ replicate block.shape.block_size 0

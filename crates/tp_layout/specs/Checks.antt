@@ -1,12 +1,14 @@
 -- How a reader makes its tests. What they come to is what `Faults` says.
-use Rattle.std.specs.Prelude.{◌≡◌, ℕ, ◌+◌, ◌%◌, ◌<◌, ◌≤◌, Bool, true, ◌&&◌, ◌==◌, nat_lt, nat_le, not, length, if◌then◌else◌, List, Option, None, Some}
+use Rattle.std.specs.Prelude.{◌≡◌, ℕ, ◌+◌, ◌%◌, ◌<◌, ◌≤◌, Bool, true, ◌&&◌, ◌==◌, nat_lt, nat_le}
+use Rattle.std.specs.Prelude.{not, length, if◌then◌else◌, List, Option, None, Some}
 use Rattle.std.specs.Option.{option_or}
 use Rattle.tp_layout.specs.declared.requests.RingRequest.{RingRequest}
 use Rattle.tp_layout.specs.declared.error.LayoutError.{LayoutError}
 use Rattle.tp_layout.specs.declared.checking.Ends.{Ends}
 use Rattle.tp_layout.specs.declared.checking.Ends.TheVariants.{UpTo, At}
 use Rattle.tp_layout.specs.declared.error.LayoutKind.{LayoutKind}
-use Rattle.tp_layout.specs.declared.error.LayoutKind.TheVariants.{Version, Length, Offset, Count, Snap, Field}
+use Rattle.tp_layout.specs.declared.error.LayoutKind.TheVariants.{Version, Length, Offset, Count}
+use Rattle.tp_layout.specs.declared.error.LayoutKind.TheVariants.{Snap, Field}
 use Rattle.tp_layout.specs.Requests.{first_of}
 use Rattle.tp_layout.specs.Rows.{number_at, first_fault, zeros}
 use Rattle.tp_layout.specs.Packets.{padding_rows, status_of_tag, tag_at, tci_of, tpid_may, tpid_of}
@@ -43,7 +45,8 @@ header_tests at next bytes =
     (unless (number_at 2 24 bytes == 82) Field (at + 24)
     (unless (number_at 2 26 bytes == 96) Field (at + 26)
     (unless (number_at 4 32 bytes == tci_of (tag_at bytes)) Field (at + 32)
-    (unless ((number_at 2 36 bytes == tpid_of (tag_at bytes)) && tpid_may (tag_at bytes)) Field (at + 36)
+    (unless ((number_at 2 36 bytes == tpid_of (tag_at bytes)) && tpid_may (tag_at bytes)) Field
+    (at + 36)
     (unless (number_at 2 38 bytes == 0) Field (at + 38) None)))))))
 
 -- the tests of the sockaddr_ll at a place of a header that itself stands at `base`
@@ -76,7 +79,8 @@ packets_tests count at bytes = packets_fault_by packet_tests count at bytes
 
 -- the tests of a descriptor up to the times, and of the zeros after it
 abbrev pub descriptor_tests : (ℕ → Bool) → RingRequest → List ℕ → Option LayoutError
-descriptor_tests fits shape bytes = option_or (head_tests fits shape bytes) (first_fault 0 48 (private_rows shape) bytes)
+descriptor_tests fits shape bytes =
+    option_or (head_tests fits shape bytes) (first_fault 0 48 (private_rows shape) bytes)
 
 -- the tests of the times of a descriptor, given those of the first packet and of the last
 unfoldable pub time_tests : ℕ × ℕ → ℕ × ℕ → List ℕ → Option LayoutError
@@ -89,7 +93,8 @@ unfoldable pub block_tests : (ℕ → Bool) → RingRequest → List ℕ → Opt
 block_tests fits shape bytes =
     option_or (descriptor_tests fits shape bytes)
     (option_or (packets_tests (number_at 4 12 bytes) (first_of shape) (area_of shape bytes))
-    (time_tests (number_at 4 4 (area_of shape bytes), number_at 4 8 (area_of shape bytes)) (last_time (packets_in (number_at 4 12 bytes) (area_of shape bytes))) bytes))
+    (time_tests (number_at 4 4 (area_of shape bytes), number_at 4 8 (area_of shape bytes))
+    (last_time (packets_in (number_at 4 12 bytes) (area_of shape bytes))) bytes))
 
 -- where packets may end is after the first packet's place and within n bytes
 abbrev pub EndsWithin : RingRequest → (ℕ → Bool) → ℕ → Type 0

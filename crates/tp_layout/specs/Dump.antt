@@ -17,7 +17,8 @@ packets_of_offers shape offers = map (packet_of (fills_hash shape)) offers
 abbrev pub dump_from : RingRequest → ℕ → List (List Offer × ℕ) → List ℕ
 dump_from shape number [] = []
 dump_from shape number (block ∷ done) =
-    block_text shape number block.1 (packets_of_offers shape block.0) ++ dump_from shape (number + 1) done
+    block_text shape number block.1 (packets_of_offers shape block.0)
+    ++ dump_from shape (number + 1) done
 
 -- the dump of a notes list
 unfoldable pub dump_of : RingRequest → List Note → List ℕ

@@ -1,5 +1,7 @@
 -- What a reader of a block refuses: the first test that fails, with its place. Places are in bytes.
-use Rattle.std.specs.Prelude.{ℕ, zero, suc, ◌+◌, ◌-◌, Bool, ◌&&◌, not, ◌==◌, nat_lt, nat_le, if◌then◌else◌, List, [], ◌∷◌, ◌++◌, length, take, drop, replicate, Option, None, Some}
+use Rattle.std.specs.Prelude.{ℕ, zero, suc, ◌+◌, ◌-◌, Bool, ◌&&◌, not, ◌==◌, nat_lt, nat_le}
+use Rattle.std.specs.Prelude.{if◌then◌else◌, List, [], ◌∷◌, ◌++◌, length, take, drop, replicate}
+use Rattle.std.specs.Prelude.{Option, None, Some}
 use Rattle.std.specs.Option.{option_or}
 use Rattle.frame_view.specs.declared.frames.Packet.{Packet}
 use Rattle.tp_layout.specs.declared.requests.RingRequest.{RingRequest}
@@ -8,13 +10,16 @@ use Rattle.tp_layout.specs.declared.error.LayoutKind.TheVariants.{Length, Count,
 use Rattle.tp_layout.specs.Requests.{first_of}
 use Rattle.tp_layout.specs.Rows.{number_at, first_fault}
 use Rattle.tp_layout.specs.Packets.{packet_rows, padding_rows, packet_at, need_at}
-use Rattle.tp_layout.specs.Blocks.{Descriptor, head_rows, time_rows, private_rows, end_may, first_time, last_time}
+use Rattle.tp_layout.specs.Blocks.{Descriptor, head_rows, time_rows, private_rows, end_may}
+use Rattle.tp_layout.specs.Blocks.{first_time, last_time}
 
 -- the snap length of the packet at the start: at least 1, at most its wire length, and the packet
 -- ends within the bytes
 abbrev pub snap_may : List ℕ → Bool
 snap_may bytes =
-    nat_le 1 (number_at 4 12 bytes) && nat_le (number_at 4 12 bytes) (number_at 4 16 bytes) && nat_le (need_at bytes) (length bytes)
+    nat_le 1 (number_at 4 12 bytes)
+    && nat_le (number_at 4 12 bytes) (number_at 4 16 bytes)
+    && nat_le (need_at bytes) (length bytes)
 
 -- what the offset of the next packet has to be
 abbrev pub next_of : Bool → List ℕ → ℕ
@@ -31,7 +36,8 @@ packet_fault last at bytes =
 
 -- the first fault of n packets in bytes that begin at `at`, given that of the packet at the start:
 -- after them no byte is left
-unfoldable pub packets_fault_by : (Bool → ℕ → List ℕ → Option LayoutError) → ℕ → ℕ → List ℕ → Option LayoutError
+unfoldable pub packets_fault_by :
+    (Bool → ℕ → List ℕ → Option LayoutError) → ℕ → ℕ → List ℕ → Option LayoutError
 packets_fault_by fault zero at [] = None
 packets_fault_by fault zero at (byte ∷ bytes) = Some (record { kind = Length; at = 20 })
 packets_fault_by fault (suc more) at bytes = option_or (fault (more == 0) at bytes)
@@ -87,4 +93,5 @@ padded shape text = text ++ replicate (shape.block_size - length text) 0
 
 -- the first fault of a text: that of the block, whose packets have to end with the text
 unfoldable pub text_fault : RingRequest → List ℕ → Option LayoutError
-text_fault shape text = fault_by (λ end. end_may shape end && (end == length text)) shape (padded shape text)
+text_fault shape text =
+    fault_by (λ end. end_may shape end && (end == length text)) shape (padded shape text)

@@ -37,7 +37,8 @@ filled shape at (offer ∷ offers) bytes = filled shape (at + need_of offer.snap
 -- the bytes after a block was opened, filled and closed
 abbrev pub written : RingRequest → ℕ → ℕ → List Offer → List ℕ → List ℕ
 written shape number status offers bytes =
-    closed (closing_of shape status (packets_of_offers shape offers)) (filled shape (first_of shape) offers (put 0 (open_header shape number) bytes))
+    closed (closing_of shape status (packets_of_offers shape offers))
+    (filled shape (first_of shape) offers (put 0 (open_header shape number) bytes))
 
 -- an offer of the code: it may be written, and its numbers fit their types
 pub record IsOffer (shape : RingRequest) (offer : Offer) : Type 0 where
@@ -45,7 +46,8 @@ pub record IsOffer (shape : RingRequest) (offer : Offer) : Type 0 where
   pub typed : IsTyped (packet_of (fills_hash shape) offer)
 
 -- offers that go into a block of this shape, with the number and the status that it gets
-pub record GoIn (shape : RingRequest) (number status : ℕ) (offers : List Offer) (bytes : List ℕ) : Type 0 where
+pub record GoIn (shape : RingRequest) (number status : ℕ) (offers : List Offer) (bytes : List ℕ)
+    : Type 0 where
   pub sound : IsShape shape
   pub block : length bytes ≡ shape.block_size
   pub numbered : 0 < number

@@ -2,7 +2,8 @@
 use Rattle.std.specs.Prelude.{ℕ, List, ◌++◌, codes, decimal}
 use Rattle.tp_layout.specs.declared.error.LayoutError.{LayoutError}
 use Rattle.tp_layout.specs.declared.error.LayoutKind.{LayoutKind}
-use Rattle.tp_layout.specs.declared.error.LayoutKind.TheVariants.{Version, Length, Offset, Count, Snap, Field}
+use Rattle.tp_layout.specs.declared.error.LayoutKind.TheVariants.{Version, Length, Offset, Count}
+use Rattle.tp_layout.specs.declared.error.LayoutKind.TheVariants.{Snap, Field}
 
 -- the word for what is wrong
 abbrev pub kind_word : LayoutKind → List ℕ

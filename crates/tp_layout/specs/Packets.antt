@@ -1,6 +1,8 @@
 -- A packet in a block: `struct tpacket3_hdr`, `struct sockaddr_ll`, a gap, the data. Sizes and
 -- places are in bytes.
-use Rattle.std.specs.Prelude.{◌≡◌, ℕ, ◌+◌, ◌-◌, ◌/◌, ◌%◌, ◌^◌, ◌<◌, ◌≤◌, Bool, true, ◌==◌, nat_le, if◌then◌else◌, IfSome, IsTrue, All, List, [], ◌∷◌, ◌++◌, length, take, drop, slice_index, Option, None, Some}
+use Rattle.std.specs.Prelude.{◌≡◌, ℕ, ◌+◌, ◌-◌, ◌/◌, ◌%◌, ◌^◌, ◌<◌, ◌≤◌, Bool, true, ◌==◌, nat_le}
+use Rattle.std.specs.Prelude.{if◌then◌else◌, IfSome, IsTrue, All, List, [], ◌∷◌, ◌++◌, length, take}
+use Rattle.std.specs.Prelude.{drop, slice_index, Option, None, Some}
 use Rattle.frame_view.specs.Headers.{address_of}
 use Rattle.frame_view.specs.Vlan.{is_tpid}
 use Rattle.frame_view.specs.declared.frames.Packet.{Packet}
@@ -54,14 +56,16 @@ address_rows packet =
     ∷ row 56 2 1  -- sll_hatype: ARPHRD_ETHER
     ∷ bound 58 1 packet.pkttype (nat_le packet.pkttype 3)  -- sll_pkttype
     ∷ row 59 1 6  -- sll_halen
-    ∷ row 60 1 (slice_index packet.addr 0) ∷ row 61 1 (slice_index packet.addr 1) ∷ row 62 1 (slice_index packet.addr 2)
-    ∷ row 63 1 (slice_index packet.addr 3) ∷ row 64 1 (slice_index packet.addr 4) ∷ row 65 1 (slice_index packet.addr 5)
+    ∷ row 60 1 (slice_index packet.addr 0) ∷ row 61 1 (slice_index packet.addr 1)
+    ∷ row 62 1 (slice_index packet.addr 2) ∷ row 63 1 (slice_index packet.addr 3)
+    ∷ row 64 1 (slice_index packet.addr 4) ∷ row 65 1 (slice_index packet.addr 5)
     ∷ []
 
 -- all 82 bytes before the data: the header, 8 bytes of padding, the address with two zeros after
 -- it, a gap of 14 bytes
 unfoldable pub packet_rows : ℕ → Packet → List Row
-packet_rows next packet = header_rows next packet ++ (zeros 40 8 ++ (address_rows packet ++ zeros 66 16))
+packet_rows next packet =
+    header_rows next packet ++ (zeros 40 8 ++ (address_rows packet ++ zeros 66 16))
 
 -- the zeros after the data
 abbrev pub padding_rows : ℕ → List Row
@@ -69,7 +73,9 @@ padding_rows snap = zeros (82 + snap) (need_of snap - (82 + snap))
 
 -- the bytes of a packet, `need_of` its data's length in all
 unfoldable pub packet_text : ℕ → Packet → List ℕ
-packet_text next packet = bytes_of (packet_rows next packet) ++ (packet.bytes ++ bytes_of (padding_rows (length packet.bytes)))
+packet_text next packet =
+    bytes_of (packet_rows next packet)
+    ++ (packet.bytes ++ bytes_of (padding_rows (length packet.bytes)))
 
 -- the bytes that a packet takes
 abbrev pub need_of_packet : Packet → ℕ

@@ -9,7 +9,10 @@ use Rattle.tp_layout.specs.Blocks.{IsLawful, block_text}
 -- the text is a lawful one of these packets, no byte more
 abbrev pub IsTextOf : RingRequest → List ℕ → List Packet → Type 0
 IsTextOf shape text packets =
-    (number : ℕ) × (status : ℕ) × IsLawful shape number status packets × (text ≡ block_text shape number status packets)
+    (number : ℕ)
+    × (status : ℕ)
+    × IsLawful shape number status packets
+    × (text ≡ block_text shape number status packets)
 
 -- the fault that an answer reports, if it reports one
 abbrev pub told : {X : Type 0} → Result X LayoutError → Option LayoutError

@@ -1,7 +1,10 @@
 -- The words for the faults of a ring that is asked for.
 use Rattle.std.specs.Prelude.{ℕ, List, codes}
 use Rattle.tp_layout.specs.declared.error.RequestError.{RequestError}
-use Rattle.tp_layout.specs.declared.error.RequestError.TheVariants.{BlockSize, BlockCount, Private, FrameSmall, FrameAlign, FrameCount, Feature, Transmit, Slots}
+use Rattle.tp_layout.specs.declared.error.RequestError.TheVariants.{BlockSize, BlockCount, Private}
+use Rattle.tp_layout.specs.declared.error.RequestError.TheVariants.{FrameSmall, FrameAlign}
+use Rattle.tp_layout.specs.declared.error.RequestError.TheVariants.{FrameCount, Feature, Transmit}
+use Rattle.tp_layout.specs.declared.error.RequestError.TheVariants.{Slots}
 
 abbrev pub word_of : RequestError → List ℕ
 word_of BlockSize = codes "block_size"

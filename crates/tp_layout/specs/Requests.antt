@@ -1,10 +1,15 @@
 -- Which rings can be had, and what follows from the request. Sizes and places are in bytes.
-use Rattle.std.specs.Prelude.{◌≡◌, ℕ, ◌+◌, ◌-◌, ◌*◌, ◌/◌, ◌%◌, ◌<◌, ◌≤◌, Bool, ◌&&◌, ◌||◌, not, nat_lt, ◌==◌, if◌then◌else◌, List, [], ◌∷◌, Option, None, Some, Result, Ok, Err}
+use Rattle.std.specs.Prelude.{◌≡◌, ℕ, ◌+◌, ◌-◌, ◌*◌, ◌/◌, ◌%◌, ◌<◌, ◌≤◌, Bool, ◌&&◌, ◌||◌, not}
+use Rattle.std.specs.Prelude.{nat_lt, ◌==◌, if◌then◌else◌, List, [], ◌∷◌, Option, None, Some}
+use Rattle.std.specs.Prelude.{Result, Ok, Err}
 use Rattle.std.specs.Option.{option_or}
 use Rattle.ring_model.specs.Ring.{Size}
 use Rattle.tp_layout.specs.declared.requests.RingRequest.{RingRequest}
 use Rattle.tp_layout.specs.declared.error.RequestError.{RequestError}
-use Rattle.tp_layout.specs.declared.error.RequestError.TheVariants.{BlockSize, BlockCount, Private, FrameSmall, FrameAlign, FrameCount, Feature, Transmit, Slots}
+use Rattle.tp_layout.specs.declared.error.RequestError.TheVariants.{BlockSize, BlockCount, Private}
+use Rattle.tp_layout.specs.declared.error.RequestError.TheVariants.{FrameSmall, FrameAlign}
+use Rattle.tp_layout.specs.declared.error.RequestError.TheVariants.{FrameCount, Feature, Transmit}
+use Rattle.tp_layout.specs.declared.error.RequestError.TheVariants.{Slots}
 
 -- how many frames go into all blocks
 abbrev pub frames_in : RingRequest → ℕ
@@ -13,12 +18,20 @@ frames_in request = request.block_size / request.frame_size * request.block_nr
 -- the first test of a receive ring that fails
 unfoldable pub receive_fault : RingRequest → Option RequestError
 receive_fault request =
-    if (request.block_size == 0) || not (request.block_size % 4096 == 0) || nat_lt 1048576 request.block_size then Some BlockSize
-    else if nat_lt request.block_nr 2 || nat_lt 256 request.block_nr || nat_lt 67108864 (request.block_size * request.block_nr) then Some BlockCount
+    if (request.block_size == 0)
+    || not (request.block_size % 4096 == 0)
+    || nat_lt 1048576 request.block_size
+    then Some BlockSize
+    else if nat_lt request.block_nr 2
+    || nat_lt 256 request.block_nr
+    || nat_lt 67108864 (request.block_size * request.block_nr)
+    then Some BlockCount
     else if nat_lt 1024 request.sizeof_priv then Some Private
     else if nat_lt request.frame_size 68 then Some FrameSmall
     else if not (request.frame_size % 16 == 0) then Some FrameAlign
-    else if (request.block_size / request.frame_size == 0) || not (frames_in request == request.frame_nr) then Some FrameCount
+    else if (request.block_size / request.frame_size == 0)
+    || not (frames_in request == request.frame_nr)
+    then Some FrameCount
     else if nat_lt 1 request.features then Some Feature
     else None
 
@@ -26,11 +39,13 @@ receive_fault request =
 -- feature
 unfoldable pub transmit_fault : RingRequest → Option RequestError
 transmit_fault request = option_or (receive_fault request)
-    (if (request.tov == 0) && (request.sizeof_priv == 0) && (request.features == 0) then None else Some Transmit)
+    (if (request.tov == 0) && (request.sizeof_priv == 0) && (request.features == 0) then None
+    else Some Transmit)
 
 -- the first test of a TPACKET_V2 ring that fails: it has at most 65,536 slots
 unfoldable pub slot_fault : RingRequest → Option RequestError
-slot_fault request = option_or (transmit_fault request) (if nat_lt 65536 request.frame_nr then Some Slots else None)
+slot_fault request =
+    option_or (transmit_fault request) (if nat_lt 65536 request.frame_nr then Some Slots else None)
 
 -- the shape of a request without a fault
 abbrev pub answer_of : RingRequest → Option RequestError → Result RingRequest RequestError
@@ -76,4 +91,5 @@ size_of shape = record { room = room_of shape; blocks = shape.block_nr; tov = ti
 -- the shape as plain numbers, which tell it from every other
 abbrev pub numbers_of : RingRequest → List ℕ
 numbers_of shape =
-    shape.block_size ∷ shape.block_nr ∷ shape.frame_size ∷ shape.frame_nr ∷ shape.tov ∷ shape.sizeof_priv ∷ shape.features ∷ []
+    shape.block_size ∷ shape.block_nr ∷ shape.frame_size ∷ shape.frame_nr ∷ shape.tov
+    ∷ shape.sizeof_priv ∷ shape.features ∷ []

@@ -1,6 +1,7 @@
 -- A layout as a table: one row for each field, in the order in which they stand. Sizes and places
 -- are in bytes.
-use Rattle.std.specs.Prelude.{ℕ, zero, suc, ◌+◌, Bool, true, ◌&&◌, ◌==◌, if◌then◌else◌, List, [], ◌∷◌, ◌++◌, drop, Option, None, Some}
+use Rattle.std.specs.Prelude.{ℕ, zero, suc, ◌+◌, Bool, true, ◌&&◌, ◌==◌, if◌then◌else◌, List, []}
+use Rattle.std.specs.Prelude.{◌∷◌, ◌++◌, drop, Option, None, Some}
 use Rattle.byteorder.specs.Endian.{little_bytes, little_number, big_number}
 use Rattle.tp_layout.specs.declared.error.LayoutError.{LayoutError}
 use Rattle.tp_layout.specs.declared.error.LayoutKind.{LayoutKind}
@@ -54,5 +55,6 @@ size_of_rows (row ∷ rows) = row.size + size_of_rows rows
 unfoldable pub first_fault : ℕ → ℕ → List Row → List ℕ → Option LayoutError
 first_fault base from [] bytes = None
 first_fault base from (row ∷ rows) bytes =
-    if (number_at row.size from bytes == row.value) && row.may then first_fault base (from + row.size) rows bytes
+    if (number_at row.size from bytes == row.value) && row.may
+    then first_fault base (from + row.size) rows bytes
     else Some (record { kind = row.kind; at = base + row.at })

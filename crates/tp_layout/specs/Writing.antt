@@ -1,6 +1,7 @@
 -- How a block is filled: an open block, each packet of which says where the next one is to stand,
 -- is closed at the end.
-use Rattle.std.specs.Prelude.{◌≡◌, ℕ, ◌+◌, ◌^◌, ◌<◌, ◌≤◌, IfSome, IsTrue, List, [], ◌∷◌, ◌++◌, length, take, drop, replicate}
+use Rattle.std.specs.Prelude.{◌≡◌, ℕ, ◌+◌, ◌^◌, ◌<◌, ◌≤◌, IfSome, IsTrue, List, [], ◌∷◌, ◌++◌}
+use Rattle.std.specs.Prelude.{length, take, drop, replicate}
 use Rattle.std.specs.List.{AllByRecursion, flat_map}
 use Rattle.byteorder.specs.Endian.{little_bytes}
 use Rattle.frame_view.specs.Vlan.{is_tpid}
@@ -70,7 +71,8 @@ unfoldable pub open_text : RingRequest → ℕ → List Packet → List ℕ
 open_text shape number packets = open_header shape number ++ open_packets packets
 
 -- an open block of this shape and number holds these packets, which are lawful
-pub record IsOpen (shape : RingRequest) (number : ℕ) (packets : List Packet) (bytes : List ℕ) : Type 0 where
+pub record IsOpen (shape : RingRequest) (number : ℕ) (packets : List Packet) (bytes : List ℕ)
+    : Type 0 where
   pub small : number < 2 ^ 64
   pub each : AllByRecursion IsLawfulPacket packets
   pub begins : take (length (open_text shape number packets)) bytes ≡ open_text shape number packets

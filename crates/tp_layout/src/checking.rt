@@ -1,7 +1,8 @@
 //! The tests of a block, in the order in which their faults are reported.
 ghost use Rattle.std.specs.Prelude.{◌≡◌, ◌+◌, ◌-◌, ◌^◌, ◌≤◌, ◌<◌, true, IfOk, length};
 ghost use Rattle.tp_layout.specs.Blocks.{is_status};
-ghost use Rattle.tp_layout.specs.Checks.{fits_of, fixed_tests, head_tests, header_tests, packet_tests, told};
+ghost use Rattle.tp_layout.specs.Checks.{fits_of, fixed_tests, head_tests, header_tests};
+ghost use Rattle.tp_layout.specs.Checks.{packet_tests, told};
 ghost use Rattle.tp_layout.specs.Faults.{next_of, snap_may};
 ghost use Rattle.tp_layout.specs.Packets.{need_at};
 ghost use Rattle.tp_layout.specs.Rows.{first_fault, number_at, zeros};

@@ -1,8 +1,10 @@
 //! How a block is read: it is tested as a whole, and then gives its packets one after another.
 ghost use Rattle.std.specs.Prelude.{◌≡◌, ◌+◌, ◌<◌, ◌≤◌, ℕ, List, IfOk, IsOk, Ok, length};
 ghost use Rattle.frame_view.specs.declared.frames.Packet.{Packet};
-ghost use Rattle.tp_layout.specs.Blocks.{BeginsLawfully, BeginsWith, HasText, IsLawful, block_text, last_time};
-ghost use Rattle.tp_layout.specs.Checks.{EndsWithin, block_tests, descriptor_tests, fits_of, packets_tests, time_tests};
+ghost use Rattle.tp_layout.specs.Blocks.{BeginsLawfully, BeginsWith, HasText, IsLawful, block_text};
+ghost use Rattle.tp_layout.specs.Blocks.{last_time};
+ghost use Rattle.tp_layout.specs.Checks.{EndsWithin, block_tests, descriptor_tests, fits_of};
+ghost use Rattle.tp_layout.specs.Checks.{packets_tests, time_tests};
 ghost use Rattle.tp_layout.specs.Faults.{area_of, fault_of, packets_in, packets_of, text_fault};
 ghost use Rattle.tp_layout.specs.Reading.{IsTextOf, told};
 ghost use Rattle.tp_layout.specs.Requests.{IsShape, first_of};

@@ -1,13 +1,15 @@
 //! How a block is filled: its header when it is opened, packet after packet, and at last what only
 //! its end can tell.
-ghost use Rattle.std.specs.Prelude.{◌≡◌, ◌+◌, ◌%◌, ◌^◌, ◌<◌, ◌≤◌, ◌++◌, ℕ, IsTrue, List, [], ◌∷◌, length};
+ghost use Rattle.std.specs.Prelude.{◌≡◌, ◌+◌, ◌%◌, ◌^◌, ◌<◌, ◌≤◌, ◌++◌, ℕ, IsTrue, List, [], ◌∷◌};
+ghost use Rattle.std.specs.Prelude.{length};
 ghost use Rattle.frame_view.specs.declared.frames.Packet.{Packet};
 ghost use Rattle.ring_model.specs.Offers.{packet_of};
 ghost use Rattle.ring_model.specs.Sizes.{need_of};
 ghost use Rattle.tp_layout.specs.Blocks.{BeginsWith, is_status};
 ghost use Rattle.tp_layout.specs.Packets.{packet_text};
 ghost use Rattle.tp_layout.specs.Requests.{fills_hash, first_of};
-ghost use Rattle.tp_layout.specs.Writing.{IsOpen, IsWritable, closed, closing_of, end_of, open_header, put};
+ghost use Rattle.tp_layout.specs.Writing.{IsOpen, IsWritable, closed, closing_of, end_of};
+ghost use Rattle.tp_layout.specs.Writing.{open_header, put};
 
 use crate::{Block, Shape};
 use ring_model::Offer;

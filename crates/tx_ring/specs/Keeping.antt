@@ -1,5 +1,6 @@
 -- What the slots of a transmit ring keep of its state.
-use Rattle.std.specs.Prelude.{◌≡◌, ℕ, zero, suc, ◌+◌, ◌-◌, ◌%◌, ◌<◌, ◌≤◌, Bool, false, List, [], ◌∷◌, length, Option, IfSome}
+use Rattle.std.specs.Prelude.{◌≡◌, ℕ, zero, suc, ◌+◌, ◌-◌, ◌%◌, ◌<◌, ◌≤◌, Bool, false, List, []}
+use Rattle.std.specs.Prelude.{◌∷◌, length, Option, IfSome}
 use Rattle.tp_layout.specs.declared.requests.RingRequest.{RingRequest}
 use Rattle.tx_ring.specs.Rings.{TxState, is_among, room_of, slot_of, status_by}
 use Rattle.tx_ring.specs.Sending.{is_good}
@@ -41,5 +42,6 @@ pub record Keeps (ring : TxState) (slots : List SlotState) (taken : ℕ) : Type 
   pub few : ring.placed ≤ taken + ring.shape.frame_nr
   pub sizes : (at : ℕ) → at < length slots → (slot_at slots at).size ≡ ring.shape.frame_size
   pub marks : (at : ℕ) → at < length slots
-      → (slot_at slots at).status ≡ status_by ring.stopped (is_among ring.shape.frame_nr at taken (ring.placed - taken)) at
+      → (slot_at slots at).status
+      ≡ status_by ring.stopped (is_among ring.shape.frame_nr at taken (ring.placed - taken)) at
   pub stop : IfSome ring.stopped (HasStopped ring taken)

@@ -12,4 +12,5 @@ pub record HasStoppedAt (slot : ℕ) (ring : TxState) : Type 0 where
   pub same : after_send ring ≡ ring
   pub none : packets_sent ring ≡ []
   pub refused : (bytes : List ℕ)
-      → place_answer ring bytes ≡ (if nat_lt (room_of ring.shape) (length bytes) then Err TooLong else Err (Stopped slot))
+      → place_answer ring bytes
+      ≡ (if nat_lt (room_of ring.shape) (length bytes) then Err TooLong else Err (Stopped slot))

@@ -1,5 +1,7 @@
 -- A transmit ring between two calls, and what a place makes of it.
-use Rattle.std.specs.Prelude.{ℕ, zero, suc, ◌+◌, ◌-◌, ◌%◌, Bool, false, ◌||◌, ◌==◌, nat_lt, if◌then◌else◌, List, [], ◌∷◌, ◌++◌, length, Option, None, Some, Result, Ok, Err, is_ok}
+use Rattle.std.specs.Prelude.{ℕ, zero, suc, ◌+◌, ◌-◌, ◌%◌, Bool, false, ◌||◌, ◌==◌, nat_lt}
+use Rattle.std.specs.Prelude.{if◌then◌else◌, List, [], ◌∷◌, ◌++◌, length, Option, None, Some}
+use Rattle.std.specs.Prelude.{Result, Ok, Err, is_ok}
 use Rattle.tp_layout.specs.declared.requests.RingRequest.{RingRequest}
 use Rattle.tx_ring.specs.Slots.{Request}
 use Rattle.tx_ring.specs.declared.error.TxError.{TxError}
@@ -16,7 +18,13 @@ pub record TxState : Type 0 where
 
 -- a ring that nothing was placed in
 abbrev pub new_ring : RingRequest → Bool → TxState
-new_ring shape skip = record { shape = shape; skip_bad = skip; placed = 0; requests = []; stopped = None }
+new_ring shape skip = record {
+  shape = shape;
+  skip_bad = skip;
+  placed = 0;
+  requests = [];
+  stopped = None;
+}
 
 -- the number of bytes that fit after the header of a slot
 abbrev pub room_of : RingRequest → ℕ
@@ -24,7 +32,11 @@ room_of shape = shape.frame_size - 48
 
 -- a request for a frame of this length that begins with these bytes
 abbrev pub request_of : ℕ → ℕ → List ℕ → Request
-request_of next_offset asked bytes = record { next_offset = next_offset; length = asked; bytes = bytes }
+request_of next_offset asked bytes = record {
+  next_offset = next_offset;
+  length = asked;
+  bytes = bytes;
+}
 
 -- a request for a frame of just these bytes
 abbrev pub whole_request : List ℕ → Request

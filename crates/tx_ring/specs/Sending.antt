@@ -1,5 +1,7 @@
 -- What a send takes of the requests of a transmit ring, and what it makes of them.
-use Rattle.std.specs.Prelude.{◌≡◌, ℕ, ◌+◌, ◌<◌, Bool, false, true, ◌&&◌, ◌==◌, nat_le, if◌then◌else◌, List, [], ◌∷◌, ◌++◌, length, take, drop, replicate, Some, Result, Ok, Err, ⊤}
+use Rattle.std.specs.Prelude.{◌≡◌, ℕ, ◌+◌, ◌<◌, Bool, false, true, ◌&&◌, ◌==◌, nat_le}
+use Rattle.std.specs.Prelude.{if◌then◌else◌, List, [], ◌∷◌, ◌++◌, length, take, drop, replicate}
+use Rattle.std.specs.Prelude.{Some, Result, Ok, Err, ⊤}
 use Rattle.frame_view.specs.PlainPacket.{plain_of}
 use Rattle.frame_view.specs.declared.frames.Packet.{Packet}
 use Rattle.tx_ring.specs.Rings.{TxState, front_slot, room_of}
@@ -31,7 +33,8 @@ front_of (request ∷ requests) = request
 abbrev pub packets_of : ℕ → List Request → List Packet
 packets_of room [] = []
 packets_of room (request ∷ requests) =
-    if is_good room request then packet_of request ∷ packets_of room requests else packets_of room requests
+    if is_good room request then packet_of request ∷ packets_of room requests
+    else packets_of room requests
 
 -- the number of the bad ones among requests
 abbrev pub bad_in : ℕ → List Request → ℕ
@@ -48,7 +51,8 @@ good_front room (request ∷ requests) =
 -- the requests that a send takes from the start: with `skip_bad` all, without it the good ones
 -- before the first bad one
 abbrev pub taken_by : TxState → List Request
-taken_by ring = if ring.skip_bad then ring.requests else good_front (room_of ring.shape) ring.requests
+taken_by ring =
+    if ring.skip_bad then ring.requests else good_front (room_of ring.shape) ring.requests
 
 -- the packets that a send appends
 abbrev pub packets_sent : TxState → List Packet
@@ -105,7 +109,8 @@ counted counts false = record counts { skipped = counts.skipped + 1 }
 
 -- what became of the first request of a ring: it was sent or skipped, the ring stopped there, or
 -- memory ran out
-abbrev pub FrontTaken : TxState → TxState → List Packet → List Packet → Result Bool SendError → Type 0
+abbrev pub FrontTaken :
+    TxState → TxState → List Packet → List Packet → Result Bool SendError → Type 0
 FrontTaken old new before after (Ok true) =
     (is_good (room_of old.shape) (front_of old.requests) ≡ true) × (new ≡ after_taking 1 old)
     × (after ≡ before ++ packet_of (front_of old.requests) ∷ [])
@@ -113,7 +118,9 @@ FrontTaken old new before after (Ok false) =
     (is_good (room_of old.shape) (front_of old.requests) ≡ false) × (old.skip_bad ≡ true)
     × (new ≡ after_taking 1 old) × (after ≡ before)
 FrontTaken old new before after (Err (BadSlot slot)) =
-    (is_good (room_of old.shape) (front_of old.requests) ≡ false) × (old.skip_bad ≡ false) × (slot ≡ front_slot old)
+    (is_good (room_of old.shape) (front_of old.requests) ≡ false)
+    × (old.skip_bad ≡ false)
+    × (slot ≡ front_slot old)
     × (new ≡ record old { stopped = Some slot }) × (after ≡ before)
 FrontTaken old new before after (Err Memory) =
     (is_good (room_of old.shape) (front_of old.requests) ≡ true) × (new ≡ old) × (after ≡ before)

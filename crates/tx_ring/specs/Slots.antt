@@ -1,6 +1,7 @@
 -- A slot of a transmit ring, as bytes: a header of 48 bytes, the bytes that were given, and zeros.
 -- Sizes and places are in bytes.
-use Rattle.std.specs.Prelude.{◌≡◌, ℕ, ◌+◌, ◌-◌, ◌^◌, ◌<◌, ◌≤◌, List, [], ◌++◌, length, take, drop, replicate, slice_index_or}
+use Rattle.std.specs.Prelude.{◌≡◌, ℕ, ◌+◌, ◌-◌, ◌^◌, ◌<◌, ◌≤◌, List, [], ◌++◌, length, take, drop}
+use Rattle.std.specs.Prelude.{replicate, slice_index_or}
 use Rattle.byteorder.specs.Endian.{little_bytes, little_number}
 
 -- what a slot asks for: the offset to a next frame, the length of the frame and the bytes that it

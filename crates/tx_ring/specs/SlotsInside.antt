@@ -1,6 +1,7 @@
 -- The slots of a ring by their fields: those that were written stand in its bytes, and those after
 -- them have none yet.
-use Rattle.std.specs.Prelude.{◌≡◌, ℕ, zero, suc, ◌-◌, ◌*◌, ◌^◌, ◌<◌, ◌≤◌, List, [], ◌∷◌, ◌++◌, length, take, drop, replicate}
+use Rattle.std.specs.Prelude.{◌≡◌, ℕ, zero, suc, ◌-◌, ◌*◌, ◌^◌, ◌<◌, ◌≤◌, List, [], ◌∷◌, ◌++◌}
+use Rattle.std.specs.Prelude.{length, take, drop, replicate}
 use Rattle.std.specs.Vec.{vec_capacity}
 use Rattle.tx_ring.specs.Slots.{IsSlot, SlotState, empty_slot, slot_in}
 use Rattle.tx_ring.specs.declared.slots.Slots.TheInside.{Inside}
@@ -18,11 +19,13 @@ AreSlots size (suc count) bytes = IsSlot (take size bytes) × AreSlots size coun
 -- `count` slots of this size: those that were written, and after them those that nothing was
 -- written into
 abbrev pub slots_by : ℕ → ℕ → ℕ → List ℕ → List SlotState
-slots_by size count written bytes = slots_in size written bytes ++ replicate (count - written) (empty_slot size)
+slots_by size count written bytes =
+    slots_in size written bytes ++ replicate (count - written) (empty_slot size)
 
 -- the slots
 abbrev pub all_slots : Inside → List SlotState
-all_slots slots = slots_by slots.shape.frame_size slots.shape.frame_nr slots.written slots.bytes.items
+all_slots slots =
+    slots_by slots.shape.frame_size slots.shape.frame_nr slots.written slots.bytes.items
 
 -- `count` slots of this size, of which `written` were written: these bytes are theirs, and there is
 -- room for those of all
@@ -37,4 +40,5 @@ pub record IsKept (size count written room : ℕ) (bytes : List ℕ) : Type 0 wh
 -- the slots are kept so
 abbrev pub AreKept : Inside → Type 0
 AreKept slots =
-    IsKept slots.shape.frame_size slots.shape.frame_nr slots.written (vec_capacity slots.bytes) slots.bytes.items
+    IsKept slots.shape.frame_size slots.shape.frame_nr slots.written (vec_capacity slots.bytes)
+    slots.bytes.items

@@ -1,5 +1,6 @@
 -- What becomes of frames that are sent through a transmit ring. Lengths are in bytes.
-use Rattle.std.specs.Prelude.{ℕ, ◌+◌, ◌-◌, ◌^◌, Bool, ◌&&◌, ◌==◌, nat_le, nat_lt, if◌then◌else◌, is_some, List, [], ◌∷◌, ◌++◌, length, min, take, Option, None, Some}
+use Rattle.std.specs.Prelude.{ℕ, ◌+◌, ◌-◌, ◌^◌, Bool, ◌&&◌, ◌==◌, nat_le, nat_lt, if◌then◌else◌}
+use Rattle.std.specs.Prelude.{is_some, List, [], ◌∷◌, ◌++◌, length, min, take, Option, None, Some}
 use Rattle.frame_view.specs.PlainPacket.{plain_of}
 use Rattle.frame_view.specs.declared.frames.Frame.{Frame}
 use Rattle.frame_view.specs.declared.frames.Packet.{Packet}
@@ -25,22 +26,26 @@ is_fitting room frame = nat_le 14 (length frame.bytes) && nat_le (length frame.b
 abbrev pub plain_packets : ℕ → List Frame → List Packet
 plain_packets room [] = []
 plain_packets room (frame ∷ frames) =
-    if is_fitting room frame then plain_of frame.bytes ∷ plain_packets room frames else plain_packets room frames
+    if is_fitting room frame then plain_of frame.bytes ∷ plain_packets room frames
+    else plain_packets room frames
 
 -- the number of the longer frames
 abbrev pub long_in : ℕ → List Frame → ℕ
 long_in room [] = 0
-long_in room (frame ∷ frames) = if is_long room frame then long_in room frames + 1 else long_in room frames
+long_in room (frame ∷ frames) =
+    if is_long room frame then long_in room frames + 1 else long_in room frames
 
 -- the frames before the first longer one
 abbrev pub before_long : ℕ → List Frame → List Frame
 before_long room [] = []
-before_long room (frame ∷ frames) = if is_long room frame then [] else frame ∷ before_long room frames
+before_long room (frame ∷ frames) =
+    if is_long room frame then [] else frame ∷ before_long room frames
 
 -- the number in its capture of the first longer frame
 abbrev pub first_long : ℕ → List Frame → Option ℕ
 first_long room [] = None
-first_long room (frame ∷ frames) = if is_long room frame then Some frame.index else first_long room frames
+first_long room (frame ∷ frames) =
+    if is_long room frame then Some frame.index else first_long room frames
 
 -- the frames of which packets are sent: with `skip_bad` the longer ones are skipped, else the first
 -- of them stops all
@@ -60,14 +65,16 @@ transmitted_of room skip frames = record {
 -- as fit
 abbrev pub request_for : ℕ → List ℕ → Request
 request_for room bytes =
-    if nat_lt room (length bytes) then request_of 0 (min (length bytes) (2 ^ 32 - 1)) (take room bytes)
+    if nat_lt room (length bytes)
+    then request_of 0 (min (length bytes) (2 ^ 32 - 1)) (take room bytes)
     else request_of 0 (length bytes) bytes
 
 -- what is placed of frames, of which runts are left out
 abbrev pub requests_of : ℕ → List Frame → List Request
 requests_of room [] = []
 requests_of room (frame ∷ frames) =
-    if is_runt frame then requests_of room frames else request_for room frame.bytes ∷ requests_of room frames
+    if is_runt frame then requests_of room frames
+    else request_for room frame.bytes ∷ requests_of room frames
 
 -- a run after one send
 abbrev pub sent_once : Transmitter → Transmitter
@@ -79,7 +86,9 @@ sent_once run = record {
 
 -- a run in which a frame was placed, if the ring takes it
 abbrev pub placed_in : Transmitter → List ℕ → Transmitter
-placed_in run bytes = record run { ring = after_place run.ring (request_for (room_of run.ring.shape) bytes) }
+placed_in run bytes = record run {
+  ring = after_place run.ring (request_for (room_of run.ring.shape) bytes);
+}
 
 -- a run with room for a frame: where all slots are requested it sends first
 abbrev pub with_room : Transmitter → Transmitter

@@ -7,9 +7,11 @@
 //! where that is asked for (PACKET_LOSS of packet(7)), and is available then; else it stays where
 //! it is, in wrong format, and the ring has stopped for good: nothing more is placed or sent. The
 //! kernel lets the sender mend such a slot.
-ghost use Rattle.std.specs.Prelude.{◌≡◌, ◌+◌, ◌-◌, ◌^◌, ◌<◌, ◌≤◌, ◌++◌, ◌==◌, ℕ, false, true, None, Some, IfOk, is_some, length};
+ghost use Rattle.std.specs.Prelude.{◌≡◌, ◌+◌, ◌-◌, ◌^◌, ◌<◌, ◌≤◌, ◌++◌, ◌==◌, ℕ, false, true, None};
+ghost use Rattle.std.specs.Prelude.{Some, IfOk, is_some, length};
 ghost use Rattle.tp_layout.specs.Requests.{transmit_fault};
-ghost use Rattle.tx_ring.specs.Rings.{after_place, new_ring, place_answer, request_of, room_of, slot_of, status_at, whole_request, with_request};
+ghost use Rattle.tx_ring.specs.Rings.{after_place, new_ring, place_answer, request_of, room_of};
+ghost use Rattle.tx_ring.specs.Rings.{slot_of, status_at, whole_request, with_request};
 
 mod sending;
 

@@ -1,8 +1,10 @@
 //! The slots of a transmit ring.
-ghost use Rattle.std.specs.Prelude.{◌≡◌, ◌+◌, ◌-◌, ◌*◌, ◌^◌, ◌<◌, ◌≤◌, ◌++◌, ℕ, IfOk, drop, length, replicate, set, take};
+ghost use Rattle.std.specs.Prelude.{◌≡◌, ◌+◌, ◌-◌, ◌*◌, ◌^◌, ◌<◌, ◌≤◌, ◌++◌, ℕ, IfOk, drop, length};
+ghost use Rattle.std.specs.Prelude.{replicate, set, take};
 ghost use Rattle.std.specs.Vec.{vec_capacity};
 ghost use Rattle.tx_ring.specs.Sending.{frame_of};
-ghost use Rattle.tx_ring.specs.Slots.{IsSlot, IsSound, SlotState, empty_slot, number_at, put_slot, slot_at, slot_in, slot_text};
+ghost use Rattle.tx_ring.specs.Slots.{IsSlot, IsSound, SlotState, empty_slot, number_at, put_slot};
+ghost use Rattle.tx_ring.specs.Slots.{slot_at, slot_in, slot_text};
 
 use crate::slot_fields::{
     HEADER, LENGTH, NEXT_OFFSET, SNAPLEN, STATUS, read_u32, write_data, write_header, write_u32,

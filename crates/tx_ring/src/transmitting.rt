@@ -1,6 +1,7 @@
 //! The frames of a capture, sent through a transmit ring: each is placed in turn, and the ring
 //! sends whenever all its slots are requested, and at the end.
-ghost use Rattle.std.specs.Prelude.{◌≡◌, ◌+◌, ◌^◌, ◌<◌, ◌≤◌, if◌then◌else◌, None, IfOk, OnOk, length};
+ghost use Rattle.std.specs.Prelude.{◌≡◌, ◌+◌, ◌^◌, ◌<◌, ◌≤◌, if◌then◌else◌, None, IfOk, OnOk};
+ghost use Rattle.std.specs.Prelude.{length};
 ghost use Rattle.frame_view.specs.declared.frames.Frame.{Frame};
 ghost use Rattle.tp_layout.specs.Requests.{transmit_fault};
 ghost use Rattle.tx_ring.specs.Rings.{room_of};

@@ -12,8 +12,11 @@ AreSlotTexts shape [] [] = Unit {0}
 AreSlotTexts shape [] (slot ∷ done) = ⊥
 AreSlotTexts shape (entry ∷ entries) [] = ⊥
 AreSlotTexts shape (entry ∷ entries) (slot ∷ done) =
-    SlotBegins shape slot.1 (slot_packet_of slot.0) entry.0 × (entry.1 ≡ slot.1) × AreSlotTexts shape entries done
+    SlotBegins shape slot.1 (slot_packet_of slot.0) entry.0
+    × (entry.1 ≡ slot.1)
+    × AreSlotTexts shape entries done
 
 -- an end stands for the texts of filled slots
 abbrev pub StandsForSlots : RingRequest → List (Offer × ℕ) → Feed → Type 0
-StandsForSlots shape done feed = (all : List Entry) × StandsFor feed all × AreSlotTexts shape all done
+StandsForSlots shape done feed =
+    (all : List Entry) × StandsFor feed all × AreSlotTexts shape all done

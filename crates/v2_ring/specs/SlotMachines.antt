@@ -9,7 +9,8 @@ use Rattle.v2_ring.specs.SlotContents.{StandsForSlots}
 use Rattle.v2_ring.specs.declared.machine.SlotMachine.{SlotMachine}
 
 -- the machine is at this state, with `in_hand` slots in hand
-pub record IsSlotAt {E : Type 0} (feed : E → Feed) (in_hand : ℕ) (state : SlotState) (machine : SlotMachine E) : Type 0 where
+pub record IsSlotAt {E : Type 0} (feed : E → Feed) (in_hand : ℕ) (state : SlotState)
+    (machine : SlotMachine E) : Type 0 where
   pub checked : IsSlotShape machine.shape
   pub places : (feed machine.end).ring.places ≡ machine.shape.frame_nr
   pub kind : (feed machine.end).ring.kind ≡ numbers_of machine.shape

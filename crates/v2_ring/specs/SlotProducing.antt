@@ -10,7 +10,8 @@ use Rattle.ring_model.specs.declared.notes.Tried.{Tried}
 use Rattle.ring_words.specs.Counts.{Rose}
 use Rattle.ring_words.specs.Rings.{Feed}
 use Rattle.slot_model.specs.SlotAsking.{slot_look}
-use Rattle.slot_model.specs.SlotSteps.{IsOpenSlotRun, SlotMayStand, SlotState, first_slot_state, slot_state_of}
+use Rattle.slot_model.specs.SlotSteps.{IsOpenSlotRun, SlotMayStand, SlotState, first_slot_state}
+use Rattle.slot_model.specs.SlotSteps.{slot_state_of}
 use Rattle.tp_layout.specs.declared.requests.RingRequest.{RingRequest}
 use Rattle.v2_ring.specs.SlotContents.{StandsForSlots}
 use Rattle.v2_ring.specs.SlotMachines.{IsSlotAt, KeepsSlotEnd}
@@ -29,7 +30,8 @@ abbrev pub slots_filled : {E : Type 0} → SlotProducing E → SlotState
 slots_filled ring = slot_state_of ring.notes
 
 -- a call added this note, which may stand; the end stands for the texts of all filled slots
-pub record SlotAdds {E : Type 0} (feed : E → Feed) (before after : SlotProducing E) (note : Note) : Type 0 where
+pub record SlotAdds {E : Type 0} (feed : E → Feed) (before after : SlotProducing E) (note : Note)
+    : Type 0 where
   pub shape : after.shape ≡ before.shape
   pub notes : after.notes ≡ before.notes ++ note ∷ []
   pub stands : SlotMayStand before.shape.frame_nr (slots_filled before) note
@@ -38,26 +40,32 @@ pub record SlotAdds {E : Type 0} (feed : E → Feed) (before after : SlotProduci
 
 -- what the one look of a call found. Where the slot was still the reader's one look more is
 -- counted, else none; where the end reports how many slots were released, what is found is exact
-pub record SlotLooks (slots : ℕ) (state : SlotState) (found : Found) (before after : Feed) : Type 0 where
+pub record SlotLooks (slots : ℕ) (state : SlotState) (found : Found) (before after : Feed)
+    : Type 0 where
   pub looked : WasHeld found (Rose before.holds after.holds)
   pub count : CountsHeld found before.holds after.holds
   pub number : after.found ≡ found_with found before.found
   pub exact : (released : ℕ) → before.freed ≡ Some released → found ≡ slot_look slots released state
 
 -- a put found this, and dropped the packet where the slot was held
-pub record SlotPuts {E : Type 0} (feed : E → Feed) (before after : SlotProducing E) (offer : Offer) (found : Found) (put : Put) : Type 0 where
+pub record SlotPuts {E : Type 0} (feed : E → Feed) (before after : SlotProducing E) (offer : Offer)
+    (found : Found) (put : Put) : Type 0 where
   pub adds : SlotAdds feed before after (put_by offer found)
   pub told : put ≡ put_told (put_by offer found)
-  pub looks : SlotLooks before.shape.frame_nr (slots_filled before) found (feed before.end) (feed after.end)
+  pub looks :
+      SlotLooks before.shape.frame_nr (slots_filled before) found (feed before.end) (feed after.end)
 
 -- a try found this, and handed the packet back where the slot was held
-pub record SlotTries {E : Type 0} (feed : E → Feed) (before after : SlotProducing E) (offer : Offer) (found : Found) (tried : Tried) : Type 0 where
+pub record SlotTries {E : Type 0} (feed : E → Feed) (before after : SlotProducing E) (offer : Offer)
+    (found : Found) (tried : Tried) : Type 0 where
   pub adds : SlotAdds feed before after (try_by offer found)
   pub told : tried ≡ try_told offer (try_by offer found)
-  pub looks : SlotLooks before.shape.frame_nr (slots_filled before) found (feed before.end) (feed after.end)
+  pub looks :
+      SlotLooks before.shape.frame_nr (slots_filled before) found (feed before.end) (feed after.end)
 
 -- what the fields of a ring keep
-pub record SlotKeeps {E : Type 0} (feed : E → Feed) (machine : SlotMachine E) (notes : List Note) (room : ℕ) : Type 0 where
+pub record SlotKeeps {E : Type 0} (feed : E → Feed) (machine : SlotMachine E) (notes : List Note)
+    (room : ℕ) : Type 0 where
   pub at : IsSlotAt feed 0 (slot_state_of notes) machine
   pub run : IsOpenSlotRun machine.shape.frame_nr first_slot_state notes
   pub last : length notes < room

@@ -40,7 +40,8 @@ pub(crate) struct SlotMachine<E> {
 }
 
 impl<E: FeederEnd<Slot> + Drop> SlotMachine<E> {
-    ghost use Rattle.v2_ring.specs.SlotMachines.{IsFreshSlots, IsReserved, IsSlotAt, IsSlotFew, KeepsSlotEnd};
+    ghost use Rattle.v2_ring.specs.SlotMachines.{IsFreshSlots, IsReserved, IsSlotAt, IsSlotFew};
+    ghost use Rattle.v2_ring.specs.SlotMachines.{KeepsSlotEnd};
     ghost use Rattle.v2_ring.specs.SlotProducing.{SlotLooks};
 
     /// A machine over a fresh end.

@@ -1,5 +1,6 @@
 //! A ring of slots that frames are put into: its machine, and the notes of what happened.
-ghost use Rattle.std.specs.Prelude.{◌≡◌, ◌+◌, ◌^◌, ◌<◌, ◌≤◌, ◌∷◌, ◌++◌, ℕ, [], length, IfOk, IfErr, OnErr};
+ghost use Rattle.std.specs.Prelude.{◌≡◌, ◌+◌, ◌^◌, ◌<◌, ◌≤◌, ◌∷◌, ◌++◌, ℕ, [], length, IfOk, IfErr};
+ghost use Rattle.std.specs.Prelude.{OnErr};
 ghost use Rattle.ring_model.specs.declared.notes.Found.{Found};
 ghost use Rattle.ring_model.specs.declared.notes.Note.TheVariants.{Counted, Finished};
 ghost use Rattle.slot_layout.specs.SlotShapes.{IsSlotShape};

@@ -17,7 +17,8 @@ works_of (place ∷ places) = place.work ∷ works_of places
 -- the works at the places of the pass with this name, in order
 abbrev pub own : ℕ → List Place → List Work
 own name [] = []
-own name (place ∷ places) = if place.by == name then place.work ∷ own name places else own name places
+own name (place ∷ places) =
+    if place.by == name then place.work ∷ own name places else own name places
 
 -- the place belongs to one of n passes
 abbrev pub IsNamed : ℕ → Place → Type 0

@@ -1,5 +1,6 @@
 -- What a queue of works and its passes are to their owners.
-use Rattle.std.specs.Prelude.{◌≡◌, ℕ, zero, suc, ◌+◌, ◌<◌, ◌==◌, ◌⊎◌, List, [], ◌∷◌, ◌++◌, length, count_by}
+use Rattle.std.specs.Prelude.{◌≡◌, ℕ, zero, suc, ◌+◌, ◌<◌, ◌==◌, ◌⊎◌, List, [], ◌∷◌, ◌++◌, length}
+use Rattle.std.specs.Prelude.{count_by}
 use Rattle.std.specs.List.{AllByRecursion}
 use Rattle.atomic_blocks.specs.Laid.{WebId}
 use Rattle.work_queue.specs.Histories.{History, Place, own}
@@ -38,7 +39,8 @@ fresh_pass id passes name =
 -- the passes of n names from this one up
 abbrev pub fresh_passes : WebId → ℕ → ℕ → ℕ → List PassValue
 fresh_passes id passes name zero = []
-fresh_passes id passes name (suc more) = fresh_pass id passes name ∷ fresh_passes id passes (name + 1) more
+fresh_passes id passes name (suc more) =
+    fresh_pass id passes name ∷ fresh_passes id passes (name + 1) more
 
 -- it has handed the work
 abbrev pub has_handed : PassValue → Work → PassValue

@@ -25,7 +25,8 @@ const LOSING: u32 = 4;
 const BLK_TMO: u32 = 32;
 
 impl<E: FeederEnd<Block> + Drop> Machine<E> {
-    ghost use Rattle.block_ring.specs.Machines.{At, IsAt, IsFew, KeepsEnd, keep_first, open_next, retire_now};
+    ghost use Rattle.block_ring.specs.Machines.{At, IsAt, IsFew, KeepsEnd, keep_first, open_next};
+    ghost use Rattle.block_ring.specs.Machines.{retire_now};
 
     /// How many blocks are open: 1, or 0 where the ring is frozen.
     pub(super) fn open_blocks(&self) -> u64

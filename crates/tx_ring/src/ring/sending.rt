@@ -1,7 +1,10 @@
 //! How the requested slots of a ring are sent, from the start.
-ghost use Rattle.std.specs.Prelude.{◌≡◌, ◌+◌, ◌^◌, ◌<◌, ◌≤◌, ◌++◌, ℕ, false, true, None, Some, IfOk, Err, length};
+ghost use Rattle.std.specs.Prelude.{◌≡◌, ◌+◌, ◌^◌, ◌<◌, ◌≤◌, ◌++◌, ℕ, false, true, None, Some};
+ghost use Rattle.std.specs.Prelude.{IfOk, Err, length};
 ghost use Rattle.tx_ring.specs.Rings.{front_slot, room_of};
-ghost use Rattle.tx_ring.specs.Sending.{FrontTaken, IsBrokenOff, OnMemory, UnlessMemory, after_send, after_taking, counted, front_of, is_good, packet_of, packets_sent, send_answer};
+ghost use Rattle.tx_ring.specs.Sending.{FrontTaken, IsBrokenOff, OnMemory, UnlessMemory};
+ghost use Rattle.tx_ring.specs.Sending.{after_send, after_taking, counted, front_of, is_good};
+ghost use Rattle.tx_ring.specs.Sending.{packet_of, packets_sent, send_answer};
 ghost use Rattle.tx_ring.specs.declared.error.SendError.TheVariants as errors;
 
 use super::{Sent, TxRing};
