@@ -27,7 +27,8 @@ first_takers shape member (pass ∷ passes) =
 abbrev pub handing_base : HandingValue → Base
 handing_base taker = record {
   shape = taker.shape;
-  further = taker.member ∷ taker.pass.name ∷ taker.pass.of ∷ taker.pass.queue.0 ∷ taker.pass.queue.1 ∷ [];
+  further =
+      taker.member ∷ taker.pass.name ∷ taker.pass.of ∷ taker.pass.queue.0 ∷ taker.pass.queue.1 ∷ [];
 }
 
 -- what the texts of works say
@@ -51,7 +52,8 @@ AreNumbered member shape number (work ∷ works) =
 
 -- a taker of this queue: the works that it has handed have its member's number and its shape, and
 -- the numbers from 1 in order; it fetches none
-pub record IsHanding (queue : QueueValue) (pass : PassValue) (member : ℕ) (shape : RingRequest) (handed : ℕ) : Type 0 where
+pub record IsHanding (queue : QueueValue) (pass : PassValue) (member : ℕ) (shape : RingRequest)
+    (handed : ℕ) : Type 0 where
   pub own : IsPassOf queue pass
   pub counted : handed ≡ length pass.handed
   pub numbered : AreNumbered member shape 1 pass.handed

@@ -14,7 +14,8 @@ pub record IsFreshPassOf (queue : QueueValue) (pass : PassValue) : Type 0 where
   pub no_calls : pass.calls ≡ 0
 
 -- a worker of this queue that has fetched nothing
-pub record IsFreshDecoder (queue : QueueValue) (dealer : DealerValue) (decoder : Decoder) : Type 0 where
+pub record IsFreshDecoder (queue : QueueValue) (dealer : DealerValue) (decoder : Decoder)
+    : Type 0 where
   pub pass : IsFreshPassOf queue decoder.pass
   pub fetches : decoder.fetches ≡ 0
   pub none : decoder.pieces.items ≡ []

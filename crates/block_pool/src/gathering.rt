@@ -2,7 +2,8 @@
 ghost use Rattle.std.specs.Prelude.{◌≡◌, ◌++◌, [], List, false, flat_map, length, map, IfOk, OnOk};
 ghost use Rattle.std.specs.List.{AllByRecursion, AllZip};
 ghost use Rattle.block_pool.specs.Pieces.{IsPieceOf};
-ghost use Rattle.block_pool.specs.inside.Shelves.{AreFull, HasPlaceIn, counts_of, empty_shelf, put_each, read_of};
+ghost use Rattle.block_pool.specs.inside.Shelves.{AreFull, HasPlaceIn, counts_of, empty_shelf};
+ghost use Rattle.block_pool.specs.inside.Shelves.{put_each, read_of};
 ghost use Rattle.block_pool.specs.Takers.{HasNumbered};
 ghost use Rattle.work_queue.specs.Works.{IsLawfulWork};
 

@@ -1,5 +1,6 @@
 //! The two sides of a run: the pool's workers, and the run that hands works to them.
-ghost use Rattle.std.specs.Prelude.{◌≡◌, ◌<◌, ℕ, [], length, map, option_map, slice_index_or, All, IfOk};
+ghost use Rattle.std.specs.Prelude.{◌≡◌, ◌<◌, ℕ, [], length, map, option_map, slice_index_or, All};
+ghost use Rattle.std.specs.Prelude.{IfOk};
 ghost use Rattle.std.specs.List.{AllByRecursion, AllZip};
 ghost use Rattle.block_pool.specs.Takers.{handing_base, handing_taken};
 ghost use Rattle.block_pool.specs.Workers.{HasDecoded, IsFreshDecoder};

@@ -1,7 +1,8 @@
 //! Pieces of members, put together by number.
 ghost use Rattle.std.specs.Prelude.{◌≡◌, ◌<◌, length, map, slice_set, Some, IfOk};
 ghost use Rattle.std.specs.List.{AllByRecursion};
-ghost use Rattle.block_pool.specs.inside.Shelves.{AreFull, HasPlaceIn, IsFull, counts_of, empty_shelf, put_each, read_of};
+ghost use Rattle.block_pool.specs.inside.Shelves.{AreFull, HasPlaceIn, IsFull, counts_of};
+ghost use Rattle.block_pool.specs.inside.Shelves.{empty_shelf, put_each, read_of};
 
 use crate::pieces::Piece;
 use frame_view::{ByteList, Memory, Packets};

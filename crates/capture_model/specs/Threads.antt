@@ -31,13 +31,14 @@ pub record HaveTickets (cpus : List Logged) (seats : List SeatValue) (number : �
   pub feeders : List SeatValue
   pub others : List SeatValue
   pub seats_are : seats ≡ feeders ++ others
-  pub drawn : map (λ logged. tickets_of logged.log) cpus ≡ map (λ (seat : SeatValue). seat.drawn) feeders
+  pub drawn :
+      map (λ logged. tickets_of logged.log) cpus ≡ map (λ (seat : SeatValue). seat.drawn) feeders
   pub none : AllByRecursion DrewNone others
 
 -- The logs of the CPUs are lawful, each member's notes are those of its seats, a CPU's own notes
 -- there are those of its log's attempts, and in mode Lb the logs have the dealer's tickets.
-pub record AreThreads (rules : Rules) (room : ℕ) (cpus : List Logged) (seats : List SeatValue) (number : ℕ)
-    (members : List (List Note)) : Type 0 where
+pub record AreThreads (rules : Rules) (room : ℕ) (cpus : List Logged) (seats : List SeatValue)
+    (number : ℕ) (members : List (List Note)) : Type 0 where
   pub some : 0 < rules.members
   pub count : length members ≡ rules.members
   pub frames : (cpu : ℕ) → AreOf cpu 0 (logged_at cpus cpu).arrivals
@@ -45,6 +46,7 @@ pub record AreThreads (rules : Rules) (room : ℕ) (cpus : List Logged) (seats :
   pub runs : (member : ℕ) → member < length members
       → IsSeatRun (length cpus) (notes_at members member)
   pub added : (cpu member : ℕ) → cpu < length cpus → member < length members →
-      AreNotesOf room rules.own (attempts_at member (logged_at cpus cpu).arrivals (logged_at cpus cpu).log)
+      AreNotesOf room rules.own
+      (attempts_at member (logged_at cpus cpu).arrivals (logged_at cpus cpu).log)
       (own (may_add (length cpus)) cpu (notes_at members member))
   pub tickets : rules.mode ≡ Lb → HaveTickets cpus seats number

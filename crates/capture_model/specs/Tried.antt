@@ -9,4 +9,5 @@ use Rattle.ring_model.specs.declared.notes.Note.{Note}
 -- the notes are those of the tries at the member, of the offer that the arrival makes by its entry
 abbrev pub IsDelivered : ℕ → Option (List ℕ) → ℕ → Frame → ArrivalLog → List Note → Type 0
 IsDelivered room address member arrival entry notes =
-    AreNotesOfTries (offer_of room address entry.hash entry.verdict arrival) (fates_at member entry.tries) notes
+    AreNotesOfTries (offer_of room address entry.hash entry.verdict arrival)
+    (fates_at member entry.tries) notes

@@ -19,7 +19,8 @@ ghost use Rattle.ticket_dealer.specs.Seats.{SeatValue};
 ghost use Rattle.tp_layout.specs.Writing.{ShapedBytes};
 ghost use Rattle.capture_reports.specs.Closed.{IsRingOf, MemberLeft, notes_of_members, rings_of};
 ghost use Rattle.capture_reports.specs.Left.{AreLeft, CpuLeft, feeds_of};
-ghost use Rattle.capture_reports.specs.Reported.{AreReported, IsCaptured, IsGroupRun, taken_of_notes};
+ghost use Rattle.capture_reports.specs.Reported.{AreReported, IsCaptured, IsGroupRun};
+ghost use Rattle.capture_reports.specs.Reported.{taken_of_notes};
 
 use capture_file::frames_are_numbered;
 use capture_model::{the_timer_s_ticks_are_all, threads_report_a_group};

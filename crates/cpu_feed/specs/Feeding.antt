@@ -1,6 +1,8 @@
 -- A CPU whose source is read a piece at a time, and what arrives at the frames that it hasn't fed
 -- yet.
-use Rattle.std.specs.Prelude.{◌≡◌, ◌≢◌, ℕ, Bool, true, false, ◌+◌, ◌-◌, ◌<◌, ◌≤◌, List, [], ◌∷◌, ◌++◌, length, drop, slice_get, is_some, if◌then◌else◌, Option, None, Some, IsSome}
+use Rattle.std.specs.Prelude.{◌≡◌, ◌≢◌, ℕ, Bool, true, false, ◌+◌, ◌-◌, ◌<◌, ◌≤◌, List, [], ◌∷◌}
+use Rattle.std.specs.Prelude.{◌++◌, length, drop, slice_get, is_some, if◌then◌else◌, Option, None}
+use Rattle.std.specs.Prelude.{Some, IsSome}
 use Rattle.capture_file.specs.Capture.{damage_of, frames_of}
 use Rattle.capture_file.specs.Decoding.{DecoderValue, Stands}
 use Rattle.fanout_group.specs.Arrivals.{arrivals_from}

@@ -5,7 +5,9 @@
 //! capture. A frame that is fed moves out of the queue into the receive path. The source has ended
 //! once a read gave no byte or failed, or the bytes showed damage; the frames before that are still
 //! fed.
-ghost use Rattle.std.specs.Prelude.{◌≡◌, ◌≢◌, ◌+◌, ◌<◌, ◌≤◌, ℕ, List, None, Some, false, true, [], ◌∷◌, ◌++◌, length, option_map, unwrap_or, IfOk, IfSome, IsSome, OnErr, OnOk};
+ghost use Rattle.std.specs.Prelude.{◌≡◌, ◌≢◌, ◌+◌, ◌<◌, ◌≤◌, ℕ, List, None, Some, false, true, []};
+ghost use Rattle.std.specs.Prelude.{◌∷◌, ◌++◌, length, option_map, unwrap_or, IfOk, IfSome, IsSome};
+ghost use Rattle.std.specs.Prelude.{OnErr, OnOk};
 ghost use Rattle.capture_file.specs.Laws.{IsCaptured};
 ghost use Rattle.capture_file.specs.declared.cpu_end.CpuEnd.TheVariants.{Fault};
 ghost use Rattle.fanout_group.specs.Arrivals.{HasPlaceOf, IsArrival, arrival_at, held_behind};
@@ -15,7 +17,9 @@ ghost use Rattle.fanout_group.specs.Plans.{has_defrag, rolls_over};
 ghost use Rattle.fanout_group.specs.Routes.{IsBegun, IsRoute};
 ghost use Rattle.fanout_group.specs.Rules.{HasTicket, Rules, home_by};
 ghost use Rattle.frame_view.specs.declared.frames.Frame.{Frame};
-ghost use Rattle.cpu_feed.specs.Feeding.{Closes, FailsFed, HasNotFailed, HasRead, IsAllOfCpu, IsReady, IsSameCpu, Pops, ReadsWhereNoneWaits, Takes, frames_in, unread};
+ghost use Rattle.cpu_feed.specs.Feeding.{Closes, FailsFed, HasNotFailed, HasRead, IsAllOfCpu};
+ghost use Rattle.cpu_feed.specs.Feeding.{IsReady, IsSameCpu, Pops, ReadsWhereNoneWaits, Takes};
+ghost use Rattle.cpu_feed.specs.Feeding.{frames_in, unread};
 ghost use Rattle.cpu_feed.specs.Fed.{GoesOn, arrival_of};
 ghost use Rattle.cpu_feed.specs.declared.fed.Fed.TheVariants.{End};
 ghost use Rattle.cpu_feed.specs.Lawful.{FeedsLawfully, LogsLawfully};

@@ -1,7 +1,8 @@
 -- What frames arrive. Every frame is untagged first. With the flag of defragmentation the frames of
 -- a CPU then pass one by one over the list of the fragments that are held, empty at first, and a
 -- datagram stands in place of its fragments. What comes out with fewer than 14 bytes is no arrival.
-use Rattle.std.specs.Prelude.{◌≡◌, ◌≤◌, Bool, true, false, List, [], ◌∷◌, ◌++◌, length, nat_lt, if◌then◌else◌, Option, None, Some, IfSome, IsTrue, option_to_list}
+use Rattle.std.specs.Prelude.{◌≡◌, ◌≤◌, Bool, true, false, List, [], ◌∷◌, ◌++◌, length, nat_lt}
+use Rattle.std.specs.Prelude.{if◌then◌else◌, Option, None, Some, IfSome, IsTrue, option_to_list}
 use Rattle.frame_view.specs.Vlan.{is_tpid, untagged}
 use Rattle.frame_view.specs.declared.frames.Frame.{Frame}
 use Rattle.ip_defrag.specs.Fold.{pass}

@@ -24,4 +24,6 @@ HandsBack offer (tries.Refused back) = back ≡ offer
 
 -- each member takes the same offers as before
 abbrev pub TakesTheSame : (ℕ → Offer → Type 0) → (ℕ → Offer → Type 0) → Type 0
-TakesTheSame before now = (member : ℕ) (offer : Offer) → (before member offer → now member offer) × (now member offer → before member offer)
+TakesTheSame before now =
+    (member : ℕ) (offer : Offer)
+    → (before member offer → now member offer) × (now member offer → before member offer)

@@ -1,6 +1,8 @@
 -- When logs and notes speak of the same: each try has its note at its member, and each note its
 -- try.
-use Rattle.std.specs.Prelude.{◌≡◌, ℕ, ◌+◌, ◌<◌, ◌≤◌, List, [], ◌∷◌, ◌++◌, length, count_by, filter_map, sum_by, nat_lt, ◌==◌, if◌then◌else◌, slice_index_or, Option}
+use Rattle.std.specs.Prelude.{◌≡◌, ℕ, ◌+◌, ◌<◌, ◌≤◌, List, [], ◌∷◌, ◌++◌, length, count_by}
+use Rattle.std.specs.Prelude.{filter_map, sum_by, nat_lt, ◌==◌, if◌then◌else◌, slice_index_or}
+use Rattle.std.specs.Prelude.{Option}
 use Rattle.frame_view.specs.declared.frames.Frame.{Frame}
 use Rattle.ring_model.specs.Sizes.{need_of, snap_of}
 use Rattle.ring_model.specs.Offers.{offer_of}
@@ -27,12 +29,15 @@ pub record Attempt : Type 0 where
 abbrev pub attempts_in : ℕ → Frame → ArrivalLog → List Try → List Attempt
 attempts_in member frame entry [] = []
 attempts_in member frame entry (t ∷ tries) =
-    (if t.member == member then record { frame = frame; hash = entry.hash; verdict = entry.verdict; fate = t.fate } ∷ [] else [])
+    (if t.member == member
+    then record { frame = frame; hash = entry.hash; verdict = entry.verdict; fate = t.fate } ∷ []
+    else [])
     ++ attempts_in member frame entry tries
 
 -- the tries of a log at a member, in order
 abbrev pub attempts_at : ℕ → List Frame → List ArrivalLog → List Attempt
-attempts_at member (frame ∷ frames) (entry ∷ log) = attempts_in member frame entry entry.tries ++ attempts_at member frames log
+attempts_at member (frame ∷ frames) (entry ∷ log) =
+    attempts_in member frame entry entry.tries ++ attempts_at member frames log
 attempts_at member frames log = []
 
 -- the note of a try: of a packet that was kept it has the offer, of another its frame and its need
@@ -52,7 +57,8 @@ abbrev pub AreNotesOf : ℕ → Option (List ℕ) → List Attempt → List Note
 AreNotesOf room own [] [] = Unit {0}
 AreNotesOf room own [] (note ∷ rest) = ⊥
 AreNotesOf room own (attempt ∷ attempts) [] = ⊥
-AreNotesOf room own (attempt ∷ attempts) (note ∷ rest) = IsNoteOf room own attempt note × AreNotesOf room own attempts rest
+AreNotesOf room own (attempt ∷ attempts) (note ∷ rest) =
+    IsNoteOf room own attempt note × AreNotesOf room own attempts rest
 
 -- the arrivals of a CPU and its log
 pub record Logged : Type 0 where
@@ -67,13 +73,18 @@ abbrev pub tickets_of : List ArrivalLog → List ℕ
 tickets_of log = filter_map (λ entry. entry.ticket) log
 
 -- Logs and notes are joined. A CPU that isn't there has no arrival, so no note speaks of it.
-pub record AreJoined (rules : Rules) (room : ℕ) (cpus : List Logged) (members : List (List Note)) : Type 0 where
+pub record AreJoined (rules : Rules) (room : ℕ) (cpus : List Logged) (members : List (List Note))
+    : Type 0 where
   pub each : (cpu member : ℕ) → member < length members →
       let logged = slice_index_or cpus cpu nothing_logged in
-      AreNotesOf room rules.own (attempts_at member logged.arrivals logged.log) (frame_notes cpu (slice_index_or members member []))
+      AreNotesOf room rules.own (attempts_at member logged.arrivals logged.log)
+      (frame_notes cpu (slice_index_or members member []))
   -- in mode Lb the tickets are the numbers below that of all arrivals, each once, and they rise in
   -- each log
-  pub rising : (cpu : ℕ) → rules.mode ≡ Lb → Rises 0 (tickets_of (slice_index_or cpus cpu nothing_logged).log)
+  pub rising :
+      (cpu : ℕ)
+      → rules.mode ≡ Lb
+      → Rises 0 (tickets_of (slice_index_or cpus cpu nothing_logged).log)
   pub once : (ticket : ℕ) → rules.mode ≡ Lb →
       sum_by (λ logged. count_by (λ drawn. drawn == ticket) (tickets_of logged.log)) cpus
       ≡ (if nat_lt ticket (sum_by (λ logged. length logged.log) cpus) then 1 else 0)

@@ -68,10 +68,12 @@ first_entry lens frame ticket = record {
 -- what an arrival offers to rings whose blocks have this room, by its hash and its verdict: nothing
 -- where that is 0
 abbrev pub offer_if : ℕ → Option (List ℕ) → ℕ → ℕ → Frame → Option Offer
-offer_if room own hash verdict frame = if verdict == 0 then None else Some (offer_of room own hash verdict frame)
+offer_if room own hash verdict frame =
+    if verdict == 0 then None else Some (offer_of room own hash verdict frame)
 
 abbrev pub offer_by : Lens → ℕ → Frame → Option Offer
-offer_by lens room frame = offer_if room lens.own (hash_by lens.key frame) (verdict_by lens frame) frame
+offer_by lens room frame =
+    offer_if room lens.own (hash_by lens.key frame) (verdict_by lens frame) frame
 
 -- of a CPU the two lenses show the same
 pub record AgreesAt (cpu : ℕ) (group lens : Lens) : Type 0 where
@@ -82,6 +84,7 @@ pub record AgreesAt (cpu : ℕ) (group lens : Lens) : Type 0 where
 
 -- an arrival is judged by the rules of its group: its entry, with no try yet, and the offer that it
 -- makes
-pub record IsJudged (group : Lens) (room : ℕ) (arrival : Frame) (entry : ArrivalLog) (made : Option Offer) : Type 0 where
+pub record IsJudged (group : Lens) (room : ℕ) (arrival : Frame) (entry : ArrivalLog)
+    (made : Option Offer) : Type 0 where
   pub entry_is : entry ≡ first_entry group arrival entry.ticket
   pub offer_is : made ≡ offer_by group room arrival

@@ -14,7 +14,8 @@ pub record IsEntry (rules : Rules) (present : ℕ) (frame : Frame) (entry : Arri
   pub ticket : HasTicket rules.mode entry.ticket
   -- a verdict of 0 ends the arrival
   pub tries : MatchBool (entry.verdict == 0) (entry.tries ≡ [])
-      (IsRoute (rolls_over rules) rules.members (home_of rules present entry.ticket frame) entry.tries)
+      (IsRoute (rolls_over rules) rules.members (home_of rules present entry.ticket frame)
+      entry.tries)
 
 -- entry for entry, the log is of these arrivals
 abbrev pub IsLawfulFrom : Rules → ℕ → List Frame → List ArrivalLog → Type 0
@@ -22,7 +23,8 @@ IsLawfulFrom rules present [] [] = Unit {0}
 IsLawfulFrom rules present [] (entry ∷ log) = ⊥
 IsLawfulFrom rules present (frame ∷ frames) [] = ⊥
 IsLawfulFrom rules present (frame ∷ frames) (entry ∷ log) =
-    IsEntry rules present frame entry × IsLawfulFrom rules (present_after rules.mode present entry.tries) frames log
+    IsEntry rules present frame entry
+    × IsLawfulFrom rules (present_after rules.mode present entry.tries) frames log
 
 -- a CPU's present member is 0 at first
 abbrev pub IsLawful : Rules → List Frame → List ArrivalLog → Type 0

@@ -1,9 +1,11 @@
 -- The law that each arrival which the filter passes stands exactly once.
-use Rattle.std.specs.Prelude.{◌≡◌, ℕ, ◌+◌, ◌<◌, ◌≤◌, Bool, ◌&&◌, not, List, [], ◌∷◌, length, sum_by, ◌==◌, if◌then◌else◌, slice_index_or}
+use Rattle.std.specs.Prelude.{◌≡◌, ℕ, ◌+◌, ◌<◌, ◌≤◌, Bool, ◌&&◌, not, List, [], ◌∷◌, length, sum_by}
+use Rattle.std.specs.Prelude.{◌==◌, if◌then◌else◌, slice_index_or}
 use Rattle.std.specs.List.{list_any}
 use Rattle.frame_view.specs.declared.frames.Frame.{Frame}
 use Rattle.ring_model.specs.declared.notes.Note.{Note}
-use Rattle.ring_model.specs.declared.notes.Note.TheVariants.{Kept, Refused, Dropped, Ticked, Counted, Finished}
+use Rattle.ring_model.specs.declared.notes.Note.TheVariants.{Kept, Refused, Dropped, Ticked}
+use Rattle.ring_model.specs.declared.notes.Note.TheVariants.{Counted, Finished}
 use Rattle.fanout_group.specs.Rules.{Rules}
 use Rattle.fanout_group.specs.Logs.{IsLawful}
 use Rattle.fanout_group.specs.Joined.{AreJoined, Logged, nothing_logged}
@@ -11,7 +13,8 @@ use Rattle.fanout_group.specs.declared.logs.ArrivalLog.{ArrivalLog}
 
 -- 1 where a note says that this frame of this CPU was kept or dropped
 abbrev pub settles : ℕ → ℕ → Note → ℕ
-settles cpu index (Kept offer found) = if (offer.frame.cpu == cpu) && (offer.frame.index == index) then 1 else 0
+settles cpu index (Kept offer found) =
+    if (offer.frame.cpu == cpu) && (offer.frame.index == index) then 1 else 0
 settles cpu index (Dropped of at need number) = if (of == cpu) && (at == index) then 1 else 0
 settles cpu index (Refused of at need number) = 0
 settles cpu index (Ticked ms found) = 0
@@ -29,19 +32,23 @@ passes index log = list_any (λ entry. (entry.index == index) && not (entry.verd
 -- the frames of one CPU, with indexes that rise
 abbrev pub AreOf : ℕ → ℕ → List Frame → Type 0
 AreOf cpu least [] = Unit {0}
-AreOf cpu least (frame ∷ frames) = (frame.cpu ≡ cpu) × (least ≤ frame.index) × AreOf cpu (frame.index + 1) frames
+AreOf cpu least (frame ∷ frames) =
+    (frame.cpu ≡ cpu) × (least ≤ frame.index) × AreOf cpu (frame.index + 1) frames
 
 -- what a run reports of a group: lawful logs, and notes that are joined with them
-pub record IsGroupReport (rules : Rules) (room : ℕ) (cpus : List Logged) (members : List (List Note)) : Type 0 where
+pub record IsGroupReport (rules : Rules) (room : ℕ) (cpus : List Logged)
+    (members : List (List Note)) : Type 0 where
   pub some : 0 < rules.members
   pub count : length members ≡ rules.members
   pub frames : (cpu : ℕ) → AreOf cpu 0 (slice_index_or cpus cpu nothing_logged).arrivals
   pub lawful : (cpu : ℕ) →
-      let logged = slice_index_or cpus cpu nothing_logged in IsLawful rules logged.arrivals logged.log
+      let logged = slice_index_or cpus cpu nothing_logged in
+      IsLawful rules logged.arrivals logged.log
   pub joined : AreJoined rules room cpus members
 
 -- Among the Kept and Dropped notes of all members each arrival that passes stands once, and nothing
 -- else stands there.
 abbrev pub EachStandsOnce : List Logged → List (List Note) → Type 0
 EachStandsOnce cpus members = (cpu index : ℕ) →
-    times_settled cpu index members ≡ (if passes index (slice_index_or cpus cpu nothing_logged).log then 1 else 0)
+    times_settled cpu index members
+    ≡ (if passes index (slice_index_or cpus cpu nothing_logged).log then 1 else 0)

@@ -27,7 +27,8 @@ first_path shape = record { shape = shape; held = []; present = 0; log = [] }
 -- the present member after some arrivals
 abbrev pub present_from : Mode → ℕ → List ArrivalLog → ℕ
 present_from mode present [] = present
-present_from mode present (entry ∷ log) = present_from mode (present_after mode present entry.tries) log
+present_from mode present (entry ∷ log) =
+    present_from mode (present_after mode present entry.tries) log
 
 -- the path after an arrival that is logged
 abbrev pub logged : ArrivalLog → Path → Path
@@ -44,12 +45,15 @@ pub record HasLogged (rules : Rules) (frames arrivals : List Frame) (path : Path
 
 -- the log is lawful over the frames so far
 abbrev pub IsPath : Rules → List Frame → Path → Type 0
-IsPath rules frames path = HasLogged rules frames (arrivals_of (has_defrag path.shape.flags) frames) path
+IsPath rules frames path =
+    HasLogged rules frames (arrivals_of (has_defrag path.shape.flags) frames) path
 
 -- the last arrival of the frames so far is this one, and isn't logged yet
 abbrev pub IsPathTo : Rules → List Frame → Frame → Path → Type 0
 IsPathTo rules frames arrival path =
-    (earlier : List Frame) × (arrivals_of (has_defrag path.shape.flags) frames ≡ earlier ++ arrival ∷ []) × HasLogged rules frames earlier path
+    (earlier : List Frame)
+    × (arrivals_of (has_defrag path.shape.flags) frames ≡ earlier ++ arrival ∷ [])
+    × HasLogged rules frames earlier path
 
 -- what a frame more leaves: a lawful log, or an arrival that is to be logged
 abbrev pub IsPathBehind : Rules → List Frame → Option Frame → Path → Type 0

@@ -1,7 +1,8 @@
 -- The words for the faults of a group.
 use Rattle.std.specs.Prelude.{ℕ, List, codes}
 use Rattle.fanout_group.specs.declared.plan_error.PlanError.{PlanError}
-use Rattle.fanout_group.specs.declared.plan_error.PlanError.TheVariants.{NoMember, TooMany, BackupOfRollover, NoKey}
+use Rattle.fanout_group.specs.declared.plan_error.PlanError.TheVariants.{NoMember, TooMany}
+use Rattle.fanout_group.specs.declared.plan_error.PlanError.TheVariants.{BackupOfRollover, NoKey}
 
 abbrev pub word_of : PlanError → List ℕ
 word_of NoMember = codes "no_member"

@@ -1,10 +1,12 @@
 -- Which groups there may be.
-use Rattle.std.specs.Prelude.{◌≡◌, ℕ, ◌<◌, ◌≤◌, Bool, true, false, ◌&&◌, ◌||◌, not, bit_and, nat_lt, ◌==◌, if◌then◌else◌, Option, None, Some}
+use Rattle.std.specs.Prelude.{◌≡◌, ℕ, ◌<◌, ◌≤◌, Bool, true, false, ◌&&◌, ◌||◌, not, bit_and, nat_lt}
+use Rattle.std.specs.Prelude.{◌==◌, if◌then◌else◌, Option, None, Some}
 use Rattle.fanout_group.specs.Rules.{is_rollover}
 use Rattle.fanout_group.specs.declared.modes.Mode.{Mode}
 use Rattle.fanout_group.specs.declared.modes.Mode.TheVariants.{Hash}
 use Rattle.fanout_group.specs.declared.plan_error.PlanError.{PlanError}
-use Rattle.fanout_group.specs.declared.plan_error.PlanError.TheVariants.{NoMember, TooMany, BackupOfRollover, NoKey}
+use Rattle.fanout_group.specs.declared.plan_error.PlanError.TheVariants.{NoMember, TooMany}
+use Rattle.fanout_group.specs.declared.plan_error.PlanError.TheVariants.{BackupOfRollover, NoKey}
 
 -- the shape of a group: the number of its members, its mode, and its flags as linux/if_packet.h
 -- numbers them

@@ -1,5 +1,6 @@
 -- What decides who gets a frame.
-use Rattle.std.specs.Prelude.{◌≡◌, ℕ, ◌%◌, Bool, true, false, ◌||◌, List, Option, None, unwrap_or, IsSome}
+use Rattle.std.specs.Prelude.{◌≡◌, ℕ, ◌%◌, Bool, true, false, ◌||◌, List, Option, None, unwrap_or}
+use Rattle.std.specs.Prelude.{IsSome}
 use Rattle.frame_view.specs.declared.frames.Frame.{Frame}
 use Rattle.fanout_group.specs.declared.modes.Mode.{Mode}
 use Rattle.fanout_group.specs.declared.modes.Mode.TheVariants.{Hash, Lb, Cpu, Rollover, Qm}
@@ -29,7 +30,8 @@ home_by Rollover members hash ticket cpu queue present = present
 
 abbrev pub home_of : Rules → ℕ → Option ℕ → Frame → ℕ
 home_of rules present ticket frame =
-    home_by rules.mode rules.members (rules.hash frame) (unwrap_or ticket 0) frame.cpu (rules.queue frame.cpu) present
+    home_by rules.mode rules.members (rules.hash frame) (unwrap_or ticket 0) frame.cpu
+    (rules.queue frame.cpu) present
 
 -- in this mode other members are always tried
 abbrev pub is_rollover : Mode → Bool

@@ -1,8 +1,10 @@
 //! Who gets a packet: the tries of an arrival, by the rules of its group.
-ghost use Rattle.std.specs.Prelude.{◌≡◌, ◌<◌, ◌≤◌, ℕ, [], ◌++◌, unwrap_or, IfNone, IfOk, IfSome, OnErr, OnOk};
+ghost use Rattle.std.specs.Prelude.{◌≡◌, ◌<◌, ◌≤◌, ℕ, [], ◌++◌, unwrap_or, IfNone, IfOk, IfSome};
+ghost use Rattle.std.specs.Prelude.{OnErr, OnOk};
 ghost use Rattle.fanout_group.specs.Desks.{TakesTheSame};
 ghost use Rattle.fanout_group.specs.Plans.{rolls_over};
-ghost use Rattle.fanout_group.specs.Routes.{AreRefusals, IsBegun, IsKeptOnTheWay, IsRoute, present_after, refused_from};
+ghost use Rattle.fanout_group.specs.Routes.{AreRefusals, IsBegun, IsKeptOnTheWay, IsRoute};
+ghost use Rattle.fanout_group.specs.Routes.{present_after, refused_from};
 ghost use Rattle.fanout_group.specs.Rules.{HasTicket, home_by};
 
 use crate::tries::{put_at, try_at};

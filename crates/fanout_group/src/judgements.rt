@@ -2,7 +2,8 @@
 //! it makes.
 ghost use Rattle.std.specs.Prelude.{◌≡◌, ◌<◌, ◌≤◌, IfSome, length, option_copied};
 ghost use Rattle.fanout_group.specs.Arrivals.{IsArrival};
-ghost use Rattle.fanout_group.specs.Judgements.{AgreesAt, IsJudged, Lens, first_entry, hash_by, offer_by, offer_if, verdict_by};
+ghost use Rattle.fanout_group.specs.Judgements.{AgreesAt, IsJudged, Lens, first_entry, hash_by};
+ghost use Rattle.fanout_group.specs.Judgements.{offer_by, offer_if, verdict_by};
 ghost use Rattle.fanout_group.specs.Lenses.{lens_of};
 ghost use Rattle.frame_view.specs.Headers.{packet_type_of};
 ghost use Rattle.ring_model.specs.Offers.{IsSound};

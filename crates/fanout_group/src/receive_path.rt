@@ -1,8 +1,10 @@
 //! The receive path of a CPU: from the frames of its capture to arrivals, and from the tries of an
 //! arrival to its log.
-ghost use Rattle.std.specs.Prelude.{◌≡◌, ◌<◌, ◌≤◌, ℕ, List, [], ◌∷◌, ◌++◌, None, Some, unwrap_or, All, IfOk, IfSome, OnErr, OnOk};
+ghost use Rattle.std.specs.Prelude.{◌≡◌, ◌<◌, ◌≤◌, ℕ, List, [], ◌∷◌, ◌++◌, None, Some, unwrap_or};
+ghost use Rattle.std.specs.Prelude.{All, IfOk, IfSome, OnErr, OnOk};
 ghost use Rattle.capture_file.specs.Laws.{IsCaptured};
-ghost use Rattle.fanout_group.specs.Arrivals.{HasPlaceOf, IsArrival, IsUntagged, arrival_at, held_after, held_behind, no_runt, whole_at};
+ghost use Rattle.fanout_group.specs.Arrivals.{HasPlaceOf, IsArrival, IsUntagged, arrival_at};
+ghost use Rattle.fanout_group.specs.Arrivals.{held_after, held_behind, no_runt, whole_at};
 ghost use Rattle.fanout_group.specs.Desks.{TakesTheSame};
 ghost use Rattle.fanout_group.specs.Judgements.{IsJudged, Lens, rules_by};
 ghost use Rattle.fanout_group.specs.Paths.{IsPath, IsPathBehind, IsPathTo, first_path, logged};

@@ -1,5 +1,6 @@
 //! The tries of an arrival.
-ghost use Rattle.std.specs.Prelude.{◌≡◌, ◌^◌, ◌<◌, ◌∷◌, ◌++◌, ◌↔◌, [], length, option_copied, slice_get, IsTrue, OnErr, OnOk};
+ghost use Rattle.std.specs.Prelude.{◌≡◌, ◌^◌, ◌<◌, ◌∷◌, ◌++◌, ◌↔◌, [], length, option_copied};
+ghost use Rattle.std.specs.Prelude.{slice_get, IsTrue, OnErr, OnOk};
 
 use crate::Try;
 use frame_view::Memory;

@@ -1,5 +1,6 @@
 -- A large valid input that a seed makes: captures, and a schedule that replays them.
-use Rattle.std.specs.Prelude.{ℕ, ◌+◌, ◌%◌, ◌==◌, ◌≤◌, if◌then◌else◌, List, [], ◌∷◌, length, map, All, None}
+use Rattle.std.specs.Prelude.{ℕ, ◌+◌, ◌%◌, ◌==◌, ◌≤◌, if◌then◌else◌, List, [], ◌∷◌, length, map}
+use Rattle.std.specs.Prelude.{All, None}
 use Rattle.std.specs.List.{flat_map, range_with_len}
 use Rattle.capture_file.specs.Output.{output_of}
 use Rattle.frame_maker.specs.Made.{made}

@@ -1,5 +1,6 @@
 -- Tries at a desk, one after the other.
-use Rattle.std.proofs.Common.{◌≡◌, ◌<◌, ℕ, List, [], ◌∷◌, ◌++◌, refl, sym, ap, ◌∙◌, subst, append_assoc, append-nil}
+use Rattle.std.proofs.Common.{◌≡◌, ◌<◌, ℕ, List, [], ◌∷◌, ◌++◌, refl, sym, ap, ◌∙◌, subst}
+use Rattle.std.proofs.Common.{append_assoc, append-nil}
 use Rattle.std.specs.Prelude.{◌==◌, if◌then◌else◌, slice_index_or}
 use Rattle.fanout_group.specs.declared.logs.Fate.{Fate}
 use Rattle.fanout_group.specs.declared.logs.Try.{Try}
@@ -42,7 +43,9 @@ pub tried_on : (offer : Offer) (a b : List Fate) (lock : Lock) (first next last 
 tried_on offer a b lock first next last h k = record {
   ready = λ number ready. k.ready number (h.ready number ready);
   notes = h.notes ++ k.notes;
-  own = k.own ∙ ap (λ (notes : List Note). notes ++ k.notes) h.own ∙ append_assoc (own_of lock first) h.notes k.notes;
+  own =
+      k.own ∙ ap (λ (notes : List Note). notes ++ k.notes) h.own
+      ∙ append_assoc (own_of lock first) h.notes k.notes;
   are_notes = notes_on offer a b h.notes k.notes h.are_notes k.are_notes;
 }
 
@@ -54,7 +57,8 @@ follows_itself desk = record {
   tries_are = sym (append-nil desk.tries);
   count = refl;
   each = λ member lock seat within.
-      tried_none desk.offer (slice_index_or desk.locks member lock) (slice_index_or desk.seats member seat);
+      tried_none desk.offer (slice_index_or desk.locks member lock)
+      (slice_index_or desk.seats member seat);
   entered = λ member seat most within few. few;
 }
 
@@ -64,20 +68,32 @@ follows_on first next last h k = record {
   offer_is = k.offer_is ∙ h.offer_is;
   locks_are = k.locks_are ∙ h.locks_are;
   more = h.more ++ k.more;
-  tries_are = k.tries_are ∙ ap (λ (ts : List Try). ts ++ k.more) h.tries_are ∙ append_assoc first.tries h.more k.more;
+  tries_are =
+      k.tries_are ∙ ap (λ (ts : List Try). ts ++ k.more) h.tries_are
+      ∙ append_assoc first.tries h.more k.more;
   count = k.count ∙ h.count;
   each = λ member lock seat within.
       let at : Lock = slice_index_or first.locks member lock in
       let one : Seat = slice_index_or first.seats member seat in
       let two : Seat = slice_index_or next.seats member seat in
       let three : Seat = slice_index_or last.seats member seat in
-      let second : Tried next.offer (fates_at member k.more) (slice_index_or next.locks member lock) two three =
+      let second :
+      Tried next.offer (fates_at member k.more) (slice_index_or next.locks member lock) two three =
       k.each member lock seat (subst (λ (n : ℕ). member < n) (sym h.count) within) in
       let same : Tried first.offer (fates_at member k.more) at two three =
-      subst (λ (locks : List Lock). Tried first.offer (fates_at member k.more) (slice_index_or locks member lock) two three) h.locks_are
-      (subst (λ (offer : Offer). Tried offer (fates_at member k.more) (slice_index_or next.locks member lock) two three) h.offer_is second) in
-      subst (λ (came : List Fate). Tried first.offer came at one three) (sym (fates_on member h.more k.more))
-      (tried_on first.offer (fates_at member h.more) (fates_at member k.more) at one two three (h.each member lock seat within) same);
+      subst
+      (λ (locks : List Lock).
+      Tried first.offer (fates_at member k.more) (slice_index_or locks member lock) two three)
+      h.locks_are
+      (subst
+      (λ (offer : Offer).
+      Tried offer (fates_at member k.more) (slice_index_or next.locks member lock) two three)
+      h.offer_is second) in
+      subst (λ (came : List Fate). Tried first.offer came at one three)
+      (sym (fates_on member h.more k.more))
+      (tried_on first.offer (fates_at member h.more) (fates_at member k.more) at one two three
+      (h.each member lock seat within) same);
   entered = λ member seat most within few.
-      k.entered member seat most (subst (λ (n : ℕ). member < n) (sym h.count) within) (h.entered member seat most within few);
+      k.entered member seat most (subst (λ (n : ℕ). member < n) (sym h.count) within)
+      (h.entered member seat most within few);
 }

@@ -1,6 +1,7 @@
 -- A desk over the members of a group that other threads use too, and what the tries of one offer
 -- leave there.
-use Rattle.std.specs.Prelude.{◌≡◌, ℕ, ◌+◌, ◌-◌, ◌^◌, ◌<◌, ◌≤◌, Bool, false, List, [], ◌∷◌, ◌++◌, length, ◌==◌, if◌then◌else◌, slice_index_or}
+use Rattle.std.specs.Prelude.{◌≡◌, ℕ, ◌+◌, ◌-◌, ◌^◌, ◌<◌, ◌≤◌, Bool, false, List, [], ◌∷◌, ◌++◌}
+use Rattle.std.specs.Prelude.{length, ◌==◌, if◌then◌else◌, slice_index_or}
 use Rattle.fanout_group.specs.declared.logs.Fate.{Fate}
 use Rattle.fanout_group.specs.declared.logs.Fate.TheVariants as fates
 use Rattle.fanout_group.specs.declared.logs.Try.{Try}
@@ -65,7 +66,8 @@ pub record TakesAt (made : Offer) (locks : List Lock) (member : ℕ) (offer : Of
 
 -- tries of an offer with these fates changed a seat of a member: it is as ready as before, and has
 -- added their notes
-pub record Tried (offer : Offer) (came : List Fate) (lock : Lock) (before after : Seat) : Type 0 where
+pub record Tried (offer : Offer) (came : List Fate) (lock : Lock) (before after : Seat)
+    : Type 0 where
   pub ready : (number : ℕ) → IsReady lock number before → IsReady lock number after
   pub notes : List Note
   pub own : own_of lock after ≡ own_of lock before ++ notes
@@ -90,7 +92,8 @@ pub record Follows (old new : DeskValue) : Type 0 where
 pub record IsDesk (desk : DeskValue) : Type 0 where
   pub count : length desk.seats ≡ length desk.locks
   pub ready : (member : ℕ) (lock : Lock) (seat : Seat) → member < length desk.seats →
-      IsReady (slice_index_or desk.locks member lock) desk.offer.frame.cpu (slice_index_or desk.seats member seat)
+      IsReady (slice_index_or desk.locks member lock) desk.offer.frame.cpu
+      (slice_index_or desk.seats member seat)
   pub few : (member : ℕ) (seat : Seat) → member < length desk.seats →
       (slice_index_or desk.seats member seat).entered ≤ 2 ^ 32 - 9 + turns_at desk
   pub turns : turns_at desk ≤ 9
@@ -99,7 +102,8 @@ pub record IsDesk (desk : DeskValue) : Type 0 where
 pub record AreForDesk (made : Offer) (members : List Lock) (stands : List Seat) : Type 0 where
   pub count : length stands ≡ length members
   pub ready : (member : ℕ) (lock : Lock) (seat : Seat) → member < length stands →
-      IsReady (slice_index_or members member lock) made.frame.cpu (slice_index_or stands member seat)
+      IsReady (slice_index_or members member lock) made.frame.cpu
+      (slice_index_or stands member seat)
   pub few : (member : ℕ) (seat : Seat) → member < length stands →
       (slice_index_or stands member seat).entered ≤ 2 ^ 32 - 9
 

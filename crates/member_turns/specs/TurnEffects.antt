@@ -17,7 +17,8 @@ pub record Turned (lock : Lock) (before after : Seat) (notes : List Note) : Type
   pub own : own_of lock after ≡ own_of lock before ++ notes
 
 -- a turn in which a packet was tried, with the one note that says what came of it
-pub record IsTryTurn (lock : Lock) (before after : Seat) (offer : Offer) (tried : Tried) : Type 0 where
+pub record IsTryTurn (lock : Lock) (before after : Seat) (offer : Offer) (tried : Tried)
+    : Type 0 where
   pub found : Found
   pub told : tried ≡ try_told offer (try_by offer found)
   pub turned : Turned lock before after (try_by offer found ∷ [])

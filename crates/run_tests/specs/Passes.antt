@@ -2,7 +2,8 @@
 use Rattle.std.specs.Prelude.{ℕ, ◌≤◌, length}
 use Rattle.work_queue.specs.Passes.{IsPassOf, PassValue, QueueValue}
 
--- a pass of this queue that handed at most so many works, and with which `fetch` was called at most so often
+-- a pass of this queue that handed at most so many works, and with which `fetch` was called at most
+-- so often
 pub record HasDoneFew (most : ℕ) (queue : QueueValue) (pass : PassValue) : Type 0 where
   pub own : IsPassOf queue pass
   pub few_handed : length pass.handed ≤ most

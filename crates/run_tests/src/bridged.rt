@@ -14,7 +14,8 @@ use std::thread::Threads;
 use tap_forward::{ForwardRan, forward_workers};
 use tap_outside::MemSource;
 
-/// A frame of a capture: the bytes that it begins with, and its length. The rest is its number, repeated.
+/// A frame of a capture: the bytes that it begins with, and its length. The rest is its number,
+/// repeated.
 pub(crate) type Shape<'a> = (&'a [u8], u16);
 
 /// The bytes of the frame of a number.

@@ -147,7 +147,8 @@ static ROWS: [Row; 13] = [
     },
 ];
 
-/// Whether a packet is this frame or its first bytes, at time 0 and with its own length as its length on the wire.
+/// Whether a packet is this frame or its first bytes, at time 0 and with its own length as its
+/// length on the wire.
 fn is_sent(packet: &Packet, frame: &[u8], length: usize) -> bool {
     let whole = packet.bytes.len() == length && packet.wire as usize == length;
     let plain = packet.sec == 0 && packet.nsec == 0 && packet.tag.is_none();

@@ -23,10 +23,10 @@ fn wait_for(word: &AtomicU64, least: u64) -> bool {
     false
 }
 
-/// A gate by which the feeders and each worker of a pool wait for one another. A worker goes on from
-/// its first block, and the frame of index 2 of a CPU is delivered, once each worker was to decode a
-/// block. So no pool of fewer workers can get through, nor one that decodes at the end. The blocks of
-/// members 0 and 1 are recorded.
+/// A gate by which the feeders and each worker of a pool wait for one another. A worker goes on
+/// from its first block, and the frame of index 2 of a CPU is delivered, once each worker was to
+/// decode a block. So no pool of fewer workers can get through, nor one that decodes at the end.
+/// The blocks of members 0 and 1 are recorded.
 #[derive(Drop)]
 struct EachWorker {
     /// The sum of the workers' bits, of which worker 0 has 1 and worker 1 has 2.
@@ -115,8 +115,8 @@ impl Gate for EachWorker {
     }
 }
 
-/// Two CPUs with frames that fill a block, each with a member that has a block for each of them, and a
-/// pool of workers.
+/// Two CPUs with frames that fill a block, each with a member that has a block for each of them,
+/// and a pool of workers.
 const TWO_CPUS: &str = "  run    capture conf
   conf   block_size 4096 | block_nr 4 | frame_size 2048 | frame_nr 8 | cpu a.pcap
   conf   cpu b.pcap | members 2
@@ -136,8 +136,8 @@ const TWO_CPUS: &str = "  run    capture conf
 /// The numbers of workers of a pool, and the sum of their bits.
 static POOLS: [(u32, u64); 2] = [(1, 1), (2, 3)];
 
-/// The captures with a pool of so many workers, of whom the bits have this sum: what differs, and what
-/// the gate recorded.
+/// The captures with a pool of so many workers, of whom the bits have this sum: what differs, and
+/// what the gate recorded.
 fn decoded_by<R: Threads + Wait + Sync>(
     rt: &R,
     alloc: Global,
@@ -151,8 +151,8 @@ fn decoded_by<R: Threads + Wait + Sync>(
     Ok((wrong, gate.decoded()))
 }
 
-/// Carries out the captures with each pool: each worker came and no other, each block of each member
-/// was decoded once, and no side waited in vain.
+/// Carries out the captures with each pool: each worker came and no other, each block of each
+/// member was decoded once, and no side waited in vain.
 fn check_pools<R: Threads + Wait + Abort + Sync>(
     rt: &R,
     alloc: Global,

@@ -1,6 +1,7 @@
-//! Tests of runs that no text of a scenario can say: captures cut at each place, a source that waits,
-//! twenty thousand made frames, each ticket; and of threads below a whole command: a bridge, with what
-//! is sent and skipped of frames for each member, a queue of works, and runs whose blocks a pool decodes.
+//! Tests of runs that no text of a scenario can say: captures cut at each place, a source that
+//! waits, twenty thousand made frames, each ticket; and of threads below a whole command: a bridge,
+//! with what is sent and skipped of frames for each member, a queue of works, and runs whose blocks
+//! a pool decodes.
 #![tactic(auto)]
 
 #[cfg(test)]

@@ -182,8 +182,8 @@ fn is_told(printed: &str, kept: usize, drops: usize) -> bool {
     is_whole && all && sum_of(printed, " drops ") == drops
 }
 
-/// What is compared of a capture: whether its lines are as they must be, how many frames were kept or
-/// dropped, how many files were saved, and whether they hold what the notes keep.
+/// What is compared of a capture: whether its lines are as they must be, how many frames were kept
+/// or dropped, how many files were saved, and whether they hold what the notes keep.
 type Seen = (bool, usize, usize, bool);
 
 /// What is seen of a capture.

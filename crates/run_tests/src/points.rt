@@ -85,8 +85,8 @@ impl Gate for PointLog {
     }
 }
 
-/// Two CPUs with frames that fill a block, each with a member that has a block for each of them, and
-/// three moments before the time-out of 8 milliseconds.
+/// Two CPUs with frames that fill a block, each with a member that has a block for each of them,
+/// and three moments before the time-out of 8 milliseconds.
 const TWO_CPUS: &str = "four frames and three, for two members
   run    capture conf
   conf   block_size 4096 | block_nr 4 | frame_size 2048 | frame_nr 8 | cpu a.pcap

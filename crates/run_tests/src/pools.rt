@@ -13,7 +13,8 @@ use std::test::Fail;
 use std::thread::Threads;
 use tap_outside::MemSource;
 
-/// A ring that no run here fills: 64 blocks of a page, each with room for two frames of 1,514 bytes.
+/// A ring that no run here fills: 64 blocks of a page, each with room for two frames of 1,514
+/// bytes.
 const SETUP: &str =
     "block_size 4096\nblock_nr 64\nframe_size 2048\nframe_nr 128\ncpu a.pcap\ndump yes\n";
 
@@ -41,8 +42,8 @@ fn is_frame(packet: &Packet, number: u8) -> bool {
     whole && (packet.sec, packet.nsec) == (1, 2_000) && bytes.iter().all(|byte| *byte == number)
 }
 
-/// Whether a member read all frames in order, and kept the text of each of 20 blocks: 48 bytes, and 1,600 for each
-/// of its two packets.
+/// Whether a member read all frames in order, and kept the text of each of 20 blocks: 48 bytes, and
+/// 1,600 for each of its two packets.
 fn has_all(member: &MemberReport) -> bool {
     let mut next: u8 = 0;
     for packet in member.walked.as_slice() {

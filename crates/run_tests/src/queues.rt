@@ -118,8 +118,8 @@ fn close<R: Wait>(rt: &R, alloc: Global, opened: Opened) -> Result<Vec<(u32, u64
     names_of(alloc, queue.close(rt, alloc, passes)?)
 }
 
-/// Hands so many works of two members in, one member after the other, and fetches at most so many: what was fetched, and
-/// what was left.
+/// Hands so many works of two members in, one member after the other, and fetches at most so many:
+/// what was fetched, and what was left.
 fn hand_and_fetch<R: Wait>(
     rt: &R,
     alloc: Global,
@@ -171,8 +171,8 @@ fn check_left<R: Wait + Abort>(rt: &R, alloc: Global, works: u32, most: u32) -> 
     Ok(())
 }
 
-/// How many works there are, and how many are fetched at most. A segment of the queue has room for 31
-/// works.
+/// How many works there are, and how many are fetched at most. A segment of the queue has room for
+/// 31 works.
 static LEFT: [(u32, u32); 7] = [
     (0, 1),
     (1, 0),

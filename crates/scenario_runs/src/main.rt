@@ -48,7 +48,8 @@ where
     Ok(counted.differ)
 }
 
-/// Carries out the files after each of the words `said` and `swept`; gives how many scenarios differ.
+/// Carries out the files after each of the words `said` and `swept`; gives how many scenarios
+/// differ.
 fn run_words<R>(rt: &R) -> io::Result<u64>
 where
     R: Env + Files + Print + AllocGlobal + Threads + Wait + Sync,

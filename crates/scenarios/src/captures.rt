@@ -189,7 +189,8 @@ fn words_of<'a>(scenario: &Scenario<'a>, capture: &str) -> &'a str {
     words
 }
 
-/// Appends the record of a frame of these words that was kept: at an index, and so many of its bytes.
+/// Appends the record of a frame of these words that was kept: at an index, and so many of its
+/// bytes.
 fn push_kept(
     alloc: Global,
     scenario: &Scenario<'_>,
@@ -203,8 +204,8 @@ fn push_kept(
     push_record(bytes, time, front, wire)
 }
 
-/// The capture, the first and the last index, and the most bytes of a word as `1.3-5/96`; no capture
-/// where none is said.
+/// The capture, the first and the last index, and the most bytes of a word as `1.3-5/96`; no
+/// capture where none is said.
 pub(crate) fn kept_of(word: &str) -> (&str, usize, usize, usize) {
     let (frames, most) = word.split_once('/').unwrap_or((word, ""));
     let (capture, indices) = frames.split_once('.').unwrap_or(("", frames));

@@ -111,8 +111,8 @@ fn is_printed(printed: &str, wanted: &str) -> bool {
     printed == wanted || wanted.contains('*') && are_lines(printed, wanted)
 }
 
-/// What is wanted of a report: where memory runs out there is none, and a scenario may say that it is
-/// any.
+/// What is wanted of a report: where memory runs out there is none, and a scenario may say that it
+/// is any.
 fn report_wanted(scenario: &Scenario<'_>, wanted: &Wanted<'_>) -> Reported {
     if is_out_of_memory(wanted.status) {
         Reported::Absent
@@ -252,8 +252,8 @@ pub fn differences<R: Threads + Wait + Sync>(
     Ok(text)
 }
 
-/// Carries out a scenario on threads with another gate than its own: what differs from it; empty where
-/// nothing does.
+/// Carries out a scenario on threads with another gate than its own: what differs from it; empty
+/// where nothing does.
 pub fn differences_at<G: Gate + Sync, R: Threads + Wait + Sync>(
     rt: &R,
     alloc: Global,

@@ -4,7 +4,8 @@ use crate::lines::{Scenario, number, said_of};
 use frame_view::Memory;
 use std::alloc::Global;
 
-/// A member's line: its number, its notes, and the words of the frames and of the blocks that it kept.
+/// A member's line: its number, its notes, and the words of the frames and of the blocks that it
+/// kept.
 pub(crate) type Member<'a> = (&'a str, &'a str, &'a str, &'a str);
 
 /// The parts of a member's line.
@@ -47,8 +48,8 @@ pub(crate) fn taken(alloc: Global, scenario: &Scenario<'_>) -> Result<String, Me
     front_of(alloc, lines.as_str(), most, status(scenario))
 }
 
-/// So many bytes of lines, and what is printed after them where a status is that of a run that is out
-/// of memory.
+/// So many bytes of lines, and what is printed after them where a status is that of a run that is
+/// out of memory.
 pub(crate) fn front_of(
     alloc: Global,
     lines: &str,
@@ -84,8 +85,8 @@ fn blocks_of(words: &str) -> usize {
     count
 }
 
-/// Appends the line of a CPU to a report: its tries, and how many bytes its capture gives, which are
-/// all unless the scenario says how many.
+/// Appends the line of a CPU to a report: its tries, and how many bytes its capture gives, which
+/// are all unless the scenario says how many.
 fn push_cpu(
     alloc: Global,
     text: &mut String,

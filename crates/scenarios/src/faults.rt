@@ -199,8 +199,8 @@ fn names(scenario: &Scenario<'_>, what: &str) -> bool {
     !scenario.value_named("fail", what).is_empty()
 }
 
-/// Whether a scenario asks for a store or a sink that follows a script, as those in memory can't fail
-/// so.
+/// Whether a scenario asks for a store or a sink that follows a script, as those in memory can't
+/// fail so.
 pub(crate) fn is_scripted(scenario: &Scenario<'_>) -> bool {
     let half = says(scenario, "half") || says(scenario, "faults");
     half || says(scenario, "poor") || says(scenario, "endless") || names(scenario, "write")
@@ -211,8 +211,8 @@ pub(crate) fn is_faulty(scenario: &Scenario<'_>) -> bool {
     is_scripted(scenario) || says(scenario, "fail") || says(scenario, "hold")
 }
 
-/// Whether a scenario is carried out a second time with its blocks dumped: a further line of the setup
-/// and a further save don't change what fails.
+/// Whether a scenario is carried out a second time with its blocks dumped: a further line of the
+/// setup and a further save don't change what fails.
 pub(crate) fn is_dumped_too(scenario: &Scenario<'_>) -> bool {
     let saves = names(scenario, "save") || names(scenario, "conf");
     says(scenario, "member") && !is_scripted(scenario) && !saves

@@ -1,5 +1,5 @@
-//! Sweeps over what is saved and printed: each save and each write in turn fails or is out of memory,
-//! and so is each fetch.
+//! Sweeps over what is saved and printed: each save and each write in turn fails or is out of
+//! memory, and so is each fetch.
 use crate::faults::Fault;
 use crate::scripted::TAKEN;
 use crate::sweep_results::{Sweep, Swept};
@@ -36,8 +36,8 @@ impl<'a> Sweep<'a> {
         Ok(())
     }
 
-    /// A write fails, or is out of memory, after so many: what was written before stays, and all files
-    /// are there.
+    /// A write fails, or is out of memory, after so many: what was written before stays, and all
+    /// files are there.
     fn check_write<R: Threads + Wait + Sync>(
         &self,
         rt: &R,
@@ -69,7 +69,8 @@ impl<'a> Sweep<'a> {
         Ok(())
     }
 
-    /// Each fetch and each save in turn is out of memory: the files that were saved before are there.
+    /// Each fetch and each save in turn is out of memory: the files that were saved before are
+    /// there.
     fn sweep_poor<R: Threads + Wait + Sync>(
         &self,
         rt: &R,

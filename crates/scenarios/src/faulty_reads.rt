@@ -33,8 +33,8 @@ fn are_of_fault(printed: &str, lines: &str) -> bool {
     is_as_long && printed.contains(" end fault\n") && adds_up(printed.lines().last().unwrap_or(""))
 }
 
-/// Appends what differs of a run in which a capture can't be read to its end: its status is 5, it has
-/// a report exactly if the scenario has one, and its lines tell the fault.
+/// Appends what differs of a run in which a capture can't be read to its end: its status is 5, it
+/// has a report exactly if the scenario has one, and its lines tell the fault.
 fn push_wrong_fault(text: &mut String, sweep: &Sweep<'_>, ran: &Ran) -> Result<(), Memory> {
     let status = ran.answer.status.as_str();
     push_difference(
@@ -159,8 +159,8 @@ fn sweep_file<R: Threads + Wait + Sync>(
     Ok(())
 }
 
-/// Each fetch and each read in turn fails, of a file that is fetched more than once those of all its
-/// sources.
+/// Each fetch and each read in turn fails, of a file that is fetched more than once those of all
+/// its sources.
 pub(crate) fn sweep_reads<R: Threads + Wait + Sync>(
     rt: &R,
     alloc: Global,

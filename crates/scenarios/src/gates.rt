@@ -16,8 +16,8 @@ const LINES: usize = 25;
 /// A place on a line of points.
 #[derive(Clone, Copy)]
 struct Place {
-    /// The line: 0 to 7 frames of a CPU, 8 to 15 blocks of a member, 16 to 23 blocks of a member that
-    /// are decoded, 24 moments.
+    /// The line: 0 to 7 frames of a CPU, 8 to 15 blocks of a member, 16 to 23 blocks of a member
+    /// that are decoded, 24 moments.
     line: usize,
     /// How far it is: the number of a frame from 1 on, of a block, or a moment.
     at: u64,

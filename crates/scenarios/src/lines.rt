@@ -5,7 +5,8 @@
 pub struct Scenario<'a> {
     /// Its name.
     pub name: &'a str,
-    /// Its own lines, those of the scenario that it is like, and those of the one that this is like.
+    /// Its own lines, those of the scenario that it is like, and those of the one that this is
+    /// like.
     layers: [&'a str; 3],
 }
 
@@ -143,8 +144,8 @@ fn first_word(line: &str) -> &str {
 }
 
 impl<'a> Scenario<'a> {
-    /// The first of its own lines that can't be read: it begins with no word that is known, or names
-    /// no scenario; empty where there is none.
+    /// The first of its own lines that can't be read: it begins with no word that is known, or
+    /// names no scenario; empty where there is none.
     pub(crate) fn unread(&self) -> &'a str {
         let [own, base, _] = self.layers;
         for line in own.lines() {

@@ -102,8 +102,8 @@ fn run_in_memory<R: Threads + Wait + Sync>(
     Ok((ran_of(alloc, answer, out.written())?, files))
 }
 
-/// Carries out a scenario over a store and a sink that follow a script: that of the scenario, and what
-/// fails beside.
+/// Carries out a scenario over a store and a sink that follow a script: that of the scenario, and
+/// what fails beside.
 pub(crate) fn run_scripted<'a, R: Threads + Wait + Sync>(
     rt: &R,
     alloc: Global,
@@ -157,7 +157,8 @@ pub fn answered<R: Threads + Wait + Sync>(
     Ok((ran.answer, ran.printed))
 }
 
-/// Carries out a scenario on threads with another gate than its own: what it came to, and the files.
+/// Carries out a scenario on threads with another gate than its own: what it came to, and the
+/// files.
 pub(crate) fn run_at<G: Gate + Sync, R: Threads + Wait + Sync>(
     rt: &R,
     alloc: Global,

@@ -89,8 +89,8 @@ fn part(scenario: &Scenario<'_>, name: &str) -> usize {
     number(scenario.value_named("part", name))
 }
 
-/// Whether a file has these bytes, or as many of them as the scenario says; where it isn't to be there
-/// nothing is compared.
+/// Whether a file has these bytes, or as many of them as the scenario says; where it isn't to be
+/// there nothing is compared.
 fn holds(scenario: &Scenario<'_>, after: &After<'_>, name: &str, bytes: &[u8]) -> bool {
     let front = bytes.get(..part(scenario, name)).unwrap_or(bytes);
     match after.files.file(name.as_bytes()) {
@@ -144,8 +144,8 @@ fn holds_sent(
     Ok(holds(scenario, after, name, bytes.as_slice()))
 }
 
-/// Whether a file has the bytes that a line says at a place. One of blocks is compared where they are
-/// dumped.
+/// Whether a file has the bytes that a line says at a place. One of blocks is compared where they
+/// are dumped.
 fn has_bytes(alloc: Global, after: &After<'_>, value: &str) -> Result<bool, Memory> {
     let (name, rest) = value.split_once(' ').unwrap_or((value, ""));
     let (at, digits) = rest.trim().split_once(' ').unwrap_or((rest, ""));
@@ -213,8 +213,8 @@ fn present<'a>(names: &'a str, files: &MemStore) -> &'a str {
     ""
 }
 
-/// The lines and names of a scenario that say something of a file that isn't so, one after the other;
-/// empty where there is none.
+/// The lines and names of a scenario that say something of a file that isn't so, one after the
+/// other; empty where there is none.
 pub(crate) fn wrong_files(
     alloc: Global,
     scenario: &Scenario<'_>,

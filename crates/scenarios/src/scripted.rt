@@ -107,7 +107,8 @@ pub(crate) struct ScriptStore<'a> {
     pub(crate) calls: Calls,
     /// How many fetches and saves there were.
     count: u64,
-    /// How many fetches, and sources with a fault, were counted; it stands still at the greatest u64.
+    /// How many fetches, and sources with a fault, were counted; it stands still at the greatest
+    /// u64.
     read_faults: u64,
     /// How many saves were counted; it stands still at the greatest u64.
     save_faults: u64,
@@ -186,8 +187,8 @@ impl<'a> ScriptStore<'a> {
         self.count == self.script.poor
     }
 
-    /// How a file is read: the most bytes of a read, the reads that fail, and where it goes on after
-    /// its end.
+    /// How a file is read: the most bytes of a read, the reads that fail, and where it goes on
+    /// after its end.
     fn reading(&self, name: &[u8]) -> Result<(usize, Vec<u64>, usize), Memory> {
         for reading in self.script.readings.as_slice() {
             if reading.name.as_bytes() == name {

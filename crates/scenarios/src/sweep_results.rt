@@ -31,8 +31,8 @@ impl Swept {
 }
 
 /// Carries out a scenario with a fault, over a store that doesn't tell what it holds and counts a
-/// fault at each call that succeeds, and notes what differs from what is wanted. The calls that were
-/// made.
+/// fault at each call that succeeds, and notes what differs from what is wanted. The calls that
+/// were made.
 pub(crate) fn check<R: Threads + Wait + Sync>(
     rt: &R,
     alloc: Global,

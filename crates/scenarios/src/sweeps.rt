@@ -1,6 +1,6 @@
-//! Sweeps: a scenario in which nothing fails, carried out again and again, where in turn each fetch,
-//! each read, each save and each write fails or is out of memory. What has to come of it follows from
-//! what the scenario says.
+//! Sweeps: a scenario in which nothing fails, carried out again and again, where in turn each
+//! fetch, each read, each save and each write fails or is out of memory. What has to come of it
+//! follows from what the scenario says.
 use crate::comparing::{Wanted, push_wrong_answer, said};
 use crate::expected::is_out_of_memory;
 use crate::faults::{Fault, WHOLE, is_faulty};
@@ -58,8 +58,8 @@ fn sweep_all<R: Threads + Wait + Sync>(
     sweep_reads(rt, alloc, &sweep, swept)
 }
 
-/// Carries out a scenario by all sweeps: how often that was, and what differs. One in which something
-/// fails, or a thread is held, isn't swept.
+/// Carries out a scenario by all sweeps: how often that was, and what differs. One in which
+/// something fails, or a thread is held, isn't swept.
 pub fn sweep_scenario<R: Threads + Wait + Sync>(
     rt: &R,
     alloc: Global,

@@ -1,7 +1,10 @@
 -- The faults of a filter's text, each with its line.
 use Rattle.std.specs.Prelude.{ℕ, ◌+◌}
 use Rattle.bpf_filter.specs.declared.error.FilterError.{FilterError}
-use Rattle.bpf_filter.specs.declared.error.FilterError.TheVariants.{BadLine, BadCount, BadCode, BadJump, BadConstant, BadMemory, NoReturn, BadAncillary, Memory, TooLarge}
+use Rattle.bpf_filter.specs.declared.error.FilterError.TheVariants.{BadLine, BadCount, BadCode}
+use Rattle.bpf_filter.specs.declared.error.FilterError.TheVariants.{BadJump, BadConstant, BadMemory}
+use Rattle.bpf_filter.specs.declared.error.FilterError.TheVariants.{NoReturn, BadAncillary, Memory}
+use Rattle.bpf_filter.specs.declared.error.FilterError.TheVariants.{TooLarge}
 
 -- The line of a fault, in a text of n instructions: the first line has their number,
 -- and instruction n, from 0, stands in line n + 2. What isn't in a line is in line 0.

@@ -11,7 +11,11 @@ use Rattle.setup_text.specs.declared.text_error.Which.TheVariants as which
 
 -- a fault of a filter whose text has n instructions
 abbrev pub filter_fault : ℕ → FilterError → TextError
-filter_fault instructions fault = record { which = which.Filter; line = line_of fault instructions; kind = kind.Filter fault }
+filter_fault instructions fault = record {
+  which = which.Filter;
+  line = line_of fault instructions;
+  kind = kind.Filter fault;
+}
 
 abbrev pub told : {A : Type 0} → ℕ → Result A FilterError → Result A TextError
 told instructions (Ok value) = Ok value

@@ -1,5 +1,6 @@
 -- What a schedule says: what is done, line by line.
-use Rattle.std.specs.Prelude.{ℕ, List, [], ◌∷◌, codes, bytes_eq, nat_lt, if◌then◌else◌, Option, None, Some, Result, Ok, Err}
+use Rattle.std.specs.Prelude.{ℕ, List, [], ◌∷◌, codes, bytes_eq, nat_lt, if◌then◌else◌, Option}
+use Rattle.std.specs.Prelude.{None, Some, Result, Ok, Err}
 use Rattle.std.specs.List.{fold}
 use Rattle.schedule_lines.specs.declared.lines.Line.{Line}
 use Rattle.schedule_lines.specs.declared.lines.Line.TheVariants as line
@@ -10,7 +11,9 @@ use Rattle.setup_text.specs.declared.schedules.Verb.{Verb}
 use Rattle.setup_text.specs.declared.schedules.Verb.TheVariants as verb
 use Rattle.setup_text.specs.declared.text_error.TextError.{TextError}
 use Rattle.setup_text.specs.declared.text_error.TextKind.{TextKind}
-use Rattle.setup_text.specs.declared.text_error.TextKind.TheVariants.{BadLine, UnknownWord, BadNumber, NotAscending, NoSuchCpu, NoSuchMember}
+use Rattle.setup_text.specs.declared.text_error.TextKind.TheVariants.{BadLine, UnknownWord}
+use Rattle.setup_text.specs.declared.text_error.TextKind.TheVariants.{BadNumber, NotAscending}
+use Rattle.setup_text.specs.declared.text_error.TextKind.TheVariants.{NoSuchCpu, NoSuchMember}
 use Rattle.setup_text.specs.declared.text_error.Which.TheVariants.{Schedule}
 
 -- what a line may begin with
@@ -33,10 +36,14 @@ clock_of lines = fold clock_after 0 lines
 
 -- what is done with a number: it names a CPU or member that exists, and the clock doesn't go back
 unfoldable pub line_with : ℕ → ℕ → ℕ → Verb → ℕ → Result Line TextKind
-line_with cpus members clock verb.Feed number = if nat_lt number cpus then Ok (line.Feed number) else Err NoSuchCpu
-line_with cpus members clock verb.Read number = if nat_lt number members then Ok (line.Read number) else Err NoSuchMember
-line_with cpus members clock verb.Tick number = if nat_lt number clock then Err NotAscending else Ok (line.Tick number)
-line_with cpus members clock verb.Stats number = if nat_lt number members then Ok (line.Stats number) else Err NoSuchMember
+line_with cpus members clock verb.Feed number =
+    if nat_lt number cpus then Ok (line.Feed number) else Err NoSuchCpu
+line_with cpus members clock verb.Read number =
+    if nat_lt number members then Ok (line.Read number) else Err NoSuchMember
+line_with cpus members clock verb.Tick number =
+    if nat_lt number clock then Err NotAscending else Ok (line.Tick number)
+line_with cpus members clock verb.Stats number =
+    if nat_lt number members then Ok (line.Stats number) else Err NoSuchMember
 
 abbrev pub numbered : ℕ → ℕ → ℕ → Verb → Option ℕ → Result Line TextKind
 numbered cpus members clock verb None = Err BadNumber
@@ -56,8 +63,10 @@ worded cpus members clock (first ∷ values) = named cpus members clock (verb_na
 
 -- what a line says, where the clock before it is known
 unfoldable pub line_in : ℕ → ℕ → ℕ → List ℕ → Result Line TextKind
-line_in cpus members clock text = if is_plain text then worded cpus members clock (words_of text) else Err BadLine
+line_in cpus members clock text =
+    if is_plain text then worded cpus members clock (words_of text) else Err BadLine
 
 -- what a text says, for these numbers of CPUs and members, or its first fault
 unfoldable pub schedule_of : ℕ → ℕ → List ℕ → Result (List Line) TextError
-schedule_of cpus members text = items_of Schedule (λ lines line. line_in cpus members (clock_of lines) line) text
+schedule_of cpus members text =
+    items_of Schedule (λ lines line. line_in cpus members (clock_of lines) line) text

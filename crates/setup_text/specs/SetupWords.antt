@@ -2,7 +2,13 @@
 use Rattle.std.specs.Prelude.{ℕ, List, [], ◌∷◌, codes, bytes_eq, Option}
 use Rattle.std.specs.List.{find}
 use Rattle.setup_text.specs.declared.setup_words.SetupWord.{SetupWord}
-use Rattle.setup_text.specs.declared.setup_words.SetupWord.TheVariants.{BlockSize, BlockNr, FrameSize, FrameNr, Tov, Priv, Features, Cpu, Members, Mode, Flag, Key, Mac, Filter, Ticks, Out, Dump, SkipBad, Make, Workers}
+use Rattle.setup_text.specs.declared.setup_words.SetupWord.TheVariants.{BlockSize, BlockNr}
+use Rattle.setup_text.specs.declared.setup_words.SetupWord.TheVariants.{FrameSize, FrameNr, Tov}
+use Rattle.setup_text.specs.declared.setup_words.SetupWord.TheVariants.{Priv, Features, Cpu}
+use Rattle.setup_text.specs.declared.setup_words.SetupWord.TheVariants.{Members, Mode, Flag, Key}
+use Rattle.setup_text.specs.declared.setup_words.SetupWord.TheVariants.{Mac, Filter, Ticks, Out}
+use Rattle.setup_text.specs.declared.setup_words.SetupWord.TheVariants.{Dump, SkipBad, Make}
+use Rattle.setup_text.specs.declared.setup_words.SetupWord.TheVariants.{Workers}
 
 -- how a setup writes each of them
 abbrev pub name_of : SetupWord → List ℕ
@@ -30,7 +36,8 @@ name_of Workers = codes "workers"
 -- all of them
 abbrev pub all_words : List SetupWord
 all_words =
-    BlockSize ∷ BlockNr ∷ FrameSize ∷ FrameNr ∷ Tov ∷ Priv ∷ Features ∷ Cpu ∷ Members ∷ Mode ∷ Flag ∷ Key ∷ Mac ∷ Filter
+    BlockSize ∷ BlockNr ∷ FrameSize ∷ FrameNr ∷ Tov ∷ Priv ∷ Features ∷ Cpu ∷ Members ∷ Mode ∷ Flag
+    ∷ Key ∷ Mac ∷ Filter
     ∷ Ticks ∷ Out ∷ Dump ∷ SkipBad ∷ Make ∷ Workers ∷ []
 
 -- the setup word that is written so

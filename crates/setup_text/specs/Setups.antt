@@ -1,5 +1,7 @@
 -- What a setup says, over the bytes of its text.
-use Rattle.std.specs.Prelude.{ℕ, ◌+◌, Bool, List, [], ◌∷◌, codes, length, nat_lt, ◌&&◌, true, false, is_some, if◌then◌else◌, Option, None, Some, option_map, Result, Ok, Err}
+use Rattle.std.specs.Prelude.{ℕ, ◌+◌, Bool, List, [], ◌∷◌, codes, length, nat_lt, ◌&&◌, true, false}
+use Rattle.std.specs.Prelude.{is_some, if◌then◌else◌, Option, None, Some, option_map, Result, Ok}
+use Rattle.std.specs.Prelude.{Err}
 use Rattle.std.specs.Option.{is_none, option_or, unwrap_or}
 use Rattle.fanout_group.specs.Plans.{Shape, fault_of}
 use Rattle.fanout_group.specs.declared.plan_error.PlanError.{PlanError}
@@ -20,7 +22,8 @@ use Rattle.setup_text.specs.declared.setup_error.Needed.{Needed}
 use Rattle.setup_text.specs.declared.setup_error.Needed.TheVariants as needed
 use Rattle.setup_text.specs.declared.setup_error.SetupError.{SetupError}
 use Rattle.setup_text.specs.declared.setup_error.SetupKind.{SetupKind}
-use Rattle.setup_text.specs.declared.setup_error.SetupKind.TheVariants.{Missing, Request, Group, TooLarge}
+use Rattle.setup_text.specs.declared.setup_error.SetupKind.TheVariants.{Missing, Request, Group}
+use Rattle.setup_text.specs.declared.setup_error.SetupKind.TheVariants.{TooLarge}
 use Rattle.setup_text.specs.declared.setups.Setup.{Setup}
 
 -- ---- what the lines say together
@@ -100,7 +103,8 @@ count_of draft = count_in draft.made
 abbrev pub fault_after : Command → Draft → Option SetupKind
 fault_after command draft =
     option_or (option_map Missing (missing command draft))
-    (option_or (option_map Request (request_fault command (request_of draft))) (option_map Group (group_fault draft)))
+    (option_or (option_map Request (request_fault command (request_of draft)))
+    (option_map Group (group_fault draft)))
 
 -- the setup of lines that have no fault
 abbrev pub setup_from : Draft → Setup

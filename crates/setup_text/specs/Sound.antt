@@ -1,5 +1,6 @@
 -- What holds of every text that is accepted.
-use Rattle.std.specs.Prelude.{◌≡◌, ℕ, ◌<◌, ◌≤◌, List, [], ◌∷◌, length, is_some, All, Option, None, Some}
+use Rattle.std.specs.Prelude.{◌≡◌, ℕ, ◌<◌, ◌≤◌, List, [], ◌∷◌, length, is_some, All, Option, None}
+use Rattle.std.specs.Prelude.{Some}
 use Rattle.fanout_group.specs.Plans.{fault_of}
 use Rattle.schedule_lines.specs.Ascending.{AreAscending}
 use Rattle.schedule_lines.specs.declared.lines.Line.{Line}
@@ -28,7 +29,8 @@ pub record IsSetup (setup : Setup) : Type 0 where
   pub shape : setup.shape ≡ setup.request
   pub ring : receive_fault setup.request ≡ None
   pub tov : setup.request.tov ≤ 60000
-  pub group : fault_of setup.plan.members setup.plan.mode setup.plan.flags (is_some setup.key) ≡ None
+  pub group :
+      fault_of setup.plan.members setup.plan.mode setup.plan.flags (is_some setup.key) ≡ None
   pub filter : IsName setup.filter
   pub ticks : IsName setup.ticks
   pub prefixed : 0 < length setup.prefix
@@ -39,7 +41,8 @@ pub record IsSetup (setup : Setup) : Type 0 where
 -- the moments rise or stand, in milliseconds, and each is a number of 32 bits
 abbrev pub AreRising : ℕ → List ℕ → Type 0
 AreRising before [] = Unit {0}
-AreRising before (moment ∷ moments) = (before ≤ moment) × (moment ≤ 4294967295) × AreRising moment moments
+AreRising before (moment ∷ moments) =
+    (before ≤ moment) × (moment ≤ 4294967295) × AreRising moment moments
 
 pub record AreMoments (moments : List ℕ) : Type 0 where
   pub rising : AreRising 0 moments

@@ -1,5 +1,6 @@
 -- The values that follow a setup word: what each says, or why it is refused.
-use Rattle.std.specs.Prelude.{ℕ, List, length, codes, bytes_eq, nat_le, ◌==◌, if◌then◌else◌, Option, None, Some, Result, Ok, Err}
+use Rattle.std.specs.Prelude.{ℕ, List, length, codes, bytes_eq, nat_le, ◌==◌, if◌then◌else◌, Option}
+use Rattle.std.specs.Prelude.{None, Some, Result, Ok, Err}
 use Rattle.hex.specs.Hex.{decode_sized}
 use Rattle.hex.specs.declared.error.FromHexError.{FromHexError}
 use Rattle.text_lines.specs.Numbers.{number_of}

@@ -1,5 +1,7 @@
 -- The text of a setup: a line for each value, and none for a value that isn't there.
-use Rattle.std.specs.Prelude.{◌≡◌, ℕ, ◌+◌, ◌≤◌, Bool, true, false, ◌&&◌, List, [], ◌∷◌, ◌++◌, All, length, codes, decimal, nat_le, ◌==◌, if◌then◌else◌, Option, None, Some, IfSome}
+use Rattle.std.specs.Prelude.{◌≡◌, ℕ, ◌+◌, ◌≤◌, Bool, true, false, ◌&&◌, List, [], ◌∷◌, ◌++◌, All}
+use Rattle.std.specs.Prelude.{length, codes, decimal, nat_le, ◌==◌, if◌then◌else◌, Option, None}
+use Rattle.std.specs.Prelude.{Some, IfSome}
 use Rattle.std.specs.List.{list_all}
 use Rattle.fanout_group.specs.Plans.{Shape, has_backup, has_defrag}
 use Rattle.fanout_group.specs.declared.modes.Mode.{Mode}
@@ -125,7 +127,8 @@ pub record HasSmallRing (request : RingRequest) : Type 0 where
 -- the flags are the two that there are
 abbrev pub HasTwoFlags : Shape → Type 0
 HasTwoFlags plan =
-    ((if has_backup plan.flags then 0x1000 else 0) + (if has_defrag plan.flags then 0x8000 else 0)) ≡ plan.flags
+    ((if has_backup plan.flags then 0x1000 else 0) + (if has_defrag plan.flags then 0x8000 else 0))
+    ≡ plan.flags
 
 -- a setup that may be accepted and that a text can write: its numbers have 32 bits, its names no
 -- blank and no byte but printable ASCII, its key 40 bytes and its address 6, and where it makes no

@@ -1,7 +1,9 @@
 //! What the lines of a setup say so far.
 ghost use Rattle.std.specs.Prelude.{◌≡◌, option_copied};
 ghost use Rattle.setup_text.specs.Answers.{IsRight, is_want, leaves};
-ghost use Rattle.setup_text.specs.Drafts.{cpu_after, flag_after, line_after, nothing_said, pair_after, put_once, queue_in, set_once, value_after, values_after, yes_once};
+ghost use Rattle.setup_text.specs.Drafts.{cpu_after, flag_after, line_after, nothing_said};
+ghost use Rattle.setup_text.specs.Drafts.{pair_after, put_once, queue_in, set_once, value_after};
+ghost use Rattle.setup_text.specs.Drafts.{values_after, yes_once};
 ghost use Rattle.text_lines.specs.Words.{words_of};
 
 use crate::made_frames::MadeFrames;

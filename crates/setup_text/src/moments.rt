@@ -1,7 +1,8 @@
 //! The moments at which the members are ticked.
 ghost use Rattle.std.specs.Prelude.{◌≡◌, false, option_copied, IfOk};
 ghost use Rattle.text_lines.specs.Words.{words_of};
-ghost use Rattle.setup_text.specs.Answers.{IsOnlyWant, IsRight, is_kind_want, is_text_want, leaves, ticks_memory};
+ghost use Rattle.setup_text.specs.Answers.{IsOnlyWant, IsRight, is_kind_want, is_text_want, leaves};
+ghost use Rattle.setup_text.specs.Answers.{ticks_memory};
 ghost use Rattle.setup_text.specs.Sound.{AreMoments};
 ghost use Rattle.setup_text.specs.Moments.{latest, moment_in, moments_of, only_of, with_one};
 

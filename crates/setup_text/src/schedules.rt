@@ -1,10 +1,12 @@
 //! What is done in a replay, line by line.
 ghost use Rattle.std.specs.Prelude.{◌≡◌, false, IfOk};
 ghost use Rattle.text_lines.specs.Words.{words_of};
-ghost use Rattle.setup_text.specs.Answers.{IsOnlyWant, IsRight, is_kind_want, is_text_want, leaves, schedule_memory};
+ghost use Rattle.setup_text.specs.Answers.{IsOnlyWant, IsRight, is_kind_want, is_text_want, leaves};
+ghost use Rattle.setup_text.specs.Answers.{schedule_memory};
 ghost use Rattle.setup_text.specs.Moments.{only_of, with_one};
 ghost use Rattle.setup_text.specs.Sound.{IsScheduleFor};
-ghost use Rattle.setup_text.specs.Schedules.{clock_after, clock_of, line_in, line_with, schedule_of, valued, verb_named};
+ghost use Rattle.setup_text.specs.Schedules.{clock_after, clock_of, line_in, line_with};
+ghost use Rattle.setup_text.specs.Schedules.{schedule_of, valued, verb_named};
 
 use crate::moments::only_word;
 use crate::{TextError, TextKind, Which};

@@ -2,7 +2,8 @@
 ghost use Rattle.std.specs.Prelude.{◌≡◌};
 ghost use Rattle.setup_text.specs.KindWords.{kind_word, needed_word};
 ghost use Rattle.setup_text.specs.KeyFaults.{key_fault};
-ghost use Rattle.setup_text.specs.declared.setup_error.SetupKind.TheVariants.{Group, Memory, Request};
+ghost use Rattle.setup_text.specs.declared.setup_error.SetupKind.TheVariants.{Group, Memory};
+ghost use Rattle.setup_text.specs.declared.setup_error.SetupKind.TheVariants.{Request};
 
 use crate::setup_words::SetupWord;
 use fanout_group::PlanError;

@@ -1,11 +1,15 @@
 //! The setup of a run.
-ghost use Rattle.std.specs.Prelude.{◌≡◌, ◌≤◌, codes, false, true, length, None, Some, IfOk, IfErr, OnOk};
+ghost use Rattle.std.specs.Prelude.{◌≡◌, ◌≤◌, codes, false, true, length, None, Some, IfOk, IfErr};
+ghost use Rattle.std.specs.Prelude.{OnOk};
 ghost use Rattle.std.specs.Option.{unwrap_or};
 ghost use Rattle.fanout_group.specs.Plans.{AreFlags};
 ghost use Rattle.tp_layout.specs.Requests.{answer_of};
-ghost use Rattle.setup_text.specs.Answers.{IsOnlyWant, IsRight, is_setup_want, is_want, setup_memory};
+ghost use Rattle.setup_text.specs.Answers.{IsOnlyWant, IsRight, is_setup_want, is_want};
+ghost use Rattle.setup_text.specs.Answers.{setup_memory};
 ghost use Rattle.setup_text.specs.Sound.{IsSetup};
-ghost use Rattle.setup_text.specs.Setups.{count_of, draft_of, fault_after, flags_of, group_fault, group_of, missing, request_fault, request_of, seed_of, setup_after, setup_from, setup_of};
+ghost use Rattle.setup_text.specs.Setups.{count_of, draft_of, fault_after, flags_of, group_fault};
+ghost use Rattle.setup_text.specs.Setups.{group_of, missing, request_fault, request_of, seed_of};
+ghost use Rattle.setup_text.specs.Setups.{setup_after, setup_from, setup_of};
 ghost use Rattle.setup_text.specs.declared.commands.Command.TheVariants.{Make};
 
 use crate::drafts::Draft;

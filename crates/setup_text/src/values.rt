@@ -1,7 +1,8 @@
 //! The values that follow a setup word.
 ghost use Rattle.std.specs.Prelude.{◌≡◌};
 ghost use Rattle.setup_text.specs.Answers.{IsRight, is_want};
-ghost use Rattle.setup_text.specs.Values.{any_number, bytes_in, count_to, mode_in, name_in, number_to};
+ghost use Rattle.setup_text.specs.Values.{any_number, bytes_in, count_to, mode_in, name_in};
+ghost use Rattle.setup_text.specs.Values.{number_to};
 
 use crate::SetupKind;
 use fanout_group::Mode;

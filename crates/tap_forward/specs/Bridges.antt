@@ -22,8 +22,8 @@ abbrev pub skipped_for : ℕ → MemberReport → ℕ
 skipped_for room member = skipped_of room member.walked
 
 -- a forwarder that has read all blocks that a member's notes retired
-pub record IsForwarderOf (shape tx : RingRequest) (dump : Bool) (notes : List Note) (forwarder : ForwarderValue)
-    : Type 0 where
+pub record IsForwarderOf (shape tx : RingRequest) (dump : Bool) (notes : List Note)
+    (forwarder : ForwarderValue) : Type 0 where
   pub shape_is : forwarder.shape ≡ shape
   pub tx_is : forwarder.tx ≡ tx
   pub dumps_is : forwarder.dumps ≡ dump

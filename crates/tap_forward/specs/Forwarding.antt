@@ -7,7 +7,8 @@ use Rattle.frame_view.specs.declared.frames.Packet.{Packet}
 -- whether the frame of a packet, with its tag put back, has from 14 bytes to as many as fit after
 -- the header of a slot
 abbrev pub is_sendable : ℕ → Packet → Bool
-is_sendable room packet = nat_le 14 (length (frame_of packet)) && nat_le (length (frame_of packet)) room
+is_sendable room packet =
+    nat_le 14 (length (frame_of packet)) && nat_le (length (frame_of packet)) room
 
 -- what is sent of a packet: its frame, as a packet that stands alone
 abbrev pub as_sent : Packet → Packet

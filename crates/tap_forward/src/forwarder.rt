@@ -53,7 +53,8 @@ impl Model for Forwarder {
 }
 
 impl Forwarder {
-    ghost use Rattle.tap_forward.specs.Forwarders.{base_of, forwarded_of, has_forwarded, new_forwarder};
+    ghost use Rattle.tap_forward.specs.Forwarders.{base_of, forwarded_of, has_forwarded};
+    ghost use Rattle.tap_forward.specs.Forwarders.{new_forwarder};
 
     /// A forwarder that has read nothing: it reads blocks of the shape `shape`, keeps their texts
     /// where it is asked to, and sends through a ring of the shape `tx`, which is that of a request

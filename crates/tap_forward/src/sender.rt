@@ -1,6 +1,7 @@
 //! A transmit ring that packets are given to one after another: the frame of each waits in its slot
 //! until all slots are requested, or until the end.
-ghost use Rattle.std.specs.Prelude.{◌≡◌, ◌+◌, ◌^◌, ◌<◌, ◌≤◌, [], ◌∷◌, ◌++◌, List, length, take, IfOk, OnErr, OnOk};
+ghost use Rattle.std.specs.Prelude.{◌≡◌, ◌+◌, ◌^◌, ◌<◌, ◌≤◌, [], ◌∷◌, ◌++◌, List, length, take};
+ghost use Rattle.std.specs.Prelude.{IfOk, OnErr, OnOk};
 ghost use Rattle.frame_view.specs.Vlan.{frame_of};
 ghost use Rattle.frame_view.specs.declared.frames.Packet.{Packet as GivenPacket};
 ghost use Rattle.tp_layout.specs.Requests.{transmit_fault};

@@ -1,8 +1,12 @@
 -- The printed lines of a run and of what was sent, as bytes. Numbers are decimal, and a line feed
 -- ends each line.
-use Rattle.std.specs.Prelude.{ℕ, ◌+◌, List, [], ◌∷◌, ◌++◌, length, flat_map, codes, decimal, slice_get, Option, None, Some}
+use Rattle.std.specs.Prelude.{ℕ, ◌+◌, List, [], ◌∷◌, ◌++◌, length, flat_map, codes, decimal}
+use Rattle.std.specs.Prelude.{slice_get, Option, None, Some}
 use Rattle.capture_file.specs.declared.error.CaptureError.{CaptureError}
-use Rattle.capture_file.specs.declared.error.CaptureError.TheVariants.{BadMagic, BadVersion, BadLink, BadLength, Truncated, TooLarge, Memory, BadInterface}
+use Rattle.capture_file.specs.declared.error.CaptureError.TheVariants.{BadMagic, BadVersion}
+use Rattle.capture_file.specs.declared.error.CaptureError.TheVariants.{BadLink, BadLength}
+use Rattle.capture_file.specs.declared.error.CaptureError.TheVariants.{Truncated, TooLarge, Memory}
+use Rattle.capture_file.specs.declared.error.CaptureError.TheVariants.{BadInterface}
 use Rattle.tx_ring.specs.declared.transmitting.Transmitted.{Transmitted}
 use Rattle.ring_model.specs.Ring.{Size}
 use Rattle.ring_model.specs.declared.notes.Stats.{Stats}
@@ -41,7 +45,8 @@ end_text (Damaged error) = damage_text error
 unfoldable pub cpu_line : ℕ → CpuLog → List ℕ
 cpu_line cpu log =
     codes "cpu " ++ (decimal cpu ++ (codes " frames " ++ (decimal log.frames
-    ++ (codes " arrivals " ++ (decimal (length log.arrivals) ++ (codes " end " ++ (end_text log.end ++ codes "\n")))))))
+    ++ (codes " arrivals "
+    ++ (decimal (length log.arrivals) ++ (codes " end " ++ (end_text log.end ++ codes "\n")))))))
 
 -- the lines of CPUs that have the numbers from this one up
 abbrev pub cpu_lines : ℕ → List CpuLog → List ℕ
@@ -58,7 +63,9 @@ stats_text stats =
 -- slots, that its reader walked
 unfoldable pub member_line : ℕ → Stats → ℕ → List ℕ
 member_line member stats blocks =
-    codes "member " ++ (decimal member ++ (stats_text stats ++ (codes " blocks " ++ (decimal blocks ++ codes "\n"))))
+    codes "member "
+    ++ (decimal member
+    ++ (stats_text stats ++ (codes " blocks " ++ (decimal blocks ++ codes "\n"))))
 
 -- the line of statistics that a member's Counted note took
 unfoldable pub count_line : ℕ → Stats → List ℕ
@@ -119,7 +126,8 @@ stop_text (Some index) = decimal index
 
 -- the line of a capture that was sent
 unfoldable pub sent_cpu_line : ℕ → CpuEnd → List ℕ
-sent_cpu_line frames end = codes "cpu 0 frames " ++ (decimal frames ++ (codes " end " ++ (end_text end ++ codes "\n")))
+sent_cpu_line frames end =
+    codes "cpu 0 frames " ++ (decimal frames ++ (codes " end " ++ (end_text end ++ codes "\n")))
 
 -- the line of what became of its frames
 unfoldable pub sent_line : Transmitted → List ℕ

@@ -18,8 +18,11 @@ setup_kind_text kind = kind_word kind
 
 unfoldable pub setup_refusal : SetupError → List ℕ
 setup_refusal error =
-    codes "setup line " ++ (decimal error.line ++ (codes ": " ++ (setup_kind_text error.kind ++ codes "\n")))
+    codes "setup line "
+    ++ (decimal error.line ++ (codes ": " ++ (setup_kind_text error.kind ++ codes "\n")))
 
 unfoldable pub text_refusal : TextError → List ℕ
 text_refusal error =
-    which_word error.which ++ (codes " line " ++ (decimal error.line ++ (codes ": " ++ (text_word error.kind ++ codes "\n"))))
+    which_word error.which
+    ++ (codes " line "
+    ++ (decimal error.line ++ (codes ": " ++ (text_word error.kind ++ codes "\n"))))

@@ -1,6 +1,7 @@
 //! The lines of CPUs, and the sums over them.
 ghost use Rattle.std.specs.Prelude.{◌≡◌, ◌++◌, IfOk, OnOk, string_bytes};
-ghost use Rattle.tap_printing.specs.Lines.{arrivals_in, cpu_line, cpu_lines, damage_text, end_text, filtered_in};
+ghost use Rattle.tap_printing.specs.Lines.{arrivals_in, cpu_line, cpu_lines, damage_text, end_text};
+ghost use Rattle.tap_printing.specs.Lines.{filtered_in};
 
 use crate::pushing::push_line;
 use capture_file::{CaptureError, CpuEnd};

@@ -1,5 +1,6 @@
 //! The lines of members, and the sums over them.
-ghost use Rattle.std.specs.Prelude.{◌≡◌, ◌+◌, ◌-◌, ◌^◌, ◌<◌, ◌++◌, ◌≤◌, IfOk, OnOk, flat_map, option_copied, string_bytes};
+ghost use Rattle.std.specs.Prelude.{◌≡◌, ◌+◌, ◌-◌, ◌^◌, ◌<◌, ◌++◌, ◌≤◌, IfOk, OnOk, flat_map};
+ghost use Rattle.std.specs.Prelude.{option_copied, string_bytes};
 ghost use Rattle.ring_model.specs.Ring.{AtEachSize};
 ghost use Rattle.tap_printing.specs.Lines.{count_line, drops_in, forward_line, forward_text};
 ghost use Rattle.tap_printing.specs.Lines.{kept_in, lines_at, member_line, member_lines};

@@ -1,6 +1,7 @@
 -- The files of a run: for each member from 0 up its packets, its blocks where they are asked for,
 -- and what it sent where members send. The file of what `send` sent.
-use Rattle.std.specs.Prelude.{ℕ, zero, suc, ◌+◌, ◌≤◌, Bool, true, false, List, [], ◌∷◌, ◌++◌, All, length, codes, if◌then◌else◌, slice_get, Option, None, Some}
+use Rattle.std.specs.Prelude.{ℕ, zero, suc, ◌+◌, ◌≤◌, Bool, true, false, List, [], ◌∷◌, ◌++◌, All}
+use Rattle.std.specs.Prelude.{length, codes, if◌then◌else◌, slice_get, Option, None, Some}
 use Rattle.std.specs.Fmt.{decimal}
 use Rattle.capture_file.specs.Output.{output_of}
 use Rattle.frame_view.specs.declared.frames.Packet.{Packet}

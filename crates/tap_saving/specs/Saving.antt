@@ -1,5 +1,6 @@
 -- What saving does to a store.
-use Rattle.std.specs.Prelude.{◌≡◌, ◌≢◌, ◌≤◌, ℕ, ◌+◌, Bool, true, false, IsTrue, MatchBool, List, [], ◌∷◌, ⊤, Option, None, Some, ◌⊎◌}
+use Rattle.std.specs.Prelude.{◌≡◌, ◌≢◌, ◌≤◌, ℕ, ◌+◌, Bool, true, false, IsTrue, MatchBool, List, []}
+use Rattle.std.specs.Prelude.{◌∷◌, ⊤, Option, None, Some, ◌⊎◌}
 use Rattle.tap_outside.specs.Contents.{Contents, HoldsFile}
 use Rattle.tap_outside.specs.Counts.{RoseBy}
 use Rattle.tap_outside.specs.Seen.{StoreSeen}

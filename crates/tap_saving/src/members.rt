@@ -1,8 +1,10 @@
 //! The files of members.
-ghost use Rattle.std.specs.Prelude.{◌≡◌, ◌<◌, ◌≤◌, ℕ, [], ◌∷◌, length, All, IfOk, IfSome, IsTrue, OnErr};
+ghost use Rattle.std.specs.Prelude.{◌≡◌, ◌<◌, ◌≤◌, ℕ, [], ◌∷◌, length, All, IfOk, IfSome, IsTrue};
+ghost use Rattle.std.specs.Prelude.{OnErr};
 ghost use Rattle.std.specs.Prelude.{is_some, option_copied};
 ghost use Rattle.std.specs.List.{AllByRecursion};
-ghost use Rattle.tap_saving.specs.Files.{CanBeOutput, blocks_file, files_at, files_from, forward_file};
+ghost use Rattle.tap_saving.specs.Files.{CanBeOutput, blocks_file, files_at, files_from};
+ghost use Rattle.tap_saving.specs.Files.{forward_file};
 ghost use Rattle.tap_saving.specs.Files.{forward_name, names_at, names_from, output_files};
 ghost use Rattle.tap_saving.specs.Files.{output_names, packets_file, sent_by};
 ghost use Rattle.tap_saving.specs.Saving.{Saved, SavedSome, Touches};

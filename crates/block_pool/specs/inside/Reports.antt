@@ -16,7 +16,8 @@ use Rattle.tp_layout.specs.declared.requests.RingRequest.{RingRequest}
 -- a job ran on threads: its sources gave some bytes and ended, and the logs, notes and rings are
 -- those of a group's run over them
 pub record HaveRun (job : Job) (moments : List ℕ) (old new : List (Option SourceSeen))
-    (logs : List CpuLog) (notes : List (List Note)) (rings : List (Pends ShapedBytes)) : Type 0 where
+    (logs : List CpuLog) (notes : List (List Note)) (rings : List (Pends ShapedBytes))
+    : Type 0 where
   pub bytes : List (List ℕ)
   pub ends : List CpuEnd
   pub gave : AllGave old new bytes ends
@@ -24,7 +25,8 @@ pub record HaveRun (job : Job) (moments : List ℕ) (old new : List (Option Sour
 
 -- what is given of all blocks that a member's notes retired: their packets, their texts where
 -- asked, their number
-pub record AreOutputsOf (shape : RingRequest) (dump : Bool) (notes : List Note) (outputs : Outputs) : Type 0 where
+pub record AreOutputsOf (shape : RingRequest) (dump : Bool) (notes : List Note) (outputs : Outputs)
+    : Type 0 where
   pub walked : outputs.walked ≡ walked_of (taken_of_notes shape notes)
   pub dump_is : outputs.dump ≡ dump_by dump shape (taken_of_notes shape notes)
   pub blocks : outputs.blocks ≡ length (taken_of_notes shape notes)
