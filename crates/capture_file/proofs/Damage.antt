@@ -1,4 +1,4 @@
--- What the damage and the end of a capture may be.
+-- What the damage and the end of a capture can be.
 use Rattle.std.proofs.Common.{◌≡◌, ℕ, ◌<◌, Bool, true, false, List, length, refl, sym, ap, subst, ◌∙◌}
 use Rattle.std.specs.Prelude.{◌≢◌, Option, None, Some, IsSome, option_map}
 use Rattle.pcapng_blocks.specs.Capture as pcapng
@@ -14,7 +14,7 @@ use Rattle.capture_file.proofs.PcapDamage as records
 use Rattle.capture_file.proofs.PcapUncut as whole
 use Rattle.capture_file.proofs.Formats.{damage_is, end_is}
 
--- no fault of blocks says that memory ran out
+-- a fault of blocks never says that memory ran out
 pub fault_not_memory : (fault : Option BlockError) → option_map error_from fault ≢ Some Memory
 fault_not_memory None e = cc
 fault_not_memory (Some faults.BadMagic) e = cc
@@ -52,7 +52,7 @@ too_many_as false bytes many = records.too_many bytes many
 pub too_many : (bytes : List ℕ) → 33554432 < length bytes → IsSome (damage_of bytes)
 too_many bytes many = subst (λ (damage : Option CaptureError). IsSome damage) (sym (damage_is bytes)) (too_many_as (is_pcapng bytes) bytes many)
 
--- ---- damage is no cut
+-- ---- damage is never a cut
 
 fault_uncut : (fault : Option BlockError) (place : ℕ) → fault ≢ Some (faults.Truncated place) → option_map error_from fault ≢ Some (Truncated place)
 fault_uncut None place uncut e = cc

@@ -42,7 +42,7 @@ few_not_pcapng bytes few =
       | inr other ↦ other
     ]
 
--- four bytes say the format alone
+-- four bytes are enough to know the format
 pub other_format : (bytes magic : List ℕ) → length bytes ≡ 4 → magic ≡ section_type → false ≡ bytes_eq bytes magic → false ≡ is_pcapng bytes
 unfolding is_pcapng
 other_format bytes magic four same other =
@@ -109,7 +109,7 @@ brief cpu bytes few =
       kept = rw format (kept_none bytes told.damage ∙ rw told.stop refl);
     }
 
--- ---- gathering the first four bytes
+-- ---- collecting the first four bytes
 
 module _ (start piece new fed : List ℕ) (few : length start < 4) (same : start ≡ fed) (all : new ≡ start ++ take (4 - length start) piece) where
   -- fewer than four are all that were fed
@@ -119,7 +119,7 @@ module _ (start piece new fed : List ℕ) (few : length start < 4) (same : start
       let whole : take (4 - length start) piece ≡ piece = take_all (4 - length start) piece (omega (arith, length-take (4 - length start) piece)) in
       all ∙ ap (λ (xs : List ℕ). start ++ xs) whole ∙ ap (λ (xs : List ℕ). xs ++ piece) same
 
-  -- else they are four, and the rest of the piece is after them
+  -- otherwise they are four, and the rest of the piece is after them
   pub gathers_four : 4 ≤ length new → length new ≡ 4
   gathers_four full =
       let long : length new ≡ length start + length (take (4 - length start) piece) = ap length all ∙ length-append start (take (4 - length start) piece) in

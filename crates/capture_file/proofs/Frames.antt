@@ -16,7 +16,7 @@ use Rattle.capture_file.specs.Laws.{IsNumbered, IsCaptured, FitsFrame}
 use Rattle.capture_file.proofs.PcapFrames as records
 use Rattle.capture_file.proofs.Formats.{first_word, format_stays, frames_are, brief}
 
--- a fact of the frames holds where it holds of those of each format
+-- a fact about the frames holds if it holds in each format
 frames_by : (P : List Frame → Type 0) (number : ℕ) (bytes : List ℕ)
     → (is_pcapng bytes ≡ true → P (frames_as true number bytes)) → P (frames_as false number bytes) → P (frames_of number bytes)
 frames_by P number bytes as_blocks as_records = subst P (sym (frames_are number bytes)) (by (is_pcapng bytes) refl) where

@@ -23,7 +23,7 @@ pub blocks_end : (decoder : blocks.DecoderValue) (answer : Result Unit BlockErro
     → option_map error_from (result_err answer) ≡ end → (cpu : ℕ) (fed : List ℕ) → StandsAs cpu (Pcapng decoder) fed → end ≡ end_as true fed
 blocks_end decoder answer end is same cpu fed stands = sym same ∙ ap (option_map error_from) (is cpu fed stands)
 
--- a fault mapped as the code maps it
+-- a fault translated as the code does it
 pub mapped : (fault : Option BlockError) (damage : Option CaptureError) → MatchOption fault (damage ≡ None) (λ x. IsSomeAnd damage (λ y. y ≡ error_from x))
     → damage ≡ option_map error_from fault
 mapped None damage e = e
@@ -133,7 +133,7 @@ module _ (cpu : ℕ) (value inside : DecoderValue) (fed : List ℕ) (view : insi
       pub known_damage : damage ≡ damage_of (fed ++ piece)
       known_damage = fed_on.damage_is ∙ ap (λ (k : Bool). damage_as k (fed ++ piece)) now ∙ sym (damage_is (fed ++ piece))
 
-  -- the first four bytes are gathered
+  -- the first four bytes are collected
   module _ (none : inside.format ≡ None) (few : length inside.start < 4) (piece new : List ℕ) (all : new ≡ inside.start ++ take (4 - length inside.start) piece) where
     -- fewer came
     module _ (less : length new < 4) where

@@ -56,7 +56,7 @@ unfolding is_skipping
 no_body true bytes h skips = blocks.kept_skipping bytes (rw h at skips)
 no_body false bytes h skips = let no = rw h at skips in absurd cc
 
--- ---- the number that is kept of those that were fed
+-- ---- how many of the bytes that were fed are kept
 
 module _ (bytes : List ℕ) (count : ℕ) (is : count ≡ length (kept_of bytes)) where
   pub keeps_after_stop : stop_of bytes + count ≤ length bytes

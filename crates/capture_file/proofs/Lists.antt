@@ -1,8 +1,8 @@
--- Fronts and rests of lists that grow.
+-- Prefixes and rests of lists that grow.
 use Rattle.std.proofs.Common.{◌≡◌, ◌≤◌, List, ◌++◌, length, take, refl, sym, ap, ◌∙◌, arith}
 use Rattle.std.proofs.lemmas.List.{take-append-le, take-take, take_at, length-take, length-append}
 
--- what stands at the start stays there when more is appended
+-- a prefix stays one when more is appended
 pub front_more : {A : Type 0} (old new more : List A) → take (length old) new ≡ old → take (length old) (new ++ more) ≡ old
 front_more old new more h =
     let le : length old ≤ length new = omega (arith, length-take (length old) new, ap length h) in

@@ -1,4 +1,4 @@
--- What the damage and the end of a capture may be.
+-- What the damage and the end of a capture can be.
 use Rattle.std.proofs.Common.{◌≡◌, ℕ, ◌≤◌, ◌<◌, List, length, drop, refl, inl, inr, arith}
 use Rattle.std.specs.Prelude.{◌≢◌, nat_lt, Option, None, Some, IsSome, Result, Ok, Err}
 use Rattle.std.specs.Option.{option_or}
@@ -10,7 +10,7 @@ use Rattle.capture_file.specs.Pcap.{header_of, counted, begins_oversized, stop_o
 use Rattle.capture_file.proofs.Steps.{header_not_memory}
 use Rattle.capture_file.proofs.PcapFeeding.{short, refused, damage_oversized, damage_too_large, damage_none}
 
--- the three ways of a capture after a good header
+-- the three cases of a capture after a good header
 data Ways (bytes : List ℕ) : Type 0 where
   oversized : damage_of bytes ≡ Some (BadLength (stop_of bytes)) → Ways bytes
   large : damage_of bytes ≡ Some TooLarge → Ways bytes

@@ -1,4 +1,4 @@
--- How a capture ends, by the stage of the decoder that stands for it.
+-- How a capture ends, by the stage of its decoder.
 use Rattle.std.proofs.Common.{Bool, Option, eqb, ◌≡◌, ℕ, ◌≤◌, List, [], length, drop, refl, sym, ap, ◌∙◌, inl, inr, arith}
 use Rattle.std.specs.Prelude.{◌≢◌, None, Some, Result, Ok, Err}
 use Rattle.std.proofs.lemmas.Bool.{cases_Bool, eqb-true, eqb-false, both_ways, cases_lt, le-ltb, lt-ltb}
@@ -85,7 +85,7 @@ module _ (number : ℕ) (decoder old : PcapValue) (fed : List ℕ) (view : decod
         | inr few ↦ absurd (some (all ∙ kept_none fed good ∙ drop_all (stop_of fed) fed few))
       ]
 
-  -- the stage, its place and whether bytes are kept tell the end
+  -- the stage, its place and whether bytes are kept determine the end
   pub end_told : (stage : Stage) (none : Bool) → decoder.stage ≡ stage → none ≡ eqb (length decoder.rest) 0 → end_at stage decoder.stop none ≡ end_of fed
   end_told Header none e kept = end_header e
   end_told (Damaged damage) none e kept = end_damaged damage e

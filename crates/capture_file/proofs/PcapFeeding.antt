@@ -1,4 +1,4 @@
--- A feed brings a decoder from standing for some bytes to standing for them and the piece.
+-- Before a feed a decoder represents some bytes, and after it those and the piece.
 use Rattle.std.proofs.Common.{◌≡◌, ℕ, ◌-◌, ◌≤◌, ◌<◌, true, false, List, [], ◌++◌, length, take, drop, refl, sym, ap, ◌∙◌, inl, inr, arith}
 use Rattle.std.specs.Prelude.{nat_lt, Option, None, Some, IsSome, Result, Ok, Err}
 use Rattle.std.proofs.lemmas.Bool.{cases_Bool, cases_lt, le-ltb, lt-ltb, ltb-true}

@@ -1,4 +1,4 @@
--- What holds of the frames of a capture, by going over its records.
+-- What holds of the frames of a capture, record by record.
 use Rattle.std.proofs.Common.{◌≡◌, ℕ, zero, suc, ◌+◌, ◌-◌, ◌^◌, ◌≤◌, ◌<◌, true, List, [], ◌∷◌, ◌++◌, length, get_or, take, drop, refl, sym, ap, subst, ◌∙◌, inl, inr, arith, zero-add}
 use Rattle.std.specs.Prelude.{slice_get, All, IfSome, Result, Ok, Err}
 use Rattle.std.specs.List.{concat, AllByRecursion, sum_by}
@@ -32,7 +32,7 @@ behind_by : (P : List Frame → Type 0) (number : ℕ) (bytes : List ℕ) (heade
 behind_by P number bytes (Ok format) full e none some = some format full e
 behind_by P number bytes (Err damage) full e none some = subst P (sym (refused number bytes damage full e).frames) none
 
--- a fact of all frames, given that it holds where there are none and after a good header
+-- a fact about all frames, given that it holds without frames and after a good header
 frames_by : (P : List Frame → Type 0) (number : ℕ) (bytes : List ℕ) → P []
     → ((format : Format) → 24 ≤ length bytes → header_of bytes ≡ Ok format → P (frames_of number bytes)) → P (frames_of number bytes)
 frames_by P number bytes none some =
@@ -43,7 +43,7 @@ frames_by P number bytes none some =
 
 -- ---- each record
 
--- a whole record and no byte more
+-- exactly one whole record
 pub record IsRecord (order : Order) (bytes : List ℕ) : Type 0 where
   pub header : 16 ≤ length bytes
   pub small : captured order bytes ≤ 262144

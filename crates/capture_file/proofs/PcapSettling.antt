@@ -1,4 +1,4 @@
--- What a feed leaves: a decoder that stands for all bytes, and the frames that are new.
+-- What a feed leaves: a decoder that represents all bytes, and the frames that are new.
 use Rattle.std.proofs.Common.{◌≡◌, ℕ, ◌+◌, ◌-◌, ◌≤◌, ◌<◌, Bool, false, List, [], ◌++◌, length, take, drop, refl, sym, ap, subst, ◌∙◌, inl, inr, arith}
 use Rattle.std.specs.Prelude.{min, nat_lt, Option, None, Some, Result, Ok, Err}
 use Rattle.std.proofs.lemmas.Bool.{cases_Bool, cases_lt, le-ltb, lt-ltb, ltb-false}
@@ -17,7 +17,8 @@ use Rattle.capture_file.proofs.Records.{header_of-append, read_from-frames}
 use Rattle.capture_file.proofs.Whole.{counted-append, all_of, all_read_from, all_accounts, all_append}
 use Rattle.capture_file.proofs.PcapFeeding.{short, refused, damage_oversized, damage_too_large, stage_whole, damage_is_error, stays}
 
--- a stage, a place, kept bytes and frames are those of a capture, of which the first frames are `base`
+-- a stage, a place, kept bytes and frames are those of a capture, of which the first frames are
+-- `base`
 pub record Settles (number : ℕ) (base : List Frame) (bytes : List ℕ) (before after : List Frame) (stage : Stage) (next : Place) (rest : List ℕ) : Type 0 where
   pub at : stage ≡ stage_of bytes
   pub stop : next.stop ≡ stop_of bytes
@@ -29,7 +30,7 @@ pub record Settles (number : ℕ) (base : List Frame) (bytes : List ℕ) (before
 pub kept_none : (bytes : List ℕ) → damage_of bytes ≡ None → kept_of bytes ≡ drop (stop_of bytes) bytes
 kept_none bytes none = rw none refl
 
--- what is known where a capture after a good header isn't damaged
+-- what is known if a capture after a good header isn't damaged
 pub record IsUndamaged (format : Format) (bytes : List ℕ) : Type 0 where
   pub under : begins_oversized format.order (drop (stop_of bytes) (counted bytes)) ≡ false
   pub small : length bytes ≤ 33554432
@@ -46,7 +47,7 @@ undamaged format bytes full passed none =
           ]
     ]
 
--- reading came to all of a capture, whose first frames are `base`, with `before` in their place
+-- reading covered all of a capture, whose first frames are `base`, with `before` in their place
 pub settles_read : (number : ℕ) (format : Format) (next : Place) (base before : List Frame) (fresh bytes : List ℕ) (progress : Progress) (kept : List ℕ) (after : List Frame) (beyond : Bool)
     → 24 ≤ length bytes → header_of bytes ≡ Ok format → beyond ≡ nat_lt 33554432 (length bytes)
     → read_from number format next base fresh ≡ all_of number bytes → Comes format (read_from number format next before fresh) progress kept after
@@ -184,7 +185,7 @@ settles_damaged number fed piece before after damage kept e same =
       frames = ([], no_more before after same, now.frames ∙ sym (append-nil (frames_of number fed)));
     }
 
--- what a decoder's stage, place and bytes are where it stands for bytes that aren't damaged
+-- the stage, place and bytes of a decoder that represents undamaged bytes
 module _ (number : ℕ) (fed piece : List ℕ) (before after : List Frame) (progress : Progress) (kept taken : List ℕ) (beyond : Bool) (stage : Stage) (next : Place) (rest : List ℕ)
     (place : next ≡ (all_of number fed).next) (part : taken ≡ take (33554432 - (next.stop + length rest)) piece)
     (large : beyond ≡ nat_lt (33554432 - (next.stop + length rest)) (length piece)) where
@@ -226,7 +227,7 @@ module _ (number : ℕ) (fed piece : List ℕ) (before after : List Frame) (prog
             settles_by_header (header_of fed) full refl e here all feeds
       ]
 
--- a decoder that stands for bytes was fed
+-- a decoder that represents bytes was fed
 pub settles : (number : ℕ) (fed piece : List ℕ) (decoder : PcapValue) (before after : List Frame) (progress : Progress) (kept taken : List ℕ) (beyond : Bool)
     → Stands number decoder fed → taken ≡ take (33554432 - (decoder.stop + length decoder.rest)) piece
     → beyond ≡ nat_lt (33554432 - (decoder.stop + length decoder.rest)) (length piece)
@@ -238,7 +239,8 @@ settles number fed piece decoder before after progress kept taken beyond stands 
     settles_by_damage number fed piece before after progress kept taken beyond decoder.stage next decoder.rest place part large
     (damage_of fed) refl stands.stage stands.rest (rw stands.cpu at feeds)
 
--- the same by the steps of a feed: the room that is left, what was taken of the piece, and the stage with what is beyond
+-- the same by the steps of a feed: the room that is left, what was taken of the piece, and the
+-- stage with what is beyond
 pub settles_here : (number : ℕ) (fed piece : List ℕ) (old decoder : PcapValue) (before after : List Frame) (progress : Progress) (kept taken : List ℕ) (size count : ℕ) (stage : Stage)
     → decoder ≡ old → Stands number old fed → size ≡ length decoder.rest → count ≡ min (33554432 - (decoder.stop + size)) (length piece) → taken ≡ take count piece
     → stage ≡ stage_with progress.stage (nat_lt (33554432 - (decoder.stop + size)) (length piece))
@@ -249,7 +251,7 @@ settles_here number fed piece old decoder before after progress kept taken size 
     let all : taken ≡ take (33554432 - (decoder.stop + size)) piece = part ∙ rw room (take_min (33554432 - (decoder.stop + size)) piece) in
     rw with (settles number fed piece decoder before after progress kept taken _ s (rw len at all) (rw len refl) feeds)
 
--- the decoder that is left stands for all bytes
+-- the decoder that is left represents all bytes
 module _ (number : ℕ) (base : List Frame) (fed bytes : List ℕ) (before after : List Frame) (old decoder : PcapValue) (stage : Stage) (next : Place) (rest kept : List ℕ)
     (view : decoder ≡ old) (stands : Stands number old fed) (h : Settles number base bytes before after stage next rest) where
   same_cpu : decoder.cpu ≡ number

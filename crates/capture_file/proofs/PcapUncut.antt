@@ -1,4 +1,4 @@
--- The damage of a pcap capture is no cut.
+-- The damage of a pcap capture is never a cut.
 use Rattle.std.proofs.Common.{◌≡◌, ℕ, Bool, true, false, List, length, drop, ◌%◌, ap}
 use Rattle.std.specs.Prelude.{◌≢◌, Option, None, Some, Result, Ok, Err, nat_lt, if◌then◌else◌, ◌==◌, ◌&&◌}
 use Rattle.capture_file.specs.Pcap.{begins_oversized, checked, counted, damage_behind, damage_of, header_of, number_at, stop_of}
@@ -11,7 +11,7 @@ chosen_link true true format field place e = cc
 chosen_link true false format field place e = cc
 chosen_link false b format field place e = cc
 
--- no header is a cut one
+-- the fault of a header is never a cut
 header_uncut : (format : Option Format) (bytes : List ℕ) (place : ℕ) → checked format bytes ≢ Err (Truncated place)
 header_uncut None bytes place e = cc
 header_uncut (Some format) bytes place e =

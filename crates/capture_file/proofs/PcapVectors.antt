@@ -1,5 +1,5 @@
--- The definitions, computed on captures and packets whose meaning is known from elsewhere: a check of the definitions
--- themselves, which no other proof rests on.
+-- The definitions, computed on captures and packets whose meaning is known from elsewhere: a check
+-- of the definitions themselves, which no other proof rests on.
 use Rattle.std.proofs.Common.{◌≡◌, ℕ, List, [], ◌∷◌, Some, None, Option, refl, take}
 use Rattle.frame_view.specs.declared.frames.Frame.{Frame}
 use Rattle.capture_file.specs.declared.error.CaptureError.{CaptureError}
@@ -30,22 +30,26 @@ little_nano = 77 ∷ 60 ∷ 178 ∷ 161 ∷ 2 ∷ 0 ∷ 4 ∷ 0 ∷ 0 ∷ 0 ∷ 
 big_nano : List ℕ
 big_nano = 161 ∷ 178 ∷ 60 ∷ 77 ∷ 0 ∷ 2 ∷ 0 ∷ 4 ∷ 0 ∷ 0 ∷ 0 ∷ 0 ∷ 0 ∷ 0 ∷ 0 ∷ 0 ∷ 0 ∷ 0 ∷ 255 ∷ 255 ∷ 0 ∷ 0 ∷ 0 ∷ 1 ∷ 0 ∷ 0 ∷ 0 ∷ 1 ∷ 0 ∷ 0 ∷ 7 ∷ 208 ∷ 0 ∷ 0 ∷ 0 ∷ 14 ∷ 0 ∷ 0 ∷ 0 ∷ 60 ∷ 255 ∷ 255 ∷ 255 ∷ 255 ∷ 255 ∷ 255 ∷ 2 ∷ 0 ∷ 0 ∷ 0 ∷ 0 ∷ 1 ∷ 8 ∷ 6 ∷ 0 ∷ 0 ∷ 0 ∷ 2 ∷ 59 ∷ 154 ∷ 198 ∷ 24 ∷ 0 ∷ 0 ∷ 0 ∷ 3 ∷ 0 ∷ 0 ∷ 0 ∷ 3 ∷ 9 ∷ 8 ∷ 7 ∷ 255 ∷ 255 ∷ 255 ∷ 255 ∷ 89 ∷ 104 ∷ 47 ∷ 0 ∷ 0 ∷ 0 ∷ 0 ∷ 16 ∷ 0 ∷ 0 ∷ 0 ∷ 4 ∷ 1 ∷ 2 ∷ 3 ∷ 4 ∷ 5 ∷ 6 ∷ 7 ∷ 8 ∷ 9 ∷ 10 ∷ 11 ∷ 12 ∷ 13 ∷ 14 ∷ 15 ∷ 16 ∷ []
 
--- three frames, the second a runt, the third with its fraction clamped and more captured than its length on the wire
+-- three frames, the second a runt, the third with its fraction clamped and more captured than its
+-- length on the wire
 means-little_micro : Means little_micro (record { cpu = 3; index = 0; sec = 1; nsec = 2000; wire = 60; bytes = 255 ∷ 255 ∷ 255 ∷ 255 ∷ 255 ∷ 255 ∷ 2 ∷ 0 ∷ 0 ∷ 0 ∷ 0 ∷ 1 ∷ 8 ∷ 6 ∷ []; tag = None } ∷ record { cpu = 3; index = 1; sec = 2; nsec = 999999000; wire = 3; bytes = 9 ∷ 8 ∷ 7 ∷ []; tag = None } ∷ record { cpu = 3; index = 2; sec = 4294967295; nsec = 999999999; wire = 16; bytes = 1 ∷ 2 ∷ 3 ∷ 4 ∷ 5 ∷ 6 ∷ 7 ∷ 8 ∷ 9 ∷ 10 ∷ 11 ∷ 12 ∷ 13 ∷ 14 ∷ 15 ∷ 16 ∷ []; tag = None } ∷ []) 105 None None
 unfolding frames_of damage_of end_of stop_of header_of number_at records_within records_in begins_whole begins_oversized frame_of_record little_micro
 means-little_micro = record { frames_are = refl; stop_is = refl; damage_is = refl; end_is = refl }
 
--- three frames, the second a runt, the third with its fraction clamped and more captured than its length on the wire
+-- three frames, the second a runt, the third with its fraction clamped and more captured than its
+-- length on the wire
 means-big_micro : Means big_micro (record { cpu = 3; index = 0; sec = 1; nsec = 2000; wire = 60; bytes = 255 ∷ 255 ∷ 255 ∷ 255 ∷ 255 ∷ 255 ∷ 2 ∷ 0 ∷ 0 ∷ 0 ∷ 0 ∷ 1 ∷ 8 ∷ 6 ∷ []; tag = None } ∷ record { cpu = 3; index = 1; sec = 2; nsec = 999999000; wire = 3; bytes = 9 ∷ 8 ∷ 7 ∷ []; tag = None } ∷ record { cpu = 3; index = 2; sec = 4294967295; nsec = 999999999; wire = 16; bytes = 1 ∷ 2 ∷ 3 ∷ 4 ∷ 5 ∷ 6 ∷ 7 ∷ 8 ∷ 9 ∷ 10 ∷ 11 ∷ 12 ∷ 13 ∷ 14 ∷ 15 ∷ 16 ∷ []; tag = None } ∷ []) 105 None None
 unfolding frames_of damage_of end_of stop_of header_of number_at records_within records_in begins_whole begins_oversized frame_of_record big_micro
 means-big_micro = record { frames_are = refl; stop_is = refl; damage_is = refl; end_is = refl }
 
--- three frames, the second a runt, the third with its fraction clamped and more captured than its length on the wire
+-- three frames, the second a runt, the third with its fraction clamped and more captured than its
+-- length on the wire
 means-little_nano : Means little_nano (record { cpu = 3; index = 0; sec = 1; nsec = 2000; wire = 60; bytes = 255 ∷ 255 ∷ 255 ∷ 255 ∷ 255 ∷ 255 ∷ 2 ∷ 0 ∷ 0 ∷ 0 ∷ 0 ∷ 1 ∷ 8 ∷ 6 ∷ []; tag = None } ∷ record { cpu = 3; index = 1; sec = 2; nsec = 999999000; wire = 3; bytes = 9 ∷ 8 ∷ 7 ∷ []; tag = None } ∷ record { cpu = 3; index = 2; sec = 4294967295; nsec = 999999999; wire = 16; bytes = 1 ∷ 2 ∷ 3 ∷ 4 ∷ 5 ∷ 6 ∷ 7 ∷ 8 ∷ 9 ∷ 10 ∷ 11 ∷ 12 ∷ 13 ∷ 14 ∷ 15 ∷ 16 ∷ []; tag = None } ∷ []) 105 None None
 unfolding frames_of damage_of end_of stop_of header_of number_at records_within records_in begins_whole begins_oversized frame_of_record little_nano
 means-little_nano = record { frames_are = refl; stop_is = refl; damage_is = refl; end_is = refl }
 
--- three frames, the second a runt, the third with its fraction clamped and more captured than its length on the wire
+-- three frames, the second a runt, the third with its fraction clamped and more captured than its
+-- length on the wire
 means-big_nano : Means big_nano (record { cpu = 3; index = 0; sec = 1; nsec = 2000; wire = 60; bytes = 255 ∷ 255 ∷ 255 ∷ 255 ∷ 255 ∷ 255 ∷ 2 ∷ 0 ∷ 0 ∷ 0 ∷ 0 ∷ 1 ∷ 8 ∷ 6 ∷ []; tag = None } ∷ record { cpu = 3; index = 1; sec = 2; nsec = 999999000; wire = 3; bytes = 9 ∷ 8 ∷ 7 ∷ []; tag = None } ∷ record { cpu = 3; index = 2; sec = 4294967295; nsec = 999999999; wire = 16; bytes = 1 ∷ 2 ∷ 3 ∷ 4 ∷ 5 ∷ 6 ∷ 7 ∷ 8 ∷ 9 ∷ 10 ∷ 11 ∷ 12 ∷ 13 ∷ 14 ∷ 15 ∷ 16 ∷ []; tag = None } ∷ []) 105 None None
 unfolding frames_of damage_of end_of stop_of header_of number_at records_within records_in begins_whole begins_oversized frame_of_record big_nano
 means-big_nano = record { frames_are = refl; stop_is = refl; damage_is = refl; end_is = refl }
@@ -139,7 +143,7 @@ writes_one : output_of (record { sec = 1; nsec = 2000; wire = 14; rxhash = 0; pr
 unfolding output_of record_text output_header four_bytes
 writes_one = refl
 
--- a tag that can't be put back counts in the original length alone
+-- a tag that can't be put back counts only in the original length
 writes_short_tagged : output_of (record { sec = 1; nsec = 2; wire = 60; rxhash = 0; protocol = 0; pkttype = 0; addr = []; bytes = 255 ∷ 255 ∷ 255 ∷ 255 ∷ 255 ∷ 255 ∷ 2 ∷ 0 ∷ []; tag = Some (record { tpid = 33024; tci = 291 }) } ∷ []) ≡ 77 ∷ 60 ∷ 178 ∷ 161 ∷ 2 ∷ 0 ∷ 4 ∷ 0 ∷ 0 ∷ 0 ∷ 0 ∷ 0 ∷ 0 ∷ 0 ∷ 0 ∷ 0 ∷ 0 ∷ 0 ∷ 4 ∷ 0 ∷ 1 ∷ 0 ∷ 0 ∷ 0 ∷ 1 ∷ 0 ∷ 0 ∷ 0 ∷ 2 ∷ 0 ∷ 0 ∷ 0 ∷ 8 ∷ 0 ∷ 0 ∷ 0 ∷ 64 ∷ 0 ∷ 0 ∷ 0 ∷ 255 ∷ 255 ∷ 255 ∷ 255 ∷ 255 ∷ 255 ∷ 2 ∷ 0 ∷ []
 unfolding output_of record_text output_header four_bytes
 writes_short_tagged = refl
@@ -149,7 +153,7 @@ writes_tagged : output_of (record { sec = 1; nsec = 2; wire = 60; rxhash = 0; pr
 unfolding output_of record_text output_header four_bytes
 writes_tagged = refl
 
--- the original length goes as far as its field
+-- the original length is capped by its field
 writes_capped : output_of (record { sec = 1; nsec = 2; wire = 4294967292; rxhash = 0; protocol = 0; pkttype = 0; addr = []; bytes = 255 ∷ 255 ∷ 255 ∷ 255 ∷ 255 ∷ 255 ∷ 2 ∷ 0 ∷ 0 ∷ 0 ∷ 0 ∷ 1 ∷ 8 ∷ 6 ∷ []; tag = Some (record { tpid = 33024; tci = 291 }) } ∷ []) ≡ 77 ∷ 60 ∷ 178 ∷ 161 ∷ 2 ∷ 0 ∷ 4 ∷ 0 ∷ 0 ∷ 0 ∷ 0 ∷ 0 ∷ 0 ∷ 0 ∷ 0 ∷ 0 ∷ 0 ∷ 0 ∷ 4 ∷ 0 ∷ 1 ∷ 0 ∷ 0 ∷ 0 ∷ 1 ∷ 0 ∷ 0 ∷ 0 ∷ 2 ∷ 0 ∷ 0 ∷ 0 ∷ 18 ∷ 0 ∷ 0 ∷ 0 ∷ 255 ∷ 255 ∷ 255 ∷ 255 ∷ 255 ∷ 255 ∷ 255 ∷ 255 ∷ 255 ∷ 255 ∷ 2 ∷ 0 ∷ 0 ∷ 0 ∷ 0 ∷ 1 ∷ 129 ∷ 0 ∷ 1 ∷ 35 ∷ 8 ∷ 6 ∷ []
 unfolding output_of record_text output_header four_bytes
 writes_capped = refl

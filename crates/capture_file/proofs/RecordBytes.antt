@@ -1,4 +1,4 @@
--- The bytes of a record, of which the four numbers at its start are written at once.
+-- The bytes of a record, whose first four numbers are written at once.
 use Rattle.std.proofs.Common.{◌≡◌, ℕ, List, [], ◌∷◌, ◌++◌, ap, ◌∙◌, append_assoc}
 use Rattle.std.specs.List.{flat_map}
 

@@ -1,4 +1,4 @@
--- Splitting bytes into records, one record after the other and piece after piece.
+-- Splitting bytes into records, record by record and piece by piece.
 use Rattle.std.proofs.Common.{◌≡◌, ℕ, zero, suc, ◌+◌, ◌*◌, ◌-◌, ◌≤◌, ◌<◌, true, false, List, [], ◌∷◌, ◌++◌, length, take, drop, refl, sym, ap, ◌∙◌, inl, inr, arith, append_assoc, add-zero}
 use Rattle.std.specs.Prelude.{Option, None, Some}
 use Rattle.std.specs.Option.{option_or}
@@ -16,7 +16,7 @@ use Rattle.capture_file.specs.Reading.{Reached, left_in, place_behind, read_from
 
 -- ---- numbers
 
--- a number doesn't see what comes after it
+-- a number doesn't depend on what comes after it
 pub number_at-append : (order : Order) (n at : ℕ) (xs ys : List ℕ) → at + n ≤ length xs → number_at order n at (xs ++ ys) ≡ number_at order n at xs
 unfolding number_at
 number_at-append Little n at xs ys h =
@@ -34,7 +34,7 @@ checked-append (Some format) xs ys h =
     let link = number_at-append format.order 4 20 xs ys (omega arith) in
     rw (major, minor, link) refl
 
--- a header doesn't see what comes after it
+-- a header doesn't depend on what comes after it
 pub header_of-append : (xs ys : List ℕ) → 24 ≤ length xs → header_of (xs ++ ys) ≡ header_of xs
 unfolding header_of
 header_of-append xs ys h =
@@ -113,7 +113,7 @@ whole_not_oversized order bytes w =
 
 -- ---- the split
 
--- more room than bytes changes nothing
+-- a bound above the number of bytes changes nothing
 within_enough : (order : Order) (m n : ℕ) (bytes : List ℕ) → length bytes ≤ m → length bytes ≤ n → records_within m order bytes ≡ records_within n order bytes
 unfolding records_within
 within_enough order zero zero bytes hm hn = refl
@@ -199,9 +199,9 @@ read_from-step cpu format next frames bytes w =
     let all = append_assoc frames (frame_of_record cpu format next.index first ∷ []) (frames_from cpu format (next.index + 1) rest) in
     rw (records_in-step format.order bytes w, left_in-step format.order bytes w, stop, index, all) refl
 
--- ---- what holds of a whole reading, by going over its records
+-- ---- what holds of a whole reading, record by record
 
--- where reading came to accounts for each byte, and each record has at least 16
+-- the place where reading stopped accounts for each byte, and each record has at least 16
 pub record Accounts (order : Order) (next : Place) (bytes : List ℕ) (reached : Reached) : Type 0 where
   pub stop : reached.next.stop + length reached.left ≡ next.stop + length bytes
   pub count : 16 * reached.next.index + next.stop ≤ reached.next.stop + 16 * next.index
@@ -233,7 +233,7 @@ accounts_within (suc most) cpu format next frames bytes h =
 pub accounts : (cpu : ℕ) (format : Format) (next : Place) (frames : List Frame) (bytes : List ℕ) → Accounts format.order next bytes (read_from cpu format next frames bytes)
 accounts cpu format next frames bytes = accounts_within (length bytes) cpu format next frames bytes (omega arith)
 
--- more bytes are read from where reading came to
+-- more bytes are read from where reading stopped
 append_within : (most cpu : ℕ) (format : Format) (next : Place) (frames : List Frame) (xs ys : List ℕ) → length xs ≤ most
     → read_from cpu format next frames (xs ++ ys)
     ≡ read_from cpu format (read_from cpu format next frames xs).next (read_from cpu format next frames xs).frames ((read_from cpu format next frames xs).left ++ ys)
@@ -260,7 +260,7 @@ pub read_from-append : (cpu : ℕ) (format : Format) (next : Place) (frames : Li
     ≡ read_from cpu format (read_from cpu format next frames xs).next (read_from cpu format next frames xs).frames ((read_from cpu format next frames xs).left ++ ys)
 read_from-append cpu format next frames xs ys = append_within (length xs) cpu format next frames xs ys (omega arith)
 
--- the frames so far stay at the start, whatever they are
+-- the frames so far stay at the start, whatever comes after them
 pub read_from-frames : (cpu : ℕ) (format : Format) (next : Place) (frames : List Frame) (bytes : List ℕ)
     → read_from cpu format next frames bytes
     ≡ record (read_from cpu format next [] bytes) { frames = frames ++ (read_from cpu format next [] bytes).frames }

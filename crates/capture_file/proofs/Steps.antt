@@ -19,7 +19,7 @@ use Rattle.capture_file.proofs.Records.{number_at-append, header_of-append, whol
 
 -- ---- completing
 
--- what was appended and what is left are the piece
+-- what was appended and what is left make up the piece
 topped : (n : ℕ) (old piece : List ℕ) → (old ++ take n piece) ++ drop n piece ≡ old ++ piece
 topped n old piece = append_assoc old (take n piece) (drop n piece) ∙ ap (λ (xs : List ℕ). old ++ xs) (take-append-drop n piece)
 
@@ -97,7 +97,7 @@ completes_record order old new piece behind last fresh part n b header small l f
           ];
     }
 
--- the same of an answer that may be an error
+-- the same for an answer that may be an error
 pub completes_record_if : {X E : Type 0} (order : Order) (old new piece behind last : List ℕ) (now : X → List ℕ) (result : Result X E) → IsPart order old
     → new ≡ old ++ take (16 - length old) piece → behind ≡ drop (16 - length old) piece → 16 ≤ length new → captured order new ≤ 262144
     → OnOk result (last ≡ new ++ take (record_size order new - length new) behind)
@@ -158,7 +158,7 @@ comes_unread cpu format next frames bytes kept progress appended not at all cut 
       left = λ under. rw cut (same under);
     })
 
--- what was read after the kept bytes is what all of them give
+-- what was read after the kept bytes is what all bytes together give
 module _ (cpu : ℕ) (format : Format) (next : Place) (frames : List Frame) (old piece new fresh : List ℕ) (progress : Progress) (kept : List ℕ) (appended : List Frame) where
   -- the piece was too short to complete a record
   comes_used : Completes format.order old new piece fresh → begins_whole format.order new ≡ false → fresh ≡ []
@@ -240,7 +240,7 @@ module _ (cpu : ℕ) (format : Format) (next : Place) (frames : List Frame) (old
             comes_part done not (rw (at, all, cut) at read)
       ]
 
--- the same of an answer that may be an error
+-- the same for an answer that may be an error
 pub comes_if : {E : Type 0} (cpu : ℕ) (format : Format) (next : Place) (frames : List Frame) (old piece new fresh : List ℕ) (kept : List ℕ) (appended : List Frame)
     (then : Place) (more : List Frame) (part view : List ℕ) (cut : ℕ) (result : Result Progress E) → Completes format.order old new piece fresh
     → view ≡ new → record { next = then; frames = more; left = part } ≡ read_from cpu format next frames view
@@ -252,7 +252,7 @@ comes_if cpu format next frames old piece new fresh kept appended then more part
 
 -- ---- beginning
 
--- a header is gathered, of which `kept` has the 24 bytes
+-- a header is collected, and `kept` has its 24 bytes
 module _ (old piece kept behind view : List ℕ) (taken : kept ≡ old ++ take (24 - length old) piece) (left : behind ≡ drop (24 - length old) piece)
     (seen : view ≡ kept) (short : length old < 24) (full : 24 ≤ length kept) where
   header_whole : kept ++ behind ≡ old ++ piece
@@ -315,7 +315,7 @@ checked_not_memory (Some format) bytes damage e m =
       | inr version ↦ let f = rw version at e in absurd cc
     ]
 
--- a header is never refused for lack of memory
+-- a header is never refused because memory ran out
 pub header_not_memory : (bytes : List ℕ) (damage : CaptureError) → header_of bytes ≡ Err damage → damage ≢ Memory
 unfolding header_of
 header_not_memory bytes damage e = checked_not_memory (option_or (format_in Little bytes) (format_in Big bytes)) bytes damage e

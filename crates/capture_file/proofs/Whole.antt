@@ -23,7 +23,7 @@ counted-append xs ys =
           take-append-le 33554432 xs ys beyond ∙ rw none (sym (append-nil (counted xs)))
     ]
 
--- where reading came in a whole capture
+-- where reading stopped in a whole capture
 abbrev pub all_of : ℕ → List ℕ → Reached
 all_of number bytes = record {
   next = record { stop = stop_of bytes; index = length (frames_of number bytes) };

@@ -1,5 +1,5 @@
--- What a capture says, over the whole list of its bytes: pcapng where it begins with the type of a
--- section header, else pcap.
+-- What a capture says, over the whole list of its bytes: pcapng if it begins with the type of a
+-- section header, otherwise pcap.
 use Rattle.std.specs.Prelude.{ℕ, Bool, not, ◌&&◌, nat_lt, if◌then◌else◌, bytes_eq, List, [], ◌∷◌}
 use Rattle.std.specs.Prelude.{length, take, Option, None, Some, option_map}
 use Rattle.std.specs.Option.{option_or}
@@ -14,7 +14,7 @@ use Rattle.capture_file.specs.declared.error.CaptureError.TheVariants.{BadLink, 
 use Rattle.capture_file.specs.declared.error.CaptureError.TheVariants.{BadInterface, Truncated}
 use Rattle.capture_file.specs.declared.error.CaptureError.TheVariants.{TooLarge}
 
--- the first four bytes are the type of a section header, which reads alike in either byte order
+-- the first four bytes are the type of a section header, which reads the same in either byte order
 unfoldable pub is_pcapng : List ℕ → Bool
 is_pcapng bytes = bytes_eq (take 4 bytes) (0x0a ∷ 0x0d ∷ 0x0d ∷ 0x0a ∷ [])
 
@@ -42,7 +42,7 @@ unfoldable pub damage_of : List ℕ → Option CaptureError
 damage_of bytes =
     if is_pcapng bytes then option_map error_from (pcapng.damage_of bytes) else pcap.damage_of bytes
 
--- the bytes from the stop on are those of a pcapng block that is skipped, which is headed there
+-- the bytes from the stop on are those of a pcapng block that is skipped, whose head is there
 unfoldable pub is_skipping : List ℕ → Bool
 is_skipping bytes = is_pcapng bytes && pcapng.is_skipping bytes
 
@@ -57,6 +57,6 @@ cut_of bytes =
     else if nat_lt (stop_of bytes) (length bytes) then Some (Truncated (stop_of bytes))
     else None
 
--- how a capture ends: its damage, else the place where it is cut, else nothing
+-- how a capture ends: its damage, otherwise the place where it is cut, otherwise nothing
 unfoldable pub end_of : List ℕ → Option CaptureError
 end_of bytes = option_or (damage_of bytes) (cut_of bytes)

@@ -1,4 +1,4 @@
--- What a decoder stands for: the bytes that it was fed.
+-- What a decoder represents: the bytes that it was fed.
 use Rattle.std.specs.Result.{result_err}
 use Rattle.std.specs.Prelude.{◌≡◌, ℕ, ◌+◌, ◌≤◌, ◌<◌, IsTrue, IsSome, Bool, true, false}
 use Rattle.std.specs.Prelude.{if◌then◌else◌, List, [], ◌++◌, length, Option, None, Some, option_map}
@@ -39,12 +39,12 @@ abbrev pub reads_blocks : FormatDecoder → Bool
 reads_blocks (Pcap decoder) = false
 reads_blocks (Pcapng decoder) = true
 
--- the decoder stands for the bytes that it was fed
+-- the decoder represents the bytes that it was fed
 abbrev pub StandsAs : ℕ → FormatDecoder → List ℕ → Type 0
 StandsAs cpu (Pcap decoder) fed = records.Stands cpu decoder fed
 StandsAs cpu (Pcapng decoder) fed = blocks.Stands cpu decoder fed
 
--- a feed of a decoder that stood for these bytes: it stands for the piece too, and its frames and
+-- a feed of a decoder that represented these bytes: it represents the piece too, and its frames and
 -- its damage are reported
 pub record FeedsAs (old : FormatDecoder) (piece : List ℕ) (damage : Option CaptureError)
     (new : FormatDecoder) (before after : List Frame) (cpu : ℕ) (fed : List ℕ) : Type 0 where
@@ -84,7 +84,7 @@ pub record IsBegun (cpu : ℕ) (first rest : List ℕ) (decoder : FormatDecoder)
 
 -- ---- a decoder of either format
 
--- A decoder: its CPU, the first bytes while they don't say the format, and the decoder of the
+-- A decoder: its CPU, the first bytes while they don't say the format yet, and the decoder of the
 -- format
 pub record DecoderValue : Type 0 where
   pub cpu : ℕ
@@ -98,7 +98,7 @@ pub record IsSound (d : Inside) : Type 0 where
   pub few : length d.start.items < 4
 
 -- the bytes that were fed are the first ones, fewer than four, or the decoder of their format
--- stands for them
+-- represents them
 abbrev pub StandsBy : ℕ → List ℕ → Option FormatDecoder → List ℕ → Type 0
 StandsBy number start None fed = (start ≡ fed) × (length fed < 4)
 StandsBy number start (Some decoder) fed =
@@ -107,7 +107,7 @@ StandsBy number start (Some decoder) fed =
     × (reads_blocks decoder ≡ is_pcapng fed)
     × StandsAs number decoder fed
 
--- the decoder stands for the bytes that it was fed
+-- the decoder represents the bytes that it was fed
 pub record Stands (number : ℕ) (decoder : DecoderValue) (fed : List ℕ) : Type 0 where
   pub cpu : decoder.cpu ≡ number
   pub told : StandsBy number decoder.start decoder.format fed
@@ -131,7 +131,7 @@ abbrev pub UnlessMemory : {X : Type 0} → Result X CaptureError → Type 0 → 
 UnlessMemory (Ok x) P = P
 UnlessMemory (Err error) P = UnlessWanted error P
 
--- what stood for some bytes before a feed stands for them and the piece after it
+-- what represented some bytes before a feed represents them and the piece after it
 abbrev pub StandsOn : DecoderValue → DecoderValue → List ℕ → Type 0
 StandsOn old new piece =
     (cpu : ℕ) (fed : List ℕ) → Stands cpu old fed → Stands cpu new (fed ++ piece)
@@ -144,12 +144,12 @@ AppendsNew decoder piece before after =
     × (after ≡ before ++ more)
     × (frames_of cpu (fed ++ piece) ≡ frames_of cpu fed ++ more)
 
--- the damage is that of all bytes that were fed, the piece with them
+-- the damage is that of all bytes that were fed, the piece included
 abbrev pub IsDamage : DecoderValue → List ℕ → Option CaptureError → Type 0
 IsDamage decoder piece damage =
     (cpu : ℕ) (fed : List ℕ) → Stands cpu decoder fed → damage ≡ damage_of (fed ++ piece)
 
--- a feed answered the damage of all bytes that were fed, the piece with them
+-- a feed returned the damage of all bytes that were fed, the piece included
 abbrev pub AnswersDamage : {X : Type 0} → DecoderValue → List ℕ → Result X CaptureError → Type 0
 AnswersDamage decoder piece answer =
     (cpu : ℕ) (fed : List ℕ) → Stands cpu decoder fed → result_err answer ≡ damage_of (fed ++ piece)

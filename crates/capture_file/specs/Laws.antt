@@ -11,13 +11,13 @@ pub record IsNumbered (number index : ℕ) (frame : Frame) : Type 0 where
   pub place : frame.index ≡ index
   pub tag : frame.tag ≡ None
 
--- a time within its second, and no more bytes than were on the wire, nor more than 262,144
+-- a fraction below a second, and no more bytes than were on the wire and than 262,144
 pub record IsCaptured (frame : Frame) : Type 0 where
   pub nsec : frame.nsec ≤ 999999999
   pub wire : length frame.bytes ≤ frame.wire
   pub few : length frame.bytes ≤ 262144
 
--- each number is one of 32 bits, and each byte a byte
+-- each number has 32 bits, and each byte is a byte
 pub record FitsFrame (frame : Frame) : Type 0 where
   pub cpu : frame.cpu < 2 ^ 32
   pub index : frame.index < 2 ^ 32
@@ -33,8 +33,7 @@ pub record IsWritable (packet : Packet) : Type 0 where
   pub wire : packet.wire ≤ 4294967291
   pub frame : length (frame_of packet) ≤ 262144
 
--- the frames that stand for packets, numbered from `index`: their times, their original lengths and
--- their frames
+-- the frames of packets, numbered from `index`, with their times and original lengths
 abbrev pub frames_back : ℕ → ℕ → List Packet → List Frame
 frames_back cpu index [] = []
 frames_back cpu index (packet ∷ packets) =

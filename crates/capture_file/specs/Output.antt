@@ -23,7 +23,7 @@ abbrev pub tag_size : Option Tag → ℕ
 tag_size None = 0
 tag_size (Some tag) = 4
 
--- the length on the wire with the tag, as far as the field goes
+-- the length on the wire with the tag, capped by the field
 abbrev pub original : Packet → ℕ
 original packet = min (packet.wire + tag_size packet.tag) 4294967295
 

@@ -25,12 +25,12 @@ abbrev pub unit_of : ℕ → Option ℕ
 unit_of magic =
     if magic == 0xa1b2c3d4 then Some 1000 else if magic == 0xa1b23c4d then Some 1 else None
 
--- the format where the magic stands in this byte order
+-- the format of a magic number that is in this byte order
 abbrev pub format_in : Order → List ℕ → Option Format
 format_in order bytes =
     option_map (λ unit. record { order = order; unit = unit }) (unit_of (number_at order 4 0 bytes))
 
--- the version is 2.4, and the low 16 bits of the link field say Ethernet
+-- the version is 2.4, and the low 16 bits of the link field mean Ethernet
 abbrev pub checked : Option Format → List ℕ → Result Format CaptureError
 checked None bytes = Err BadMagic
 checked (Some format) bytes =
@@ -62,7 +62,7 @@ begins_whole order bytes =
 unfoldable pub begins_oversized : Order → List ℕ → Bool
 begins_oversized order bytes = nat_le 16 (length bytes) && nat_lt 262144 (captured order bytes)
 
--- the whole records at the start, at most so many
+-- the whole records at the start, at most n
 unfoldable pub records_within : ℕ → Order → List ℕ → List (List ℕ)
 records_within zero order bytes = []
 records_within (suc most) order bytes =
@@ -93,7 +93,7 @@ frames_from cpu format index [] = []
 frames_from cpu format index (bytes ∷ records) =
     frame_of_record cpu format index bytes ∷ frames_from cpu format (index + 1) records
 
--- the bytes that count: no more than the first 33,554,432
+-- the bytes that count: at most the first 33,554,432
 abbrev pub counted : List ℕ → List ℕ
 counted bytes = take 33554432 bytes
 
@@ -120,7 +120,7 @@ stop_behind (Ok format) bytes = 24 + length (concat (records_behind (Ok format) 
 unfoldable pub stop_of : List ℕ → ℕ
 stop_of bytes = if nat_lt (length bytes) 24 then 0 else stop_behind (header_of bytes) bytes
 
--- an oversized record at the stop; else more bytes than count
+-- an oversized record at the stop; otherwise that there are more bytes than count
 abbrev pub damage_behind : Result Format CaptureError → ℕ → List ℕ → Option CaptureError
 damage_behind (Err damage) stop bytes = Some damage
 damage_behind (Ok format) stop bytes =
@@ -139,6 +139,6 @@ cut_of bytes =
     else if nat_lt (stop_of bytes) (length bytes) then Some (Truncated (stop_of bytes))
     else None
 
--- how a capture ends: its damage, else the place where it is cut, else nothing
+-- how a capture ends: its damage, otherwise the place where it is cut, otherwise nothing
 unfoldable pub end_of : List ℕ → Option CaptureError
 end_of bytes = option_or (damage_of bytes) (cut_of bytes)

@@ -1,4 +1,4 @@
--- What a decoder of pcap stands for: the bytes that it was fed.
+-- What a decoder of pcap represents: the bytes that it was fed.
 use Rattle.std.specs.Result.{result_err}
 use Rattle.std.specs.Prelude.{◌≡◌, ℕ, nat_lt, if◌then◌else◌, List, [], ◌++◌, length, drop, Option}
 use Rattle.std.specs.Prelude.{None, Some, Result, Ok, Err}
@@ -53,7 +53,7 @@ kept_by None bytes = drop (stop_of bytes) bytes
 abbrev pub kept_of : List ℕ → List ℕ
 kept_of bytes = kept_by (damage_of bytes) bytes
 
--- the decoder stands for the bytes that it was fed
+-- the decoder represents the bytes that it was fed
 pub record Stands (number : ℕ) (decoder : PcapValue) (fed : List ℕ) : Type 0 where
   pub cpu : decoder.cpu ≡ number
   pub stage : decoder.stage ≡ stage_of fed
@@ -61,7 +61,7 @@ pub record Stands (number : ℕ) (decoder : PcapValue) (fed : List ℕ) : Type 0
   pub index : decoder.index ≡ length (frames_of number fed)
   pub rest : decoder.rest ≡ kept_of fed
 
--- what stood for some bytes before a feed stands for them and the piece after it
+-- what represented some bytes before a feed represents them and the piece after it
 abbrev pub StandsOn : PcapValue → PcapValue → List ℕ → Type 0
 StandsOn old new piece =
     (cpu : ℕ) (fed : List ℕ) → Stands cpu old fed → Stands cpu new (fed ++ piece)
@@ -74,7 +74,7 @@ AppendsNew decoder piece before after =
     × (after ≡ before ++ more)
     × (frames_of cpu (fed ++ piece) ≡ frames_of cpu fed ++ more)
 
--- a feed answered the damage of all bytes that were fed, the piece with them
+-- a feed returned the damage of all bytes that were fed, the piece included
 abbrev pub IsDamage : PcapValue → List ℕ → Option CaptureError → Type 0
 IsDamage decoder piece damage =
     (cpu : ℕ) (fed : List ℕ) → Stands cpu decoder fed → damage ≡ damage_of (fed ++ piece)

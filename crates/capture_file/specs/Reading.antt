@@ -1,4 +1,4 @@
--- What reading bytes that follow a capture's header gives, for the steps of a feed.
+-- The outcome of reading bytes after a capture's header, for the steps of a feed.
 use Rattle.std.specs.Prelude.{◌≡◌, ◌≢◌, ℕ, ◌+◌, ◌*◌, ◌≤◌, ◌<◌, Option, None, Some, Bool, true}
 use Rattle.std.specs.Prelude.{false, nat_lt, if◌then◌else◌, MatchBool, ◌⊎◌, List, [], ◌++◌, length}
 use Rattle.std.specs.Prelude.{take, drop, Result, Ok, Err}
@@ -16,7 +16,7 @@ use Rattle.capture_file.specs.declared.stage.Stage.TheVariants.{Header, Records,
 use Rattle.capture_file.specs.Pcap.{header_of, begins_whole, begins_oversized, record_size}
 use Rattle.capture_file.specs.Pcap.{records_in, frames_from}
 
--- where reading came to: the place, the frames so far, and the bytes from that place on
+-- where reading stopped: the place, the frames so far, and the bytes from that place on
 pub record Reached : Type 0 where
   pub next : Place
   pub frames : List Frame
@@ -47,7 +47,7 @@ read_from cpu format next frames bytes = record {
   left = left_in format.order bytes;
 }
 
--- what comes next at a place where these bytes stand: damage where they begin an oversized record
+-- what comes next at the place of these bytes: damage where they begin an oversized record
 unfoldable pub stage_at : Format → ℕ → List ℕ → Stage
 stage_at format stop left =
     if begins_oversized format.order left then Damaged (BadLength stop) else Records format
@@ -59,13 +59,13 @@ pub record IsPart (order : Order) (bytes : List ℕ) : Type 0 where
 
 -- the kept bytes were completed from the piece, of which `fresh` is left
 pub record Completes (order : Order) (old new piece fresh : List ℕ) : Type 0 where
-  -- they are the prefix of the old ones and the piece
+  -- they are a prefix of the old ones followed by the piece
   pub front : new ++ drop (length new) (old ++ piece) ≡ old ++ piece
   -- nothing is lost, unless an oversized record ends the reading
   pub rest : begins_oversized order new ≡ false → new ++ fresh ≡ old ++ piece
-  -- a whole record has no byte more
+  -- a whole record has exactly its own bytes
   pub whole : begins_whole order new ≡ true → record_size order new ≡ length new
-  -- while there is a part of a record, the piece is used up
+  -- if only a part of a record is there, the piece is used up
   pub part : begins_whole order new ≡ false → (fresh ≡ []) ⊎ (new ≡ [])
 
 -- fresh bytes were read after kept ones, of which the first `read` had been read before
@@ -77,7 +77,7 @@ pub record IsRead (format : Format) (reached : Reached) (read : ℕ) (old : List
   pub stage : progress.stage ≡ stage_at format reached.next.stop (drop read new)
   pub cut : progress.cut ≡ read
 
--- a feed came to where reading came, with these bytes kept and these frames
+-- a feed stopped where reading stopped, with these bytes kept and these frames
 pub record Comes (format : Format) (reached : Reached) (progress : Progress) (kept : List ℕ)
     (appended : List Frame) : Type 0 where
   pub next : progress.next ≡ reached.next
@@ -94,7 +94,7 @@ start = record { stop = 0; index = 0 }
 abbrev pub first_place : Place
 first_place = record { stop = 24; index = 0 }
 
--- a feed came to the end of a whole header
+-- a feed has read a whole header
 abbrev pub ComesBehind :
     ℕ → Result Format CaptureError → List ℕ → Progress → List ℕ → List Frame → List Frame → Type 0
 ComesBehind cpu (Err damage) bytes progress kept old new =
@@ -102,7 +102,7 @@ ComesBehind cpu (Err damage) bytes progress kept old new =
 ComesBehind cpu (Ok format) bytes progress kept old new =
     Comes format (read_from cpu format first_place old (drop 24 bytes)) progress kept new
 
--- a feed came to these bytes, which are all that was fed
+-- a feed has these bytes, which are all that was fed
 abbrev pub Begins : ℕ → List ℕ → Progress → List ℕ → List Frame → List Frame → Type 0
 Begins cpu bytes progress kept old new =
     MatchBool (nat_lt (length bytes) 24)
@@ -115,26 +115,26 @@ error_of Header = None
 error_of (Records format) = None
 error_of (Damaged damage) = Some damage
 
--- the stage where bytes were fed that are beyond those that count
+-- the stage, given that bytes beyond those that count were fed
 abbrev pub stage_with : Stage → Bool → Stage
 stage_with Header beyond = if beyond then Damaged TooLarge else Header
 stage_with (Records format) beyond = if beyond then Damaged TooLarge else Records format
 stage_with (Damaged damage) beyond = Damaged damage
 
--- how a capture ends at a stage, where its last whole record ends at `stop`, and no byte is after
--- it or some
+-- how a capture ends at a stage, where its last whole record ends at `stop`, given whether bytes
+-- follow it
 abbrev pub end_at : Stage → ℕ → Bool → Option CaptureError
 end_at Header stop none_behind = Some (Truncated stop)
 end_at (Records format) stop none_behind = if none_behind then None else Some (Truncated stop)
 end_at (Damaged damage) stop none_behind = Some damage
 
--- the bytes that a decoder at a stage may keep, of these
+-- which of these bytes a decoder at a stage may keep
 abbrev pub kept_at : Stage → List ℕ → List ℕ
 kept_at Header bytes = bytes
 kept_at (Records format) bytes = bytes
 kept_at (Damaged damage) bytes = []
 
--- the kept bytes are no whole header, or no whole record; the damage is never `Memory`
+-- the kept bytes aren't a whole header, or aren't a whole record; the damage is never `Memory`
 abbrev pub IsSoundStage : Stage → List ℕ → Type 0
 IsSoundStage Header bytes = length bytes < 24
 IsSoundStage (Records format) bytes = IsPart format.order bytes
@@ -146,7 +146,7 @@ pub record IsSoundAt (stage : Stage) (next : Place) (bytes : List ℕ) : Type 0 
   pub count : 16 * next.index ≤ next.stop
   pub told : IsSoundStage stage bytes
 
--- what a feed of bytes at a stage came to
+-- the outcome of a feed of bytes at a stage
 abbrev pub Feeds : ℕ → Stage → Place → List ℕ → Progress → List ℕ → List Frame → List Frame → Type 0
 Feeds cpu Header next bytes progress kept old new = Begins cpu bytes progress kept old new
 Feeds cpu (Records format) next bytes progress kept old new =

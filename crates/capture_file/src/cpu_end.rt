@@ -6,8 +6,8 @@ use crate::CaptureError;
 pub enum CpuEnd {
     /// The capture was read to its end, and is whole.
     Whole,
-    /// The capture couldn't be had, or reading it failed.
+    /// The capture couldn't be fetched, or reading it failed.
     Fault,
-    /// What was read is damaged, or is cut.
+    /// What was read is damaged, or cut.
     Damaged(CaptureError),
 }

@@ -1,7 +1,7 @@
 //! A capture that comes in pieces.
 //!
-//! The first four bytes are gathered: they say the format, whose decoder is fed them and all that
-//! comes after them.
+//! The first four bytes are collected: they say the format, whose decoder is fed them and
+//! everything after them.
 ghost use Rattle.std.specs.Prelude.{◌≡◌, ◌≢◌, ◌≤◌, [], length, take, None, Some, IfOk, OnErr};
 ghost use Rattle.std.specs.Prelude.{IsErrOf, Err};
 ghost use Rattle.capture_file.specs.Decoding.{IsBegun};
@@ -17,15 +17,15 @@ use std::marker::Model;
 const MAGIC_SIZE: usize = 4;
 
 /// Reads a capture, pcap of version 2.4 or pcapng, that is fed piece by piece, however it is cut.
-/// That no more than the first 33,554,432 bytes count, and no more than 262,144 bytes of a packet,
-/// is this project's own choice.
+/// The limits are this project's own choice: the first 33,554,432 bytes count, and a packet may
+/// have 262,144.
 #[derive(Debug, Drop)]
 pub struct Decoder {
     /// Gives the memory for the frames.
     alloc: Global,
-    /// The number that its frames carry.
+    /// The CPU number that its frames carry.
     cpu: u32,
-    /// The first bytes, as long as there are fewer than four.
+    /// The first bytes, while there are fewer than four.
     start: Vec<u8>,
     /// The decoder of the format that the first four bytes said.
     format: Option<FormatDecoder>,
@@ -64,10 +64,10 @@ impl Decoder {
     /// same error and appends nothing. After `Memory` the decoder and `into` are as before the
     /// call.
     pub fn feed(&mut self, piece: &[u8], into: &mut Frames) -> Result<(), CaptureError>
-        // The decoder stands for all bytes that it was fed.
+        // The decoder represents all bytes that it was fed.
         ensures stands { UnlessMemory result (StandsOn self.old self.new piece.now) }
 
-        // The frames that are new are appended, and no others.
+        // Exactly the new frames are appended.
         ensures frames { UnlessMemory result (AppendsNew self.old piece.now into.old into.new) }
 
         // The error is the damage of all bytes that were fed, and comes exactly where there is one.
@@ -83,7 +83,7 @@ impl Decoder {
         }
     }
 
-    /// Takes the next bytes, and gives the damage, if there is any.
+    /// Takes the next bytes, and returns the damage, if there is any.
     fn read_on(&mut self, piece: &[u8], into: &mut Frames) -> Result<Option<CaptureError>, Memory>
         ensures stands { IfOk result (λ damage. StandsOn self.old self.new piece.now) }
         ensures frames { IfOk result (λ damage.
@@ -99,7 +99,7 @@ impl Decoder {
         }
     }
 
-    /// Gathers the first four bytes, and reads on in the format that they say.
+    /// Collects the first four bytes, and reads on in the format that they say.
     fn begin(&mut self, piece: &[u8], into: &mut Frames) -> Result<Option<CaptureError>, Memory>
         requires { self.old.format ≡ None }
         ensures stands { IfOk result (λ damage. StandsOn self.old self.new piece.now) }
@@ -127,8 +127,8 @@ impl Decoder {
         Ok(damage)
     }
 
-    /// How the capture ends where nothing more comes: its damage, or `Truncated` with the place of
-    /// the header, record or block that isn't whole. It takes no memory and is never `Memory`.
+    /// How the capture ends if nothing more comes: its damage, or `Truncated` with the place of the
+    /// header, record or block that isn't whole. It takes no memory and is never `Memory`.
     pub fn end(&self) -> Result<(), CaptureError>
         ensures end { AnswersEnd self.now result }
         ensures memory { result ≢ Err CaptureError.Memory }

@@ -6,24 +6,24 @@ use frame_view::Memory;
 use pcapng_blocks::BlockError;
 use std::alloc::{AllocError, AllocFailed};
 
-/// What is wrong with a capture, each place counted in bytes from its start, or that memory ran
+/// What is wrong with a capture, each place counted in bytes from its start; or that memory ran
 /// out.
 #[derive(Clone, Copy, Debug, PartialEq, Eq)]
 pub enum CaptureError {
-    /// The magic is none of pcap's four, or a pcapng section's byte-order magic is 0x1a2b3c4d in
-    /// neither byte order.
+    /// The magic isn't one of pcap's four, or a pcapng section's byte-order magic isn't 0x1a2b3c4d
+    /// in either byte order.
     BadMagic,
     /// The version isn't pcap's 2.4, or a pcapng section's major version isn't 1.
     BadVersion,
     /// The link type isn't Ethernet; the whole link field of pcap, or an interface's link type.
     BadLink(u32),
-    /// A length that a record or block may not have; the place of that record or block.
+    /// A length that a record or block must not have; the place of that record or block.
     BadLength(u64),
     /// The capture ends within its header, a record or a block; the place where that begins.
     Truncated(u64),
     /// The capture has more than 33,554,432 bytes.
     TooLarge,
-    /// A request for memory was refused. It says nothing of the capture.
+    /// An allocation failed. It says nothing about the capture.
     Memory,
     /// A packet names an interface that its section doesn't have; the place of its block.
     BadInterface(u64),

@@ -63,7 +63,7 @@ pub(crate) struct Format {
     pub unit: u32,
 }
 
-/// What a header says, whose magic, version and link are tested in this order.
+/// What a header says. Magic, version and link type are tested in this order.
 #[tactic(auto, unfolding(crate::specs::Pcap::header_of))]
 pub(crate) fn read_header(bytes: &[u8]) -> Result<Format, CaptureError>
     requires { 24 ≤ length bytes.now }
@@ -84,7 +84,7 @@ pub(crate) fn read_header(bytes: &[u8]) -> Result<Format, CaptureError>
     Ok(format)
 }
 
-/// The format where the magic stands in this byte order.
+/// The format of a magic number that is in this byte order.
 fn format_in(order: Order, bytes: &[u8]) -> Option<Format>
     requires { 24 ≤ length bytes.now }
     ensures { result ≡ format_in order bytes.now }

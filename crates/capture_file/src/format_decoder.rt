@@ -38,8 +38,8 @@ impl FormatDecoder {
         }
     }
 
-    /// Takes the next bytes, appends the frames that are whole now, and gives the damage, if there
-    /// is any.
+    /// Takes the next bytes, appends the frames that are whole now, and returns the damage, if
+    /// there is any.
     pub(crate) fn feed(
         &mut self,
         piece: &[u8],
@@ -61,7 +61,7 @@ impl FormatDecoder {
         }
     }
 
-    /// How the capture ends where nothing more comes.
+    /// How the capture ends if nothing more comes.
     pub(crate) fn end(&self) -> Result<(), CaptureError>
         ensures end { EndsAs self.now result }
         ensures memory { result ≢ Err CaptureError.Memory }

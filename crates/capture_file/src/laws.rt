@@ -36,7 +36,7 @@ pub fn damage_is_not_memory()
     ensures end { (fed : List ℕ) → end_of fed ≢ Some CaptureError.Memory }
 {}
 
-/// A capture of more than 33,554,432 bytes is damaged, so that feeding it ends.
+/// A capture of more than 33,554,432 bytes is damaged, so feeding it ends.
 pub fn too_many_bytes_are_damage()
     ensures { (fed : List ℕ) → 33554432 < length fed → IsSome (damage_of fed) }
 {}
@@ -47,13 +47,13 @@ pub fn frames_are_numbered()
         IfSome (slice_get (frames_of cpu fed) index) (IsNumbered cpu index) }
 {}
 
-/// Each frame has a time within its second, and no more bytes than were on the wire, nor more than
+/// Each frame has a fraction below a second, and no more bytes than were on the wire and than
 /// 262,144.
 pub fn frames_are_captured()
     ensures { (cpu : ℕ) (fed : List ℕ) → All IsCaptured (frames_of cpu fed) }
 {}
 
-/// The numbers of each frame of a list of bytes are those of 32 bits.
+/// The numbers of each frame of a list of bytes have 32 bits.
 pub fn frames_fit()
     ensures { (cpu : ℕ) (fed : List ℕ) → cpu < 2 ^ 32 → All (λ byte. byte < 256) fed
         → All FitsFrame (frames_of cpu fed) }
@@ -66,8 +66,8 @@ pub fn frames_are_few()
         sum_by (λ frame. length frame.bytes) (frames_of cpu fed) ≤ length fed }
 {}
 
-/// An output file of at most 33,554,432 bytes is a whole capture, and gives back of each packet the
-/// time, the frame and the original length.
+/// An output file of at most 33,554,432 bytes is a whole capture, which gives back the time, the
+/// frame and the original length of each packet.
 pub fn output_reads_back()
     ensures frames { (cpu : ℕ) (packets : List Packet) → All IsWritable packets
         → length (output_of packets) ≤ 33554432

@@ -14,8 +14,8 @@ const HEADER: [u8; 24] = [
 ];
 
 /// The output file of packets (pcap 2.4): a header, and a record for each packet, with its tag put
-/// back. The original length of a record counts the tag, also where the packet is too short to have
-/// it put back; that is this project's own choice.
+/// back. The original length of a record counts the tag even if the packet is too short to have it
+/// put back; that is this project's own choice.
 #[tactic(auto, unfolding(crate::specs::Output::output_of))]
 pub fn pcap_text(alloc: Global, packets: &Packets) -> Result<ByteList, Memory>
     requires { All (λ packet. length packet.bytes ≤ 4294967291) packets.now }
@@ -29,7 +29,7 @@ pub fn pcap_text(alloc: Global, packets: &Packets) -> Result<ByteList, Memory>
     Ok(ByteList::from_vec(text))
 }
 
-/// The number of bytes of the output file of packets, to make room for all of them at once.
+/// The size in bytes of the output file of packets, so that all of it is allocated at once.
 fn file_size(packets: &[Packet]) -> usize
     requires { All (λ packet. length packet.bytes ≤ 4294967291) packets.now }
 {

@@ -1,8 +1,8 @@
 //! A pcap capture that comes in pieces.
 //!
-//! The header is gathered first. Then each piece completes the record of which bytes are kept, its
-//! further whole records are read where they lie, and what is after them is kept for the next
-//! piece. Damage ends it all.
+//! The header is collected first. Then each piece completes the record of which bytes are kept, its
+//! other whole records are read in place, and what is after them is kept for the next piece. After
+//! damage nothing more is read.
 ghost use Rattle.std.specs.Prelude.{◌≡◌, ◌≢◌, ◌≤◌, [], IfOk, OnErr, Err, Some};
 
 use crate::CaptureError;
@@ -15,14 +15,13 @@ use std::marker::Model;
 /// The number of bytes of a capture that count.
 const LARGEST_CAPTURE: usize = 33_554_432;
 
-/// Reads a pcap capture of version 2.4 that is fed piece by piece, however it is cut. That no more
-/// than the first 33,554,432 bytes count, and no more than 262,144 bytes of a record, is this
-/// project's own choice.
+/// Reads a pcap capture of version 2.4 that is fed piece by piece, however it is cut. The limits
+/// are this project's own choice: the first 33,554,432 bytes count, and a record may have 262,144.
 #[derive(Debug, Drop)]
 pub(crate) struct PcapDecoder {
     /// Gives the memory for the frames.
     alloc: Global,
-    /// The number that its frames carry.
+    /// The CPU number that its frames carry.
     cpu: u32,
     /// What comes next.
     stage: Stage,
@@ -59,14 +58,14 @@ impl PcapDecoder {
         }
     }
 
-    /// Takes the next bytes of the capture, appends the frames that are whole now, and gives the
-    /// capture's damage, if there is any. After damage every call gives the same and appends
+    /// Takes the next bytes of the capture, appends the frames that are whole now, and returns the
+    /// capture's damage, if there is any. After damage every call returns the same and appends
     /// nothing. After `Memory` the decoder and `into` are as before the call.
     pub fn feed(&mut self, piece: &[u8], into: &mut Frames) -> Result<Option<CaptureError>, Memory>
-        // The decoder stands for all bytes that it was fed.
+        // The decoder represents all bytes that it was fed.
         ensures stands { IfOk result (λ damage. StandsOn self.old self.new piece.now) }
 
-        // The frames that are new are appended, and no others.
+        // Exactly the new frames are appended.
         ensures frames { IfOk result (λ damage.
             AppendsNew self.old piece.now into.old into.new) }
 
@@ -106,8 +105,8 @@ impl PcapDecoder {
         Ok(None)
     }
 
-    /// How the capture ends where nothing more comes: its damage, or `Truncated` with the place of
-    /// the header or record that isn't whole. It takes no memory and is never `Memory`.
+    /// How the capture ends if nothing more comes: its damage, or `Truncated` with the place of the
+    /// header or record that isn't whole. It takes no memory and is never `Memory`.
     pub fn end(&self) -> Result<(), CaptureError>
         ensures end { AnswersEnd self.now result }
         ensures memory { result ≢ Err CaptureError.Memory }

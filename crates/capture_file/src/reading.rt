@@ -19,7 +19,7 @@ pub(crate) const RECORD_HEADER_SIZE: usize = 16;
 /// The largest number of captured bytes of a record.
 const LARGEST_RECORD: u32 = 262_144;
 
-/// The nanoseconds of the last moment of a second.
+/// The greatest number of nanoseconds within a second.
 const LAST_NANOSECOND: u64 = 999_999_999;
 
 /// A place in a capture where a record may begin.
@@ -31,7 +31,7 @@ pub(crate) struct Place {
     pub index: u32,
 }
 
-/// How far a feed came.
+/// How far a feed has read.
 #[derive(Clone, Copy)]
 pub(crate) struct Progress {
     /// What comes next.
@@ -47,14 +47,14 @@ pub(crate) struct Progress {
 pub(crate) struct Reader {
     /// Gives the memory for a frame's bytes.
     pub alloc: Global,
-    /// The number that its frames carry.
+    /// The CPU number that its frames carry.
     pub cpu: u32,
     /// The format that the header said.
     pub format: Format,
 }
 
 /// Reads on in a capture at a stage, with kept bytes and a piece after them. Frames and bytes are
-/// only appended, so that what was there can be had back after `Memory`.
+/// only appended, so that the earlier state can be restored after `Memory`.
 pub(crate) fn read_on(
     alloc: Global,
     cpu: u32,
@@ -90,7 +90,7 @@ pub(crate) fn read_on(
     }
 }
 
-/// Gathers a capture's header, and reads on after it.
+/// Collects a capture's header, and reads on after it.
 fn begin(
     alloc: Global,
     cpu: u32,
@@ -156,7 +156,7 @@ impl Reader {
         self.read_fresh(next, cut, kept, fresh, into)
     }
 
-    /// Reads the whole records of fresh bytes, of which none is kept, and keeps what is after them.
+    /// Reads the whole records of fresh bytes, with no bytes kept, and keeps what is after them.
     #[tactic(auto, unfolding(crate::specs::Reading::stage_at))]
     fn read_fresh(
         self,
@@ -187,7 +187,7 @@ impl Reader {
     }
 
     /// Appends the frames of the whole records at the start of the bytes, the first of which is at
-    /// `next`. It gives the place after them, and the bytes from there on.
+    /// `next`. It returns the place after them, and the bytes from there on.
     fn read_records<'a>(
         self,
         next: Place,
@@ -251,8 +251,7 @@ impl Place {
     }
 }
 
-/// The whole record at the start, and what is after it. `None` where none is whole or it is
-/// oversized.
+/// The whole record at the start, and what is after it. `None` if it isn't whole or is oversized.
 #[tactic(auto, unfolding(crate::specs::Pcap::begins_whole))]
 fn first_record(order: Order, bytes: &[u8]) -> Option<(&[u8], &[u8])>
     ensures size { IfSome result (λ x. 16 ≤ length x.0.now) }
@@ -282,8 +281,8 @@ fn begins_oversized(order: Order, bytes: &[u8]) -> bool
     bytes.len() >= RECORD_HEADER_SIZE && order.u32_at(bytes, 8) > LARGEST_RECORD
 }
 
-/// Appends to the kept bytes of a record, where there are any, what completes it, and gives the
-/// bytes of the piece after that; none where the record is oversized.
+/// Appends to the kept bytes of a record, if there are any, what completes it, and returns the
+/// bytes of the piece after that; none if the record is oversized.
 fn complete<'a>(order: Order, kept: &mut Vec<u8>, piece: &'a [u8]) -> Result<&'a [u8], Memory>
     requires { IsPart order kept.old.items }
     ensures ok { IfOk result (λ fresh.
@@ -306,7 +305,7 @@ fn complete<'a>(order: Order, kept: &mut Vec<u8>, piece: &'a [u8]) -> Result<&'a
     top_up(kept, RECORD_HEADER_SIZE + captured as usize, behind)
 }
 
-/// Appends bytes of the piece to the kept ones until there are `size`, and gives the bytes after
+/// Appends bytes of the piece to the kept ones until there are `size`, and returns the bytes after
 /// those.
 pub(crate) fn top_up<'a>(
     kept: &mut Vec<u8>,
@@ -325,12 +324,12 @@ pub(crate) fn top_up<'a>(
     Ok(behind)
 }
 
-/// Takes bytes out at the start.
+/// Takes bytes out from the start.
 pub(crate) fn cut_front(kept: &mut Vec<u8>, cut: usize)
     requires { cut ≤ length kept.old.items }
     ensures { kept.new.items ≡ drop cut kept.old.items }
 {
-    // Most pieces of a long record cut nothing, and then nothing is to be moved.
+    // Most pieces of a long record take nothing out, and then nothing needs to be moved.
     if cut > 0 {
         let left = kept.len() - cut;
         kept.copy_within(cut.., 0);

@@ -19,7 +19,7 @@ pub(crate) enum Stage {
 impl Stage {
     ghost use Rattle.capture_file.specs.Reading.{stage_with, end_at};
 
-    /// The stage where bytes may have been fed that are beyond those that count.
+    /// The stage, given whether bytes beyond those that count were fed.
     pub(crate) fn with(self, has_beyond: bool) -> Stage
         ensures { result ≡ stage_with self has_beyond }
     {
@@ -30,8 +30,8 @@ impl Stage {
         }
     }
 
-    /// How a capture ends at this stage, where its last whole record ends at `stop`, and no byte is
-    /// after it or some.
+    /// How a capture ends at this stage, where its last whole record ends at `stop`, given whether
+    /// bytes follow it.
     pub(crate) fn end(self, stop: usize, none_behind: bool) -> Result<(), CaptureError>
         ensures { result_err result ≡ end_at self stop none_behind }
     {

@@ -1,4 +1,5 @@
--- The sum of the words of some bytes, a word at a time, and the folds that make a ones' complement sum of it.
+-- The sum of the words of some bytes, a word at a time, and the folds that make a ones' complement
+-- sum of it.
 use Rattle.std.proofs.Common.{◌≡◌, ℕ, ◌+◌, ◌-◌, ◌*◌, ◌/◌, ◌%◌, ◌^◌, ◌<◌, ◌≤◌, List, [], ◌∷◌, length, get_or, drop, arith, ap, ◌∙◌, refl, suc}
 use Rattle.std.proofs.lemmas.List.{drop_more}
 use Rattle.std.proofs.lemmas.Bool.Decides.{nat_tests}
@@ -24,7 +25,7 @@ pub bytes_of_each : (bytes : List ℕ) → ((k : ℕ) → get_or bytes k 0 < 256
 bytes_of_each [] each = tt
 bytes_of_each (byte ∷ rest) each = (each 0, bytes_of_each rest (λ k. each (suc k)))
 
--- two folds leave 16 bits of a sum of fewer than 2 ^ 32, and a word more is one more ones' complement sum
+-- two folds leave 16 bits of a sum below 2 ^ 32, and one more word is one more ones' complement sum
 ones_sum-fold : (word sum : ℕ) → word < 2 ^ 16 → sum < 2 ^ 32 - 2 ^ 16 → ones_sum word (folded (folded sum)) ≡ folded (folded (word + sum))
 ones_sum-fold word sum small few = grind (arith, nat_tests)
 

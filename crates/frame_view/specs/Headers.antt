@@ -31,7 +31,7 @@ link_of bytes = record {
   protocol = protocol_of bytes;
 }
 
--- the two numbers from a place, where the next protocol is TCP or UDP and they are captured
+-- the two numbers from a place, if the next protocol is TCP or UDP and they are captured
 abbrev pub ports_at : ℕ → ℕ → List ℕ → Option (ℕ × ℕ)
 ports_at at next bytes =
     if ((next == 6) || (next == 17)) && nat_le (at + 4) (length bytes)
@@ -94,7 +94,7 @@ v6_of bytes = record {
   ports = ports_at 54 (slice_index bytes 20) bytes;
 }
 
--- a frame of fewer than 14 bytes is a runt; after a whole link header may stand an IPv4 or an IPv6
+-- a frame of fewer than 14 bytes is a runt; an IPv4 or an IPv6 header may follow a whole link
 -- header
 abbrev pub view_of : List ℕ → Headers
 view_of bytes =
@@ -103,7 +103,7 @@ view_of bytes =
     else if is_v6 bytes then V6 (link_of bytes) (v6_of bytes)
     else Plain (link_of bytes)
 
--- whether the frame is for this station: each is where no own address is given
+-- whether the frame is for this station: every frame is if no own address is given
 abbrev pub is_own : Option (List ℕ) → List ℕ → Bool
 is_own None to = true
 is_own (Some own) to = bytes_eq to own

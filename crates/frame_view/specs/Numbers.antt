@@ -1,4 +1,4 @@
--- Numbers in network order: the high byte stands first. Places are counted in bytes from 0.
+-- Numbers in network order: the high byte comes first. Places are counted in bytes from 0.
 use Rattle.std.specs.Prelude.{ℕ, ◌+◌, ◌*◌, ◌^◌, List, slice_index}
 
 -- the number in the two bytes from a place

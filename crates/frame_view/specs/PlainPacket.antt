@@ -1,9 +1,9 @@
--- The packet of a frame that stands alone.
+-- The packet of a frame on its own.
 use Rattle.std.specs.Prelude.{List, ℕ, length, None}
 use Rattle.frame_view.specs.Headers.{link_of, packet_type_of}
 use Rattle.frame_view.specs.declared.frames.Packet.{Packet}
 
--- times and hash are 0, and no own address is given; the rest is what the frame's link header says
+-- times and hash are 0, and no own address is given; the rest comes from the frame's link header
 abbrev pub plain_of : List ℕ → Packet
 plain_of bytes = record {
   sec = 0;

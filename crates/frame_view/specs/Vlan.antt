@@ -35,7 +35,7 @@ untagged frame =
     }
     else frame
 
--- the bytes with a tag put back after the addresses, where both addresses are there
+-- the bytes with a tag put back after the addresses, if both addresses are there
 abbrev pub with_tag : Option Tag → List ℕ → List ℕ
 with_tag None bytes = bytes
 with_tag (Some tag) bytes =

@@ -9,7 +9,7 @@ ghost use Rattle.frame_view.specs.InternetChecksum.{checksum_of};
 use crate::{ByteList, Memory, checksum};
 use std::alloc::Global;
 
-/// What a made frame says: two link addresses, and a UDP datagram with its addresses and ports.
+/// The parts of a made frame: two link addresses, and a UDP datagram with its addresses and ports.
 #[derive(Debug, Drop)]
 pub struct Parts {
     /// The destination address of the link layer.

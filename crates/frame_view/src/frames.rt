@@ -17,7 +17,7 @@ pub struct Tag {
 /// A frame of a capture.
 #[derive(Debug, Drop)]
 pub struct Frame {
-    /// The CPU whose capture it stands in, from 0.
+    /// The CPU whose capture has it, from 0.
     pub cpu: u32,
     /// Its number in that capture, from 0, runts counted.
     pub index: u32,
@@ -42,7 +42,7 @@ pub struct Packet {
     pub nsec: u32,
     /// Its length in bytes on the wire, without its tag.
     pub wire: u32,
-    /// The receive hash, 0 where the ring isn't asked to fill it.
+    /// The receive hash, 0 if the ring isn't asked to fill it in.
     pub rxhash: u32,
     /// The protocol of the link layer, as a number.
     pub protocol: u16,
@@ -57,9 +57,9 @@ pub struct Packet {
 }
 
 impl Packet {
-    /// The packet of a frame that stands alone, as one that is to be sent: times and hash are 0,
-    /// the length on the wire is its own, no tag was taken out, and the packet type is that without
-    /// an own address. It takes no memory.
+    /// The packet of a frame on its own, such as one to be sent: times and hash are 0, the length
+    /// on the wire is the frame's own, no tag was taken out, and the packet type is that without an
+    /// own address. It takes no memory.
     pub fn plain(bytes: ByteList) -> Packet
         requires whole { 14 ≤ length bytes }
         requires short { length bytes < 2 ^ 32 }

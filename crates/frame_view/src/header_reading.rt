@@ -27,14 +27,14 @@ pub struct Link {
     /// The source address.
     pub from: [u8; 6],
     /// The protocol: the type field from 0x0600 on; for a length field below it ETH_P_802_3
-    /// (0x0001) where a raw IPX frame follows, else ETH_P_802_2 (0x0004).
+    /// (0x0001) if a raw IPX frame follows, otherwise ETH_P_802_2 (0x0004).
     pub protocol: u16,
 }
 
-/// The destination address that all stations take.
+/// The broadcast address, which all stations receive.
 const BROADCAST: [u8; 6] = [0xff; 6];
 
-/// The least type field that is a type and no length (ETH_P_802_3_MIN of `linux/if_ether.h`).
+/// The least type field that is a type and not a length (ETH_P_802_3_MIN of `linux/if_ether.h`).
 const LEAST_TYPE: u16 = 0x0600;
 
 /// Reads the headers of a frame, by IEEE 802.3, RFC 791, RFC 8200 and the protocol numbers of
@@ -68,9 +68,9 @@ pub fn link_header(bytes: &[u8]) -> Link
     }
 }
 
-/// The packet type of a frame (`PACKET_HOST` and its kin of `linux/if_packet.h`): 1 for the
-/// broadcast address, else 2 for a multicast one, else 0 where no own address is given or it is the
-/// destination, else 3.
+/// The packet type of a frame (`PACKET_HOST` and the others of `linux/if_packet.h`): 1 for the
+/// broadcast address, otherwise 2 for a multicast one, otherwise 0 if no own address is given or it
+/// is the destination, otherwise 3.
 pub fn pkttype(bytes: &[u8], own: Option<[u8; 6]>) -> u8
     requires { 14 ≤ length bytes.now }
     ensures { result ≡ packet_type_of bytes.now own }
@@ -88,7 +88,7 @@ pub fn pkttype(bytes: &[u8], own: Option<[u8; 6]>) -> u8
     }
 }
 
-/// The type field, or what a length field below 0x0600 stands for.
+/// The type field, or the protocol that a length field below 0x0600 implies.
 fn protocol(bytes: &[u8]) -> u16
     requires { 14 ≤ length bytes.now }
     ensures { result ≡ protocol_of bytes.now }
@@ -103,7 +103,7 @@ fn protocol(bytes: &[u8]) -> u16
     }
 }
 
-/// The link address that stands from a place on.
+/// The link address at a place.
 fn address_at(bytes: &[u8], at: usize) -> [u8; 6]
     requires { at + 6 ≤ length bytes.now }
     ensures { result ≡ address_of at bytes.now }

@@ -18,13 +18,13 @@ pub struct V4Part {
     pub more: bool,
     /// The place of this fragment's data in its datagram, in units of eight bytes.
     pub offset: u32,
-    /// The protocol of the data, as 6 for TCP and 17 for UDP.
+    /// The protocol of the data, such as 6 for TCP or 17 for UDP.
     pub next: u8,
     /// The source address, as a number.
     pub from: u32,
     /// The destination address, as a number.
     pub to: u32,
-    /// The source port and the destination port, where this is no fragment, the data is TCP or UDP,
+    /// The source port and the destination port, if this isn't a fragment, the data is TCP or UDP,
     /// and its first four bytes are captured.
     pub ports: Option<(u16, u16)>,
 }
@@ -32,13 +32,13 @@ pub struct V4Part {
 /// The IPv6 header of a frame (RFC 8200).
 #[derive(Clone, Copy, Debug, PartialEq, Eq)]
 pub struct V6Part {
-    /// The next header, as 6 for TCP and 17 for UDP.
+    /// The next header, such as 6 for TCP or 17 for UDP.
     pub next: u8,
     /// The source address, as a number.
     pub from: u128,
     /// The destination address, as a number.
     pub to: u128,
-    /// The source port and the destination port, where the next header is TCP or UDP and its first
+    /// The source port and the destination port, if the next header is TCP or UDP and its first
     /// four bytes are captured.
     pub ports: Option<(u16, u16)>,
 }
@@ -97,7 +97,7 @@ pub(crate) fn read_v4(bytes: &[u8]) -> V4Part
     }
 }
 
-/// The ports of an IPv4 packet that is no fragment.
+/// The ports of an IPv4 packet that isn't a fragment.
 fn ports_of_v4(bytes: &[u8]) -> Option<(u16, u16)>
     requires { 34 ≤ length bytes.now }
     ensures { result ≡ v4_ports bytes.now }
@@ -132,7 +132,7 @@ pub(crate) fn read_v6(bytes: &[u8]) -> V6Part
     }
 }
 
-/// The ports at a place, where the protocol has some and they are captured.
+/// The ports at a place, if the protocol has ports and they are captured.
 fn ports(bytes: &[u8], at: usize, next: u8) -> Option<(u16, u16)>
     requires { at ≤ 74 }
     ensures { result ≡ ports_at at next bytes.now }

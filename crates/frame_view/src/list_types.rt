@@ -28,7 +28,7 @@ impl<T> Model for ItemList<T> {
 }
 
 impl<T> ItemList<T> {
-    /// The list without an item. It takes no memory.
+    /// An empty list. It takes no memory.
     pub fn new(alloc: Global) -> Self
         ensures { result ≡ [] }
     {
@@ -59,22 +59,21 @@ impl<T> ItemList<T> {
         self.items.len()
     }
 
-    /// Whether there is no item.
+    /// Whether the list is empty.
     pub fn is_empty(&self) -> bool
         ensures { IsTrue result ↔ (self.now ≡ []) }
     {
         self.items.is_empty()
     }
 
-    /// The item at a place, counted from 0. `None` comes exactly where the place isn't below the
-    /// length.
+    /// The item at a place, counted from 0. `None` exactly if the place isn't below the length.
     pub fn get(&self, at: usize) -> Option<&T>
         ensures { option_copied result ≡ slice_get self.now at }
     {
         self.items.get(at)
     }
 
-    /// All items, lent in their order.
+    /// All items, borrowed, in their order.
     pub fn as_slice(&self) -> &[T]
         ensures { result.now ≡ self.now }
     {
@@ -92,7 +91,7 @@ impl<T: Drop> ItemList<T> {
         Ok(())
     }
 
-    /// Keeps the first `len` items, or all where there are fewer. It takes no memory.
+    /// Keeps the first `len` items, or all if there are fewer. It takes no memory.
     pub fn truncate(&mut self, len: usize)
         ensures { self.new ≡ take len self.old }
     {
@@ -101,7 +100,7 @@ impl<T: Drop> ItemList<T> {
 }
 
 impl ItemList<u8> {
-    /// Takes the four bytes from a place out, in place.
+    /// Removes the four bytes from a place on, in place.
     pub(crate) fn cut_four_at(&mut self, at: usize)
         requires { at + 4 ≤ length self.old }
         ensures { self.new ≡ take at self.old ++ drop (at + 4) self.old }

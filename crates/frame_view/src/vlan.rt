@@ -14,7 +14,7 @@ const SERVICE_TAG: u16 = 0x88a8;
 
 /// Takes the first VLAN tag (IEEE 802.1Q) out of a frame, in place. A frame of at least 18 bytes
 /// whose type field is 0x8100 or 0x88a8 has one: it goes to `tag`, and `wire` falls by 4. An inner
-/// tag stays. That 18 bytes are needed and that `wire` falls is this project's own choice.
+/// tag stays. That 18 bytes are needed and that `wire` falls are this project's own choices.
 pub fn untag(frame: &mut Frame)
     requires bare { frame.old.tag ≡ None }
     requires whole { length frame.old.bytes ≤ frame.old.wire }
@@ -42,8 +42,8 @@ fn begins_tagged(bytes: &[u8]) -> bool
     tpid == CUSTOMER_TAG || tpid == SERVICE_TAG
 }
 
-/// The frame of a packet: its bytes, with its tag put back after the two addresses where it has one
-/// and at least 12 bytes.
+/// The frame of a packet: its bytes, with its tag put back after the two addresses if it has one
+/// and has at least 12 bytes.
 pub fn retag(alloc: Global, packet: &Packet) -> Result<ByteList, Memory>
     ensures { IfOk result (λ bytes. bytes ≡ frame_of packet.now) }
 {

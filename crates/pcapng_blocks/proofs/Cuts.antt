@@ -1,4 +1,4 @@
--- The damage of a capture is no cut.
+-- The damage of a capture is never a cut.
 use Rattle.std.proofs.Common.{◌≡◌, ℕ, ◌-◌, List, [], take, sym, ap, ◌∙◌, inl, inr}
 use Rattle.std.specs.Prelude.{◌≢◌, ◌==◌, if◌then◌else◌, Bool, true, false, slice_get, Option, None, Some, Result, Ok, Err, length, nat_lt}
 use Rattle.std.proofs.lemmas.Bool.{cases_Bool}
@@ -113,7 +113,7 @@ fault_uncut : (bytes : List ℕ) (cut : ℕ) → (reached_in 0 bytes).fault ≢ 
 unfolding reached_in IsUncut
 fault_uncut bytes cut e = split_uncut cut 0 origin [] (counted bytes) e
 
--- damage is no cut
+-- damage is never a cut
 pub damage_uncut : (bytes : List ℕ) (cut : ℕ) → damage_of bytes ≢ Some (Truncated cut)
 damage_uncut bytes cut d =
     elim (stage_is bytes) [

@@ -37,7 +37,7 @@ fed_on : (fed piece taken : List ℕ) (count size : ℕ) → count ≡ length (c
 fed_on fed piece taken count size counts room part =
     omega (arith, length-take 33554432 fed, length-take 33554432 (fed ++ piece), length-append fed piece, ap length part, length-take size piece)
 
--- the decoder that is left stands for all bytes
+-- the decoder that is left represents all bytes
 module _ (number : ℕ) (fed piece taken : List ℕ) (before after : List Frame) (old decoder : DecoderValue) (stage : Stage) (spot : Spot) (rest kept : List ℕ) (size : ℕ)
     (view : decoder ≡ old) (stands : Stands number old fed) (room : size ≡ min (33554432 - decoder.fed) (length piece)) (part : taken ≡ take size piece)
     (h : Settles number fed piece before after stage spot rest) where

@@ -1,4 +1,4 @@
--- How a capture ends, by the stage of the decoder that stands for it.
+-- How a capture ends, by the stage of its decoder.
 use Rattle.std.proofs.Common.{◌≡◌, ℕ, ◌+◌, ◌≤◌, ◌<◌, Bool, eqb, List, [], length, refl, sym, ap, ◌∙◌, inl, inr, arith}
 use Rattle.std.specs.Prelude.{◌≢◌, None, Some}
 use Rattle.std.proofs.lemmas.Bool.{cases_Bool, cases_lt, le-ltb, lt-ltb, eqb-true, eqb-false}
@@ -89,7 +89,7 @@ module _ (fed : List ℕ) (stop : ℕ) (rest : List ℕ) (place : stop ≡ stop_
         | inr reads ↦ rw reads (end_blocks none d few (rw reads at all) is)
       ]
 
-  -- the stage, its place and whether bytes are kept tell the end
+  -- the stage, its place and whether bytes are kept determine the end
   pub end_told : (stage : Stage) (none : Bool) → stage ≡ stage_of fed → rest ≡ kept_of fed → none ≡ eqb (length rest) 0 → end_at stage stop none ≡ end_of fed
   end_told stage none at all is =
       elim (stage_is fed) [

@@ -78,7 +78,8 @@ means_section interfaces place head block meaning same e =
 
 -- ---- the first block
 
--- what is known where the bytes begin with a section header: no block was read, or one of at least 28 bytes
+-- what is known if the bytes begin with a section header: no block was read, or one of at least 28
+-- bytes
 pub record HasFirst (frames stop : ℕ) : Type 0 where
   pub few : 0 < stop → 16 * frames + 28 ≤ stop
   pub none : stop ≡ 0 → frames ≡ 0

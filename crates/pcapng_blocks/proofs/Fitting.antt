@@ -1,4 +1,4 @@
--- The numbers of each frame of a list of bytes are those of 32 bits.
+-- The numbers of each frame of a list of bytes have 32 bits.
 use Rattle.std.proofs.Common.{◌≡◌, ℕ, ◌+◌, ◌-◌, ◌^◌, ◌<◌, List, [], ◌∷◌, ◌++◌, length, get_or, take, drop, inl, inr, arith}
 use Rattle.std.specs.Prelude.{◌==◌, if◌then◌else◌, Bool, true, false, slice_get, All, Option, None, Some, Result, Ok, Err}
 use Rattle.std.specs.List.{AllByRecursion}

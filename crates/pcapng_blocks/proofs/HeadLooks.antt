@@ -13,7 +13,7 @@ use Rattle.pcapng_blocks.specs.declared.heads.Look.TheVariants.{Short, Headed}
 use Rattle.pcapng_blocks.specs.Numbers.{number_at}
 use Rattle.pcapng_blocks.specs.Heads.{kind_of, head_size, least, is_skipped, length_fits, order_of, headed, look_as, look_at, IsHead}
 
--- a number doesn't see what comes after it
+-- a number doesn't depend on what comes after it
 pub number_at-append : (order : Order) (n at : ℕ) (xs ys : List ℕ) → at + n ≤ length xs → number_at order n at (xs ++ ys) ≡ number_at order n at xs
 unfolding number_at
 number_at-append Little n at xs ys h =
@@ -68,7 +68,7 @@ look_at-append order place xs ys not =
           rw (le-ltb _ _ full, le-ltb _ _ wider, number) (look_as-append (kind_of (number_at order 4 0 xs)) order place xs ys there)
     ]
 
--- fewer than 8 bytes are no head
+-- fewer than 8 bytes aren't a head
 pub look_at-short : (order : Order) (place : ℕ) (bytes : List ℕ) → length bytes < 8 → look_at order place bytes ≡ Short
 unfolding look_at
 look_at-short order place bytes less = rw (lt-ltb _ _ less) refl
@@ -83,7 +83,7 @@ least_some Other = omega arith
 fits_few : (kind : Kind) (total : ℕ) → (if is_skipped kind then true else nat_le total 524288) ≡ true → is_skipped kind ≡ false → total ≤ 524288
 fits_few kind total e read = leb-true _ _ (rw read at e)
 
--- what is known of a head that may say what it says
+-- what is known of a head whose contents are allowed
 fits_head : (kind : Kind) (order : Order) (total : ℕ) → length_fits kind total ≡ true → IsHead (record { kind = kind; order = order; total = total })
 fits_head kind order total e =
     let p = and_parts _ _ e in
@@ -105,7 +105,7 @@ headed_head place kind (Some order) bytes head e =
       | inr not ↦ let f = rw not at e in absurd cc
     ]
 
--- a head and the eight bytes that it has at least
+-- a head and its eight bytes or more
 pub record HasHead (bytes : List ℕ) (head : Head) : Type 0 where
   pub sound : IsHead head
   pub eight : 8 ≤ length bytes

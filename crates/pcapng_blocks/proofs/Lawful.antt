@@ -212,7 +212,7 @@ rest_few (stages.Damaged error) left = omega arith
 pub kept_few : (bytes : List ℕ) → stop_of bytes + length (kept_of bytes) ≤ length bytes
 kept_few bytes = omega (arith, rest_few (stage_of bytes) (reached_in 0 bytes).left, (capture_accounts 0 bytes).stop, length-take 33554432 bytes)
 
--- of a block that is skipped no more than three bytes of its tail are there, else it is whole
+-- of a block that is skipped at most three bytes of its tail are there, otherwise it is whole
 skipped_few : (bytes : List ℕ) (look : Look) → (reached_in 0 bytes).fault ≡ None
     → look_at (reached_in 0 bytes).spot.order (reached_in 0 bytes).spot.stop (reached_in 0 bytes).left ≡ look → skips look ≡ true
     → length (rest_in (waiting look (reached_in 0 bytes).left) (reached_in 0 bytes).left) ≤ 3

@@ -1,4 +1,4 @@
--- The options of an interface, one after the other.
+-- The options of an interface, one after another.
 use Rattle.std.proofs.Common.{◌≡◌, ℕ, zero, suc, ◌+◌, ◌≤◌, true, false, List, length, drop, refl, ◌∙◌, inl, inr, arith}
 use Rattle.std.specs.Prelude.{◌==◌}
 use Rattle.std.proofs.lemmas.Bool.{cases_Bool, cases_lt, le-ltb, lt-ltb}
@@ -35,7 +35,7 @@ option_there order bytes e =
 abbrev pub after_option : Order → List ℕ → List ℕ
 after_option order bytes = drop (4 + padded (number_at order 2 2 bytes)) bytes
 
--- more room than bytes changes nothing
+-- a bound above the number of bytes changes nothing
 within_enough : (m n : ℕ) (order : Order) (so_far : ℕ) (bytes : List ℕ) → length bytes ≤ m → length bytes ≤ n → resolution_within m order so_far bytes ≡ resolution_within n order so_far bytes
 unfolding resolution_within
 within_enough zero zero order so_far bytes hm hn = refl

@@ -1,4 +1,4 @@
--- What a feed leaves: a decoder that stands for all bytes, and the frames that are new.
+-- What a feed leaves: a decoder that represents all bytes, and the frames that are new.
 use Rattle.std.proofs.Common.{◌≡◌, ℕ, ◌+◌, ◌-◌, ◌≤◌, ◌<◌, Bool, true, false, List, [], ◌++◌, length, take, drop, refl, sym, ap, subst, ◌∙◌, inl, inr, arith}
 use Rattle.std.specs.Prelude.{nat_lt, Option, None, Some}
 use Rattle.std.proofs.Math.Seq.{take-append-add}
@@ -91,12 +91,12 @@ pub reached-append : (cpu : ℕ) (fed piece : List ℕ)
 unfolding reached_in
 reached-append cpu fed piece = ap (split_from cpu origin []) (counted-append fed piece) ∙ split_append cpu origin [] (counted fed) (take (33554432 - length fed) piece)
 
--- where bytes beyond those that count come, nothing changes
+-- bytes beyond those that count change nothing
 pub reached_beyond : (cpu : ℕ) (fed piece : List ℕ) → 33554432 < length fed → reached_in cpu (fed ++ piece) ≡ reached_in cpu fed
 unfolding reached_in
 reached_beyond cpu fed piece many = ap (split_from cpu origin []) (take-append-le 33554432 fed piece (omega arith))
 
--- the CPU doesn't matter to where a capture stops
+-- where a capture stops doesn't depend on the CPU
 pub reached_alike : (cpu other : ℕ) (bytes : List ℕ) → StopsAlike (reached_in cpu bytes) (reached_in other bytes)
 unfolding reached_in
 reached_alike cpu other bytes = split_alike cpu other origin [] [] (counted bytes)
@@ -154,7 +154,7 @@ settles_large number fed piece before after rest e many same =
       frames = ([], no_more before after same, ap (λ (r : Reached). r.frames) (reached_beyond number fed piece many) ∙ sym (append-nil (frames_of number fed)));
     }
 
--- what a capture that isn't damaged goes on with
+-- how a capture that isn't damaged continues
 module _ (number : ℕ) (fed piece taken : List ℕ) (before after : List Frame) (progress : Progress) (kept : List ℕ) (interfaces : List Interface) (beyond : Bool)
     (e : (reached_in 0 fed).fault ≡ None) (part : taken ≡ take (33554432 - length fed) piece) (over : beyond ≡ nat_lt 33554432 (length (fed ++ piece))) where
   now : ℕ → Reached
@@ -173,7 +173,7 @@ module _ (number : ℕ) (fed piece taken : List ℕ) (before after : List Frame)
       ≡ split_from number (reached_in 0 fed).spot (frames_of number fed) ((reached_in 0 fed).left ++ taken) = rw (was.spot, was.left) refl in
       on ∙ here ∙ split_frames number (reached_in 0 fed).spot (frames_of number fed) ((reached_in 0 fed).left ++ taken)
 
-  -- it stops where reading alone stops
+  -- it stops where reading the bytes at once stops
   stops : StopsAlike alone (reached_in 0 (fed ++ piece))
   stops =
       let same = reached_alike number 0 (fed ++ piece) in
@@ -212,7 +212,7 @@ module _ (number : ℕ) (fed piece taken : List ℕ) (before after : List Frame)
 
 -- ---- from the stage at which a decoder is
 
--- what reading at a waiting stage came to, of the bytes that the kept ones stand for
+-- the outcome of reading at a waiting stage, for the bytes that the kept ones represent
 waiting_feeds : (cpu : ℕ) (look : Look) (cursor : Cursor) (left piece : List ℕ) (old : Held) (before after : List Frame) (progress : Progress) (new : Held)
     → look_at (spot_of cursor old.interfaces.items).order (spot_of cursor old.interfaces.items).stop left ≡ look
     → front_of (spot_of cursor old.interfaces.items).order (spot_of cursor old.interfaces.items).interfaces (spot_of cursor old.interfaces.items).stop left ≡ Part
@@ -240,13 +240,13 @@ left_beyond fed piece within =
       | inr less ↦ rw (le-ltb _ _ less, le-ltb 33554432 (length (fed ++ piece)) (omega arith)) refl
     ]
 
--- where no test fails the split stops at a part of a block
+-- if no test fails the split stops at a part of a block
 pub front_fine : (bytes : List ℕ) → (reached_in 0 bytes).fault ≡ None
     → front_of (reached_in 0 bytes).spot.order (reached_in 0 bytes).spot.interfaces (reached_in 0 bytes).spot.stop (reached_in 0 bytes).left ≡ Part
 unfolding reached_in
 front_fine bytes e = let h = (accounts 0 origin [] (counted bytes)).ends in rw e at h
 
--- a decoder that stands for bytes was fed
+-- a decoder that represents bytes was fed
 pub settles : (number : ℕ) (fed piece taken : List ℕ) (cursor : Cursor) (stage : Stage) (count : ℕ) (old new : Held) (before after : List Frame) (progress : Progress) (beyond : Bool)
     → Stands number (record { cpu = number; fed = count; stage = stage; spot = spot_of cursor old.interfaces.items; rest = old.kept.items }) fed
     → taken ≡ take (33554432 - count) piece → beyond ≡ nat_lt (33554432 - count) (length piece)

@@ -1,4 +1,4 @@
--- What is kept where a feed came to: a part of one block, within the bytes that were fed.
+-- What is kept after a feed: a part of one block, within the bytes that were fed.
 use Rattle.std.proofs.Common.{◌≡◌, ℕ, ◌+◌, ◌-◌, ◌*◌, ◌≤◌, ◌<◌, true, List, [], ◌++◌, length, take, drop, refl, sym, ap, ◌∙◌, inl, inr, arith}
 use Rattle.std.specs.Prelude.{◌≢◌, min, Option, None, Some}
 use Rattle.std.proofs.lemmas.Bool.{cases_Bool, cases_lt}
@@ -69,7 +69,7 @@ split_sound cpu spot frames bytes progress kept interfaces after fed comes bound
     record { kept = kept_by reached.fault reached.spot reached.left fed told.ends (omega (arith, told.stop)); count = omega (arith, told.count) } in
     rw (comes.stage, comes.spot, comes.rest) here
 
--- more bytes that were fed change nothing
+-- a greater number of bytes that were fed changes nothing
 kept_more : (stage : Stage) (spot : Spot) (rest : List ℕ) (fed more : ℕ) → fed ≤ more → IsKept stage spot rest fed → IsKept stage spot rest more
 kept_more stages.Blocks spot rest fed more le kept = (kept.0, omega (arith, kept.1))
 kept_more (stages.Skipping skip) spot rest fed more le kept = (kept.0, omega (arith, kept.1))
@@ -113,7 +113,7 @@ module _ (spot : Spot) (old piece new behind : List ℕ) (kept : new ≡ old ++ 
   pub head_all : new ++ behind ≡ old ++ piece
   head_all = rw (kept, left) (topped (12 - length old) old piece)
 
-  -- there is no whole head, so that the piece is used up
+  -- there is no whole head, so the piece is used up
   pub head_short : look_at spot.order spot.stop new ≡ Short → new ≡ old ++ piece
   head_short short =
       elim (cases_lt (length new) 12) [
@@ -123,13 +123,13 @@ module _ (spot : Spot) (old piece new behind : List ℕ) (kept : new ≡ old ++ 
         | inr full ↦ absurd (look_at-there spot.order spot.stop new full short)
       ]
 
-  -- a head that isn't short is that of all bytes
+  -- a head that isn't cut is the head of all bytes
   pub head_look : (look : Look) → look_at spot.order spot.stop new ≡ look → look ≢ Short → look_at spot.order spot.stop (old ++ piece) ≡ look
   head_look look e there =
       let here : look_at spot.order spot.stop new ≢ Short = λ s. there (sym e ∙ s) in
       ap (look_at spot.order spot.stop) (sym head_all) ∙ look_at-append spot.order spot.stop new behind here ∙ e
 
-  -- so many bytes are there
+  -- at least n bytes are there
   pub head_bytes : length new + length behind ≡ length old + length piece
   head_bytes = omega (arith, ap length head_all, length-append new behind, length-append old piece)
 

@@ -1,4 +1,4 @@
--- Splitting bytes into blocks, one block after the other and piece after piece.
+-- Splitting bytes into blocks, block by block and piece by piece.
 use Rattle.std.proofs.Common.{◌≡◌, ℕ, zero, suc, ◌+◌, ◌*◌, ◌≤◌, List, [], ◌++◌, length, take, drop, refl, sym, ap, subst, ◌∙◌, arith, append_assoc}
 use Rattle.std.specs.Prelude.{◌≢◌, Option, None, Some}
 use Rattle.std.proofs.lemmas.List.{append-nil, drop-append-le, take-append-le, length-append, length-drop}
@@ -25,7 +25,7 @@ split_on-same (Block head meaning) spot frames bytes f g h = h head meaning refl
 abbrev pub frames_after : ℕ → Spot → List Frame → List ℕ → Head → Meaning → List Frame
 frames_after cpu spot frames bytes head meaning = frames ++ frames_in cpu spot.index meaning (take head.total bytes)
 
--- more room than bytes changes nothing
+-- a bound above the number of bytes changes nothing
 within_enough : (m n cpu : ℕ) (spot : Spot) (frames : List Frame) (bytes : List ℕ) → length bytes ≤ m → length bytes ≤ n → split_within m cpu spot frames bytes ≡ split_within n cpu spot frames bytes
 unfolding split_within
 within_enough zero zero cpu spot frames bytes hm hn = refl
@@ -66,7 +66,7 @@ module _ (cpu : ℕ) (spot : Spot) (frames : List Frame) (bytes : List ℕ) wher
 
 -- ---- going over the blocks
 
--- what holds where the split stops holds of all, if each block keeps it
+-- what holds at the stop holds of all, if each block preserves it
 module _ (cpu : ℕ) (P : Spot → List Frame → List ℕ → Reached → Type 0)
     (on_part : (spot : Spot) (frames : List Frame) (bytes : List ℕ) → front_of spot.order spot.interfaces spot.stop bytes ≡ Part
     → P spot frames bytes (record { spot = spot; frames = frames; fault = None; left = bytes }))
@@ -118,7 +118,7 @@ stop_after spot head (meanings.Interface interface) = refl
 stop_after spot head (meanings.Packet packet) = refl
 stop_after spot head meanings.Skipped = refl
 
--- one block's share
+-- one block's part of the sum
 record BlockAccounts (cpu : ℕ) (spot : Spot) (frames : List Frame) (head : Head) (meaning : Meaning) (block : List ℕ) : Type 0 where
   stop : (spot_after spot head meaning).stop ≡ spot.stop + head.total
   count : 16 * (spot_after spot head meaning).index ≤ 16 * spot.index + head.total
@@ -147,12 +147,12 @@ accounts cpu = by_blocks cpu Accounts
 
 -- ---- more bytes
 
--- from where a split stopped it goes on with more bytes, unless a test failed there
+-- with more bytes a split goes on from where it stopped, unless a test failed there
 abbrev pub go_on_by : Option BlockError → ℕ → Reached → List ℕ → Reached
 go_on_by None cpu reached more = split_from cpu reached.spot reached.frames (reached.left ++ more)
 go_on_by (Some error) cpu reached more = record { spot = reached.spot; frames = reached.frames; fault = Some error; left = reached.left ++ more }
 
--- the split of two lists, one after the other
+-- the split of two lists, one after another
 GoesOn : ℕ → Spot → List Frame → List ℕ → Reached → Type 0
 GoesOn cpu spot frames bytes reached = (more : List ℕ) → split_from cpu spot frames (bytes ++ more) ≡ go_on_by reached.fault cpu reached more
 
@@ -191,7 +191,7 @@ prepends cpu = by_blocks cpu (Prepends cpu)
     let all = append_assoc before frames (frames_in cpu spot.index meaning (take head.total bytes)) in
     first ∙ ap (λ (fs : List Frame). split_from cpu (spot_after spot head meaning) fs (drop head.total bytes)) all ∙ rest before)
 
--- the frames so far stay at the start, whatever they are
+-- the frames so far stay at the start, whatever comes after them
 pub split_frames : (cpu : ℕ) (spot : Spot) (frames : List Frame) (bytes : List ℕ)
     → split_from cpu spot frames bytes ≡ record (split_from cpu spot [] bytes) { frames = frames ++ (split_from cpu spot [] bytes).frames }
 unfolding Prepends
@@ -199,7 +199,7 @@ split_frames cpu spot frames bytes = ap (λ (fs : List Frame). split_from cpu sp
 
 -- ---- the number of the CPU
 
--- the same but for the frames
+-- the same except the frames
 pub record StopsAlike (x y : Reached) : Type 0 where
   pub spot : x.spot ≡ y.spot
   pub fault : x.fault ≡ y.fault

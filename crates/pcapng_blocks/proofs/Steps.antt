@@ -32,11 +32,11 @@ use Rattle.pcapng_blocks.proofs.Splits.{split_part, split_fault, split_block}
 
 -- ---- lists
 
--- what was appended and what is left are the piece
+-- what was appended and what is left make up the piece
 pub topped : (n : ℕ) (old piece : List ℕ) → (old ++ take n piece) ++ drop n piece ≡ old ++ piece
 topped n old piece = append_assoc old (take n piece) (drop n piece) ∙ ap (λ (xs : List ℕ). old ++ xs) (take-append-drop n piece)
 
--- what is after a place of two lists
+-- what is after a place of two joined lists
 drop-append : (n : ℕ) (xs ys : List ℕ) → drop n (xs ++ ys) ≡ drop n xs ++ drop (n - length xs) ys
 drop-append n xs ys =
     elim (cases_lt (length xs) n) [
@@ -70,7 +70,7 @@ is_other kinds.Enhanced e = absurd cc
 is_other kinds.Simple e = absurd cc
 is_other kinds.Other e = refl
 
--- ---- where reading came to
+-- ---- where reading stopped
 
 module _ (cpu : ℕ) (spot : Spot) (frames : List Frame) (bytes : List ℕ) (cursor : Cursor) (interfaces : List Interface) (at : spot_of cursor interfaces ≡ spot) where
   -- a block that is read isn't whole
@@ -119,7 +119,7 @@ fresh_fault cursor interfaces frames left kept error cut reached e all =
 
 -- ---- a block that is skipped
 
--- its bytes so far, and a piece of which `after` is after those before the tail
+-- its bytes so far, and a piece in which `after` follows the bytes before the tail
 module _ (spot : Spot) (skip : Skip) (rest left piece behind : List ℕ) (is : IsSkipping spot skip rest left) (some : 12 ≤ skip.head.total)
     (passed : behind ≡ drop (min skip.left (length piece)) piece) where
   total : ℕ
@@ -198,7 +198,7 @@ module _ (cpu : ℕ) (spot : Spot) (frames : List Frame) (skip : Skip) (rest lef
   front_is : front_of spot.order spot.interfaces spot.stop (left ++ piece) ≡ front_told skip.head (meaning_of spot.interfaces spot.stop skip.head (take skip.head.total (left ++ piece)))
   front_is = front_here spot.order spot.interfaces spot.stop (left ++ piece) skip.head (head_stays spot skip rest left piece behind is some passed) whole_here
 
-  -- the tail is another number
+  -- the tail is a different number
   pub skip_fault : number_at skip.head.order 4 cut new ≢ skip.head.total → front_of spot.order spot.interfaces spot.stop (left ++ piece) ≡ Fault (BadLength spot.stop)
   unfolding meaning_of
   skip_fault other = front_is ∙ rw (← number_is, eqb-not skip.head.order new other) refl where
@@ -284,7 +284,7 @@ module _ (cpu : ℕ) (spot : Spot) (frames : List Frame) (head : Head) (old piec
   pub read_bound : head.total ≤ length new → head.total + length fresh ≡ length old + length piece
   read_bound full = omega (arith, read_whole full, ap length read_all, length-append new fresh, length-append old piece)
 
--- ---- block after block
+-- ---- block by block
 
 pub splits_on : (cpu : ℕ) (spot next : Spot) (before after : List Frame) (left block behind : List ℕ) (head : Head) (meaning : Meaning) (reached : Reached)
     → front_of spot.order spot.interfaces spot.stop left ≡ Block head meaning → next ≡ spot_after spot head meaning → block ≡ take head.total left → behind ≡ drop head.total left
@@ -292,7 +292,7 @@ pub splits_on : (cpu : ℕ) (spot next : Spot) (before after : List Frame) (left
 splits_on cpu spot next before after left block behind head meaning reached front n b d a told =
     rw (n, a, b, d) (sym (split_block cpu spot before left head meaning front) ∙ told)
 
--- what isn't there is nothing
+-- a part that is missing counts as empty
 pub none_of : {A : Type 0} (found : Option A) → ((x : A) → found ≡ Some x → ⊥) → found ≡ None
 none_of None not = refl
 none_of (Some x) not = absurd (not x refl)

@@ -15,7 +15,7 @@ use Rattle.pcapng_blocks.specs.Numbers.{number_at, padded}
 use Rattle.pcapng_blocks.specs.Interfaces.{interface_of, nanoseconds}
 use Rattle.pcapng_blocks.specs.Bodies.{captured_fits, stamp_of, packet_of, packet_by, enhanced, simple_size, simple, body_of, meaning_of, IsWithin}
 
--- a packet has a time within its second, no more bytes than were on the wire, and no more than 262,144
+-- a packet has a fraction below a second, and no more bytes than were on the wire and than 262,144
 pub record IsCapturedPacket (packet : Captured) : Type 0 where
   pub nsec : packet.nsec ≤ 999999999
   pub wire : packet.size ≤ packet.wire

@@ -27,7 +27,7 @@ abbrev pub front_told : Head → Result Meaning BlockError → Front
 front_told head (Ok meaning) = Block head meaning
 front_told head (Err error) = Fault error
 
--- what bytes begin with that begin with this head
+-- what bytes begin with, given this head
 abbrev pub front_behind : List Interface → ℕ → Head → List ℕ → Front
 front_behind interfaces place head bytes =
     if nat_lt (length bytes) head.total then Part
@@ -43,7 +43,7 @@ front_by (looks.Headed head) interfaces place bytes = front_behind interfaces pl
 unfoldable pub front_of : Order → List Interface → ℕ → List ℕ → Front
 front_of order interfaces place bytes = front_by (look_at order place bytes) interfaces place bytes
 
--- the place after a block; a section header forgets the interfaces, an interface block adds one
+-- the place after a block; a section header clears the interfaces, an interface block adds one
 abbrev pub spot_after : Spot → Head → Meaning → Spot
 spot_after spot head meanings.Section =
     record {
@@ -97,7 +97,7 @@ split_on (Fault error) spot frames bytes next = record {
 }
 split_on (Block head meaning) spot frames bytes next = next head meaning
 
--- at most so many blocks
+-- at most n blocks
 unfoldable pub split_within : ℕ → ℕ → Spot → List Frame → List ℕ → Reached
 split_within zero cpu spot frames bytes = record {
   spot = spot;

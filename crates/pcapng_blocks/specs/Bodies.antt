@@ -17,7 +17,7 @@ use Rattle.pcapng_blocks.specs.declared.bodies.Meaning.TheVariants as meanings
 use Rattle.pcapng_blocks.specs.Numbers.{number_at, padded}
 use Rattle.pcapng_blocks.specs.Interfaces.{interface_of, nanoseconds, seconds, remainder}
 
--- so many captured bytes are allowed, and are within the block beside its other fields
+-- this number of captured bytes is allowed, and the block has room for them beside its other fields
 abbrev pub captured_fits : ℕ → ℕ → ℕ → Bool
 captured_fits others captured total =
     nat_le captured 262144 && nat_le (others + padded captured) total
@@ -26,7 +26,7 @@ captured_fits others captured total =
 abbrev pub stamp_of : Order → List ℕ → ℕ
 stamp_of order block = number_at order 4 12 block * 4294967296 + number_at order 4 16 block
 
--- a packet with its time, of so many captured and original bytes, which stand from a place on
+-- a packet with its time and its captured and original lengths, whose bytes begin at a place
 abbrev pub packet_of : ℕ → ℕ → ℕ → ℕ → Captured
 packet_of nanos start captured original =
     record {
@@ -51,8 +51,7 @@ enhanced place (Some interface) order block =
     (number_at order 4 20 block) (number_at order 4 24 block))
     32 (length block)
 
--- the captured bytes of a simple packet: its original ones, as far as the snap length goes, where
--- that isn't 0
+-- the captured bytes of a simple packet: its original ones, up to the snap length if that isn't 0
 abbrev pub simple_size : ℕ → ℕ → ℕ
 simple_size snaplen original = if snaplen == 0 then original else min original snaplen
 
@@ -104,7 +103,7 @@ frame_of cpu index packet block = record {
   tag = None;
 }
 
--- the frames of a block: that of a packet, else none
+-- the frames of a block: that of a packet, otherwise none
 abbrev pub frames_in : ℕ → ℕ → Meaning → List ℕ → List Frame
 frames_in cpu index meanings.Section block = []
 frames_in cpu index (meanings.Interface interface) block = []

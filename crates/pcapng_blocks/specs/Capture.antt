@@ -11,7 +11,7 @@ use Rattle.pcapng_blocks.specs.declared.heads.Look.TheVariants as looks
 use Rattle.pcapng_blocks.specs.Heads.{look_at, is_skipped}
 use Rattle.pcapng_blocks.specs.Blocks.{Spot, Reached, split_from}
 
--- the bytes that count: no more than the first 33,554,432
+-- the bytes that count: at most the first 33,554,432
 abbrev pub counted : List ℕ → List ℕ
 counted bytes = take 33554432 bytes
 
@@ -36,7 +36,7 @@ skips looks.Short = false
 skips (looks.Bad error) = false
 skips (looks.Headed head) = is_skipped head.kind
 
--- the bytes from the stop on are those of a block that is skipped, which is headed there
+-- the bytes from the stop on are those of a block that is skipped, whose head is there
 abbrev pub is_skipping : List ℕ → Bool
 is_skipping bytes =
     skips (look_at (reached_in 0 bytes).spot.order (reached_in 0 bytes).spot.stop
@@ -45,7 +45,7 @@ is_skipping bytes =
 abbrev pub too_large : List ℕ → Option BlockError
 too_large bytes = if nat_lt 33554432 (length bytes) then Some TooLarge else None
 
--- the damage of a capture: the test that failed; else more bytes than count
+-- the damage of a capture: the test that failed; otherwise that there are more bytes than count
 abbrev pub damage_of : List ℕ → Option BlockError
 damage_of bytes = option_or (reached_in 0 bytes).fault (too_large bytes)
 
@@ -53,6 +53,6 @@ abbrev pub cut_of : List ℕ → Option BlockError
 cut_of bytes =
     if nat_lt (stop_of bytes) (length bytes) then Some (Truncated (stop_of bytes)) else None
 
--- how a capture ends: its damage, else the place where it is cut, else nothing
+-- how a capture ends: its damage, otherwise the place where it is cut, otherwise nothing
 abbrev pub end_of : List ℕ → Option BlockError
 end_of bytes = option_or (damage_of bytes) (cut_of bytes)

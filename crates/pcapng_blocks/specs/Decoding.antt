@@ -1,4 +1,4 @@
--- What a decoder of blocks stands for: the bytes that it was fed.
+-- What a decoder of blocks represents: the bytes that it was fed.
 use Rattle.std.specs.Prelude.{◌≡◌, ℕ, ◌≤◌, Bool, nat_lt, if◌then◌else◌, List, ◌++◌, length, Option}
 use Rattle.std.specs.Prelude.{None, Some, Result}
 use Rattle.std.specs.Result.{result_err}
@@ -35,7 +35,7 @@ pub record IsSound (d : Inside) : Type 0 where
   pub bound : d.fed ≤ 33554432
   pub first : d.cursor.first ≤ length d.held.interfaces.items
 
--- the stage where bytes may have been fed that are beyond those that count
+-- the stage, given whether bytes beyond those that count were fed
 abbrev pub stage_with : Stage → Bool → Stage
 stage_with Blocks beyond = if beyond then Damaged TooLarge else Blocks
 stage_with (Skipping skip) beyond = if beyond then Damaged TooLarge else Skipping skip
@@ -47,8 +47,8 @@ error_of Blocks = None
 error_of (Skipping skip) = None
 error_of (Damaged error) = Some error
 
--- how a capture ends at a stage, where its last whole block ends at `stop`, and no byte is after it
--- or some
+-- how a capture ends at a stage, where its last whole block ends at `stop`, given whether bytes
+-- follow it
 abbrev pub end_at : Stage → ℕ → Bool → Option BlockError
 end_at Blocks stop none_after = if none_after then None else Some (Truncated stop)
 end_at (Skipping skip) stop none_after = Some (Truncated stop)
@@ -63,7 +63,7 @@ stage_of bytes = stage_with (stage_at (reached_in 0 bytes)) (nat_lt 33554432 (le
 abbrev pub kept_of : List ℕ → List ℕ
 kept_of bytes = rest_in (stage_of bytes) (reached_in 0 bytes).left
 
--- the decoder stands for the bytes that it was fed
+-- the decoder represents the bytes that it was fed
 pub record Stands (number : ℕ) (decoder : DecoderValue) (fed : List ℕ) : Type 0 where
   pub cpu : decoder.cpu ≡ number
   pub count : decoder.fed ≡ length (counted fed)
@@ -71,7 +71,7 @@ pub record Stands (number : ℕ) (decoder : DecoderValue) (fed : List ℕ) : Typ
   pub spot : decoder.spot ≡ (reached_in 0 fed).spot
   pub rest : decoder.rest ≡ kept_of fed
 
--- what stood for some bytes before a feed stands for them and the piece after it
+-- what represented some bytes before a feed represents them and the piece after it
 abbrev pub StandsOn : DecoderValue → DecoderValue → List ℕ → Type 0
 StandsOn old new piece =
     (cpu : ℕ) (fed : List ℕ) → Stands cpu old fed → Stands cpu new (fed ++ piece)
@@ -84,7 +84,7 @@ AppendsNew decoder piece before after =
     × (after ≡ before ++ more)
     × (frames_of cpu (fed ++ piece) ≡ frames_of cpu fed ++ more)
 
--- a feed answered the damage of all bytes that were fed, the piece with them
+-- a feed returned the damage of all bytes that were fed, the piece included
 abbrev pub IsDamage : DecoderValue → List ℕ → Option BlockError → Type 0
 IsDamage decoder piece damage =
     (cpu : ℕ) (fed : List ℕ) → Stands cpu decoder fed → damage ≡ damage_of (fed ++ piece)

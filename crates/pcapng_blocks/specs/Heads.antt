@@ -13,7 +13,7 @@ use Rattle.pcapng_blocks.specs.declared.heads.Look.{Look}
 use Rattle.pcapng_blocks.specs.declared.heads.Look.TheVariants.{Short, Bad, Headed}
 use Rattle.pcapng_blocks.specs.Numbers.{number_at}
 
--- what a block is, by its type; the type of a section header reads alike in either byte order
+-- what a block is, by its type; the type of a section header reads the same in either byte order
 abbrev pub kind_of : ℕ → Kind
 kind_of number =
     if number == 0x0a0d0d0a then Section
@@ -22,7 +22,7 @@ kind_of number =
     else if number == 3 then Simple
     else Other
 
--- the number of bytes after which a block is headed
+-- the number of bytes that a block's head needs
 abbrev pub head_size : Kind → ℕ
 head_size Section = 12
 head_size Interface = 8
@@ -59,7 +59,7 @@ order_by_magic bytes =
     else if number_at Big 4 8 bytes == 0x1a2b3c4d then Some Big
     else None
 
--- the byte order of a block: that of its section, which a section header says itself
+-- the byte order of a block: that of its section, which a section header states itself
 abbrev pub order_of : Kind → Order → List ℕ → Option Order
 order_of Section order bytes = order_by_magic bytes
 order_of Interface order bytes = Some order
@@ -67,7 +67,7 @@ order_of Enhanced order bytes = Some order
 order_of Simple order bytes = Some order
 order_of Other order bytes = Some order
 
--- a headed block at a place, by its byte order
+-- a block with its head at a place, by its byte order
 abbrev pub headed : ℕ → Kind → Option Order → List ℕ → Look
 headed place kind None bytes = Bad BadMagic
 headed place kind (Some order) bytes =
@@ -86,7 +86,7 @@ look_at order place bytes =
     if nat_lt (length bytes) 8 then Short
     else look_as (kind_of (number_at order 4 0 bytes)) order place bytes
 
--- a headed block has at least the least total length of its kind, which has at least 12
+-- a block with its head has at least the least total length of its kind, which is at least 12
 pub record IsHead (head : Head) : Type 0 where
   pub enough : least head.kind ≤ head.total
   pub some : 12 ≤ head.total

@@ -1,4 +1,4 @@
--- An interface of a section, and the moments that its time stamps say.
+-- An interface of a section, and the moments that its time stamps mean.
 use Rattle.std.specs.Prelude.{ℕ, zero, suc, ◌+◌, ◌-◌, ◌*◌, ◌/◌, ◌%◌, ◌^◌, min, Bool, true, false}
 use Rattle.std.specs.Prelude.{◌&&◌, ◌==◌, nat_lt, if◌then◌else◌, List, length, take, drop}
 use Rattle.std.specs.Prelude.{slice_index}
@@ -6,7 +6,7 @@ use Rattle.pcapng_blocks.specs.declared.byte_order.Order.{Order}
 use Rattle.pcapng_blocks.specs.declared.interfaces.Interface.{Interface}
 use Rattle.pcapng_blocks.specs.Numbers.{number_at, padded}
 
--- the bytes are an option and what comes after it: its code isn't 0 and its value is there
+-- the bytes are an option and what follows it: its code isn't 0 and its value is there
 unfoldable pub begins_option : Order → List ℕ → Bool
 begins_option order bytes =
     if nat_lt (length bytes) 4 then false
@@ -20,7 +20,7 @@ resolution_after order so_far bytes =
     if (number_at order 2 0 bytes == 9) && (number_at order 2 2 bytes == 1) then slice_index bytes 4
     else so_far
 
--- the last time resolution of options, at most so many
+-- the last time resolution among the first n options
 unfoldable pub resolution_within : ℕ → Order → ℕ → List ℕ → ℕ
 resolution_within zero order so_far bytes = so_far
 resolution_within (suc most) order so_far bytes =
@@ -47,8 +47,8 @@ nanoseconds resolution stamp =
     if nat_lt resolution 128 then stamp * 1000000000 / 10 ^ resolution
     else stamp * 1000000000 / 2 ^ (resolution - 128)
 
--- the seconds of a number of nanoseconds, as far as 32 bits go, and the nanoseconds beyond whole
--- seconds
+-- the seconds of a number of nanoseconds, at most the greatest number of 32 bits, and the
+-- nanoseconds beyond whole seconds
 abbrev pub seconds : ℕ → ℕ
 seconds nanos = min (nanos / 1000000000) 4294967295
 

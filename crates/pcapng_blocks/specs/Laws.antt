@@ -2,8 +2,8 @@
 use Rattle.std.specs.Prelude.{◌≡◌, ℕ, ◌^◌, ◌<◌, ◌≤◌, length, All, None}
 use Rattle.frame_view.specs.declared.frames.Frame.{Frame}
 
--- frame number `index` of the capture of a CPU: a time within its second, and no more bytes than
--- were on the wire, nor more than 262,144
+-- frame number `index` of the capture of a CPU: a fraction below a second, and no more bytes than
+-- were on the wire and than 262,144
 pub record IsPacketFrame (number index : ℕ) (frame : Frame) : Type 0 where
   pub cpu : frame.cpu ≡ number
   pub place : frame.index ≡ index
@@ -12,7 +12,7 @@ pub record IsPacketFrame (number index : ℕ) (frame : Frame) : Type 0 where
   pub wire : length frame.bytes ≤ frame.wire
   pub few : length frame.bytes ≤ 262144
 
--- the numbers that a frame takes from its capture are those of 32 bits, and each byte is a byte
+-- the numbers that a frame takes from its capture have 32 bits, and each byte is a byte
 pub record FitsFrame (frame : Frame) : Type 0 where
   pub sec : frame.sec < 2 ^ 32
   pub wire : frame.wire < 2 ^ 32

@@ -1,4 +1,4 @@
--- What a feed of a decoder comes to, by where the split stops.
+-- The outcome of a feed of a decoder, by where the split stops.
 use Rattle.std.specs.Prelude.{◌≡◌, ℕ, ◌+◌, ◌-◌, ◌*◌, ◌≤◌, ◌<◌, true, if◌then◌else◌, Option, None}
 use Rattle.std.specs.Prelude.{Some, List, [], ◌++◌, length, take, drop}
 use Rattle.frame_view.specs.declared.frames.Frame.{Frame}
@@ -51,7 +51,7 @@ rest_in stages.Blocks left = left
 rest_in (stages.Skipping skip) left = drop (skip.head.total - 4) left
 rest_in (stages.Damaged error) left = []
 
--- a feed came to where the split stops, with these kept bytes, interfaces and frames
+-- a feed has read to where the split stops, and has these kept bytes, interfaces and frames
 pub record Comes (reached : Reached) (progress : Progress) (kept : List ℕ)
     (interfaces : List Interface) (after : List Frame) : Type 0 where
   pub stage : progress.stage ≡ stage_at reached
@@ -67,13 +67,13 @@ pub record IsSkipping (spot : Spot) (skip : Skip) (rest left : List ℕ) : Type 
   pub count : skip.left ≡ skip.head.total - 4 - length left
   pub tail : rest ≡ drop (skip.head.total - 4) left
 
--- the bytes from the stop on are those that are kept: they begin no block that is given, and none
--- that is skipped
+-- the bytes from the stop on are those that are kept: they begin neither a block that is read nor
+-- one that is skipped
 pub record IsPart (spot : Spot) (rest : List ℕ) : Type 0 where
   pub part : front_of spot.order spot.interfaces spot.stop rest ≡ fronts.Part
   pub waits : waiting (look_at spot.order spot.stop rest) rest ≡ stages.Blocks
 
--- a block that is being skipped has more bytes before its tail, or some of the tail
+-- a block that is being skipped has more bytes before its tail, or some of the tail is kept
 pub record IsSkip (skip : Skip) (rest : List ℕ) : Type 0 where
   pub skipped : is_skipped skip.head.kind ≡ true
   pub some : 12 ≤ skip.head.total
@@ -81,8 +81,8 @@ pub record IsSkip (skip : Skip) (rest : List ℕ) : Type 0 where
   pub within : skip.left + 4 ≤ skip.head.total
   pub none : 0 < skip.left → rest ≡ []
 
--- what is kept at a stage is no whole block, and with what was skipped it is within the bytes that
--- were fed
+-- what is kept at a stage isn't a whole block, and with what was skipped it is within the bytes
+-- that were fed
 abbrev pub IsKept : Stage → Spot → List ℕ → ℕ → Type 0
 IsKept stages.Blocks spot rest fed = IsPart spot rest × (spot.stop + length rest ≤ fed)
 IsKept (stages.Skipping skip) spot rest fed =
@@ -98,7 +98,7 @@ pub record IsSoundAt (stage : Stage) (spot : Spot) (rest : List ℕ) (fed : ℕ)
 pub record Extends {A : Type 0} (old new : List A) : Type 0 where
   pub front : take (length old) new ≡ old
 
--- what was read is within what is held
+-- what was read is within what is kept
 pub record IsReadTo (progress : Progress) (held : Held) : Type 0 where
   pub cut : progress.cut ≤ length held.kept.items
   pub first : progress.cursor.first ≤ length held.interfaces.items
@@ -111,7 +111,7 @@ pub record IsUnread (stage : Stage) (cursor : Cursor) (old : Held) (before : Lis
   pub interfaces : new.interfaces.items ≡ old.interfaces.items
   pub frames : after ≡ before
 
--- what a feed of a piece at a stage came to, whatever bytes the kept ones stand for
+-- the outcome of a feed of a piece at a stage, whatever bytes the kept ones represent
 abbrev pub Feeds :
     ℕ → Stage → Cursor → Held → List ℕ → List Frame → Progress → Held → List Frame → Type 0
 Feeds cpu stages.Blocks cursor old piece before progress new after =
@@ -124,7 +124,7 @@ Feeds cpu (stages.Skipping skip) cursor old piece before progress new after =
 Feeds cpu (stages.Damaged error) cursor old piece before progress new after =
     IsUnread (stages.Damaged error) cursor old before progress new after
 
--- what is kept where a feed came to is sound, where so many bytes were fed
+-- the stage and the kept bytes after a feed are sound, after this number of bytes
 abbrev pub StaysSound : Progress → Held → ℕ → Type 0
 StaysSound progress held fed =
     IsSoundAt progress.stage (spot_of progress.cursor held.interfaces.items)

@@ -17,13 +17,13 @@ const ETHERNET: u16 = 1;
 /// The major version of a section.
 const MAJOR: u16 = 1;
 
-/// The largest number of captured bytes of a packet.
+/// The greatest number of captured bytes of a packet.
 const LARGEST_PACKET: u32 = 262_144;
 
-/// The nanoseconds of a second.
+/// The number of nanoseconds in a second.
 const SECOND: u128 = 1_000_000_000;
 
-/// A packet, whose bytes stand in its block.
+/// A packet, whose bytes are in its block.
 #[derive(Clone, Copy)]
 pub(crate) struct Captured {
     /// The seconds of its time.
@@ -47,7 +47,7 @@ pub(crate) enum Meaning {
     Interface(Interface),
     /// A packet.
     Packet(Captured),
-    /// It isn't read.
+    /// A block that isn't read.
     Skipped,
 }
 
@@ -175,7 +175,7 @@ fn packet_of(nanos: u128, start: usize, captured: u32, original: u32) -> Capture
     }
 }
 
-/// The packet, where its captured bytes are no more than are allowed and lie within the block.
+/// The packet, if its captured bytes are no more than are allowed and are within the block.
 fn within(
     place: usize,
     packet: Captured,

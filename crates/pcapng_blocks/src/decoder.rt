@@ -1,8 +1,8 @@
 //! A pcapng capture that comes in pieces.
 //!
-//! A feed completes the block of which bytes are kept, reads the further whole blocks of the piece
-//! where they lie, and keeps what is after them. Of a block that is skipped no body is kept: its
-//! bytes are counted, and its tail is compared when it comes. A failed test ends it all.
+//! A feed completes the block of which bytes are kept, reads the other whole blocks of the piece in
+//! place, and keeps what is after them. The body of a block that is skipped isn't kept: its bytes
+//! are counted, and its tail is compared when it comes. After a failed test nothing more is read.
 ghost use Rattle.std.specs.Prelude.{◌≡◌, ◌≤◌, [], IfOk, OnErr};
 
 use crate::BlockError;
@@ -17,14 +17,13 @@ use std::marker::Model;
 const LARGEST_CAPTURE: usize = 33_554_432;
 
 /// Reads a pcapng capture that is fed piece by piece, however it is cut; its first bytes are those
-/// of a section header. That no more than the first 33,554,432 bytes count, no more than 262,144
-/// bytes of a packet and no more than 524,288 of a block that is read, is this project's own
-/// choice.
+/// of a section header. The limits are this project's own choice: the first 33,554,432 bytes count,
+/// a packet may have 262,144 and a block that is read 524,288.
 #[derive(Debug, Drop)]
 pub struct BlockDecoder {
     /// Gives the memory for the frames.
     alloc: Global,
-    /// The number that its frames carry.
+    /// The CPU number that its frames carry.
     cpu: u32,
     /// The number of bytes that were fed, of those that count.
     fed: usize,
@@ -72,14 +71,14 @@ impl BlockDecoder {
         }
     }
 
-    /// Takes the next bytes of the capture, appends the frames that are whole now, and gives the
-    /// capture's damage, if there is any. After damage every call gives the same and appends
+    /// Takes the next bytes of the capture, appends the frames that are whole now, and returns the
+    /// capture's damage, if there is any. After damage every call returns the same and appends
     /// nothing. After `Memory` the decoder and `into` are as before the call.
     pub fn feed(&mut self, piece: &[u8], into: &mut Frames) -> Result<Option<BlockError>, Memory>
-        // The decoder stands for all bytes that it was fed.
+        // The decoder represents all bytes that it was fed.
         ensures stands { IfOk result (λ damage. StandsOn self.old self.new piece.now) }
 
-        // The frames that are new are appended, and no others.
+        // Exactly the new frames are appended.
         ensures frames { IfOk result (λ damage. AppendsNew self.old piece.now into.old into.new) }
 
         // The answer is the damage of all bytes that were fed.
@@ -120,8 +119,8 @@ impl BlockDecoder {
         Ok(None)
     }
 
-    /// How the capture ends where nothing more comes: its damage, or `Truncated` with the place of
-    /// the block that isn't whole. It takes no memory.
+    /// How the capture ends if nothing more comes: its damage, or `Truncated` with the place of the
+    /// block that isn't whole. It takes no memory.
     pub fn end(&self) -> Result<(), BlockError>
         ensures { IsEnd self.now result }
     {

@@ -8,7 +8,7 @@ use crate::heads::{Head, Look, look_at};
 use crate::interfaces::Interface;
 use crate::{BlockError, Order};
 
-/// What bytes begin with, as far as it is clear.
+/// What bytes begin with, as far as they show it.
 #[derive(Clone, Copy)]
 pub(crate) enum Front {
     /// A part of a block that fails no test yet, or nothing.
@@ -33,7 +33,7 @@ pub(crate) fn front_of(order: Order, interfaces: &[Interface], place: usize, byt
     }
 }
 
-/// What bytes begin with, which begin with this head.
+/// What bytes begin with, given this head.
 fn front_behind(interfaces: &[Interface], place: usize, head: Head, bytes: &[u8]) -> Front
     requires head { IsHead head }
     ensures front { result ≡ front_behind interfaces.now place head bytes.now }

@@ -34,18 +34,18 @@ pub(crate) enum Kind {
     Enhanced,
     /// A simple packet.
     Simple,
-    /// Of another type: it is skipped.
+    /// A block of another type: it is skipped.
     Other,
 }
 
-/// What the head of a block says, where it may say so.
+/// What the head of a block says, if that is allowed.
 #[derive(Clone, Copy, Debug)]
 pub(crate) struct Head {
     /// What the block is.
     pub kind: Kind,
     /// The byte order of its fields.
     pub order: Order,
-    /// Its number of bytes, head and tail with them.
+    /// Its number of bytes, head and tail included.
     pub total: u32,
 }
 
@@ -54,7 +54,7 @@ pub(crate) struct Head {
 pub(crate) enum Look {
     /// Too few bytes for the head of a block.
     Short,
-    /// A head that says what it may not.
+    /// A head that says something that isn't allowed.
     Bad(BlockError),
     /// The head of a block.
     Headed(Head),

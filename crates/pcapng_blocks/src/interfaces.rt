@@ -1,4 +1,4 @@
-//! An interface of a section, and the moments that its time stamps say.
+//! An interface of a section, and the moments that its time stamps mean.
 ghost use Rattle.std.specs.Prelude.{◌≡◌, ◌+◌, ◌*◌, ◌^◌, ◌<◌, ◌≤◌, ◌/◌, length, drop};
 ghost use Rattle.pcapng_blocks.specs.Interfaces.{begins_option, resolution_after, resolution_of};
 ghost use Rattle.pcapng_blocks.specs.Interfaces.{interface_of, nanoseconds};
@@ -9,16 +9,16 @@ use crate::Order;
 /// The code of the option that says the time resolution (if_tsresol).
 const TIME_RESOLUTION: u16 = 9;
 
-/// The time resolution of an interface that doesn't say one: microseconds.
+/// The time resolution of an interface that doesn't state one: microseconds.
 const MICROSECONDS: u8 = 6;
 
-/// The nanoseconds of a second.
+/// The number of nanoseconds in a second.
 const SECOND: u128 = 1_000_000_000;
 
 /// An interface of a section.
 #[derive(Clone, Copy, Debug)]
 pub(crate) struct Interface {
-    /// The most bytes of a packet that were captured; 0 is no limit.
+    /// The most bytes that were captured of a packet; 0 means no limit.
     pub snaplen: u32,
     /// The unit of its time stamps, as if_tsresol says it: with the low seven bits k, 10 to the -k
     /// seconds, or 2 to the -k seconds where the top bit is set.
@@ -98,7 +98,7 @@ pub(crate) fn nanoseconds(resolution: u8, stamp: u64) -> u128
     }
 }
 
-/// A number of nanoseconds divided by ten so many times.
+/// A number of nanoseconds divided by ten `times` times.
 fn decimal(scaled: u128, times: u8) -> u128
     ensures { result ≡ scaled / 10 ^ times }
 {

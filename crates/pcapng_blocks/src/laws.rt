@@ -25,20 +25,20 @@ pub fn damage_stays()
         → damage_of fed ≡ Some error → frames_of cpu (fed ++ more) ≡ frames_of cpu fed }
 {}
 
-/// A capture with damage ends with it, and it is no cut.
+/// A capture with damage ends with it, and damage is no cut.
 pub fn damage_is_the_end()
     ensures end { (fed : List ℕ) (error : BlockError) → damage_of fed ≡ Some error
         → end_of fed ≡ Some error }
     ensures uncut { (fed : List ℕ) (place : ℕ) → damage_of fed ≢ Some (BlockError.Truncated place) }
 {}
 
-/// A capture of more than 33,554,432 bytes is damaged, so that feeding it ends.
+/// A capture of more than 33,554,432 bytes is damaged, so feeding it ends.
 pub fn too_many_bytes_are_damage()
     ensures { (fed : List ℕ) → 33554432 < length fed → IsSome (damage_of fed) }
 {}
 
-/// Frames are numbered from 0, carry the number of their CPU and have no tag. Each has a time
-/// within its second, and no more bytes than were on the wire, nor more than 262,144.
+/// Frames are numbered from 0, carry the number of their CPU and have no tag. Each has a fraction
+/// below a second, and no more bytes than were on the wire and than 262,144.
 pub fn frames_are_packets()
     ensures { (cpu index : ℕ) (fed : List ℕ) →
         IfSome (slice_get (frames_of cpu fed) index) (IsPacketFrame cpu index) }
@@ -55,15 +55,15 @@ pub fn frames_are_few()
     ensures stop { (fed : List ℕ) → stop_of fed ≤ length fed }
 {}
 
-/// What is kept of a capture is no more than its bytes from the stop on; in a block that is skipped
-/// it is at most 3 bytes, and after damage none.
+/// At most the bytes of a capture from its stop on are kept; in a block that is skipped at most 3
+/// bytes, and after damage none.
 pub fn few_bytes_are_kept()
     ensures after { (fed : List ℕ) → stop_of fed + length (kept_of fed) ≤ length fed }
     ensures skipped { (fed : List ℕ) → IsTrue (is_skipping fed) → length (kept_of fed) ≤ 3 }
     ensures damaged { (fed : List ℕ) → IsSome (damage_of fed) → length (kept_of fed) ≡ 0 }
 {}
 
-/// The numbers of each frame of a list of bytes are those of 32 bits.
+/// The numbers of each frame of a list of bytes have 32 bits.
 pub fn frames_fit()
     ensures { (cpu : ℕ) (fed : List ℕ) → All (λ byte. byte < 256) fed
         → All FitsFrame (frames_of cpu fed) }

@@ -1,6 +1,6 @@
 //! Blocks read from bytes, in one pass. The first block of a feed is completed in the kept bytes,
-//! those after it are read where they lie, and of what is left only as much is kept as its block
-//! needs: of one that is skipped, the tail.
+//! those after it are read in place, and of what is left only as much is kept as its block needs:
+//! the tail, if it is skipped.
 ghost use Rattle.std.specs.Prelude.{◌≡◌, ◌+◌, ◌*◌, ◌-◌, ◌≤◌, ◌<◌, ℕ, List, ⊤, [], ◌++◌, false};
 ghost use Rattle.std.specs.Prelude.{true, length, take, drop, Some, IfOk, OnOk, OnErr, IfSome};
 ghost use Rattle.std.specs.Prelude.{MatchOption, MatchResult};
@@ -21,7 +21,7 @@ use crate::{BlockError, Order};
 use frame_view::{Frames, Memory};
 use std::alloc::Global;
 
-/// No block has fewer bytes.
+/// The fewest bytes of a block.
 const LEAST_BLOCK: usize = 12;
 
 /// The number of bytes of a block's tail, which repeats its total length.
@@ -40,7 +40,7 @@ pub(crate) struct Cursor {
     pub first: usize,
 }
 
-/// How far a feed came.
+/// How far a feed has read.
 #[derive(Clone, Copy)]
 pub(crate) struct Progress {
     /// What comes next.
@@ -76,13 +76,13 @@ pub(crate) struct Split<'a> {
 pub(crate) struct Reader {
     /// Gives the memory for a frame's bytes.
     pub alloc: Global,
-    /// The number that its frames carry.
+    /// The CPU number that its frames carry.
     pub cpu: u32,
 }
 
 impl Reader {
     /// Reads on in a capture at a stage. Frames, bytes and interfaces are only appended, so that
-    /// what was there can be restored after `Memory`.
+    /// the earlier state can be restored after `Memory`.
     pub(crate) fn read_on(
         self,
         stage: Stage,
@@ -117,8 +117,7 @@ impl Reader {
         }
     }
 
-    /// Reads on where the kept bytes are a part of a block: that block, and then the piece after
-    /// it.
+    /// Reads on with a part of a block in the kept bytes: that block, and then the piece after it.
     fn go_on(
         self,
         cursor: Cursor,
@@ -218,8 +217,8 @@ impl Reader {
         }
     }
 
-    /// Reads on in a block that is skipped, of whose tail the bytes from `cut` on are kept, and
-    /// then what is after it.
+    /// Reads on in a block that is skipped, with the tail's bytes from `cut` on kept, and then what
+    /// is after it.
     fn skip_on(
         self,
         cursor: Cursor,
@@ -273,7 +272,7 @@ impl Reader {
         self.read_fresh(Cursor { stop, ..cursor }, fresh, held, into)
     }
 
-    /// Reads the blocks of fresh bytes, of which none is kept, and keeps what is needed of those
+    /// Reads the blocks of fresh bytes, with no bytes kept, and keeps what is needed of the bytes
     /// after them.
     fn read_fresh(
         self,
@@ -357,7 +356,7 @@ impl Reader {
         }
     }
 
-    /// Takes in what a block says, and gives the place after it.
+    /// Takes in what a block says, and returns the place after it.
     #[tactic(auto, using(crate::proofs::Sounds::extends_same, crate::proofs::Sounds::extends_more))]
     fn advance(
         self,
@@ -407,8 +406,8 @@ impl Reader {
     }
 }
 
-/// Keeps what is needed of the bytes after the last block, which are a part of one, and says what
-/// comes next.
+/// Keeps what is needed of the bytes after the last block, which are a part of one, and returns
+/// what comes next.
 fn keep_rest(cursor: Cursor, left: &[u8], kept: &mut Vec<u8>) -> Result<Stage, Memory>
     ensures stage { IfOk result (λ stage.
         stage ≡ waiting (look_at cursor.order cursor.stop left.now) left.now) }
@@ -430,7 +429,7 @@ fn keep_rest(cursor: Cursor, left: &[u8], kept: &mut Vec<u8>) -> Result<Stage, M
     }
 }
 
-/// Appends bytes of the piece to the kept ones until there are `size`, and gives the bytes after
+/// Appends bytes of the piece to the kept ones until there are `size`, and returns the bytes after
 /// those.
 fn top_up<'a>(kept: &mut Vec<u8>, size: usize, piece: &'a [u8]) -> Result<&'a [u8], Memory>
     ensures kept { OnOk result
@@ -445,12 +444,12 @@ fn top_up<'a>(kept: &mut Vec<u8>, size: usize, piece: &'a [u8]) -> Result<&'a [u
     Ok(behind)
 }
 
-/// Takes items out at the start.
+/// Takes items out from the start.
 pub(crate) fn cut_front<T: Copy + Drop>(items: &mut Vec<T>, cut: usize)
     requires { cut ≤ length items.old.items }
     ensures { items.new.items ≡ drop cut items.old.items }
 {
-    // Most pieces of a long block cut nothing, and then nothing is to be moved.
+    // Most pieces of a long block take nothing out, and then nothing needs to be moved.
     if cut > 0 {
         let left = items.len() - cut;
         items.copy_within(cut.., 0);

@@ -3,8 +3,8 @@ use Rattle.std.specs.Prelude.{ℕ, ◌≤◌, List, [], ◌∷◌}
 use Rattle.schedule_lines.specs.declared.lines.Line.{Line}
 use Rattle.schedule_lines.specs.declared.lines.Line.TheVariants.{Tick}
 
--- ticks, in milliseconds, that never go back from a moment on, and none after the last moment that
--- a schedule can name
+-- ticks, in milliseconds, that never go back from a moment on, none after the last moment that a
+-- schedule can name
 abbrev pub AreAscending : ℕ → List Line → Type 0
 AreAscending clock [] = Unit {0}
 AreAscending clock (Tick ms ∷ lines) = (clock ≤ ms) × (ms ≤ 4294967295) × AreAscending ms lines

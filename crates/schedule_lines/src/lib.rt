@@ -1,4 +1,4 @@
-//! The lines of a schedule, of which a replay does one after the other.
+//! The lines of a schedule, which a replay carries out one by one.
 #![tactic(auto)]
 
 mod lines;

@@ -8,7 +8,7 @@ use Rattle.std.specs.Prelude.{cond, nat_le, ◌&&◌, Result, Ok, Err, OkIff}
 use Rattle.std.specs.Result.{result_ok}
 use Rattle.text_lines.specs.Numbers.{value_of, number_of}
 
--- the first bytes of a word are digits, and this is what they are worth
+-- the first bytes of a word are digits, and this is their value
 pub record ReadsDigits (word : List ℕ) (count value : ℕ) : Type 0 where
   pub digits : list_all is_ascii_digit (take count word) ≡ true
   pub value_is : value ≡ value_of (take count word)
@@ -31,7 +31,7 @@ number_of-digits word value l m r =
     let value_is : value ≡ value_of word = r.value_is ∙ ap value_of whole in
     grind (arith, digits, value_is)
 
--- a number that fits a word of 32 bits, as an answer
+-- a number that fits into 32 bits, as an answer
 fitting : {E : Type 0} (result : Result ℕ E) (value : ℕ) → OkIff result (value < 4294967296) value → result_ok result ≡ cond (nat_le value 4294967295) (Some value) None
 fitting (Ok x) value h = grind (arith, h.0, h.1)
 fitting (Err e) value h = grind (arith, h)

@@ -28,7 +28,7 @@ reads_keep step P keep number state last (line ∷ more) p h =
     (λ h. reads_keep step P keep (number + 1) state last more p h)
     (λ next e h. reads_keep step P keep (number + 1) next last more (keep state line next e p) h) h
 
--- what each line raises by one at most is raised by no more than there are lines
+-- a number that each line raises by at most one rises by at most the number of lines
 pub reads_few : {S K : Type 0} (step : S → List ℕ → Result S K) (size : S → ℕ)
     → ((state : S) (line : List ℕ) (next : S) → step state line ≡ Ok next → size next ≤ size state + 1)
     → (number : ℕ) (state last : S) (lines : List (List ℕ)) → read_lines step number state lines ≡ Ok last → size last ≤ size state + length lines

@@ -11,11 +11,11 @@ use Rattle.text_lines.specs.Lines.{lines_of, starts_with_line_feed}
 abbrev HasNoLineFeed : List ℕ → Type 0
 HasNoLineFeed bytes = AllFail (λ b. nat_eq b 10) bytes
 
--- what stands before the last byte stays where that byte goes
+-- the bytes before the last one stay when that one is dropped
 pub strip_more : (b c : ℕ) (bytes : List ℕ) → strip_carriage_return (b ∷ c ∷ bytes) ≡ b ∷ strip_carriage_return (c ∷ bytes)
 strip_more b c bytes = grind (arith, common_steps)
 
--- a byte that ends no line and isn't dropped stands in the first line
+-- a byte that ends no line and isn't dropped is in the first line
 lines_of-byte : (b : ℕ) (bytes : List ℕ) → nat_eq b 10 ≡ false → starts_with_line_feed bytes ≡ false → lines_of (b ∷ bytes) ≡ onto_first b (lines_of bytes)
 unfolding lines_of
 lines_of-byte b bytes h g = grind (arith, common_steps)

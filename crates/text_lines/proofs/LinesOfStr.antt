@@ -1,4 +1,4 @@
--- The lines of a text are what stands between its line feeds, as `str::lines` says it.
+-- The lines of a text are the parts between its line feeds, as `str::lines` gives them.
 use Rattle.std.proofs.Common.{◌≡◌, ℕ, ◌<◌, Bool, true, false, List, [], ◌∷◌, length, refl, ap, arith}
 use Rattle.std.specs.Prelude.{◌&&◌, ◌==◌, if◌then◌else◌}
 use Rattle.std.specs.List.{onto_first, slice_split}
@@ -7,7 +7,7 @@ use Rattle.std.proofs.lemmas.Grind.{common_steps}
 use Rattle.text_lines.specs.Lines.{lines_of, starts_with_line_feed}
 use Rattle.text_lines.proofs.LineCuts.{strip_more}
 
--- whether an empty part stands first, with another after it
+-- whether the first part is empty, with another after it
 abbrev starts_with_end : List (List ℕ) → Bool
 starts_with_end [] = false
 starts_with_end ([] ∷ []) = false

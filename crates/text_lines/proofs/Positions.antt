@@ -1,4 +1,4 @@
--- What stands before the first byte that passes a test.
+-- The bytes before the first one that passes a test.
 use Rattle.std.proofs.Common.{◌≡◌, ℕ, ◌+◌, ◌<◌, ◌≤◌, Bool, true, false, List, ◌∷◌, ◌++◌, length, take, drop, get_or, refl, ap, sym, ◌∙◌, arith, Some, None, add-one, cond, nat_lt}
 use Rattle.std.specs.List.{AllByRecursion, position, position_or_len}
 use Rattle.std.proofs.lemmas.List.{take-append-drop, get_or-take, get_or_default}
@@ -23,7 +23,7 @@ fails_before test bytes at h =
     let small : k < at = omega (arith, length-take at bytes) in
     ap test (get_or-take at bytes k 0 small) ∙ found.2 k small)
 
--- an answer of none says that the test failed
+-- an answer of `None` says that the test failed
 no_place : (passes : Bool) (at : ℕ) → cond passes (Some at) None ≡ None → passes ≡ false
 no_place true at h = cc
 no_place false at h = refl

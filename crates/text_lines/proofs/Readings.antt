@@ -1,4 +1,4 @@
--- How a loop over the lines of a text goes on.
+-- How a loop over the lines of a text proceeds.
 use Rattle.std.proofs.Common.{◌≡◌, ℕ, ◌+◌, ◌<◌, ◌≤◌, Bool, true, false, List, [], ◌∷◌, length, refl, ap, ◌∙◌, arith, Ok, Err}
 use Rattle.std.specs.Prelude.{Result, if◌then◌else◌}
 use Rattle.text_lines.specs.Lines.{lines_of}
@@ -13,7 +13,8 @@ second : {A : Type 0} (test : Bool) (x y : A) → test ≡ false → (if test th
 second true x y h = cc
 second false x y h = refl
 
--- What was read of a text so far, with what its rest says, is what the text says. Every line has its number.
+-- What was read of a text so far, and what the rest says, together are what the text says. Every
+-- line has its number.
 pub record Reads {S K : Type 0} (step : S → List ℕ → Result S K) (start : S) (text : List ℕ) (state : S) (number : ℕ) (rest : List ℕ) : Type 0 where
   pub same : read_lines step 1 start (lines_of text) ≡ read_lines step number state (lines_of rest)
   pub small : number + length rest ≤ 1 + length text

@@ -1,4 +1,4 @@
--- A number that a word writes has 32 bits.
+-- A number that a word spells has 32 bits.
 use Rattle.std.proofs.Common.{◌≡◌, ℕ, ◌≤◌, Bool, true, false, List, length, refl, arith, Some, None, Option}
 use Rattle.std.specs.Prelude.{◌&&◌, nat_le, if◌then◌else◌}
 use Rattle.std.specs.Char.{is_ascii_digit}

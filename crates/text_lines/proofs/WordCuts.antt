@@ -1,4 +1,4 @@
--- Where the first word of a line stands.
+-- The place of the first word of a line.
 use Rattle.std.proofs.Common.{◌≡◌, ℕ, zero, suc, ◌+◌, ◌<◌, Option, add-one, true, false, List, [], ◌∷◌, ◌++◌, length, take, drop, get_or, refl, ap, sym, ◌∙◌, arith, Some, None, subst}
 use Rattle.std.specs.Prelude.{not}
 use Rattle.std.specs.List.{position, onto_first, slice_split}
@@ -9,7 +9,7 @@ use Rattle.std.specs.Option.{unwrap_or}
 use Rattle.text_lines.proofs.Positions.{AllFail, fails_before, fails_where_none, split_at_position, passes_at, position_is_place}
 use Rattle.text_lines.specs.Words.{is_blank, words_of}
 
--- a blank before it is no part of a word
+-- a blank before a word is no part of it
 words_of-blank : (b : ℕ) (line : List ℕ) → is_blank b ≡ true → words_of (b ∷ line) ≡ words_of line
 unfolding words_of
 words_of-blank b line h = rw h refl
@@ -43,7 +43,7 @@ words_of-nothing : words_of [] ≡ []
 unfolding words_of
 words_of-nothing = refl
 
--- where no byte but blanks is left
+-- where only blanks are left
 pub words_of-blanks : (line : List ℕ) → position (λ b. not (is_blank b)) line ≡ None → words_of line ≡ []
 words_of-blanks line h =
     ap words_of (sym (append-nil line))
@@ -53,7 +53,7 @@ words_of-blanks line h =
 abbrev pub word_end : List ℕ → ℕ
 word_end line = unwrap_or (position is_blank line) (length line)
 
--- the first byte is there and is no blank
+-- the first byte is there and isn't a blank
 pub record StartsWithWord (line : List ℕ) : Type 0 where
   pub more : 0 < length line
   pub byte : is_blank (get_or line 0 0) ≡ false
@@ -63,7 +63,7 @@ pub record IsFirstWord (line : List ℕ) (end : ℕ) : Type 0 where
   pub words : words_of line ≡ take end line ∷ words_of (drop end line)
   pub some : 0 < end
 
--- no blank stands at the place of a word's first byte
+-- the first byte of a word is no blank
 not_first : (line : List ℕ) (end : ℕ) → is_blank (get_or line 0 0) ≡ false → is_blank (get_or line end 0) ≡ true → 0 < end
 not_first line zero n h = cc
 not_first line (suc end) n h = omega arith
@@ -111,7 +111,7 @@ words_of-start line start h =
     ap words_of (sym (take-append-drop start line))
     ∙ words_of-gap (take start line) (drop start line) (fails_before (λ b. not (is_blank b)) line start h)
 
--- the line behind its blanks, its first word, and what is left behind that
+-- the line after its leading blanks, its first word, and what is left after that
 pub words_of-cut : (line : List ℕ) (start : ℕ) (rest : List ℕ) (end : ℕ) (word behind : List ℕ)
     → position (λ b. not (is_blank b)) line ≡ Some start → rest ≡ drop start line → end ≡ word_end rest
     → word ≡ take end rest → behind ≡ drop end rest → words_of line ≡ word ∷ words_of behind

@@ -2,7 +2,7 @@
 use Rattle.std.specs.Prelude.{ℕ, Bool, false, ◌&&◌, List, [], ◌∷◌, ◌==◌, if◌then◌else◌}
 use Rattle.std.specs.List.{onto_first}
 
--- whether a line feed stands first
+-- whether the first byte is a line feed
 abbrev pub starts_with_line_feed : List ℕ → Bool
 starts_with_line_feed [] = false
 starts_with_line_feed (b ∷ bytes) = b == 10

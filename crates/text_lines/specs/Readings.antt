@@ -2,14 +2,15 @@
 use Rattle.std.specs.Prelude.{ℕ, ◌+◌, List, [], ◌∷◌, if◌then◌else◌, Result, Ok, Err}
 use Rattle.text_lines.specs.Words.{is_passed_over, words_of}
 
--- what a line of that number gives, and then the lines after it: a fault is reported with its line
+-- what the line with this number gives, and then the lines after it: a fault is reported with its
+-- line
 abbrev pub and_then : {S K : Type 0} → ℕ → Result S K → (S → Result S (ℕ × K)) → Result S (ℕ × K)
 and_then number (Ok state) more = more state
 and_then number (Err kind) more = Err (number, kind)
 
--- Reads lines, the first of which has that number, in order: each leads from what was read so far
--- to what is read then, or to a fault. A line that is skipped changes nothing, whatever its bytes
--- are, but counts. The first fault answers.
+-- Reads lines in order, the first of which has this number: each leads from what was read so far to
+-- what is read after it, or to a fault. A line that is skipped changes nothing, whatever its bytes
+-- are, but counts. The answer is the first fault, if there is one.
 unfoldable pub read_lines :
     {S K : Type 0} → (S → List ℕ → Result S K) → ℕ → S → List (List ℕ) → Result S (ℕ × K)
 read_lines step number state [] = Ok state

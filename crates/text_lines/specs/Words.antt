@@ -15,7 +15,7 @@ is_word (b ∷ bytes) = true
 unfoldable pub words_of : List ℕ → List (List ℕ)
 words_of line = filter is_word (slice_split is_blank line)
 
--- a printable ASCII byte, a space among them, or a tab
+-- a printable ASCII byte (a space is one), or a tab
 abbrev pub is_plain_byte : ℕ → Bool
 is_plain_byte b = (nat_le 32 b && nat_le b 126) || (b == 9)
 

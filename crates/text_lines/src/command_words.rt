@@ -35,7 +35,7 @@ impl Word {
         Ok(Word { bytes })
     }
 
-    /// The bytes of the word, lent.
+    /// The bytes of the word, borrowed.
     pub fn bytes(&self) -> &[u8]
         ensures { result.now ≡ self.now }
     {

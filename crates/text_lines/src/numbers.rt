@@ -1,9 +1,9 @@
-//! Numbers as a text writes them.
+//! Numbers as a text spells them.
 ghost use Rattle.std.specs.Prelude.{◌≡◌};
 ghost use Rattle.text_lines.specs.Numbers.{number_of};
 
-/// The number that a word writes: 1 to 10 decimal digits, leading zeros allowed, worth at most
-/// 4,294,967,295. `None` comes for every other word.
+/// The number that a word spells: 1 to 10 decimal digits, leading zeros allowed, of at most
+/// 4,294,967,295. `None` for every other word.
 pub fn number(word: &[u8]) -> Option<u32>
     ensures { result ≡ number_of word.now }
 {

@@ -3,15 +3,16 @@ ghost use Rattle.std.specs.Prelude.{◌≡◌, ◌<◌, [], ◌∷◌, length, n
 ghost use Rattle.std.specs.List.{position};
 ghost use Rattle.text_lines.specs.Words.{is_blank, is_comment, is_passed_over, is_plain, words_of};
 
-/// Whether a line has no other bytes than printable ASCII, spaces and tabs.
+/// Whether a line has only printable ASCII bytes, spaces and tabs.
 pub fn is_plain(line: &[u8]) -> bool
     ensures { result ≡ is_plain line.now }
 {
     line.iter().all(|byte| matches!(*byte, b' '..=b'~' | b'\t'))
 }
 
-/// Takes the first word off a line: the word, and the line after it. `None` comes where no word is
-/// left. Words stand between spaces or tabs, which may stand round them too.
+/// Takes the first word off a line: the word, and the line after it. `None` means that no word is
+/// left. Words are separated by spaces or tabs, which may also come before the first and after the
+/// last.
 pub fn next_word(line: &[u8]) -> Option<(&[u8], &[u8])>
     ensures word { MatchOption result (words_of line.now ≡ [])
         (λ cut. words_of line.now ≡ cut.0.now ∷ words_of cut.1.now) }
@@ -43,7 +44,7 @@ fn is_comment(word: &[u8]) -> bool
     }
 }
 
-/// The place of the first byte that is no blank.
+/// The place of the first byte that isn't a blank.
 fn word_start(line: &[u8]) -> Option<usize>
     ensures { result ≡ position (λ b. not (is_blank b)) line.now }
 {

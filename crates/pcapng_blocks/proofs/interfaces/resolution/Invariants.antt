@@ -2,7 +2,7 @@ use Rattle.std.proofs.Common.{◌≡◌, length}
 use Rattle.pcapng_blocks.specs.Interfaces.{resolution_of}
 use Rattle.pcapng_blocks.proofs.interfaces.resolution.Given as goal
 
--- what is left, from the resolution so far on, gives that of all
+-- what is left, read with the resolution so far, gives the resolution of all
 abbrev pub invariant-loop-rest : goal.invariant-loop-rest
 invariant-loop-rest l = resolution_of l.order l.resolution l.rest ≡ resolution_of l.order 6 l.options
 

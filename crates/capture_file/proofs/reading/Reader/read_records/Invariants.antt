@@ -2,7 +2,7 @@ use Rattle.std.proofs.Common.{◌≡◌, ◌+◌, ◌*◌, ◌≤◌, length, ta
 use Rattle.capture_file.specs.Reading.{read_from}
 use Rattle.capture_file.proofs.reading.Reader.read_records.Given as goal
 
--- what is left, read from the place that was come to, gives all
+-- the frames so far, and those of what is left, are all
 abbrev pub invariant-loop-record : goal.invariant-loop-record
 invariant-loop-record l = record {
   reads : read_from l.self.cpu l.self.format l.next l.into l.rest ≡ read_from l.self.cpu l.self.format l.fn.next l.fn.into l.bytes;

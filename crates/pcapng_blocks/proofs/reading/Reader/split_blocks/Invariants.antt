@@ -3,7 +3,7 @@ use Rattle.pcapng_blocks.specs.Blocks.{split_from}
 use Rattle.pcapng_blocks.specs.Reading.{spot_of, Extends}
 use Rattle.pcapng_blocks.proofs.reading.Reader.split_blocks.Given as goal
 
--- what is left, split from the place that was come to, gives all
+-- the frames so far, and those of what is left, are all
 abbrev pub invariant-loop-error : goal.invariant-loop-error
 invariant-loop-error l = record {
   splits : split_from l.self.cpu (spot_of l.cursor l.interfaces.items) l.into l.left ≡ split_from l.self.cpu (spot_of l.fn.cursor l.fn.interfaces.items) l.fn.into l.bytes;
