@@ -1,4 +1,4 @@
-//! What a ring has to know of the blocks that it hands over.
+//! What a ring has to know about the blocks that it hands over.
 #![tactic(auto)]
 
 mod content;

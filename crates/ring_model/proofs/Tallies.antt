@@ -18,7 +18,7 @@ use Rattle.ring_model.specs.declared.tallying.Ledger.{Ledger}
 abbrev pub stats_in : Ledger → Stats
 stats_in ledger = record { packets = ledger.kept + ledger.dropped; drops = ledger.dropped; freezes = ledger.freezes }
 
--- with the notes that are left, the counts and stretches so far are those of all notes
+-- with the notes that are left, the counts and statistics so far are those of all notes
 pub record Goes (size : Size) (notes rest : List Note) (counts : List Stats) (ledger : Ledger) : Type 0 where
   pub state : State
   pub is : Counts ledger state
@@ -32,7 +32,7 @@ pub record Sums (index : ℕ) (counts : List Stats) (totals : Stats) (ledger : L
   pub few_freezes : totals.freezes + ledger.freezes ≤ index
   pub fewer : totals.drops ≤ totals.packets
 
--- what a note takes stands before what the notes after it take
+-- what a note takes comes before what the notes after it take
 counts_more : (size : Size) (state : State) (note : Note) (rest : List Note)
     → counts_from size state (note ∷ rest) ≡ taken_at note (stats_of state) ++ counts_from size (after size state note) rest
 counts_more size state (Kept offer found) rest = refl

@@ -11,7 +11,7 @@ use Rattle.ring_model.specs.declared.notes.Note.{Note}
 use Rattle.ring_model.specs.declared.notes.Note.TheVariants.{Kept, Refused, Dropped, Ticked, Counted, Finished}
 use Rattle.ring_model.specs.declared.notes.Stats.{Stats}
 
--- so many packets more are kept and dropped
+-- this number of packets more is kept, and this number dropped
 record Adds (kept dropped : ℕ) (state later : State) : Type 0 where
   kept_more : later.kept ≡ state.kept + kept
   dropped_more : later.dropped ≡ state.dropped + dropped
@@ -39,7 +39,7 @@ tick_adds : (test : Bool) (state due : State) (ms deadline : ℕ) → Adds 0 0 s
 tick_adds true state due ms deadline adds = record { kept_more = omega arith; dropped_more = omega arith }
 tick_adds false state due ms deadline adds = record { kept_more = adds.kept_more; dropped_more = adds.dropped_more }
 
--- what a state has and the notes after it keep and drop are the sums from there on
+-- what a state counts, with what the notes after it keep and drop, are the sums from there on
 pub record CountsAll (size : Size) (state : State) (notes : List Note) : Type 0 where
   pub packets : (sum_of (stretches_from size state notes)).packets
       ≡ (state.kept + state.dropped) + (length (kept_of notes) + length (drops_of notes))

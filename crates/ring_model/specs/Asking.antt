@@ -1,5 +1,5 @@
--- What a ring notes where its reader has released a known number of blocks, so that each look has
--- one answer.
+-- What a ring notes if its reader has released a known number of blocks, so that each look has one
+-- answer.
 use Rattle.std.specs.Prelude.{ℕ, ◌-◌, Bool, true, false, ◌||◌, List, [], ◌∷◌, nat_lt, if◌then◌else◌}
 use Rattle.std.specs.Prelude.{Option, None, Some}
 use Rattle.ring_model.specs.Sizes.{need_of, fits}
@@ -10,7 +10,7 @@ use Rattle.ring_model.specs.declared.notes.Found.TheVariants.{NotAsked, Free, He
 use Rattle.ring_model.specs.declared.notes.Note.{Note}
 use Rattle.ring_model.specs.declared.notes.Note.TheVariants.{Kept, Refused, Dropped, Ticked}
 
--- what the next block's word says: with n blocks, block number s stands where s - n stood, which is
+-- what the next block's word says: with n blocks, block number s takes the place of s - n, which is
 -- the reader's until it has released that many
 abbrev pub look : Size → ℕ → State → Found
 look size released state =

@@ -1,4 +1,4 @@
--- What the notes of a ring say of the packets, and the statistics that they give.
+-- What the notes of a ring say about packets, and the statistics from them.
 use Rattle.std.specs.Prelude.{ℕ, ◌+◌, List, [], ◌∷◌, ◌++◌, sum_by, ◌==◌, if◌then◌else◌}
 use Rattle.ring_model.specs.Ring.{Size, State, after, first_state}
 use Rattle.ring_model.specs.declared.notes.Offer.{Offer}
@@ -19,7 +19,7 @@ drops_of [] = []
 drops_of (Dropped cpu index need number ∷ notes) = (cpu, index) ∷ drops_of notes
 drops_of (note ∷ notes) = drops_of notes
 
--- the note alone where it is about a frame of this CPU
+-- a list of the note if it is about a frame of this CPU, otherwise an empty one
 abbrev pub frame_note : ℕ → Note → List Note
 frame_note cpu (Kept offer found) = if offer.frame.cpu == cpu then Kept offer found ∷ [] else []
 frame_note cpu (Refused of index need number) =
@@ -47,7 +47,7 @@ counts_from size state (Counted ∷ notes) =
     stats_of state ∷ counts_from size (after size state Counted) notes
 counts_from size state (note ∷ notes) = counts_from size (after size state note) notes
 
--- those, and what stands in the statistics at the end
+-- those, and what the statistics hold at the end
 abbrev pub stretches_from : Size → State → List Note → List Stats
 stretches_from size state [] = stats_of state ∷ []
 stretches_from size state (Counted ∷ notes) =

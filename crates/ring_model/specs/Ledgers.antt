@@ -9,7 +9,7 @@ use Rattle.ring_model.specs.declared.tallying.Open.{Open}
 use Rattle.ring_model.specs.declared.tallying.Open.TheVariants.{Frozen, Empty, Filled}
 use Rattle.ring_model.specs.declared.tallying.Ledger.{Ledger}
 
--- of the open block, whether it has packets
+-- whether the open block has packets
 abbrev pub open_of : Option (List Offer) → Open
 open_of None = Frozen
 open_of (Some []) = Empty
@@ -32,7 +32,7 @@ plus one other = record {
   freezes = one.freezes + other.freezes;
 }
 
--- the statistics alone where the note takes them
+-- a list of the statistics if the note takes them, otherwise an empty one
 abbrev pub taken_at : Note → Stats → List Stats
 taken_at Counted stats = stats ∷ []
 taken_at note stats = []

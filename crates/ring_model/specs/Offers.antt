@@ -18,7 +18,7 @@ offer_of room own hash verdict frame = record {
   pkttype = packet_type_of frame.bytes own;
 }
 
--- the packet of an offer; the hash stands in it where the ring is asked to fill it
+-- the packet of an offer; it has the hash where the ring is asked to fill it in
 abbrev pub packet_of : Bool → Offer → Packet
 packet_of fill offer = record {
   sec = offer.frame.sec;

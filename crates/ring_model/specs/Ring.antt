@@ -17,11 +17,11 @@ pub record Size : Type 0 where
   pub blocks : ℕ
   pub tov : ℕ
 
--- it holds of each size with this time-out
+-- this holds of each size with this time-out
 abbrev pub AtEachSize : ℕ → (Size → Type 0) → Type 0
 AtEachSize tov P = (room blocks : ℕ) → P (record { room = room; blocks = blocks; tov = tov })
 
--- what notes leave behind
+-- the state after notes
 pub record State : Type 0 where
   -- the retired blocks in order, each with its status; the block of number s is the s-th
   pub done : List (List Offer × ℕ)
@@ -60,13 +60,13 @@ abbrev pub retired : List (List Offer × ℕ) → ℕ → Option (List Offer) �
 retired done status None = done
 retired done status (Some offers) = done ++ (offers, status) ∷ []
 
--- the retired blocks at the end: an open block without packets is given up
+-- the retired blocks at the end: an open block without packets is discarded
 abbrev pub finished : List (List Offer × ℕ) → ℕ → Option (List Offer) → List (List Offer × ℕ)
 finished done status None = done
 finished done status (Some []) = done
 finished done status (Some (offer ∷ offers)) = done ++ (offer ∷ offers, status) ∷ []
 
--- the open block with one packet more
+-- the open block with one more packet
 abbrev pub with_offer : Offer → Option (List Offer) → Option (List Offer)
 with_offer offer None = None
 with_offer offer (Some offers) = Some (offers ++ offer ∷ [])
@@ -80,7 +80,7 @@ open_count (Some offers) = 1
 abbrev pub next_number : State → ℕ
 next_number state = length state.done + open_count state.now + 1
 
--- what a packet that a ring drops leaves: an open block is retired and the ring freezes
+-- the state after a packet was dropped: an open block is retired and the ring freezes
 abbrev pub after_drop : State → Option (List Offer) → State
 after_drop state None = record state { dropped = state.dropped + 1 }
 after_drop state (Some offers) = record state {
@@ -90,7 +90,7 @@ after_drop state (Some offers) = record state {
   freezes = state.freezes + 1;
 }
 
--- what a due tick leaves, by what the next block's word said
+-- the state after a due tick, by what the next block's word said
 abbrev pub after_due : State → Option (List Offer) → Found → State
 after_due state (Some []) found = state
 after_due state now Free =
@@ -135,12 +135,12 @@ abbrev pub HasRoom : Size → ℕ → Option (List Offer) → Type 0
 HasRoom size need None = ⊥
 HasRoom size need (Some offers) = IsTrue (fits size.room offers need)
 
--- it doesn't, or no block is open
+-- it doesn't fit, or no block is open
 abbrev pub HasNoRoom : Size → ℕ → Option (List Offer) → Type 0
 HasNoRoom size need None = Unit {0}
 HasNoRoom size need (Some offers) = IsFalse (fits size.room offers need)
 
--- the block in whose place the next one would stand has this number, and was opened
+-- the block whose place the next one would take has this number, and was opened
 abbrev pub IsHeld : Size → State → ℕ → Type 0
 IsHeld size state number = (0 < number) × (number + size.blocks ≡ next_number state)
 
@@ -149,7 +149,7 @@ pub record IsDue (state : State) (ms : ℕ) : Type 0 where
   pub later : state.clock ≤ ms
   pub over : state.deadline ≤ ms
 
--- a note may stand after a state
+-- a note may follow a state
 abbrev pub MayStand : Size → State → Note → Type 0
 MayStand size state (Kept offer NotAsked) = HasRoom size (need_of offer.snap) state.now
 MayStand size state (Kept offer Free) = HasNoRoom size (need_of offer.snap) state.now
@@ -171,7 +171,7 @@ abbrev pub EndsThere : Note → List Note → Type 0
 EndsThere Finished notes = notes ≡ []
 EndsThere note notes = Unit {0}
 
--- each note may stand after those before it
+-- each note may follow those before it
 abbrev pub IsRun : Size → State → List Note → Type 0
 IsRun size state [] = Unit {0}
 IsRun size state (note ∷ notes) =

@@ -6,8 +6,8 @@ use Rattle.ring_model.specs.declared.notes.Offer.{Offer}
 abbrev pub need_of : ℕ → ℕ
 need_of snap = (82 + snap + 7) / 8 * 8
 
--- how many bytes of a frame are kept: no more than were captured, than the filter says and than fit
--- a block
+-- how many bytes of a frame are kept: at most those captured, those that the filter keeps and those
+-- that fit into a block
 abbrev pub snap_of : ℕ → ℕ → ℕ → ℕ
 snap_of room captured verdict = min (min captured verdict) (room - 82)
 

@@ -1,4 +1,4 @@
--- What the calls of a ring tell of the notes that they make.
+-- What the calls of a ring report of the notes that they make.
 use Rattle.std.specs.Prelude.{◌≡◌, ℕ, ◌+◌, ◌≤◌, List, [], ◌∷◌, ◌++◌, Option, option_map}
 use Rattle.ring_model.specs.declared.notes.Found.{Found}
 use Rattle.ring_model.specs.declared.notes.Found.TheVariants.{NotAsked, Free, Held}
@@ -10,14 +10,14 @@ use Rattle.ring_model.specs.declared.notes.Put.TheVariants.{Kept, Dropped}
 use Rattle.ring_model.specs.declared.notes.Tried.{Tried}
 use Rattle.ring_model.specs.declared.notes.Tried.TheVariants as tries
 
--- it holds where the next block or slot was still the reader's
+-- this holds where the next block or slot was still the reader's
 abbrev pub WasHeld : Found → Type 0 → Type 0
 WasHeld NotAsked P = Unit {0}
 WasHeld Free P = Unit {0}
 WasHeld (Held number) P = P
 
--- how often a call found that a block or slot was still the reader's: once at most, and only where
--- this is what it found
+-- how often a call found a block or slot still the reader's: once if it found it so, otherwise
+-- never
 abbrev pub CountsHeld : Found → ℕ → ℕ → Type 0
 CountsHeld NotAsked before after = after ≡ before
 CountsHeld Free before after = after ≡ before

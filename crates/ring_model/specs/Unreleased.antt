@@ -1,4 +1,4 @@
--- What a note says of a block that was still the reader's, and what notes say of the clock.
+-- What a note says about a block that was still the reader's, and what notes say about the clock.
 use Rattle.std.specs.Prelude.{ℕ, ◌<◌, List, [], ◌∷◌, Option, None, Some, IfSome}
 use Rattle.ring_model.specs.declared.notes.Found.TheVariants.{Held}
 use Rattle.ring_model.specs.declared.notes.Note.{Note}
@@ -11,7 +11,7 @@ held_number (Dropped cpu index need number) = Some number
 held_number (Ticked ms (Held number)) = Some number
 held_number note = None
 
--- that block isn't among the released ones, of which there are so many
+-- that block isn't among the released ones, whose number is given
 abbrev pub IsUnreleased : ℕ → Note → Type 0
 IsUnreleased released note = IfSome (held_number note) (λ number. released < number)
 

@@ -7,19 +7,19 @@ ghost use Rattle.ring_model.specs.Unreleased.{IsUnreleased, last_moment};
 ghost use Rattle.ring_model.specs.declared.notes.Note.{Note};
 ghost use Rattle.ring_model.specs.declared.notes.Offer.{Offer};
 
-/// What a put notes may stand, whatever the reader has released.
+/// The note of a put is possible, whatever the reader has released.
 pub fn puts_stand()
     ensures { (ring : Ring) (offer : Offer)
         → MayStand ring.size (state ring) (note_of_put ring offer) }
 {}
 
-/// What a try notes may stand.
+/// The note of a try is possible.
 pub fn tries_stand()
     ensures { (ring : Ring) (offer : Offer)
         → MayStand ring.size (state ring) (note_of_try ring offer) }
 {}
 
-/// What a tick notes may stand, where the clock doesn't go back.
+/// The note of a tick is possible, where the clock doesn't go back.
 pub fn ticks_stand()
     ensures { (ring : Ring) (ms : ℕ) → (state ring).clock ≤ ms
         → MayStand ring.size (state ring) (note_of_tick ring ms) }

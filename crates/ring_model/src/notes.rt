@@ -1,5 +1,5 @@
-//! One note for each event of a ring: what was asked of it, what its next status word said, what
-//! came of it.
+//! One note for each event of a ring: what was asked of it, what its next status word said, and the
+//! result.
 ghost use Rattle.std.specs.Prelude.{◌≡◌, ◌≤◌, length, take};
 
 use frame_view::{Frame, ItemList};
@@ -35,7 +35,7 @@ pub enum Found {
     NotAsked,
     /// The next block is the ring's.
     Free,
-    /// The next block is still the reader's, with the number that it was retired under.
+    /// The next block is still the reader's, with the number that it was retired with.
     Held(u64),
 }
 
@@ -76,7 +76,7 @@ pub enum Note {
 /// The notes of a ring, in order.
 pub type Notes = ItemList<Note>;
 
-/// What came of an attempt to keep a packet.
+/// The result of an attempt to keep a packet.
 #[derive(Debug, Drop)]
 pub enum Tried {
     /// It was kept.
@@ -85,7 +85,7 @@ pub enum Tried {
     Refused(Offer),
 }
 
-/// What came of a packet that a ring had to take or drop.
+/// The result for a packet that a ring had to take or drop.
 #[derive(Clone, Copy, Debug, PartialEq, Eq)]
 pub enum Put {
     /// It was kept.

@@ -1,5 +1,4 @@
-//! What the notes of a ring come to in statistics: each time they were taken, and over the whole
-//! run.
+//! The statistics of a ring from its notes: each time they were taken, and over the whole run.
 ghost use Rattle.std.specs.Prelude.{◌≡◌, ◌+◌, ◌<◌, ◌≤◌, ◌^◌, ◌++◌, List, Option, IfOk, OnOk};
 ghost use Rattle.ring_model.specs.Fates.{counts_of, totals_of};
 ghost use Rattle.ring_model.specs.Ledgers.{Counts, open_of, plus, taken_at, with_taken};
@@ -15,18 +14,18 @@ use std::alloc::Global;
 /// Statistics, in order.
 pub type StatsList = ItemList<Stats>;
 
-/// What the notes of a ring come to in statistics.
+/// The statistics of a ring, from its notes.
 #[derive(Debug, Drop)]
 pub struct Tally {
     /// The statistics that each `Counted` note took, in order.
     pub counts: StatsList,
-    /// The statistics over the whole run, those that were taken and those that stand at its end.
+    /// The statistics over the whole run: those that were taken and those left at its end.
     pub totals: Stats,
 }
 
 /// The statistics of a ring with this time-out in milliseconds, from its notes, in one pass. They
 /// are those that the kernel's `packet_getsockopt` gives at each PACKET_STATISTICS, and their sums.
-/// They don't hang on the size of a block, nor on the number of blocks.
+/// They depend neither on the size of a block nor on the number of blocks.
 pub fn tally_notes(alloc: Global, tov: u64, notes: &Notes) -> Result<Tally, Memory>
     ensures counts { IfOk result
         (λ tally. AtEachSize tov (λ size. tally.counts ≡ counts_of size notes.now)) }
@@ -52,7 +51,7 @@ pub fn tally_notes(alloc: Global, tov: u64, notes: &Notes) -> Result<Tally, Memo
 }
 
 impl Tally {
-    /// Takes these statistics where the note takes them.
+    /// Records these statistics if the note takes them.
     fn take(&mut self, note: &Note, stats: Stats) -> Result<(), Memory>
         requires packets { self.old.totals.packets + stats.packets < 2 ^ 64 }
         requires drops { self.old.totals.drops + stats.drops < 2 ^ 64 }
@@ -94,7 +93,7 @@ enum Open {
     Filled,
 }
 
-/// The open block with one packet more.
+/// The open block with one more packet.
 fn with_packet(block: Open) -> Open
     ensures { (offer : Offer) (now : Option (List Offer)) → block ≡ open_of now
         → result ≡ open_of (with_offer offer now) }
@@ -105,7 +104,7 @@ fn with_packet(block: Open) -> Open
     }
 }
 
-/// What notes leave of a ring, as far as its statistics hang on it.
+/// The state of a ring after its notes, as far as its statistics depend on it.
 #[derive(Clone, Copy)]
 struct Ledger {
     open: Open,
@@ -123,7 +122,7 @@ struct Ledger {
 }
 
 impl Ledger {
-    /// What no note leaves.
+    /// The state before the first note.
     fn new(tov: u64) -> Ledger
         ensures { AtEachSize tov (λ size. Counts result (first_state size)) }
     {
@@ -153,7 +152,7 @@ impl Ledger {
         }
     }
 
-    /// What one note more leaves.
+    /// The state after one more note.
     fn after(self, note: &Note, tov: u64) -> Ledger
         requires kept { self.kept < 2 ^ 63 }
         requires dropped { self.dropped < 2 ^ 63 }
@@ -179,8 +178,8 @@ impl Ledger {
         }
     }
 
-    /// What a packet leaves that was kept: it went into the open block where none was asked for,
-    /// else into the next.
+    /// The state after a packet was kept: it went into the open block if none was asked for,
+    /// otherwise into the next.
     fn kept(self, found: Found, tov: u64) -> Ledger
         requires { self.kept < 2 ^ 63 }
         ensures { AtEachSize tov (λ size. (state : State) (offer : Offer) → Counts self state
@@ -202,7 +201,7 @@ impl Ledger {
         }
     }
 
-    /// What a dropped packet leaves: an open block is retired, and the ring freezes.
+    /// The state after a packet was dropped: an open block is retired, and the ring freezes.
     fn dropped(self) -> Ledger
         requires dropped { self.dropped < 2 ^ 63 }
         requires freezes { self.freezes < 2 ^ 63 }
@@ -220,7 +219,7 @@ impl Ledger {
         }
     }
 
-    /// What a tick leaves.
+    /// The state after a tick.
     fn ticked(self, ms: u64, found: Found, tov: u64) -> Ledger
         requires { self.freezes < 2 ^ 63 }
         ensures { AtEachSize tov (λ size. (state : State) → Counts self state
@@ -237,8 +236,8 @@ impl Ledger {
         }
     }
 
-    /// What a block's time-out leaves: an open block with packets is retired, and the ring freezes
-    /// where the next block isn't free.
+    /// The state after a block's time-out: an open block with packets is retired, and the ring
+    /// freezes where the next block isn't free.
     fn timed_out(self, found: Found) -> Ledger
         requires { self.freezes < 2 ^ 63 }
         ensures { (state : State) → Counts self state

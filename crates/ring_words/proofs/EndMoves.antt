@@ -1,4 +1,5 @@
--- The rule holds of a new ring, and outlives that its ends are cut apart and come together, and what both do in one seat.
+-- The rule holds of a new ring; it still holds when its ends are split and joined, and after the
+-- steps of both in one seat.
 use Rattle.std.proofs.Common.{◌≡◌, ℕ, zero, suc, ◌+◌, ◌%◌, ◌<◌, ◌≤◌, true, false, true≢false, List, [], ◌∷◌, ◌++◌, map, length, take, replicate, slice_index, slice_set, refl, sym, ap, ◌∙◌, subst, ⊎_elim, mod-lt, arith, length-set, Option, Some}
 use mathlib.Core.Option.{some, none, some-ne-none}
 use lib.ListN.{get_elem?}
@@ -85,7 +86,7 @@ module _ {B : Type 0} (bytes kind_of : B → List ℕ) (ready : B → ℕ → �
             (at_new [] (all_known kind) known id at);
       }
 
-  -- the reader's seat is cut off the feeder's
+  -- the reader's seat is split off the feeder's
   pub splits : (id : ℕ) (v : Known) → v.feeds ≡ true → v.walks ≡ true → v.taken ≡ [] → Splits (Ring bytes kind_of ready kind) id v (left_to_feed v) (left_to_walk v)
   splits id v feeds walks none_taken s r at =
       let c = r.course in
@@ -142,7 +143,7 @@ module _ {B : Type 0} (bytes kind_of : B → List ℕ) (ready : B → ℕ → �
             (at_new views' (left_to_walk v) u j is);
       }
 
-  -- the reader's seat comes into the feeder's
+  -- the reader's seat is joined into the feeder's
   pub joins : (id : ℕ) (v : Known) (other : ℕ) (w : Known) → v.feeds ≡ true → w.walks ≡ true
       → Joins (Ring bytes kind_of ready kind) id v other w (together v w) nothing_known
   joins id v other w feeds walks s r at apart other_at =

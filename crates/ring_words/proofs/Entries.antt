@@ -1,4 +1,5 @@
--- Lists that are read by place: one more entry at the end, and one more at the start of what is known.
+-- Lists that are read by place: one more entry at the end, and one more at the start of what is
+-- known.
 use Rattle.std.proofs.Common.{◌≡◌, ◌≢◌, ◌⊎◌, ℕ, zero, suc, ◌+◌, ◌<◌, ◌≤◌, List, [], ◌∷◌, ◌++◌, length, take, slice_index, slice_set, refl, ap, sym, inl, inr, ⊎_elim, arith}
 use mathlib.Core.Option.{some, some-injective, some-ne-none}
 use lib.ListN.{get_elem?}
@@ -14,7 +15,7 @@ module _ {A : Type 0} where
   within (x ∷ l) zero a e = omega arith
   within (x ∷ l) (suc i) a e = let h = within l i a e in omega arith
 
-  -- what stands in the longer list elsewhere than at its end stood in the shorter one
+  -- an entry of the longer list that isn't its last was in the shorter one
   pub at_front : (l : List A) (a b : A) (i : ℕ) → i ≢ length l → get_elem? (l ++ a ∷ []) i ≡ some b → get_elem? l i ≡ some b
   at_front [] a b zero ne e = absurd (ne refl)
   at_front [] a b (suc i) ne e = absurd (some-ne-none b (sym e))
@@ -41,13 +42,13 @@ module _ {A : Type 0} where
   take-longer [] a (suc n) h = absurd (omega arith)
   take-longer (x ∷ l) a (suc n) h = ap (λ t. x ∷ t) (take-longer l a n (omega arith))
 
-  -- the prefix with one entry more
+  -- the prefix with one more entry
   pub take-next : (l : List A) (n : ℕ) (a : A) → get_elem? l n ≡ some a → take (suc n) l ≡ take n l ++ a ∷ []
   take-next [] n a e = absurd (some-ne-none a (sym e))
   take-next (x ∷ l) zero a e = ap (λ t. t ∷ []) (some-injective x a e)
   take-next (x ∷ l) (suc n) a e = ap (λ t. x ∷ t) (take-next l n a e)
 
--- to write what was read changes nothing
+-- writing back what was read changes nothing
 pub set-read : (words : List ℕ) (i : ℕ) → slice_set words i (slice_index words i) ≡ words
 set-read [] i = refl
 set-read (x ∷ words) zero = refl

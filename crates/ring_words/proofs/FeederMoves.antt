@@ -1,4 +1,4 @@
--- The rule of a ring outlives each step of the feeder's end.
+-- The rule of a ring holds after each step of the feeder's end.
 use Rattle.std.proofs.Common.{◌≡◌, ℕ, ◌+◌, ◌*◌, ◌/◌, ◌%◌, ◌^◌, ◌<◌, ◌≤◌, true, List, [], ◌∷◌, ◌++◌, length, slice_index, slice_set, refl, sym, ap, ◌∙◌, subst, mod-lt, lt_of_not-le, arith, length-set, get_or-set_same, get_or-set_other, Option, Some}
 use mathlib.Core.Option.{some, none}
 use mathlib.Core.Logic.{dite}
@@ -22,11 +22,11 @@ module _ {B : Type 0} (bytes kind_of : B → List ℕ) (ready : B → ℕ → �
   abbrev Ring : State (Option B) Known → Type 0
   Ring = IsRing bytes kind_of ready kind
 
-  -- what a step owes at a state
+  -- what has to be shown of a step at a state
   abbrev Goes : State (Option B) Known → ℕ → ℕ → Holder B → ℕ → (Holder B → Type 0) → Type 0
   Goes s place id me word told = (now : Known) × (act : Act (Option B)) × Valid s.homes me.1 act × Ring (stepped s place word id me.1 now act) × told (now, carried_after me.1 act)
 
-  -- what the feeder knows once it was given one block more
+  -- what the feeder knows once it was given one more block
   abbrev given_one : Known → ℕ → Known
   given_one v word = record v { given = v.given + 1; looks = v.looks ++ word ∷ [] }
 
@@ -247,7 +247,7 @@ module _ {B : Type 0} (bytes kind_of : B → List ℕ) (ready : B → ℕ → �
   abbrev retired_one : Known → Entry → ℕ → Known
   retired_one v entry visits = record v { retired = v.retired ++ entry ∷ []; shown_at = v.shown_at ++ visits ∷ [] }
 
-  -- a block is retired, and stands at its place
+  -- a block is retired, and is at its place
   stores_block : (s : State (Option B) Known) (r : Ring s) (id : ℕ) (v : Known) (block : B) (status : ℕ) → get_elem? s.views id ≡ some v → v.feeds ≡ true
       → length v.retired < v.given → IsStatus status → kind_of block ≡ v.kind → ready block (length v.retired + 1) status
       → let place : ℕ = length v.retired % length s.homes in

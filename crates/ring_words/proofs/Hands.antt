@@ -20,7 +20,7 @@ still_seated table seat now places is same = record {
 }
 
 module _ {B : Type 0} where
-  -- one block more is out
+  -- one more block is out
   pub one_more : (places first last : ℕ) → first ≤ last → slots_of {B = B} places first (last + 1 - first) ≡ (last % places, None) ∷ slots_of places first (last - first)
   one_more places first last le =
       let count : last + 1 - first ≡ suc (last - first) = omega arith in
@@ -66,10 +66,10 @@ found_push [] word more is = is
 found_push (x ∷ words) word more is =
     ap (λ l. if nat_eq (x % 2) 1 then x / 256 ∷ l else l) (found_push words word more is) ∙ found_if (nat_eq (x % 2) 1) (x / 256) (found_in words) more
 
--- an odd word tells a number more
+-- an odd word gives one more number
 pub found_odd : (words : List ℕ) (word : ℕ) → word % 2 ≡ 1 → found_in (words ++ word ∷ []) ≡ found_in words ++ word / 256 ∷ []
 found_odd words word odd = found_push words word (word / 256 ∷ []) (ap (λ b. if nat_eq b 1 then word / 256 ∷ [] else []) odd)
 
--- an even one tells none
+-- an even one gives none
 pub found_even : (words : List ℕ) (word : ℕ) → word % 2 ≡ 0 → found_in (words ++ word ∷ []) ≡ found_in words
 found_even words word even = found_push words word [] (ap (λ b. if nat_eq b 1 then word / 256 ∷ [] else []) even) ∙ append-nil (found_in words)

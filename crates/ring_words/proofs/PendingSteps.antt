@@ -1,4 +1,4 @@
--- What the calls that finish a ring owe to its table, and lists of pending blocks.
+-- What the calls that finish a ring have to show of its table, and lists of pending blocks.
 use Rattle.std.proofs.Common.{◌≡◌, ℕ, zero, suc, ◌+◌, ◌-◌, ◌%◌, ◌<◌, ◌≤◌, true, List, [], ◌∷◌, ◌++◌, length, take, drop, get_or, slice_get, Option, Some, None, sym, ap, ◌∙◌, subst, mod-lt, refl, append_assoc, arith}
 use mathlib.Core.Option.{none}
 use Rattle.std.specs.List.{AllByRecursion}
@@ -34,13 +34,13 @@ module _ {B : Type 0} (bytes kind_of : B → List ℕ) (ready : B → ℕ → �
       → (x : Option B) × (me'.1 ≡ (place, x) ∷ rest me'.1)
   has_pending slots place me me' word drained = (Some drained.next.block, front_of me'.1 (place, Some drained.next.block) me.1 drained.next.hand)
 
-  -- one pending block more may stand retired
+  -- one more pending block may be retired
   pub ready_push : (passed last : ℕ) (blocks : List (B × ℕ)) (one : B × ℕ) → AreReadyAfter ready passed blocks → passed + length blocks ≡ last → ready one.0 (last + 1) one.1
       → AreReadyAfter ready passed (blocks ++ one ∷ [])
   ready_push passed last [] one all count is = (subst (λ k. ready one.0 (k + 1) one.1) (omega arith) is, tt)
   ready_push passed last (block ∷ blocks) one all count is = (all.0, ready_push (passed + 1) last blocks one all.1 (omega arith) is)
 
-  -- and so does each at its place
+  -- and so may each block at its place
   pub ready_at : (passed at : ℕ) (blocks : List (B × ℕ)) (one : B × ℕ) → AreReadyAfter ready passed blocks → at < length blocks → one ≡ get_or blocks at one
       → ready one.0 (passed + at + 1) one.1
   ready_at passed at [] one all within is = absurd (omega arith)
@@ -49,14 +49,14 @@ module _ {B : Type 0} (bytes kind_of : B → List ℕ) (ready : B → ℕ → �
   ready_at passed (suc at) (block ∷ blocks) one all within is =
       subst (λ k. ready one.0 k one.1) (omega arith) (ready_at (passed + 1) at blocks one all.1 (omega arith) is)
 
-  -- an entry more for a block more
+  -- one more entry for one more block
   pub entries_push : (taken : List Entry) (blocks : List (B × ℕ)) (one : B × ℕ) (now : List Entry) → now ≡ (taken ++ entries_of bytes blocks) ++ (bytes one.0, one.1) ∷ []
       → now ≡ taken ++ entries_of bytes (blocks ++ one ∷ [])
   entries_push taken blocks one now is =
       let pushed : (blocks : List (B × ℕ)) → entries_of bytes (blocks ++ one ∷ []) ≡ entries_of bytes blocks ++ (bytes one.0, one.1) ∷ [] = λ l. map-append (λ (x : B × ℕ). (bytes x.0, x.1)) l (one ∷ []) in
       is ∙ append_assoc taken (entries_of bytes blocks) ((bytes one.0, one.1) ∷ []) ∙ ap (λ l. taken ++ l) (sym (pushed blocks))
 
--- after what stands first is the rest
+-- the rest follows the first part
 drop-front : {X : Type 0} (front rest all : List X) → front ++ rest ≡ all → drop (length front) all ≡ rest
 drop-front [] rest all e = sym e
 drop-front (x ∷ front) rest all e = ap (λ l. drop (suc (length front)) l) (sym e) ∙ drop-front front rest (front ++ rest) refl

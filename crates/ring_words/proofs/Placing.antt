@@ -1,4 +1,4 @@
--- What no step touches of a block's place, and what the other seats know.
+-- What no step changes about a block's place, and what the other seats know.
 use Rattle.std.proofs.Common.{◌≡◌, ℕ, ◌%◌, ◌<◌, ◌≤◌, Bool, List, length, take, set, slice_index, sym, ap, ◌∙◌, subst, ⊎_elim}
 use mathlib.Core.Logic.{dite}
 use mathlib.Core.Option.{some, some-injective}
@@ -11,7 +11,7 @@ use Rattle.ring_words.specs.Sights.{from_start}
 use Rattle.ring_words.specs.Tables.{Course, Home, IsPlaced, Knows, Sits}
 use Rattle.ring_words.specs.declared.known.Known.{Known}
 
--- nothing of a block and its word changed, and its part of the course is the same
+-- a block and its word are unchanged, and so is its part of the course
 pub record SameAt (places : ℕ) (old new : Course) (index : ℕ) : Type 0 where
   pub log : (entry : Entry) → get_elem? new.log index ≡ some entry → get_elem? old.log index ≡ some entry
   pub retired : length new.log ≤ index → length old.log ≤ index

@@ -1,4 +1,4 @@
--- Facts of each block of a queue, and what stands for a queue when a block comes or goes.
+-- Facts about each block of a queue, and about a queue when a block comes or goes.
 use Rattle.std.proofs.Common.{◌≡◌, ℕ, suc, ◌+◌, List, [], ◌∷◌, ◌++◌, length, refl, subst, ap, map, replicate, arith}
 use Rattle.std.specs.List.{AllByRecursion}
 use Rattle.ring_words.specs.PlainRings.{AreReady, contents_of, entries_of, marks_of}

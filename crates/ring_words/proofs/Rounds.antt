@@ -1,4 +1,5 @@
--- Places of a ring: indices less than one round apart have different places, and one round apart they have the same.
+-- Places of a ring: indices less than one round apart have different places, and those one round
+-- apart the same.
 use Rattle.std.proofs.Common.{◌≡◌, ◌≢◌, ℕ, ◌+◌, ◌%◌, ◌<◌, ◌≤◌, sym, le_of_lt, lt_of_not-le}
 use native.Mathlib.Decide.{dec_le}
 use Rattle.atomic_table.proofs.Lists.{one_turn}

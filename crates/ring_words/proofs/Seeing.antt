@@ -13,7 +13,7 @@ use Rattle.ring_words.specs.Tables.{Course, IsSeen}
 use Rattle.ring_words.proofs.Entries.{at_new, length-snoc, take-longer, within}
 use Rattle.ring_words.proofs.Hands.{even_count_push, odd_count_push}
 
--- one more at the end of what is told from the start on
+-- one more at the end of what is known from the start on
 pub start_more : (places : ℕ) (all : List ℕ) (one : ℕ) → from_start places (all ++ one ∷ []) ≡ from_start places all ++ one ∷ []
 start_more places all one = sym (append_assoc (replicate places 0) all (one ∷ []))
 
@@ -35,7 +35,7 @@ start_zero zero index all below = absurd (omega arith)
 start_zero (suc places) zero all below = refl
 start_zero (suc places) (suc index) all below = start_zero places index all (omega arith)
 
--- what is told of one index more
+-- what is known of one more index
 start_new : (places : ℕ) (all : List ℕ) (one index at : ℕ) (P : Type 0) → (index ≡ places + length all → one ≡ at → P) → (get_elem? (from_start places all) index ≡ some at → P)
     → get_elem? (from_start places (all ++ one ∷ [])) index ≡ some at → P
 start_new places all one index at P last before is =
@@ -46,7 +46,7 @@ start_new places all one index at P last before is =
 was_longer : (log : List Entry) (one : Entry) (index word : ℕ) → WasRetired log index word → WasRetired (log ++ one ∷ []) index word
 was_longer log one index word was = record { entry = was.entry; at = at_longer log (one ∷ []) index was.entry was.at; is = was.is }
 
--- one look more: it and all that were before
+-- one more look: it and all before it
 look_more : (P : ℕ → ℕ → ℕ → Type 0) (rank : List ℕ → ℕ) (looks : List ℕ) (word : ℕ)
     → ((i w : ℕ) → get_elem? looks i ≡ some w → P i (rank (take i looks)) w) → P (length looks) (rank looks) word
     → (i w : ℕ) → get_elem? (looks ++ word ∷ []) i ≡ some w → P i (rank (take i (looks ++ word ∷ []))) w
@@ -59,14 +59,14 @@ look_more P rank looks word all new i w at =
     subst (λ l. P i (rank l) w) (sym (take-longer looks word i (omega arith))) (all i w t))
     (at_new looks word w i at)
 
--- a bound on all numbers of a list holds with one more, or when it rises
+-- a bound on all numbers of a list holds with one more number, or when the bound rises
 made_more : (all : List ℕ) (one top : ℕ) → ((i at : ℕ) → get_elem? all i ≡ some at → at ≤ top) → one ≤ top → (i at : ℕ) → get_elem? (all ++ one ∷ []) i ≡ some at → at ≤ top
 made_more all one top below less i at is = ⊎_elim (λ t. subst (λ k. k ≤ top) t.1 less) (λ t. below i at t) (at_new all one at i is)
 
 made_later : (all : List ℕ) (looks : List ℕ) (word : ℕ) → ((i at : ℕ) → get_elem? all i ≡ some at → at ≤ length looks) → (i at : ℕ) → get_elem? all i ≡ some at → at ≤ length (looks ++ word ∷ [])
 made_later all looks word below i at is = let h = below i at is in let long = length-snoc looks word in omega arith
 
--- and so it does of what is told from the start on
+-- and so does one on what is known from the start on
 pub start_made : (places : ℕ) (all : List ℕ) (top : ℕ) → ((i at : ℕ) → get_elem? all i ≡ some at → at ≤ top) → (index at : ℕ) → get_elem? (from_start places all) index ≡ some at → at ≤ top
 start_made zero all top below index at is = below index at is
 start_made (suc places) all top below zero at is = subst (λ k. k ≤ top) (some-injective 0 at is) (omega arith)

@@ -1,4 +1,4 @@
--- A look that a step adds to what an end knows found the word that stands at the place of the next block.
+-- A look that a step adds to what an end knows found the word at the place of the next block.
 use Rattle.std.proofs.Common.{◌≡◌, ℕ, ◌+◌, ◌%◌, ◌<◌, List, [], ◌∷◌, ◌++◌, length, take, slice_index, sym, ap, ◌∙◌, subst, arith, lt_of_not-le, Option}
 use mathlib.Core.Logic.{dite}
 use mathlib.Core.Option.{some, some-injective}

@@ -1,4 +1,4 @@
--- The rule of a ring outlives each step of the reader's end.
+-- The rule of a ring holds after each step of the reader's end.
 use Rattle.std.proofs.Common.{◌≡◌, ℕ, suc, ◌+◌, ◌*◌, ◌/◌, ◌%◌, ◌<◌, ◌≤◌, true, false, List, [], ◌∷◌, ◌++◌, length, take, slice_index, slice_set, refl, sym, ap, ap₂, ◌∙◌, subst, mod-lt, lt_of_not-le, arith, length-set, get_or-set_same, get_or-set_other, add-one, Option, Some}
 use mathlib.Core.Logic.{dite}
 use mathlib.Core.Option.{some, none}
@@ -22,7 +22,7 @@ module _ {B : Type 0} (bytes kind_of : B → List ℕ) (ready : B → ℕ → �
   abbrev pub Ring : State (Option B) Known → Type 0
   Ring = IsRing bytes kind_of ready kind
 
-  -- what a step owes at a state
+  -- what has to be shown of a step at a state
   abbrev pub Goes : State (Option B) Known → ℕ → ℕ → Holder B → ℕ → (Holder B → Type 0) → Type 0
   Goes s place id me word told = (now : Known) × (act : Act (Option B)) × Valid s.homes me.1 act × Ring (stepped s place word id me.1 now act) × told (now, carried_after me.1 act)
 
@@ -175,7 +175,7 @@ module _ {B : Type 0} (bytes kind_of : B → List ℕ) (ready : B → ℕ → �
             };
       }
 
-  -- a block that was retired and not taken: what the look at its word shows, and what is left of it
+  -- a block that was retired and not taken: what the look at its word shows, and what remains of it
   pub record Next (s : State (Option B) Known) (r : Ring s) (id : ℕ) (me : Holder B) : Type 0 where
     pub entry : Entry
     pub at : get_elem? r.course.log r.course.taken ≡ some entry
@@ -284,7 +284,7 @@ module _ {B : Type 0} (bytes kind_of : B → List ℕ) (ready : B → ℕ → �
   abbrev released_one : Known → ℕ → ℕ → Known
   released_one v mark looks = record v { marks = v.marks ++ mark ∷ []; freed_at = v.freed_at ++ looks ∷ [] }
 
-  -- a block is released, and stands at its place
+  -- a block is released, and is at its place
   frees_block : (s : State (Option B) Known) (r : Ring s) (id : ℕ) (v : Known) (block : B) (mark : ℕ) → get_elem? s.views id ≡ some v → v.walks ≡ true
       → length v.marks < length v.taken → IsMark mark → kind_of block ≡ v.kind
       → let place : ℕ = length v.marks % length s.homes in

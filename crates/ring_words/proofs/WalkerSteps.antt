@@ -1,4 +1,4 @@
--- What the calls of the reader's end owe to the table, and what its fields keep.
+-- What the calls of the reader's end have to show of the table, and what its fields keep.
 use Rattle.std.proofs.Common.{◌≡◌, ℕ, ◌-◌, ◌%◌, ◌<◌, ◌≤◌, List, [], ◌∷◌, length, Option, Some, None, sym, ap, ◌∙◌, subst, mod-lt, add-zero, arith}
 use mathlib.Core.Option.{none}
 use Rattle.atomic_table.specs.Seated.{TableId}

@@ -1,10 +1,10 @@
--- Counts of looks. A count never falls, and may stand still at the greatest u64.
+-- Counts of looks. A count never falls, and stays at the greatest u64 once there.
 use Rattle.std.specs.Prelude.{ℕ, ◌+◌, ◌-◌, ◌^◌, ◌≤◌, min}
 
 -- a count with one more
 abbrev pub counted : ℕ → ℕ
 counted count = min (count + 1) (2 ^ 64 - 1)
 
--- the count rose, or stands at its greatest value
+-- the count rose, or is at its greatest value
 abbrev pub Rose : ℕ → ℕ → Type 0
 Rose before now = counted before ≤ now

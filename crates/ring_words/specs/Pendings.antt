@@ -25,7 +25,7 @@ pub record Pends (B : Type 0) : Type 0 where
 abbrev pub entries_of : {B : Type 0} → (B → List ℕ) → List (B × ℕ) → List Entry
 entries_of bytes blocks = map (λ one. (bytes one.0, one.1)) blocks
 
--- blocks may stand retired under their statuses and the numbers that follow this one
+-- blocks may be retired with their statuses and the numbers that follow this one
 abbrev pub AreReadyAfter : {B : Type 0} → (B → ℕ → ℕ → Type 0) → ℕ → List (B × ℕ) → Type 0
 AreReadyAfter ready number [] = Unit {0}
 AreReadyAfter ready number (one ∷ rest) =
@@ -42,7 +42,8 @@ pends_of me left = record {
   found = found_in me.0.looks;
 }
 
--- the pending blocks are the last that were retired, of the ring's kind, and may stand so
+-- the pending blocks are the last that were retired, of the ring's kind, and each may be retired
+-- with its number and status
 pub record IsLeft {B : Type 0} (bytes kind_of : B → List ℕ) (ready : B → ℕ → ℕ → Type 0)
     (pends : Pends B) : Type 0 where
   pub last : drop pends.passed pends.retired ≡ entries_of bytes pends.blocks

@@ -15,7 +15,7 @@ drop_next zero [] rest x h = cc
 drop_next (suc count) [] rest x h = cc
 drop_next (suc count) (y ∷ all) rest x h = drop_next count all rest x h
 
--- and such a next one stands within the list
+-- and such a next one is within the list
 drop_some :
     {X : Type 0} (count : ℕ) (all rest : List X) (x : X)
     → drop count all ≡ x ∷ rest

@@ -7,7 +7,7 @@ use Rattle.ring_words.specs.Rings.{Entry, Feed, IsMark, IsStatus, Ring, Walk}
 use Rattle.ring_words.specs.declared.plain_ring.Filled.{Filled}
 use Rattle.ring_words.specs.declared.plain_ring.Vacant.{Vacant}
 
--- the numbers of *ownership*, the blocks that stand at their places, and the counts of looks
+-- the numbers that say who owns which block, the blocks at their places, and the counts of looks
 pub record PlainState : Type 0 where
   pub places : ℕ
   pub kind : List ℕ
@@ -18,8 +18,8 @@ pub record PlainState : Type 0 where
   pub released : ℕ
   -- the retired blocks that weren't taken, by number
   pub shown : List Entry
-  -- the words of the free blocks, by number, and what these blocks hold; a ring that is closing has
-  -- given them up
+  -- the words of the free blocks, by number, and what these blocks hold; a closing ring has dropped
+  -- them
   pub marks : List ℕ
   pub contents : List (List ℕ)
   -- how many looks of the feeder found no free block, and how many of the reader no retired one
@@ -42,7 +42,7 @@ no_table = record {
 abbrev pub ring_of : PlainState → Ring
 ring_of state = record { id = no_table; places = state.places; bound = 2 ^ 55; kind = state.kind }
 
--- a new ring of so many blocks with these contents, which are all free
+-- a new ring of n blocks with these contents, all of them free
 abbrev pub fresh : ℕ → List ℕ → List (List ℕ) → PlainState
 fresh count common blocks = record {
   places = count;
@@ -62,7 +62,7 @@ fresh count common blocks = record {
 abbrev pub has_block : PlainState → Bool
 has_block state = nat_lt state.released state.taken
 
--- what the ring reports as an end of the feeder's side: it stands for the blocks that weren't taken
+-- what the ring reports as an end of the feeder's side: it represents the blocks that weren't taken
 abbrev pub feed_of : PlainState → Feed
 feed_of state = record {
   ring = ring_of state;
@@ -97,7 +97,7 @@ pub record IsOwned (state : PlainState) : Type 0 where
   pub statuses : AllByRecursion (λ entry. IsStatus entry.1) state.shown
   pub words : AllByRecursion IsMark state.marks
 
--- the first waiting block was taken, and has been released since where none is in hand
+-- the first waiting block was taken, and released too where none is in hand
 pub record Took (before after : PlainState) (content : List ℕ) : Type 0 where
   pub first : (status : ℕ) × (before.shown ≡ (content, status) ∷ after.shown)
   pub taken : after.taken ≡ before.taken + 1
@@ -110,8 +110,8 @@ pub record Took (before after : PlainState) (content : List ℕ) : Type 0 where
     contents = after.contents;
   }
 
--- the feeder was given the first free block, which holds this, and this is the word that stood at
--- its place
+-- the feeder was given the first free block, which holds this, and this is the word that was at its
+-- place
 pub record FoundFree (before after : PlainState) (content : List ℕ) (mark : ℕ) : Type 0 where
   pub block : before.contents ≡ content ∷ after.contents
   pub word : before.marks ≡ mark ∷ after.marks
@@ -121,7 +121,7 @@ pub record FoundFree (before after : PlainState) (content : List ℕ) (mark : �
     contents = after.contents;
   }
 
--- the block in hand was released, and this word stands at its place
+-- the block in hand was released, and this word is at its place
 pub record GaveBack (before after : PlainState) (mark : ℕ) : Type 0 where
   pub released : after.released ≡ before.released + 1
   pub stored : after.marks ≡ before.marks ++ mark ∷ []
@@ -129,17 +129,16 @@ pub record GaveBack (before after : PlainState) (mark : ℕ) : Type 0 where
       after
       ≡ record before { released = after.released; marks = after.marks; contents = after.contents }
 
--- and it stands there with this content
+-- and it is there with this content
 pub record PutBack (before after : PlainState) (content : List ℕ) (mark : ℕ) : Type 0 where
   pub gave_back : GaveBack before after mark
   pub block : after.contents ≡ before.contents ++ content ∷ []
 
--- all is the same but the count of looks that found no block to take
+-- all is the same except the count of looks that found no block to take
 abbrev pub Stays : PlainState → PlainState → Type 0
 Stays before after = after ≡ record before { empties = after.empties }
 
--- blocks that wait may stand retired under their numbers, of which the first is this, and their
--- statuses
+-- blocks that wait may be retired with their numbers, from this one on, and their statuses
 abbrev pub AreReady : {B : Type 0} → (B → ℕ → ℕ → Type 0) → ℕ → List (Filled B) → Type 0
 AreReady ready number [] = Unit {0}
 AreReady ready number (filled ∷ rest) =

@@ -27,7 +27,7 @@ module _ {B : Type 0} (bytes kind_of : B → List ℕ) (ready : B → ℕ → �
         after.0
         ≡ record before.0 { given = before.0.given + 1; looks = before.0.looks ++ word ∷ [] }
 
-  -- it found the block of the reader's side that stands one round before
+  -- it found the reader's block of one round before
   pub record FoundHeld (step : Step (Option B)) (before : Holder B) (word : ℕ) (after : Holder B)
       : Type 0 where
     pub hand : after.1 ≡ before.1
@@ -90,7 +90,7 @@ module _ {B : Type 0} (bytes kind_of : B → List ℕ) (ready : B → ℕ → �
       freed_at = before.0.freed_at ++ at ∷ [];
     }
 
-  -- an end for both sides compared them: what was taken is the prefix of what was retired
+  -- an end for both sides compared them: what was taken is a prefix of what was retired
   pub record Compares (before after : Holder B) : Type 0 where
     pub same : after ≡ before
     pub count : length before.0.taken ≤ length before.0.retired

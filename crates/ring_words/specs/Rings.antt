@@ -1,14 +1,14 @@
--- What is said of a ring in plain data. Block numbers count from 1 in the order in which the feeder
--- is given blocks.
+-- What is reported of a ring, as plain data. Block numbers count from 1 in the order in which the
+-- feeder is given blocks.
 use Rattle.std.specs.Prelude.{◌≡◌, ℕ, ◌%◌, ◌<◌, ◌≤◌, Bool, List, [], ◌∷◌, ◌++◌, length, drop}
 use Rattle.std.specs.Prelude.{Option, option_map}
 use Rattle.atomic_table.specs.Seated.{TableId}
 
 -- which ring an end belongs to, and what no call changes of it
 pub record Ring : Type 0 where
-  -- the table of its words; rings on one thread have none, and all tell the same
+  -- the table of its words; rings on one thread have none, and all report the same
   pub id : TableId
-  -- the number of its places: block number s stands at the place (s - 1) modulo this
+  -- the number of its places: block number s is at the place (s - 1) modulo this
   pub places : ℕ
   -- block numbers stay below it
   pub bound : ℕ
@@ -37,28 +37,30 @@ pub record Feed : Type 0 where
   -- it retired
   pub given : ℕ
   pub retired : ℕ
-  -- how many of its looks found a word of the reader's side; it may stand still at the greatest u64
+  -- how many of its looks found a word of the reader's side; it stays at the greatest u64 once
+  -- there
   pub holds : ℕ
   -- the numbers in these words, in order, where the end reports them
   pub found : Option (List ℕ)
   -- how many blocks the reader released and how many it took, where the end reports that
   pub freed : Option ℕ
   pub fetched : Option ℕ
-  -- what it stands for: after so many of the blocks retired so far are these
+  -- what it reports of the retired blocks: those after the first n are these
   pub passed : ℕ
   pub shown : List Entry
 
--- these numbers, where they are reported, with one more
+-- these numbers, where they are reported, and one more
 abbrev pub and_found : ℕ → Option (List ℕ) → Option (List ℕ)
 and_found number found = option_map (λ numbers. numbers ++ number ∷ []) found
 
--- the end stands for the list of all blocks retired so far
+-- the end represents the list of all blocks retired so far
 pub record StandsFor (feed : Feed) (all : List Entry) : Type 0 where
   pub count : length all ≡ feed.retired
   pub front : feed.passed ≤ feed.retired
   pub rest : drop feed.passed all ≡ feed.shown
 
--- a step of the reader leaves the feeder's side as it was, and the end stands for what it stood for
+-- a step of the reader leaves the feeder's side as it was, and the end represents what it did
+-- before
 pub record LeavesFeeder (before after : Feed) : Type 0 where
   pub ring : after.ring ≡ before.ring
   pub given : after.given ≡ before.given
@@ -75,7 +77,8 @@ pub record Walk : Type 0 where
   pub in_hand : Bool
   -- how many blocks it took so far
   pub taken : ℕ
-  -- how many of its looks found a word of the feeder's side; it may stand still at the greatest u64
+  -- how many of its looks found a word of the feeder's side; it stays at the greatest u64 once
+  -- there
   pub empties : ℕ
   -- how many retired blocks wait to be taken, where the end reports that
   pub waiting : Option ℕ

@@ -1,4 +1,4 @@
--- What the two ends of a ring between two threads tell.
+-- What the two ends of a ring between two threads report.
 use Rattle.std.specs.Prelude.{◌≡◌, ℕ, zero, suc, ◌+◌, ◌-◌, ◌/◌, ◌%◌, ◌^◌, ◌<◌, ◌≤◌, Bool, true}
 use Rattle.std.specs.Prelude.{false, List, [], ◌∷◌, ◌++◌, length, Option, None, Some, nat_eq}
 use Rattle.std.specs.Prelude.{if◌then◌else◌}
@@ -57,7 +57,7 @@ even_count (word ∷ words) = (1 - word % 2) + even_count words
 abbrev pub ring_at : TableId → ℕ → List ℕ → Ring
 ring_at table count common = record { id = table; places = count; bound = 2 ^ 40; kind = common }
 
--- the feeder's end stands for the blocks that it retired, and doesn't report what the reader does
+-- the feeder's end represents the blocks that it retired, and doesn't report what the reader does
 abbrev pub feed_of : Feeding → Feed
 feed_of feeder = record {
   ring = ring_at feeder.id feeder.places feeder.kind;
@@ -113,7 +113,7 @@ pub record GaveBack (before after : Walking) (mark : ℕ) : Type 0 where
   pub held : before.in_hand ≡ true
   pub rest : after ≡ record before { in_hand = false; marks = before.marks ++ mark ∷ [] }
 
--- all is the same but the looks
+-- all is the same except the looks
 abbrev pub Stays : Walking → Walking → Type 0
 Stays before after = after ≡ record before { visits = after.visits }
 
@@ -135,7 +135,7 @@ pub record FoundNumber (before after : Feeding) (number : ℕ) : Type 0 where
   pub found : found_in after.looks ≡ found_in before.looks ++ number ∷ []
 
 -- a look of the reader found an odd word, with the next number and the status of this block, which
--- may stand retired under them
+-- may be retired with them
 pub record TookWord (ready : ℕ → ℕ → Type 0) (before after : Walking) (content : List ℕ)
     : Type 0 where
   pub word : ℕ
@@ -156,7 +156,7 @@ pub record FoundEven (before after : Walking) : Type 0 where
   pub now : after ≡ record before { visits = before.visits ++ word ∷ [] }
   pub empties : even_count after.visits ≡ even_count before.visits + 1
 
--- the slots of so many blocks from an index on, which are out and empty, the last one first
+-- the slots of n blocks from an index on, which are out and empty, the last one first
 abbrev pub slots_of : {B : Type 0} → ℕ → ℕ → ℕ → List (ℕ × Option B)
 slots_of places first zero = []
 slots_of places first (suc count) = ((first + count) % places, None) ∷ slots_of places first count
@@ -174,7 +174,7 @@ pub record IsSeated (table seat : TableId) (places : ℕ) : Type 0 where
 pub record KeepsFeed {B : Type 0} (me : Holder B) (places given retired : ℕ) : Type 0 where
   pub feeds : me.0.feeds ≡ true
   pub count : me.0.given ≡ given
-  -- before the first block is given no look has found one held
+  -- until the first block is given no look has found one held
   pub first : given ≡ 0 → found_in me.0.looks ≡ []
   pub retired_count : length me.0.retired ≡ retired
   pub order : retired ≤ given

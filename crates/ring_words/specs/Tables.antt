@@ -1,7 +1,7 @@
 -- The rule of a ring between two threads. Its table has a status word and a slot for each place; a
--- block that stands at its place is in the slot, and a block that is out has left `None` there,
--- which is its end's to write. The index of a block is its number less one, and its place is the
--- index modulo the number of places.
+-- block at its place is in the slot, and a block that is out has left `None` there, which only its
+-- end may replace. The index of a block is its number less one, and its place is the index modulo
+-- the number of places.
 use Rattle.std.specs.Prelude.{◌≡◌, ℕ, ◌+◌, ◌*◌, ◌%◌, ◌^◌, ◌<◌, ◌≤◌, Bool, true, false, List, []}
 use Rattle.std.specs.Prelude.{◌∷◌, ◌++◌, length, take, slice_index, Option, Some}
 use mathlib.Core.Option.{some, none}
@@ -37,12 +37,12 @@ Home B = maybe.Option (Option B)
 
 module _ {B : Type 0} (bytes kind_of : B → List ℕ) (ready : B → ℕ → ℕ → Type 0) (kind : List ℕ)
   where
-    -- a block stands at this place
+    -- a block is at this place
     pub record Stands (homes : List (Home B)) (place : ℕ) (block : B) : Type 0 where
       pub home : get_elem? homes place ≡ some (some (Some block))
       pub same_kind : kind_of block ≡ kind
 
-    -- the block of an entry stands at this place, and may do so retired
+    -- the block of an entry is at this place, and may be there as a retired one
     pub record Waits (homes : List (Home B)) (place index : ℕ) (entry : Entry) : Type 0 where
       pub block : B
       pub stands : Stands homes place block
@@ -53,22 +53,22 @@ module _ {B : Type 0} (bytes kind_of : B → List ℕ) (ready : B → ℕ → �
     -- that isn't released
     pub record IsPlaced (course : Course) (words : List ℕ) (homes : List (Home B))
         (places index : ℕ) : Type 0 where
-      -- a retired block has its number and its status in the word
+      -- the word of a retired block has its number and its status
       pub written : (entry : Entry) → get_elem? course.log index ≡ some entry →
           (slice_index words (index % places) ≡ (index + 1) * 256 + entry.1) × IsStatus entry.1
-      -- the reader has it in hand, or on the way from or to its place
+      -- the reader has it in hand, or is moving it from or to its place
       pub reading : index < course.taken → get_elem? homes (index % places) ≡ some none
       -- or it waits at its place
       pub waiting :
           (entry : Entry) → get_elem? course.log index ≡ some entry → course.taken ≤ index →
           Waits homes (index % places) index entry
-      -- any other has an even word
+      -- the word of any other block is even
       pub marked : length course.log ≤ index → IsMark (slice_index words (index % places))
-      -- which is the one that was stored there, or 0 at first
+      -- that word is the last one stored there, or 0 at first
       pub stored : length course.log ≤ index →
           get_elem? (from_start places course.marks) index
           ≡ some (slice_index words (index % places))
-      -- the feeder has it in hand, or on the way from or to its place, or has given it up
+      -- the feeder has it in hand, or is moving it from or to its place, or has discarded it
       pub filling :
           length course.log ≤ index
           → index < course.given
@@ -90,7 +90,7 @@ module _ {B : Type 0} (bytes kind_of : B → List ℕ) (ready : B → ℕ → �
           (index : ℕ) → course.released ≤ index → index < course.released + length state.homes →
           IsPlaced course state.words state.homes (length state.homes) index
 
--- What the looks of both ends found are the words that stood there, and were found while they did.
+-- What the looks of both ends found are the words that were there at the time.
 pub record IsSeen (places : ℕ) (course : Course) : Type 0 where
   -- each look of the feeder came after as many given blocks as looks before it found an even word
   pub looks : (i word : ℕ) → get_elem? course.looks i ≡ some word →
@@ -176,8 +176,8 @@ pub record IsFront (taken retired : List Entry) : Type 0 where
   pub count : length taken ≤ length retired
   pub front : taken ≡ take (length taken) retired
 
--- whatever the reader's end knows that it took is the prefix of what the feeder's end knows that it
--- retired
+-- the blocks that the reader's end knows it took are a prefix of those that the feeder's end knows
+-- it retired
 abbrev pub TakesFront : List Known → Type 0
 TakesFront views =
     (feeder walker : ℕ) (fed walked : Known)
@@ -199,7 +199,7 @@ course_of fed walked = record {
   freed_at = walked.freed_at;
 }
 
--- what both ends know that their looks found are words that stood there, found while they did
+-- what both ends know their looks found are words that were there at the time
 abbrev pub LooksHold : ℕ → List Known → Type 0
 LooksHold places views =
     (feeder walker : ℕ) (fed walked : Known)
@@ -208,8 +208,8 @@ LooksHold places views =
     → fed.feeds ≡ true → walked.walks ≡ true → IsSeen places (course_of fed walked)
 
 -- Between these two states a step added this word to the looks that the feeder's end knows, and
--- nothing else of what either end knows of its stores. Then it is the word that stood at the place
--- of the next block.
+-- nothing else of what either end knows of its stores. Then it is the word that was at the place of
+-- the next block.
 abbrev pub LooksStand : {B : Type 0} → State (Option B) Known → State (Option B) Known → Type 0
 LooksStand before after =
     length after.homes ≡ length before.homes

@@ -1,4 +1,4 @@
-//! A ring on one thread whose feeder is done: what waits is read, and what was read is dropped.
+//! A ring on one thread whose feeder is done: the waiting blocks are read, and then dropped.
 ghost use Rattle.std.specs.Prelude.{◌≡◌, ◌+◌, ◌<◌, ◌≤◌, length, vec_capacity, IfOk, IfSome, IfNone};
 ghost use Rattle.std.specs.Prelude.{OnSome};
 ghost use Rattle.std.specs.VecDeque.{deque_capacity};
@@ -13,8 +13,8 @@ use std::marker::Model;
 use std::snapshot::Snapshot;
 
 /// The reader's end of a ring on one thread whose feeder is done. Contracts see it as they see the
-/// ring. A block that is released is dropped, since nobody fills it again, so that its memory is
-/// there for what was read.
+/// ring. A block that is released is dropped, since nobody fills it again, so its memory is free
+/// for what was read.
 #[derive(Drop)]
 pub struct ClosingRing<B: Content + Drop> {
     /// The number of places.
@@ -31,11 +31,11 @@ pub struct ClosingRing<B: Content + Drop> {
     pub(crate) marks: Vec<u32>,
     /// The blocks that wait for the reader, by number.
     pub(crate) filled: VecDeque<Filled<B>>,
-    /// How many looks of the feeder found no free block; it stands still at the greatest u64.
+    /// How many looks of the feeder found no free block; it stays at the greatest u64.
     pub(crate) holds: u64,
-    /// How many looks of the reader found no block; it stands still at the greatest u64.
+    /// How many looks of the reader found no block; it stays at the greatest u64.
     pub(crate) empties: u64,
-    /// One of the blocks as the ring was made of them. It takes no room: only contracts read it.
+    /// One of the blocks that the ring was made from. It takes no memory: only contracts read it.
     pub(crate) sample: Snapshot<B>,
 }
 
@@ -106,7 +106,7 @@ impl<B: Content + Drop> WalkerEnd<B> for ClosingRing<B> {
     }
 }
 
-/// The words of free places, with room for those of all places.
+/// The words of the free places, in a list with room for all places.
 pub(crate) fn marks_of<B: Drop>(
     alloc: Global,
     places: usize,

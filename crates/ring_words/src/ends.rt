@@ -16,20 +16,20 @@ use crate::Content;
 /// What a look at the status word of the next place found.
 #[derive(Debug, Drop)]
 pub enum Next<B> {
-    /// The block that stood there, which is the feeder's from now on.
+    /// The block at that place, which is the feeder's from now on.
     Free {
         block: B,
         /// The word, which is even and below 256.
         mark: u32,
     },
-    /// The place still has a block of the reader's side: the one of this number.
+    /// The block at that place is still the reader's; it has this number.
     Held(u64),
 }
 
 /// The feeder's end of a ring.
 pub trait FeederEnd<B: Content> {
     // What the end reports of its ring, of the blocks that it was given and retired, and of what it
-    // stands for.
+    // represents.
     ghost feed: { Self → Feed };
 
     // A look between the two states, the earlier one first, found a block of this content at the
@@ -74,8 +74,8 @@ pub trait FeederEnd<B: Content> {
         ensures exact_held { (released : ℕ) → (feed self.old).freed ≡ Some released →
             OnHeld result (released + (feed self.old).ring.places < (feed self.old).given + 1) };
 
-    /// Hands the older block in hand over to the reader, with this content, under its number and a
-    /// status that is odd and below 256.
+    /// Hands the older block in hand over to the reader, with this content, its number and a status
+    /// that is odd and below 256.
     fn retire(&mut self, block: B, status: u32)
         requires hand { (feed self.old).retired < (feed self.old).given }
         requires status { IsStatus status }
@@ -87,7 +87,7 @@ pub trait FeederEnd<B: Content> {
           shown = (feed self.old).shown ++ (B.bytes block, status) ∷ [];
         } };
 
-    // A ring goes on for at least so many blocks.
+    // A ring goes on for at least this number of blocks.
     ghost far: { (end : Self) → 2 ^ 40 ≤ (feed end).ring.bound };
 }
 
@@ -103,7 +103,7 @@ pub trait WalkerEnd<B: Content> {
     // this word.
     ghost gave_back: { Self → Self → List ℕ → ℕ → Type 0 };
 
-    // All is the same in the two states, but for the count of looks that found nothing.
+    // All is the same in the two states, except for the count of looks that found nothing.
     ghost stays: { Self → Self → Type 0 };
 
     /// Looks once at the status word of the next block to be read, and takes the block if it was

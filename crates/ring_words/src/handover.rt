@@ -52,7 +52,7 @@ impl<B: Content> Play<Option<B>, Known> for WalkerStores {
     ghost then = { λ _. Frees B.bytes B.kind B.ready };
 }
 
-/// Both ends in one seat load a word, and learn that what was taken is the prefix of what was
+/// Both ends in one seat load a word, and learn that what was taken is a prefix of what was
 /// retired.
 pub(crate) struct BothCompare;
 

@@ -1,11 +1,10 @@
-//! What an end of a ring between two threads knows, how that is cut in two, and how it comes
-//! together again.
+//! What an end of a ring between two threads knows, how that is split in two and joined again.
 ghost use Rattle.ring_words.specs.Knowing.{left_to_feed, left_to_walk, nothing_known, together};
 
 use atomic_table::{Join, Split};
 use std::collections::LinkedList;
 
-/// What an end knows. It stands in contracts and proofs alone: no value of it is made.
+/// What an end knows. It is only for contracts and proofs: no value of it is made.
 pub struct Known {
     /// Whether it is the feeder's end.
     pub feeds: bool,
@@ -32,7 +31,7 @@ pub struct Known {
     pub visits: LinkedList<u64>,
 }
 
-/// How what is known is cut: the feeder's end keeps the one half, the reader's end begins with the
+/// How what is known is split: the feeder's end keeps one half, the reader's end begins with the
 /// other.
 pub(crate) struct Apart;
 
@@ -42,7 +41,7 @@ impl Split<Known> for Apart {
     ghost right = { left_to_walk };
 }
 
-/// How what the feeder's end knows and what the reader's end knows come together.
+/// How what the feeder's end knows and what the reader's end knows are joined.
 pub(crate) struct Together;
 
 impl Join<Known> for Together {

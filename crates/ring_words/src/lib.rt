@@ -1,4 +1,4 @@
-//! The two ends of a ring of blocks that are handed over by status words, and such a ring on one
+//! The two ends of a ring of blocks that are handed over by status words, and the same ring on one
 //! thread.
 #![tactic(auto)]
 

@@ -1,5 +1,5 @@
-//! How a ring between two threads is finished: its ends come together, and what was retired and not
-//! taken is left.
+//! How a ring between two threads is finished: its ends are joined, and the blocks that were
+//! retired and not taken are left.
 ghost use Rattle.std.specs.Prelude.{◌≡◌, ◌+◌, ◌-◌, ◌^◌, ◌<◌, ◌≤◌, ◌↔◌, true, false, [], ◌∷◌, ◌++◌};
 ghost use Rattle.std.specs.Prelude.{length, take, option_map, slice_get, IfOk, IfSome, IsNone};
 ghost use Rattle.std.specs.List.{AllByRecursion};
@@ -16,14 +16,14 @@ use std::fmt;
 use std::marker::Model;
 use std::snapshot::Snapshot;
 
-/// The retired blocks of a ring that weren't taken, by number, each with its status. `finish` alone
+/// The retired blocks of a ring that weren't taken, by number, each with its status. Only `finish`
 /// makes one. Contracts also see the list of all blocks that the feeder retired, and the numbers of
 /// the reader's blocks that its looks found.
 #[derive(Drop)]
 pub struct Pending<B: Content + Drop> {
     /// The blocks, each with the status that it was retired with.
     blocks: Vec<(B, u32)>,
-    /// The seat of both ends, which knows what the feeder did. It takes no room.
+    /// The seat of both ends, which knows what the feeder did. It takes no memory.
     seat: RingSeat<B>,
 }
 
@@ -71,7 +71,8 @@ impl<B: Content + Drop> fmt::Debug for Pending<B> {
     }
 }
 
-/// Closes a ring, whose reader has no block in hand, and gives what it retired and didn't take.
+/// Closes a ring whose reader has no block in hand, and returns the blocks that were retired and
+/// not taken.
 pub fn finish<B: Content + Drop>(
     alloc: Global,
     feeder: TableFeeder<B>,
@@ -106,7 +107,7 @@ pub fn finish<B: Content + Drop>(
     Ok(Pending { blocks, seat })
 }
 
-/// Takes the blocks out that were retired and not taken, from one index up to another.
+/// Takes out the blocks that were retired and not taken, from one index up to another.
 fn drain<B: Content + Drop>(
     alloc: Global,
     table: &Shared<Option<B>, Known, Snapshot<B>, Handover>,
@@ -139,7 +140,7 @@ fn drain<B: Content + Drop>(
     Ok(blocks)
 }
 
-/// Takes the next block out that was retired. It is there, so its word isn't tested.
+/// Takes out the next block that was retired. It is there, so its word isn't tested.
 fn next_pending<B: Content>(
     table: &Shared<Option<B>, Known, Snapshot<B>, Handover>,
     seat: &mut RingSeat<B>,

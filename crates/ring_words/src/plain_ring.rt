@@ -1,5 +1,5 @@
-//! A ring on one thread. It has no words: its blocks stand in two queues by number, the free ones
-//! and those that wait for the reader.
+//! A ring on one thread. It has no words: its blocks are in two queues by number, the free ones and
+//! those that wait for the reader.
 ghost use Rattle.std.specs.Prelude.{◌≡◌, ◌+◌, ◌-◌, ◌^◌, ◌<◌, ◌≤◌, ℕ, false, true, List, [], ◌∷◌};
 ghost use Rattle.std.specs.Prelude.{◌++◌, length, map, Option, Some, IfOk, IfSome, IfNone, OnSome};
 ghost use Rattle.std.specs.List.{AllByRecursion};
@@ -34,7 +34,7 @@ pub(crate) struct Filled<B> {
 }
 
 /// Both ends of a ring, on one thread. Here each look is exact: the feeder finds a block free
-/// exactly where the reader has released the one that stood there, and the reader finds one exactly
+/// exactly where the reader has released the one at that place, and the reader finds one exactly
 /// where one waits.
 #[derive(Drop)]
 pub struct PlainRing<B: Content + Drop> {
@@ -52,11 +52,11 @@ pub struct PlainRing<B: Content + Drop> {
     vacant: VecDeque<Vacant<B>>,
     /// The blocks that wait for the reader, by number.
     filled: VecDeque<Filled<B>>,
-    /// How many looks of the feeder found no free block; it stands still at the greatest u64.
+    /// How many looks of the feeder found no free block; it stays at the greatest u64.
     holds: u64,
-    /// How many looks of the reader found no block; it stands still at the greatest u64.
+    /// How many looks of the reader found no block; it stays at the greatest u64.
     empties: u64,
-    /// One of the blocks as the ring was made of them. It takes no room: only contracts read it.
+    /// One of the blocks that the ring was made from. It takes no memory: only contracts read it.
     sample: Snapshot<B>,
 }
 
@@ -171,8 +171,7 @@ impl<B: Content + Drop> BothEnds<B> for PlainRing<B> {
 }
 
 impl<B: Content + Drop> PlainRing<B> {
-    /// A ring of these blocks, which stand at its places in their order. They are 2 to 1,048,576 of
-    /// one kind.
+    /// A ring of these blocks, in the order of its places. They are 2 to 1,048,576 of one kind.
     pub fn new(alloc: Global, blocks: Vec<B>) -> Result<PlainRing<B>, Memory>
         requires some { 2 ≤ length blocks.items }
         requires few { length blocks.items ≤ 1048576 }
@@ -202,7 +201,7 @@ impl<B: Content + Drop> PlainRing<B> {
     }
 
     /// The ring after its feeder is done, for the reader alone: the memory of each block that is
-    /// free or is released is given up.
+    /// free or is released is freed.
     pub fn closing(self, alloc: Global) -> Result<ClosingRing<B>, Memory>
         ensures { IfOk result (λ ring. ring ≡ record self { contents = [] }) }
     {
@@ -231,7 +230,7 @@ pub fn ownership_holds<B: Content + Drop>(ring: &PlainRing<B>)
     let _ring = &ring.given;
 }
 
-/// All blocks as free ones with the word 0, and room for as many.
+/// All blocks as free ones with the word 0, and an empty queue with room for as many.
 fn all_vacant<B: Drop>(alloc: Global, blocks: Vec<B>) -> Result<VecDeque<Vacant<B>>, Memory>
     ensures items { IfOk result (λ vacant. vacant.items
         ≡ map (λ block. record { block = block; mark = 0 }) blocks.items) }

@@ -1,18 +1,18 @@
 //! A ring between two threads: how it is made, and who owns which block of it.
 //!
-//! Each place of the ring has a status word and a slot, where its block stands. The feeder looks at
-//! the word of the next place. An even word is of its own side: it takes the block out of the slot,
-//! fills it, puts it back, and after that stores the block's number and an odd status. From this
-//! store on the block is the reader's. The reader looks at the word of the next number. An odd word
-//! is of its side: it takes the block out, reads it, puts it back, and after that stores an even
+//! Each place of the ring has a status word and a slot for its block. The feeder looks at the word
+//! of the next place. An even word is of its own side: it takes the block out of the slot, fills
+//! it, puts it back, and after that stores the block's number and an odd status. From this store on
+//! the block is the reader's. The reader looks at the word of the next number. An odd word is of
+//! its own side: it takes the block out, reads it, puts it back, and after that stores an even
 //! mark. From this store on the block is the feeder's again.
 //!
 //! A look is one load of one word. Where it finds a word of the other side nothing changes, and the
-//! end may look again: nobody waits here. So a word is stored by the side that has the block and by
-//! no other, and a block is touched by one side alone. The feeder may have two blocks in hand,
-//! since it opens the next one before it retires the one before; the reader has one.
+//! end may look again: nobody waits here. So a word is stored only by the side that has the block,
+//! and a block is touched by one side only. The feeder may have two blocks in hand, since it opens
+//! the next one before it retires the one before; the reader has one.
 //!
-//! When both threads are done, `finish` brings the two ends together, and takes out what was
+//! When both threads are done, `finish` joins the two ends, and takes out the blocks that were
 //! retired and not taken.
 ghost use Rattle.std.specs.Prelude.{◌≡◌, ◌≤◌, ℕ, List, [], length, map, Option, Some, IfOk};
 ghost use Rattle.std.specs.List.{AllByRecursion};
@@ -33,8 +33,8 @@ use std::alloc::Global;
 use std::snapshot::Snapshot;
 use std::sync::Arc;
 
-/// The two ends of a ring of these blocks, which stand at its places in their order; each end may
-/// go to a thread of its own. The blocks are 2 to 65,536 of one kind.
+/// The two ends of a ring of these blocks, in the order of its places; each end may go to a thread
+/// of its own. The blocks are 2 to 65,536 of one kind.
 pub fn table_ring<B: Content + Drop>(
     alloc: Global,
     blocks: Vec<B>,
@@ -79,16 +79,16 @@ pub fn table_ownership_holds<B: Content + Drop>()
         × EachKnows (B.kind sample.value) course state.views }
 {}
 
-/// What the reader took is at each moment the prefix of what the feeder retired.
+/// At each moment the blocks that the reader took are a prefix of those that the feeder retired.
 pub fn table_front_holds<B: Content + Drop>()
     ensures { (sample : Snapshot B) (state : State (Option B) Known) →
         ⟦<Handover as TableRule<Option<B>, Known, Snapshot<B>>>⟧.holds sample state →
         TakesFront state.views }
 {}
 
-/// What a look finds is the word that stands there. So `Held` and `None` are no choice of a body:
-/// whatever step adds an odd word to what the feeder's end knows, or an even one to what the
-/// reader's end knows, is made while that word stands at the place of the next block.
+/// A look finds the word that is at the place. So no body is free to answer `Held` or `None`: any
+/// step that adds an odd word to what the feeder's end knows, or an even one to what the reader's
+/// end knows, is made while that word is at the place of the next block.
 pub fn table_looks_hold<B: Content + Drop>()
     ensures looks { (sample : Snapshot B) (before after : State (Option B) Known) →
         ⟦<Handover as TableRule<Option<B>, Known, Snapshot<B>>>⟧.holds sample before →

@@ -25,7 +25,7 @@ word_is [] number at = absurd (some-ne-none number (sym at))
 word_is (x ∷ words) number at = some-injective x number at
 
 module _ (feeders : ℕ) where
-  -- what was so of a seat still is, when the next ticket has risen and live feeders have ended
+  -- what held of a seat still holds, when the next ticket has risen and live feeders have ended
   hand_later : (next later live fewer : ℕ) (v : Hand) → next ≤ later → fewer ≤ live → HandOk feeders next live v → HandOk feeders later fewer v
   hand_later next later live fewer v up down ok = record {
     below = below_up next later v.drawn up ok.below;
@@ -146,7 +146,7 @@ module _ (feeders : ℕ) where
         },
       )
 
-  -- the first seat makes another, which stands for one seat, and has drawn nothing
+  -- the first seat makes another, which represents one seat, and has drawn nothing
   module _ (id : ℕ) (v w u : Hand) (none_drawn : v.drawn ≡ []) (some_shares : 0 < v.shares) (shares : w.shares + u.shares ≡ v.shares) (owes : w.owes + u.owes ≡ v.owes) (ended_is : w.ended + u.ended ≡ v.ended)
       (w_drawn : w.drawn ≡ []) (u_drawn : u.drawn ≡ []) (w_live : w.live ≡ v.live) (u_live : u.live ≡ v.live) (w_feeders : w.feeders ≡ v.feeders) (u_feeders : u.feeders ≡ v.feeders) where
     after_split : Splits (Dealt feeders) id v w u
@@ -215,7 +215,7 @@ module _ (feeders : ℕ) where
             (at_set mid other j spent t here);
       }
 
-  -- the table is closed, and this seat stands for all
+  -- the table is closed, and this seat represents all
   module _ (words : List ℕ) (slots : List (Unit {0})) (id : ℕ) (v : Hand) (number : ℕ) (all : v.shares ≡ feeders + 9)
       (final : Final (Seen (Dealt feeders) id v) words slots) (here : get_elem? words 0 ≡ some number) where
     abbrev last : St
@@ -224,7 +224,7 @@ module _ (feeders : ℕ) where
     rule : Dealt feeders last
     rule = final.1.0
 
-    -- so no other seat has a ticket
+    -- then no other seat has a ticket
     others_none : (j : ℕ) (u : Hand) → j ≢ id → get_elem? last.views j ≡ some u → length u.drawn ≡ 0
     others_none j u other to =
         let n : ℕ = total (λ v. v.shares) last.views in

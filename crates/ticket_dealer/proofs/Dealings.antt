@@ -1,4 +1,4 @@
--- What the table keeps is the dealing.
+-- The rule that the table keeps is the dealing.
 use Rattle.std.proofs.Common.{◌≡◌, ◌≢◌, ℕ, zero, suc, List, [], ◌∷◌, refl, ap, ◌∙◌, sym, arith}
 use mathlib.Core.Logic.{dite}
 use mathlib.Core.Option.{some, some-injective}
@@ -13,7 +13,7 @@ use Rattle.ticket_dealer.specs.Deals.{IsDealing}
 use Rattle.ticket_dealer.proofs.Lists.{below_yes}
 use Rattle.ticket_dealer.proofs.Totals.{total_above}
 
--- one view has the one of a sum of one, and the others have none
+-- of one view it is one, and of the others none
 pub record HasOne (f : Hand → ℕ) (views : List Hand) : Type 0 where
   pub seat : ℕ
   pub hand : Hand

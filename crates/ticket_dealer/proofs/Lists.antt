@@ -39,7 +39,7 @@ pub below_join : (number : ℕ) (xs ys : List ℕ) → AllBelow number xs → Al
 below_join number [] ys all also = also
 below_join number (x ∷ xs) ys all also = (all.0, below_join number xs ys all.1 also)
 
--- a number above all others goes after them
+-- a number above all others comes after them
 pub rises_more : (least number : ℕ) (xs : List ℕ) → Rises least xs → AllBelow number xs → least ≤ number → Rises least (xs ++ number ∷ [])
 rises_more least number [] rises all above = (above, tt)
 rises_more least number (x ∷ xs) rises all above = (rises.0, rises_more (x + 1) number xs rises.1 all.1 (let here = all.0 in omega (arith, here)))
@@ -48,7 +48,7 @@ count_times : (ticket : ℕ) (xs : List ℕ) → count_by (λ drawn. drawn == ti
 count_times ticket [] = refl
 count_times ticket (x ∷ xs) = sum_by-cons (λ (drawn : ℕ). cond (drawn == ticket) 1 0) x xs ∙ ap (λ (z : ℕ). (if x == ticket then 1 else 0) + z) (count_times ticket xs)
 
--- how often the ticket stands among those of all seats, in one list
+-- how often the ticket is among those of all seats, in one list
 pub seats_times : (ticket : ℕ) (seats : List SeatValue) → drawn_times ticket seats ≡ times ticket (all_drawn seats)
 seats_times ticket [] = refl
 seats_times ticket (seat ∷ seats) = sum_by-cons (λ (s : SeatValue). count_by (λ drawn. drawn == ticket) s.drawn) seat seats
@@ -62,7 +62,7 @@ seats_count (seat ∷ seats) =
     ∙ ap (λ (z : ℕ). length seat.drawn + z) (seats_count seats)
     ∙ sym (length-append seat.drawn (all_drawn seats))
 
--- the tickets of some seats and of one more
+-- the tickets of some seats and of another
 pub drawn_more : (seats : List SeatValue) (x : SeatValue) → all_drawn (seats ++ x ∷ []) ≡ all_drawn seats ++ x.drawn
 drawn_more [] x = append-nil x.drawn
 drawn_more (seat ∷ seats) x = ap (λ (z : List ℕ). seat.drawn ++ z) (drawn_more seats x) ∙ sym (append_assoc seat.drawn (all_drawn seats) x.drawn)
@@ -72,7 +72,7 @@ pub drawn_with : (seats : List SeatValue) (x : SeatValue) (drawn more : List ℕ
 drawn_with seats x drawn more is = ap (λ (z : List ℕ). all_drawn seats ++ (z ++ more)) is ∙ sym (append_assoc (all_drawn seats) x.drawn more) ∙ ap (λ (z : List ℕ). z ++ more) (sym (drawn_more seats x))
 
 module _ {A : Type 0} where
-  -- what is so of each item but the last, and of the last
+  -- what holds of each item except the last, and of the last
   pub all_but : (P : A → Type 0) (xs : List A) (x : A) → AllByRecursion P (xs ++ x ∷ []) → AllByRecursion P xs × P x
   all_but P [] x all = (tt, all.0)
   all_but P (y ∷ xs) x all = let rest = all_but P xs x all.1 in ((all.0, rest.0), rest.1)

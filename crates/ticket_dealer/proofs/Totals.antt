@@ -16,13 +16,13 @@ pub total_more : (f : Hand → ℕ) (views : List Hand) (w : Hand) → total f (
 total_more f [] w = omega arith
 total_more f (x ∷ views) w = let rest = total_more f views w in omega (arith, rest)
 
--- one of the views has no more than all
+-- one of the views has at most the sum of all
 pub total_above : (f : Hand → ℕ) (views : List Hand) (j : ℕ) (v : Hand) → get_elem? views j ≡ some v → f v ≤ total f views
 total_above f [] j v at = absurd (some-ne-none v (sym at))
 total_above f (x ∷ views) zero v at = let same : f x ≡ f v = ap f (some-injective x v at) in omega (arith, same)
 total_above f (x ∷ views) (suc j) v at = let rest = total_above f views j v at in omega (arith, rest)
 
--- two of the views have no more than all
+-- two of the views have at most the sum of all
 pub total_both : (f : Hand → ℕ) (views : List Hand) (i j : ℕ) (v w : Hand) → i ≢ j → get_elem? views i ≡ some v → get_elem? views j ≡ some w → f v + f w ≤ total f views
 total_both f [] i j v w other at to = absurd (some-ne-none v (sym at))
 total_both f (x ∷ views) zero zero v w other at to = absurd (other refl)
@@ -30,7 +30,7 @@ total_both f (x ∷ views) zero (suc j) v w other at to = let same : f x ≡ f v
 total_both f (x ∷ views) (suc i) zero v w other at to = let same : f x ≡ f w = ap f (some-injective x w to) in let rest = total_above f views i v at in omega (arith, same, rest)
 total_both f (x ∷ views) (suc i) (suc j) v w other at to = let rest = total_both f views i j v w (λ e. other (ap suc e)) at to in omega (arith, rest)
 
--- where each view's number is at most so many times another, so is the sum
+-- where each view's number is at most n times another, so is the sum
 pub total_times : (f g : Hand → ℕ) (views : List Hand) → ((j : ℕ) (v : Hand) → get_elem? views j ≡ some v → f v ≤ g v * 2 ^ 32) → total f views ≤ total g views * 2 ^ 32
 total_times f g [] each = omega arith
 total_times f g (x ∷ views) each = let here = each zero x refl in let rest = total_times f g views (λ j v at. each (suc j) v at) in omega (arith, here, rest)

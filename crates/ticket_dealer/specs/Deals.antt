@@ -17,7 +17,7 @@ pub record IsDrawnOnce (views : List Hand) (ticket : ℕ) : Type 0 where
       times ticket other.drawn ≡ 0
 
 -- Word 0 is the number of tickets drawn, word 1 the number of live feeders. A seat that was joined
--- with others has their tickets after one another, and stands for as many seats of the dealer as
+-- with others has their tickets after one another, and represents as many seats of the dealer as
 -- they did together
 pub record IsDealing (feeders : ℕ) (table : State (Unit {0}) Hand) : Type 0 where
   -- each number below word 0 was drawn once, by one seat, and no others were drawn

@@ -1,5 +1,5 @@
--- The rule of a dealer's table: it holds between any two steps.
--- Word 0 is the next ticket, word 1 the number of feeders that haven't ended.
+-- The rule of a dealer's table: it holds between any two steps. Word 0 is the next ticket, word 1
+-- the number of feeders that haven't ended.
 use Rattle.std.specs.Prelude.{◌≡◌, ℕ, ◌+◌, ◌*◌, ◌<◌, ◌≤◌, ◌^◌, length, slice_index}
 use mathlib.Core.Option.{some}
 use lib.ListN.{get_elem?}
@@ -8,7 +8,7 @@ use Rattle.ticket_dealer.specs.declared.knowledge.Hand.{Hand}
 use Rattle.ticket_dealer.specs.Hands.{total}
 use Rattle.ticket_dealer.specs.Tickets.{times, once_below, AllBelow, Rises}
 
--- Of a seat: what it drew is below the next ticket, it drew few, in order where it stands for one
+-- Of a seat: what it drew is below the next ticket, it drew few, in order where it represents one
 -- of the dealer's, and no more feeders are live than it found
 pub record HandOk (feeders next live : ℕ) (v : Hand) : Type 0 where
   pub below : AllBelow next v.drawn

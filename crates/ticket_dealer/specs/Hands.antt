@@ -7,7 +7,7 @@ abbrev pub total : (Hand → ℕ) → List Hand → ℕ
 total f [] = 0
 total f (v ∷ views) = f v + total f views
 
--- the first seat while it still makes others: it owes their calls of `done`, and stands for them
+-- the first seat while it still makes others: it owes their calls of `done`, and represents them
 abbrev pub unmade : ℕ → ℕ → ℕ → Hand
 unmade feeders owes shares = record {
   feeders = feeders;
@@ -18,11 +18,11 @@ unmade feeders owes shares = record {
   live = feeders;
 }
 
--- the first seat, of which the others are made: a dealer has a seat for each feeder and nine more
+-- the first seat, from which the others are made: a dealer has a seat for each feeder and nine more
 abbrev pub opening : ℕ → Hand
 opening feeders = unmade feeders feeders (feeders + 9)
 
--- a seat that stands for one of the dealer's, and has drawn nothing
+-- a seat that represents one of the dealer's, and has drawn nothing
 abbrev pub fresh : ℕ → ℕ → ℕ → Hand
 fresh feeders owes live = record {
   feeders = feeders;
@@ -33,14 +33,14 @@ fresh feeders owes live = record {
   live = live;
 }
 
--- a feeder's seat is made of the first one
+-- a feeder's seat is made from the first one
 abbrev pub without_feeder : Hand → Hand
 without_feeder v = record v { shares = v.shares - 1; owes = v.owes - 1 }
 
 abbrev pub feeder_of : Hand → Hand
 feeder_of v = fresh v.feeders 1 v.live
 
--- a seat that is no feeder's is made of the first one
+-- a seat that belongs to no feeder is made from the first one
 abbrev pub without_other : Hand → Hand
 without_other v = record v { shares = v.shares - 1 }
 
@@ -55,11 +55,11 @@ drew v ticket = record v { drawn = v.drawn ++ ticket ∷ [] }
 abbrev pub ended : Hand → Hand
 ended v = record v { owes = v.owes - 1; ended = v.ended + 1 }
 
--- it has found so many live feeders
+-- it has found this number of live feeders
 abbrev pub saw : Hand → ℕ → Hand
 saw v found = record v { live = found }
 
--- it stands for the seats of both, the other's first
+-- it represents the seats of both, the other's first
 abbrev pub joined : Hand → Hand → Hand
 joined v w = record v {
   shares = v.shares + w.shares;
@@ -68,6 +68,6 @@ joined v w = record v {
   drawn = w.drawn ++ v.drawn;
 }
 
--- it stands for no seat any more
+-- it represents no seat any more
 abbrev pub spent : Hand
 spent = record { feeders = 0; shares = 0; owes = 0; ended = 0; drawn = []; live = 0 }

@@ -5,12 +5,12 @@ use Rattle.std.specs.List.{AllByRecursion}
 use Rattle.atomic_table.specs.Seated.{TableId}
 use Rattle.ticket_dealer.specs.Tickets.{Rises}
 
--- Contracts see a dealer as this: which it is, and how many feeders it has
+-- What contracts see of a dealer: which it is, and how many feeders it has
 pub record DealerValue : Type 0 where
   pub id : TableId
   pub feeders : ℕ
 
--- Contracts see a seat as this: the dealer that it belongs to and its number of feeders, how many
+-- What contracts see of a seat: the dealer that it belongs to and its number of feeders, how many
 -- calls of `done` are still to come (one from a feeder's seat that has made none) and how many were
 -- made, the tickets that it drew, in order, and the number of live feeders that it found the last
 -- time
@@ -67,17 +67,17 @@ has_drawn seat ticket = record seat { drawn = seat.drawn ++ ticket ∷ [] }
 abbrev pub has_ended : SeatValue → SeatValue
 has_ended seat = record seat { owes = 0; ended = 1 }
 
--- it has found so many live feeders
+-- it has found this number of live feeders
 abbrev pub has_seen : SeatValue → ℕ → SeatValue
 has_seen seat found = record seat { live = found }
 
--- so many feeders are live as haven't called `done` so far: all less those calls, the seat's own
--- among them
+-- the number of live feeders is that of all less the calls of `done` so far, the seat's own among
+-- them
 abbrev pub AreLive : SeatValue → ℕ → Type 0
 AreLive seat found =
     (calls : ℕ) × (found + calls ≡ seat.feeders) × (seat.ended ≤ calls) × (seat.owes ≤ found)
 
--- how often the ticket stands among those of all seats
+-- how often the ticket is among those of all seats
 abbrev pub drawn_times : ℕ → List SeatValue → ℕ
 drawn_times ticket seats = sum_by (λ seat. count_by (λ drawn. drawn == ticket) seat.drawn) seats
 

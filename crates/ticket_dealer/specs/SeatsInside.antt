@@ -16,7 +16,7 @@ seat_value s = record {
   live = s.me.0.live;
 }
 
--- it stands for one of the dealer's seats, which makes one call of `done` at most, and its tickets
+-- it represents one of the dealer's seats, which makes one call of `done` at most, and its tickets
 -- rise
 pub record IsSeat (s : Seat (Unit {0}) Hand) : Type 0 where
   pub one : s.me.0.shares ≡ 1

@@ -14,8 +14,8 @@ Drew step before found after =
 abbrev pub Ended : Step (Unit {0}) → Me (Unit {0}) Hand → ℕ → Me (Unit {0}) Hand → Type 0
 Ended step before found after = after ≡ (ended before.0, before.1)
 
--- So many feeders are live as haven't called `done`: at least the seat itself where it hasn't, no
--- more than it found before, and all less those that have
+-- The number of live feeders is that of all less those that called `done`: it counts the seat
+-- itself where that hasn't, and is no more than the seat found before
 pub record Saw (step : Step (Unit {0})) (before : Me (Unit {0}) Hand) (found : ℕ)
     (after : Me (Unit {0}) Hand) : Type 0 where
   pub seen : after ≡ (saw before.0 found, before.1)

@@ -9,7 +9,7 @@ use crate::plays::{EachOnce, Gathers};
 use crate::{Dealer, DealerSeat};
 use atomic_table::{Seat, Shared};
 
-/// One seat of the table that stands for all of these.
+/// One seat of the table that represents all of these.
 fn gather(shared: &Shared<(), Hand, u64, EachOnce>, mut seats: Vec<DealerSeat>) -> Seat<(), Hand>
     requires table { 0 < shared.now.table_id.words }
     requires some { 0 < length seats.items }
@@ -33,7 +33,7 @@ fn gather(shared: &Shared<(), Hand, u64, EachOnce>, mut seats: Vec<DealerSeat>) 
 
 impl Dealer {
     /// The number of tickets drawn, when all seats are handed in. The tickets of all seats are then
-    /// the numbers from 0 up to one less, each once, rising in each seat.
+    /// the numbers below it, each once, rising in each seat.
     pub fn close(self, seats: Vec<DealerSeat>) -> u64
         requires all { length seats.items ≡ self.feeders + 9 }
         requires own { AllByRecursion (IsSeatOf self) seats.items }

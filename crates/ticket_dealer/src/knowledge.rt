@@ -1,11 +1,11 @@
 //! What a seat at the table knows. No value of this type is made.
 use std::collections::LinkedList;
 
-/// What a seat of the table knows. One that was joined with others stands for all of them.
+/// What a seat of the table knows. One that was joined with others represents all of them.
 pub struct Hand {
     /// The number of feeders at the start.
     pub feeders: u64,
-    /// For how many of the dealer's seats it stands.
+    /// How many of the dealer's seats it represents.
     pub shares: u64,
     /// How many calls of `done` are still to come from it: one from a feeder's seat that has made
     /// none.

@@ -9,7 +9,7 @@ use crate::plays::EachOnce;
 use atomic_table::TableRule;
 
 /// What a dealer's table keeps between any two steps: each number below the ticket word was drawn
-/// once, by one seat, the tickets of each seat rise, and the live word with all calls of `done` is
+/// once, by one seat, the tickets of each seat rise, and the live word plus all calls of `done` is
 /// the number of feeders.
 pub fn the_dealing_holds()
     ensures { (feeders : ℕ) (table : State (Unit {0}) Hand) →

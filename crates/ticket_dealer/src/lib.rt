@@ -1,5 +1,5 @@
-//! Tickets that seats draw in threads of their own, each number once, and a count of the feeders
-//! that go on.
+//! Tickets that seats draw in threads of their own, each number once, and a count of the live
+//! feeders.
 #![tactic(auto)]
 
 mod closed_dealers;

@@ -10,7 +10,7 @@ use atomic_table::{Seat, Shared, Table};
 use frame_view::Memory;
 use std::alloc::Global;
 
-/// How many seats are no feeder's: a timer's and those of eight readers.
+/// How many seats belong to no feeder: a timer's and those of eight readers.
 const OTHERS: usize = 9;
 
 /// The seats of the feeders after the first one, which is the first feeder's and makes the others.
@@ -34,7 +34,7 @@ fn make_feeders(
     Ok(())
 }
 
-/// The seats that are no feeder's.
+/// The seats that belong to no feeder.
 fn make_others(
     shared: &Shared<(), Hand, u64, EachOnce>,
     first: &mut Seat<(), Hand>,
@@ -55,8 +55,8 @@ fn make_others(
 }
 
 impl Dealer {
-    /// A dealer of so many feeders, 1 to 8, and its seats: those of the feeders and then nine more.
-    /// The only error is out of memory.
+    /// A dealer of n feeders, 1 to 8, and its seats: those of the feeders and then nine more. The
+    /// only error is out of memory.
     pub fn new(alloc: Global, feeders: u32) -> Result<(Dealer, Vec<DealerSeat>), Memory>
         requires some { 0 < feeders }
         requires few { feeders ≤ 8 }

@@ -16,7 +16,7 @@ impl TableRule<(), Hand, u64> for EachOnce {
     ghost first = { opening };
 }
 
-/// A seat of a feeder is made of the first one.
+/// A feeder's seat is made from the first one.
 pub struct MakesFeeder;
 
 impl Split<Hand> for MakesFeeder {
@@ -25,7 +25,7 @@ impl Split<Hand> for MakesFeeder {
     ghost right = { feeder_of };
 }
 
-/// A seat that is no feeder's is made of the first one.
+/// A seat that belongs to no feeder is made from the first one.
 pub struct MakesOther;
 
 impl Split<Hand> for MakesOther {

@@ -1,5 +1,5 @@
-//! What a seat does: it draws, ends, and looks how many feeders go on. No call waits or takes
-//! memory.
+//! What a seat does: it draws a ticket, ends, and looks how many feeders are live. No call waits or
+//! takes memory.
 ghost use Rattle.std.specs.Prelude.{◌≡◌, ◌<◌, ◌≤◌, ◌^◌, length};
 ghost use Rattle.ticket_dealer.specs.Seats.{AreLive, IsSeatOf, has_drawn, has_ended, has_seen};
 ghost use Rattle.ticket_dealer.specs.Tickets.{AllBelow};
@@ -10,7 +10,7 @@ use crate::{Dealer, DealerSeat};
 
 impl Dealer {
     /// Draws the next ticket, from 0: the ticket word as it was before it rose by one. The seat has
-    /// drawn fewer than 2^32.
+    /// drawn fewer than 2^32 tickets.
     pub fn draw(&self, seat: &mut DealerSeat) -> u64
         requires own { IsSeatOf self.now seat.old }
         requires few { length seat.old.drawn < 2 ^ 32 }

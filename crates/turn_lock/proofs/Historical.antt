@@ -1,4 +1,4 @@
--- What the table keeps is the turn history.
+-- The rule that the table keeps is the turn history.
 use Rattle.std.proofs.Common.{◌≡◌, ℕ, Bool, List, sym, ap, ◌∙◌, subst, ⊎_elim, inl, inr, arith, Option}
 use mathlib.Core.Option.{some, some-injective}
 use lib.ListN.{get_elem?}

@@ -101,7 +101,7 @@ module _ {V E B : Type 0} (stored : V → List E) (base : V → B) (may_add : B 
   history_few = let long = length-append f (all_added r.added) in let below = tickets_below in let behind = r.behind in
       let each = added_few r.added (λ i es at. let turn = turn_at i es at in turn_few (may_add b) turn.0 es turn.2) in omega (arith, long, below, behind, each)
 
-  -- the history goes on from each seat's last
+  -- the history continues each seat's last list
   pub history_goes_on : (j k : ℕ) (v : Knows E B) (p : Place E) → get_elem? s.views j ≡ some v → get_elem? v.places k ≡ some p → GoesOn (may_add b) p.number p.last (f ++ all_added r.added)
   history_goes_on j k v p at here = let ok = r.each_place j k v p at here in let before : List E = all_added (take ok.since r.added) in let more : List E = all_added (drop ok.since r.added) in (
     more,

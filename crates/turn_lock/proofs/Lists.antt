@@ -9,7 +9,7 @@ not_true : (b : Bool) → ¬ (b ≡ true) → b ≡ false
 not_true true never = absurd (never refl)
 not_true false never = refl
 
--- one ticket more
+-- one more ticket
 pub times_more : (number owner : ℕ) (owners : List ℕ) → times number (owners ++ owner ∷ []) ≡ times number owners + times number (owner ∷ [])
 times_more number owner [] = omega arith
 times_more number owner (x ∷ owners) = let rest = times_more number owner owners in omega (arith, rest)
@@ -30,11 +30,11 @@ module _ {E : Type 0} where
   added_join [] ys = refl
   added_join (x ∷ xs) ys = ap (λ (z : List E). x ++ z) (added_join xs ys) ∙ sym (append_assoc x (all_added xs) (all_added ys))
 
-  -- one turn more
+  -- one more turn
   pub added_more : (xs : List (List E)) (es : List E) → all_added (xs ++ es ∷ []) ≡ all_added xs ++ es
   added_more xs es = added_join xs (es ∷ []) ∙ ap (λ (z : List E). all_added xs ++ z) (append-nil es)
 
-  -- what some turns added begins what all have added
+  -- what some turns added is a prefix of what all have added
   pub added_split : (k : ℕ) (xs : List (List E)) → all_added xs ≡ all_added (take k xs) ++ all_added (drop k xs)
   added_split zero xs = refl
   added_split (suc k) [] = refl
@@ -59,7 +59,7 @@ module _ {E : Type 0} (may_add : ℕ → E → Bool) where
   others_turn number other [] ne turn = tt
   others_turn number other (e ∷ es) ne turn = ((other, ne, turn.0), subst (ByOthers may_add number) (sym turn.1) tt)
 
-  -- turns of other seats alone
+  -- only turns of other seats
   pub others_turns : (number : ℕ) (xs : List (List E)) → ((i : ℕ) (es : List E) → get_elem? xs i ≡ some es → (other : ℕ) × (other ≢ number) × IsTurn may_add other es) → ByOthers may_add number (all_added xs)
   others_turns number [] each = tt
   others_turns number (x ∷ xs) each = let here = each zero x refl in
@@ -72,7 +72,7 @@ module _ {E : Type 0} (may_add : ℕ → E → Bool) where
       let never = not_true (may_add number e) (λ yes. by_others.0.1 (alone by_others.0.0 number e by_others.0.2 yes)) in
       ap (λ (b : Bool). cond b (e ∷ own may_add number es) (own may_add number es)) never ∙ own_none alone number es by_others.1
 
-  -- where a list goes on by others, the seat's own entries are those that it began with
+  -- where a list grows by others' entries, the seat's own entries are those that it began with
   pub own_stands : ((m n : ℕ) (e : E) → may_add m e ≡ true → may_add n e ≡ true → m ≡ n) → (number : ℕ) (last entries : List E) → GoesOn may_add number last entries → own may_add number entries ≡ own may_add number last
   own_stands alone number last entries goes = ap (own may_add number) goes.1 ∙ filter-append (may_add number) last goes.0 ∙ ap (λ (z : List E). own may_add number last ++ z) (own_none alone number goes.0 goes.2) ∙ append-nil (own may_add number last)
 
@@ -87,7 +87,7 @@ module _ {E : Type 0} (may_add : ℕ → E → Bool) where
   own_turn alone number last before es goes turn = filter-append (may_add number) before es ∙ ap (λ (z : List E). z ++ own may_add number es) (own_stands alone number last before goes) ∙ ap (λ (z : List E). own may_add number last ++ z) (own_added number es turn)
 
 module _ {A : Type 0} where
-  -- a beginning of a list is one of a longer list
+  -- a prefix of a list is one of a longer list
   pub take_more : (k : ℕ) (xs : List A) (a : A) → k ≤ length xs → take k (xs ++ a ∷ []) ≡ take k xs
   take_more zero xs a below = refl
   take_more (suc k) [] a below = absurd (omega arith)

@@ -1,4 +1,4 @@
--- A lock is closed: one seat stands for all, so no turn is left, and the value is at home.
+-- A lock is closed: one seat represents all, so no turn is left, and the value is back in its slot.
 use Rattle.std.proofs.Common.{◌≡◌, ℕ, zero, suc, ◌+◌, ◌≢◌, ◌==◌, if◌then◌else◌, Bool, List, [], ◌∷◌, ◌++◌, map, length, sym, refl, ap, ◌∙◌, subst, ⊎_elim, eq-or-lt_of_le, arith, Option, Some}
 use Rattle.std.specs.List.{AllByRecursion}
 use mathlib.Core.Option.{some, none, some-injective, some-ne-none}
@@ -81,14 +81,14 @@ module _ {E B : Type 0} where
   length_seats (seat ∷ seats) = ap suc (length_seats seats)
 
 module _ {E B : Type 0} (owners : List ℕ) (added : List (List E)) (history : List E) (v : Knows E B) where
-  -- a seat that isn't idle stands for a seat of the lock
+  -- a seat that isn't idle represents a seat of the lock
   busy_has : (stage : Stage) → StageOk owners added history v stage → IsBusy stage → (place : Place E) × (v.places ≡ place ∷ [])
   busy_has Idle ok busy = absurd busy
   busy_has Waits ok busy = (ok.0.0, ok.0.1)
   busy_has Inside ok busy = (ok.0.0, ok.0.1)
 
 module _ {V E B : Type 0} (stored : V → List E) (base : V → B) (may_add : B → ℕ → E → Bool) (b : B) (f : List E) (n : ℕ) where
-  -- where one idle seat stands for all, no seat has a ticket
+  -- where one idle seat represents all, no seat has a ticket
   nobody : (s : State (Option V) (Knows E B)) (r : Turns stored base may_add b f n s) (id : ℕ) (v : Knows E B) → get_elem? s.views id ≡ some v → v.stage ≡ Idle → length v.places ≡ n
       → (j : ℕ) (u : Knows E B) → get_elem? s.views j ≡ some u → j ≢ id → u.places ≡ []
   nobody s r id v at idle all j u to other = let both = total_both parts_of s.views j id u v other to at in let shares = r.shares in nothing_in u.places (omega (arith, both, shares, all))
@@ -100,7 +100,8 @@ module _ {V E B : Type 0} (stored : V → List E) (base : V → B) (may_add : B 
       (λ other. let has = busy_has r.owners r.added (f ++ all_added r.added) u u.stage (r.each_stage j u to) busy in
       let none_there = nobody s r id v at idle all j u to other in let long : length u.places ≡ 1 = ap length has.1 in let short : length u.places ≡ 0 = ap length none_there in omega (arith, long, short))
 
-  -- the closed table has the value, and its list is what the turns of the seats made of the first one
+  -- the closed table has the value, and its list is what the turns of the seats made of the first
+  -- one
   pub ends : (words : List ℕ) (slots : List (Option V)) (id : ℕ) (v : Knows E B) (seats : List (SeatValue E B)) → v.places ≡ map place_of seats → v.stage ≡ Idle → length seats ≡ n → Final (Seen (Turns stored base may_add b f n) id v) words slots
       → (x : V) × (get_elem? slots 0 ≡ some (Some x)) × (base x ≡ b) × Ends (may_add b) f seats (stored x)
   ends words slots id v seats are idle all final =

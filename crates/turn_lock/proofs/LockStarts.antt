@@ -38,7 +38,7 @@ module _ {E B : Type 0} {b : B} {f : List E} {owners : List ℕ} {added : List (
   }
 
 module _ {E B : Type 0} where
-  -- a seat with this stage and ticket stands at the place
+  -- a seat with this stage and ticket is at the place
   pub record Still (views : List (Knows E B)) (j : ℕ) (stage : Stage) (ticket : ℕ) : Type 0 where
     pub seat : Knows E B
     pub there : get_elem? views j ≡ some seat

@@ -45,7 +45,7 @@ module _ {E B : Type 0} where
       (λ other. all j v other.1)
       (at_set views id j w v to)
 
-  -- and when there is one seat more
+  -- and when there is one more seat
   pub apart_more : (views : List (Knows E B)) (w : Knows E B) → ((j : ℕ) (v : Knows E B) → get_elem? views j ≡ some v → AreApart v.places) → AreApart w.places → (j : ℕ) (v : Knows E B) → get_elem? (views ++ w ∷ []) j ≡ some v → AreApart v.places
   apart_more views w all now j v to = ⊎_elim
       (λ old. all j v old)

@@ -9,7 +9,7 @@ module _ {E B : Type 0} where
   fresh_next lock number zero = ap (λ (z : ℕ). fresh_seat lock z ∷ []) (let g : number ≡ number + 0 = omega arith in g)
   fresh_next lock number (suc k) = ap (λ (z : List (SeatValue E B)). fresh_seat lock number ∷ z) (fresh_next lock (number + 1) k ∙ ap (λ (z : ℕ). fresh_seats lock (number + 1) k ++ fresh_seat lock z ∷ []) (let g : number + 1 + k ≡ number + suc k = omega arith in g))
 
-  -- one seat more
+  -- one more seat
   pub fresh_more : (lock : LockValue E B) (number k next : ℕ) → next ≡ number + k → fresh_seats lock number (k + 1) ≡ fresh_seats lock number k ++ fresh_seat lock next ∷ []
   fresh_more lock number k next is = ap (fresh_seats lock number) (let g : k + 1 ≡ suc k = omega arith in g) ∙ fresh_next lock number k ∙ ap (λ (z : ℕ). fresh_seats lock number k ++ fresh_seat lock z ∷ []) (sym is)
 
@@ -24,12 +24,12 @@ module _ {E B : Type 0} where
   fresh_at lock number (suc n) (suc i) d below = fresh_at lock (number + 1) n i d (omega (arith, below)) ∙ ap (fresh_seat lock) (let g : number + 1 + i ≡ number + suc i = omega arith in g)
 
 module _ {A : Type 0} where
-  -- what is so of each item but the last, and of the last
+  -- what holds of each item except the last, and of the last
   pub all_but : (P : A → Type 0) (xs : List A) (x : A) → AllByRecursion P (xs ++ x ∷ []) → AllByRecursion P xs × P x
   all_but P [] x all = (tt, all.0)
   all_but P (y ∷ xs) x all = let rest_all = all_but P xs x all.1 in ((all.0, rest_all.0), rest_all.1)
 
-  -- what is so at each place
+  -- what holds at each place
   pub all_places : (P : A → Type 0) (xs : List A) → ((i : ℕ) (d : A) → i < length xs → P (get_or xs i d)) → AllByRecursion P xs
   all_places P [] each = tt
   all_places P (x ∷ xs) each = (each 0 x (omega arith), all_places P xs (λ i d below. each (suc i) d (omega (arith, below))))

@@ -1,4 +1,5 @@
--- A look at the ticket that is served: the turn history stays, and where the ticket is the seat's own it has the value.
+-- A look at the ticket that is served: the turn history stays, and where the ticket is the seat's
+-- own it has the value.
 use Rattle.std.proofs.Common.{◌≡◌, ℕ, ◌+◌, ◌<◌, ◌≤◌, ◌^◌, Bool, List, [], ◌∷◌, ◌++◌, length, set, get_or, sym, refl, ap, ◌∙◌, subst, ⊎_elim, inr, arith, Option, Some}
 use mathlib.Core.Option.{some, none, some-injective, some-ne-none}
 use mathlib.Core.Option as maybe
@@ -28,7 +29,7 @@ module _ {V E B : Type 0} (stored : V → List E) (base : V → B) (may_add : B 
   pub inside_with : (s : State (Option V) (Knows E B)) (r : Turns stored base may_add b f n s) (id : ℕ) (v : Knows E B) → get_elem? s.views id ≡ some v → v.stage ≡ Inside → HasTicket r.owners r.added (f ++ all_added r.added) v × (v.ticket ≡ length r.added) × (v.seen ≡ f ++ all_added r.added)
   inside_with s r id v at inside = subst (λ (z : Stage). StageOk r.owners r.added (f ++ all_added r.added) v z) inside (r.each_stage id v at)
 
-  -- where the seat that waits is served, the value is at home
+  -- where the seat that waits is served, the value is in its slot
   value_at_home : (s : State (Option V) (Knows E B)) (r : Turns stored base may_add b f n s) (id : ℕ) (v : Knows E B) → get_elem? s.views id ≡ some v → v.stage ≡ Waits → v.ticket ≡ length r.added
       → (x : V) × (s.homes ≡ some (Some x) ∷ []) × (stored x ≡ f ++ all_added r.added) × (base x ≡ b)
   value_at_home s r id v at waits served = ⊎_elim (λ home. home)

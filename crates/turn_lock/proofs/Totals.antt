@@ -18,13 +18,13 @@ module _ {E B : Type 0} where
   total_more f [] w = omega arith
   total_more f (x ∷ views) w = let rest = total_more f views w in omega (arith, rest)
 
-  -- one of the views has no more than all
+  -- one of the views has at most the sum of all
   pub total_above : (f : Knows E B → ℕ) (views : List (Knows E B)) (j : ℕ) (v : Knows E B) → get_elem? views j ≡ some v → f v ≤ total f views
   total_above f [] j v at = absurd (some-ne-none v (sym at))
   total_above f (x ∷ views) zero v at = let same : f x ≡ f v = ap f (some-injective x v at) in omega (arith, same)
   total_above f (x ∷ views) (suc j) v at = let rest = total_above f views j v at in omega (arith, rest)
 
-  -- two of the views have no more than all
+  -- two of the views have at most the sum of all
   pub total_both : (f : Knows E B → ℕ) (views : List (Knows E B)) (i j : ℕ) (v w : Knows E B) → i ≢ j → get_elem? views i ≡ some v → get_elem? views j ≡ some w → f v + f w ≤ total f views
   total_both f [] i j v w other at to = absurd (some-ne-none v (sym at))
   total_both f (x ∷ views) zero zero v w other at to = absurd (other refl)
@@ -32,13 +32,13 @@ module _ {E B : Type 0} where
   total_both f (x ∷ views) (suc i) zero v w other at to = let same : f x ≡ f w = ap f (some-injective x w to) in let rest = total_above f views i v at in omega (arith, same, rest)
   total_both f (x ∷ views) (suc i) (suc j) v w other at to = let rest = total_both f views i j v w (λ e. other (ap suc e)) at to in omega (arith, rest)
 
-  -- where each view's number is at most so many times another, so is the sum
+  -- where each view's number is at most n times another, so is the sum
   pub total_times : (f g : Knows E B → ℕ) (views : List (Knows E B)) → ((j : ℕ) (v : Knows E B) → get_elem? views j ≡ some v → f v ≤ g v * 2 ^ 32) → total f views ≤ total g views * 2 ^ 32
   total_times f g [] each = omega arith
   total_times f g (x ∷ views) each = let here = each zero x refl in let rest = total_times f g views (λ j v at. each (suc j) v at) in omega (arith, here, rest)
 
 module _ {E : Type 0} where
-  -- each seat has few tickets, so together they have so many times as much
+  -- each seat has few tickets, so all together have at most that bound times the number of seats
   pub few_drawn : (places : List (Place E)) → ((i : ℕ) (place : Place E) → get_elem? places i ≡ some place → place.drawn ≤ 2 ^ 32) → all_drawn places ≤ length places * 2 ^ 32
   few_drawn [] each = omega arith
   few_drawn (p ∷ places) each = let here = each zero p refl in let rest = few_drawn places (λ i place at. each (suc i) place at) in omega (arith, here, rest)

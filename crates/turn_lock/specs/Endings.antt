@@ -21,12 +21,13 @@ module _ {E : Type 0} where
   IsTurnOf may_add n turn = (turn.0 < n) × IsTurn may_add turn.0 turn.1
 
 module _ {E B : Type 0} where
-  -- all turns of the seat are among these, and the list goes on from its last
+  -- all turns of the seat are among these, and the list continues its last
   abbrev pub HasTurns : (ℕ → E → Bool) → List (ℕ × List E) → List E → SeatValue E B → Type 0
   HasTurns may_add turns entries seat =
       (turns_of seat.number turns ≡ seat.entered) × GoesOn may_add seat.number seat.last entries
 
-  -- the list is the first one and what the turns of these seats added, each turn once and no others
+  -- the list is the first one followed by what the turns of these seats added, each turn's once and
+  -- no others
   pub record Ends (may_add : ℕ → E → Bool) (first : List E) (seats : List (SeatValue E B))
       (entries : List E) : Type 0 where
     pub turns : List (ℕ × List E)

@@ -1,4 +1,4 @@
--- What stands in the list that a value has stored, and which seat added it.
+-- What is in the list that a value has stored, and which seat added it.
 use Rattle.std.specs.Prelude.{◌≡◌, ◌≢◌, ℕ, ◌+◌, ◌==◌, if◌then◌else◌, Bool, true, List, [], ◌∷◌}
 use Rattle.std.specs.Prelude.{◌++◌, filter}
 

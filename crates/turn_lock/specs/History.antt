@@ -11,8 +11,8 @@ use Rattle.turn_lock.specs.declared.knowledge.Stage.TheVariants.{Inside}
 use Rattle.turn_lock.specs.Histories.{times, all_added, IsTurn, GoesOn}
 use Rattle.turn_lock.specs.SeatKnowledge.{drawn_of, total}
 
--- A seat that left this list the last time: it has what the turns added up to the seat's latest one
--- that has ended, and the history goes on from it by what other seats added
+-- A seat that left this list the last time: the list has what the turns added up to the seat's
+-- latest one that has ended, and the history continues it by what other seats added
 pub record IsLast {E : Type 0} (may_add : ℕ → E → Bool) (first : List E) (owners : List ℕ)
     (added : List (List E)) (number : ℕ) (last : List E) : Type 0 where
   pub turns : ℕ
@@ -23,11 +23,11 @@ pub record IsLast {E : Type 0} (may_add : ℕ → E → Bool) (first : List E) (
   pub goes_on : GoesOn may_add number last (first ++ all_added added)
 
 module _ {E B : Type 0} where
-  -- the seat j of the table stands at its place k for this seat of the lock
+  -- the seat j of the table represents, at its place k, this seat of the lock
   abbrev pub StandsAt : List (Knows E B) → ℕ → ℕ → Knows E B → Place E → Type 0
   StandsAt views j k v place = (get_elem? views j ≡ some v) × (get_elem? v.places k ≡ some place)
 
-  -- the seat j of the table stands for this seat of the lock
+  -- the seat j of the table represents this seat of the lock
   abbrev pub StandsFor : List (Knows E B) → ℕ → Knows E B → Place E → Type 0
   StandsFor views j v place = (k : ℕ) × StandsAt views j k v place
 
@@ -36,7 +36,7 @@ module _ {E B : Type 0} where
   IsInside views j v = (get_elem? views j ≡ some v) × (v.stage ≡ Inside)
 
 module _ {V E B : Type 0} (stored : V → List E) (base : V → B) where
-  -- the value is at home with the history stored and the first value's base, or the seat of the
+  -- the value is in its slot with the history stored and the first value's base, or the seat of the
   -- ticket that is served has it, whose number is the owner
   abbrev pub HasPlace : B → List E → maybe.Option ℕ → State (Option V) (Knows E B) → Type 0
   HasPlace b history owner table =
@@ -59,9 +59,9 @@ module _ {V E B : Type 0} (stored : V → List E) (base : V → B) (may_add : B 
     -- each ticket belongs to one of the seats, which together have them all, and each has few
     pub owned : (i number : ℕ) → get_elem? owners i ≡ some number → number < n
     pub sum : total drawn_of table.views ≡ length owners
-    -- each ticket's seat is one: a number stands at one place of one seat of the table. A seat of
-    -- the table that was joined with others has a place for each seat of the lock that was joined
-    -- into it
+    -- each ticket has one seat: a number is at one place of one seat of the table. A seat of the
+    -- table that was joined with others has a place for each seat of the lock that was joined into
+    -- it
     pub stands_once : (i j k l : ℕ) (v w : Knows E B) (here there : Place E) →
         StandsAt table.views i k v here → StandsAt table.views j l w there →
         here.number ≡ there.number → (i ≡ j) × (k ≡ l)

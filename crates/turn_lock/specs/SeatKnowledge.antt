@@ -16,7 +16,7 @@ module _ {E : Type 0} where
   abbrev pub fresh_place : ℕ → List E → Place E
   fresh_place number first = record { number = number; last = first; drawn = 0 }
 
-  -- it has drawn one ticket more
+  -- it has drawn one more ticket
   abbrev pub with_ticket : List (Place E) → List (Place E)
   with_ticket [] = []
   with_ticket (place ∷ places) = record place { drawn = place.drawn + 1 } ∷ places
@@ -32,7 +32,7 @@ module _ {E : Type 0} where
   all_drawn (place ∷ places) = place.drawn + all_drawn places
 
 module _ {E B : Type 0} where
-  -- how many of the lock's seats it stands for, those that it may still make among them
+  -- how many of the lock's seats it represents, those included that it may still make
   abbrev pub parts_of : Knows E B → ℕ
   parts_of v = length v.places + v.spare
 
@@ -82,11 +82,11 @@ module _ {E B : Type 0} where
   abbrev pub left : Knows E B → List E → Knows E B
   left v entries = record v { places = with_last entries v.places; stage = Idle }
 
-  -- it stands for the seats of both, the other's first
+  -- it represents the seats of both, the other's first
   abbrev pub joined : Knows E B → Knows E B → Knows E B
   joined v w = record v { places = w.places ++ v.places; spare = v.spare + w.spare }
 
-  -- it stands for no seat any more
+  -- it represents no seat any more
   abbrev pub spent : Knows E B
   spent = record {
     base = None;

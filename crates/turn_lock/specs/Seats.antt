@@ -4,7 +4,7 @@ use Rattle.atomic_table.specs.Seated.{TableId}
 use Rattle.turn_lock.specs.declared.knowledge.Place.{Place}
 use Rattle.turn_lock.specs.Histories.{Adds}
 
--- Contracts see a seat as this: the lock that it belongs to, its number from 0, what no turn
+-- What contracts see of a seat: the lock that it belongs to, its number from 0, what no turn
 -- changes of the value, the list that was stored at first, the list that was stored when it left
 -- the last time, how often it has entered, and in its turn the list that was stored when that began
 pub record SeatValue (E B : Type 0) : Type 0 where
@@ -16,7 +16,7 @@ pub record SeatValue (E B : Type 0) : Type 0 where
   pub entered : ℕ
   pub turn : Option (List E)
 
--- Contracts see a lock as this: which it is, what no turn changes of the value, the list that was
+-- What contracts see of a lock: which it is, what no turn changes of the value, the list that was
 -- stored at first, and the number of seats
 pub record LockValue (E B : Type 0) : Type 0 where
   pub id : TableId
@@ -43,7 +43,7 @@ module _ {E B : Type 0} where
   IsNth lock number seat = IsIdleSeatOf lock seat × (seat.number ≡ number) × (seat.entered ≡ 0)
 
   -- the seat is in its turn, and this is the list that was stored when it began, or that and one
-  -- entry more which the seat may add
+  -- more entry that the seat may add
   abbrev pub AddsIn : (ℕ → E → Bool) → SeatValue E B → List E → Type 0
   AddsIn may_add seat entries =
       (before : List E) × (seat.turn ≡ Some before) × Adds may_add seat.number before entries
@@ -60,7 +60,7 @@ module _ {E B : Type 0} where
     turn = None;
   }
 
-  -- so many seats as the lock is made, the first of this number
+  -- n seats as the lock is made, numbered from this number
   abbrev pub fresh_seats : LockValue E B → ℕ → ℕ → List (SeatValue E B)
   fresh_seats lock number zero = []
   fresh_seats lock number (suc more) = fresh_seat lock number ∷ fresh_seats lock (number + 1) more

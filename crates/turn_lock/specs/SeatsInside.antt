@@ -48,7 +48,7 @@ module _ {V E B : Type 0} where
     turn = turn_in s.me.0.stage s.me.0.seen;
   }
 
-  -- it stands for one seat of the lock, makes no other, and has its ticket's number in hand
+  -- it represents one seat of the lock, makes no other, and has its ticket's number in hand
   pub record IsSeat (s : Seat (Option V) (Knows E B)) (ticket : ℕ) : Type 0 where
     pub stands_for : Place E
     pub one : s.me.0.places ≡ stands_for ∷ []

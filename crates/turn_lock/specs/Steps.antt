@@ -20,7 +20,7 @@ module _ {V E B : Type 0} where
       (x : V) → before.1 ≡ (0, Some x) ∷ [] → after ≡ (left before.0 (stored x), [])
 
   module _ (stored : V → List E) (base : V → B) (may_add : B → ℕ → E → Bool) where
-    -- the value's list goes on from each list that the seat's places left
+    -- the value's list continues each list that the seat's places left
     pub record Takes (before : Me (Option V) (Knows E B)) (x : V) : Type 0 where
       pub base_is : before.0.base ≡ Some (base x)
       pub goes_on : (place : Place E) → before.0.places ≡ place ∷ [] →
@@ -32,7 +32,7 @@ module _ {V E B : Type 0} where
     HasValue before after =
         (x : V) × (after ≡ (entered before.0 (stored x), (0, Some x) ∷ before.1)) × Takes before x
 
-    -- where its ticket is served the seat has the value, and else all is as before
+    -- where its ticket is served the seat has the value, and otherwise all is as before
     pub record Looked (step : Step (Option V)) (before : Me (Option V) (Knows E B)) (found : ℕ)
         (after : Me (Option V) (Knows E B)) : Type 0 where
       pub served : found ≡ before.0.ticket → HasValue before after

@@ -1,5 +1,5 @@
--- The turn history: it holds between any two steps of a lock's table.
--- Word 0 is the number of tickets drawn, word 1 the ticket that is served, slot 0 has the value.
+-- The turn history: it holds between any two steps of a lock's table. Word 0 is the number of
+-- tickets drawn, word 1 the ticket that is served, slot 0 has the value.
 use Rattle.std.specs.Prelude.{◌≡◌, ◌⊎◌, ℕ, suc, ◌+◌, ◌<◌, ◌≤◌, ◌^◌, Bool, List, [], ◌∷◌, ◌++◌}
 use Rattle.std.specs.Prelude.{length, take, slice_index, Option, Some}
 use mathlib.Core.Option.{some, none}
@@ -15,7 +15,7 @@ use Rattle.turn_lock.specs.SeatKnowledge.{IsBusy, parts_of, drawn_of, total}
 
 module _ {E B : Type 0} (owners : List ℕ) (added : List (List E)) (history : List E)
     (v : Knows E B) where
-  -- it stands for one seat, whose ticket this is
+  -- it represents one seat, whose ticket this is
   abbrev pub HasTicket : Type 0
   HasTicket =
       (place : Place E) × (v.places ≡ place ∷ []) × (get_elem? owners v.ticket ≡ some place.number)
@@ -53,7 +53,7 @@ pub record PlaceOk {E B : Type 0} (base : B) (first : List E) (owners : List ℕ
       IsBusy v.stage × (v.ticket ≡ i)
 
 module _ {V E B : Type 0} (stored : V → List E) (base : V → B) where
-  -- the value is at home and has the history stored, or a seat that is inside has it
+  -- the value is in its slot and has the history stored, or a seat that is inside has it
   abbrev pub ValueOk : B → List E → List (maybe.Option (Option V)) → List (Knows E B) → Type 0
   ValueOk b history homes views =
       ((x : V) × (homes ≡ some (Some x) ∷ []) × (stored x ≡ history) × (base x ≡ b))

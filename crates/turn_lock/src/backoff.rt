@@ -1,31 +1,31 @@
-//! What a thread does between looks that don't find what it waits for.
+//! What a thread does between unsuccessful polls.
 
 use std::sync::Wait;
 use std::thread::Parker;
 use std::time::Duration;
 
-/// So many looks in a row are made without a pause; each later one comes after a sleep.
+/// The number of polls in a row that are made without a pause; each later one comes after a sleep.
 const LOOKS: u32 = 200;
 
 /// How long a sleep is, in microseconds.
 const SLEEP: u64 = 50;
 
-/// How a thread that looks again and again waits between its looks. A turn mostly ends within the
-/// first looks; where it doesn't, whoever has it was put aside by the system, and the thread
+/// How a thread that polls a lock waits between its polls. A turn mostly ends within the first
+/// polls; if it doesn't, the system has suspended the thread that has the turn, and this one
 /// sleeps, so that it takes no processor from that one.
 ///
-/// It never yields: beside other processes a yield gives the processor away for a whole slice of
-/// time. Both numbers are this project's own choice, and no clause says how long a thread waits.
+/// It never yields: with other processes running, a yield gives the processor away for a whole time
+/// slice. Both numbers are this project's own choice, and no clause says how long a thread waits.
 #[derive(Drop)]
 pub(crate) struct Backoff {
-    /// How many looks it has made without a pause.
+    /// How many polls it has made without a pause.
     looks: u32,
-    /// What it sleeps by. Nobody else has it, so nobody wakes the thread.
+    /// What it sleeps on. Nobody else has it, so nobody wakes the thread.
     sleeper: Parker,
 }
 
 impl Backoff {
-    /// That of a thread that has not looked yet.
+    /// The backoff of a thread that hasn't polled yet.
     pub(crate) fn new() -> Backoff {
         Backoff {
             looks: 0,
@@ -33,7 +33,7 @@ impl Backoff {
         }
     }
 
-    /// Lets time pass, after a look that found nothing.
+    /// Lets time pass, after an unsuccessful poll.
     pub(crate) fn wait<R: Wait>(&mut self, rt: &R) {
         if self.looks < LOOKS {
             self.looks += 1;

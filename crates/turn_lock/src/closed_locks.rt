@@ -10,7 +10,7 @@ use crate::plays::{ByTurns, Gathers};
 use crate::{Kept, TurnLock, TurnSeat};
 use atomic_table::{Seat, Shared};
 
-/// One seat of the table that stands for all of these.
+/// One seat of the table that represents all of these.
 fn gather<V: Kept>(
     shared: &Shared<Option<V>, Knows<V::Entry, V::Base>, Opening<V>, ByTurns>,
     mut seats: Vec<TurnSeat<V>>,
@@ -35,8 +35,9 @@ fn gather<V: Kept>(
 }
 
 impl<V: Kept> TurnLock<V> {
-    /// Takes the value out, when all seats are handed in and none is in its turn. What the value
-    /// has stored is what it had at first and then what the seats added, each seat's in its order.
+    /// Takes the value out, when all seats are handed in and none is in its turn. The value's
+    /// entries are those that it had at first and then those that the seats added, each seat's in
+    /// its order.
     pub fn close(self, seats: Vec<TurnSeat<V>>) -> V
         requires all { length seats.items ≡ self.seats }
         requires own { AllByRecursion (IsIdleSeatOf self) seats.items }

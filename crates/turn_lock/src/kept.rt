@@ -1,4 +1,4 @@
-//! What a lock asks of the value that it keeps.
+//! What a lock needs of the value that it keeps.
 ghost use Rattle.std.specs.Prelude.{◌≡◌, ℕ, List, Bool, true};
 
 /// A value that stores entries, one after another, and that its users change in turns.

@@ -22,13 +22,13 @@ pub struct Place<E> {
     pub drawn: u64,
 }
 
-/// What a seat of the table knows. One that was joined with others stands for all of them.
+/// What a seat of the table knows. One that was joined with others represents all of them.
 pub struct Knows<E, B> {
     /// What no turn changes of the value.
     pub base: Option<B>,
     /// The list that was stored at first.
     pub first: LinkedList<E>,
-    /// The lock's seats for which it stands.
+    /// The lock's seats that it represents.
     pub places: LinkedList<Place<E>>,
     /// How many seats it may still make.
     pub spare: u64,

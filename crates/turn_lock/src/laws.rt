@@ -11,9 +11,9 @@ use crate::knowledge::{Knows, Opening};
 use crate::plays::ByTurns;
 use atomic_table::TableRule;
 
-/// Where a list goes on by entries that other seats may add, the seat's own entries of it are those
-/// that it began with. So each entry of a lock's history that a seat may add stands in the list
-/// that the seat left the last time.
+/// Where a list grows by entries that other seats may add, the seat's own entries in it are those
+/// that it began with. So each entry of a lock's history that a seat may add is in the list that
+/// the seat left the last time.
 pub fn own_entries_stand_in_last<V: Kept>()
     ensures { (base : V.Base) (number : ℕ) (last entries : List V.Entry)
         → GoesOn (V.may_add base) number last entries

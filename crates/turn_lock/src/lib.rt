@@ -1,6 +1,6 @@
 //! A lock whose users take turns: each draws a ticket, waits until it is served, and has the value
-//! until it leaves. What the turns added to the value stands in it in the order of the tickets,
-//! each turn's once.
+//! until it leaves. The value holds what the turns added to it in the order of the tickets, each
+//! turn's once.
 #![tactic(auto)]
 
 mod backoff;

@@ -17,7 +17,7 @@ impl<V: Kept> TableRule<Option<V>, Knows<V::Entry, V::Base>, Opening<V>> for ByT
     ghost first = { λ key. opening (V.base key.value.value) (V.stored key.value.value) key.seats };
 }
 
-/// A seat is made of the first one.
+/// A seat is made from the first one.
 pub struct Makes;
 
 impl<E, B> Split<Knows<E, B>> for Makes {

@@ -19,7 +19,7 @@ const TICKETS: usize = 0;
 const SERVED: usize = 1;
 
 /// Waits until no seat is in its turn or waits for one. The thread has no ticket meanwhile, so
-/// nobody waits for it, however long it is put aside.
+/// nobody waits for it, however long the system suspends it.
 fn wait_free<V: Kept, R: Wait>(
     rt: &R,
     shared: &Shared<Option<V>, Knows<V::Entry, V::Base>, Opening<V>, ByTurns>,
@@ -83,7 +83,7 @@ impl<V: Kept> TurnLock<V> {
     }
 
     /// Ends the seat's turn. The value has the base that it was given with, and has stored what it
-    /// had then, or that and one entry more which this seat may add.
+    /// had then, or that and one more entry that this seat may add.
     pub fn leave(&self, seat: &mut TurnSeat<V>, value: V)
         requires own { IsSeatOf self.now seat.old }
         requires base { V.base value ≡ self.now.base }
