@@ -31,7 +31,7 @@ number_in (Held number) = number ∷ []
 pub held_push : (notes : List Note) (note : Note) → held_count (notes ++ note ∷ []) ≡ held_count notes + held_in note
 held_push notes note = let all = sum_by-append held_in notes (note ∷ []) in omega arith
 
--- a list of numbers, where there is one, with these
+-- a list of numbers, if there is one, followed by these
 and_these : (notes : List Note) (note : Note) (numbers : Option (List ℕ)) (these : List ℕ) → FoundAsNoted notes numbers → listed (held_number note) ≡ these
     → FoundAsNoted (notes ++ note ∷ []) (option_map (λ all. all ++ these) numbers)
 and_these notes note None these all is = tt
@@ -49,7 +49,7 @@ numbers_more notes note NotAsked numbers all is = subst (FoundAsNoted (notes ++ 
 numbers_more notes note Free numbers all is = subst (FoundAsNoted (notes ++ note ∷ [])) (and_none numbers) (and_these notes note numbers [] all is)
 numbers_more notes note (Held number) numbers all is = and_these notes note numbers (number ∷ []) all is
 
--- and so after a call
+-- and the same after a call
 pub numbers_after : (notes : List Note) (note : Note) (found : Found) (before after : Option (List ℕ)) → FoundAsNoted notes before → after ≡ found_with found before
     → listed (held_number note) ≡ number_in found → FoundAsNoted (notes ++ note ∷ []) after
 numbers_after notes note found before after all now is =
@@ -75,7 +75,7 @@ run_push-from size s [] note run stands on = (stands, on, tt)
 run_push-from size s (first ∷ notes) note run stands on =
     (run.0, run.1, run_push-from size (after size s first) notes note run.2 stands on)
 
--- a note more that may stand and doesn't close the ring
+-- one more note that may follow and doesn't close the ring
 pub run_push : (size : Size) (notes : List Note) (note : Note) → IsOpenRun size (first_state size) notes
     → MayStand size (state_of size notes) note → GoesOn note → IsOpenRun size (first_state size) (notes ++ note ∷ [])
 run_push size notes note run stands on = run_push-from size (first_state size) notes note run stands on
@@ -97,7 +97,7 @@ close-from size s (first ∷ notes) run =
 pub closed_run : (size : Size) (notes : List Note) → IsOpenRun size (first_state size) notes → IsWholeRun size (notes ++ Finished ∷ [])
 closed_run size notes run = record { run = close-from size (first_state size) notes run; closed = (notes, refl) }
 
--- the counts of a state are at most those of so many notes
+-- the counts of a state are at most the number of its notes
 pub record IsCounted (s : State) (count : ℕ) : Type 0 where
   pub opened : length s.done + open_count s.now ≤ count + 1
   pub packets : s.kept + s.dropped ≤ count
@@ -197,13 +197,13 @@ counted size notes =
     let all = counted-from size (first_state size) notes 0 (record { opened = omega arith; packets = omega arith; freezes = omega arith }) in
     record { opened = omega (arith, all.opened); packets = omega (arith, all.packets); freezes = omega (arith, all.freezes) }
 
--- at the end an open block without packets is given up
+-- at the end an open block without packets is discarded
 pub finished_idle : (done : List (List Offer × ℕ)) (status : ℕ) (now : Option (List Offer)) → is_empty_block now ≡ true → finished done status now ≡ done
 finished_idle done status None idle = cc
 finished_idle done status (Some []) idle = refl
 finished_idle done status (Some (offer ∷ offers)) idle = cc
 
--- and another one is retired
+-- and one with packets is retired
 pub finished_busy : (done : List (List Offer × ℕ)) (status : ℕ) (now : Option (List Offer)) → is_empty_block now ≡ false
     → finished done status now ≡ retired done status now
 finished_busy done status None busy = refl

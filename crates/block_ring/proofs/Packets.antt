@@ -1,4 +1,4 @@
--- What the close of a block writes, with one packet more.
+-- What the close of a block writes, with one more packet.
 use Rattle.std.proofs.Common.{◌≡◌, ℕ, ◌+◌, ◌<◌, ◌≤◌, List, [], ◌∷◌, ◌++◌, length, refl, sym, ap, ◌∙◌, arith, length-append, length-take, add_assoc, Bool}
 use Rattle.std.proofs.Math.Nat.{zero-add}
 use Rattle.std.specs.List.{AllByRecursion}
@@ -59,7 +59,7 @@ last_time_push time (p ∷ packets) packet = last_time_push (p.sec, p.nsec) pack
 pub need_least : (offer : Offer) → IsWritable offer → 88 ≤ need_of offer.snap
 need_least offer w = let some = w.some in omega arith
 
--- the last packet follows the first place, and ends where the packets end
+-- the last packet is not before the first place, and ends where the packets end
 pub last_place_within : (shape : RingRequest) (at : ℕ) (offers : List Offer) → AllByRecursion IsWritable offers → 0 < length offers
     → (at ≤ last_place at (packets_of_offers shape offers)) × (last_place at (packets_of_offers shape offers) + 88 ≤ at + used_by offers)
 last_place_within shape at [] all some = absurd (omega arith)
@@ -70,7 +70,7 @@ last_place_within shape at (offer ∷ next ∷ offers) all some =
     let all_needs = sum_by-cons (λ (o : Offer). need_of o.snap) offer (next ∷ offers) in
     rw need (omega arith, omega arith)
 
--- the close of a block with one packet more
+-- the close of a block with one more packet
 pub closing_push : (shape : RingRequest) (offers : List Offer) (offer : Offer) → AllByRecursion IsWritable offers → IsWritable offer
     → closing_of shape 0 (packets_of_offers shape (offers ++ offer ∷ [])) ≡ record {
       status = 0;

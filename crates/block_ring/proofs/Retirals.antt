@@ -1,4 +1,4 @@
--- An end stands for one text more.
+-- An end represents one more text.
 use Rattle.std.proofs.Common.{◌≡◌, ℕ, zero, suc, ◌+◌, ◌≤◌, List, [], ◌∷◌, ◌++◌, length, drop, refl, sym, subst, ap, ◌∙◌, arith, length-append, Bool, ◌^◌, Option, None, Some}
 use Rattle.ring_model.specs.declared.notes.Offer.{Offer}
 use Rattle.ring_words.specs.Rings.{Entry, Feed}
@@ -28,7 +28,7 @@ texts_push shape number last (e ∷ entries) [] entry block all at text status =
 texts_push shape number last (e ∷ entries) (b ∷ done) entry block all at text status =
     (all.0, all.1, texts_push shape (number + 1) last entries done entry block all.2 (omega arith) text status)
 
--- the end's list with the entry after it, where the end reported that it retired it
+-- the end's list with the entry after it, given that the end reported retiring it
 pub stands_push : (shape : RingRequest) (done : List (List Offer × ℕ)) (before after : Feed) (entry : Entry) (block : List Offer × ℕ) (last : ℕ)
     → StandsForTexts shape done before → after.retired ≡ before.retired + 1 → after.passed ≡ before.passed
     → after.shown ≡ before.shown ++ entry ∷ [] → 1 + length done ≡ last

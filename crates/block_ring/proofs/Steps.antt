@@ -1,4 +1,4 @@
--- A note more, and what the fields of a ring keep.
+-- One more note, and what the fields of a ring keep.
 use Rattle.std.proofs.Common.{◌≡◌, ℕ, ◌+◌, ◌-◌, ◌^◌, ◌<◌, ◌≤◌, List, [], ◌∷◌, ◌++◌, length, refl, sym, subst, ap, ◌∙◌, arith, length-append, Bool, true, false, Option, None, Some}
 use Rattle.std.specs.Prelude.{if◌then◌else◌, nat_lt}
 use Rattle.std.proofs.Common.{◌⊎◌, inl, inr}
@@ -21,7 +21,7 @@ use Rattle.block_ring.specs.Producing.{Adds, GoesOn, Keeps, Producing, Puts, Tic
 use Rattle.block_ring.specs.declared.machine.Machine.{Machine}
 use Rattle.block_ring.proofs.Notings.{counted, held_few, held_one, held_push, number_in, run_push, state_of-push}
 
--- no count of a ring with a note more can pass its type's end
+-- no count of a ring with one more note can overflow its type
 pub few_after : {E : Type 0} (feed : E → Feed) (before after_it : Machine E) (notes : List Note) (note : Note)
     → Stepped feed (state_of (size_of before.shape) notes) note before after_it → length notes < 2 ^ 39 → after_it.clock ≤ 2 ^ 63 → IsFew after_it
 few_after feed before after_it notes note step few clock =
@@ -31,13 +31,13 @@ few_after feed before after_it notes note step few clock =
     let a = all.opened in let b = all.packets in let c = all.freezes in
     record { opened = omega arith; packets = omega arith; freezes = omega arith; clock = clock }
 
--- the end has looked as often as the notes with one more tell
+-- the end has looked as often as the notes report, the new one included
 pub looks_more : (notes : List Note) (note : Note) (before after : ℕ) → held_count notes ≤ before → length notes < 2 ^ 39 → before ≤ after
     → (held_in note ≡ 0) ⊎ Rose before after → held_count notes + held_in note ≤ after
 looks_more notes note before after looks few later (inl none) = omega arith
 looks_more notes note before after looks few later (inr rose) = let all = held_few notes in let one = held_one note in omega arith
 
--- another list of notes beside the machine
+-- the same machine with another list of notes
 pub at_notes : {E : Type 0} (feed : E → Feed) (s : State) (machine : Machine E) (notes : _) → IsAt feed 0 s machine → IsAt feed 0 s (record machine { notes = notes })
 at_notes feed s machine notes a = record {
   places = a.places;
@@ -195,7 +195,7 @@ goes_try offer NotAsked = tt
 goes_try offer Free = tt
 goes_try offer (Held number) = tt
 
--- one note takes one of those that need no memory
+-- one more note lowers by one the number of notes that need no memory
 pub spare_less : (notes items : List Note) (note : Note) (room room_after : ℕ) → items ≡ notes ++ note ∷ [] → room_after ≡ room
     → room - length notes - 1 ≤ (room_after - length items - 1) + 1
 spare_less notes items note room room_after pushed same =

@@ -17,7 +17,7 @@ abbrev pub offers_of : Option (List Offer) → List Offer
 offers_of None = []
 offers_of (Some offers) = offers
 
--- what the open block is about, which has the number after those of the retired ones
+-- the open block as notes see it; its number follows those of the retired ones
 abbrev pub text_of : State → OpenText
 text_of state = record { number = length state.done + 1; offers = offers_of state.now }
 
@@ -28,7 +28,7 @@ HoldsText shape text (Some offers) (Some block) = Holds shape text block
 HoldsText shape text None (Some block) = ⊥
 HoldsText shape text (Some offers) None = ⊥
 
--- the machine is at this state; beside its open block it holds `in_hand` blocks
+-- the machine is in this state; beside its open block it holds `in_hand` blocks
 pub record IsAt {E : Type 0} (feed : E → Feed) (in_hand : ℕ) (state : State) (machine : Machine E)
     : Type 0 where
   pub places : (feed machine.end).ring.places ≡ machine.shape.block_nr
@@ -57,7 +57,7 @@ pub record KeepsEnd (before after : Feed) : Type 0 where
   pub fetched : after.fetched ≡ before.fetched
   pub holds : before.holds ≤ after.holds
 
--- the machine went on by a note
+-- the machine has taken a step that added a note
 pub record Stepped {E : Type 0} (feed : E → Feed) (old_state : State) (note : Note)
     (before after_it : Machine E) : Type 0 where
   pub at : IsAt feed 0 (after (size_of before.shape) old_state note) after_it
@@ -65,7 +65,7 @@ pub record Stepped {E : Type 0} (feed : E → Feed) (old_state : State) (note : 
   pub end : KeepsEnd (feed before.end) (feed after_it.end)
   pub shape : after_it.shape ≡ before.shape
 
--- no count can pass its type's end
+-- no count can overflow its type
 pub record IsFew {E : Type 0} (machine : Machine E) : Type 0 where
   pub opened : machine.opened ≤ 2 ^ 39 + 1
   pub packets : machine.kept + machine.dropped ≤ 2 ^ 39
@@ -83,7 +83,7 @@ retire_now timed_out state = record state {
 abbrev pub open_next : Size → State → State
 open_next size state = record state { now = Some []; deadline = state.clock + size.tov }
 
--- and a packet is its first
+-- and this packet is its first
 abbrev pub keep_first : Size → Offer → State → State
 keep_first size offer state =
     record state {

@@ -9,12 +9,12 @@ use Rattle.tp_layout.specs.Writing.{IsOpen, IsWritable, closing_of}
 use Rattle.tp_layout.specs.declared.requests.RingRequest.{RingRequest}
 use Rattle.block_ring.specs.declared.open_block.OpenBlock.{OpenBlock}
 
--- what an open block is about: its number, and the offers whose packets it has
+-- an open block as notes see it: its number, and the offers whose packets it has
 pub record OpenText : Type 0 where
   pub number : ℕ
   pub offers : List Offer
 
--- with one packet more
+-- with one more packet
 abbrev pub with_packet : OpenText → Offer → OpenText
 with_packet text offer = record text { offers = text.offers ++ offer ∷ [] }
 

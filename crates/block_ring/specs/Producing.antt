@@ -29,7 +29,7 @@ pub record Producing (E : Type 0) : Type 0 where
   -- its end of the ring
   pub end : E
 
--- what it is made of, as far as notes speak of it
+-- its size, as notes see it
 abbrev pub size : {E : Type 0} → Producing E → Size
 size ring = size_of ring.shape
 
@@ -44,8 +44,8 @@ pub record Opens {E : Type 0} (feed : E → Feed) (request : RingRequest) (given
   pub notes : ring.notes ≡ []
   pub end : feed ring.end ≡ record (feed given_end) { given = 1 }
 
--- a call added this note, which may stand. The end stands for the texts of all retired blocks, and
--- its looks found the blocks held that the notes report
+-- a call added this note, which may follow. The end represents the texts of all retired blocks, and
+-- its looks found those blocks held that the notes report
 pub record Adds {E : Type 0} (feed : E → Feed) (before after : Producing E) (note : Note)
     : Type 0 where
   pub shape : after.shape ≡ before.shape
@@ -57,8 +57,8 @@ pub record Adds {E : Type 0} (feed : E → Feed) (before after : Producing E) (n
   pub spare : before.spare ≤ after.spare + 1
   pub end : KeepsEnd (feed before.end) (feed after.end)
 
--- a put found this. Where the block was held one look of this call reported its number, else no
--- look found one held; where the end reports how many blocks were released, what is found is exact
+-- a put found this. If the block was held one look of this call reported its number, otherwise no
+-- look found one held; if the end reports how many blocks were released, what is found is exact
 pub record Puts {E : Type 0} (feed : E → Feed) (before after : Producing E) (offer : Offer)
     (found : Found) (put : Put) : Type 0 where
   pub adds : Adds feed before after (put_by offer found)
@@ -90,7 +90,7 @@ pub record Ticks {E : Type 0} (feed : E → Feed) (before after : Producing E) (
   pub exact : (released : ℕ) → (feed before.end).freed ≡ Some released
       → Ticked ms found ≡ tick_note (size before) released (state before) ms
 
--- all is the same but how many notes need no memory
+-- all is the same except how many notes need no memory
 abbrev pub Stays : {E : Type 0} → Producing E → Producing E → Type 0
 Stays before after = after ≡ record before { spare = after.spare }
 
@@ -99,7 +99,7 @@ abbrev pub GoesOn : Note → Type 0
 GoesOn Finished = ⊥
 GoesOn note = Unit {0}
 
--- each note may stand after those before it, and none closes the ring
+-- each note may follow those before it, and none closes the ring
 abbrev pub IsOpenRun : Size → State → List Note → Type 0
 IsOpenRun size state [] = Unit {0}
 IsOpenRun size state (note ∷ notes) =

@@ -17,6 +17,6 @@ AreTexts shape number (entry ∷ entries) (block ∷ done) =
     × (entry.1 ≡ block.1)
     × AreTexts shape (number + 1) entries done
 
--- an end stands for the texts of retired blocks
+-- an end represents the texts of retired blocks
 abbrev pub StandsForTexts : RingRequest → List (List Offer × ℕ) → Feed → Type 0
 StandsForTexts shape done feed = (all : List Entry) × StandsFor feed all × AreTexts shape 1 all done

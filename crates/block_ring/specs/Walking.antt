@@ -8,7 +8,7 @@ pub record TookBy {E : Type 0} (took : E → E → List ℕ → Type 0) (before 
   pub end : took before.end after.end content
   pub rest : after ≡ record before { end = after.end }
 
--- its end took a block of this content back, with this word, and all else is as before
+-- its end took back a block of this content, with this word, and all else is as before
 pub record GaveBackBy {E : Type 0} (gave_back : E → E → List ℕ → ℕ → Type 0)
     (before after : Producing E) (content : List ℕ) (mark : ℕ) : Type 0 where
   pub end : gave_back before.end after.end content mark

@@ -6,12 +6,12 @@ use frame_view::Memory;
 use std::error::Error;
 use std::fmt;
 
-/// Why a tick isn't done. The ring is as it was.
+/// Why a tick isn't done. The ring is then as it was.
 #[derive(Clone, Copy, Debug, PartialEq, Eq)]
 pub enum TickError {
-    /// The moment lies before that of the last tick, which this is, in milliseconds.
+    /// The moment is before that of the last tick, which is given here, in milliseconds.
     Backwards(u64),
-    /// A request for memory was refused.
+    /// An allocation failed.
     Memory,
 }
 

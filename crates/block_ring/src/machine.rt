@@ -1,13 +1,13 @@
 //! The ring as a machine, in the manner of the kernel's `tpacket_rcv` with TPACKET_V3.
 //!
 //! It begins with block 1 open. A packet goes after the others of the open block while it fits; one
-//! that ends exactly where the block ends still fits, which the kernel does otherwise. Where it
-//! doesn't fit the block is retired, which hands it to the reader, and the machine looks once at
-//! the place of the next block. Where that block is free it is opened and the packet is its first.
-//! Where the reader still has it the ring freezes: no block is open, and the packet is dropped. In
-//! a frozen ring each packet looks again, and the first that finds the next block free thaws the
-//! ring. A packet that is only tried looks before anything is retired, so that a refusal leaves all
-//! as it was; the kernel tests the room of a member of a fanout group by other rules.
+//! that ends exactly where the block ends still fits, which isn't so in the kernel. If it doesn't
+//! fit the block is retired, which hands it to the reader, and the machine looks once at the place
+//! of the next block. If that block is free it is opened and the packet is its first. If the reader
+//! still has it the ring freezes: no block is open, and the packet is dropped. In a frozen ring
+//! each packet looks again, and the first that finds the next block free thaws the ring. For a
+//! packet that is only tried the machine looks before anything is retired, so that a refusal leaves
+//! all as it was; the kernel tests the room of a member of a fanout group by other rules.
 //!
 //! A tick brings the clock forward. At the deadline the open block's time is over. If it has
 //! packets it is retired, and the next one is opened, or the ring freezes; if it has none it stays.
@@ -15,7 +15,7 @@
 //! time-out after the clock: the kernel has a timer for that, which starts anew once more after a
 //! packet froze the ring.
 //!
-//! In the end an open block that has packets is retired. An empty one is given up.
+//! In the end an open block that has packets is retired. An empty one is discarded.
 ghost use Rattle.std.specs.Prelude.{◌≡◌, ◌+◌, ◌^◌, ◌<◌, ◌≤◌, ◌≢◌, ◌∷◌, ℕ, [], true, false, IsTrue};
 ghost use Rattle.std.specs.Prelude.{None, Some};
 ghost use Rattle.ring_model.specs.Asking.{found_for, has_room, is_empty_block, look, put_by};
@@ -47,7 +47,7 @@ pub(crate) struct Machine<E> {
     pub(crate) shape: Shape,
     /// Its end of the ring.
     pub(crate) end: E,
-    /// The open block; none where the ring is frozen.
+    /// The open block; none if the ring is frozen.
     current: Option<OpenBlock>,
     /// The number of the last block that was opened.
     opened: u64,
@@ -61,7 +61,7 @@ pub(crate) struct Machine<E> {
     dropped: u64,
     /// How often the ring froze since then.
     freezes: u64,
-    /// What happened so far, with room for one note more, so that closing the ring takes no memory.
+    /// What happened so far, with room for one more note, so that closing the ring takes no memory.
     pub(crate) notes: Vec<Note>,
 }
 
@@ -98,7 +98,7 @@ impl<E: FeederEnd<Block> + Drop> Machine<E> {
         }
     }
 
-    /// Puts a packet: reports that no next block was needed, or what the look at it found. Where it
+    /// Puts a packet: reports that no next block was needed, or what the look at it found. If it
     /// was held the packet is dropped, and the ring is frozen.
     pub(crate) fn put(&mut self, offer: &Offer) -> Found
         ghost state: { State }
@@ -137,8 +137,8 @@ impl<E: FeederEnd<Block> + Drop> Machine<E> {
         }
     }
 
-    /// Tries a packet, as `put` does, but looks before anything is retired: where the next block
-    /// was held the packet is refused, and all is as before.
+    /// Tries a packet, as `put` does, but looks before anything is retired: if the next block was
+    /// held the packet is refused, and all is as before.
     pub(crate) fn try_put(&mut self, offer: &Offer) -> Found
         ghost state: { State }
         requires at { IsAt E.feed 0 state self.old }
@@ -172,8 +172,8 @@ impl<E: FeederEnd<Block> + Drop> Machine<E> {
         }
     }
 
-    /// Brings the clock forward to a moment, in milliseconds, and reports what was found where a
-    /// next block was needed.
+    /// Brings the clock forward to a moment, in milliseconds, and reports what was found if a next
+    /// block was needed.
     pub(crate) fn tick(&mut self, ms: u64) -> Found
         ghost state: { State }
         requires at { IsAt E.feed 0 state self.old }
@@ -206,7 +206,8 @@ impl<E: FeederEnd<Block> + Drop> Machine<E> {
         self.time_out()
     }
 
-    /// The time of the open block is over, which has packets, or the ring is frozen.
+    /// Handles the deadline: the open block has packets and its time is over, or the ring is
+    /// frozen.
     fn time_out(&mut self) -> Found
         ghost state: { State }
         requires at { IsAt E.feed 0 state self.old }
@@ -241,7 +242,7 @@ impl<E: FeederEnd<Block> + Drop> Machine<E> {
         }
     }
 
-    /// Whether a block is open that has no packet.
+    /// Whether the open block has no packet.
     fn is_idle(&self) -> bool
         ghost state: { State }
         requires at { IsAt E.feed 0 state self.now }
@@ -283,7 +284,7 @@ impl<E: FeederEnd<Block> + Drop> Machine<E> {
     }
 
     /// Closes the ring, and gives its end and the notes back: an open block that has packets is
-    /// retired, an empty one is given up.
+    /// retired, an empty one is discarded.
     pub(crate) fn finish(mut self) -> (E, Vec<Note>)
         ghost state: { State }
         requires at { IsAt E.feed 0 state self }

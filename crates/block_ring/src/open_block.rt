@@ -1,4 +1,4 @@
-//! The open block: packets are written one after the other, and what its close will write is kept
+//! The open block: packets are written one after another, and what its close will write is kept
 //! beside it.
 ghost use Rattle.std.specs.Prelude.{◌≡◌, ◌+◌, ◌^◌, ◌<◌, ◌≤◌, ◌++◌, ◌∷◌, ℕ, IsTrue, List, []};
 ghost use Rattle.std.specs.Prelude.{length, ◌↔◌};
@@ -20,13 +20,13 @@ use tp_layout::{
 #[derive(Drop)]
 pub(crate) struct OpenBlock {
     block: Block,
-    /// What its close will write, but for the status. Its `length` is the place of the next packet,
+    /// What its close will write, except the status. Its `length` is the place of the next packet,
     /// in bytes.
     closing: Closing,
 }
 
 impl OpenBlock {
-    /// Opens a block under a number.
+    /// Opens a block with a number.
     pub(crate) fn new(mut block: Block, shape: &Shape, number: u64) -> OpenBlock
         requires { block.shape ≡ shape.now }
         ensures { Holds shape.now (record { number = number; offers = [] }) result }
@@ -114,7 +114,7 @@ impl OpenBlock {
         block
     }
 
-    /// The time of the first packet, where an offer's comes after those that are there.
+    /// The time of the first packet, if an offer's packet comes after those that are there.
     fn first_time(&self, offer: &Offer) -> (u32, u32)
         ghost text: { OpenText }
         requires { (shape : RingRequest) × Holds shape text self.now }

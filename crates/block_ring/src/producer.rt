@@ -79,9 +79,9 @@ impl<E: FeederEnd<Block> + Drop> Producer<E> {
         Ok(())
     }
 
-    /// Keeps a packet, or hands it back where it finds no room in the open block and the next block
-    /// is still the reader's; then all but the notes is as before. The condition on the offer is
-    /// that of `put`.
+    /// Keeps a packet, or hands it back if there is no room for it in the open block and the next
+    /// block is still the reader's; then all except the notes is as before. The condition on the
+    /// offer is that of `put`.
     pub fn try_put(&mut self, offer: Offer) -> Result<Tried, Unput>
         requires room { 82 + offer.snap ≤ room_of self.old.shape }
         requires sound { IsWritable offer }
@@ -102,9 +102,9 @@ impl<E: FeederEnd<Block> + Drop> Producer<E> {
         Ok(tried)
     }
 
-    /// Keeps a packet, or drops it where it finds no room in the open block and the next block is
-    /// still the reader's; an open block is then retired, and the ring is frozen. The offer keeps
-    /// at least one byte of what was captured, no more than goes into a block, and is sound.
+    /// Keeps a packet, or drops it if there is no room for it in the open block and the next block
+    /// is still the reader's; an open block is then retired, and the ring is frozen. The offer
+    /// keeps at least one byte of what was captured, no more than fits into a block, and is sound.
     pub fn put(&mut self, offer: Offer) -> Result<Put, Unput>
         requires room { 82 + offer.snap ≤ room_of self.old.shape }
         requires sound { IsWritable offer }
@@ -163,8 +163,8 @@ impl<E: FeederEnd<Block> + Drop> Producer<E> {
         Ok(stats)
     }
 
-    /// Closes the ring: an open block that has packets is retired, an empty one is given up. It
-    /// gives back the end and the notes, of which the last says that the ring was closed.
+    /// Closes the ring: an open block that has packets is retired, an empty one is discarded. It
+    /// returns the end and the notes, the last of which says that the ring was closed.
     pub fn finish(self) -> (E, Notes)
         ensures notes { result.1 ≡ self.notes ++ Finished ∷ [] }
         ensures run { IsWholeRun (size_of self.shape) result.1 }

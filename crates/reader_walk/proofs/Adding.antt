@@ -1,4 +1,4 @@
--- A reader with a block or a slot more.
+-- A reader with one more block or slot.
 use Rattle.std.proofs.Common.{◌≡◌, ℕ, Bool, List, [], ◌∷◌, ◌++◌, ◌∙◌, ap, refl, subst, sym}
 use Rattle.std.specs.Prelude.{OnErr, OnOk, Option, Result, Ok, Err}
 use Rattle.frame_view.specs.declared.want.Memory.{Memory}
@@ -10,7 +10,7 @@ use Rattle.reader_walk.specs.Texts.{kept_if}
 use Rattle.reader_walk.specs.declared.piles.Pile.{Pile}
 use Rattle.reader_walk.proofs.Heaps.{counted_more, dump_more, one_more}
 
--- what was taken was added to what was read, with this of its text, or all is as before
+-- what was taken was added to what was read, with this part of its text, or all is as before
 pub record Adds (taken : Taken) (text : List ℕ) (before after : Pile) (result : Result (Unit {0}) Memory) : Type 0 where
   pub marks : OnOk result (after.marks.items ≡ before.marks.items ++ mark_of taken ∷ [])
   pub walked : OnOk result (after.walked.items ≡ before.walked.items ++ taken.packets)

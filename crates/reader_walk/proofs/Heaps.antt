@@ -1,4 +1,4 @@
--- The blocks of some marks, whose packets stand one after another.
+-- The blocks of some marks, whose packets follow one another.
 use Rattle.std.proofs.Common.{◌≡◌, ℕ, ◌+◌, ◌≤◌, Bool, true, false, List, [], ◌∷◌, ◌++◌, length, take, drop, refl, ap, ◌∙◌, arith}
 use Rattle.std.proofs.Math.Seq.{take-length}
 use Rattle.std.proofs.lemmas.Grind.{flat_map-append}
@@ -33,7 +33,7 @@ all_walked (mark ∷ marks) packets e =
     rw (all_walked marks (drop mark.packets packets) (length_drop mark.packets (packets_in marks) packets e))
     (take-append-drop mark.packets packets)
 
--- a block more
+-- one more block
 pub one_more : (marks : List Mark) (packets : List Packet) (more : Taken) → packets_in marks ≡ length packets
     → taken_by (marks ++ mark_of more ∷ []) (packets ++ more.packets) ≡ taken_by marks packets ++ more ∷ []
 unfolding taken_by

@@ -1,4 +1,4 @@
--- How many packets a block has that begins with a lawful text.
+-- How many packets a block that begins with a lawful text has.
 use Rattle.std.proofs.Common.{ℕ, ◌*◌, ◌≤◌, List, [], ◌∷◌, length, subst, sym, arith}
 use Rattle.std.proofs.Math.Logic.{∥∥₁_elim}
 use Rattle.std.proofs.Props.{props}

@@ -18,7 +18,7 @@ module _ {B : Type 0} (shape_of : B → RingRequest) (kind_of : B → List ℕ) 
   pub kind_by : (unit : B) → IsRetiredUnit shape_of ready shape unit → kind_of unit ≡ kind
   kind_by unit retired = kind_is unit ∙ ap (λ (s : RingRequest). numbers_of s) retired.shape_is ∙ sym same
 
--- none was found where none waits
+-- none was found if none waits
 pub none_waits : {X : Type 0} (found : Option X) (waiting : Option ℕ) → ((blocks : ℕ) → waiting ≡ Some blocks → IfNone found (blocks ≡ 0))
     → IfNone found ((blocks : ℕ) → waiting ≡ Some blocks → blocks ≡ 0)
 none_waits None waiting exact = exact

@@ -19,7 +19,7 @@ pub record ReaderValue : Type 0 where
 unfoldable pub walked_of : List Taken → List Packet
 walked_of taken = flat_map (λ block. block.packets) taken
 
--- the texts of them, where this is the text of one
+-- their texts, given the text of one
 unfoldable pub texts_by : (RingRequest → Taken → List ℕ) → RingRequest → List Taken → List ℕ
 texts_by text shape taken = flat_map (text shape) taken
 
@@ -27,7 +27,7 @@ texts_by text shape taken = flat_map (text shape) taken
 abbrev pub kept_texts : (RingRequest → Taken → List ℕ) → Bool → RingRequest → List Taken → List ℕ
 kept_texts text dumps shape taken = if dumps then texts_by text shape taken else []
 
--- what a reader gives
+-- what a reader returns
 abbrev pub outputs_by : (RingRequest → Taken → List ℕ) → ReaderValue → Outputs
 outputs_by text reader = record {
   walked = walked_of reader.taken;
@@ -35,7 +35,7 @@ outputs_by text reader = record {
   blocks = length reader.taken;
 }
 
--- the texts of blocks, what is kept of them, and what a reader of blocks gives
+-- the texts of blocks, what is kept of them, and what a reader of blocks returns
 abbrev pub texts_of : RingRequest → List Taken → List ℕ
 texts_of shape taken = texts_by text_of_taken shape taken
 
@@ -75,7 +75,7 @@ pub record Keeps (took : List ℕ → Type 0) (before after : ReaderValue) : Typ
   pub comes : ComesFrom before.held took content
   pub held : after ≡ holds_bytes content before
 
--- a step gives back what was in hand, or else what it took, with the word of a free block
+-- a step gives back what was in hand, or otherwise what it took, with the word of a free block
 -- (TP_STATUS_KERNEL, 0)
 abbrev pub GivesBack : {W : Type 0} → (W → W → List ℕ → Type 0) → (W → W → List ℕ → ℕ → Type 0)
     → Option (List ℕ) → W → W → Type 0

@@ -1,4 +1,4 @@
--- What the fields of a reader stand for.
+-- What the fields of a reader represent.
 use Rattle.std.specs.Prelude.{◌≡◌, ℕ, ◌+◌, Bool, List, [], ◌∷◌, length, take, drop, Option}
 use Rattle.frame_view.specs.declared.frames.Packet.{Packet}
 use Rattle.tp_layout.specs.Layouts.{Taken}
@@ -11,14 +11,14 @@ use Rattle.reader_walk.specs.declared.piles.Pile.{Pile}
 abbrev pub mark_of : Taken → Mark
 mark_of taken = record { number = taken.number; status = taken.status; packets = length taken.packets }
 
--- the blocks of some marks, whose packets stand one after another
+-- the blocks of some marks, whose packets follow one another
 unfoldable pub taken_by : List Mark → List Packet → List Taken
 taken_by [] packets = []
 taken_by (mark ∷ marks) packets =
     record { number = mark.number; status = mark.status; packets = take mark.packets packets }
     ∷ taken_by marks (drop mark.packets packets)
 
--- what a reader's fields stand for
+-- what a reader's fields represent
 abbrev pub blocks_of : Pile → List Taken
 blocks_of pile = taken_by pile.marks.items pile.walked.items
 
@@ -30,7 +30,7 @@ abbrev pub packets_in : List Mark → ℕ
 packets_in [] = 0
 packets_in (mark ∷ marks) = mark.packets + packets_in marks
 
--- what the fields keep of what was read, where this is the text of one block or slot
+-- what the fields keep of what was read, given the text of one block or slot
 pub record IsSound (text : RingRequest → Taken → List ℕ) (shape : RingRequest) (dumps : Bool) (pile : Pile) : Type 0 where
   pub counted : packets_in pile.marks.items ≡ length pile.walked.items
   pub dump : pile.dump.items ≡ kept_texts text dumps shape (blocks_of pile)

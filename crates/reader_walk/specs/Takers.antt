@@ -4,8 +4,8 @@ use Rattle.tp_layout.specs.Blocks.{BeginsLawfully}
 use Rattle.tp_layout.specs.Writing.{ShapedBytes}
 use Rattle.tp_layout.specs.declared.requests.RingRequest.{RingRequest}
 
--- what no block changes of a taker: the shape of the blocks that it reads, and what else tells it
--- from others
+-- what no block changes of a taker: the shape of the blocks that it reads, and whatever else
+-- distinguishes it from others
 pub record Base : Type 0 where
   pub shape : RingRequest
   pub further : List ℕ
@@ -14,7 +14,7 @@ pub record Base : Type 0 where
 abbrev pub IsRetired : RingRequest → List ℕ → Type 0
 IsRetired shape bytes = (number : ℕ) × (status : ℕ) × BeginsLawfully shape number status bytes
 
--- a block or a slot that a reader of a ring of this shape reads: it may stand retired
+-- a block or a slot that a reader of a ring of this shape reads: it may be retired
 pub record IsRetiredUnit {B : Type 0} (shape_of : B → RingRequest) (ready : B → ℕ → ℕ → Type 0) (shape : RingRequest) (unit : B)
     : Type 0 where
   pub shape_is : shape_of unit ≡ shape

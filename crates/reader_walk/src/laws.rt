@@ -8,16 +8,16 @@ ghost use Rattle.tp_layout.specs.declared.requests.RingRequest.{RingRequest};
 
 use tp_layout::Block;
 
-/// A law and no call to make: of a block that begins with a lawful text are read that text's
-/// number, status and packets.
+/// A law, for proofs only: a block that begins with a lawful text is read as that text's number,
+/// status and packets.
 pub fn a_text_is_read_as_it_was_written()
     ensures { (shape : RingRequest) (number status : ℕ) (packets : List Packet) (bytes : List ℕ)
         → shape.block_size ≤ 1048576 → BeginsWith shape number status packets bytes
         → taken_in shape bytes ≡ record { number = number; status = status; packets = packets } }
 {}
 
-/// A law that changes nothing: a block that can be read has at most 16,383 packets, since it has at
-/// most 1 MiB and each packet takes at least 80 bytes of it.
+/// A law, whose call does nothing: a block that can be read has at most 16,383 packets, since it
+/// has at most 1 MiB and each packet takes at least 80 bytes of it.
 pub fn a_block_has_few_packets(block: &Block)
     ensures { (shape : RingRequest) → IsReadable shape block.now
         → length (taken_in shape block.now.bytes).packets ≤ 16383 }

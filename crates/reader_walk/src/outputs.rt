@@ -7,7 +7,7 @@ use frame_view::{ByteList, Packets};
 pub struct Outputs {
     /// The packets, in order.
     pub walked: Packets,
-    /// The texts of the blocks one after another, where the reader was asked to keep them.
+    /// The texts of the blocks one after another, if the reader was asked to keep them.
     pub dump: ByteList,
     /// The number of blocks.
     pub blocks: u64,

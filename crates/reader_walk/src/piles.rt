@@ -1,4 +1,4 @@
-//! The packets of the blocks or slots that were read, and what tells them apart again.
+//! The packets of the blocks or slots that were read, and which packets are of which block.
 ghost use Rattle.std.specs.Prelude.{◌≡◌, ℕ, [], ◌∷◌, ◌++◌, OnErr, OnOk};
 ghost use Rattle.reader_walk.specs.Texts.{kept_if};
 
@@ -24,15 +24,15 @@ pub(crate) struct Pile {
     pub(crate) marks: Vec<Mark>,
     /// Their packets, in order.
     pub(crate) walked: Vec<Packet>,
-    /// Their texts, in order, where they are kept.
+    /// Their texts, in order, if they are kept.
     pub(crate) dump: Vec<u8>,
 }
 
 impl Pile {
     ghost use Rattle.reader_walk.specs.ReadersInside.{mark_of};
 
-    /// Adds a block or a slot that may stand retired, with copies of its packets, and with its text
-    /// where texts are kept. After `Memory` all is as before.
+    /// Adds a block or a slot that may be retired, with copies of its packets, and with its text if
+    /// texts are kept. After `Memory` all is as before.
     pub(crate) fn add<B: Layout>(
         &mut self,
         alloc: Global,

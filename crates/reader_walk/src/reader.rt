@@ -1,11 +1,13 @@
 //! A reader: it takes each retired block of a ring, or each filled slot, copies its packets, and
 //! gives it back.
 //!
-//! A step looks once at the next block or slot. Where it was retired the reader takes it, walks
-//! over its packets, and releases it with the word of a free one (TP_STATUS_KERNEL, 0). Out of
-//! memory in between it keeps it, and the next step goes on with it: no packet is lost and none is
+//! A step looks once at the next block or slot. If it was retired the reader takes it, walks over
+//! its packets, and releases it with the word of a free one (TP_STATUS_KERNEL, 0). If memory runs
+//! out in between it keeps it, and the next step goes on with it: no packet is lost and none is
 //! read twice.
-ghost use Rattle.std.specs.Prelude.{◌≡◌, ◌≢◌, ◌+◌, ◌<◌, ◌≤◌, ◌^◌, ℕ, List, false, None, Some, Ok, length, is_some, IfNone, IfOk, IfSome, IsTrue, OnErr, OnOk, OnSome};
+ghost use Rattle.std.specs.Prelude.{◌≡◌, ◌≢◌, ◌+◌, ◌<◌, ◌≤◌, ◌^◌, ℕ, List, false, None, Some, Ok};
+ghost use Rattle.std.specs.Prelude.{length, is_some, IfNone, IfOk, IfSome, IsTrue, OnErr, OnOk};
+ghost use Rattle.std.specs.Prelude.{OnSome};
 ghost use Rattle.ring_words.specs.Counts.{Rose};
 ghost use Rattle.tp_layout.specs.Requests.{numbers_of};
 
@@ -32,7 +34,7 @@ pub struct RingReader<B: Layout> {
     dumps: bool,
     /// What was read.
     pile: Pile,
-    /// A block or a slot that was taken and not read, since memory was wanted.
+    /// A block or a slot that was taken and not read, because memory ran out.
     held: Option<B>,
 }
 
@@ -56,11 +58,11 @@ impl<B: Layout> Model for RingReader<B> {
 }
 
 impl<B: Layout> RingReader<B> {
-    ghost use Rattle.reader_walk.specs.Readers.{ComesFrom, GivesBack, Keeps, Reads, has_read, new_reader, outputs_by, walked_of};
+    ghost use Rattle.reader_walk.specs.Readers.{ComesFrom, GivesBack, Keeps, Reads, has_read};
+    ghost use Rattle.reader_walk.specs.Readers.{new_reader, outputs_by, walked_of};
     ghost use Rattle.reader_walk.specs.Takers.{IsRetiredUnit};
 
-    /// A reader that has read nothing, and that keeps texts where it is asked to. It takes no
-    /// memory.
+    /// A reader that has read nothing, and that keeps texts if it is asked to. It takes no memory.
     #[tactic(auto, unfolding(crate::specs::ReadersInside::taken_by, crate::specs::Readers::texts_by))]
     pub fn new(alloc: Global, shape: Shape, dump: bool) -> RingReader<B>
         ensures { result ≡ new_reader shape dump }
@@ -78,15 +80,15 @@ impl<B: Layout> RingReader<B> {
         }
     }
 
-    /// Takes one block or slot of a ring, reads it and gives it back; `false` where none waits.
-    /// After `Memory` it stays in the reader unread, and the next step goes on with it.
+    /// Takes one block or slot of a ring, reads it and gives it back; `false` if none waits. After
+    /// `Memory` it stays in the reader unread, and the next step goes on with it.
     pub fn step<W: WalkerEnd<B>>(&mut self, end: &mut W) -> Result<bool, Memory>
         requires kind { (W.walk end.old).ring.kind ≡ numbers_of self.old.shape }
         requires hand { (W.walk end.old).in_hand ≡ is_some self.old.held }
         requires few { length self.old.taken < 2 ^ 55 }
 
-        // One block or slot more is read: the one that it held, or else the one that was taken in
-        // this call.
+        // One more block or slot is read: the one that it held, or otherwise the one that was taken
+        // in this call.
         ensures read { IfOk result (λ stepped. IsTrue stepped
             → Reads B.taken_in (W.took end.old end.new) self.old self.new) }
 
@@ -94,7 +96,7 @@ impl<B: Layout> RingReader<B> {
         ensures gave_back { IfOk result (λ stepped. IsTrue stepped
             → GivesBack W.took W.gave_back self.old.held end.old end.new) }
 
-        // None was there: a look found none, and nothing changes but the count of such looks.
+        // None was there: a look found none, and nothing changes except the count of such looks.
         ensures none { IfOk result (λ stepped. stepped ≡ false → self.old.held ≡ None) }
         ensures same { IfOk result (λ stepped. stepped ≡ false → self.new ≡ self.old) }
         ensures stays { IfOk result (λ stepped. stepped ≡ false → W.stays end.old end.new) }
@@ -105,14 +107,14 @@ impl<B: Layout> RingReader<B> {
         ensures waiting { IfOk result (λ stepped. stepped ≡ false
             → (blocks : ℕ) → (W.walk end.old).waiting ≡ Some blocks → blocks ≡ 0) }
 
-        // Where it has one, no look found none.
+        // If it has one, no look found none.
         ensures found { result ≢ Ok false
             → (W.walk end.new).empties ≡ (W.walk end.old).empties }
 
         // After `Memory` it is in the reader.
         ensures kept { OnErr result (Keeps (W.took end.old end.new) self.old self.new) }
 
-        // Where the reader held it before, the end is as before.
+        // If the reader held it before, the end is as before.
         ensures unmoved { OnErr result ((content : List ℕ) → self.old.held ≡ Some content
             → end.new ≡ end.old) }
 
@@ -138,8 +140,8 @@ impl<B: Layout> RingReader<B> {
         }
     }
 
-    /// Reads a block or a slot that is handed in: appends its packets and, where it is asked to,
-    /// its text. After `Memory` nothing has changed.
+    /// Reads a block or a slot that is handed in: appends its packets and, if asked to, its text.
+    /// After `Memory` nothing has changed.
     pub fn walk_block(&mut self, unit: &B) -> Result<(), Memory>
         requires readable { IsRetiredUnit B.shape B.ready self.old.shape unit.now }
         requires few { length self.old.taken < 2 ^ 55 }
@@ -172,7 +174,7 @@ impl<B: Layout> RingReader<B> {
         }
     }
 
-    /// The block or slot that it held, or else the next one that was retired.
+    /// The block or slot that it held, or otherwise the next one that was retired.
     fn next_unit<W: WalkerEnd<B>>(&mut self, end: &mut W) -> Option<B>
         requires kind { (W.walk end.old).ring.kind ≡ numbers_of self.old.shape }
         requires hand { (W.walk end.old).in_hand ≡ is_some self.old.held }

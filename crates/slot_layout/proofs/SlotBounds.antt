@@ -11,7 +11,7 @@ use Rattle.tp_layout.specs.declared.error.RequestError.TheVariants.{Slots}
 use Rattle.tp_layout.specs.declared.requests.RingRequest.{RingRequest}
 use Rattle.slot_layout.specs.SlotShapes.{IsSlotShape, SlotBounds}
 
--- no test before it failed, nor did it
+-- this test passed, and so did those after it
 passed : (test : Bool) (fault : RequestError) (rest : Option RequestError) → cond test (Some fault) rest ≡ None → (test ≡ false) × (rest ≡ None)
 passed true fault rest e = absurd (none-some fault (sym e))
 passed false fault rest e = (λ i. false, e)
@@ -47,7 +47,7 @@ slot_bounds shape e =
       small = omega (arith, each.1, large);
     }
   where
-    -- where a frame goes into a block
+    -- where a frame fits into a block
     in_a_block : (size slot : ℕ) → (size / slot == 0) ≡ false → (1 ≤ size / slot) × (slot ≤ size)
     in_a_block size slot some =
         let not_none : (size / slot ≡ 0) → ⊥ = λ none. true≢false (sym (eq-eqb (size / slot) 0 none) ∙ some) in

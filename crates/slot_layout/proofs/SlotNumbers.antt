@@ -38,7 +38,7 @@ length-slot_text status packet =
 
 -- ---- statuses and tags
 
--- it holds of a status that may be where it holds of each
+-- a fact holds of each allowed status if it holds of every one in turn
 pub by_status : (P : ℕ → Type 0) (tag : Option Tag) (status : ℕ) → slot_status_may tag status ≡ true
     → P 1 → P 5 → P 81 → P 85 → P status
 by_status P None status may one five tagged both =

@@ -87,7 +87,7 @@ begins_stands shape status packet bytes is =
     let text = slot_text status packet in
     slot_stands shape status packet bytes (drop (length text) bytes) is.lawful (split text bytes is.begins)
 
--- ---- a text says one thing
+-- ---- a text has one meaning
 
 text_stands : (shape : RingRequest) (said : SlotSaid) → IsLawfulSlot shape said.status said.packet
     → SlotStands shape said.status said.packet (slot_text said.status said.packet)

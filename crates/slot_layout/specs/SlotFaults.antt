@@ -1,4 +1,4 @@
--- What a reader of a slot refuses: the first test that fails, with its place. Places are in bytes.
+-- Why a reader refuses a slot: the first test that fails, with its place. Places are in bytes.
 use Rattle.std.specs.Prelude.{ℕ, ◌-◌, Bool, ◌||◌, ◌&&◌, ◌==◌, nat_le, List, Option, None}
 use Rattle.std.specs.Option.{option_or}
 use Rattle.tp_layout.specs.Checks.{address_tests, unless}

@@ -1,4 +1,4 @@
--- What the laws of this crate speak of.
+-- The definitions that the laws of this crate use.
 use Rattle.std.specs.Prelude.{◌≡◌, ℕ}
 use Rattle.frame_view.specs.declared.frames.Packet.{Packet}
 use Rattle.tp_layout.specs.declared.requests.RingRequest.{RingRequest}

@@ -1,4 +1,4 @@
--- The shape of a ring of TPACKET_V2, and what a ring of slots is made of.
+-- The shape of a ring of TPACKET_V2, and its size as notes see it.
 use Rattle.std.specs.Prelude.{◌≡◌, ◌≤◌, None, replicate}
 use Rattle.ring_model.specs.Ring.{Size}
 use Rattle.slot_model.specs.SlotRings.{room_of_slots}
@@ -16,7 +16,8 @@ pub record SlotBounds (shape : RingRequest) : Type 0 where
   pub few : shape.frame_nr ≤ 65536
   pub small : shape.frame_size ≤ 1048576
 
--- what a ring of slots of this shape is made of: as many slots as it has frames, and no time-out
+-- the size of a ring of slots of this shape, as notes see it: a slot for each frame, and no
+-- time-out
 abbrev pub slot_size_of : RingRequest → Size
 slot_size_of shape = record {
   room = room_of_slots shape.frame_size;

@@ -31,7 +31,7 @@ slot_text status packet =
     bytes_of (slot_header_rows status packet) ++ (bytes_of (zeros 28 4)
     ++ (bytes_of (address_rows packet) ++ (bytes_of (zeros 50 16) ++ packet.bytes)))
 
--- a filled slot may have this status: TP_STATUS_USER (1), with TP_STATUS_LOSING (4) or not, and
+-- a filled slot may have this status: TP_STATUS_USER (1), with or without TP_STATUS_LOSING (4), and
 -- with a tag TP_STATUS_VLAN_VALID (16) and TP_STATUS_VLAN_TPID_VALID (64)
 abbrev pub slot_status_may : Option Tag → ℕ → Bool
 slot_status_may None status = (status == 1) || (status == 5)
@@ -54,12 +54,13 @@ pub record SlotBegins (shape : RingRequest) (status : ℕ) (packet : Packet) (by
 abbrev pub HasSlotText : RingRequest → List ℕ → Packet → Type 0
 HasSlotText shape bytes packet = (status : ℕ) × SlotBegins shape status packet bytes
 
--- a slot begins with a lawful text of this status: that is a fact, since the text gives the packet
+-- a slot begins with a lawful text of this status: this is a proposition, since the text determines
+-- the packet
 abbrev pub SlotBeginsLawfully : RingRequest → ℕ → List ℕ → Type 0
 SlotBeginsLawfully shape status bytes =
     ∥ ((packet : Packet) × SlotBegins shape status packet bytes) ∥₁
 
--- the tag that a slot says, where its status says that it has one
+-- the tag that a slot says, if its status says that it has one
 abbrev pub slot_tag_at : List ℕ → Option Tag
 slot_tag_at bytes =
     if (number_at 4 0 bytes == 81) || (number_at 4 0 bytes == 85)

@@ -1,5 +1,5 @@
--- A slot by its fields: its bytes are kept once they are written, and until then it lends zeros
--- that all slots share.
+-- A slot by its fields: it has its own bytes once they are written, and until then zeros that all
+-- slots share.
 use Rattle.std.specs.Prelude.{◌≡◌, length, replicate}
 use Rattle.std.specs.Arc.{arc_value}
 use Rattle.tp_layout.specs.Writing.{ShapedBytes, bytes_or_zeros}
@@ -12,7 +12,7 @@ shaped_bytes slot = record {
   bytes = bytes_or_zeros slot.shape.frame_size slot.bytes.written.items;
 }
 
--- it has the bytes of a frame of its shape, and as many zeros
+-- it has the bytes of a frame of its shape, and that number of zeros
 pub record IsSlot (slot : Inside) : Type 0 where
   pub size :
       length (bytes_or_zeros slot.shape.frame_size slot.bytes.written.items) ≡ slot.shape.frame_size

@@ -12,7 +12,7 @@ use tp_layout::fields::{u16_at, u32_at};
 use tp_layout::link_addresses::check_link_address;
 use tp_layout::{LayoutError, LayoutKind, Shape, check_zeros, tpid_may};
 
-/// Tests all that stands before a slot's data.
+/// Tests everything before a slot's data.
 #[tactic(auto, unfolding(crate::specs::SlotFaults::slot_text_fault))]
 pub(crate) fn check_fields(bytes: &[u8], shape: &Shape) -> Result<(), LayoutError>
     requires { length bytes.now ≡ shape.now.frame_size }
@@ -54,8 +54,8 @@ fn check_head(bytes: &[u8], shape: &Shape) -> Result<(), LayoutError>
     Ok(())
 }
 
-/// Whether a filled slot may have this status: TP_STATUS_USER (1), with TP_STATUS_LOSING (4), with
-/// TP_STATUS_VLAN_VALID and TP_STATUS_VLAN_TPID_VALID (80), or with all of them.
+/// Whether a filled slot may have this status: TP_STATUS_USER (1), alone or with TP_STATUS_LOSING
+/// (4), with TP_STATUS_VLAN_VALID and TP_STATUS_VLAN_TPID_VALID (80), or with all of them.
 fn is_status(status: u32) -> bool
     ensures { result ≡ is_slot_status status }
 {

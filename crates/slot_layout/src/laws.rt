@@ -7,7 +7,7 @@ ghost use Rattle.slot_layout.specs.SlotLaws.{HaveOneSlotText, SlotSaid};
 ghost use Rattle.slot_layout.specs.SlotTexts.{SlotBegins};
 ghost use Rattle.tp_layout.specs.declared.requests.RingRequest.{RingRequest};
 
-/// A lawful text reports the status and the packet of its slot: two that are equal say the same.
+/// A lawful text determines the status and the packet of its slot: equal texts have the same ones.
 pub fn a_slot_text_says_one_thing()
     ensures { (shape : RingRequest) (first second : SlotSaid)
         → HaveOneSlotText shape first second → first ≡ second }
@@ -19,8 +19,8 @@ pub fn a_checked_ring_is_bounded()
     ensures { (shape : RingRequest) → IsSlotShape shape → SlotBounds shape }
 {}
 
-/// A law and no call to make: of a slot that begins with a lawful text are read that text's status
-/// and packet.
+/// A law, for proofs only: a slot that begins with a lawful text is read as that text's status and
+/// packet.
 pub fn a_slot_is_read_as_it_was_written()
     ensures { (shape : RingRequest) (status : ℕ) (packet : Packet) (bytes : List ℕ)
         → SlotBegins shape status packet bytes

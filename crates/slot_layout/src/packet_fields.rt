@@ -49,7 +49,7 @@ fn put_header(bytes: &mut [u8], status: u32, offer: &Offer)
     put_u16(bytes, 26, tpid);
 }
 
-/// What a slot says of a tag: the control information, the protocol identifier.
+/// What a slot says about a tag: the control information, the protocol identifier.
 pub(crate) fn vlan_fields(tag: Option<Tag>) -> (u16, u16)
     ensures fields { result ≡ (tci_of tag, tpid_of tag) }
     ensures typed { IfSome tag (λ tag. tag.tci < 2 ^ 16) }

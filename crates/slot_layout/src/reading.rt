@@ -14,8 +14,8 @@ use tp_layout::fields::{u16_at, u32_at};
 use tp_layout::link_addresses::link_address_at;
 use tp_layout::{LayoutError, PacketRef, Shape};
 
-/// Tests a slot, and gives its packet. It is Ok exactly where the slot begins with a lawful text;
-/// else it reports the first test that fails, and where.
+/// Tests a slot, and returns its packet. It is Ok exactly if the slot begins with a lawful text;
+/// otherwise it reports the first test that fails, and where.
 pub fn read_slot<'a>(bytes: &'a [u8], shape: &Shape) -> Result<PacketRef<'a>, LayoutError>
     requires { length bytes.now ≡ shape.now.frame_size }
     ensures fault { told result ≡ slot_text_fault shape.now bytes.now }
@@ -60,7 +60,7 @@ fn packet_at(bytes: &[u8]) -> PacketRef<'_>
     }
 }
 
-/// The tag of a slot, where its status says that it has one.
+/// The tag of a slot, if its status says that it has one.
 pub(crate) fn tag_at(bytes: &[u8]) -> Option<Tag>
     requires { 28 ≤ length bytes.now }
     ensures { result ≡ slot_tag_at bytes.now }

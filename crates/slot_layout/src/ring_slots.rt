@@ -21,7 +21,7 @@ use tp_layout::{LazyBytes, Shape, zeros};
 pub struct Slot {
     /// The shape of the ring's slots.
     shape: Shape,
-    /// Its bytes, as many as a frame of the shape has. Until the first write it has no room for
+    /// Its bytes, as many as a frame of the shape has. Until the first write it has no memory for
     /// them.
     bytes: LazyBytes,
 }
@@ -48,7 +48,7 @@ impl Slot {
     }
 
     /// Writes the text of a packet with this status over the first bytes. The first write takes the
-    /// room.
+    /// memory.
     pub(crate) fn put_packet(&mut self, room: &mut Vec<u8>, status: u32, offer: &Offer)
         requires room { self.old.shape.frame_size ≤ vec_capacity room.old }
         requires fits { 66 + offer.now.snap ≤ self.old.shape.frame_size }
@@ -65,8 +65,8 @@ impl Slot {
 }
 
 /// The slots of a ring of this shape, which came from `check_v2`: one of zeros for each of its
-/// frames, 2 to 65,536 in all. Their bytes cost nothing until they are written, and have no room:
-/// the first write brings it.
+/// frames, 2 to 65,536 in all. Their bytes cost nothing until they are written, and have no memory:
+/// the first write is given it.
 pub fn slots(alloc: Global, shape: &Shape) -> Result<Vec<Slot>, Memory>
     requires { IsSlotShape shape.now }
     ensures { IfOk result (λ slots.

@@ -13,8 +13,8 @@ use ring_model::Offer;
 
 /// Writes the text of an offer's packet into a slot, and reports the status that the slot is to be
 /// retired with; `losing` says that packets were lost. The bytes after the text stay (`tpacket_rcv`
-/// of the kernel with TPACKET_V2). A slot that was never written takes `room`, which has room for
-/// its bytes and of which the content is lost.
+/// of the kernel with TPACKET_V2). A slot that was never written takes `room`, which has memory for
+/// its bytes and whose content is lost.
 pub fn write_slot(slot: &mut Slot, room: &mut Vec<u8>, offer: &Offer, losing: bool) -> u32
     requires room { slot.old.shape.frame_size ≤ vec_capacity room.old }
     requires sound { IsWritable offer.now }

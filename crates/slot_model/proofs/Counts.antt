@@ -59,7 +59,7 @@ alike_count size slots blocks = record { kept = refl; dropped = refl }
 alike_finish : (size : Size) (slots : SlotState) (blocks : State) → Alike slots blocks → Alike slots (after size blocks Finished)
 alike_finish size slots blocks h = record { kept = h.kept; dropped = h.dropped }
 
--- with statistics more
+-- with one more entry of statistics
 and_stats : (one other : Stats) (more others : List Stats) → one ≡ without_freezes other → more ≡ map without_freezes others
     → one ∷ more ≡ map without_freezes (other ∷ others)
 and_stats one other more others e es = λ i. e i ∷ es i

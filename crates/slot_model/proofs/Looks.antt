@@ -10,7 +10,7 @@ use Rattle.ring_model.specs.declared.notes.Offer.{Offer}
 use Rattle.slot_model.specs.SlotAsking.{slot_put_note, slot_try_note}
 use Rattle.slot_model.specs.SlotSteps.{SlotMayStand, SlotState, next_slot}
 
--- what holds of a note of a packet where it holds of Kept and of what is said of a held slot
+-- what holds of a packet's note if it holds of Kept and of the note for a held slot
 by_look : (P : Found → Type 0) (slots released : ℕ) (s : SlotState) (held : Bool) → nat_lt released (next_slot s - slots) ≡ held
     → P Free → (released < next_slot s - slots → P (Held (next_slot s - slots))) → P (cond held (Held (next_slot s - slots)) Free)
 by_look P slots released s true e free found = found (ltb-true released (next_slot s - slots) e)

@@ -22,7 +22,7 @@ run_push_from slots s [] note run stands on = (stands, on, tt)
 run_push_from slots s (first ∷ notes) note run stands on =
     (run.0, run.1, run_push_from slots (slot_after s first) notes note run.2 stands on)
 
--- a note more that may stand and doesn't close the ring
+-- one more note that may follow and doesn't close the ring
 pub slot_run_push : (slots : ℕ) (notes : List Note) (note : Note) → IsOpenSlotRun slots first_slot_state notes
     → SlotMayStand slots (slot_state_of notes) note → SlotGoesOn note → IsOpenSlotRun slots first_slot_state (notes ++ note ∷ [])
 slot_run_push slots notes note run stands on = run_push_from slots first_slot_state notes note run stands on
@@ -54,7 +54,7 @@ slot_goes_try offer NotAsked = tt
 slot_goes_try offer Free = tt
 slot_goes_try offer (Held number) = tt
 
--- the counts of a state are at most those of so many notes
+-- the counts of a state are at most the number of its notes
 pub record IsSlotCounted (s : SlotState) (count : ℕ) : Type 0 where
   pub slots : length s.done ≤ count
   pub packets : s.kept + s.dropped ≤ count

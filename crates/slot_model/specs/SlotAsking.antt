@@ -1,5 +1,5 @@
--- What a ring of slots notes where its reader has released a known number of slots, so that each
--- look has one answer.
+-- What a ring of slots notes if its reader has released a known number of slots, so that each look
+-- has one answer.
 use Rattle.std.specs.Prelude.{ℕ, ◌-◌, nat_lt, if◌then◌else◌}
 use Rattle.ring_model.specs.Asking.{put_by, try_by}
 use Rattle.ring_model.specs.declared.notes.Offer.{Offer}
@@ -8,7 +8,7 @@ use Rattle.ring_model.specs.declared.notes.Found.TheVariants.{Free, Held}
 use Rattle.ring_model.specs.declared.notes.Note.{Note}
 use Rattle.slot_model.specs.SlotSteps.{SlotState, next_slot}
 
--- what the next slot's word says: with n slots, slot number s stands where s - n stood, which is
+-- what the next slot's word says: with n slots, slot number s takes the place of s - n, which is
 -- the reader's until it has released that many
 abbrev pub slot_look : ℕ → ℕ → SlotState → Found
 slot_look slots released state =

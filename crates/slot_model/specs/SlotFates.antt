@@ -21,7 +21,7 @@ slot_counts_from state (Counted ∷ notes) =
     slot_stats_of state ∷ slot_counts_from (slot_after state Counted) notes
 slot_counts_from state (note ∷ notes) = slot_counts_from (slot_after state note) notes
 
--- those, and what stands in the statistics at the end
+-- those, and what the statistics hold at the end
 abbrev pub slot_stretches_from : SlotState → List Note → List Stats
 slot_stretches_from state [] = slot_stats_of state ∷ []
 slot_stretches_from state (Counted ∷ notes) =

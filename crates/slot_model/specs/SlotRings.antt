@@ -1,5 +1,6 @@
--- A ring of slots with its reader, as far as reports speak of it: the record of a ring of blocks,
--- with a slot in a block's place. Its size has the number of slots as `blocks`. No time-out counts.
+-- A ring of slots with its reader, as far as reports need it: the record of a ring of blocks, with
+-- a slot in a block's place. Its size has the number of slots as `blocks`. The time-out has no
+-- meaning.
 use Rattle.std.specs.Prelude.{ℕ, ◌+◌}
 use Rattle.ring_model.specs.Rings.{Ring}
 use Rattle.ring_model.specs.declared.notes.Offer.{Offer}
@@ -7,8 +8,8 @@ use Rattle.ring_model.specs.declared.notes.Note.{Note}
 use Rattle.slot_model.specs.SlotSteps.{SlotState, slot_state_of}
 use Rattle.slot_model.specs.SlotAsking.{slot_put_note, slot_try_note}
 
--- the room of a block that would keep as much of a packet as a slot of this many bytes: before a
--- packet's data stand 66 bytes in a slot and 82 in a block
+-- the room of a block that would keep as much of a packet as a slot of this many bytes: a packet's
+-- data follow 66 bytes in a slot and 82 in a block
 abbrev pub room_of_slots : ℕ → ℕ
 room_of_slots slot_size = slot_size + 16
 

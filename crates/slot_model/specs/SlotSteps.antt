@@ -10,7 +10,7 @@ use Rattle.ring_model.specs.declared.notes.Note.{Note}
 use Rattle.ring_model.specs.declared.notes.Note.TheVariants.{Kept, Refused, Dropped, Ticked}
 use Rattle.ring_model.specs.declared.notes.Note.TheVariants.{Counted, Finished}
 
--- what notes leave behind
+-- the state after notes
 pub record SlotState : Type 0 where
   -- the filled slots in order, each with its packet's offer and its status; the slot of number s is
   -- the s-th
@@ -62,12 +62,11 @@ slot_state_of notes = slot_after_all first_slot_state notes
 abbrev pub next_slot : SlotState → ℕ
 next_slot state = length state.done + 1
 
--- with so many slots, the one in whose place the next one would stand has this number, and was
--- filled
+-- with n slots, the slot whose place the next one takes has this number, and was filled
 abbrev pub IsSlotHeld : ℕ → SlotState → ℕ → Type 0
 IsSlotHeld slots state number = (0 < number) × (number + slots ≡ next_slot state)
 
--- a note may stand after a state of a ring of so many slots
+-- a note may follow a state of a ring of n slots
 abbrev pub SlotMayStand : ℕ → SlotState → Note → Type 0
 SlotMayStand slots state (Kept offer Free) = Unit {0}
 SlotMayStand slots state (Kept offer found) = ⊥
@@ -77,7 +76,7 @@ SlotMayStand slots state (Ticked ms found) = ⊥
 SlotMayStand slots state Counted = Unit {0}
 SlotMayStand slots state Finished = Unit {0}
 
--- each note may stand after those before it
+-- each note may follow those before it
 abbrev pub IsSlotRun : ℕ → SlotState → List Note → Type 0
 IsSlotRun slots state [] = Unit {0}
 IsSlotRun slots state (note ∷ notes) =
@@ -90,7 +89,7 @@ abbrev pub SlotGoesOn : Note → Type 0
 SlotGoesOn Finished = ⊥
 SlotGoesOn note = Unit {0}
 
--- each note may stand after those before it, and none closes the ring
+-- each note may follow those before it, and none closes the ring
 abbrev pub IsOpenSlotRun : ℕ → SlotState → List Note → Type 0
 IsOpenSlotRun slots state [] = Unit {0}
 IsOpenSlotRun slots state (note ∷ notes) =
@@ -98,7 +97,7 @@ IsOpenSlotRun slots state (note ∷ notes) =
     × SlotGoesOn note
     × IsOpenSlotRun slots (slot_after state note) notes
 
--- notes of a ring of so many slots from its opening to its close
+-- notes of a ring of n slots from its opening to its close
 pub record IsWholeSlotRun (slots : ℕ) (notes : List Note) : Type 0 where
   pub run : IsSlotRun slots first_slot_state notes
   pub closed : (before : List Note) × (notes ≡ before ++ Finished ∷ [])

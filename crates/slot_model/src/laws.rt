@@ -11,13 +11,13 @@ ghost use Rattle.slot_model.specs.SlotRings.{slot_note_of_put, slot_note_of_try,
 ghost use Rattle.slot_model.specs.SlotSteps.{IsSlotRun, SlotMayStand, first_slot_state};
 ghost use Rattle.slot_model.specs.SlotSteps.{slot_state_of};
 
-/// What a put notes may stand, whatever the reader has released.
+/// The note of a put is possible, whatever the reader has released.
 pub fn slot_puts_stand()
     ensures { (ring : Ring) (offer : Offer)
         → SlotMayStand ring.size.blocks (slot_state ring) (slot_note_of_put ring offer) }
 {}
 
-/// What a try notes may stand.
+/// The note of a try is possible.
 pub fn slot_tries_stand()
     ensures { (ring : Ring) (offer : Offer)
         → SlotMayStand ring.size.blocks (slot_state ring) (slot_note_of_try ring offer) }
@@ -44,8 +44,8 @@ pub fn the_filled_slots_are_the_kept_packets()
         → map (λ slot. slot.0) (slot_state_of notes).done ≡ kept_of notes }
 {}
 
-/// The statistics of a ring of slots are those that a ring of blocks has of the same notes,
-/// whatever its size, but for the freezes, of which it has none.
+/// The statistics of a ring of slots are those of a ring of blocks with the same notes, whatever
+/// its size, except that it has no freezes.
 pub fn a_slot_ring_counts_as_a_ring_of_blocks()
     ensures counts { (size : Size) (notes : List Note)
         → slot_counts_of notes ≡ map without_freezes (counts_of size notes) }

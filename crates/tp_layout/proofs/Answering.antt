@@ -1,4 +1,4 @@
--- What a reader answers: the first fault of the definition, and the packets of the text.
+-- What a reader returns: the first fault of the definition, or the packets of the text.
 use Rattle.std.proofs.Common.{◌≡◌, ℕ, zero, suc, ◌+◌, ◌-◌, ◌%◌, ◌≤◌, ◌<◌, Bool, true, false, List, [], ◌∷◌, ◌++◌, length, get_or, take, drop, replicate, refl, sym, ap, ◌∙◌, inl, inr, arith}
 use Rattle.std.specs.Prelude.{◌==◌, ◌&&◌, nat_le, nat_lt, slice_index, Option, None, Some, Result, Ok, Err, IfOk, IsOk}
 use Rattle.std.proofs.Math.Logic.{∥∥₁_elim}
@@ -161,7 +161,7 @@ block_only answer shape bytes h sound e so number status packets begins =
     let stood = begins_stands (end_may shape) shape number status packets bytes sound.small (λ end may. may) begins in
     ok_by answer packets (e ∙ tests_are (end_may shape) shape bytes h ∙ stood.tests) (if_ok answer (packets_of shape bytes) packets so stood.packets_are)
 
--- ---- a text that stands alone
+-- ---- a text on its own
 
 padded_bytes : (shape : RingRequest) (text : List ℕ) → IsBytes text → IsBytes (padded shape text)
 padded_bytes shape text h i =
@@ -223,7 +223,7 @@ unfolding behind_head
 behind_front shape count area text rest header =
     ap (option_or (packets_tests count (first_of shape) area)) (times_front (number_at 4 4 area, number_at 4 8 area) (last_time (packets_in count area)) text rest header)
 
--- what follows a text doesn't count where its packets end with it
+-- what follows a text doesn't count if its packets end with it
 front_tests_are : (fits : ℕ → Bool) (shape : RingRequest) (text rest : List ℕ) → 48 ≤ length text
     → ((end : ℕ) → fits end ≡ true → (first_of shape < end) × (end ≡ length text)) → block_tests fits shape (text ++ rest) ≡ block_tests fits shape text
 unfolding block_tests behind_head
@@ -303,7 +303,7 @@ lent shape number status packets bytes sound is =
     let stood = begins_stands (end_may shape) shape number status packets bytes sound (λ end may. may) is in
     ap (λ (n : ℕ). take n bytes) (stood.end_is ∙ sym (length-block_text shape number status packets)) ∙ is.begins
 
--- a block that begins with a lawful text has it whole
+-- a block that begins with a lawful text has all of it
 pub begins_within : (shape : RingRequest) (number status : ℕ) (bytes : List ℕ) → shape.block_size ≤ 1048576
     → BeginsLawfully shape number status bytes → (48 ≤ length bytes) × (number_at 4 20 bytes ≤ length bytes)
 begins_within shape number status bytes sound begins =
@@ -346,7 +346,7 @@ packets_pass shape number status packets bytes sound is =
     let rest = or_none (descriptor_tests (end_may shape) shape bytes) _ stood.tests in
     (or_none (packets_tests (number_at 4 12 bytes) (first_of shape) (area_of shape bytes)) _ rest.1).0
 
--- no fault comes of what is lawful
+-- a lawful text has no fault
 no_fault : (shape : RingRequest) (number status : ℕ) (bytes : List ℕ) (answer : Option LayoutError)
     → ((packets : List Packet) → BeginsWith shape number status packets bytes → answer ≡ None)
     → BeginsLawfully shape number status bytes → answer ≡ None
@@ -371,13 +371,13 @@ begins_well shape number status bytes sound begins =
       small = omega (arith, sound, fits, length-drop (first_of shape) (take (number_at 4 20 bytes) bytes), length-take (number_at 4 20 bytes) bytes);
     }
 
--- and are read
+-- and the packets are read
 pub begins_read : (shape : RingRequest) (number status : ℕ) (packets : List Packet) (bytes : List ℕ) → shape.block_size ≤ 1048576
     → BeginsWith shape number status packets bytes → packets_of shape bytes ≡ packets
 begins_read shape number status packets bytes sound is =
     (begins_stands (end_may shape) shape number status packets bytes sound (λ end may. may) is).packets_are
 
--- where the packets of so many bytes may end
+-- where the packets of n bytes may end
 abbrev ends_in : RingRequest → ℕ → ℕ → Bool
 ends_in shape size end = end_may shape end && nat_le end size
 

@@ -47,7 +47,7 @@ pub number_fits : (n at : ℕ) (bytes : List ℕ) → IsBytes bytes → number_a
 unfolding number_at
 number_fits n at bytes h = little_from-lt 0 n (drop at bytes) (λ k. rw get_or-drop (h (at + k)))
 
--- a byte of a number is one of its upper part
+-- a byte of a number is a byte of its upper part
 byte_shift : (j a v : ℕ) → a < 256 → byte_at (suc j) (a + 256 * v) ≡ byte_at j v
 byte_shift zero a v h = omega arith
 byte_shift (suc j) a v h =

@@ -33,7 +33,7 @@ fixed_at : (base from place : ℕ) (r : Row) (rows : List Row) (bytes : List ℕ
 fixed_at base from place r rows bytes rest may at e =
     fixed base from r rows bytes rest may e ∙ ap (λ (p : ℕ). unless (number_at r.size from bytes == r.value) r.kind p rest) at
 
--- a row with the number that stands there
+-- a row with the number that is there
 read : (base from : ℕ) (r : Row) (rows : List Row) (bytes : List ℕ) (rest : Option LayoutError) → number_at r.size from bytes ≡ r.value
     → first_fault base (from + r.size) rows bytes ≡ rest
     → first_fault base from (r ∷ rows) bytes ≡ unless r.may r.kind (base + r.at) rest
@@ -107,7 +107,7 @@ address_tests_are at bytes h =
     (read at 64 _ _ bytes _ (number_one 64 bytes)
     (read at 65 _ _ bytes _ (number_one 65 bytes) (none at 66 bytes)))))))))))))
 
--- two tables, one after the other
+-- two tables, one after another
 pub first_fault-append : (base from : ℕ) (rows more : List Row) (bytes : List ℕ)
     → first_fault base from (rows ++ more) bytes ≡ option_or (first_fault base from rows bytes) (first_fault base (from + size_of_rows rows) more bytes)
 unfolding first_fault

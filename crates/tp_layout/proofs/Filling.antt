@@ -1,4 +1,4 @@
--- Laws of texts: they say one thing, and a block that was filled has one.
+-- Laws of texts: a text has one meaning, and a block that was filled has a text.
 use Rattle.std.proofs.Common.{◌≡◌, ℕ, ◌+◌, ◌≤◌, ◌<◌, List, [], ◌∷◌, ◌++◌, length, refl, sym, subst, ◌∙◌, arith, append_assoc}
 use Rattle.std.specs.List.{AllByRecursion}
 use Rattle.std.proofs.lemmas.List.{append-nil, length-take-le, length-map}
@@ -18,7 +18,7 @@ use Rattle.tp_layout.proofs.Opens.{opened, held, closes, needs-cons, length-head
 use Rattle.tp_layout.proofs.BlockTexts.{BlockStands, block_stands}
 use Rattle.tp_layout.proofs.Answering.{end_lawful}
 
--- ---- a text says one thing
+-- ---- a text has one meaning
 
 text_stands : (shape : RingRequest) (said : Said) → IsShape shape → IsLawful shape said.number said.status said.packets
     → BlockStands (end_may shape) shape said.number said.status said.packets (text_of_said shape said)

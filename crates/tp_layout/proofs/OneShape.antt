@@ -1,4 +1,4 @@
--- The numbers of a shape tell it from every other.
+-- The numbers of a shape distinguish it from every other.
 use Rattle.std.proofs.Common.{◌≡◌, ℕ, List, ap, refl}
 use Rattle.std.specs.Prelude.{slice_index}
 use Rattle.tp_layout.specs.Requests.{numbers_of}

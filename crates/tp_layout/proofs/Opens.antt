@@ -104,7 +104,7 @@ pub opened : (shape : RingRequest) (number : ℕ) (bytes : List ℕ) → number 
 opened shape number bytes small =
     record { small = small; each = tt; begins = no_packets shape number (drop (0 + length (open_header shape number)) bytes) }
 
--- ---- a packet more
+-- ---- one more packet
 
 open_packets-push : (packets : List Packet) (packet : Packet) → open_packets (packets ++ packet ∷ []) ≡ open_packets packets ++ packet_text (need_of_packet packet) packet
 unfolding open_packets

@@ -244,7 +244,7 @@ tag_back (Some tag) bytes h status tci tpid =
     let low : tag.tci % 65536 ≡ tag.tci = omega (arith, h) in
     rw (status, tci, tpid, low) refl
 
--- what stands there that is a packet's text
+-- the bytes there are a packet's text
 pub record Stands (last : Bool) (at : ℕ) (packet : Packet) (bytes : List ℕ) : Type 0 where
   pub packet_is : packet_at bytes ≡ packet
   pub need_is : need_at bytes ≡ need_of_packet packet

@@ -45,7 +45,7 @@ put_put at first second bytes fits =
     rw (left, right, sum) (append_assoc front first (second ++ drop (at + length (first ++ second)) bytes)
     ∙ ap (λ (xs : List ℕ). front ++ xs) (sym (append_assoc first second (drop (at + length (first ++ second)) bytes))))
 
--- one piece more
+-- one more piece
 pub piece : {at : ℕ} {text old mid new : List ℕ} → IsPut at text old mid → (place : ℕ) (more : List ℕ) → place ≡ at + length text
     → at + length text + length more ≤ length old → new ≡ put place more mid → IsPut at (text ++ more) old new
 piece {at} {text} {old} {mid} {new} so place more here fits e =
@@ -64,7 +64,7 @@ unfolding bytes_of
 bytes_of-zeros at zero = refl
 bytes_of-zeros at (suc n) = ap (λ (xs : List ℕ). 0 ∷ xs) (bytes_of-zeros (at + 1) n)
 
--- the bytes of two tables, one after the other
+-- the bytes of two tables, one after another
 pub bytes_of-append : (rows more : List Row) → bytes_of (rows ++ more) ≡ bytes_of rows ++ bytes_of more
 unfolding bytes_of
 bytes_of-append [] more = refl

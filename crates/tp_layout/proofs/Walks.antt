@@ -1,4 +1,4 @@
--- What tests say that passed, packet by packet.
+-- What passed tests say, packet by packet.
 use Rattle.std.proofs.Common.{◌≡◌, ℕ, zero, suc, ◌+◌, ◌-◌, ◌≤◌, ◌<◌, Bool, true, false, List, [], ◌∷◌, length, take, drop, refl, sym, ◌∙◌, inl, inr, arith}
 use Rattle.std.specs.Prelude.{◌==◌, ◌&&◌, not, nat_lt, nat_le, Option, None, Some}
 use Rattle.std.specs.Option.{option_or}
@@ -61,7 +61,7 @@ unfolding packets_tests packets_fault_by
 packets_left count at [] none some = absurd (omega arith)
 packets_left count at (byte ∷ bytes) none some = let n : count ≡ 0 = omega arith in rw n refl
 
--- so many packets, of which there is one
+-- n packets, at least one
 pub packets_in-length : (count : ℕ) (bytes : List ℕ) → length (packets_in count bytes) ≡ count
 unfolding packets_in
 packets_in-length zero bytes = refl
@@ -122,7 +122,7 @@ front last at bytes e =
       ]
     ]
 
--- what a head says that passed its tests
+-- what is said by a head that passed its tests
 pub record Head (fits : ℕ → Bool) (shape : RingRequest) (bytes : List ℕ) : Type 0 where
   pub version : number_at 4 0 bytes ≡ 2
   pub private : number_at 4 4 bytes ≡ 48
@@ -152,15 +152,15 @@ head fits shape bytes e =
       number = ltb-true _ _ h.0;
     }
 
--- the packets of a block stand within it
+-- the packets of a block are within it
 pub area_small : (shape : RingRequest) (bytes : List ℕ) → IsShape shape → length bytes ≤ shape.block_size
     → first_of shape < number_at 4 20 bytes → number_at 4 20 bytes ≤ length bytes → first_of shape + length (area_of shape bytes) ≤ 1048576
 area_small shape bytes sound size order within =
     omega (arith, sound.small, length-drop (first_of shape) (take (number_at 4 20 bytes) bytes), length-take (number_at 4 20 bytes) bytes)
 
--- ---- packets that stand
+-- ---- packets in a block
 
--- what is known of the packet at the start of those that stand
+-- what is known of the first of these packets
 pub record Standing (count : ℕ) (bytes : List ℕ) : Type 0 where
   pub header : 88 ≤ length bytes
   pub snap : 82 + number_at 4 12 bytes ≤ length bytes

@@ -28,8 +28,8 @@ pub record Descriptor : Type 0 where
   pub last_sec : ℕ
   pub last_nsec : ℕ
 
--- whether the packets of a block may end there: a multiple of 8 after the first packet's place,
--- within the block
+-- whether the packets of a block may end at this place: a multiple of 8 after the first packet's
+-- place, within the block
 abbrev pub end_may : RingRequest → ℕ → Bool
 end_may shape end = (end % 8 == 0) && nat_lt (first_of shape) end && nat_le end shape.block_size
 
@@ -59,7 +59,7 @@ time_rows desc =
     ∷ row 40 4 desc.last_sec ∷ row 40 4 desc.last_nsec  -- ts_last_pkt
     ∷ []
 
--- the zeros after the descriptor, a private area that nobody writes
+-- the zeros after the descriptor, which are a private area that nobody writes
 abbrev pub private_rows : RingRequest → List Row
 private_rows shape = zeros 48 (first_of shape - 48)
 
@@ -69,7 +69,7 @@ descriptor_text shape desc =
     bytes_of (head_rows (end_may shape) shape desc)
     ++ (bytes_of (time_rows desc) ++ bytes_of (private_rows shape))
 
--- packets one after another; each but the last says where the next one stands
+-- packets one after another; each except the last says where the next one is
 unfoldable pub packets_text : List Packet → List ℕ
 packets_text [] = []
 packets_text (packet ∷ []) = packet_text 0 packet
@@ -85,7 +85,7 @@ abbrev pub first_time : List Packet → ℕ × ℕ
 first_time [] = (0, 0)
 first_time (packet ∷ packets) = (packet.sec, packet.nsec)
 
--- the time of the last packet, or the one before them where there is none
+-- the time of the last packet, or the given one if there is none
 abbrev pub last_time_after : ℕ × ℕ → List Packet → ℕ × ℕ
 last_time_after time [] = time
 last_time_after time (packet ∷ packets) = last_time_after (packet.sec, packet.nsec) packets
@@ -134,8 +134,8 @@ abbrev pub HasText : RingRequest → List ℕ → List Packet → Type 0
 HasText shape bytes packets =
     (number : ℕ) × (status : ℕ) × BeginsWith shape number status packets bytes
 
--- a block begins with a lawful text of this number and status: that is a fact, since the text gives
--- the packets
+-- a block begins with a lawful text of this number and status: this is a proposition, since the
+-- text determines the packets
 abbrev pub BeginsLawfully : RingRequest → ℕ → ℕ → List ℕ → Type 0
 BeginsLawfully shape number status bytes =
     ∥ ((packets : List Packet) × BeginsWith shape number status packets bytes) ∥₁

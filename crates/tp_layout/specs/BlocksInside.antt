@@ -1,5 +1,5 @@
--- A block by its fields: its bytes are kept once they are written, and until then it lends zeros
--- that all blocks share.
+-- A block by its fields: it has its own bytes once they are written, and until then zeros that all
+-- blocks share.
 use Rattle.std.specs.Prelude.{◌≡◌, ◌≤◌, [], length, replicate}
 use Rattle.std.specs.Arc.{arc_value}
 use Rattle.std.specs.Vec.{vec_capacity}
@@ -14,7 +14,7 @@ shaped_bytes block = record {
   bytes = bytes_or_zeros block.shape.block_size block.bytes.written.items;
 }
 
--- it has the bytes that its shape says, or room for them and as many zeros
+-- it has the bytes that its shape gives, or memory for them and that number of zeros
 pub record IsBlock (block : Inside) : Type 0 where
   pub sound : IsShape block.shape
   pub size :

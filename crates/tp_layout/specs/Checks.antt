@@ -1,4 +1,4 @@
--- How a reader makes its tests. What they come to is what `Faults` says.
+-- How a reader makes its tests. Their outcome is what `Faults` says.
 use Rattle.std.specs.Prelude.{◌≡◌, ℕ, ◌+◌, ◌%◌, ◌<◌, ◌≤◌, Bool, true, ◌&&◌, ◌==◌, nat_lt, nat_le}
 use Rattle.std.specs.Prelude.{not, length, if◌then◌else◌, List, Option, None, Some}
 use Rattle.std.specs.Option.{option_or}
@@ -21,7 +21,7 @@ abbrev pub fits_of : Ends → RingRequest → ℕ → Bool
 fits_of (UpTo most) shape end = (end % 8 == 0) && nat_lt (first_of shape) end && nat_le end most
 fits_of (At size) shape end = end_may shape end && (end == size)
 
--- a test and the fault where it fails; else the first fault of the rest
+-- a test and the fault if it fails; otherwise the first fault of the rest
 abbrev pub unless : Bool → LayoutKind → ℕ → Option LayoutError → Option LayoutError
 unless test kind at rest = if test then rest else Some (record { kind = kind; at = at })
 
@@ -49,7 +49,7 @@ header_tests at next bytes =
     (at + 36)
     (unless (number_at 2 38 bytes == 0) Field (at + 38) None)))))))
 
--- the tests of the sockaddr_ll at a place of a header that itself stands at `base`
+-- the tests of the sockaddr_ll at a place of a header that is itself at `base`
 unfoldable pub address_tests : ℕ → ℕ → List ℕ → Option LayoutError
 address_tests base at bytes =
     unless (number_at 2 at bytes == 17) Field (base + at)
@@ -96,7 +96,7 @@ block_tests fits shape bytes =
     (time_tests (number_at 4 4 (area_of shape bytes), number_at 4 8 (area_of shape bytes))
     (last_time (packets_in (number_at 4 12 bytes) (area_of shape bytes))) bytes))
 
--- where packets may end is after the first packet's place and within n bytes
+-- packets may end only after the first packet's place and within n bytes
 abbrev pub EndsWithin : RingRequest → (ℕ → Bool) → ℕ → Type 0
 EndsWithin shape fits size = (end : ℕ) → fits end ≡ true → (first_of shape < end) × (end ≤ size)
 

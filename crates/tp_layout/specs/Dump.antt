@@ -13,7 +13,7 @@ use Rattle.tp_layout.specs.Blocks.{block_text}
 abbrev pub packets_of_offers : RingRequest → List Offer → List Packet
 packets_of_offers shape offers = map (packet_of (fills_hash shape)) offers
 
--- the texts of retired blocks, of which the first has this number
+-- the texts of retired blocks, the first of which has this number
 abbrev pub dump_from : RingRequest → ℕ → List (List Offer × ℕ) → List ℕ
 dump_from shape number [] = []
 dump_from shape number (block ∷ done) =

@@ -1,4 +1,4 @@
--- What a reader of a block refuses: the first test that fails, with its place. Places are in bytes.
+-- Why a reader refuses a block: the first test that fails, with its place. Places are in bytes.
 use Rattle.std.specs.Prelude.{ℕ, zero, suc, ◌+◌, ◌-◌, Bool, ◌&&◌, not, ◌==◌, nat_lt, nat_le}
 use Rattle.std.specs.Prelude.{if◌then◌else◌, List, [], ◌∷◌, ◌++◌, length, take, drop, replicate}
 use Rattle.std.specs.Prelude.{Option, None, Some}
@@ -25,8 +25,8 @@ snap_may bytes =
 abbrev pub next_of : Bool → List ℕ → ℕ
 next_of last bytes = if last then 0 else need_at bytes
 
--- the first fault of the packet at the start of bytes that stand at `at`; `last` says that it is
--- the last by num_pkts
+-- the first fault of the packet at the start of bytes that are at `at`; `last` says that it is the
+-- last by num_pkts
 unfoldable pub packet_fault : Bool → ℕ → List ℕ → Option LayoutError
 packet_fault last at bytes =
     if nat_lt (length bytes) 88 then Some (record { kind = Count; at = 12 })
@@ -34,8 +34,8 @@ packet_fault last at bytes =
     else option_or (first_fault at 0 (packet_rows (next_of last bytes) (packet_at bytes)) bytes)
     (first_fault at (82 + number_at 4 12 bytes) (padding_rows (number_at 4 12 bytes)) bytes)
 
--- the first fault of n packets in bytes that begin at `at`, given that of the packet at the start:
--- after them no byte is left
+-- the first fault of n packets in bytes that begin at `at`, given that of the packet at the start;
+-- no byte may be left after them
 unfoldable pub packets_fault_by :
     (Bool → ℕ → List ℕ → Option LayoutError) → ℕ → ℕ → List ℕ → Option LayoutError
 packets_fault_by fault zero at [] = None

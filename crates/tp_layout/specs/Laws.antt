@@ -1,4 +1,4 @@
--- What the laws of this crate speak of.
+-- The definitions that the laws of this crate use.
 use Rattle.std.specs.Prelude.{◌≡◌, ℕ, ◌+◌, ◌^◌, ◌<◌, ◌≤◌, IsTrue, List, [], ◌∷◌, length}
 use Rattle.std.specs.List.{AllByRecursion}
 use Rattle.frame_view.specs.declared.frames.Packet.{Packet}

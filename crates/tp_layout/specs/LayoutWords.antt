@@ -1,4 +1,4 @@
--- What is printed of the first fault of a block.
+-- How the first fault of a block is printed.
 use Rattle.std.specs.Prelude.{ℕ, List, ◌++◌, codes, decimal}
 use Rattle.tp_layout.specs.declared.error.LayoutError.{LayoutError}
 use Rattle.tp_layout.specs.declared.error.LayoutKind.{LayoutKind}

@@ -1,4 +1,4 @@
--- What is read of a block, and the text of what was read.
+-- What is read from a block, and the text of that.
 use Rattle.std.specs.Prelude.{ℕ, List}
 use Rattle.frame_view.specs.declared.frames.Packet.{Packet}
 use Rattle.tp_layout.specs.Blocks.{block_text}
@@ -13,7 +13,7 @@ pub record Taken : Type 0 where
   pub status : ℕ
   pub packets : List Packet
 
--- what is read of a block that begins with a text
+-- what is read from a block that begins with a text
 unfoldable pub taken_in : RingRequest → List ℕ → Taken
 taken_in shape bytes = record {
   number = number_at 8 24 bytes;

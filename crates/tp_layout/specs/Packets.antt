@@ -47,7 +47,7 @@ header_rows next packet =
     ∷ row 38 2 0  -- tp_padding
     ∷ []
 
--- the fields of sockaddr_ll; sll_protocol stands in network order
+-- the fields of sockaddr_ll; sll_protocol is in network order
 abbrev pub address_rows : Packet → List Row
 address_rows packet =
     row 48 2 17  -- sll_family: AF_PACKET
@@ -71,7 +71,7 @@ packet_rows next packet =
 abbrev pub padding_rows : ℕ → List Row
 padding_rows snap = zeros (82 + snap) (need_of snap - (82 + snap))
 
--- the bytes of a packet, `need_of` its data's length in all
+-- the bytes of a packet, `need_of` of its data's length in all
 unfoldable pub packet_text : ℕ → Packet → List ℕ
 packet_text next packet =
     bytes_of (packet_rows next packet)
@@ -91,7 +91,7 @@ pub record IsTyped (packet : Packet) : Type 0 where
   pub addr : All (λ byte. byte < 256) packet.addr
   pub tci : IfSome packet.tag (λ tag. tag.tci < 2 ^ 16)
 
--- a packet that may stand in a block
+-- a packet that may be in a block
 pub record IsLawfulPacket (packet : Packet) : Type 0 where
   pub some : 0 < length packet.bytes
   pub captured : length packet.bytes ≤ packet.wire
@@ -100,14 +100,14 @@ pub record IsLawfulPacket (packet : Packet) : Type 0 where
   pub tag : IfSome packet.tag (λ tag. IsTrue (is_tpid tag.tpid))
   pub typed : IsTyped packet
 
--- the tag that a header says, where its status says that it has one
+-- the tag that a header says, if its status says that it has one
 abbrev pub tag_at : List ℕ → Option Tag
 tag_at bytes =
     if number_at 4 20 bytes == 81
     then Some (record { tpid = number_at 2 36 bytes; tci = number_at 4 32 bytes % 65536 })
     else None
 
--- the packet that stands at the start of the bytes
+-- the packet at the start of the bytes
 unfoldable pub packet_at : List ℕ → Packet
 packet_at bytes = record {
   sec = number_at 4 4 bytes;

@@ -1,4 +1,4 @@
--- How the readers of blocks tell their answers.
+-- How the readers of blocks report their answers.
 use Rattle.std.specs.Prelude.{◌≡◌, ℕ, List, Option, None, Some, Result, Ok, Err}
 use Rattle.frame_view.specs.declared.frames.Packet.{Packet}
 use Rattle.tp_layout.specs.declared.requests.RingRequest.{RingRequest}
@@ -6,7 +6,7 @@ use Rattle.tp_layout.specs.declared.error.LayoutError.{LayoutError}
 use Rattle.tp_layout.specs.declared.packet_refs.PacketRef.{PacketRef}
 use Rattle.tp_layout.specs.Blocks.{IsLawful, block_text}
 
--- the text is a lawful one of these packets, no byte more
+-- the text is exactly a lawful one of these packets
 abbrev pub IsTextOf : RingRequest → List ℕ → List Packet → Type 0
 IsTextOf shape text packets =
     (number : ℕ)
@@ -19,7 +19,7 @@ abbrev pub told : {X : Type 0} → Result X LayoutError → Option LayoutError
 told (Ok x) = None
 told (Err fault) = Some fault
 
--- a packet that is read in place, as a packet
+-- a packet read in place, as a packet
 abbrev pub seen : PacketRef → Packet
 seen packet = record {
   sec = packet.sec;

@@ -1,4 +1,4 @@
--- The words for the faults of a ring that is asked for.
+-- The words for the faults of a ring request.
 use Rattle.std.specs.Prelude.{ℕ, List, codes}
 use Rattle.tp_layout.specs.declared.error.RequestError.{RequestError}
 use Rattle.tp_layout.specs.declared.error.RequestError.TheVariants.{BlockSize, BlockCount, Private}

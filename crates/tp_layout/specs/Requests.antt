@@ -1,4 +1,4 @@
--- Which rings can be had, and what follows from the request. Sizes and places are in bytes.
+-- Which rings are valid, and what follows from the request. Sizes and places are in bytes.
 use Rattle.std.specs.Prelude.{◌≡◌, ℕ, ◌+◌, ◌-◌, ◌*◌, ◌/◌, ◌%◌, ◌<◌, ◌≤◌, Bool, ◌&&◌, ◌||◌, not}
 use Rattle.std.specs.Prelude.{nat_lt, ◌==◌, if◌then◌else◌, List, [], ◌∷◌, Option, None, Some}
 use Rattle.std.specs.Prelude.{Result, Ok, Err}
@@ -11,7 +11,7 @@ use Rattle.tp_layout.specs.declared.error.RequestError.TheVariants.{FrameSmall, 
 use Rattle.tp_layout.specs.declared.error.RequestError.TheVariants.{FrameCount, Feature, Transmit}
 use Rattle.tp_layout.specs.declared.error.RequestError.TheVariants.{Slots}
 
--- how many frames go into all blocks
+-- how many frames fit into all blocks
 abbrev pub frames_in : RingRequest → ℕ
 frames_in request = request.block_size / request.frame_size * request.block_nr
 
@@ -76,7 +76,7 @@ first_of shape = 48 + (shape.sizeof_priv + 7) / 8 * 8
 abbrev pub room_of : RingRequest → ℕ
 room_of shape = shape.block_size - first_of shape
 
--- the time-out of a block in milliseconds, 8 where none is asked for
+-- the time-out of a block in milliseconds, 8 if none is asked for
 abbrev pub time_out_of : RingRequest → ℕ
 time_out_of shape = if shape.tov == 0 then 8 else shape.tov
 
@@ -84,11 +84,11 @@ time_out_of shape = if shape.tov == 0 then 8 else shape.tov
 abbrev pub fills_hash : RingRequest → Bool
 fills_hash shape = shape.features == 1
 
--- what a ring of this shape is made of
+-- the size of a ring of this shape, as notes see it
 abbrev pub size_of : RingRequest → Size
 size_of shape = record { room = room_of shape; blocks = shape.block_nr; tov = time_out_of shape }
 
--- the shape as plain numbers, which tell it from every other
+-- the shape as plain numbers, which distinguish it from every other
 abbrev pub numbers_of : RingRequest → List ℕ
 numbers_of shape =
     shape.block_size ∷ shape.block_nr ∷ shape.frame_size ∷ shape.frame_nr ∷ shape.tov

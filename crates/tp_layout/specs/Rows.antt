@@ -1,5 +1,4 @@
--- A layout as a table: one row for each field, in the order in which they stand. Sizes and places
--- are in bytes.
+-- A layout as a table: one row for each field, in their order. Sizes and places are in bytes.
 use Rattle.std.specs.Prelude.{ℕ, zero, suc, ◌+◌, Bool, true, ◌&&◌, ◌==◌, if◌then◌else◌, List, []}
 use Rattle.std.specs.Prelude.{◌∷◌, ◌++◌, drop, Option, None, Some}
 use Rattle.byteorder.specs.Endian.{little_bytes, little_number, big_number}
@@ -8,18 +7,18 @@ use Rattle.tp_layout.specs.declared.error.LayoutKind.{LayoutKind}
 use Rattle.tp_layout.specs.declared.error.LayoutKind.TheVariants.{Field}
 
 pub record Row : Type 0 where
-  -- where it stands, from the start of its header
+  -- its place, from the start of its header
   pub at : ℕ
   -- the number of its bytes
   pub size : ℕ
   -- the number in these bytes, the lowest byte first
   pub value : ℕ
-  -- what it is called where it is at fault
+  -- its name if it is at fault
   pub kind : LayoutKind
   -- whether a header with this number is lawful
   pub may : Bool
 
--- a field with a fixed number, or with one that may be any
+-- a field with a fixed number, or with any number
 abbrev pub row : ℕ → ℕ → ℕ → Row
 row at size value = record { at = at; size = size; value = value; kind = Field; may = true }
 
@@ -51,7 +50,7 @@ size_of_rows [] = 0
 size_of_rows (row ∷ rows) = row.size + size_of_rows rows
 
 -- the first field of a table that isn't in the bytes from `from` on as the table has it; the header
--- stands at `base`
+-- is at `base`
 unfoldable pub first_fault : ℕ → ℕ → List Row → List ℕ → Option LayoutError
 first_fault base from [] bytes = None
 first_fault base from (row ∷ rows) bytes =

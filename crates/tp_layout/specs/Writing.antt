@@ -1,5 +1,5 @@
--- How a block is filled: an open block, each packet of which says where the next one is to stand,
--- is closed at the end.
+-- How a block is filled: in an open block each packet says where the next one will be, and at the
+-- end the block is closed.
 use Rattle.std.specs.Prelude.{◌≡◌, ℕ, ◌+◌, ◌^◌, ◌<◌, ◌≤◌, IfSome, IsTrue, List, [], ◌∷◌, ◌++◌}
 use Rattle.std.specs.Prelude.{length, take, drop, replicate}
 use Rattle.std.specs.List.{AllByRecursion, flat_map}
@@ -27,8 +27,8 @@ bytes_or_zeros size (byte ∷ bytes) = byte ∷ bytes
 abbrev pub put : ℕ → List ℕ → List ℕ → List ℕ
 put at text bytes = take at bytes ++ (text ++ drop (at + length text) bytes)
 
--- an offer whose packet may be written: some of its bytes are kept, no more than there are or were
--- on the wire, and the rest of it is sound
+-- an offer whose packet may be written: at least one of its bytes is kept, no more than were
+-- captured or were on the wire, and the rest of it is sound
 pub record IsWritable (offer : Offer) : Type 0 where
   pub some : 0 < offer.snap
   pub captured : offer.snap ≤ length offer.frame.bytes
@@ -62,7 +62,7 @@ empty_descriptor shape number = record {
 unfoldable pub open_header : RingRequest → ℕ → List ℕ
 open_header shape number = descriptor_text shape (empty_descriptor shape number)
 
--- the packets of an open block: each says where the next one is to stand
+-- the packets of an open block: each says where the next one will be
 unfoldable pub open_packets : List Packet → List ℕ
 open_packets packets = flat_map (λ packet. packet_text (need_of_packet packet) packet) packets
 
@@ -77,11 +77,11 @@ pub record IsOpen (shape : RingRequest) (number : ℕ) (packets : List Packet) (
   pub each : AllByRecursion IsLawfulPacket packets
   pub begins : take (length (open_text shape number packets)) bytes ≡ open_text shape number packets
 
--- where the next packet of an open block stands
+-- the place of the next packet of an open block
 abbrev pub end_of : RingRequest → List Packet → ℕ
 end_of shape packets = first_of shape + needs_of packets
 
--- where the last of packets stands whose first one stands at `at`
+-- the place of the last packet, where the first one is at `at`
 abbrev pub last_place : ℕ → List Packet → ℕ
 last_place at [] = at
 last_place at (packet ∷ []) = at

@@ -17,9 +17,9 @@ use ring_model::need;
 /// Where the packets of a block may end, in bytes.
 #[derive(Clone, Copy)]
 pub(crate) enum Ends {
-    /// At most there.
+    /// At this place or before it.
     UpTo(u32),
-    /// Just there.
+    /// At this place exactly.
     At(usize),
 }
 
@@ -63,7 +63,7 @@ fn is_status(status: u32) -> bool
     status == 1 || status == 5 || status == 33 || status == 37
 }
 
-/// Whether the packets of a block of this shape may end there.
+/// Whether the packets of a block of this shape may end at this place.
 fn ends_well(end: u32, shape: &Shape, ends: Ends) -> bool
     ensures { result ≡ fits_of ends shape.now end }
 {
@@ -76,8 +76,8 @@ fn ends_well(end: u32, shape: &Shape, ends: Ends) -> bool
     }
 }
 
-/// Tests that the bytes from one place to another are zeros, of a header that itself stands at
-/// `base`; a fault is told with its place from there.
+/// Tests that the bytes from one place to another are zeros, in a header that is itself at `base`;
+/// a fault is reported with its place from there.
 #[tactic(auto, using(crate::proofs::Chains::zero_rules))]
 pub fn check_zeros(bytes: &[u8], base: u32, from: u32, to: u32) -> Result<(), LayoutError>
     requires order { from ≤ to }
@@ -93,8 +93,7 @@ pub fn check_zeros(bytes: &[u8], base: u32, from: u32, to: u32) -> Result<(), La
     Ok(())
 }
 
-/// Tests the packet at the start of bytes that stand at `at`, and reports how many of them it
-/// takes.
+/// Tests the packet at the start of bytes that are at `at`, and reports how many of them it takes.
 #[tactic(auto, unfolding(crate::specs::Checks::packet_tests))]
 pub(crate) fn check_packet(bytes: &[u8], at: u32, last: bool) -> Result<u32, LayoutError>
     requires small { at + length bytes.now ≤ 1048576 }
@@ -141,7 +140,8 @@ fn check_fixed(bytes: &[u8], at: u32, last: bool) -> Result<(), LayoutError>
     check_zeros(bytes, at, 66, 82)
 }
 
-/// What the offset to the next packet has to be: 0 in the last packet, else what the packet takes.
+/// What the offset to the next packet has to be: 0 in the last packet, otherwise what the packet
+/// takes.
 fn next_of(bytes: &[u8], last: bool) -> u32
     requires snap { 82 + number_at 4 12 bytes.now ≤ length bytes.now }
     requires small { length bytes.now ≤ 1048576 }

@@ -9,7 +9,7 @@ use std::fmt;
 /// Why a ring is invalid. The tests are made in this order, and the first that fails is reported.
 #[derive(Clone, Copy, Debug, PartialEq, Eq)]
 pub enum RequestError {
-    /// A block is no whole number of pages of 4096 bytes, at least 1, or has more than 1,048,576
+    /// A block isn't made of one or more whole pages of 4096 bytes, or has more than 1,048,576
     /// bytes.
     BlockSize,
     /// There are fewer than 2 blocks or more than 256, or they have more than 67,108,864 bytes in
@@ -19,12 +19,12 @@ pub enum RequestError {
     Private,
     /// A frame has fewer than 68 bytes (TPACKET3_HDRLEN).
     FrameSmall,
-    /// The size of a frame is no multiple of 16 (TPACKET_ALIGNMENT).
+    /// The size of a frame isn't a multiple of 16 (TPACKET_ALIGNMENT).
     FrameAlign,
-    /// No frame goes into a block, or another number of frames goes into all blocks than is asked
-    /// for.
+    /// No frame fits into a block, or the number of frames that fit into all blocks isn't the one
+    /// asked for.
     FrameCount,
-    /// A feature is asked for that isn't TP_FT_REQ_FILL_RXHASH (1).
+    /// A feature other than TP_FT_REQ_FILL_RXHASH (1) is asked for.
     Feature,
     /// A transmit ring is asked for with a time-out, a private area or a feature.
     Transmit,
@@ -33,7 +33,7 @@ pub enum RequestError {
 }
 
 impl RequestError {
-    /// The word for the fault, as a program prints it.
+    /// The word for the fault, as the program prints it.
     pub fn word(&self) -> &'static str
         ensures { result.now ≡ word_of self.now }
     {
@@ -72,14 +72,14 @@ pub enum LayoutKind {
     Offset,
     /// There is no packet, or no room for as many as the block says.
     Count,
-    /// A snap length is 0, above the wire length, or leads out of the block.
+    /// A snap length is 0, above the wire length, or reaches past the block's end.
     Snap,
-    /// Another field has a number that it can't have.
+    /// Another field has a number that it must not have.
     Field,
 }
 
 impl LayoutKind {
-    /// The word for what is wrong, as a program prints it.
+    /// The word for what is wrong, as the program prints it.
     pub fn word(&self) -> &'static str
         ensures { result.now ≡ kind_word self.now }
     {

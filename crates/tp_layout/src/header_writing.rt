@@ -25,8 +25,8 @@ pub(crate) fn put_empty(bytes: &mut [u8], first: u32, number: u64)
     put_zeros(bytes, 32, first as usize - 32);
 }
 
-/// Writes the fields of the descriptor that the end of a block says, and that no packet follows the
-/// last one.
+/// Writes the fields of the descriptor that are known at the end of a block, and that no packet
+/// follows the last one.
 #[tactic(auto, unfolding(crate::specs::Writing::closed))]
 pub(crate) fn put_closing(bytes: &mut [u8], closing: &Closing)
     requires behind { 48 ≤ closing.now.last_at }

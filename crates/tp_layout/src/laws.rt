@@ -6,8 +6,8 @@ ghost use Rattle.tp_layout.specs.Dump.{packets_of_offers};
 ghost use Rattle.tp_layout.specs.Laws.{GoIn, HaveOneText, Said, written};
 ghost use Rattle.tp_layout.specs.declared.requests.RingRequest.{RingRequest};
 
-/// A lawful text reports the number, the status and the packets of its block: two that are equal
-/// say the same.
+/// A lawful text determines the number, the status and the packets of its block: equal texts have
+/// the same ones.
 pub fn a_text_says_one_thing()
     ensures { (shape : RingRequest) (first second : Said)
         → HaveOneText shape first second → first ≡ second }

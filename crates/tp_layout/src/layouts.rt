@@ -10,13 +10,13 @@ use block_content::Content;
 use frame_view::{Memory, Packet};
 use std::alloc::Global;
 
-/// A block or a slot of a ring, whose packets can be read where it may stand retired. Contracts see
-/// what is read of its bytes, and the text of that.
+/// A block or a slot of a ring, whose packets can be read where it may be retired. Contracts see
+/// what is read from its bytes, and the text of that.
 pub trait Layout: Content + Drop {
     // The shape of its ring.
     ghost shape: { Self → RingRequest };
 
-    // What is read of bytes that begin with a lawful text of this shape.
+    // What is read from bytes that begin with a lawful text of this shape.
     ghost taken_in: { RingRequest → List ℕ → Taken };
 
     // The text of what was read.
@@ -30,14 +30,13 @@ pub trait Layout: Content + Drop {
         ensures status { result.1
             ≡ (taken_in (shape self.now) (Self.bytes self.now)).status };
 
-    /// Its text, lent: all bytes up to the end of its last packet.
+    /// Its text, borrowed: all bytes up to the end of its last packet.
     fn text(&self) -> &[u8]
         requires ready { (number : ℕ) × (status : ℕ) × Self.ready self.now number status }
         ensures text { result.now
             ≡ text_of (shape self.now) (taken_in (shape self.now) (Self.bytes self.now)) };
 
-    /// Appends copies of its packets. After `Memory` some of them stand after those that were
-    /// there.
+    /// Appends copies of its packets. After `Memory` some of them follow those that were there.
     fn push_packets(&self, alloc: Global, into: &mut Vec<Packet>) -> Result<(), Memory>
         requires ready { (number : ℕ) × (status : ℕ) × Self.ready self.now number status }
         ensures copies { OnOk result (into.new.items
@@ -62,7 +61,7 @@ impl Layout for Block {
 
     #[tactic(auto, unfolding(crate::specs::Layouts::taken_in))]
     fn head(&self) -> (u64, u32) {
-        // A block has whole pages, so its descriptor is there.
+        // A block has at least one page, so its descriptor is there.
         let bytes = self.bytes();
         (u64_at(bytes, 24), u32_at(bytes, 8))
     }

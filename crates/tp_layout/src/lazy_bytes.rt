@@ -14,11 +14,12 @@ use std::sync::Arc;
 pub struct LazyBytes {
     /// The bytes. Until the first write there are none.
     pub written: Vec<u8>,
-    /// As many zeros, which all blocks or slots of a ring share: the bytes until the first write.
+    /// The same number of zeros, which all blocks or slots of a ring share: they are the bytes
+    /// until the first write.
     pub zeros: Arc<Vec<u8>, Global>,
 }
 
-/// As many zeros as a block or a slot has bytes, to be shared.
+/// The zeros of a block or a slot, to be shared.
 pub fn zeros(alloc: Global, size: u32) -> Result<Arc<Vec<u8>, Global>, Memory>
     ensures { IfOk result (λ zeros. (arc_value zeros).items ≡ replicate size 0) }
 {
@@ -27,7 +28,8 @@ pub fn zeros(alloc: Global, size: u32) -> Result<Arc<Vec<u8>, Global>, Memory>
 }
 
 impl LazyBytes {
-    /// As many bytes as there are zeros, without room for a write: `begin_in` brings it.
+    /// The same number of bytes as there are zeros, without memory for a write: `begin_in` is given
+    /// it.
     pub fn new(alloc: Global, zeros: &Arc<Vec<u8>, Global>) -> Result<LazyBytes, Memory>
         ensures written { IfOk result (λ bytes. bytes.written.items ≡ []) }
         ensures zeros { IfOk result (λ bytes. arc_value bytes.zeros ≡ arc_value zeros.now) }
@@ -38,8 +40,8 @@ impl LazyBytes {
         })
     }
 
-    /// As many bytes as there are zeros, with room for this size, which costs nothing more until
-    /// the first write.
+    /// The same number of bytes as there are zeros, with memory for this size, which costs nothing
+    /// more until the first write.
     pub fn with_room(
         alloc: Global,
         zeros: &Arc<Vec<u8>, Global>,
@@ -66,8 +68,8 @@ impl LazyBytes {
         self.written.as_slice()
     }
 
-    /// Makes them bytes of this size that can be written, where they were never written and have
-    /// room for it.
+    /// Makes them bytes of this size that can be written, if they were never written and have
+    /// memory for it.
     pub fn begin(&mut self, size: u32)
         requires room { self.old.written.items ≡ [] → size ≤ vec_capacity self.old.written }
         ensures written { self.new.written.items ≡ bytes_or_zeros size self.old.written.items }
@@ -76,8 +78,8 @@ impl LazyBytes {
         zeros_first(&mut self.written, size);
     }
 
-    /// Makes them bytes of this size that can be written. Where they were never written they take
-    /// this room, of which the content is lost.
+    /// Makes them bytes of this size that can be written. If they were never written they take this
+    /// memory, whose content is lost.
     pub fn begin_in(&mut self, room: &mut Vec<u8>, size: u32)
         requires room { size ≤ vec_capacity room.old }
         ensures written { self.new.written.items ≡ bytes_or_zeros size self.old.written.items }
@@ -87,7 +89,7 @@ impl LazyBytes {
     }
 }
 
-/// Makes zeros of bytes that were never written.
+/// Fills bytes that were never written with zeros.
 fn zeros_first(bytes: &mut Vec<u8>, size: u32)
     requires room { bytes.old.items ≡ [] → size ≤ vec_capacity bytes.old }
     ensures { bytes.new.items ≡ bytes_or_zeros size bytes.old.items }
@@ -100,7 +102,7 @@ fn zeros_first(bytes: &mut Vec<u8>, size: u32)
     }
 }
 
-/// Makes zeros in this room of bytes that were never written.
+/// Fills bytes that were never written with zeros, in this memory.
 fn take_room(bytes: &mut Vec<u8>, room: &mut Vec<u8>, size: u32)
     requires room { size ≤ vec_capacity room.old }
     ensures { bytes.new.items ≡ bytes_or_zeros size bytes.old.items }

@@ -1,4 +1,4 @@
-//! Blocks as bytes: which rings can be had, how a block is filled, and how it is read.
+//! Blocks as bytes: which rings are valid, how a block is filled, and how it is read.
 #![tactic(auto)]
 
 mod checking;

@@ -1,5 +1,5 @@
-//! The address of a packet (`struct sockaddr_ll` of packet(7)), which a packet of a block and a
-//! slot have alike.
+//! The address of a packet (`struct sockaddr_ll` of packet(7)), which is the same in a block's
+//! packet and in a slot.
 ghost use Rattle.std.specs.Prelude.{◌≡◌, ◌+◌, ◌^◌, ◌<◌, ◌≤◌, ℕ, length, slice_index};
 ghost use Rattle.frame_view.specs.Headers.{address_of};
 ghost use Rattle.frame_view.specs.declared.frames.Packet.{Packet};
@@ -16,7 +16,7 @@ use crate::{LayoutError, LayoutKind};
 /// AF_PACKET of `linux/socket.h`.
 const AF_PACKET: u16 = 17;
 
-/// The number of the interface, of which there is one; this project's own choice.
+/// The number of the only interface; this project's own choice.
 const INTERFACE: u32 = 1;
 
 /// ARPHRD_ETHER of `linux/if_arp.h`.
@@ -58,8 +58,8 @@ pub fn put_link_address(bytes: &mut [u8], at: usize, protocol: u16, pkttype: u8,
     put_bytes(bytes, at + 12, from);
 }
 
-/// Tests the fields of `struct sockaddr_ll` from a place on, of a header that itself stands at
-/// `base`; a fault is told with its place from there.
+/// Tests the fields of `struct sockaddr_ll` from a place on, in a header that is itself at `base`;
+/// a fault is reported with its place from there.
 #[tactic(auto, unfolding(crate::specs::Checks::address_tests))]
 pub fn check_link_address(bytes: &[u8], base: u32, at: u32) -> Result<(), LayoutError>
     requires small { base + at ≤ 2097152 }
@@ -84,7 +84,7 @@ pub fn check_link_address(bytes: &[u8], base: u32, at: u32) -> Result<(), Layout
     Ok(())
 }
 
-/// What `struct sockaddr_ll` from a place on says: its protocol, packet type and address.
+/// The protocol, the packet type and the address of `struct sockaddr_ll` at a place.
 pub fn link_address_at(bytes: &[u8], at: usize) -> LinkAddress
     requires { at + 18 ≤ length bytes.now }
     ensures protocol { result.protocol ≡ network_at 2 (at + 2) bytes.now }

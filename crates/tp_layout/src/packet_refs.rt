@@ -10,7 +10,7 @@ use crate::link_addresses::link_address_at;
 use frame_view::{ByteList, Memory, Packet, Tag};
 use std::alloc::Global;
 
-/// A packet of a block, whose data is lent by the block.
+/// A packet of a block, with data borrowed from the block.
 #[derive(Clone, Copy, Debug, PartialEq, Eq)]
 pub struct PacketRef<'a> {
     /// The seconds of its time.
@@ -19,7 +19,7 @@ pub struct PacketRef<'a> {
     pub nsec: u32,
     /// Its length in bytes on the wire, without its tag.
     pub wire: u32,
-    /// The receive hash, 0 where the ring isn't asked to fill it.
+    /// The receive hash, 0 if the ring isn't asked to fill it in.
     pub rxhash: u32,
     /// The protocol of the link layer, as a number.
     pub protocol: u16,
@@ -82,7 +82,7 @@ const USER: u32 = 1;
 /// TP_STATUS_USER, TP_STATUS_VLAN_VALID and TP_STATUS_VLAN_TPID_VALID of `linux/if_packet.h`.
 const USER_WITH_TAG: u32 = 81;
 
-/// The tag of the header at the start of the bytes, where its status says that it has one.
+/// The tag of the header at the start of the bytes, if its status says that it has one.
 pub(crate) fn tag_at(bytes: &[u8]) -> Option<Tag>
     requires { 40 ≤ length bytes.now }
     ensures { result ≡ tag_at bytes.now }
@@ -96,7 +96,7 @@ pub(crate) fn tag_at(bytes: &[u8]) -> Option<Tag>
     })
 }
 
-/// What a header says of a tag: the packet's status, the control information, the protocol
+/// What a header says about a tag: the packet's status, the control information, the protocol
 /// identifier.
 pub(crate) fn vlan_fields(tag: Option<Tag>) -> (u32, u32, u16)
     ensures fields { result ≡ (status_of_tag tag, tci_of tag, tpid_of tag) }

@@ -43,8 +43,7 @@ impl<'a> PacketWalk<'a> {
         PacketWalk { left, rest }
     }
 
-    /// Appends copies of all packets. After `Memory` some of them stand after those that were
-    /// there.
+    /// Appends copies of all packets. After `Memory` some of them follow those that were there.
     pub fn push_copies(self, alloc: Global, into: &mut Vec<Packet>) -> Result<(), Memory>
         ensures copies { OnOk result (into.new.items ≡ into.old.items ++ self.entry) }
         ensures front { take (length into.old.items) into.new.items ≡ into.old.items }

@@ -58,7 +58,7 @@ fn put_header(bytes: &mut [u8], at: usize, next: u32, offer: &Offer, fill: bool)
     put_u16(bytes, at + 38, 0);
 }
 
-/// The receive hash: that of the flow where it is asked for.
+/// The receive hash: that of the flow if it is asked for.
 fn rxhash(offer: &Offer, fill: bool) -> u32
     ensures { result ≡ (if fill then offer.now.hash else 0) }
 {

@@ -1,4 +1,4 @@
-//! What is asked of a ring, and whether it can be had.
+//! What is asked of a ring, and whether the ring is valid.
 ghost use Rattle.std.specs.Prelude.{◌≡◌};
 ghost use Rattle.tp_layout.specs.Requests.{answer_of, receive_fault, slot_fault, transmit_fault};
 
@@ -11,11 +11,11 @@ pub struct RingRequest {
     pub block_size: u32,
     /// The number of blocks.
     pub block_nr: u32,
-    /// The size of a frame, of which a block has room for whole ones.
+    /// The size of a frame; a block has room for a whole number of them.
     pub frame_size: u32,
     /// The number of frames in all blocks.
     pub frame_nr: u32,
-    /// The time-out of a block in milliseconds, 0 for the usual one.
+    /// The time-out of a block in milliseconds, 0 for the default.
     pub tov: u32,
     /// The size of the private area of a block.
     pub sizeof_priv: u32,
@@ -23,7 +23,7 @@ pub struct RingRequest {
     pub features: u32,
 }
 
-/// The size of a page, of which a block has whole ones.
+/// The size of a page; a block is a whole number of pages.
 const PAGE: u32 = 4096;
 
 /// The largest block; this project's own choice.
@@ -100,8 +100,8 @@ impl RingRequest {
         Ok(shape)
     }
 
-    /// The shape of a ring of TPACKET_V2, or why it is invalid: beside what holds of a transmit
-    /// ring it has at most 65,536 slots.
+    /// The shape of a ring of TPACKET_V2, or why it is invalid: the rules are those of a transmit
+    /// ring, and that it has at most 65,536 slots.
     #[tactic(auto, unfolding(crate::specs::Requests::slot_fault))]
     pub fn check_v2(&self) -> Result<Shape, RequestError>
         ensures { result ≡ answer_of self.now (slot_fault self.now) }

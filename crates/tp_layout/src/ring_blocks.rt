@@ -22,7 +22,7 @@ use std::sync::Arc;
 pub struct Block {
     /// The shape of the ring's blocks.
     shape: Shape,
-    /// Its bytes, as many as the shape says, with room for all of them.
+    /// Its bytes, whose number the shape gives, with memory for all of them.
     bytes: LazyBytes,
 }
 
@@ -39,7 +39,7 @@ impl Model for Block {
 }
 
 impl Block {
-    /// Its bytes, as many as its shape says.
+    /// Its bytes, whose number its shape gives.
     pub fn bytes(&self) -> &[u8]
         ensures value { result.now ≡ self.now.bytes }
         ensures size { length result.now ≡ self.now.shape.block_size }
@@ -82,8 +82,8 @@ impl Block {
         put_packet(self.bytes.written.as_mut_slice(), at as usize, offer, fill);
     }
 
-    /// Writes the fields of the descriptor that the end of a block says, and that no packet follows
-    /// the last one.
+    /// Writes the fields of the descriptor that are known at the end of a block, and that no packet
+    /// follows the last one.
     pub(crate) fn put_closing(&mut self, closing: &Closing)
         requires behind { 48 ≤ closing.now.last_at }
         requires fits { closing.now.last_at + 4 ≤ self.old.shape.block_size }
@@ -95,8 +95,8 @@ impl Block {
     }
 }
 
-/// The blocks of a ring of this shape, of zeros. Their bytes have room, and cost nothing more until
-/// they are written.
+/// The blocks of a ring of this shape, of zeros. Their bytes have memory, and cost nothing more
+/// until they are written.
 pub fn blocks(alloc: Global, shape: &Shape) -> Result<Vec<Block>, Memory>
     ensures { IfOk result (λ blocks.
         blocks.items ≡ replicate shape.now.block_nr (zero_block shape.now)) }

@@ -1,4 +1,4 @@
-//! The shape of the blocks of a ring, which a request gives that passed its tests.
+//! The shape of the blocks of a ring, from a request that passed its tests.
 ghost use Rattle.std.specs.Prelude.{◌≡◌, ◌+◌, ◌%◌, ◌<◌, ◌≤◌};
 ghost use Rattle.tp_layout.specs.Requests.{IsShape, fills_hash, first_of, room_of, time_out_of};
 
@@ -29,7 +29,7 @@ impl Model for Shape {
 /// The bytes of a block's descriptor (`struct tpacket_block_desc` of `linux/if_packet.h`).
 const DESCRIPTOR: u32 = 48;
 
-/// The time-out in milliseconds where none is asked for; this project's own choice.
+/// The time-out in milliseconds if none is asked for; this project's own choice.
 const USUAL_TIME_OUT: u64 = 8;
 
 impl Shape {
@@ -57,7 +57,7 @@ impl Shape {
         self.request.block_nr
     }
 
-    /// The bytes of a frame, of which a block has room for whole ones.
+    /// The bytes of a frame; a block has room for a whole number of them.
     pub fn frame_size(&self) -> u32
         ensures value { result ≡ self.now.frame_size }
         ensures least { 68 ≤ result }
@@ -92,7 +92,7 @@ impl Shape {
         self.request.block_size - self.first()
     }
 
-    /// The time-out of a block in milliseconds, 8 where the request has 0.
+    /// The time-out of a block in milliseconds, 8 if the request has 0.
     pub fn tov(&self) -> u64
         ensures { result ≡ time_out_of self.now }
     {

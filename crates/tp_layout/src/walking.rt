@@ -1,4 +1,4 @@
-//! How a block is read: it is tested as a whole, and then gives its packets one after another.
+//! How a block is read: it is tested as a whole, and then its packets are given one after another.
 ghost use Rattle.std.specs.Prelude.{◌≡◌, ◌+◌, ◌<◌, ◌≤◌, ℕ, List, IfOk, IsOk, Ok, length};
 ghost use Rattle.frame_view.specs.declared.frames.Packet.{Packet};
 ghost use Rattle.tp_layout.specs.Blocks.{BeginsLawfully, BeginsWith, HasText, IsLawful, block_text};
@@ -14,8 +14,8 @@ use crate::checking::{Ends, check_head, check_packet, check_zeros};
 use crate::fields::u32_at;
 use crate::{Block, LayoutError, LayoutKind, PacketWalk, Shape, a_shape_is_sound};
 
-/// Tests a whole block up to its end (`blk_len`), and gives its packets. It is Ok exactly where the
-/// block begins with a lawful text; else it reports the first test that fails, and where.
+/// Tests a whole block up to its end (`blk_len`), and returns its packets. It is Ok exactly if the
+/// block begins with a lawful text; otherwise it reports the first test that fails, and where.
 pub fn walk<'a>(bytes: &'a [u8], shape: &Shape) -> Result<PacketWalk<'a>, LayoutError>
     requires { length bytes.now ≡ shape.now.block_size }
     ensures fault { told result ≡ fault_of shape.now bytes.now }
@@ -28,8 +28,8 @@ pub fn walk<'a>(bytes: &'a [u8], shape: &Shape) -> Result<PacketWalk<'a>, Layout
     walk_by(bytes, shape, Ends::UpTo(shape.block_size()))
 }
 
-/// Tests the text of a block that stands alone, and gives its packets. It answers as `walk` does on
-/// the text with zeros after it, save that the packets have to end with the text.
+/// Tests the text of a block on its own, and returns its packets. It answers as `walk` does on the
+/// text with zeros after it, except that the packets have to end with the text.
 pub fn walk_text<'a>(text: &'a [u8], shape: &Shape) -> Result<PacketWalk<'a>, LayoutError>
     requires header { 48 ≤ length text.now }
     requires size { length text.now ≤ shape.now.block_size }
@@ -42,7 +42,7 @@ pub fn walk_text<'a>(text: &'a [u8], shape: &Shape) -> Result<PacketWalk<'a>, La
     walk_by(text, shape, Ends::At(text.len()))
 }
 
-/// The text that a block begins with, lent: all bytes up to its end.
+/// The text that a block begins with, borrowed: all bytes up to its end.
 pub fn text_of(block: &Block) -> &[u8]
     requires { (number : ℕ) × (status : ℕ)
         × BeginsLawfully block.now.shape number status block.now.bytes }
@@ -56,7 +56,7 @@ pub fn text_of(block: &Block) -> &[u8]
 }
 
 /// The packets of at most a block of bytes that begin with a lawful text of this shape: a block, or
-/// a text that stands alone. The text isn't tested again.
+/// a text on its own. The text isn't tested again.
 pub fn packets_of<'a>(bytes: &'a [u8], shape: &Shape) -> PacketWalk<'a>
     requires size { length bytes.now ≤ shape.now.block_size }
     requires lawful { (number : ℕ) × (status : ℕ)
@@ -70,7 +70,7 @@ pub fn packets_of<'a>(bytes: &'a [u8], shape: &Shape) -> PacketWalk<'a>
     PacketWalk::of(u32_at(bytes, 12), area_of(bytes, shape))
 }
 
-/// Tests a block whose packets end there, and gives its packets.
+/// Tests a block whose packets end at this place, and returns its packets.
 #[tactic(auto, unfolding(crate::specs::Checks::block_tests))]
 fn walk_by<'a>(bytes: &'a [u8], shape: &Shape, ends: Ends) -> Result<PacketWalk<'a>, LayoutError>
     requires header { 48 ≤ length bytes.now }

@@ -1,5 +1,5 @@
-//! How a block is filled: its header when it is opened, packet after packet, and at last what only
-//! its end can tell.
+//! How a block is filled: its header when it is opened, then packet after packet, and at last the
+//! fields that are known only at its end.
 ghost use Rattle.std.specs.Prelude.{◌≡◌, ◌+◌, ◌%◌, ◌^◌, ◌<◌, ◌≤◌, ◌++◌, ℕ, IsTrue, List, [], ◌∷◌};
 ghost use Rattle.std.specs.Prelude.{length};
 ghost use Rattle.frame_view.specs.declared.frames.Packet.{Packet};
@@ -70,8 +70,8 @@ pub fn write_packet(block: &mut Block, shape: &Shape, at: u32, offer: &Offer)
     block.put_packet(at, offer, fill);
 }
 
-/// Closes a block: writes what only its end can tell, and that no packet follows the last one. The
-/// other bytes stay (`prb_close_block` of the kernel).
+/// Closes a block: writes the fields that are known only at its end, and that no packet follows the
+/// last one. The other bytes stay (`prb_close_block` of the kernel).
 pub fn close_header(block: &mut Block, shape: &Shape, closing: &Closing)
     requires shape { block.old.shape ≡ shape.now }
     requires behind { first_of shape.now ≤ closing.now.last_at }

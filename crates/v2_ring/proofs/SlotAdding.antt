@@ -1,4 +1,4 @@
--- A note more, and what the fields of a ring of slots keep.
+-- One more note, and what the fields of a ring of slots keep.
 use Rattle.std.proofs.Common.{◌≡◌, ℕ, ◌+◌, ◌^◌, ◌<◌, ◌≤◌, List, [], ◌∷◌, ◌++◌, length, refl, sym, subst, ap, arith, length-append}
 use Rattle.ring_model.specs.declared.notes.Found.{Found}
 use Rattle.ring_model.specs.declared.notes.Note.{Note}
@@ -9,20 +9,20 @@ use Rattle.v2_ring.specs.SlotMachines.{IsReserved, IsSlotAt, IsSlotFew, KeepsSlo
 use Rattle.v2_ring.specs.SlotProducing.{SlotAdds, SlotKeeps, SlotLooks, SlotProducing, slots_filled}
 use Rattle.v2_ring.specs.declared.machine.SlotMachine.{SlotMachine}
 
--- the machine went on by a note
+-- the machine has taken a step that added a note
 pub record Stepped {E : Type 0} (feed : E → Feed) (old_state : SlotState) (note : Note) (before after_it : SlotMachine E) : Type 0 where
   pub at : IsSlotAt feed 0 (slot_after old_state note) after_it
   pub stands : SlotMayStand before.shape.frame_nr old_state note
   pub end : KeepsSlotEnd (feed before.end) (feed after_it.end)
   pub shape : after_it.shape ≡ before.shape
 
--- a packet more passes no count's end
+-- one more packet overflows no count
 pub few_before : (notes : List Note) → length notes < 2 ^ 39 → IsSlotFew (slot_state_of notes)
 few_before notes few =
     let all = slot_counted notes in
     record { slots = omega (arith, all.slots); packets = omega (arith, all.packets) }
 
--- another list of notes and another room beside the machine
+-- the same machine with another list of notes and other spare memory
 pub at_beside : {E : Type 0} (feed : E → Feed) (s : SlotState) (machine : SlotMachine E) (notes room : _) → IsSlotAt feed 0 s machine
     → IsSlotAt feed 0 s (record machine { notes = notes; room = room })
 at_beside feed s machine notes room a = record {
@@ -37,7 +37,7 @@ at_beside feed s machine notes room a = record {
   dropped_is = a.dropped_is;
 }
 
--- ---- room was made
+-- ---- memory was reserved
 
 module _ {E : Type 0} (feed : E → Feed) (machine reserved : SlotMachine E) (r : IsReserved machine reserved) where
   pub at_reserved : IsSlotAt feed 0 (slot_state_of machine.notes.items) machine → IsSlotAt feed 0 (slot_state_of reserved.notes.items) reserved
@@ -56,7 +56,7 @@ module _ {E : Type 0} (feed : E → Feed) (machine reserved : SlotMachine E) (r 
         few = keeps.few;
       }))
 
-  -- a step from there is one from the machine before
+  -- a step from there is one from the machine before it
   pub step_reserved : (note : Note) (after_it : SlotMachine E) → Stepped feed (slot_state_of reserved.notes.items) note reserved after_it
       → Stepped feed (slot_state_of machine.notes.items) note machine after_it
   step_reserved note after_it step =
@@ -71,7 +71,7 @@ module _ {E : Type 0} (feed : E → Feed) (machine reserved : SlotMachine E) (r 
       subst (λ m. SlotLooks m.shape.frame_nr (slot_state_of machine.notes.items) found (feed m.end) after_it) r.same
       (subst (λ (items : List Note). SlotLooks reserved.shape.frame_nr (slot_state_of items) found (feed reserved.end) after_it) r.items looks)
 
--- ---- a note more
+-- ---- one more note
 
 module _ {E : Type 0} (feed : E → Feed) (before after_it : SlotMachine E) (notes : List Note) (note : Note) (room : ℕ)
     (keeps : SlotKeeps feed before notes room) (step : Stepped feed (slot_state_of notes) note before after_it) where

@@ -1,4 +1,4 @@
--- An end stands for the text of one slot more.
+-- An end represents the text of one more slot.
 use Rattle.std.proofs.Common.{◌≡◌, ℕ, zero, suc, ◌+◌, ◌≤◌, ◌^◌, List, [], ◌∷◌, ◌++◌, length, drop, refl, sym, subst, ap, ◌∙◌, arith, length-append}
 use Rattle.ring_model.specs.declared.notes.Found.TheVariants.{Free}
 use Rattle.ring_model.specs.declared.notes.Note.TheVariants.{Kept}
@@ -26,7 +26,7 @@ texts_push shape (e ∷ entries) [] entry slot all text status = elim all [ ]
 texts_push shape (e ∷ entries) (b ∷ done) entry slot all text status =
     (all.0, all.1, texts_push shape entries done entry slot all.2 text status)
 
--- the end's list with the entry after it, where the end reported that it retired it
+-- the end's list with the entry after it, given that the end reported retiring it
 stands_push : (shape : RingRequest) (done : List (Offer × ℕ)) (before after : Feed) (entry : Entry) (slot : Offer × ℕ)
     → StandsForSlots shape done before → after.retired ≡ before.retired + 1 → after.passed ≡ before.passed
     → after.shown ≡ before.shown ++ entry ∷ []

@@ -16,7 +16,7 @@ AreSlotTexts shape (entry ∷ entries) (slot ∷ done) =
     × (entry.1 ≡ slot.1)
     × AreSlotTexts shape entries done
 
--- an end stands for the texts of filled slots
+-- an end represents the texts of filled slots
 abbrev pub StandsForSlots : RingRequest → List (Offer × ℕ) → Feed → Type 0
 StandsForSlots shape done feed =
     (all : List Entry) × StandsFor feed all × AreSlotTexts shape all done

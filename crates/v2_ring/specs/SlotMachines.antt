@@ -21,7 +21,7 @@ pub record IsSlotAt {E : Type 0} (feed : E → Feed) (in_hand : ℕ) (state : Sl
   pub kept_is : machine.kept ≡ state.kept
   pub dropped_is : machine.dropped ≡ state.dropped
 
--- a packet more passes no count's end
+-- one more packet overflows no count
 pub record IsSlotFew (state : SlotState) : Type 0 where
   pub slots : length state.done < 2 ^ 39
   pub packets : state.kept + state.dropped < 2 ^ 39
@@ -42,7 +42,7 @@ pub record IsFreshSlots (shape : RingRequest) (feed : Feed) : Type 0 where
   pub passed : feed.passed ≡ 0
   pub shown : feed.shown ≡ []
 
--- room was made beside a machine, and all else is as before
+-- memory was reserved beside a machine, and all else is as before
 pub record IsReserved {E : Type 0} (before after : SlotMachine E) : Type 0 where
   pub same : after ≡ record before { notes = after.notes; room = after.room }
   pub items : after.notes.items ≡ before.notes.items

@@ -29,7 +29,7 @@ pub record SlotProducing (E : Type 0) : Type 0 where
 abbrev pub slots_filled : {E : Type 0} → SlotProducing E → SlotState
 slots_filled ring = slot_state_of ring.notes
 
--- a call added this note, which may stand; the end stands for the texts of all filled slots
+-- a call added this note, which may follow; the end represents the texts of all filled slots
 pub record SlotAdds {E : Type 0} (feed : E → Feed) (before after : SlotProducing E) (note : Note)
     : Type 0 where
   pub shape : after.shape ≡ before.shape
@@ -38,8 +38,8 @@ pub record SlotAdds {E : Type 0} (feed : E → Feed) (before after : SlotProduci
   pub texts : StandsForSlots after.shape (slots_filled after).done (feed after.end)
   pub end : KeepsSlotEnd (feed before.end) (feed after.end)
 
--- what the one look of a call found. Where the slot was still the reader's one look more is
--- counted, else none; where the end reports how many slots were released, what is found is exact
+-- what the one look of a call found. If the slot was still the reader's one more look is counted,
+-- otherwise none; if the end reports how many slots were released, what is found is exact
 pub record SlotLooks (slots : ℕ) (state : SlotState) (found : Found) (before after : Feed)
     : Type 0 where
   pub looked : WasHeld found (Rose before.holds after.holds)
@@ -47,7 +47,7 @@ pub record SlotLooks (slots : ℕ) (state : SlotState) (found : Found) (before a
   pub number : after.found ≡ found_with found before.found
   pub exact : (released : ℕ) → before.freed ≡ Some released → found ≡ slot_look slots released state
 
--- a put found this, and dropped the packet where the slot was held
+-- a put found this, and dropped the packet if the slot was held
 pub record SlotPuts {E : Type 0} (feed : E → Feed) (before after : SlotProducing E) (offer : Offer)
     (found : Found) (put : Put) : Type 0 where
   pub adds : SlotAdds feed before after (put_by offer found)
@@ -55,7 +55,7 @@ pub record SlotPuts {E : Type 0} (feed : E → Feed) (before after : SlotProduci
   pub looks :
       SlotLooks before.shape.frame_nr (slots_filled before) found (feed before.end) (feed after.end)
 
--- a try found this, and handed the packet back where the slot was held
+-- a try found this, and handed the packet back if the slot was held
 pub record SlotTries {E : Type 0} (feed : E → Feed) (before after : SlotProducing E) (offer : Offer)
     (found : Found) (tried : Tried) : Type 0 where
   pub adds : SlotAdds feed before after (try_by offer found)

@@ -1,9 +1,9 @@
 //! The ring as a machine, in the manner of the kernel's `tpacket_rcv` with TPACKET_V2.
 //!
-//! A packet needs the next slot. The machine looks once at its status word. Where the slot is free
-//! the packet is written into it, and the slot goes to the reader at once. Where the reader still
-//! has it the packet is dropped, or handed back if it was only tried. A slot that is filled while
-//! drops are counted has TP_STATUS_LOSING. There are no blocks, no timer and no freeze.
+//! A packet needs the next slot. The machine looks once at its status word. If the slot is free the
+//! packet is written into it, and the slot goes to the reader at once. If the reader still has it
+//! the packet is dropped, or handed back if it was only tried. A slot that is filled while drops
+//! are counted has TP_STATUS_LOSING. There are no blocks, no timer and no freeze.
 ghost use Rattle.std.specs.Prelude.{◌≡◌, ◌+◌, ◌^◌, ◌<◌, ◌≤◌, ℕ, length, OnOk};
 ghost use Rattle.std.specs.Vec.{vec_capacity};
 ghost use Rattle.ring_model.specs.Asking.{put_by, try_by};
@@ -33,9 +33,9 @@ pub(crate) struct SlotMachine<E> {
     kept: u64,
     /// Packets dropped since then.
     dropped: u64,
-    /// What happened so far, with room for one note more, so that closing the ring takes no memory.
+    /// What happened so far, with room for one more note, so that closing the ring takes no memory.
     pub(crate) notes: Vec<Note>,
-    /// The room that the first write of a slot takes.
+    /// The memory that the first write of a slot takes.
     pub(crate) room: Vec<u8>,
 }
 
@@ -64,8 +64,8 @@ impl<E: FeederEnd<Slot> + Drop> SlotMachine<E> {
         }
     }
 
-    /// Makes room for a note, for one more, and for the first write of a slot. After `Memory` there
-    /// may be more room, and all else is as before.
+    /// Reserves memory for a note, for one more, and for the first write of a slot. After `Memory`
+    /// more may be reserved, and all else is as before.
     pub(crate) fn reserve(&mut self) -> Result<(), Memory>
         ensures reserved { IsReserved self.old self.new }
         ensures spare { vec_capacity self.old.notes ≤ vec_capacity self.new.notes }
@@ -78,8 +78,8 @@ impl<E: FeederEnd<Slot> + Drop> SlotMachine<E> {
         Ok(())
     }
 
-    /// Puts a packet: where the next slot is still the reader's the packet is dropped, and that
-    /// slot's number is reported.
+    /// Puts a packet: if the next slot is still the reader's the packet is dropped, and that slot's
+    /// number is reported.
     pub(crate) fn put(&mut self, offer: &Offer) -> Found
         ghost state: { SlotState }
         requires at { IsSlotAt E.feed 0 state self.old }
@@ -101,8 +101,8 @@ impl<E: FeederEnd<Slot> + Drop> SlotMachine<E> {
         found
     }
 
-    /// Tries a packet: where the next slot is still the reader's that slot's number is reported,
-    /// and all is as before.
+    /// Tries a packet: if the next slot is still the reader's that slot's number is reported, and
+    /// all is as before.
     pub(crate) fn try_put(&mut self, offer: &Offer) -> Found
         ghost state: { SlotState }
         requires at { IsSlotAt E.feed 0 state self.old }

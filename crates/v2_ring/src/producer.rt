@@ -60,8 +60,8 @@ impl<E: FeederEnd<Slot> + Drop> SlotProducer<E> {
         })
     }
 
-    /// Keeps a packet in the next slot, or hands it back where that slot is still the reader's;
-    /// then all but the notes is as before. The condition on the offer is that of `put`.
+    /// Keeps a packet in the next slot, or hands it back if that slot is still the reader's; then
+    /// all except the notes is as before. The condition on the offer is that of `put`.
     pub fn try_put(&mut self, offer: Offer) -> Result<Tried, Unput>
         requires fits { 66 + offer.snap ≤ self.old.shape.frame_size }
         requires sound { IsWritable offer }
@@ -80,9 +80,9 @@ impl<E: FeederEnd<Slot> + Drop> SlotProducer<E> {
         Ok(tried)
     }
 
-    /// Keeps a packet in the next slot, or drops it where that slot is still the reader's. The
-    /// offer keeps at least one byte of what was captured, no more than goes into a slot after the
-    /// 66 bytes of its header, and is sound.
+    /// Keeps a packet in the next slot, or drops it if that slot is still the reader's. The offer
+    /// keeps at least one byte of what was captured, no more than fits into a slot after the 66
+    /// bytes of its header, and is sound.
     pub fn put(&mut self, offer: Offer) -> Result<Put, Unput>
         requires fits { 66 + offer.snap ≤ self.old.shape.frame_size }
         requires sound { IsWritable offer }
@@ -115,8 +115,8 @@ impl<E: FeederEnd<Slot> + Drop> SlotProducer<E> {
         Ok(stats)
     }
 
-    /// Closes the ring. It gives back the end and the notes, of which the last says that the ring
-    /// was closed.
+    /// Closes the ring. It returns the end and the notes, the last of which says that the ring was
+    /// closed.
     pub fn finish(self) -> (E, Notes)
         ensures end { result.0 ≡ self.end }
         ensures notes { result.1 ≡ self.notes ++ Finished ∷ [] }

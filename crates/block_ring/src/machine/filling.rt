@@ -28,7 +28,7 @@ impl<E: FeederEnd<Block> + Drop> Machine<E> {
     ghost use Rattle.block_ring.specs.Machines.{At, IsAt, IsFew, KeepsEnd, keep_first, open_next};
     ghost use Rattle.block_ring.specs.Machines.{retire_now};
 
-    /// How many blocks are open: 1, or 0 where the ring is frozen.
+    /// How many blocks are open: 1, or 0 if the ring is frozen.
     pub(super) fn open_blocks(&self) -> u64
         ghost state: { State }
         requires at { IsAt E.feed 0 state self.now }
@@ -92,8 +92,8 @@ impl<E: FeederEnd<Block> + Drop> Machine<E> {
         }
     }
 
-    /// The status of a block that is retired now: TP_STATUS_USER, TP_STATUS_BLK_TMO where its time
-    /// is over, and TP_STATUS_LOSING where packets were dropped since the statistics were taken.
+    /// The status of a block that is retired now: TP_STATUS_USER, TP_STATUS_BLK_TMO if its time is
+    /// over, and TP_STATUS_LOSING if packets were dropped since the statistics were taken.
     fn status(&self, timed_out: bool) -> u32
         ghost state: { State }
         requires { self.now.dropped ≡ state.dropped }

@@ -4,7 +4,7 @@ use Rattle.tp_layout.specs.Checks.{packets_tests}
 use Rattle.tp_layout.specs.Faults.{packets_in}
 use Rattle.tp_layout.proofs.walking.check_packets.Given as goal
 
--- what is left has the first fault and the last time of all
+-- the first fault and the last time of what is left are those of all
 abbrev pub invariant-loop-left : goal.invariant-loop-left
 invariant-loop-left l = record {
   tests : packets_tests l.left l.place l.rest ≡ packets_tests l.count l.at l.bytes;

@@ -1,7 +1,7 @@
 use Rattle.std.proofs.Common.{◌≡◌, ◌++◌, length, take}
 use Rattle.tp_layout.proofs.packet_walks.PacketWalk.push_copies.Given as goal
 
--- the copies so far stand after what was there
+-- the copies so far follow what was there
 abbrev pub invariant-loop-packet : goal.invariant-loop-packet
 invariant-loop-packet l = record {
   copies : l.into.items ++ l.packet-iterator ≡ l.initial.into.items ++ l.fn.self;
