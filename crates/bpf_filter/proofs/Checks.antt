@@ -29,7 +29,7 @@ fault_here code at d l =
     ap (first_fault at) here
     ∙ ap (λ n. option_or (fault_of at n (get_or code at d)) (first_fault (at + 1) (drop (at + 1) code))) behind
 
--- the next instruction has no fault, or the first one
+-- the next instruction has no fault, or has the first one
 pub checked_more : (code : List Insn) (at : ℕ) (d : Insn) (found : Option FilterError) → Checked code at → at < length code
     → found ≡ fault_of at (length code - at - 1) (get_or code at d) → is_some found ≡ false → Checked code (at + 1)
 checked_more code at d None c l f none = record {
@@ -58,7 +58,7 @@ ends_by_last (i ∷ []) d l = refl
 ends_by_last (i ∷ j ∷ code) d l =
     ends_by_last (j ∷ code) d (omega arith) ∙ ap (λ insn. is_among (0x06 ∷ 0x16 ∷ []) insn.code) (last_behind i j code d)
 
--- where no fault is found, no test of the chain holds
+-- if no fault is found, no test of the chain holds
 no_test_holds : (a b c d : Bool) (w x y z : FilterError)
     → (if a then Some w else if b then Some x else if c then Some y else if d then Some z else None) ≡ None → (b ≡ false) × (d ≡ false)
 no_test_holds true b c d w x y z h = absurd (none-some w (sym h))
@@ -70,7 +70,7 @@ no_test_holds false false false false w x y z h = (refl, refl)
 no_bad : (at behind : ℕ) (i : Insn) → fault_of_known at behind i ≡ None → (has_bad_word i ≡ false) × (has_bad_jump behind i ≡ false)
 no_bad at behind i h = no_test_holds (has_bad_constant i) (has_bad_word i) (has_bad_place i) (has_bad_jump behind i) _ _ _ _ h
 
--- where no instruction has a fault, and the last one returns, each fits its place
+-- if no instruction has a fault, and the last one returns, each fits its place
 one_fits : (at behind : ℕ) (i : Insn) → fault_of at behind i ≡ None → (behind ≡ 0 → is_return i.code ≡ true) → Fits behind i
 unfolding fault_of
 one_fits at behind i h last = by_test (is_code i.code) refl h

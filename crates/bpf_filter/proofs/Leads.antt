@@ -16,13 +16,14 @@ is_return code = is_among (0x06 ∷ 0x16 ∷ []) code
 abbrev is_branch : ℕ → Bool
 is_branch code = is_among (0x15 ∷ 0x1d ∷ 0x25 ∷ 0x2d ∷ 0x35 ∷ 0x3d ∷ 0x45 ∷ 0x4d ∷ []) code
 
--- an instruction that can be run where so many stand after it: it jumps to none but those, and it returns where there is none
+-- an instruction that can be run with n instructions after it: it jumps only to those, and it
+-- returns where there are none
 pub record Fits (behind : ℕ) (i : Insn) : Type 0 where
   pub runnable : IsRunnable i
   pub jump : has_bad_jump behind i ≡ false
   pub last : behind ≡ 0 → is_return i.code ≡ true
 
--- where a step leads is a verdict, or one of so many instructions
+-- a step leads to a verdict, or to one of n instructions
 abbrev pub Leads : ℕ → Next → Type 0
 Leads behind (Answers number) = Unit {0}
 Leads behind (GoesOn skip s) = skip < behind
@@ -32,7 +33,7 @@ Leads behind (GoesOn skip s) = skip < behind
 abbrev IsRow : ℕ × Effect → Type 0
 IsRow row = (behind : ℕ) (i : Insn) (p : Sight) (s : State) → row.0 ≡ i.code → Fits behind i → Leads behind (row.1 i p s)
 
--- an instruction that is no return isn't the last one
+-- an instruction that isn't a return isn't the last one
 some_behind : (code behind : ℕ) (i : Insn) → is_return code ≡ false → code ≡ i.code → Fits behind i → 0 < behind
 some_behind code zero i h e f =
     let is : is_return code ≡ true = ap is_return e ∙ f.last refl in

@@ -13,7 +13,7 @@ use Rattle.bpf_filter.specs.Listings.{are_blank, has_no_word, instruction_of, wi
 
 -- ---- blank lines
 
--- a line without a word leaves the question to the lines after it
+-- whether lines have a word doesn't depend on a first line without one
 pub blank-without_word : (lines : List (List ℕ)) (line : List ℕ) (more : List (List ℕ)) → lines ≡ line ∷ more → words_of line ≡ [] → are_blank lines ≡ are_blank more
 blank-without_word lines line more h e = ap are_blank h ∙ ap (λ words. has_no_word words && are_blank more) e
 

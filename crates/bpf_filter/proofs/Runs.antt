@@ -10,7 +10,7 @@ use Rattle.bpf_filter.specs.Programs.{program_of}
 use Rattle.bpf_filter.specs.Sight.{Sight}
 use Rattle.bpf_filter.specs.Verdict.{go, follow, verdict_of, first_state}
 
--- to skip instructions is to leave them away
+-- skipping instructions is leaving them out
 pub go-drop : (program : List Insn) (skip : ℕ) (p : Sight) (s : State) → go program skip p s ≡ go (drop skip program) 0 p s
 unfolding go
 go-drop [] zero p s = refl
@@ -36,7 +36,7 @@ accepted_at code at d h l = insn_at code at d (accepted_fit code h) l
 pub same_accepted : (code given : List Insn) → program_of code ≡ Ok code → given ≡ code → program_of given ≡ Ok given
 same_accepted code given h e = subst (λ code. program_of code ≡ Ok code) (sym e) h
 
--- what is after an instruction may be said in another way
+-- the instructions after one, written in another way
 follow-same : (next : Next) (behind other : ℕ → State → ℕ) → ((skip : ℕ) (s : State) → behind skip s ≡ other skip s) → follow next behind ≡ follow next other
 follow-same (Answers number) behind other h = refl
 follow-same (GoesOn skip s) behind other h = h skip s
@@ -72,7 +72,7 @@ goes_on code at insn p s skip next g a e = record {
   inside = omega (arith, skip_inside _ insn p s skip next a.fits e, length-drop (suc at) code);
 }
 
--- a step by more than no instruction
+-- a step by one or more instructions
 pub goes_further : (code : List Insn) (at : ℕ) (insn : Insn) (p : Sight) (s : State) (further : ℕ) (next : State) → Goes code at p s → At code at insn → 0 < further → GoesOn (further - 1) next ≡ effect insn p s → Goes code (at + further) p next
 goes_further code at insn p s further next g a l e =
     let same : at + (1 + (further - 1)) ≡ at + further = omega arith in

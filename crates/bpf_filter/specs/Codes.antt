@@ -15,8 +15,8 @@ pub record State : Type 0 where
   pub x : ℕ
   pub memory : List ℕ
 
--- where an instruction leads: to a verdict, or on, less that many further instructions, with a
--- state
+-- where an instruction leads: to a verdict, or on with a state after skipping this many
+-- instructions
 pub data Next : Type 0 where
   Answers : ℕ → Next
   GoesOn : ℕ → State → Next
@@ -34,7 +34,7 @@ number_at size place bytes =
     then Some (fold (λ number b. number * 256 + b) 0 (take size (drop place bytes)))
     else None
 
--- the places from 0xfffff000 (SKF_AD_OFF) on that stand for something else than bytes
+-- the places from 0xfffff000 (SKF_AD_OFF) on that mean something other than bytes
 abbrev pub ancillary : List (ℕ × (Sight → ℕ))
 ancillary =
     (0xfffff000, λ p. p.protocol)  -- SKF_AD_PROTOCOL
@@ -46,7 +46,7 @@ ancillary =
     ∷ (0xfffff024, λ p. p.cpu)  -- SKF_AD_CPU
     ∷ []
 
--- what stands at a place of the packet; an ancillary number is given whole, whatever the size
+-- the number at a place of the packet; an ancillary number is given whole, whatever the size
 abbrev pub absolute : ℕ → ℕ → Sight → Option ℕ
 absolute size place p =
     option_or (option_map (λ fact. fact p) (item_at ancillary place)) (number_at size place p.bytes)
@@ -62,7 +62,7 @@ to_a number s = GoesOn 0 (record s { a = number })
 abbrev pub to_x : ℕ → State → Next
 to_x number s = GoesOn 0 (record s { x = number })
 
--- the same where there is a number; a load past the captured bytes makes the verdict 0
+-- the same if there is a number; a load past the captured bytes makes the verdict 0
 abbrev pub load_a : Option ℕ → State → Next
 load_a None s = Answers 0
 load_a (Some number) s = to_a number s
@@ -108,7 +108,8 @@ left_shift a b = if nat_lt b 32 then Some ((a * 2 ^ b) % 2 ^ 32) else Some 0
 abbrev pub right_shift : ℕ → ℕ → Option ℕ
 right_shift a b = if nat_lt b 32 then Some (a / 2 ^ b) else Some 0
 
--- A takes what the operation makes of A and k, or of A and X; a division by 0 makes the verdict 0
+-- A takes the result of the operation on A and k, or on A and X; a division by 0 makes the verdict
+-- 0
 abbrev pub with_k : (ℕ → ℕ → Option ℕ) → Effect
 with_k operation i p s = load_a (operation s.a i.k) s
 
@@ -129,7 +130,7 @@ is_at_least a b = nat_le b a
 abbrev pub shares_bit : ℕ → ℕ → Bool
 shares_bit a b = not (bit_and a b == 0)
 
--- jt instructions are skipped where the test of A against k, or against X, holds, else jf
+-- jt instructions are skipped if the test of A against k, or against X, holds, otherwise jf
 abbrev pub if_k : (ℕ → ℕ → Bool) → Effect
 if_k test i p s = GoesOn (if test s.a i.k then i.jt else i.jf) s
 
@@ -182,7 +183,8 @@ codes =
 abbrev pub is_code : ℕ → Bool
 is_code code = is_some (item_at codes code)
 
--- what an instruction does; one of another code, which no accepted program has, makes the verdict 0
+-- what an instruction does; one with an unknown code, which no accepted program has, makes the
+-- verdict 0
 abbrev pub effect_from : Option Effect → Effect
 effect_from None i p s = Answers 0
 effect_from (Some effect) i p s = effect i p s

@@ -15,13 +15,13 @@ infixl 10 ◌>>=◌
 abbrev pub ◌>>=◌ : {A B : Type 0} → Option A → (A → Option B) → Option B
 o >>= f = option_and_then f o
 
--- the number that a word writes, where it is at most so large
+-- the number that a word spells, if it is at most this large
 unfoldable pub number_to : ℕ → List ℕ → Option ℕ
 number_to most word = do
   number ← number_of word
   if nat_le number most then Some number else None
 
--- the instruction that four words write
+-- the instruction that four words spell
 unfoldable pub fields_of : List ℕ → List ℕ → List ℕ → List ℕ → Option Insn
 fields_of code jt jf k = do
   c ← number_to 65535 code
@@ -59,20 +59,20 @@ without_blank_end [] = []
 without_blank_end (line ∷ more) =
     if are_blank (line ∷ more) then [] else line ∷ without_blank_end more
 
--- what a line of that number gives, with what the lines after it give
+-- what the line with this number gives, with what the lines after it give
 abbrev pub with_line :
     ℕ → Option Insn → Result (List Insn) FilterError → Result (List Insn) FilterError
 with_line number None more = Err (BadLine number)
 with_line number (Some i) (Ok code) = Ok (i ∷ code)
 with_line number (Some i) (Err error) = Err error
 
--- the instructions of lines, the first of which has that number
+-- the instructions of lines, the first of which has this number
 unfoldable pub instructions_from : ℕ → List (List ℕ) → Result (List Insn) FilterError
 instructions_from number [] = Ok []
 instructions_from number (line ∷ more) =
     with_line number (instruction_of (words_of line)) (instructions_from (number + 1) more)
 
--- a count is from 1 to 4096, and that of the instructions
+-- a count is from 1 to 4096, and is the number of instructions
 abbrev pub is_count : ℕ → ℕ → Bool
 is_count count instructions = nat_le 1 count && nat_le count 4096 && (count == instructions)
 

@@ -32,15 +32,14 @@ has_bad_place i =
     && nat_le 0x80000000 i.k
     && not (is_some (item_at ancillary i.k))
 
--- a jump past the last instruction, where that many instructions follow this one
+-- a jump past the last instruction, where this many follow
 abbrev pub has_bad_jump : ℕ → Insn → Bool
 has_bad_jump behind i =
     ((i.code == 0x05) && nat_le behind i.k)
     || (is_among (0x15 ∷ 0x1d ∷ 0x25 ∷ 0x2d ∷ 0x35 ∷ 0x3d ∷ 0x45 ∷ 0x4d ∷ []) i.code
     && (nat_le behind i.jt || nat_le behind i.jf))
 
--- the first fault of the instruction of a number, after which that many stand, where its code is
--- known
+-- the first fault of the instruction of a number, by how many follow it, where its code is known
 abbrev pub fault_of_known : ℕ → ℕ → Insn → Option FilterError
 fault_of_known at behind i =
     if has_bad_constant i then Some (BadConstant at)
@@ -52,7 +51,7 @@ fault_of_known at behind i =
 unfoldable pub fault_of : ℕ → ℕ → Insn → Option FilterError
 fault_of at behind i = if is_code i.code then fault_of_known at behind i else Some (BadCode at)
 
--- the first fault of instructions, the first of which has that number
+-- the first fault of instructions, the first of which has this number
 abbrev pub first_fault : ℕ → List Insn → Option FilterError
 first_fault at [] = None
 first_fault at (i ∷ rest) = option_or (fault_of at (length rest) i) (first_fault (at + 1) rest)
@@ -63,7 +62,7 @@ ends_with_return [] = false
 ends_with_return (i ∷ []) = is_among (0x06 ∷ 0x16 ∷ []) i.code
 ends_with_return (i ∷ j ∷ rest) = ends_with_return (j ∷ rest)
 
--- the program as it is accepted, or why it isn't
+-- the accepted program, or why it is refused
 abbrev pub program_after : Option FilterError → List Insn → Result (List Insn) FilterError
 program_after (Some fault) program = Err fault
 program_after None program = if ends_with_return program then Ok program else Err NoReturn
@@ -73,7 +72,7 @@ program_of program =
     if nat_lt 4096 (length program) then Err BadCount
     else program_after (first_fault 0 program) program
 
--- an instruction whose code is known, and whose memory word is there
+-- an instruction whose code is known, and whose memory word exists
 pub record IsRunnable (i : Insn) : Type 0 where
   pub known : is_code i.code ≡ true
   pub word : has_bad_word i ≡ false

@@ -4,14 +4,13 @@ use Rattle.bpf_filter.specs.declared.insn.Insn.{Insn}
 use Rattle.bpf_filter.specs.Codes.{State, Next, Answers, GoesOn, effect}
 use Rattle.bpf_filter.specs.Sight.{Sight}
 
--- where an instruction leads, with what the instructions after it give for a number of them to skip
--- and a state
+-- the verdict after an instruction, from what the instructions after it give for a number of them
+-- to skip and a state
 abbrev pub follow : Next → (ℕ → State → ℕ) → ℕ
 follow (Answers number) behind = number
 follow (GoesOn skip s) behind = behind skip s
 
--- What the instructions give that are still to be done, less as many as are to be skipped. Where
--- none is left it is 0.
+-- The verdict of the remaining instructions after skipping some of them. If none is left it is 0.
 unfoldable pub go : List Insn → ℕ → Sight → State → ℕ
 go [] skip p s = 0
 go (i ∷ rest) (suc skip) p s = go rest skip p s

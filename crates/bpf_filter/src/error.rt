@@ -13,7 +13,7 @@ use std::fmt;
 pub enum FilterError {
     /// A line of the text of a wrong form, with its number from 1.
     BadLine(u32),
-    /// The number of instructions is out of range, or isn't what the text's first line says.
+    /// The number of instructions is out of range, or isn't the one in the text's first line.
     BadCount,
     /// An instruction whose code isn't known, with its number from 0.
     BadCode(u32),
@@ -22,11 +22,11 @@ pub enum FilterError {
     /// A division by the constant 0, or a shift by a constant of 32 or more, with the instruction's
     /// number from 0.
     BadConstant(u32),
-    /// A memory word that isn't there, with the instruction's number from 0.
+    /// A memory word that doesn't exist, with the instruction's number from 0.
     BadMemory(u32),
-    /// A program without an instruction, or whose last one is no return.
+    /// A program without an instruction, or whose last one isn't a return.
     NoReturn,
-    /// A place in the packet that is neither one nor names an ancillary number, with the
+    /// A place that is neither in the packet nor that of an ancillary number, with the
     /// instruction's number from 0.
     BadAncillary(u32),
     /// Out of memory.
@@ -36,7 +36,7 @@ pub enum FilterError {
 }
 
 impl FilterError {
-    /// The word for the fault, as a program prints it.
+    /// The word for the fault, as the program prints it.
     pub fn word(&self) -> &'static str
         ensures { result.now ≡ word_of self.now }
     {

@@ -14,13 +14,13 @@ use std::alloc::Global;
 use text_lines::{LARGEST_TEXT, next_line, next_word, number};
 
 /// Reads the instructions of a text as `tcpdump -ddd` writes it: a line with their number, 1 to
-/// 4096, then for each a line with code, jt, jf and k in decimal. They aren't checked any further:
+/// 4096, then for each a line with code, jt, jf and k in decimal. Nothing more is checked here:
 /// `Program::check` does that.
 ///
-/// `TooLarge` comes for more than 1,048,576 bytes. Then `BadLine` comes with the first line, from
-/// 1, that is of another form; blank lines may stand at the end alone. Last, `BadCount` comes for a
-/// number out of its range or unlike the number of instructions, and for a text of blank lines or
-/// of none.
+/// Returns `TooLarge` for more than 1,048,576 bytes. Then `BadLine` with the first line, from 1,
+/// that has another form; blank lines are allowed only at the end. Last, `BadCount` for a number
+/// that is out of its range or isn't that of the instructions, and for a text with only blank lines
+/// or no line.
 pub fn read_ddd(alloc: Global, text: &[u8]) -> Result<Vec<Insn>, FilterError>
     ensures { Gives (λ code. code.items) result (instructions_of text.now) }
 {
@@ -44,7 +44,7 @@ pub fn read_ddd(alloc: Global, text: &[u8]) -> Result<Vec<Insn>, FilterError>
     Ok(code)
 }
 
-/// Whether a count is in its range, and is that of the instructions.
+/// Whether a count is in its range, and is the number of instructions.
 fn is_count(count: usize, instructions: usize) -> bool
     ensures { result ≡ is_count count instructions }
 {
@@ -86,7 +86,7 @@ fn is_blank(text: &[u8]) -> bool
     true
 }
 
-/// The number that stands alone in a line.
+/// The number that is the only word of a line.
 fn count(line: &[u8]) -> Option<u32>
     ensures { result ≡ count_of (words_of line.now) }
 {

@@ -8,7 +8,7 @@ ghost use Rattle.bpf_filter.specs.Tables.{item_at};
 
 use crate::packets::Seen;
 
-/// The first place in a packet that stands for something else than bytes (`SKF_AD_OFF` of
+/// The first place in a packet that means something other than bytes (`SKF_AD_OFF` of
 /// `linux/filter.h`).
 const ANCILLARY: u32 = 0xffff_f000;
 
@@ -29,8 +29,8 @@ pub(crate) enum Size {
     Byte,
 }
 
-/// What stands at a place of a packet: the fact for which it stands, or the number of its bytes.
-/// `None` comes where these aren't all there.
+/// The number at a place of a packet: the fact that the place means, or the number in the bytes
+/// there. `None` if some of these bytes are missing.
 #[inline]
 pub(crate) fn absolute(size: Size, place: u32, packet: &Seen<'_>) -> Option<u32>
     ensures { result ≡ absolute (bytes_of size) place (sight_of packet.now) }
@@ -43,7 +43,7 @@ pub(crate) fn absolute(size: Size, place: u32, packet: &Seen<'_>) -> Option<u32>
     number_at(size, place as usize, packet.bytes)
 }
 
-/// The fact beside a packet's bytes for which a place stands.
+/// The fact beside a packet's bytes that a place means.
 fn fact(place: u32, packet: &Seen<'_>) -> Option<u32>
     ensures { result ≡ option_map (λ fact. fact (sight_of packet.now)) (item_at ancillary place) }
 {
@@ -59,8 +59,7 @@ fn fact(place: u32, packet: &Seen<'_>) -> Option<u32>
     }
 }
 
-/// The number at the place that X and a number make together. `None` comes where its bytes aren't
-/// all there.
+/// The number at the place that is the sum of X and a number. `None` if its bytes aren't all there.
 #[inline]
 pub(crate) fn behind_index(size: Size, x: u32, place: u32, packet: &Seen<'_>) -> Option<u32>
     ensures { result ≡ number_at (bytes_of size) (x + place) packet.now.bytes.now }
@@ -68,7 +67,7 @@ pub(crate) fn behind_index(size: Size, x: u32, place: u32, packet: &Seen<'_>) ->
     number_at(size, x as usize + place as usize, packet.bytes)
 }
 
-/// Four times the low half of the byte at a place, as the length of an IPv4 header stands there.
+/// Four times the low half of the byte at a place, which is how an IPv4 header gives its length.
 #[inline]
 pub(crate) fn header_length(place: u32, packet: &Seen<'_>) -> Option<u32>
     ensures { result ≡ option_map header_length (number_at 1 place packet.now.bytes.now) }
@@ -77,8 +76,7 @@ pub(crate) fn header_length(place: u32, packet: &Seen<'_>) -> Option<u32>
     Some(byte % 16 * 4)
 }
 
-/// The number that the bytes from a place on write, in network order. `None` comes where they
-/// aren't all there.
+/// The number in the bytes from a place on, in network order. `None` if they aren't all there.
 #[inline]
 fn number_at(size: Size, at: usize, bytes: &[u8]) -> Option<u32>
     ensures { result ≡ number_at (bytes_of size) at bytes.now }
@@ -92,7 +90,7 @@ fn number_at(size: Size, at: usize, bytes: &[u8]) -> Option<u32>
     }
 }
 
-/// Whether a place stands for a fact beside a packet's bytes.
+/// Whether a place means a fact beside a packet's bytes.
 pub(crate) fn is_ancillary(place: u32) -> bool
     ensures { result ≡ is_some (item_at ancillary place) }
 {

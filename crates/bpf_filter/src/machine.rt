@@ -20,7 +20,7 @@ pub(crate) const WORDS: usize = 16;
 pub(crate) enum Next {
     /// The verdict is known.
     Answer(u32),
-    /// The program goes on that many instructions after this one, at least one.
+    /// The program goes on this many instructions after this one, at least one.
     Go(usize),
 }
 
@@ -36,8 +36,8 @@ pub(crate) struct Machine {
 }
 
 impl Machine {
-    /// The machine before the first instruction: every register and every word is 0. That words
-    /// which no instruction wrote are 0 is this project's own choice.
+    /// The machine before the first instruction: every register and every word is 0. It is this
+    /// project's own choice that words not written yet are 0.
     pub(crate) fn new() -> Machine
         ensures { state_of result ≡ first_state }
     {
@@ -93,8 +93,8 @@ impl Machine {
         }
     }
 
-    /// The number that A takes by an instruction which makes it of k and the registers alone, and
-    /// always gives one.
+    /// The number that A takes by an instruction that computes it from k and the registers only,
+    /// and always gives one.
     #[inline]
     #[tactic(auto, unfolding(crate::specs::Codes::codes))]
     fn calculated(&self, insn: &Insn) -> u32

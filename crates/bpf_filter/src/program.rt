@@ -21,9 +21,9 @@ pub const LARGEST_PROGRAM: usize = 4096;
 /// A program that was accepted. Contracts see it as the list of its instructions.
 #[derive(Drop)]
 pub struct Program {
-    /// The instructions as they were given. `check` accepted them: each has a known code, names a
-    /// memory word that is there, if one, and leads to an instruction that is there or to a
-    /// verdict, so that no step has to test that.
+    /// The instructions as they were given. `check` accepted them: each has a known code, names an
+    /// existing memory word, if one, and leads to an existing instruction or to a verdict, so no
+    /// step has to test that.
     code: Vec<Insn>,
 }
 
@@ -40,15 +40,15 @@ impl Model for Program {
 }
 
 impl Program {
-    /// Accepts a program, or says what is the first fault of one that isn't accepted.
+    /// Accepts a program, or returns the first fault of one that isn't accepted.
     ///
-    /// `BadCount` comes for more than 4096 instructions. Then, for each instruction from the first
-    /// on, `BadCode` for a code that isn't known, `BadConstant` for a division by the constant 0 or
-    /// a shift by a constant of 32 or more, `BadMemory` for a memory word from 16 on,
+    /// Returns `BadCount` for more than 4096 instructions. Then, for each instruction from the
+    /// first on, `BadCode` for a code that isn't known, `BadConstant` for a division by the
+    /// constant 0 or a shift by a constant of 32 or more, `BadMemory` for a memory word from 16 on,
     /// `BadAncillary` for a place in the packet from 0x80000000 on that isn't ancillary, and
-    /// `BadJump` for a jump past the last instruction. Last, `NoReturn` comes for a program that
-    /// doesn't end with a return. That memory words may be read before they are written is this
-    /// project's own choice.
+    /// `BadJump` for a jump past the last instruction. Last, `NoReturn` for a program that doesn't
+    /// end with a return. It is this project's own choice that memory words may be read before they
+    /// are written.
     pub fn check(_alloc: Global, code: Vec<Insn>) -> Result<Program, FilterError>
         ensures { Gives (λ program. program) result (program_of code.items) }
     {
@@ -72,7 +72,7 @@ impl Program {
     }
 
     /// How many bytes of a packet to keep; 0 refuses it. It takes no memory, and always returns,
-    /// since all jumps go forward.
+    /// because all jumps go forward.
     pub fn verdict(&self, packet: &Seen<'_>) -> u32
         ensures { result ≡ verdict_of self.now (sight_of packet.now) }
     {
@@ -113,7 +113,7 @@ fn first_fault(code: &[Insn]) -> Option<FilterError>
     None
 }
 
-/// The first fault of the instruction of a number, after which a number of instructions stand.
+/// The first fault of the instruction of a number, by how many instructions follow it.
 #[tactic(auto, unfolding(crate::specs::Programs::fault_of))]
 fn fault_of(insn: Insn, at: u32, behind: usize) -> Option<FilterError>
     ensures { result ≡ fault_of at behind insn }

@@ -14,8 +14,8 @@ use tp_layout::{LayoutKind, Shape};
 /// A fault with its place.
 type Fault = Option<(LayoutKind, u32)>;
 
-/// The fault of a slot whose byte at this place was changed by an exclusive or with 1, the frame's
-/// length being 14, its nanoseconds 2,000 and its packet type 1; the tag's fields are tested apart.
+/// The fault of a slot whose byte at this place was changed by xor with 1; the frame's length is
+/// 14, its nanoseconds are 2,000 and its packet type is 1. The tag's fields are tested separately.
 fn fault_at(place: u32) -> Fault {
     match place {
         0..=3 => Some((LayoutKind::Field, 0)),
@@ -30,8 +30,8 @@ fn fault_at(place: u32) -> Fault {
     }
 }
 
-/// The same, with the fields of the tag: they are 0 in a slot without one, and with one the control
-/// information may be any.
+/// The same, with the fields of the tag: they are 0 in a slot without a tag; with one the control
+/// information is free.
 fn fault_with_tag(place: u32, tagged: bool) -> Fault {
     match place {
         24..=25 => {
@@ -46,7 +46,7 @@ fn fault_with_tag(place: u32, tagged: bool) -> Fault {
     }
 }
 
-/// The fault of these bytes with one changed by an exclusive or with 1.
+/// The fault of these bytes with one changed by xor with 1.
 fn changed(alloc: Global, shape: &Shape, slot: &[u8], place: u32) -> Result<Fault, Memory>
     requires { length slot.now ≡ shape.now.frame_size }
 {
@@ -58,7 +58,7 @@ fn changed(alloc: Global, shape: &Shape, slot: &[u8], place: u32) -> Result<Faul
     Ok(read.err().map(|error| (error.kind, error.at)))
 }
 
-/// Each byte of a slot that is changed gives the fault that is expected.
+/// Each changed byte of a slot gives the expected fault.
 fn check_bytes(
     rt: &impl Abort,
     alloc: Global,
@@ -75,7 +75,7 @@ fn check_bytes(
     Ok(())
 }
 
-/// The same of a slot that is written with a tag or without.
+/// The same for a slot that is written with a tag or without.
 fn check_slot(rt: &impl Abort, alloc: Global, shape: &Shape, tagged: bool) -> Result<(), Memory>
     requires checked { IsSlotShape shape.now }
     requires room { 80 ≤ shape.now.frame_size }

@@ -45,7 +45,7 @@ impl Kept for Diary {
         sym (eqb-true line.seat m may) ∙ eqb-true line.seat n also };
 }
 
-/// Writes one line in a turn. Without memory for it the turn adds nothing.
+/// Writes one line in a turn. If memory runs out the turn adds nothing.
 fn write<R: Wait>(
     rt: &R,
     lock: &TurnLock<Diary>,
@@ -135,7 +135,7 @@ fn written_by_all<R: Threads + Wait + Sync>(
     Ok(lock.close(all))
 }
 
-/// How many lines each seat wrote, where each line is the next one of its seat.
+/// How many lines each seat wrote, if each line is the next one of its seat.
 fn lines_of_seats(alloc: Global, diary: &Diary, seats: u32) -> Result<Vec<u32>, Fail> {
     let mut counts = vec![in alloc; 0u32; seats as usize]?;
     for line in &diary.lines {

@@ -1,6 +1,6 @@
 //! Tests of what threads share: rings of blocks of one letter, a dealer of tickets, and a diary
-//! that seats write in turns; and of rings of TPACKET_V2: slots as bytes, a ring on one thread, and
-//! a ring between two threads.
+//! that seats write in turns. Tests of rings of TPACKET_V2: slots as bytes, a ring on one thread,
+//! and a ring between two threads.
 #![tactic(auto)]
 
 #[cfg(test)]

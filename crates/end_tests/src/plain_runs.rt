@@ -20,7 +20,7 @@ use v2_ring::SlotReader;
 enum Act {
     /// A frame of 60 bytes with this number is put.
     Put(u32),
-    /// It is tried.
+    /// The frame is tried.
     Try(u32),
     /// A reader takes a step.
     Read,
@@ -28,7 +28,7 @@ enum Act {
     Stats,
 }
 
-/// What came of it.
+/// Its result.
 #[derive(Clone, Copy, PartialEq, Eq)]
 enum Came {
     /// The frame was kept, or a slot was read.
@@ -41,7 +41,7 @@ enum Came {
     Counts(u64, u64, u64),
 }
 
-/// Does one thing to a ring.
+/// Does one act at a ring.
 fn do_act(alloc: Global, ring: &mut Ring, reader: &mut SlotReader, act: Act) -> Result<Came, Memory>
     requires fits { 126 ≤ ring.old.shape.frame_size }
     requires few { length ring.old.notes < 1000 }
@@ -76,7 +76,7 @@ fn done(done: bool) -> Came {
     if done { Came::Done } else { Came::Nothing }
 }
 
-/// What is done to the ring, and what comes of it.
+/// What is done to the ring, and the result.
 static ACTS: [(Act, Came); 14] = [
     (Act::Put(0), Came::Done),
     (Act::Put(1), Came::Done),
@@ -106,15 +106,15 @@ fn status(dump: &ByteList, at: usize) -> Option<u8> {
 /// fourth and the fifth.
 type Seen = ((usize, usize, u64), [Option<u8>; 3]);
 
-/// What is seen of what was read.
+/// What is reported of what was read.
 fn seen_of(outputs: Outputs) -> Seen {
     let dump = &outputs.dump;
     let sizes = (outputs.walked.len(), dump.len(), outputs.blocks);
     (sizes, [status(dump, 0), status(dump, 3), status(dump, 4)])
 }
 
-/// Does these things to a new ring, and gives how many of them came out otherwise, and what is seen
-/// of what was read.
+/// Does these acts at a new ring, and returns how many had another result, and what is reported of
+/// what was read.
 fn run(alloc: Global, shape: &Shape, acts: &[(Act, Came)]) -> Result<(u32, Seen), Memory>
     requires checked { IsSlotShape shape.now }
     requires fits { 126 ≤ shape.now.frame_size }

@@ -26,7 +26,7 @@ fn fill(ring: &mut PlainRing<Letter>, letter: u8) -> Option<u64>
     }
 }
 
-/// Takes the next block and releases it, and gives its letter.
+/// Takes the next block and releases it, and returns its letter.
 fn read(ring: &mut PlainRing<Letter>) -> Option<u8>
     requires hand { has_block ring.old ≡ false }
     ensures hand { has_block ring.new ≡ false }
@@ -39,8 +39,8 @@ fn read(ring: &mut PlainRing<Letter>) -> Option<u8>
     Some(read)
 }
 
-/// What is read of an empty ring, how three blocks are filled, what is read then, how two more are
-/// filled, and what is read in the end.
+/// What is read from an empty ring, how three blocks are filled, what is then read, how two more
+/// are filled, and what is read at the end.
 type Steps = (
     Option<u8>,
     [Option<u64>; 3],

@@ -1,5 +1,5 @@
-//! Frames, and the slots that they make, byte for byte by the fields of `struct tpacket2_hdr` and
-//! `struct sockaddr_ll`.
+//! Frames, and their slots, byte for byte by the fields of `struct tpacket2_hdr` and `struct
+//! sockaddr_ll`.
 ghost use Rattle.std.specs.Prelude.{◌≡◌, ◌≤◌, IfOk, IfSome};
 ghost use Rattle.slot_layout.specs.SlotShapes.{IsSlotShape};
 ghost use Rattle.tp_layout.specs.Writing.{IsWritable};

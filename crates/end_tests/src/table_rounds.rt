@@ -1,5 +1,5 @@
 //! A ring between two threads, both ends driven by one: each block is filled, taken and released at
-//! once, so that an end that finds its block held, or none there, hasn't looked.
+//! once, so an end that finds its block held, or none there, hasn't looked.
 ghost use Rattle.std.specs.Prelude.{◌≡◌, false, length};
 
 use crate::letters::Letter;
@@ -12,7 +12,7 @@ use std::test::Fail;
 /// How often each block is filled and read.
 const ROUNDS: u32 = 300;
 
-/// Fills a block and reads it, round after round, each with another letter; gives the first round
+/// Fills a block and reads it, round after round, each with another letter; returns the first round
 /// in which the block was held, or none was there, or another letter was read.
 fn first_miss(feeder: &mut TableFeeder<Letter>, walker: &mut TableWalker<Letter>) -> Option<u32>
     requires fresh { feeder.old.given ≡ 0 }

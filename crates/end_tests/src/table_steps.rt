@@ -29,7 +29,7 @@ pub(crate) fn fill(feeder: &mut TableFeeder<Letter>, letter: u8) -> Option<u64>
     }
 }
 
-/// Takes the next block and releases it, and gives its letter.
+/// Takes the next block and releases it, and returns its letter.
 pub(crate) fn read(walker: &mut TableWalker<Letter>) -> Option<u8>
     requires hand { walker.old.in_hand ≡ false }
     ensures hand { walker.new.in_hand ≡ false }
@@ -41,7 +41,7 @@ pub(crate) fn read(walker: &mut TableWalker<Letter>) -> Option<u8>
     Some(read)
 }
 
-/// What is read of an empty ring, how three blocks are filled, what is read then, and whether the
+/// What is read from an empty ring, how three blocks are filled, what is then read, and whether the
 /// next block is free.
 type Steps = (Option<u8>, [Option<u64>; 3], Option<u8>, bool);
 
@@ -68,8 +68,8 @@ fn letter_at(pending: &Pending<Letter>, at: usize) -> Option<(u8, u32)> {
     Some((letter.0, status))
 }
 
-/// The third block isn't filled, and once the first was read its place is free; then one block with
-/// the letter b is pending.
+/// The third block isn't filled; once the first was read its place is free; then one block with the
+/// letter b is pending.
 fn check_steps(rt: &impl Abort, steps: Steps, pending: &Pending<Letter>, text: &str) {
     let first = letter_at(pending, 0);
     let second = letter_at(pending, 1);

@@ -39,8 +39,8 @@ fn one_slot(alloc: Global, shape: &Shape) -> Result<Slot, Memory>
     }
 }
 
-/// The bytes that a slot with that frame begins with, with this status and, where it has a tag,
-/// VLAN 100.
+/// The bytes that a slot with that frame begins with, with this status and, if it has a tag, VLAN
+/// 100.
 fn expected(alloc: Global, status: u8, tagged: bool) -> Result<Vec<u8>, Memory> {
     let mut bytes = HEADER.to_vec(alloc)?;
     bytes.extend_from_slice(&FRAME)?;
@@ -66,7 +66,7 @@ fn is_that_packet(packet: &PacketRef<'_>, tag: Option<Tag>) -> bool {
         && packet.bytes == FRAME.as_slice()
 }
 
-/// What is read of a slot with that frame: its status, whether it begins with these bytes, and
+/// What is read from a slot with that frame: its status, whether it begins with these bytes, and
 /// whether its packet is that frame.
 fn seen(
     alloc: Global,

@@ -16,7 +16,7 @@ use std::thread::Threads;
 use tp_layout::Shape;
 use v2_ring::{Slot, SlotProducer, SlotReader, slots};
 
-/// How often a side looks again where it finds nothing, before it gives up.
+/// How often a side polls again after finding nothing, before it gives up.
 const LOOKS: u64 = 100_000_000;
 
 /// The feeder's side of the ring.
@@ -36,7 +36,7 @@ fn new_sides(alloc: Global, shape: &Shape) -> Result<(Ring, TableWalker<Slot>), 
     Ok((ring, walker))
 }
 
-/// Puts `count` frames, each again while it is dropped, and gives the end back.
+/// Puts `count` frames, each again while it is dropped, and returns the end.
 fn feed_all(alloc: Global, mut ring: Ring, count: u32) -> Result<TableFeeder<Slot>, Memory>
     requires fits { 126 ≤ ring.shape.frame_size }
     requires notes { ring.notes ≡ [] }
@@ -72,7 +72,7 @@ fn seen_of(outputs: Outputs) -> (u64, usize, bool) {
     (outputs.blocks, packets.len(), are_in_place(packets))
 }
 
-/// Reads `count` slots, and gives what is seen of them, and the end.
+/// Reads `count` slots, and returns what is seen of them, and the end.
 fn read_all(
     mut reader: SlotReader,
     mut walker: TableWalker<Slot>,
@@ -99,7 +99,7 @@ fn read_all(
     Ok((seen_of(reader.outputs()), walker))
 }
 
-/// What is seen of `count` slots by a reader in a thread of its own, and how many are then left.
+/// What a reader in a thread of its own sees of `count` slots, and how many are then left.
 fn pass_on<R: Threads + Sync>(
     rt: &R,
     alloc: Global,

@@ -46,7 +46,7 @@ fn two_feeders(alloc: Global) -> Result<(Dealer, DealerSeat, DealerSeat, Vec<Dea
     Ok((dealer, first, second, seats))
 }
 
-/// Closes a dealer with all its seats, and gives the number of tickets that were drawn.
+/// Closes a dealer with all its seats, and returns the number of tickets that were drawn.
 fn close(
     dealer: Dealer,
     first: DealerSeat,
@@ -63,7 +63,7 @@ fn close(
     Ok(dealer.close(seats))
 }
 
-/// What two threads draw, `each` tickets each, and the number of all.
+/// What two threads draw, `each` tickets each, and the number of all tickets.
 fn drawn_by_two<R: Threads + Sync>(
     rt: &R,
     alloc: Global,
@@ -90,7 +90,7 @@ fn drawn_by_two<R: Threads + Sync>(
     Ok((count, mine, yours))
 }
 
-/// Tickets that were drawn one after another stand in order.
+/// Tickets that were drawn one after another are in order.
 fn check_order(rt: &impl Abort, tickets: &[u64]) {
     for k in 1..tickets.len() {
         assert!(rt; tickets[k - 1] < tickets[k], "in order at {k}");
@@ -123,8 +123,8 @@ fn each_ticket_is_drawn_once(rt: HostRuntime) -> Result<(), Fail> {
     Ok(())
 }
 
-/// How many feeders are live at first, once one has ended and once both have, a ticket that is
-/// drawn after a feeder has ended, and the number of tickets that were drawn.
+/// How many feeders are live at first, when one has ended and when both have, a ticket drawn after
+/// a feeder has ended, and the number of tickets that were drawn.
 fn ended(alloc: Global) -> Result<([u64; 3], u64, u64), Memory> {
     let (dealer, mut first, mut second, seats) = two_feeders(alloc)?;
     let both = dealer.live(&mut first);

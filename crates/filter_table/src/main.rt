@@ -1,9 +1,9 @@
 //! Reads frames and filters, and prints the verdicts of each filter on all frames.
 //!
 //! A line `frame WIRE HEX` is a frame with its length on the wire and its captured bytes. A line
-//! `facts PROTOCOL PKTTYPE QUEUE RXHASH CPU` has what ancillary loads give, of every frame, for the
-//! filters after it; before it all are 0. A line `filter NAME` begins the text of a filter, as
-//! `tcpdump -ddd` writes it, and a line `end` ends it.
+//! `facts PROTOCOL PKTTYPE QUEUE RXHASH CPU` has what ancillary loads give, for every frame and the
+//! filters after the line; before it all are 0. A line `filter NAME` begins the text of a filter,
+//! as `tcpdump -ddd` writes it, and a line `end` ends it.
 #![tactic(auto)]
 
 ghost use Rattle.std.specs.Prelude.{◌<◌};
@@ -106,7 +106,7 @@ fn facts_of(line: &[u8]) -> Facts {
     }
 }
 
-/// What a hexadecimal digit is worth.
+/// The value of a hexadecimal digit.
 fn nibble(digit: u8) -> u8
     ensures { result < 16 }
 {

@@ -42,7 +42,7 @@ take-bits_of zero xs = refl
 take-bits_of (suc n) [] = rw eight_more refl
 take-bits_of (suc n) (x ∷ xs) = rw eight_more (ap (λ (rest : List ℕ). bits_of_byte x ++ rest) (take-bits_of n xs))
 
--- the same of bytes
+-- the same for bytes
 pub hash_of-append : (key xs ys : List ℕ) → hash_of key (xs ++ ys) ≡ bit_xor (hash_of key xs) (hash_of (drop (length xs) key) ys)
 hash_of-append key xs ys =
     ap (toeplitz_of (bits_of key)) (bits_of-append xs ys) ∙ toeplitz_of-append (bits_of key) (bits_of xs) (bits_of ys)
@@ -71,7 +71,7 @@ bits_of_byte-at byte (suc (suc (suc (suc (suc (suc zero)))))) h = refl
 bits_of_byte-at byte (suc (suc (suc (suc (suc (suc (suc zero))))))) h = refl
 bits_of_byte-at byte (suc (suc (suc (suc (suc (suc (suc (suc more)))))))) h = absurd (omega arith)
 
--- one bit of a byte more
+-- one more bit of a byte
 pub toeplitz_of-bit : (key : List ℕ) (byte bit : ℕ) → bit < 8
     → toeplitz_of key (take (bit + 1) (bits_of_byte byte)) ≡ bit_xor (toeplitz_of key (take bit (bits_of_byte byte))) (share_of (drop bit key) (bit_at byte (7 - bit)))
 unfolding toeplitz_of
@@ -83,7 +83,7 @@ toeplitz_of-bit key byte bit h =
     ∙ ap (λ (n : ℕ). bit_xor (toeplitz_of key (take bit bits)) (bit_xor (share_of (drop n key) (bit_at byte (7 - bit))) 0)) (length-take-le bit bits (omega arith))
     ∙ ap (bit_xor (toeplitz_of key (take bit bits))) (xor_zero_r (share_of (drop bit key) (bit_at byte (7 - bit))))
 
--- one byte more
+-- one more byte
 pub hash_of-byte : (key input : List ℕ) (place : ℕ) → place < length input
     → hash_of key (take (place + 1) input) ≡ bit_xor (hash_of key (take place input)) (toeplitz_of (bits_of (drop place key)) (bits_of_byte (get_or input place 0)))
 hash_of-byte key input place h =

@@ -9,7 +9,7 @@ use Rattle.flow_hash.proofs.BitLists.{hash_of_nothing}
 use Rattle.frame_view.specs.declared.header_reading.Headers.{Headers}
 use Rattle.frame_view.specs.declared.header_reading.Headers.TheVariants.{Runt, Plain, V4, V6}
 
--- two ends in their order, where the one or the other is the smaller
+-- two ends in order, either of which may be the smaller
 ends_input-first : (w : Width) (from to : ℕ) (ports : Option (ℕ × ℕ)) → source_first from to ports ≡ true → source_first to from (ports_back ports) ≡ false
     → ends_input w to from (ports_back ports) ≡ ends_input w from to ports
 unfolding ends_input

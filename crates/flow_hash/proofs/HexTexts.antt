@@ -1,4 +1,4 @@
--- A text of digits decodes, and no other.
+-- Exactly the texts of digits decode.
 use Rattle.std.proofs.Common.{◌≡◌, ℕ, List, length, Ok, Err, inl, inr, ◌⊎◌, ap, ◌∙◌, arith}
 use Rattle.std.specs.Prelude.{◌≢◌}
 use Rattle.hex.specs.Hex.{decode_of}
@@ -8,7 +8,7 @@ use Rattle.hex.proofs.HexLemmas.{decode_pairs-digits, decode_of-even, decode_of-
 use Rattle.flow_hash.specs.HexKey.{IsHex, key_error}
 use Rattle.flow_hash.specs.declared.hash_keys.KeyError.TheVariants.{NotHex, Memory}
 
--- what doesn't decode, and not for lack of memory
+-- what doesn't decode, though memory didn't run out
 pub not_hex : (text : List ℕ) (error : FromHexError) → (error ≡ OutOfMemory) ⊎ (decode_of text ≡ Err error) → NotHex ≡ key_error error → ¬ IsHex text
 not_hex text error (inl memory) kind hex = let same : key_error error ≡ Memory = ap key_error memory in cc
 not_hex text error (inr bad) kind hex =

@@ -100,7 +100,7 @@ pub take_five : (key : List ℕ) → 5 ≤ length key → take 5 key ≡ get_or 
 take_five (a ∷ b ∷ c ∷ d ∷ e ∷ rest) h = refl
 take_five key h = absurd (omega arith)
 
--- what a bit at a place of a byte meets
+-- what a bit at a place of a byte is combined with
 pub window_of : (key : List ℕ) (j : ℕ) → 5 ≤ length key → j < 8 → number_of (take 32 (drop j (bits_of key))) ≡ number_of (bits_of (take 5 key)) / 2 ^ (8 - j) % 2 ^ 32
 window_of key j long small =
     let bits : List ℕ = bits_of key in

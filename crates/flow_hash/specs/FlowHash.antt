@@ -10,12 +10,12 @@ abbrev pub source_first : ℕ → ℕ → Option (ℕ × ℕ) → Bool
 source_first from to None = nat_le from to
 source_first from to (Some (sport, dport)) = nat_lt from to || ((from == to) && nat_le sport dport)
 
--- two texts in their order, or the other way round
+-- two strings in their order, or the other way round
 abbrev pub ordered : Bool → List ℕ → List ℕ → List ℕ
 ordered true a b = a ++ b
 ordered false a b = b ++ a
 
--- the two ports, where they are there
+-- the two ports, if there are any
 abbrev pub port_bytes : Bool → Option (ℕ × ℕ) → List ℕ
 port_bytes first None = []
 port_bytes first (Some (sport, dport)) =
@@ -27,7 +27,7 @@ ends_input width from to ports =
     ordered (source_first from to ports) (to_be_bytes width from) (to_be_bytes width to)
     ++ port_bytes (source_first from to ports) ports
 
--- what is hashed of a frame: nothing where it has no IP header, so that its hash is 0
+-- what is hashed of a frame: nothing if it has no IP header, so that its hash is 0
 unfoldable pub flow_input : Headers → List ℕ
 flow_input (V4 link part) = ends_input w32 part.from part.to part.ports
 flow_input (V6 link part) = ends_input w128 part.from part.to part.ports
@@ -39,7 +39,7 @@ abbrev pub ports_back : Option (ℕ × ℕ) → Option (ℕ × ℕ)
 ports_back None = None
 ports_back (Some (sport, dport)) = Some (dport, sport)
 
--- the headers of the way back: source and destination change places
+-- the headers of the reverse direction: source and destination are swapped
 abbrev pub way_back : Headers → Headers
 way_back (V4 link part) =
     V4 (record link { to = link.from; from = link.to })

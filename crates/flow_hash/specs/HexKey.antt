@@ -11,7 +11,7 @@ use Rattle.flow_hash.specs.declared.hash_keys.KeyError.TheVariants.{NotHex, Wron
 abbrev pub IsHex : List ℕ → Type 0
 IsHex text = (length text % 2 ≡ 0) × AllPass is_hex_digit text
 
--- what a fault of the digits is as a fault of a key
+-- a fault of the digits as a fault of a key
 abbrev pub key_error : FromHexError → KeyError
 key_error OutOfMemory = Memory
 key_error _ = NotHex

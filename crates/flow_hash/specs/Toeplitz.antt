@@ -15,16 +15,16 @@ unfoldable pub bits_of : List ℕ → List ℕ
 bits_of [] = []
 bits_of (byte ∷ rest) = bits_of_byte byte ++ bits_of rest
 
--- the number that some bits write
+-- the number that some bits spell
 unfoldable pub number_of : List ℕ → ℕ
 number_of [] = 0
 number_of (bit ∷ rest) = bit * 2 ^ length rest + number_of rest
 
--- the 32 bits of the key that begin at the place of a bit of the input, where that is set
+-- the 32 bits of the key that begin at the place of a bit of the input, if that bit is set
 abbrev pub share_of : List ℕ → ℕ → ℕ
 share_of key bit = if bit == 1 then number_of (take 32 key) else 0
 
--- the exclusive or of these over all bits of the input; the key moves on with the input
+-- the exclusive or of these over all bits of the input; the key advances with the input
 unfoldable pub toeplitz_of : List ℕ → List ℕ → ℕ
 toeplitz_of key [] = 0
 toeplitz_of key (bit ∷ input) = bit_xor (share_of key bit) (toeplitz_of (drop 1 key) input)

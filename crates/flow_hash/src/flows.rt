@@ -11,8 +11,8 @@ use frame_view::{Headers, V4Part, V6Part};
 
 /// The hash of a frame's flow: the Toeplitz hash over the two addresses of its IP header and, where
 /// it has them, the two ports, the smaller end first, by address and then port. So both directions
-/// of a flow have one hash. It is 0 for a frame without an IP header. What is hashed is this
-/// project's own choice. It takes no memory.
+/// of a flow have one hash. It is 0 for a frame without an IP header. The choice of what is hashed
+/// is this project's own. It takes no memory.
 #[tactic(auto, using(crate::proofs::BothWays::flows), unfolding(crate::specs::FlowHash::flow_input))]
 pub fn flow_hash(key: &Key, view: &Headers) -> u32
     ensures hash { result ≡ hash_of key.now (flow_input view.now) }
@@ -74,7 +74,7 @@ fn hash_ends(key: &Key, first: bool, from: &[u8], to: &[u8], ports: Option<(u16,
     hash_pair(key, 0, first, from, to) ^ hash_ports(key, from.len() + to.len(), first, ports)
 }
 
-/// The hash of the ports, where they are there, that stand from a byte's place on.
+/// The hash of the ports, if there are any, which begin at this byte of the input.
 #[tactic(auto, using(crate::proofs::BitLists::pieces))]
 fn hash_ports(key: &Key, at: usize, first: bool, ports: Option<(u16, u16)>) -> u32
     requires { at ≤ 32 }
@@ -92,7 +92,8 @@ fn hash_ports(key: &Key, at: usize, first: bool, ports: Option<(u16, u16)>) -> u
     }
 }
 
-/// The hash of two texts, in their order or the other way round, that stand from a byte's place on.
+/// The hash of two strings, in their order or the other way round, which begin at this byte of the
+/// input.
 fn hash_pair(key: &Key, at: usize, first: bool, a: &[u8], b: &[u8]) -> u32
     requires { at + length a.now + length b.now ≤ 36 }
     ensures { result ≡ hash_of (drop at key.now) (ordered first a.now b.now) }
@@ -104,7 +105,7 @@ fn hash_pair(key: &Key, at: usize, first: bool, a: &[u8], b: &[u8]) -> u32
     }
 }
 
-/// The hash of two texts, one after the other, that stand from a byte's place on.
+/// The hash of two strings, one after another, which begin at this byte of the input.
 #[tactic(auto, using(crate::proofs::BitLists::pieces))]
 fn hash_both(key: &Key, at: usize, a: &[u8], b: &[u8]) -> u32
     requires { at + length a.now + length b.now ≤ 36 }

@@ -23,14 +23,14 @@ impl Model for Key {
     ghost view = { λ key. key.bytes };
 }
 
-/// Why a text is no key.
+/// Why a text isn't a key.
 #[derive(Clone, Copy, Debug, PartialEq, Eq)]
 pub enum KeyError {
-    /// It isn't hexadecimal digits, or their number is odd.
+    /// It isn't made of hexadecimal digits, or their number is odd.
     NotHex,
     /// It is an even number of digits, but not 80.
     WrongLength,
-    /// An allocation was refused.
+    /// An allocation failed.
     Memory,
 }
 

@@ -16,7 +16,7 @@ pub fn toeplitz(key: &Key, input: &[u8]) -> u32
     hash_from(key, 0, input)
 }
 
-/// The hash of an input that stands from a byte's place on.
+/// The hash of an input that begins at this byte.
 #[tactic(auto, using(crate::proofs::BitLists::pieces))]
 pub(crate) fn hash_from(key: &Key, at: usize, input: &[u8]) -> u32
     requires { at + length input.now ≤ 36 }
@@ -43,7 +43,7 @@ fn byte_share(key: &[u8], byte: u8) -> u32
 }
 
 /// What one bit of a byte adds, counted from the left: the 32 bits of the window from its place on,
-/// where it is set.
+/// if it is set.
 fn bit_share(window: u64, byte: u8, bit: u32) -> u32
     requires { bit < 8 }
     ensures { result
@@ -56,7 +56,7 @@ fn bit_share(window: u64, byte: u8, bit: u32) -> u32
     }
 }
 
-/// The first 40 bits of the key as a number: all that one byte of the input meets.
+/// The first 40 bits of the key as a number: all that one byte of the input is combined with.
 fn window(key: &[u8]) -> u64
     requires { 5 ≤ length key.now }
     ensures { result ≡ number_of (bits_of (take 5 key.now)) }

@@ -1,4 +1,4 @@
--- A frame more, and a byte more.
+-- One more frame, and one more byte.
 use Rattle.std.proofs.Common.{sym, append_assoc, ◌≡◌, ◌%◌, ℕ, suc, ◌+◌, ◌-◌, ◌<◌, List, [], ◌∷◌, ◌++◌, length, ap, ◌∙◌, arith}
 use Rattle.std.proofs.lemmas.List.FromFn.{map-range_with_len_more, length-map-range_with_len}
 use Rattle.std.proofs.lemmas.List.{append-nil}

@@ -19,8 +19,8 @@ drawn state = next_state state / 2 ^ 32
 abbrev pub payload_of : ℕ → ℕ → List ℕ
 payload_of i len = map (λ j. (i + j) % 256) (range_with_len 0 len)
 
--- the parts of frame i, of its four draws: 10.0.0.0 and 10.1.0.0 and more, the ports from 1024 on,
--- and 53
+-- the parts of frame i, from its four draws: addresses from 10.0.0.0 and 10.1.0.0 on, the ports
+-- from 1024 on, and 53
 abbrev pub parts_of : ℕ → ℕ → ℕ → ℕ → ℕ → Parts
 parts_of i a b c d = record {
   to = 2 ∷ 0 ∷ 0 ∷ 0 ∷ 0 ∷ 2 ∷ [];
@@ -42,7 +42,7 @@ made_parts i state = parts_of i (drawn state) (drawn (next_state state))
 unfoldable pub after_frame : ℕ → ℕ
 after_frame state = next_state (next_state (next_state (next_state state)))
 
--- frame i, of these bytes: a thousand frames a second
+-- frame i, of these bytes: a thousand frames per second
 abbrev pub frame_with : ℕ → List ℕ → Frame
 frame_with i bytes = record {
   cpu = 0;
@@ -58,7 +58,7 @@ frame_with i bytes = record {
 unfoldable pub made_frame : ℕ → ℕ → Frame
 made_frame i state = frame_with i (built (made_parts i state))
 
--- so many frames from frame i on, from the state before them
+-- n frames from frame i on, from the state before them
 unfoldable pub made_from : ℕ → ℕ → ℕ → List Frame
 made_from zero i state = []
 made_from (suc more) i state = made_frame i state ∷ made_from more (i + 1) (after_frame state)

@@ -1,4 +1,4 @@
-//! Frames made from a seed: the same at each run, valid, and of many flows.
+//! Frames made from a seed: valid, of many flows, and the same on each run.
 #![tactic(auto)]
 
 mod generator;

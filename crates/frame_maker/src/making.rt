@@ -8,8 +8,8 @@ use frame_view::{ByteList, Frame, Frames, Memory, Parts, build};
 use std::alloc::Global;
 
 /// Makes the frames of a seed: UDP datagrams from 10.0.0.0/16, ports from 1024 on, to 10.1.0.0/24,
-/// port 53, with 0 to 1,400 bytes, a thousand a second from time 0 on, all of CPU 0, without a tag.
-/// Its memory is about the frames' bytes. The list is this project's own choice.
+/// port 53, with 0 to 1,400 bytes, a thousand per second from time 0 on, all of CPU 0, without a
+/// tag. Its memory is about the frames' bytes. The list is this project's own choice.
 #[tactic(auto, using(crate::proofs::Steps::steps, crate::proofs::Each::each), unfolding(crate::specs::Made::made))]
 pub fn make(alloc: Global, seed: u64, count: u32) -> Result<Frames, Memory>
     requires { count ≤ 20000 }
@@ -25,7 +25,7 @@ pub fn make(alloc: Global, seed: u64, count: u32) -> Result<Frames, Memory>
     Ok(Frames::from_vec(frames))
 }
 
-/// The frame with a number, of the next four draws.
+/// The frame with a number, from the next four draws.
 #[tactic(auto, unfolding(crate::specs::Made::made_frame))]
 fn made_frame(alloc: Global, index: u32, generator: &mut Generator) -> Result<Frame, Memory>
     requires { index < 20000 }
@@ -45,7 +45,7 @@ fn made_frame(alloc: Global, index: u32, generator: &mut Generator) -> Result<Fr
     })
 }
 
-/// The parts of the frame with a number, of the next four draws.
+/// The parts of the frame with a number, from the next four draws.
 #[tactic(auto, unfolding(crate::specs::Made::made_parts, crate::specs::Made::after_frame))]
 fn made_parts(alloc: Global, index: u32, generator: &mut Generator) -> Result<Parts, Memory>
     requires { index < 20000 }

@@ -1,4 +1,4 @@
-//! The text of a block with one byte changed, and texts that end elsewhere.
+//! The text of a block with one byte changed, and texts that end at another place.
 ghost use Rattle.std.specs.Prelude.{◌≡◌, length};
 
 use crate::sample_blocks::{PAGES, TEXT, fault, part};
@@ -8,7 +8,7 @@ use std::process::Abort;
 use std::test::Fail;
 use tp_layout::{LayoutKind, Shape, walk, walk_text};
 
-/// The place of a byte that is changed by an exclusive or with 1, and the fault with its place.
+/// The place of a byte that is changed by xor with 1, and the fault with its place.
 type Change = (usize, Option<(LayoutKind, u32)>);
 
 static CHANGES: [Change; 12] = [
@@ -49,7 +49,7 @@ fn changed_fault(
     Ok(fault(bytes.as_slice(), shape))
 }
 
-/// Holds the fault of each change to that of its row.
+/// Compares the fault of each change with its row.
 fn check_changes(
     rt: &impl Abort,
     alloc: Global,
@@ -69,13 +69,13 @@ fn one_byte_changed(rt: HostRuntime) -> Result<(), Fail> {
     check_changes(&rt, rt.alloc(), &shape, &CHANGES)
 }
 
-/// A place that is changed, and what is then read of the packet: its length on the wire, and the
+/// A place that is changed, and what is then read from the packet: its length on the wire, and the
 /// first byte of its data.
 type Read = (usize, u32, u8);
 
 static READS: [Read; 2] = [(64, 15, 0xff), (130, 14, 0xfe)];
 
-/// What is read of the first packet of a block.
+/// What is read from the first packet of a block.
 fn first_packet(bytes: &[u8], shape: &Shape) -> Option<(u32, u8)>
     requires { length bytes.now ≡ shape.now.block_size }
 {
@@ -84,7 +84,7 @@ fn first_packet(bytes: &[u8], shape: &Shape) -> Option<(u32, u8)>
     Some((packet.wire, *packet.bytes.first()?))
 }
 
-/// What is read of a block's packet with one byte changed.
+/// What is read from a block's packet with one byte changed.
 fn changed_packet(alloc: Global, shape: &Shape, place: usize) -> Result<Option<(u32, u8)>, Fail> {
     let bytes = changed(alloc, place)?;
     if bytes.len() != shape.block_size() as usize {

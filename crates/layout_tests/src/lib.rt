@@ -1,5 +1,5 @@
 //! Tests of blocks as bytes and of transmit rings: texts that another program wrote, the limits of
-//! the rules, and each call once where there is memory.
+//! the rules, and each call once with enough memory.
 #![tactic(auto)]
 
 #[cfg(test)]

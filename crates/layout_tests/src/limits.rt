@@ -1,4 +1,4 @@
-//! Requests at each limit of the rules for rings, and what is worked out of one.
+//! Requests at each limit of the rules for rings, and what follows from one.
 use RequestError::{
     BlockCount, BlockSize, Feature, FrameAlign, FrameCount, FrameSmall, Private, Slots, Transmit,
 };
@@ -107,7 +107,7 @@ static RECEIVE: [Receive; 22] = [
     ("nothing at all", [0, 0, 0, 0], NONE, Some(BlockSize)),
 ];
 
-/// Holds each request to its row.
+/// Compares each request's fault with its row.
 fn check_receive(rt: &impl Abort, rows: &[Receive]) {
     for (name, sizes, extras, fault) in rows {
         let found = request(*sizes, *extras).check().err();
@@ -169,7 +169,7 @@ static OTHERS: [Other; 7] = [
     ),
 ];
 
-/// Holds each request to its row.
+/// Compares each request's fault with its row.
 fn check_others(rt: &impl Abort, rows: &[Other]) {
     for (name, sizes, extras, transmit, slots) in rows {
         let request = request(*sizes, *extras);
@@ -183,7 +183,7 @@ fn requests_of_other_rings(rt: HostRuntime) {
     check_others(&rt, &OTHERS);
 }
 
-/// Holds what is worked out of a request for a private area of 13 bytes to its numbers.
+/// Compares what follows from a request for a private area of 13 bytes with its numbers.
 fn check_numbers(rt: &impl Abort, shape: &Shape) {
     let blocks = [shape.block_size(), shape.block_nr()];
     let frames = [shape.frame_size(), shape.frame_nr()];

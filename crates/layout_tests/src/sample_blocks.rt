@@ -29,7 +29,7 @@ pub(crate) const PAGES: RingRequest = RingRequest {
 /// A broadcast frame of 14 bytes.
 pub(crate) const FRAME: [u8; 14] = [0xff, 0xff, 0xff, 0xff, 0xff, 0xff, 2, 0, 0, 0, 0, 1, 8, 6];
 
-/// Block 1 with that frame alone, at 1 second and 2,000 nanoseconds, written by another program.
+/// Block 1 with only that frame, at 1 second and 2,000 nanoseconds, written by another program.
 pub(crate) const TEXT: &[u8] = b"\x02\x00\x00\x00\x30\x00\x00\x00\x01\x00\x00\x00\x01\x00\x00\x00\
     \x30\x00\x00\x00\x90\x00\x00\x00\x01\x00\x00\x00\x00\x00\x00\x00\
     \x01\x00\x00\x00\xd0\x07\x00\x00\x01\x00\x00\x00\xd0\x07\x00\x00\
@@ -84,7 +84,7 @@ pub(crate) fn new_block(alloc: Global, shape: &Shape) -> Result<Block, Fail>
     }
 }
 
-/// Block 1 with the packet of an offer alone, retired with status 1.
+/// Block 1 with only the packet of an offer, retired with status 1.
 pub(crate) fn block_with(alloc: Global, shape: &Shape, offer: &Offer) -> Result<Block, Fail>
     requires sound { IsWritable offer.now }
     requires fits { first_of shape.now + need_of offer.now.snap ≤ shape.now.block_size }
@@ -113,7 +113,7 @@ pub(crate) fn block_with(alloc: Global, shape: &Shape, offer: &Offer) -> Result<
     Ok(block)
 }
 
-/// The bytes from a place up to another, as far as they are there.
+/// The bytes from a place up to another, as far as there are any.
 pub(crate) fn part(bytes: &[u8], from: usize, to: usize) -> &[u8] {
     let (front, _) = bytes.split_at(to.min(bytes.len()));
     let (_, back) = front.split_at(from.min(front.len()));

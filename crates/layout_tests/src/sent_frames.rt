@@ -97,7 +97,7 @@ fn sent_of(alloc: Global, row: &Row) -> Result<(Vec<usize>, Counts), Fail> {
     Ok((sent, (told.sent, told.skipped, told.stop)))
 }
 
-/// Holds what is sent of each row's frames to the row.
+/// Compares what is sent of each row's frames with the row.
 fn check_rows(rt: &impl Abort, alloc: Global, rows: &[Row]) -> Result<(), Fail> {
     for row in rows {
         let (sent, counts) = sent_of(alloc, row)?;

@@ -24,7 +24,7 @@ pub(crate) const SLOTS: RingRequest = RingRequest {
 /// What is done to a ring.
 #[derive(Clone, Copy)]
 enum Act {
-    /// So many bytes are queued.
+    /// This number of bytes is queued.
     Queue(usize),
     /// A frame of this length, with this offset to a next one, is placed with this number of bytes.
     Place(u32, u32, usize),
@@ -33,14 +33,14 @@ enum Act {
     Status(u32),
 }
 
-/// What the ring says.
+/// What the ring answers.
 #[derive(Clone, Copy, Debug, PartialEq, Eq)]
 enum Said {
     Done,
     TooLong,
     Stopped(u32),
     Full,
-    /// So many were sent and skipped.
+    /// These numbers of packets were sent and skipped.
     Took(u32, u32),
     Bad(u32),
     Wanting,
@@ -48,7 +48,7 @@ enum Said {
     Stands(u32),
 }
 
-/// What is done to a new ring, what it says, and the lengths of the packets that it sends.
+/// What is done to a new ring, what it answers, and the lengths of the packets that it sends.
 struct Row {
     name: &'static str,
     skip_bad: bool,
@@ -165,7 +165,7 @@ static ROWS: [Row; 6] = [
     },
 ];
 
-/// What the answer of a place says.
+/// The answer of a place.
 fn say_place(answer: Result<(), TxError>) -> Said {
     match answer {
         Ok(()) => Done,
@@ -175,7 +175,7 @@ fn say_place(answer: Result<(), TxError>) -> Said {
     }
 }
 
-/// What the answer of a send says.
+/// The answer of a send.
 fn say_send(answer: Result<Sent, SendError>) -> Said {
     match answer {
         Ok(Sent { sent, skipped }) => Took(sent, skipped),
@@ -184,7 +184,7 @@ fn say_send(answer: Result<Sent, SendError>) -> Said {
     }
 }
 
-/// Does one thing to a ring, with bytes of 255.
+/// Does one act at a ring, with bytes of 255.
 fn do_act(ring: &mut TxRing, act: Act, out: &mut Packets) -> Said
     requires few { ring.old.placed < 1000 }
     ensures few { ring.new.placed ≤ ring.old.placed + 1 }
@@ -208,7 +208,7 @@ fn four_slots(alloc: Global, skip_bad: bool) -> Result<TxRing, Fail>
     Ok(TxRing::new(alloc, shape, skip_bad)?)
 }
 
-/// What a new ring says to these things.
+/// What a new ring answers to these acts.
 fn do_all(
     alloc: Global,
     ring: &mut TxRing,
@@ -235,7 +235,7 @@ pub(crate) fn lengths(alloc: Global, packets: &Packets) -> Result<Vec<usize>, Fa
     Ok(all)
 }
 
-/// What a new ring says to the acts of a row, and the lengths of the packets that it sends.
+/// What a new ring answers to the acts of a row, and the lengths of the packets that it sends.
 fn said_to(alloc: Global, row: &Row) -> Result<(Vec<Said>, Vec<usize>), Fail> {
     if row.acts.len() >= 100 {
         return Err("few acts".into());
@@ -246,7 +246,7 @@ fn said_to(alloc: Global, row: &Row) -> Result<(Vec<Said>, Vec<usize>), Fail> {
     Ok((said, lengths(alloc, &out)?))
 }
 
-/// Holds what a ring says and sends to each row.
+/// Compares what a ring answers and sends with each row.
 fn check_rows(rt: &impl Abort, alloc: Global, rows: &[Row]) -> Result<(), Fail> {
     for row in rows {
         let (said, sent) = said_to(alloc, row)?;
@@ -261,7 +261,7 @@ fn what_a_ring_says(rt: HostRuntime) -> Result<(), Fail> {
     check_rows(&rt, rt.alloc(), &ROWS)
 }
 
-/// What a ring sends of a frame of 16 bytes of which 14 were given, 6 each, after frames that
+/// What a ring sends for a frame of 16 bytes of which 14 were given, 6 each, after frames that
 /// filled its slots.
 fn padded(alloc: Global) -> Result<Packets, Fail> {
     let mut ring = four_slots(alloc, false)?;

@@ -1,4 +1,4 @@
-//! Blocks that are written and walked, beside bytes that another program wrote.
+//! Blocks that are written and walked, compared with bytes that another program wrote.
 ghost use Rattle.std.specs.Prelude.{◌≡◌, IfOk};
 
 use crate::sample_blocks::{FRAME, PAGES, TEXT, block_with, fault, new_block, offer, part};
@@ -11,10 +11,10 @@ use tp_layout::{
     walk, walk_text, write_header, write_packet,
 };
 
-/// Bytes that stand in a block from a place on.
+/// Bytes in a block from a place on.
 type Bytes = (usize, &'static [u8]);
 
-/// The first of these places where other bytes stand in a block.
+/// The first of these places where a block has other bytes.
 fn other_bytes(block: &[u8], rows: &[Bytes]) -> Option<usize> {
     for (from, bytes) in rows {
         if part(block, *from, from.saturating_add(bytes.len())) != *bytes {
@@ -24,7 +24,7 @@ fn other_bytes(block: &[u8], rows: &[Bytes]) -> Option<usize> {
     None
 }
 
-/// The packet of a walk that gives just one.
+/// The packet of a walk that gives exactly one.
 fn only_packet(answer: Result<PacketWalk<'_>, LayoutError>) -> Option<PacketRef<'_>> {
     let Ok(mut packets) = answer else {
         return None;
@@ -162,11 +162,12 @@ fn three_frames_one_after_another(rt: HostRuntime) -> Result<(), Fail> {
     Ok(())
 }
 
-/// Where the text ends that fills a block.
+/// The end of a text that fills a block.
 static FILLED: [Bytes; 1] = [(20, &[0, 16, 0, 0])];
 
-/// Of a packet of this wire length, of which 3,966 bytes are kept: whether its block's text is said
-/// to end elsewhere, how many bytes the text has, and how many the packet had and has.
+/// For a packet of this wire length, of which 3,966 bytes are kept: whether its block's text is
+/// reported to end at another place, how many bytes the text has, and how many the packet had and
+/// has.
 fn filled(
     alloc: Global,
     shape: &Shape,

@@ -28,7 +28,7 @@ starts shape skip = record {
   stopped = tt;
 }
 
--- none of two requests lists that end alike is told apart by how they are put together
+-- it makes no difference how two lists of requests were put together
 one_more : {X : Type 0} (done : List X) (request : X) (more : List X) → (done ++ request ∷ []) ++ more ≡ done ++ request ∷ more
 one_more done request more = append_assoc done (request ∷ []) more
 
@@ -50,7 +50,7 @@ takes_one shape skip done run request carries going =
       stopped = rw going tt;
     }
 
--- of requests that begin with a bad one nothing comes, whatever follows
+-- requests that begin with a bad one send nothing, whatever follows
 bad_alike : (room : ℕ) (skip : Bool) (requests xs ys : List Request) → (skip ≡ false) × BeginsBad room requests
     → (sent_by room skip (requests ++ xs) ≡ sent_by room skip (requests ++ ys))
     × (over_by room skip (requests ++ xs) ≡ over_by room skip (requests ++ ys))
@@ -62,7 +62,7 @@ bad_alike room false requests xs ys bad = (
   bad_stops room requests xs bad.1 ∙ sym (bad_stops room requests ys bad.1),
 )
 
--- a ring that stopped takes none, and nothing comes of it
+-- a ring that stopped takes no request, and sends nothing
 takes_none : (shape : RingRequest) (skip : Bool) (done : List Request) (run : Transmitter) (request : Request)
     → Carries shape skip done run → (skip ≡ false) × BeginsBad (room_of shape) run.ring.requests
     → Carries shape skip (done ++ request ∷ []) run
@@ -108,7 +108,7 @@ place_carries shape skip done run bytes (Some slot) is carries free =
     subst (Carries shape skip (done ++ request_for (room_of shape) bytes ∷ [])) (ap (λ (r : TxState). record run { ring = r }) (sym placed))
     (takes_none shape skip done run (request_for (room_of shape) bytes) carries bad)
 
--- a ring that didn't stop left none
+-- a ring that didn't stop left no request
 none_where : (ring : TxState) (left : List Request) → (stop_at_front ring left).stopped ≡ None → left ≡ []
 none_where ring [] none = refl
 none_where ring (request ∷ left) none = cc
@@ -118,7 +118,7 @@ none_after ring none =
     let left = after_taking (length (taken_by ring)) ring in
     (kept left left.requests).3 ∙ none_where left left.requests none
 
--- where all slots are requested a run sends, and has room then, or its ring stopped
+-- if all slots are requested a run sends, and then has room, or its ring stopped
 room_by : (shape : RingRequest) (skip : Bool) (done : List Request) (run : Transmitter) (full : Bool) → 0 < shape.frame_nr
     → (length run.ring.requests == run.ring.shape.frame_nr) ≡ full → Carries shape skip done run
     → Carries shape skip done (if full then sent_once run else run)
@@ -149,7 +149,7 @@ given shape skip frames run frame some carries =
     rw (requests-append (room_of shape) frames (frame ∷ []))
     (given_by shape skip (requests_of (room_of shape) frames) run frame (is_runt frame) some refl carries)
 
--- nothing comes of what a send leaves
+-- nothing is sent of what a send leaves
 nothing_more : (room : ℕ) (skip : Bool) (requests : List Request)
     → (sent_by room skip (left_in room skip requests ++ []) ≡ []) × (over_by room skip (left_in room skip requests ++ []) ≡ 0)
 nothing_more room true requests = (refl, refl)
@@ -170,7 +170,7 @@ stopped_is room false requests None stop none = rw (none refl) refl
 stopped_is room true requests (Some slot) stop none = absurd (true≢false stop.0)
 stopped_is room false requests (Some slot) stop none = sym (bad_stops room requests [] stop.1)
 
--- what comes of all requests is there after the last send
+-- the result of all requests is there after the last send
 pub record Comes (room : ℕ) (skip : Bool) (done : List Request) (run : Transmitter) : Type 0 where
   pub packets : run.packets ≡ sent_by room skip done
   pub skipped : run.skipped ≡ over_by room skip done
@@ -197,7 +197,7 @@ ended shape skip done run carries =
           ∙ last.stops [] ∙ ap (stops_by room skip) all;
     }
 
--- what comes of frames
+-- the result of frames
 pub frames_sent : (room : ℕ) (skip : Bool) (frames : List Frame) → 14 ≤ room → room + 48 < 2 ^ 32
     → sent_by room skip (requests_of room frames) ≡ plain_packets room (reached room skip frames)
 frames_sent room true frames some small = sent_all room frames some small

@@ -1,4 +1,4 @@
--- The kinds of frames, what is placed of each, and what comes of it.
+-- The kinds of frames, what is placed of each, and its result.
 use Rattle.std.proofs.Common.{◌≡◌, ℕ, suc, ◌+◌, ◌-◌, ◌^◌, ◌<◌, ◌≤◌, Bool, false, true, ◌⊎◌, List, [], ◌∷◌, ◌++◌, length, take, replicate, min, refl, ap, ◌∙◌, inl, inr, arith}
 use Rattle.std.specs.Prelude.{if◌then◌else◌, is_some, nat_lt, nat_le, ◌&&◌}
 use Rattle.std.proofs.lemmas.Bool.{cases_lt, le-leb, le-ltb, lt-leb, lt-ltb}
@@ -134,7 +134,7 @@ stops_all room (frame ∷ frames) some small =
       | inr (inr long) ↦ rw (long.whole, bad_kind room frame small long, long.long) refl
     ]
 
--- one request at most is placed for each frame
+-- at most one request is placed for each frame
 pub few_requests : (room : ℕ) (frames : List Frame) → length (requests_of room frames) ≤ length frames
 few_requests room [] = omega arith
 few_requests room (frame ∷ frames) =

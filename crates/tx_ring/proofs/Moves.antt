@@ -11,7 +11,7 @@ use Rattle.tx_ring.specs.Sending.{after_taking, is_good, front_of}
 use Rattle.tx_ring.specs.Slots.{Request, SlotState, empty_slot, slot_at}
 use Rattle.tx_ring.proofs.Turns.{among_more, first_is_past, length-requests_in, next_is_free, other_requests, requests_more, same_requests}
 
--- a fact of each slot that holds of the one that changed and of the others as they were
+-- a fact holds of each slot if it holds of the one that changed and of the others as they were
 pub each_slot : (P : ℕ → SlotState → Type 0) (slots : List SlotState) (at : ℕ) (slot : SlotState) → at < length slots → P at slot
     → ((k : ℕ) → k < length slots → (k ≡ at → ⊥) → P k (slot_at slots k))
     → (k : ℕ) → k < length (set slots at slot) → P k (slot_at (set slots at slot) k)
@@ -22,11 +22,11 @@ each_slot P slots at slot within here others k less =
       | inr other ↦ rw (get_or-set_other slots at k slot (empty_slot 0) other) (others k (omega arith) other)
     ]
 
--- one more is placed than was taken
+-- the number placed is one more than the number taken
 pub one_more : (placed taken : ℕ) → taken ≤ placed → placed + 1 - taken ≡ suc (placed - taken)
 one_more placed taken order = omega arith
 
--- after those that were taken stand those that weren't
+-- those that were taken are followed by those that weren't
 pub behind : (placed taken : ℕ) → taken ≤ placed → taken + (placed - taken) ≡ placed
 behind placed taken order = omega arith
 
@@ -159,7 +159,7 @@ taken_state shape skip slots placed taken slot keeps left =
     let requests = other_requests n slots at slot (taken + 1) (placed - (taken + 1)) past in
     rw (behind_first placed taken left, requests) refl
 
--- the marks of the slots beside that where the ring stops
+-- the marks of the slots other than the one where the ring stops
 stopped_there : (stopped : Option ℕ) (shape : RingRequest) (skip : Bool) (slots : List SlotState) (placed taken at : ℕ)
     → IfSome stopped (HasStopped (state_in shape skip slots placed taken stopped) taken) → (requested : Bool)
     → (at ≡ taken % shape.frame_nr → ⊥) → status_by stopped requested at ≡ status_by (Some (taken % shape.frame_nr)) requested at
@@ -238,7 +238,7 @@ opened shape skip some least =
       stop = tt;
     }
 
--- requests of which there are some and whose first one is bad begin with a bad one
+-- a non-empty list of requests whose first one is bad begins with a bad one
 pub begins_bad : (room : ℕ) (requests : List Request) → 0 < length requests → is_good room (front_of requests) ≡ false → BeginsBad room requests
 begins_bad room [] some bad = absurd (omega arith)
 begins_bad room (request ∷ requests) some bad = bad
@@ -254,7 +254,7 @@ not_stopped_by ring taken None stop going = refl
 not_stopped_by ring taken (Some slot) stop (inl good) = absurd (not_good (room_of ring.shape) ring.requests stop.bad good)
 not_stopped_by ring taken (Some slot) stop (inr skips) = absurd (true≢false (sym skips ∙ stop.stays))
 
--- a ring whose first request is good, or that passes bad ones over, hasn't stopped
+-- a ring whose first request is good, or that skips bad ones, hasn't stopped
 pub not_stopped : (ring : TxState) (taken : ℕ) → IfSome ring.stopped (HasStopped ring taken)
     → (is_good (room_of ring.shape) (front_of ring.requests) ≡ true) ⊎ (ring.skip_bad ≡ true) → ring.stopped ≡ None
 not_stopped ring taken stop going = not_stopped_by ring taken ring.stopped stop going

@@ -103,7 +103,7 @@ zeros_are size (suc more) least =
     rw (zeros_first size more, zeros_rest size more)
     (written_text (replicate size 0) (empty_slot size) (empty_sound size least) (zeros_empty size least), zeros_are size more least)
 
--- bytes of slots that more follow
+-- bytes of slots that are followed by more
 more_first : (size count : ℕ) (bytes more : List ℕ) → length bytes ≡ suc count * size → take size (bytes ++ more) ≡ take size bytes
 more_first size count bytes more whole = take-append-le size bytes more (omega arith)
 
@@ -134,7 +134,7 @@ grown_are size (suc written) more bytes least whole each =
     rw (next, more_first size written bytes (replicate (more * size) 0) whole, more_rest size written bytes (replicate (more * size) 0) whole)
     (each.0, grown_are size written more (drop size bytes) least (rest_whole size written bytes whole) each.1)
 
--- what becomes of the bytes where a slot is written
+-- the bytes after a slot is written
 put_first : (size : ℕ) (bytes slot : List ℕ) → put_slot (0 * size) size bytes slot ≡ slot ++ drop size bytes
 put_first size bytes slot =
     let none : 0 * size ≡ 0 = omega arith in

@@ -1,4 +1,4 @@
--- What a request for a transmit ring has that passed its tests.
+-- What is known of a request for a transmit ring that passed its tests.
 use Rattle.std.proofs.Common.{◌≡◌, ◌*◌, ◌/◌, ◌%◌, ◌<◌, ◌≤◌, Bool, true, false, Option, None, Some, refl, sym, arith}
 use Rattle.std.specs.Prelude.{◌==◌, ◌||◌, ◌&&◌, not, nat_lt, if◌then◌else◌}
 use Rattle.std.specs.Option.{option_or}
@@ -8,7 +8,7 @@ use Rattle.tp_layout.specs.declared.requests.RingRequest.{RingRequest}
 use Rattle.tp_layout.specs.declared.error.RequestError.TheVariants.{BlockSize, BlockCount, Private, FrameSmall, FrameAlign, FrameCount, Transmit}
 use Rattle.tp_layout.specs.Requests.{frames_in, receive_fault, transmit_fault}
 
--- a test that fails answers
+-- a test that fails is the answer
 passed : {X : Type 0} (test : Bool) (fault : X) (rest : Option X) → (if test then Some fault else rest) ≡ None → (test ≡ false) × (rest ≡ None)
 passed true fault rest none = cc
 passed false fault rest none = (refl, none)

@@ -1,4 +1,5 @@
--- A run of frames through a ring: what was sent and what is still requested make up what becomes of all requests.
+-- A run of frames through a ring: what was sent and what is still requested make up the result of
+-- all requests.
 use Rattle.std.proofs.Common.{◌≡◌, ℕ, ◌+◌, ◌≤◌, Bool, false, true, ◌⊎◌, List, [], ◌∷◌, ◌++◌, length, drop, Option, None, Some, IfSome, Ok, Err, true≢false, refl, sym, ap, subst, ◌∙◌, inl, inr, arith}
 use Rattle.std.specs.Prelude.{if◌then◌else◌}
 use Rattle.std.proofs.lemmas.List.{append_assoc}
@@ -132,7 +133,7 @@ left_by_send shape skip done run carries =
           (stops_where room skip left left.requests begins none);
     }
 
--- a run goes on to carry its requests through a send
+-- a run still represents its requests after a send
 pub send_carries : (shape : RingRequest) (skip : Bool) (done : List Request) (run : Transmitter) → Carries shape skip done run
     → Carries shape skip done (sent_once run)
 send_carries shape skip done run carries =

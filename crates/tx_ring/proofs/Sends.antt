@@ -1,4 +1,4 @@
--- A send under way: what it took so far stands before what is left.
+-- A send under way: what it took so far comes before what is left.
 use Rattle.std.proofs.Common.{◌≡◌, ℕ, ◌+◌, ◌-◌, ◌<◌, ◌≤◌, Bool, false, true, List, [], ◌∷◌, ◌++◌, length, take, drop, Option, Some, IfSome, Ok, Err, true≢false, refl, sym, ap, ◌∙◌, arith}
 use Rattle.std.specs.Prelude.{if◌then◌else◌}
 use Rattle.std.proofs.lemmas.List.{length-append, append_assoc, append-nil, nil_from_length}
@@ -18,7 +18,7 @@ use Rattle.tx_ring.proofs.Takings.{AllGood, at_some, bad_bad, bad_first, bad_goo
 abbrev pub counts_in : ℕ → List Request → Sent
 counts_in room requests = record { sent = length (packets_of room requests); skipped = bad_in room requests }
 
--- a send that took so many requests of a ring, and what it appended and counted
+-- a send that took n requests of a ring, and what it appended and counted
 pub record Going (old new : TxState) (before after : List Packet) (counts : Sent) (count : ℕ) : Type 0 where
   pub done : List Request
   pub many : length done ≡ count
@@ -40,7 +40,7 @@ starts ring out = record {
   may = λ stays. tt;
 }
 
--- a request of those that aren't taken yet stands first
+-- the first slot left has a request that isn't taken yet
 pub some_left : (old new : TxState) (before after : List Packet) (counts : Sent) (count : ℕ)
     → Going old new before after counts count → count < length old.requests → 0 < length new.requests
 some_left old new before after counts count going more =
@@ -160,7 +160,7 @@ pub appended : (old new : TxState) (before after : List Packet) (counts : Sent) 
 appended old new before after counts count going whole =
     going.packets ∙ ap (λ (done : List Request). before ++ packets_of (room_of old.shape) done) (sym whole)
 
--- a send that came to the end took all
+-- a send that reached the end took all
 pub at_end : (old new : TxState) (before after : List Packet) (counts : Sent) (count : ℕ)
     → (going : Going old new before after counts count) → length old.requests ≤ count
     → (new.requests ≡ []) × (taken_by old ≡ going.done)
@@ -179,7 +179,7 @@ at_bad old new before after counts count going stays bad =
     all_taken old new before after counts count going
     (ap (λ (skip : Bool). if skip then new.requests else good_front (room_of old.shape) new.requests) same ∙ bad_first (room_of old.shape) new.requests is_bad)
 
--- a send that was broken off at a good request
+-- a send that was interrupted at a good request
 pub broken_off : (old mid new : TxState) (before half after : List Packet) (counts : Sent) (count : ℕ)
     → (going : Going old mid before half counts count) → 0 < length mid.requests → FrontTaken mid new half after (Err Memory)
     → IsBrokenOff (length going.done) old new before after
@@ -199,20 +199,20 @@ broken_off old mid new before half after counts count going some taken =
           (sym (ap (take (length going.done)) going.requests ∙ take-append_seam going.done mid.requests));
     }
 
--- what a send says that ends by an error
+-- what a send says if it ends with an error
 pub record EndsBy (error : SendError) (old new : TxState) (before after : List Packet) : Type 0 where
   pub answer : UnlessMemory (Err error) (Err error ≡ send_answer old)
   pub ring : UnlessMemory (Err error) (new ≡ after_send old)
   pub packets : UnlessMemory (Err error) (after ≡ before ++ packets_sent old)
   pub memory : OnMemory (Err error) ((count : ℕ) × IsBrokenOff count old new before after)
 
--- requests of which there are some stop the ring
+-- a non-empty rest of requests stops the ring
 stops_at : (ring : TxState) (counts : Sent) (requests : List Request) → 0 < length requests
     → (answer_with ring counts requests ≡ Err (BadSlot (front_slot ring))) × (stop_at_front ring requests ≡ record ring { stopped = Some (front_slot ring) })
 stops_at ring counts [] some = absurd (omega arith)
 stops_at ring counts (request ∷ requests) some = (refl, refl)
 
--- a send that came to an error
+-- a send that ended with an error
 pub ends_by : (error : SendError) (old mid new : TxState) (before half after : List Packet) (counts : Sent) (count : ℕ)
     → Going old mid before half counts count → count < length old.requests → FrontTaken mid new half after (Err error)
     → EndsBy error old new before after

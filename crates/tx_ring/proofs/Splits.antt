@@ -1,4 +1,4 @@
--- What comes of requests is what comes of those that a send takes, and then of those that it leaves.
+-- The result of requests is that of those that a send takes, and then that of those that it leaves.
 use Rattle.std.proofs.Common.{◌≡◌, ℕ, ◌+◌, Bool, false, true, ◌⊎◌, List, [], ◌∷◌, ◌++◌, length, drop, refl, sym, ap, inl, inr, arith}
 use Rattle.std.specs.Prelude.{if◌then◌else◌}
 use Rattle.std.proofs.Math.Seq.{drop-length}
@@ -18,7 +18,8 @@ after_good room (request ∷ requests) = if is_good room request then after_good
 abbrev pub left_in : ℕ → Bool → List Request → List Request
 left_in room skip requests = if skip then [] else after_good room requests
 
--- the packets that are sent of requests, the number of those that are skipped, and whether one stops the ring
+-- the packets that are sent of requests, the number of those that are skipped, and whether one
+-- stops the ring
 abbrev pub sent_by : ℕ → Bool → List Request → List Packet
 sent_by room skip requests = packets_of room (taken_in room skip requests)
 
@@ -32,7 +33,7 @@ has_bad room (request ∷ requests) = if is_good room request then has_bad room 
 abbrev pub stops_by : ℕ → Bool → List Request → Bool
 stops_by room skip requests = if skip then false else has_bad room requests
 
--- none that is good is skipped
+-- no good request is skipped
 pub bad_in_good : (room : ℕ) (requests : List Request) → bad_in room (good_front room requests) ≡ 0
 bad_in_good room [] = refl
 bad_in_good room (request ∷ requests) =
@@ -41,7 +42,7 @@ bad_in_good room (request ∷ requests) =
       | false ↦ λ bad. refl
     ] refl
 
--- what a send leaves behind what it takes
+-- what a send leaves after what it takes
 pub dropped_good : (room : ℕ) (requests : List Request) → drop (length (good_front room requests)) requests ≡ after_good room requests
 dropped_good room [] = refl
 dropped_good room (request ∷ requests) =
@@ -74,7 +75,7 @@ bad_append room (x ∷ xs) ys =
       | false ↦ omega (arith, rest)
     ]
 
--- what is sent of requests is sent of those that are taken, and then of what is left
+-- the packets sent for requests are those of the ones that are taken, and then those of the rest
 pub sent_good : (room : ℕ) (requests more : List Request)
     → packets_of room (good_front room (requests ++ more)) ≡ packets_of room (good_front room requests) ++ packets_of room (good_front room (after_good room requests ++ more))
 sent_good room [] more = refl
@@ -122,7 +123,7 @@ left_bad room (request ∷ requests) =
       | false ↦ λ bad. inr (sym bad)
     ] refl
 
--- of requests that begin with a bad one which isn't skipped none is sent, whatever follows
+-- if requests begin with a bad one that isn't skipped, none is sent, whatever follows
 pub bad_sends_none : (room : ℕ) (requests more : List Request) → BeginsBad room requests → sent_by room false (requests ++ more) ≡ []
 bad_sends_none room [] more bad = absurd bad
 bad_sends_none room (request ∷ requests) more bad = rw bad refl

@@ -1,4 +1,4 @@
--- What a send leaves, and that a ring which it stopped stays as it is.
+-- What a send leaves, and that a ring stopped by it stays as it is.
 use Rattle.std.proofs.Common.{◌≡◌, ℕ, ◌-◌, Bool, false, true, List, [], ◌∷◌, ◌++◌, length, Option, Some, IfSome, Err, refl, sym, ap, subst, ◌∙◌, inl, inr}
 use Rattle.std.specs.Prelude.{if◌then◌else◌, nat_lt}
 use Rattle.std.proofs.lemmas.List.{append-nil}
@@ -15,7 +15,7 @@ use Rattle.tx_ring.proofs.Sends.{stopped_answer}
 use Rattle.tx_ring.proofs.Splits.{after_good, left_in, left_is, taken_in}
 use Rattle.tx_ring.proofs.Takings.{begun_bad}
 
--- those that are good and those that are left are all
+-- the good requests and those left make up all
 good_and_left : (room : ℕ) (requests : List Request) → good_front room requests ++ after_good room requests ≡ requests
 good_and_left room [] = refl
 good_and_left room (request ∷ requests) =

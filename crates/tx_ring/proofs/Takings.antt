@@ -1,4 +1,4 @@
--- Requests that are taken from the start: what comes of them, and what a bad one leaves after it.
+-- Requests that are taken from the start: their result, and what a bad one leaves after it.
 use Rattle.std.proofs.Common.{◌≡◌, ℕ, suc, ◌+◌, ◌<◌, Bool, false, true, List, [], ◌∷◌, ◌++◌, length, drop, Option, None, Some, IfSome, refl, ap, subst, arith}
 use Rattle.std.specs.Prelude.{if◌then◌else◌}
 use Rattle.frame_view.specs.declared.frames.Packet.{Packet}
@@ -45,12 +45,12 @@ bad_bad room (first ∷ done) request bad =
       | false ↦ ap (λ (n : ℕ). n + 1) (bad_bad room done request bad)
     ]
 
--- requests of which there are some are the first one and the rest
+-- a non-empty list of requests is the first one and the rest
 pub first_and_rest : (requests : List Request) → 0 < length requests → requests ≡ front_of requests ∷ drop 1 requests
 first_and_rest [] some = absurd (omega arith)
 first_and_rest (request ∷ requests) some = refl
 
--- all are taken of requests that are all good
+-- of requests that are all good, all are taken
 pub good_all : (room : ℕ) (done : List Request) → AllGood room done → good_front room done ≡ done
 good_all room [] all = refl
 good_all room (request ∷ done) all = rw (all.0, good_all room done all.1) refl
@@ -60,7 +60,7 @@ pub good_before : (room : ℕ) (done left : List Request) → AllGood room done 
 good_before room [] left all = refl
 good_before room (request ∷ done) left all = rw (all.0, good_before room done left all.1) refl
 
--- what a send takes of a ring of which it took so much already
+-- what a send takes of a ring after it took some already
 pub taken_of : (skip : Bool) (room : ℕ) (done left : List Request) → (skip ≡ false → AllGood room done)
     → (if skip then done ++ left else good_front room (done ++ left)) ≡ done ++ (if skip then left else good_front room left)
 taken_of true room done left may = refl
@@ -71,12 +71,12 @@ pub none_left : (skip : Bool) (room : ℕ) (left : List Request) → left ≡ []
 none_left true room left none = none
 none_left false room left none = ap (good_front room) none
 
--- a send that came to a bad request which isn't skipped took all that it takes
+-- a send that reached a bad request that isn't skipped took all that it takes
 pub bad_first : (room : ℕ) (requests : List Request) → is_good room (front_of requests) ≡ false → good_front room requests ≡ []
 bad_first room [] bad = refl
 bad_first room (request ∷ requests) bad = rw bad refl
 
--- a send that came to a good request takes that too
+-- a send that reached a good request takes that too
 pub good_more : (skip : Bool) (room : ℕ) (requests : List Request) → 0 < length requests → is_good room (front_of requests) ≡ true
     → 0 < length (if skip then requests else good_front room requests)
 good_more skip room [] some good = absurd (omega arith)

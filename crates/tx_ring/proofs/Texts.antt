@@ -1,4 +1,4 @@
--- What the bytes of a slot say, and what a write leaves of them.
+-- What the bytes of a slot say, and how a write changes them.
 use Rattle.std.proofs.Common.{◌≡◌, ℕ, zero, suc, ◌+◌, ◌-◌, ◌<◌, ◌≤◌, List, [], ◌∷◌, ◌++◌, length, take, drop, replicate, refl, sym, ap, subst, ◌∙◌, inl, inr, arith}
 use Rattle.std.proofs.lemmas.Bool.{cases_lt}
 use Rattle.std.proofs.lemmas.List.{drop-drop, drop-replicate, length-append, length-replicate, append-nil, replicate-append-replicate, take-replicate}
@@ -43,13 +43,13 @@ zeros_empty size fits =
     let all : 48 + (size - 48) ≡ size = omega arith in
     ap (λ (n : ℕ). replicate n 0) (sym all) ∙ sym (replicate-append-replicate 48 (size - 48) 0)
 
--- the status alone is written
+-- only the status is written
 pub marked : (bytes : List ℕ) (slot : SlotState) (status : ℕ) → bytes ≡ slot_text slot
     → take 20 bytes ++ (little_bytes 4 status ++ drop 24 bytes) ≡ slot_text (record slot { status = status })
 unfolding slot_text header_text
 marked bytes slot status text = rw text refl
 
--- how many zeros follow some bytes makes no difference to the first so many
+-- how many zeros follow some bytes makes no difference to the first n
 pub padded : (bytes : List ℕ) (count n m : ℕ) → count ≤ length bytes + n → count ≤ length bytes + m
     → take count (bytes ++ replicate n 0) ≡ take count (bytes ++ replicate m 0)
 padded [] count n m fits also = take-replicate count n 0 (omega arith) ∙ sym (take-replicate count m 0 (omega arith))
@@ -57,7 +57,7 @@ padded (byte ∷ bytes) zero n m fits also = refl
 padded (byte ∷ bytes) (suc count) n m fits also =
     ap (λ (rest : List ℕ). byte ∷ rest) (padded bytes count n m (omega arith) (omega arith))
 
--- a piece of memory that was lent whole has what was written into it
+-- a piece of memory that was borrowed whole has what was written into it
 pub lent : (count : ℕ) (new old : List ℕ) → length new ≡ count → length old ≡ count → take count (new ++ drop (length new) old) ≡ new
 lent count new old whole same =
     let none : drop (length new) old ≡ [] = drop_of_length-le old (omega arith) in

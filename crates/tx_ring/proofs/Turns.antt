@@ -42,7 +42,7 @@ or_right : (a b : Bool) → a || b ≡ false → b ≡ false
 or_right true b none = cc
 or_right false b none = none
 
--- a place that is the slot of none of some numbers isn't among their slots
+-- a place that isn't the slot of any of some numbers isn't among their slots
 pub away : (places at from count : ℕ) → ((i : ℕ) → i < count → (from + i) % places ≡ at → ⊥) → is_among places at from count ≡ false
 away places at from zero none = refl
 away places at from (suc count) none =
@@ -50,7 +50,7 @@ away places at from (suc count) none =
     let rest = away places at (from + 1) count (λ i less same. none (suc i) (omega arith) (ap (λ (n : ℕ). n % places) (omega arith) ∙ same)) in
     rw (false_from_ne_true (from % places == at) (λ yes. here (eqb-true (from % places) at yes)), rest) refl
 
--- the slot after some that are fewer than there are places isn't among them
+-- the slot after some slots, fewer than there are places, isn't among them
 pub next_is_free : (places from count : ℕ) → count < places → is_among places ((from + count) % places) from count ≡ false
 next_is_free places from count less =
     away places ((from + count) % places) from count
@@ -62,7 +62,7 @@ first_is_past places from count less =
     away places (from % places) (from + 1) count
     (λ i below same. apart places from (suc i) (omega arith) (omega arith) (ap (λ (n : ℕ). n % places) (omega arith) ∙ same))
 
--- a slot that is among some is among those of which it is the first or after it
+-- a slot among some slots is the first of them or among the rest
 pub among_more : (places at from count : ℕ) → is_among places at from (suc count) ≡ is_among places at from count || ((from + count) % places == at)
 among_more places at from zero =
     rw (add-zero from) (or_false (from % places == at))

@@ -6,13 +6,13 @@ use Rattle.tx_ring.specs.Rings.{TxState, is_among, room_of, slot_of, status_by}
 use Rattle.tx_ring.specs.Sending.{is_good}
 use Rattle.tx_ring.specs.Slots.{Request, SlotState, slot_at}
 
--- what n slots of a ring of `places` ask for, from that of number `from` on
+-- what n slots of a ring with `places` slots ask for, from number `from` on
 abbrev pub requests_in : ℕ → List SlotState → ℕ → ℕ → List Request
 requests_in places slots from zero = []
 requests_in places slots from (suc count) =
     (slot_at slots (from % places)).request ∷ requests_in places slots (from + 1) count
 
--- the state of a ring with these slots, of whose requests `taken` were taken
+-- the state of a ring with these slots, after `taken` of its requests were taken
 abbrev pub state_in : RingRequest → Bool → List SlotState → ℕ → ℕ → Option ℕ → TxState
 state_in shape skip slots placed taken stopped = record {
   shape = shape;
@@ -33,7 +33,7 @@ pub record HasStopped (ring : TxState) (taken slot : ℕ) : Type 0 where
   pub bad : BeginsBad (room_of ring.shape) ring.requests
   pub stays : ring.skip_bad ≡ false
 
--- what the fields of a ring keep, of whose requests `taken` were taken
+-- what the fields of a ring keep, after `taken` of its requests were taken
 pub record Keeps (ring : TxState) (slots : List SlotState) (taken : ℕ) : Type 0 where
   pub places : length slots ≡ ring.shape.frame_nr
   pub some : 0 < ring.shape.frame_nr

@@ -1,4 +1,4 @@
--- A transmit ring between two calls, and what a place makes of it.
+-- A transmit ring between two calls, and how a place changes it.
 use Rattle.std.specs.Prelude.{ℕ, zero, suc, ◌+◌, ◌-◌, ◌%◌, Bool, false, ◌||◌, ◌==◌, nat_lt}
 use Rattle.std.specs.Prelude.{if◌then◌else◌, List, [], ◌∷◌, ◌++◌, length, Option, None, Some}
 use Rattle.std.specs.Prelude.{Result, Ok, Err, is_ok}
@@ -50,7 +50,7 @@ slot_of shape number = number % shape.frame_nr
 abbrev pub front_slot : TxState → ℕ
 front_slot ring = slot_of ring.shape (ring.placed - length ring.requests)
 
--- the answer where all slots may be requested: whether one is free
+-- the answer by whether a slot is free
 abbrev pub if_free : TxState → Result (Unit {0}) TxError
 if_free ring = if length ring.requests == ring.shape.frame_nr then Err Full else Ok tt
 
@@ -59,7 +59,7 @@ abbrev pub if_going : TxState → Option ℕ → Result (Unit {0}) TxError
 if_going ring (Some slot) = Err (Stopped slot)
 if_going ring None = if_free ring
 
--- what a place of these bytes answers
+-- the answer of a place of these bytes
 abbrev pub place_answer : TxState → List ℕ → Result (Unit {0}) TxError
 place_answer ring bytes =
     if nat_lt (room_of ring.shape) (length bytes) then Err TooLong else if_going ring ring.stopped
@@ -79,8 +79,8 @@ abbrev pub is_among : ℕ → ℕ → ℕ → ℕ → Bool
 is_among places at from zero = false
 is_among places at from (suc count) = (from % places == at) || is_among places at (from + 1) count
 
--- the status of a slot: WRONG_FORMAT (4) where the ring stopped, else SEND_REQUEST (1) where it is
--- requested, else AVAILABLE (0)
+-- the status of a slot: WRONG_FORMAT (4) where the ring stopped, otherwise SEND_REQUEST (1) if it
+-- is requested, otherwise AVAILABLE (0)
 abbrev pub status_by : Option ℕ → Bool → ℕ → ℕ
 status_by None requested at = if requested then 1 else 0
 status_by (Some stop) requested at = if stop == at then 4 else (if requested then 1 else 0)
@@ -91,6 +91,6 @@ status_of ring at =
     let count = length ring.requests in
     status_by ring.stopped (is_among ring.shape.frame_nr at (ring.placed - count) count) at
 
--- what is reported of the status of slot n
+-- the reported status of slot n
 abbrev pub status_at : TxState → ℕ → Option ℕ
 status_at ring at = if nat_lt at ring.shape.frame_nr then Some (status_of ring at) else None

@@ -1,4 +1,4 @@
--- What a send takes of the requests of a transmit ring, and what it makes of them.
+-- Which requests of a transmit ring a send takes, and what it makes of them.
 use Rattle.std.specs.Prelude.{◌≡◌, ℕ, ◌+◌, ◌<◌, Bool, false, true, ◌&&◌, ◌==◌, nat_le}
 use Rattle.std.specs.Prelude.{if◌then◌else◌, List, [], ◌∷◌, ◌++◌, length, take, drop, replicate}
 use Rattle.std.specs.Prelude.{Some, Result, Ok, Err, ⊤}
@@ -10,8 +10,8 @@ use Rattle.tx_ring.specs.declared.error.SendError.{SendError}
 use Rattle.tx_ring.specs.declared.error.SendError.TheVariants.{BadSlot, Memory}
 use Rattle.tx_ring.specs.declared.ring.Sent.{Sent}
 
--- a request is good where it has no next frame, and from 14 bytes to as many as fit after the
--- header of a slot
+-- a request is good if it has no next frame, and a length from 14 to what fits after the header of
+-- a slot
 abbrev pub is_good : ℕ → Request → Bool
 is_good room request =
     (request.next_offset == 0) && (nat_le 14 request.length && nat_le request.length room)
@@ -62,7 +62,7 @@ packets_sent ring = packets_of (room_of ring.shape) (taken_by ring)
 abbrev pub after_taking : ℕ → TxState → TxState
 after_taking count ring = record ring { requests = drop count ring.requests }
 
--- the ring after all was taken that may be: it stops at the slot of a request that is left
+-- the ring after all possible requests were taken: it stops at the slot of a request that is left
 abbrev pub stop_at_front : TxState → List Request → TxState
 stop_at_front ring [] = ring
 stop_at_front ring (request ∷ requests) = record ring { stopped = Some (front_slot ring) }
@@ -90,24 +90,24 @@ send_answer ring =
     let left = after_taking (length (taken_by ring)) ring in
     answer_with left (counts_of ring) left.requests
 
--- a fact of each answer but `Memory`
+-- a fact about each answer except `Memory`
 abbrev pub UnlessMemory : Result Sent SendError → Type 0 → Type 0
 UnlessMemory (Ok sent) P = P
 UnlessMemory (Err (BadSlot slot)) P = P
 UnlessMemory (Err Memory) P = ⊤
 
--- a fact of `Memory`
+-- a fact about `Memory`
 abbrev pub OnMemory : Result Sent SendError → Type 0 → Type 0
 OnMemory (Err Memory) P = P
 OnMemory (Err (BadSlot slot)) P = ⊤
 OnMemory (Ok sent) P = ⊤
 
--- the counts of a send with one request more that was sent or skipped
+-- the counts of a send with one more request that was sent or skipped
 abbrev pub counted : Sent → Bool → Sent
 counted counts true = record counts { sent = counts.sent + 1 }
 counted counts false = record counts { skipped = counts.skipped + 1 }
 
--- what became of the first request of a ring: it was sent or skipped, the ring stopped there, or
+-- the outcome for the first request of a ring: it was sent or skipped, the ring stopped there, or
 -- memory ran out
 abbrev pub FrontTaken :
     TxState → TxState → List Packet → List Packet → Result Bool SendError → Type 0
@@ -125,7 +125,7 @@ FrontTaken old new before after (Err (BadSlot slot)) =
 FrontTaken old new before after (Err Memory) =
     (is_good (room_of old.shape) (front_of old.requests) ≡ true) × (new ≡ old) × (after ≡ before)
 
--- a send that was broken off took `count` of the requests that it takes, and the next one is still
+-- a send that was interrupted took `count` of the requests that it takes, and the next one is still
 -- requested
 pub record IsBrokenOff (count : ℕ) (old new : TxState) (before after : List Packet) : Type 0 where
   pub some_left : count < length (taken_by old)

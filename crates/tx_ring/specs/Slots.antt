@@ -17,7 +17,7 @@ pub record SlotState : Type 0 where
   pub status : ℕ
   pub request : Request
 
--- what a slot asks for that nothing was written into
+-- the request of a slot that nothing was written into
 abbrev pub no_request : Request
 no_request = record { next_offset = 0; length = 0; bytes = [] }
 
@@ -71,6 +71,6 @@ pub record IsSlot (bytes : List ℕ) : Type 0 where
   pub text : bytes ≡ slot_text (slot_in bytes)
   pub sound : IsSound (slot_in bytes)
 
--- bytes of which those of the slot of this size at a place are these
+-- bytes in which the slot of this size at a place has these
 abbrev pub put_slot : ℕ → ℕ → List ℕ → List ℕ → List ℕ
 put_slot from size bytes slot = take from bytes ++ (slot ++ drop (from + size) bytes)

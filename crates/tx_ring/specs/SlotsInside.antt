@@ -1,4 +1,4 @@
--- The slots of a ring by their fields: those that were written stand in its bytes, and those after
+-- The slots of a ring by their fields: those that were written are in its bytes, and those after
 -- them have none yet.
 use Rattle.std.specs.Prelude.{◌≡◌, ℕ, zero, suc, ◌-◌, ◌*◌, ◌^◌, ◌<◌, ◌≤◌, List, [], ◌∷◌, ◌++◌}
 use Rattle.std.specs.Prelude.{length, take, drop, replicate}
@@ -27,8 +27,8 @@ abbrev pub all_slots : Inside → List SlotState
 all_slots slots =
     slots_by slots.shape.frame_size slots.shape.frame_nr slots.written slots.bytes.items
 
--- `count` slots of this size, of which `written` were written: these bytes are theirs, and there is
--- room for those of all
+-- `count` slots of this size, the first `written` of which were written: these bytes are theirs,
+-- and there is memory for all
 pub record IsKept (size count written room : ℕ) (bytes : List ℕ) : Type 0 where
   pub least : 48 ≤ size
   pub small : count * size < 2 ^ 64

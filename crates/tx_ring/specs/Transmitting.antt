@@ -1,4 +1,4 @@
--- What becomes of frames that are sent through a transmit ring. Lengths are in bytes.
+-- The result of frames that are sent through a transmit ring. Lengths are in bytes.
 use Rattle.std.specs.Prelude.{ℕ, ◌+◌, ◌-◌, ◌^◌, Bool, ◌&&◌, ◌==◌, nat_le, nat_lt, if◌then◌else◌}
 use Rattle.std.specs.Prelude.{is_some, List, [], ◌∷◌, ◌++◌, length, min, take, Option, None, Some}
 use Rattle.frame_view.specs.PlainPacket.{plain_of}
@@ -10,7 +10,7 @@ use Rattle.tx_ring.specs.Slots.{Request}
 use Rattle.tx_ring.specs.declared.transmitting.Transmitted.{Transmitted}
 use Rattle.tx_ring.specs.declared.transmitting.Transmitter.{Transmitter}
 
--- a frame of fewer bytes than an Ethernet header has
+-- a frame with fewer bytes than an Ethernet header
 abbrev pub is_runt : Frame → Bool
 is_runt frame = nat_lt (length frame.bytes) 14
 
@@ -47,12 +47,12 @@ first_long room [] = None
 first_long room (frame ∷ frames) =
     if is_long room frame then Some frame.index else first_long room frames
 
--- the frames of which packets are sent: with `skip_bad` the longer ones are skipped, else the first
--- of them stops all
+-- the frames whose packets are sent: with `skip_bad` the longer ones are skipped, otherwise the
+-- first of them stops the ring
 abbrev pub reached : ℕ → Bool → List Frame → List Frame
 reached room skip frames = if skip then frames else before_long room frames
 
--- what becomes of frames
+-- the result of frames
 abbrev pub transmitted_of : ℕ → Bool → List Frame → Transmitted
 transmitted_of room skip frames = record {
   packets = plain_packets room (reached room skip frames);
@@ -69,7 +69,7 @@ request_for room bytes =
     then request_of 0 (min (length bytes) (2 ^ 32 - 1)) (take room bytes)
     else request_of 0 (length bytes) bytes
 
--- what is placed of frames, of which runts are left out
+-- what is placed of frames, without the runts
 abbrev pub requests_of : ℕ → List Frame → List Request
 requests_of room [] = []
 requests_of room (frame ∷ frames) =
@@ -90,7 +90,7 @@ placed_in run bytes = record run {
   ring = after_place run.ring (request_for (room_of run.ring.shape) bytes);
 }
 
--- a run with room for a frame: where all slots are requested it sends first
+-- a run with room for a frame: if all slots are requested it sends first
 abbrev pub with_room : Transmitter → Transmitter
 with_room run = if length run.ring.requests == run.ring.shape.frame_nr then sent_once run else run
 

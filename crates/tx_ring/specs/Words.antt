@@ -1,4 +1,4 @@
--- What is printed of the errors of a transmit ring.
+-- How the errors of a transmit ring are printed.
 use Rattle.std.specs.Prelude.{ℕ, List, ◌++◌, codes, decimal}
 use Rattle.tx_ring.specs.declared.error.SendError.{SendError}
 use Rattle.tx_ring.specs.declared.error.SendError.TheVariants.{BadSlot, Memory}

@@ -21,9 +21,9 @@ pub enum TxError {
 /// Why no more frames are sent.
 #[derive(Clone, Copy, Debug, PartialEq, Eq)]
 pub enum SendError {
-    /// The slot of this number asks for what can't be sent, and the ring stopped there.
+    /// The request in the slot of this number can't be sent, and the ring stopped there.
     BadSlot(u32),
-    /// A request for memory was refused.
+    /// An allocation failed.
     Memory,
 }
 

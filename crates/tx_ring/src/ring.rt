@@ -1,12 +1,12 @@
 //! The ring of slots, in the manner of the kernel's `tpacket_snd` with TPACKET_V3.
 //!
 //! All slots are available at first. A sender places frames in turn: it writes a slot, which
-//! requests it, and goes on to the next one, after the last of which comes the first again. It can
-//! go on until all slots are requested. A send takes the requested slots in the order in which they
-//! were placed. Of a good one comes a packet, and the slot is available again. A bad one is skipped
-//! where that is asked for (PACKET_LOSS of packet(7)), and is available then; else it stays where
-//! it is, in wrong format, and the ring has stopped for good: nothing more is placed or sent. The
-//! kernel lets the sender mend such a slot.
+//! requests it, and goes on to the next one; the first follows the last. It can go on until all
+//! slots are requested. A send takes the requested slots in the order in which they were placed. A
+//! good one becomes a packet, and the slot is available again. A bad one is skipped if that is
+//! asked for (PACKET_LOSS of packet(7)), and is then available; otherwise it stays where it is, in
+//! wrong format, and the ring has stopped for good: nothing more is placed or sent. The kernel lets
+//! the sender repair such a slot.
 ghost use Rattle.std.specs.Prelude.{◌≡◌, ◌+◌, ◌-◌, ◌^◌, ◌<◌, ◌≤◌, ◌++◌, ◌==◌, ℕ, false, true, None};
 ghost use Rattle.std.specs.Prelude.{Some, IfOk, is_some, length};
 ghost use Rattle.tp_layout.specs.Requests.{transmit_fault};
@@ -40,7 +40,7 @@ pub struct TxRing {
     alloc: Global,
     /// The shape of the ring.
     shape: Shape,
-    /// Whether a bad slot is skipped, in place of stopping the ring (PACKET_LOSS).
+    /// Whether a bad slot is skipped instead of stopping the ring (PACKET_LOSS).
     skip_bad: bool,
     /// The slots, as many as the shape says.
     slots: Slots,
@@ -86,9 +86,9 @@ impl TxRing {
         })
     }
 
-    /// Writes the next slot and requests it: the offset to a next frame (0 where there is none),
-    /// the length of the frame and the bytes that it begins with. The rest of the slot is zeros.
-    /// After a refusal the ring is unchanged.
+    /// Writes the next slot and requests it: the offset to a next frame (0 if there is none), the
+    /// length of the frame and the bytes that it begins with. The rest of the slot is zeros. After
+    /// a refusal the ring is unchanged.
     pub fn place(&mut self, next_offset: u32, length: u32, bytes: &[u8]) -> Result<(), TxError>
         requires few { self.old.placed < 2 ^ 54 }
         ensures answer { result ≡ place_answer self.old bytes.now }
@@ -121,8 +121,8 @@ impl TxRing {
     }
 
     /// The status of a slot (tp_status): TP_STATUS_AVAILABLE (0), TP_STATUS_SEND_REQUEST (1), or
-    /// TP_STATUS_WRONG_FORMAT (4) where the ring stopped. `None` comes exactly where there is no
-    /// slot of this number.
+    /// TP_STATUS_WRONG_FORMAT (4) where the ring stopped. `None` exactly if there is no slot of
+    /// this number.
     pub fn status(&self, slot: u32) -> Option<u32>
         ensures { result ≡ status_at self.now slot }
     {

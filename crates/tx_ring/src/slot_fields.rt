@@ -2,7 +2,7 @@
 //!
 //! A slot begins with a header of 48 bytes (`struct tpacket3_hdr` of `linux/if_packet.h`), in which
 //! a transmit ring has tp_next_offset at 0, tp_snaplen at 12, tp_len at 16 and tp_status at 20; the
-//! other fields are 0. After it stand the bytes that were given, and zeros up to the slot's end.
+//! other fields are 0. After it come the bytes that were given, and zeros up to the slot's end.
 ghost use Rattle.std.specs.Prelude.{◌≡◌, ◌+◌, ◌-◌, ◌≤◌, ◌++◌, length, drop, replicate, take};
 ghost use Rattle.byteorder.specs.Endian.{little_bytes};
 ghost use Rattle.tx_ring.specs.Slots.{SlotState, header_text, number_at, slot_text};
@@ -66,7 +66,7 @@ pub(crate) fn write_header(header: &mut [u8], next_offset: u32, asked: u32, give
 }
 
 /// Writes bytes, and zeros after them, to a place that has zeros after its first `earlier` bytes.
-/// So only those of the earlier bytes that lie after the new ones are written.
+/// So zeros are written only over those earlier bytes that come after the new ones.
 #[tactic(auto, using(crate::proofs::Texts::stale_zeros))]
 pub(crate) fn write_data(place: &mut [u8], from: &[u8], earlier: usize)
     requires fits { length from.now ≤ length place.old }

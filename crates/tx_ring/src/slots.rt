@@ -15,7 +15,7 @@ use std::marker::Model;
 use tp_layout::Shape;
 
 /// The slots of a ring. Contracts see a list of slots, each by its size, its status and what it
-/// asks for, and nothing else stands in a slot: after the bytes that were given there are zeros.
+/// asks for. A slot holds nothing else: after the bytes that were given there are zeros.
 #[derive(Debug, Drop)]
 pub(crate) struct Slots {
     /// The shape of the ring.
@@ -23,7 +23,7 @@ pub(crate) struct Slots {
     /// How many slots were written so far, from the first one on. The others are available, and
     /// have no bytes yet.
     written: usize,
-    /// The bytes of those that were written, header and data. There is room for those of the
+    /// The bytes of those that were written, header and data. There is memory for those of the
     /// others.
     bytes: Vec<u8>,
 }
@@ -42,7 +42,7 @@ impl Model for Slots {
 }
 
 impl Slots {
-    /// The slots of a ring of this shape, all of them available. Their bytes have room, and cost
+    /// The slots of a ring of this shape, all of them available. Their bytes have memory, and cost
     /// nothing more until they are written.
     pub(crate) fn new(alloc: Global, shape: Shape) -> Result<Slots, Memory>
         ensures empty { IfOk result (λ slots.
@@ -145,8 +145,8 @@ impl Slots {
     }
 }
 
-/// Makes zeros of the slots of this size up to `least` of them, where fewer were written, and
-/// returns how many are written then. There is room for them.
+/// Fills the slots of this size with zeros up to `least` of them, if fewer were written, and
+/// returns how many are written then. There is memory for them.
 fn write_zeros(bytes: &mut Vec<u8>, size: usize, written: usize, least: usize) -> usize
     requires whole { length bytes.old.items ≡ written * size }
     requires small { least * size < 2 ^ 64 }
@@ -167,7 +167,7 @@ fn write_zeros(bytes: &mut Vec<u8>, size: usize, written: usize, least: usize) -
     }
 }
 
-/// So many bytes from a place on.
+/// `count` bytes from a place on.
 fn piece_of(bytes: &[u8], from: usize, count: usize) -> &[u8]
     requires { from + count ≤ length bytes.now }
     ensures { result.now ≡ take count (drop from bytes.now) }

@@ -12,16 +12,16 @@ use frame_view::{Frame, Frames, Memory, Packets};
 use std::alloc::Global;
 use tp_layout::Shape;
 
-/// What became of frames that were to be sent.
+/// The result of sending frames.
 #[derive(Debug, Drop)]
 pub struct Transmitted {
     /// The packets that were sent.
     pub packets: Packets,
     /// Their number.
     pub sent: u64,
-    /// The number of frames that were skipped, since they are longer than what fits into a slot.
+    /// The number of frames that were skipped because they are longer than what fits into a slot.
     pub skipped: u64,
-    /// The number in its capture of the frame at which the ring stopped, runts counted.
+    /// The number in its capture, runts counted, of the frame at which the ring stopped.
     pub stop: Option<u32>,
 }
 
@@ -72,7 +72,7 @@ impl Transmitter {
         }
     }
 
-    /// Places a frame that is no runt; where all slots are requested it sends before.
+    /// Places a frame that isn't a runt; if all slots are requested it sends first.
     fn put(&mut self, frame: &Frame) -> Result<(), Memory>
         requires placed { self.old.ring.placed < 2 ^ 54 }
         requires few { self.old.skipped < 2 ^ 63 }
@@ -88,7 +88,7 @@ impl Transmitter {
         Ok(())
     }
 
-    /// What became of the frames that it was given. Where the ring stopped, it stopped at the first
+    /// The result for the frames that it was given. If the ring stopped, it stopped at the first
     /// one that is longer than what fits.
     fn tell(self, frames: &[Frame]) -> Transmitted
         ensures told { result ≡ told_of self frames.now }
@@ -111,8 +111,8 @@ impl Transmitter {
 }
 
 /// Sends frames through a new ring of this shape, in order. Runts are left out. With `skip_bad` a
-/// frame that is longer than what fits into a slot is skipped, without it the first of them stops
-/// the ring.
+/// frame that is longer than what fits into a slot is skipped; without it the first such frame
+/// stops the ring.
 pub fn transmit_frames(
     alloc: Global,
     shape: Shape,

@@ -34,7 +34,7 @@ places_of handed gone [] all = tt
 places_of handed gone (pass ∷ passes) all =
     (record { handed_is = all.0.handed_is; fetched_is = all.0.fetched_is }, places_of handed gone passes all.1)
 
--- a pass that stands for all, and that took out all works, reports the history
+-- a pass that represents all, and that took out all works, reports the history
 pub told : (passes : List PassValue) (count : ℕ) (left : List Work) → length passes ≡ count → Tells (log count (parts_of passes) left) [] → IsHistory passes left
 told passes count left all tells = record {
   handed = tells.handed;
@@ -71,7 +71,7 @@ own_among name work (p ∷ places) among = dite (ℕ_discrete p.by name)
     (λ other. inr (own_among name work places
     (subst (λ (b : Bool). IsAmong work (if b then p.work ∷ own name places else own name places)) (ne_eqb p.by name other) among)))
 
--- a work at a place is among the own ones of the pass whose place it is
+-- a work at a place is among those of the pass whose place it is
 record IsOwned (count : ℕ) (work : Work) (places : List Place) : Type 0 where
   pub by : ℕ
   pub below : by < count
@@ -174,6 +174,6 @@ joined_first passes all x v items is =
     ap (λ (parts : List Part). parts_of passes ++ parts) (sym (append-nil v.parts))
     ∙ joined passes all x v [] items is ∙ append-nil (parts_of all)
 
--- what a pass that stands for one knows
+-- what a pass that represents one knows
 pub one_part : (v : Log) (x : PassValue) (part : Part) → v ≡ log v.all (part ∷ []) [] → part ≡ part_of x → v.parts ≡ part_of x ∷ []
 one_part v x part is same = ap (λ (u : Log). u.parts) is ∙ ap (λ (p : Part). p ∷ []) same

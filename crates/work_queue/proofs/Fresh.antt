@@ -12,7 +12,7 @@ pub fresh_long : (name count : ℕ) → length (fresh_parts name count) ≡ coun
 fresh_long name zero = refl
 fresh_long name (suc more) = let rest = fresh_long (name + 1) more in omega (arith, rest)
 
--- one name more
+-- one more name
 parts_push : (name count : ℕ) → fresh_parts name (suc count) ≡ fresh_parts name count ++ fresh (name + count) ∷ []
 parts_push name zero = let e : name ≡ name + 0 = omega arith in ap (λ (n : ℕ). fresh n ∷ []) e
 parts_push name (suc count) =
@@ -32,7 +32,7 @@ passes_push id all name (suc count) =
     ap (λ (passes : List PassValue). fresh_pass id all name ∷ passes) (passes_push id all (name + 1) count)
     ∙ ap (λ (n : ℕ). fresh_pass id all name ∷ (fresh_passes id all (name + 1) count ++ fresh_pass id all n ∷ [])) e
 
--- one pass more among those made
+-- one more pass among those made
 pub passes_more : (id : WebId) (all count after : ℕ) → count + 1 ≡ after → fresh_passes id all 0 count ++ fresh_pass id all count ∷ [] ≡ fresh_passes id all 0 after
 passes_more id all count after next =
     let e : 0 + count ≡ count = omega arith in
@@ -47,11 +47,11 @@ parts_first name (suc more) some = let e : more ≡ suc more - 1 = omega arith i
 pub log_first : (v : Log) (all name left : ℕ) → v ≡ log all (fresh_parts name left) [] → 0 < left → v ≡ log all (fresh name ∷ fresh_parts (name + 1) (left - 1)) []
 log_first v all name left is some = is ∙ ap (λ (parts : List Part). log all parts []) (parts_first name left some)
 
--- a pass that was asked for its parts
+-- a pass that was split into its parts
 pub same_all : (v : Log) (all : ℕ) (parts : List Part) → v ≡ log all parts [] → v ≡ log v.all parts []
 same_all v all parts is = is ∙ ap (λ (n : ℕ). log n parts []) (sym (ap (λ (u : Log). u.all) is))
 
--- a pass that stands for one of them, as its invariant says it and as its owner sees it
+-- a pass that represents one of them, as its invariant says it and as its owner sees it
 pub one_is : (u : Log) (all : ℕ) (part : Part) → u ≡ log all (part ∷ []) [] → u ≡ log u.all (one_of u.parts ∷ []) []
 one_is u all part is = is ∙ sym (ap (λ (v : Log). log v.all (one_of v.parts ∷ []) []) is)
 
@@ -62,7 +62,7 @@ value_is web id u all name same is =
     ap (λ (w : WebId). record { queue = w; of = u.all; name = (one_of u.parts).name; handed = (one_of u.parts).handed; fetched = (one_of u.parts).fetched; calls = 0 }) same
     ∙ ap (λ (v : Log). record { queue = id; of = v.all; name = (one_of v.parts).name; handed = (one_of v.parts).handed; fetched = (one_of v.parts).fetched; calls = 0 }) is
 
--- the first of some passes parts from them
+-- the first of some passes leaves them
 pub apart_first : (v : Log) (all name left : ℕ) → v ≡ log all (fresh_parts name left) [] → 0 < left → first_of v ≡ log all (fresh name ∷ []) []
 apart_first v all name left is some = ap first_of (log_first v all name left is some)
 

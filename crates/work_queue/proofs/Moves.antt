@@ -18,7 +18,7 @@ use Rattle.work_queue.specs.declared.works.Work.{Work}
 use Rattle.work_queue.proofs.Places.{all_and, below_named, fetched_other, handed_other, named_here, none_in, once_few, own_more, place, works_more}
 use Rattle.work_queue.proofs.Totals.{at_below, total_above, total_both, total_one, total_set}
 
--- how many passes a view stands for, and how many of a name
+-- how many passes a view represents, and how many of a name
 abbrev pub parts_in : Log → ℕ
 parts_in v = length v.parts
 
@@ -26,7 +26,7 @@ abbrev pub names_in : ℕ → Log → ℕ
 names_in name v = named name v.parts
 
 module _ (items : List Work) (views : List Log) (r : Happened items views) (id : ℕ) (v : Log) (at : get_elem? views id ≡ some v) where
-  -- where one pass stands for all, it is this one
+  -- where one pass represents all, it is this one
   closing_none : 0 < length v.parts → v.left ≡ [] → OneHasAll views → r.left ≡ []
   closing_none some_parts none one = dite (ℕ_discrete one.pass id)
       (λ same.
@@ -60,7 +60,7 @@ module _ (items : List Work) (views : List Log) (r : Happened items views) (id :
       let few = once_few r.count name in
       omega (arith, both, once, few, here)
 
-  -- where this pass stands for all, the others stand for none
+  -- where this pass represents all, the others represent none
   pub others_none : 0 < length v.parts → length v.parts ≡ v.all → (j : ℕ) (u : Log) → j ≢ id → get_elem? views j ≡ some u → length u.parts ≡ 0
   others_none some_parts has j u other to =
       let n : ℕ = sum_by parts_in views in
@@ -69,7 +69,7 @@ module _ (items : List Work) (views : List Log) (r : Happened items views) (id :
       let knows = (r.each id v at).knows some_parts in
       omega (arith, both, all, knows, has)
 
-  -- a pass that stands for none is as it should be
+  -- the rule holds of a pass that represents none
   pub nothing_known : (count : ℕ) (left : List Work) (handed gone : List Place) (u : Log) → length u.parts ≡ 0 → LogOk count left handed gone u
   nothing_known count left handed gone u none = record {
     done = subst (AllByRecursion (HasDone handed gone)) (sym (none_in u.parts none)) tt;
@@ -77,7 +77,7 @@ module _ (items : List Work) (views : List Log) (r : Happened items views) (id :
     last = λ some_parts _. absurd (omega (arith, some_parts, none));
   }
 
-  -- the rule after a change of this pass's view that leaves it the passes for which it stands
+  -- the rule after a change of this pass's view that keeps the passes that it represents
   module _ (rest : List Work) (handed gone : List Place) (left : List Work) (w : Log)
       (long : length w.parts ≡ length v.parts) (names : (name : ℕ) → named name w.parts ≡ named name v.parts)
       (happened : History r.count (left ++ rest) handed gone) (here : LogOk r.count left handed gone w)
@@ -204,7 +204,7 @@ hands n id v work part is lawful =
 pub fetches : (id : ℕ) (v : Log) (part : Part) → v ≡ log v.all (part ∷ []) [] → Pops Happened id v (Fetched v)
 fetches id v part is = subst (λ (u : Log). Pops Happened id u (Fetched u)) (sym is) (fetches_one id v.all part)
 
--- ---- a pass that stands for all
+-- ---- a pass that represents all
 
 module _ (id : ℕ) (v : Log) (some_parts : 0 < length v.parts) (has : length v.parts ≡ v.all) where
   -- it may take works out

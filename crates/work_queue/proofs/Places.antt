@@ -95,7 +95,7 @@ below_named count name some = dite (dec_le count name)
     (λ above. let none_there = below_no count name above in absurd (omega (arith, none_there, some)))
     (λ not_above. omega (arith, not_above))
 
--- one pass more
+-- one more pass
 pub once_more : (count name : ℕ) → once_below (count + 1) name ≡ once_below count name + named name (fresh count ∷ [])
 once_more count name = dite (ℕ_discrete count name)
     (λ same. let a = below_yes (count + 1) name (omega (arith, same)) in let b = below_no count name (omega (arith, same)) in
@@ -104,7 +104,7 @@ once_more count name = dite (ℕ_discrete count name)
     (λ above. let a = below_no (count + 1) name (omega (arith, above, other)) in let b = below_no count name above in omega (arith, a, b, c))
     (λ not_above. let a = below_yes (count + 1) name (omega (arith, not_above)) in let b = below_yes count name (omega (arith, not_above)) in omega (arith, a, b, c)))
 
--- no name stands twice
+-- no name appears twice
 pub once_few : (count name : ℕ) → once_below count name ≤ 1
 once_few count name = dite (dec_le count name)
     (λ above. let none_there = below_no count name above in omega (arith, none_there))

@@ -41,7 +41,7 @@ begins = record {
 }
 
 module _ (count : ℕ) (left : List Work) (handed gone : List Place) where
-  -- a pass that stands for none
+  -- a pass that represents none
   pub spent_ok : LogOk count left handed gone spent
   spent_ok = record {
     done = tt;
@@ -49,7 +49,7 @@ module _ (count : ℕ) (left : List Work) (handed gone : List Place) where
     last = λ some_parts _. absurd (omega (arith, some_parts));
   }
 
--- a pass that stands for all may grow by one
+-- a pass that represents all may grow by one
 pub grows : (id : ℕ) (v : Log) → 0 < length v.parts → length v.parts ≡ v.all → v.left ≡ [] → Forks Happened id v (grown v) spent
 grows id v some_parts has none items views r at =
     let mine = r.each id v at in
@@ -141,7 +141,7 @@ forks_two id all part parts items views r at =
           same ∙ r.once name;
     }
 
--- the first of the passes for which one stands may part from it
+-- the first of the passes that one represents may leave it
 pub forks : (id : ℕ) (v : Log) (part : Part) (parts : List Part) → v ≡ log v.all (part ∷ parts) [] → Forks Happened id v (rest_of v) (first_of v)
 forks id v part parts is = subst (λ (u : Log). Forks Happened id u (rest_of u) (first_of u)) (sym is) (forks_two id v.all part parts)
 

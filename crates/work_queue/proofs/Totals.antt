@@ -20,7 +20,7 @@ module _ {V : Type 0} (f : V → ℕ) where
       let old = sum_by-cons f x views in
       omega (arith, rest, new, old)
 
-  -- one of the views has no more than all
+  -- one of the views has at most the sum of all
   pub total_above : (views : List V) (j : ℕ) (v : V) → get_elem? views j ≡ some v → f v ≤ sum_by f views
   total_above [] j v at = absurd (some-ne-none v (sym at))
   total_above (x ∷ views) zero v at =
@@ -32,7 +32,7 @@ module _ {V : Type 0} (f : V → ℕ) where
       let all = sum_by-cons f x views in
       omega (arith, rest, all)
 
-  -- two of the views have no more than all
+  -- two of the views have at most the sum of all
   pub total_both : (views : List V) (i j : ℕ) (v w : V) → i ≢ j → get_elem? views i ≡ some v → get_elem? views j ≡ some w
       → f v + f w ≤ sum_by f views
   total_both [] i j v w other at to = absurd (some-ne-none v (sym at))

@@ -8,14 +8,14 @@ use Rattle.work_queue.specs.Logs.{HasDone, named, once_below}
 use Rattle.work_queue.specs.declared.knowledge.Log.{Log}
 use Rattle.work_queue.specs.declared.works.Work.{Work}
 
--- What holds of a pass that stands for some of `count` passes: it knows what these did, and how
--- many there are. One that stands for all has all works that were taken out
+-- What holds of a pass that represents some of `count` passes: it knows what these did, and how
+-- many there are. One that represents all has all works that were taken out
 pub record LogOk (count : ℕ) (left : List Work) (handed gone : List Place) (v : Log) : Type 0 where
   pub done : AllByRecursion (HasDone handed gone) v.parts
   pub knows : 0 < length v.parts → v.all ≡ count
   pub last : 0 < length v.parts → length v.parts ≡ v.all → v.left ≡ left
 
--- one of the passes stands for all
+-- one of the passes represents all
 pub record OneHasAll (views : List Log) : Type 0 where
   pub pass : ℕ
   pub view : Log
@@ -24,7 +24,7 @@ pub record OneHasAll (views : List Log) : Type 0 where
   pub all_parts : length view.parts ≡ view.all
 
 -- Each work that was handed was fetched, or taken out as the queue is closed, or is in the queue,
--- in this order. Only a pass that stands for all takes works out. Each name below the number of
+-- in this order. Only a pass that represents all takes works out. Each name below the number of
 -- passes is that of one of them.
 pub record Happened (items : List Work) (views : List Log) : Type 0 where
   pub count : ℕ

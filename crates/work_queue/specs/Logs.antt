@@ -22,31 +22,31 @@ fresh_parts name (suc more) = fresh name ∷ fresh_parts (name + 1) more
 abbrev pub opening : Log
 opening = log 1 (fresh 0 ∷ []) []
 
--- it stands for no pass any more
+-- it represents no pass any more
 abbrev pub spent : Log
 spent = log 0 [] []
 
--- it stands for one pass more
+-- it represents one more pass
 abbrev pub grown : Log → Log
 grown v = log (v.all + 1) (v.parts ++ fresh v.all ∷ []) v.left
 
--- the first of its passes, and all but that
+-- the first of its passes, and all the others
 abbrev pub first_of : Log → Log
 first_of v = log v.all (take 1 v.parts) v.left
 
 abbrev pub rest_of : Log → Log
 rest_of v = log v.all (drop 1 v.parts) v.left
 
--- it stands for the passes of both, the other's first
+-- it represents the passes of both, the other's first
 abbrev pub gathered : Log → Log → Log
 gathered v w = log v.all (w.parts ++ v.parts) v.left
 
--- how often the name stands among the passes
+-- how often the name is among the passes
 abbrev pub named : ℕ → List Part → ℕ
 named name [] = 0
 named name (part ∷ parts) = (if part.name == name then 1 else 0) + named name parts
 
--- once below the number, and never from it on
+-- each number below this one is there once, and no other is
 abbrev pub once_below : ℕ → ℕ → ℕ
 once_below count name = if nat_lt name count then 1 else 0
 

@@ -7,12 +7,12 @@ use Rattle.work_queue.specs.Histories.{History, Place, own}
 use Rattle.work_queue.specs.declared.knowledge.Part.{Part}
 use Rattle.work_queue.specs.declared.works.Work.{Work}
 
--- Contracts see a queue as this: which it is, and how many passes it has
+-- What contracts see of a queue: which it is, and how many passes it has
 pub record QueueValue : Type 0 where
   pub id : WebId
   pub passes : ℕ
 
--- Contracts see a pass as this: the queue that it belongs to and its number of passes, its name
+-- What contracts see of a pass: the queue that it belongs to and its number of passes, its name
 -- among them, the works that it handed and that it fetched, in order, and how often `fetch` was
 -- called with it
 pub record PassValue : Type 0 where

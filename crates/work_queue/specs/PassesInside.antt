@@ -5,7 +5,7 @@ use Rattle.work_queue.specs.Passes.{PassValue}
 use Rattle.work_queue.specs.declared.knowledge.Part.{Part}
 use Rattle.work_queue.specs.declared.passes.WorkPass.TheInside.{Inside}
 
--- the pass for which it stands
+-- the pass that it represents
 abbrev pub one_of : List Part → Part
 one_of [] = fresh 0
 one_of (part ∷ parts) = part
@@ -21,7 +21,7 @@ pass_value p = record {
   calls = p.calls;
 }
 
--- it stands for one of the queue's passes, has taken nothing out, and has no block in its hands
+-- it represents one of the queue's passes, has taken nothing out, and has no block in its hands
 pub record IsPass (p : Inside) : Type 0 where
   pub one : p.pass.me.view.client
       ≡ log p.pass.me.view.client.all (one_of p.pass.me.view.client.parts ∷ []) []

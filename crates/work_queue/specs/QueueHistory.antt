@@ -8,7 +8,7 @@ use Rattle.work_queue.specs.Logs.{HasDone, named, once_below}
 use Rattle.work_queue.specs.declared.knowledge.Log.{Log}
 use Rattle.work_queue.specs.declared.works.Work.{Work}
 
--- one of the passes stands for all, and took these works out as the queue is closed
+-- one of the passes represents all, and took these works out as the queue is closed
 pub record TookOut (views : List Log) (count : ℕ) (left : List Work) : Type 0 where
   pub pass : ℕ
   pub view : Log
@@ -16,15 +16,15 @@ pub record TookOut (views : List Log) (count : ℕ) (left : List Work) : Type 0 
   pub all : length view.parts ≡ count
   pub left_is : view.left ≡ left
 
--- What a pass knows is so: what each of the passes for which it stands handed and fetched are its
--- own places, in order. One that stands for all has all works that were taken out
+-- What a pass knows is true: what each of the passes that it represents handed and fetched are its
+-- own places, in order. One that represents all has all works that were taken out
 pub record Knows (count : ℕ) (left : List Work) (handed gone : List Place) (v : Log) : Type 0 where
   pub done : AllByRecursion (HasDone handed gone) v.parts
   pub all : 0 < length v.parts → length v.parts ≡ count → v.left ≡ left
 
 -- The works that were handed are those that were fetched, and then those in the queue, in this
 -- order; in between are those that a closing pass took out, which it has. Each name below the
--- number of passes is that of one of them, and stands once among what the passes know.
+-- number of passes is that of one of them, and appears once among what the passes know.
 pub record GoesOn (items : List Work) (views : List Log) : Type 0 where
   pub count : ℕ
   pub handed : List Place

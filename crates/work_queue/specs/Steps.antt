@@ -29,7 +29,7 @@ Fetched v work w = (w ≡ log v.all (with_fetched v.parts work) v.left) × IsLaw
 abbrev pub Drained : Log → Work → Log → Type 0
 Drained v work w = w ≡ log v.all v.parts (v.left ++ work ∷ [])
 
--- a pass that stands for all knows all that happened: what is left is what it took out and what is
+-- a pass that represents all knows all that happened: what is left is what it took out and what is
 -- still there
 pub record Tells (v : Log) (items : List Work) : Type 0 where
   pub handed : List Place

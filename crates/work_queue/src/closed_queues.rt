@@ -14,7 +14,7 @@ use frame_view::Memory;
 use std::alloc::Global;
 use std::sync::Wait;
 
-/// One pass of the queue that stands for all of these.
+/// One pass of the queue that represents all of these.
 fn gather(
     queue: &RuledSegQueue<Work, Log, EachOnce>,
     mut passes: Vec<WorkPass>,
@@ -37,7 +37,7 @@ fn gather(
     root
 }
 
-/// Takes out all works, with a pass that stands for all.
+/// Takes out all works, with a pass that represents all.
 fn drain<R: Wait>(
     rt: &R,
     alloc: Global,

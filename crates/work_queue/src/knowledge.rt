@@ -13,11 +13,11 @@ pub struct Part {
     pub fetched: LinkedList<Work>,
 }
 
-/// What a pass knows. One that took in others stands for all of them.
+/// What a pass knows. One that took in others represents all of them.
 pub struct Log {
     /// How many passes the queue has.
     pub all: u64,
-    /// The passes for which it stands.
+    /// The passes that it represents.
     pub parts: LinkedList<Part>,
     /// The works that it took out as the queue was closed.
     pub left: LinkedList<Work>,

@@ -14,7 +14,7 @@ use crossbeam_queue::protocol::Protocol;
 /// What holds of a queue between any two steps: the works that were handed are those that were
 /// fetched, followed by those that are in the queue; what each pass handed and what it fetched are
 /// its own places of these lists, in order. No work is anywhere else, until `close` takes them out
-/// with a pass that stands for all: it then has those that it took.
+/// with a pass that represents all: it then has those that it took.
 pub fn the_history_holds()
     ensures { (items : List Work) (views : List Log) →
         ⟦<EachOnce as Protocol<Work, Log>>⟧.holds items views → GoesOn items views }

@@ -11,7 +11,7 @@ use crossbeam_queue::{RuledSegQueue, SegPass};
 use frame_view::Memory;
 use std::alloc::Global;
 
-/// Lets the first pass stand for `passes` more.
+/// Lets the first pass represent `passes` more.
 fn grow(queue: &RuledSegQueue<Work, Log, EachOnce>, root: &mut SegPass<Work, Log>, passes: u32)
     requires own { IsSegPassOf queue.now root.old }
     requires some { 0 < passes }
@@ -24,7 +24,7 @@ fn grow(queue: &RuledSegQueue<Work, Log, EachOnce>, root: &mut SegPass<Work, Log
     }
 }
 
-/// The passes for which one stands, each by itself.
+/// The passes that one represents, each by itself.
 fn part(
     queue: &RuledSegQueue<Work, Log, EachOnce>,
     root: SegPass<Work, Log>,

@@ -17,7 +17,7 @@ impl Protocol<Work, Log> for EachOnce {
     ghost first = { opening };
 }
 
-/// A pass that stands for all grows by one. The other half is nobody's.
+/// A pass that represents all grows by one. The other half is nobody's.
 pub struct Grows;
 
 impl Split<Log> for Grows {
@@ -26,7 +26,7 @@ impl Split<Log> for Grows {
     ghost right = { λ v. spent };
 }
 
-/// The first of the passes for which one stands parts from it.
+/// The first of the passes that one represents leaves it.
 pub struct Apart;
 
 impl Split<Log> for Apart {
@@ -51,7 +51,7 @@ impl Outcome<Work, Log> for Hands {
     ghost then = { Handed };
 }
 
-/// A work is fetched. A look that finds none reports nothing.
+/// A work is fetched. A poll that finds none reports nothing.
 pub struct Fetches;
 
 impl Outcome<Work, Log> for Fetches {
@@ -62,7 +62,7 @@ impl Lesson<Work, Log> for Fetches {
     ghost fact = { λ v items. ⊤ };
 }
 
-/// A work is taken out as the queue is closed. A look that finds none reports all that happened.
+/// A work is taken out as the queue is closed. A poll that finds none reports all that happened.
 pub struct Drains;
 
 impl Outcome<Work, Log> for Drains {

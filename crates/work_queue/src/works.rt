@@ -16,7 +16,7 @@ pub struct Work {
     pub text: ByteList,
 }
 
-/// A work that wasn't put into a queue, since an allocation failed.
+/// A work that wasn't put into a queue, because an allocation failed.
 #[derive(Debug, Drop)]
 pub struct Unhanded {
     /// The work, as it was given.

@@ -1,4 +1,4 @@
--- What the code's machine stands for.
+-- The machine of the definitions that the code's fields represent.
 use Rattle.std.specs.Prelude.{ℕ, ◌-◌, ◌<◌, Bool, [], ◌∷◌}
 use Rattle.bpf_filter.specs.declared.loads.Size.{Size}
 use Rattle.bpf_filter.specs.declared.loads.Size.TheVariants.{Word, Half, Byte}
@@ -16,7 +16,7 @@ abbrev pub next_of : code.Next → Machine → Next
 next_of (Answer number) machine = Answers number
 next_of (Go further) machine = GoesOn (further - 1) (state_of machine)
 
--- a step that leads to no verdict goes on at least one instruction
+-- a step that doesn't lead to a verdict goes on by at least one instruction
 abbrev pub GoesFurther : code.Next → Type 0
 GoesFurther (Answer number) = Unit {0}
 GoesFurther (Go further) = 0 < further
@@ -28,7 +28,7 @@ bytes_of Half = 2
 bytes_of Byte = 1
 
 -- the codes by which A takes a number that k and the registers always give: LD IMM, TXA, and ALU
--- less DIV and MOD
+-- except DIV and MOD
 abbrev pub is_calculation : ℕ → Bool
 is_calculation code =
     is_among

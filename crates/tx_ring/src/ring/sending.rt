@@ -117,7 +117,7 @@ impl TxRing {
     }
 }
 
-/// The counts with one slot more that was sent or skipped.
+/// The counts with one more slot that was sent or skipped.
 fn count_one(counts: Sent, is_sent: bool) -> Sent
     requires { counts.sent + counts.skipped + 1 < 2 ^ 32 }
     ensures { result ≡ counted counts is_sent }

@@ -3,7 +3,7 @@ use Rattle.ring_words.specs.PlainRings.{has_block}
 use Rattle.tp_layout.specs.Requests.{numbers_of}
 use Rattle.end_tests.proofs.plain_runs.run.Given as goal
 
--- each act made a note at most and read a slot at most, and no slot is in hand
+-- each act made at most one note and read at most one slot, and no slot is in hand
 abbrev pub invariant-loop-act : goal.invariant-loop-act
 invariant-loop-act l = record {
   fits : 126 ≤ l.ring.shape.frame_size;

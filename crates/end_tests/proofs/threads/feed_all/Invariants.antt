@@ -1,7 +1,7 @@
 use Rattle.std.proofs.Common.{◌≡◌, ◌≤◌, length}
 use Rattle.end_tests.proofs.threads.feed_all.Given as goal
 
--- each look noted a put at most
+-- each look noted at most one put
 abbrev pub invariant-loop-look : goal.invariant-loop-look
 invariant-loop-look l = record {
   fits : 126 ≤ l.ring.shape.frame_size;

@@ -1,6 +1,6 @@
 use Rattle.tx_ring.proofs.Sends.{Going}
 use Rattle.tx_ring.proofs.ring.TxRing.send.Given as goal
 
--- so many requests were taken from the start
+-- the first n requests were taken
 abbrev pub invariant-loop : goal.invariant-loop
 invariant-loop l = Going l.initial.self l.self l.initial.out l.out l.counts l.counter
