@@ -1,4 +1,4 @@
--- The notes of a log's attempts at a member, an arrival at a time.
+-- The notes of a log's attempts at a member, one arrival at a time.
 use Rattle.std.proofs.Common.{◌≡◌, ℕ, Bool, true, false, List, [], ◌∷◌, ◌++◌, length, sym, ap, ◌∙◌, subst, arith, append_assoc, append-nil, Option, if◌then◌else◌}
 use Rattle.std.specs.Prelude.{◌==◌}
 use Rattle.capture_model.specs.Tried.{IsDelivered}
@@ -20,7 +20,7 @@ notes_on room address [] b (x ∷ xs) ys h k = absurd h
 notes_on room address (t ∷ a) b [] ys h k = absurd h
 notes_on room address (t ∷ a) b (x ∷ xs) ys h k = (h.0, notes_on room address a b xs ys h.1 k)
 
--- the attempts of one arrival more
+-- the attempts of one more arrival
 pub attempts_more : (member : ℕ) (arrivals : List Frame) (log : List ArrivalLog) (arrival : Frame) (entry : ArrivalLog)
     → length arrivals ≡ length log → attempts_at member (arrivals ++ arrival ∷ []) (log ++ entry ∷ [])
     ≡ attempts_at member arrivals log ++ attempts_in member arrival entry entry.tries
@@ -63,7 +63,7 @@ module _ (room : ℕ) (address : Option (List ℕ)) (member : ℕ) (arrival : Fr
   notes_of_tries (t ∷ tries) notes is =
       one_try (t.member == member) t.fate (fates_at member tries) (attempts_in member arrival entry tries) notes (notes_of_tries tries) is
 
--- a delivery more
+-- one more delivery
 pub delivered : (room : ℕ) (address : Option (List ℕ)) (member : ℕ) (arrivals : List Frame) (log : List ArrivalLog) (mine : List Note)
     (arrival : Frame) (entry : ArrivalLog) (notes : List Note) → AreNotesOf room address (attempts_at member arrivals log) mine
     → length arrivals ≡ length log → IsDelivered room address member arrival entry notes

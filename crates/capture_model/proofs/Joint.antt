@@ -1,4 +1,4 @@
--- What threads leave is joined.
+-- The logs and notes that threads leave are joined.
 use Rattle.std.proofs.Common.{◌≡◌, ◌<◌, ◌≤◌, ◌⊎◌, inl, inr, ℕ, Bool, true, false, List, [], length, refl, sym, subst}
 use Rattle.std.proofs.lemmas.Bool.{ltb-true, ltb-false}
 use Rattle.std.specs.Prelude.{nat_lt}
@@ -13,7 +13,7 @@ use Rattle.ring_model.specs.Fates.{frame_notes}
 use Rattle.ring_model.specs.declared.notes.Note.{Note}
 use Rattle.ticket_dealer.specs.Seats.{SeatValue}
 
--- a CPU is one of the ring's or lies beyond the last one
+-- a CPU is one of the ring's or comes after the last one
 there_or_past : (cpu cpus : ℕ) (b : Bool) → nat_lt cpu cpus ≡ b → (cpu < cpus) ⊎ (cpus ≤ cpu)
 there_or_past cpu cpus true is = inl (ltb-true cpu cpus is)
 there_or_past cpu cpus false is = inr (ltb-false cpu cpus is)

@@ -11,7 +11,7 @@ use Rattle.ring_model.specs.declared.notes.Note.{Note}
 use Rattle.ring_model.specs.declared.notes.Note.TheVariants.{Kept, Refused, Dropped, Ticked, Counted, Finished}
 use Rattle.turn_lock.specs.Histories.{own}
 
--- of a CPU of the ring, whether a frame is the seat's says its CPU alone
+-- for a CPU of the ring, whether a frame is the seat's depends only on its CPU
 test_with : (cpus cpu of : ℕ) (b : Bool) → cpu < cpus → (of == cpu) ≡ b → (b && nat_lt of cpus) ≡ b
 test_with cpus cpu of true few is = lt-ltb of cpus (subst (λ (n : ℕ). n < cpus) (sym (eqb-true of cpu is)) few)
 test_with cpus cpu of false few is = refl
@@ -19,7 +19,7 @@ test_with cpus cpu of false few is = refl
 same_test : (cpus cpu of : ℕ) → cpu < cpus → is_seat_of cpus cpu of ≡ (of == cpu)
 same_test cpus cpu of few = test_with cpus cpu of (of == cpu) few refl
 
--- one note more, where it is the seat's
+-- one more note, if it is the seat's
 step_with : (b : Bool) (note : Note) (xs ys : List Note) → xs ≡ ys
     → (if b then note ∷ xs else xs) ≡ (if b then note ∷ [] else []) ++ ys
 step_with true note xs ys same = ap (λ (zs : List Note). note ∷ zs) same
@@ -48,7 +48,7 @@ own_frames cpus cpu (Ticked ms found ∷ notes) few =
 own_frames cpus cpu (Counted ∷ notes) few = own_frames cpus cpu notes few
 own_frames cpus cpu (Finished ∷ notes) few = own_frames cpus cpu notes few
 
--- no note is about a frame of a CPU beyond the last one
+-- no note is about a frame of a CPU after the last one
 not_of : (cpus cpu of : ℕ) (number : ℕ) (note : Note) → cpus ≤ cpu → is_seat_of cpus number of ≡ true
     → (if of == cpu then note ∷ [] else []) ≡ []
 not_of cpus cpu of number note past may =

@@ -16,7 +16,7 @@ use Rattle.frame_view.specs.declared.frames.Frame.{Frame}
 use Rattle.ticket_dealer.specs.Seats.{RisesIn, SeatValue}
 use Rattle.ticket_dealer.specs.Tickets.{Rises}
 
--- a sum over a list is that over what a function makes of it
+-- a sum over a list is the sum over the mapped list
 sum_of : {A B : Type 0} (f : A → B) (weight : B → ℕ) (xs : List A) → sum_by (λ x. weight (f x)) xs ≡ sum_by weight (map f xs)
 sum_of f weight [] = refl
 sum_of f weight (x ∷ xs) =

@@ -14,8 +14,8 @@ ghost use Rattle.ring_model.specs.declared.notes.Note.{Note};
 ghost use Rattle.ticket_dealer.specs.Seats.{SeatValue};
 ghost use Rattle.turn_lock.specs.Histories.{own};
 
-/// What threads leave is the report of a group: where each log is lawful, each seat added one note
-/// for each try of its log, and the tickets of the logs are those that the dealer gave, logs and
+/// What threads leave is the report of a group: if each log is lawful, each seat added one note for
+/// each try of its log, and the tickets of the logs are those that the dealer gave, then logs and
 /// notes are joined.
 pub fn threads_report_a_group()
     ensures { (rules : Rules) (room : ℕ) (cpus : List Logged) (seats : List SeatValue) (number : ℕ)

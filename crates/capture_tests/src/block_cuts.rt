@@ -1,4 +1,4 @@
-//! A capture cut at every place: fed in two pieces, and ended there.
+//! A capture cut at every place: fed in two pieces, or ended there.
 use crate::block_feeding::{Ended, decode};
 use crate::block_orders::LITTLE;
 use frame_view::{Frames, Memory};
@@ -7,7 +7,7 @@ use std::alloc::Global;
 use std::process::Abort;
 use std::test::Fail;
 
-/// What each of two feeds answers, what the end answers, and how many frames there are.
+/// What each of two feeds returns, what the end returns, and how many frames there are.
 type Fed = (Option<BlockError>, Option<BlockError>, Ended, usize);
 
 /// Feeds a capture in two pieces.
@@ -29,8 +29,8 @@ fn a_cut_between_pieces_changes_nothing(rt: HostRuntime) -> Result<(), Fail> {
     Ok(())
 }
 
-/// What the end of the capture answers that is cut to a length: its blocks begin at 0, 28 and 48,
-/// and end at 96. What is kept is the part of the block that is cut.
+/// What the end of the capture returns if it is cut to a length: its blocks begin at 0, 28 and 48,
+/// and end at 96. The part of the block that is cut is kept.
 fn end_at(length: u32) -> Ended {
     let place: u32 = match length {
         0..28 => 0,
@@ -46,7 +46,7 @@ fn end_at(length: u32) -> Ended {
     }
 }
 
-/// The capture that is cut to a length ends there, with its frame where it is whole.
+/// The capture that is cut to a length ends there, with its frame if that is whole.
 fn check_cut(rt: &impl Abort, alloc: Global, start: &[u8], length: u32) {
     let mut frames = Frames::new(alloc);
     let answer = decode(alloc, start, 5, &mut frames);

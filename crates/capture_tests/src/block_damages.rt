@@ -7,7 +7,7 @@ use std::alloc::Global;
 use std::process::Abort;
 use std::test::Fail;
 
-/// A name, a place, the bytes that stand there, and the damage.
+/// A name, a place, the bytes there, and the damage.
 type Row = (&'static str, usize, [u8; 4], Option<BlockError>);
 
 static ROWS: [Row; 18] = [
@@ -112,7 +112,7 @@ fn overwritten(alloc: Global, place: usize, field: [u8; 4]) -> Result<Vec<u8>, M
     Ok(bytes)
 }
 
-/// What the capture with a field overwritten, fed in pieces of a size, answers.
+/// What feeding the capture with a field overwritten, in pieces of a size, returns.
 fn answer_of(
     alloc: Global,
     place: usize,
@@ -124,7 +124,7 @@ fn answer_of(
     Ok(decode(alloc, &bytes, size, &mut frames))
 }
 
-/// Holds the damage of each row, fed in pieces of a size, to the row.
+/// Compares the damage of each row, fed in pieces of a size, with the row.
 fn check_damage(rt: &impl Abort, alloc: Global, rows: &[Row], size: usize) -> Result<(), Memory> {
     for (name, place, field, damage) in rows {
         let answer = answer_of(alloc, *place, *field, size)?;

@@ -3,11 +3,11 @@ use frame_view::{Frame, Frames};
 use pcapng_blocks::{BlockDecoder, BlockError};
 use std::alloc::Global;
 
-/// What the end answers, and the number of bytes that are kept there.
+/// What the end returns, and the number of bytes that are kept there.
 pub(crate) type Ended = (Result<(), BlockError>, u32);
 
-/// Feeds a capture in pieces of a size. It gives the damage that the last feed named, and what the
-/// end answers.
+/// Feeds a capture in pieces of a size. It returns the damage that the last feed reported, and what
+/// the end returns.
 pub(crate) fn decode(
     alloc: Global,
     bytes: &[u8],
@@ -24,11 +24,11 @@ pub(crate) fn decode(
     (damage, (decoder.end(), decoder.rest()))
 }
 
-/// What is read of a frame beside its bytes: its CPU and index, its time in seconds and
+/// What is read of a frame besides its bytes: its CPU and index, its time in seconds and
 /// nanoseconds, and how many bytes it had on the wire.
 pub(crate) type Seen = ((u32, u32), (u32, u32), u32);
 
-/// What is read of a frame, where there is one.
+/// What is read of a frame, if there is one.
 pub(crate) fn seen(frame: Option<&Frame>) -> Option<Seen> {
     match frame {
         Some(frame) => Some((
@@ -40,7 +40,7 @@ pub(crate) fn seen(frame: Option<&Frame>) -> Option<Seen> {
     }
 }
 
-/// The bytes of a frame; none where there is no frame.
+/// The bytes of a frame; none if there is no frame.
 pub(crate) fn bytes_of(frame: Option<&Frame>) -> &[u8] {
     match frame {
         Some(frame) => frame.bytes.as_slice(),

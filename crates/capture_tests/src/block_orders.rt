@@ -30,7 +30,7 @@ static BIG: [u8; 96] = [
 /// The frame's bytes.
 static FRAME: [u8; 14] = [0xff, 0xff, 0xff, 0xff, 0xff, 0xff, 2, 0, 0, 0, 0, 1, 8, 6];
 
-/// A capture that is fed in pieces of this size gives that frame alone.
+/// A capture that is fed in pieces of this size gives only that frame.
 fn check_order(rt: &impl Abort, alloc: Global, capture: &[u8], size: usize) {
     let mut frames = Frames::new(alloc);
     let answer = decode(alloc, capture, size, &mut frames);
@@ -93,7 +93,7 @@ fn reads_two_sections(rt: HostRuntime) -> Result<(), Fail> {
     let bytes = two_sections(rt.alloc())?;
     let mut frames = Frames::new(rt.alloc());
     // The second section has one interface, so its second packet, at 104 + 28 + 20 + 24, names one
-    // that isn't there.
+    // that doesn't exist.
     let missing = BlockError::BadInterface(176);
     let answer = decode(rt.alloc(), bytes.as_slice(), 50, &mut frames);
     assert_eq!(rt;

@@ -23,7 +23,7 @@ fn long_capture(alloc: Global, tail: u32) -> Result<Vec<u8>, Memory> {
     Ok(bytes)
 }
 
-/// Feeds a capture in pieces of 999 bytes, of which none may be damage. While the long block is
+/// Feeds a capture in pieces of 999 bytes, none of which may find damage. While the long block is
 /// fed, at most three bytes are kept.
 fn feed_long(
     rt: &impl Abort,

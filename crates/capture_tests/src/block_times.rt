@@ -1,4 +1,4 @@
-//! Time stamps in the units that an interface can say, and times that don't fit.
+//! Time stamps in the units that an interface can state, and times that don't fit.
 use crate::block_feeding::{decode, seen};
 use crate::block_writing::{push_enhanced, push_section, push_timed};
 use frame_view::{Frames, Memory};
@@ -60,7 +60,7 @@ fn timed(alloc: Global, order: Order, row: &Row) -> Result<Vec<u8>, Memory> {
     Ok(bytes)
 }
 
-/// Holds the time of each row's packet, written in a byte order, to the row.
+/// Compares the time of each row's packet, written in a byte order, with the row.
 fn check_times(rt: &impl Abort, alloc: Global, order: Order, rows: &[Row]) -> Result<(), Fail> {
     for row in rows {
         let bytes = timed(alloc, order, row)?;

@@ -1,4 +1,4 @@
-//! Blocks written in a byte order, as the pcapng format says them.
+//! Blocks written in a byte order, as the pcapng format defines them.
 use frame_view::Memory;
 use pcapng_blocks::Order;
 

@@ -7,7 +7,7 @@ use std::alloc::Global;
 use std::process::Abort;
 use std::test::Fail;
 
-/// A name, a place, the bytes that stand there, the number of frames, and the answer.
+/// A name, a place, the bytes there, the number of frames, and the answer.
 type Row = (&'static str, usize, [u8; 4], usize, Answer);
 
 static ROWS: [Row; 11] = [
@@ -83,7 +83,7 @@ fn overwritten(alloc: Global, place: usize, field: [u8; 4]) -> Result<Vec<u8>, M
     Ok(bytes)
 }
 
-/// What the capture with a field overwritten answers, and how many frames it gives.
+/// What the capture with a field overwritten returns, and how many frames it gives.
 fn read_of(
     alloc: Global,
     place: usize,
@@ -95,7 +95,7 @@ fn read_of(
     Ok((answers, frames.len()))
 }
 
-/// Holds the answers and the frames of each row to the row.
+/// Compares the answers and the frames of each row with the row.
 fn check_damage(rt: &impl Abort, alloc: Global, rows: &[Row]) -> Result<(), Memory> {
     for (name, place, field, count, answer) in rows {
         let read = read_of(alloc, *place, *field)?;
@@ -123,7 +123,7 @@ static CUTS: [Cut; 6] = [
     (104, Err(CaptureError::Truncated(73)), 31),
 ];
 
-/// Holds the end of the capture at each cut to its row.
+/// Compares the end of the capture at each cut with its row.
 fn check_cuts(rt: &impl Abort, alloc: Global, capture: &[u8], rows: &[Cut]) {
     for (length, end, rest) in rows {
         let mut frames = Frames::new(alloc);

@@ -5,10 +5,10 @@ use capture_file::{CaptureError, Decoder, pcap_text};
 use frame_view::{ByteList, Frame, Frames, Memory, Packet, Packets};
 use std::alloc::Global;
 
-/// What a feed or the end answers.
+/// What a feed or the end returns.
 pub(crate) type Answer = Result<(), CaptureError>;
 
-/// Feeds a capture in pieces of a size. It gives the answers of the last feed and of the end, and
+/// Feeds a capture in pieces of a size. It returns the answers of the last feed and of the end, and
 /// how many bytes are kept.
 pub(crate) fn decode(
     alloc: Global,
@@ -24,7 +24,7 @@ pub(crate) fn decode(
     (fed, decoder.end(), decoder.rest())
 }
 
-/// The packet that a frame would be.
+/// The packet that a frame would become.
 fn packet_of(alloc: Global, frame: &Frame) -> Result<Packet, Memory>
     ensures { IfOk result (λ packet. packet.bytes ≡ frame.now.bytes) }
 {

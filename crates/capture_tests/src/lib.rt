@@ -1,5 +1,5 @@
 //! Tests of captures: files that another program wrote, and what a decoder makes of them piece by
-//! piece; and the blocks of pcapng, in either byte order, cut at every place, and damaged.
+//! piece; the blocks of pcapng, in either byte order, cut at every place, and damaged.
 #![tactic(auto)]
 
 #[cfg(test)]

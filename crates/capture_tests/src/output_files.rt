@@ -1,4 +1,5 @@
-//! One capture in four spellings, and one frame, as another program writes what is in them.
+//! One capture in four encodings, and one frame, with the output file that another program writes
+//! for them.
 use crate::feeding::{decode, text_of};
 use crate::spellings::{BIG_MICRO, BIG_NANO, LITTLE_MICRO, LITTLE_NANO, ONE_FRAME, THREE_FRAMES};
 use frame_view::Frames;
@@ -25,7 +26,7 @@ fn check_spelling(
     Ok(())
 }
 
-/// So it is in pieces of each size.
+/// The same for pieces of each size.
 fn check_sizes(rt: &impl Abort, alloc: Global, name: &str, bytes: &[u8]) -> Result<(), Fail> {
     for size in &SIZES {
         check_spelling(rt, alloc, name, bytes, *size)?;

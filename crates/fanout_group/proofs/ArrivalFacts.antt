@@ -1,4 +1,4 @@
--- What arrives at a frame: an untagged frame that is no runt, with the frame's CPU and index.
+-- What arrives with a frame: an untagged frame that isn't a runt, with the frame's CPU and index.
 use Rattle.std.proofs.Common.{◌≡◌, ◌-◌, ◌≤◌, Bool, true, false, cond, List, length, length-append, length-drop, length-take, ltb, take, drop, refl, arith}
 use Rattle.std.specs.Prelude.{All, IfSome, Option, None, Some}
 use Rattle.std.proofs.lemmas.Bool.{ltb-false}
@@ -48,7 +48,7 @@ made_untagged frame newest is first end frames h = record {
   place = record { cpu = is.place.cpu; index = is.place.index };
 }
 
--- what reassembly leaves of an untagged frame and of such fragments
+-- what reassembly leaves after an untagged frame and such fragments
 pub passes : (held : List Frame) (frame : Frame) → All IsUntagged held → IsUntagged frame → Gives IsUntagged (IsUntaggedAt frame) (pass held frame)
 passes held frame all is =
     let at : IsUntaggedAt frame frame = record { untagged = is; place = record { cpu = refl; index = refl } } in

@@ -1,4 +1,5 @@
--- What holds of the frames of a CPU holds of the fragments that are held, and of what comes out of reassembly.
+-- What holds of the frames of a CPU holds of the fragments that are held, and of what comes out of
+-- reassembly.
 use Rattle.std.proofs.Common.{ℕ, Bool, true, false, cond, List, [], ◌∷◌, ◌++◌, not}
 use Rattle.std.specs.Prelude.{All, IfSome, Option, None, Some, find, option_map}
 use Rattle.std.specs.List.{AllByRecursion, list_any}
@@ -13,7 +14,7 @@ found_here : (P : Frame → Type 0) (test : Frame → Bool) (here : Bool) (frame
 found_here P test true frame rest h all = h
 found_here P test false frame rest h all = all
 
--- what is found is one of them
+-- what is found is one of these
 found : (P : Frame → Type 0) (test : Frame → Bool) (frames : List Frame) → AllByRecursion P frames → IfSome (find test frames) P
 found P test [] all = tt
 found P test (frame ∷ frames) all = found_here P test (test frame) frame (find test frames) all.0 (found P test frames all.1)
@@ -23,7 +24,7 @@ pub record Gives (P Q : Frame → Type 0) (passed : Passed) : Type 0 where
   pub held : All P passed.held
   pub whole : IfSome passed.whole Q
 
--- Q holds of what is put together of frames of which P holds
+-- Q holds of a datagram reassembled from frames for which P holds
 abbrev pub IsMade : (P Q : Frame → Type 0) → Frame → Type 0
 IsMade P Q newest = (first : Frame) (end : ℕ) (frames : List Frame) → P first → Q (datagram_from first end frames newest)
 

@@ -1,4 +1,4 @@
--- A lawful log with one arrival more.
+-- A lawful log with one more arrival.
 use Rattle.std.proofs.Common.{◌≡◌, ℕ, Bool, true, false, cond, eqb, List, [], ◌∷◌, ◌++◌, refl, sym, ap, append_assoc, append-nil, ◌∙◌, subst}
 use Rattle.std.specs.Prelude.{MatchBool, Option, None, Some, option_to_list, unwrap_or}
 use Rattle.frame_view.specs.declared.frames.Frame.{Frame}
@@ -29,7 +29,7 @@ present_more : (mode : Mode) (present : ℕ) (log : List ArrivalLog) (entry : Ar
 present_more mode present [] entry = refl
 present_more mode present (first ∷ log) entry = present_more mode (present_after mode present first.tries) log entry
 
--- where the entry of the arrival to be logged is one, the log with it is lawful
+-- if the arrival's entry is lawful, so is the log with it
 pub logs_one : (shape : Shape) (group : Lens) (frames : List Frame) (arrival : Frame) (entry : ArrivalLog) (path : Path) → path.shape ≡ shape
     → IsPathTo (rules_by shape group) frames arrival path → IsEntry (rules_by shape group) path.present arrival entry
     → IsPath (rules_by shape group) frames (logged entry path)
@@ -47,7 +47,7 @@ logs_one shape group frames arrival entry path same to is =
       present_is = ap (λ (p : ℕ). present_after path.shape.mode p entry.tries) has.present_is ∙ sym (present_more path.shape.mode 0 path.log entry);
     }
 
--- an offer is made exactly where the verdict isn't 0
+-- an offer is made exactly if the verdict isn't 0
 not_made : (ended : Bool) (offer : Offer) → None ≡ cond ended None (Some offer) → ended ≡ true
 not_made true offer e = refl
 not_made false offer e = cc
@@ -99,7 +99,7 @@ delivered shape group room present queue arrival entry offer tries ticket at jud
       tries = some_tries (eqb (verdict_by group arrival) 0) tries _ made.goes_on way;
     })
 
--- one frame more
+-- one more frame
 held_more : (defrag : Bool) (held frames : List Frame) (frame : Frame)
     → held_from defrag held (frames ++ frame ∷ []) ≡ held_behind defrag (held_from defrag held frames) frame
 held_more defrag held [] frame = refl

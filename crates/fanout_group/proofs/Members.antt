@@ -46,7 +46,7 @@ sum_below-here at value (suc n) h = elim (cases_eq at n) [
   | inr other ↦ omega (arith, sum_below-here at value n (omega arith), ap (λ test. cond test value 0) (ne_eqb at n other))
 ]
 
--- what stands at one number alone
+-- what is at only one number
 pub sum_below-at : (at value n : ℕ) → sum_below (λ k. cond (eqb at k) value 0) n ≡ cond (ltb at n) value 0
 sum_below-at at value n = elim (cases_lt at n) [
   | inl below ↦ sum_below-here at value n below ∙ sym (ap (λ test. cond test value 0) (lt-ltb at n below))

@@ -1,4 +1,4 @@
--- The arrivals of a CPU's frames have their places.
+-- The arrivals of a CPU's frames have the frames' places.
 use Rattle.std.proofs.Common.{◌≡◌, ℕ, suc, ◌+◌, ◌-◌, ◌≤◌, Bool, true, false, cond, List, [], ◌∷◌, ◌++◌, length, ltb, refl, ap, ◌∙◌, arith}
 use Rattle.std.specs.Prelude.{IfSome, Option, None, Some, option_to_list}
 use Rattle.std.proofs.lemmas.List.Elements.{All-from_recursion}
@@ -20,7 +20,7 @@ untagged_by false frame = record { cpu = refl; index = refl }
 untagged_there : (frame : Frame) → HasPlaceOf frame (untagged frame)
 untagged_there frame = untagged_by (is_tagged frame.bytes) frame
 
--- and so does reassembly
+-- and reassembly too
 made_there : (frame newest : Frame) → HasPlaceOf frame newest → IsMade (λ _. Unit {0}) (HasPlaceOf frame) newest
 unfolding datagram_from
 made_there frame newest is first end frames h = record { cpu = is.cpu; index = is.index }
@@ -66,7 +66,7 @@ arrivals_of_from defrag held cpu least (frame ∷ frames) of =
 pub arrivals_are_of : (defrag : Bool) (cpu least : ℕ) (frames : List Frame) → AreOf cpu least frames → AreOf cpu least (arrivals_of defrag frames)
 arrivals_are_of defrag cpu least frames of = arrivals_of_from defrag [] cpu least frames of
 
--- something or nothing arrives at each frame
+-- with each frame something or nothing arrives
 pub length-arrivals_from : (defrag : Bool) (held frames : List Frame) → length (arrivals_from defrag held frames) ≡ length frames
 length-arrivals_from defrag held [] = refl
 length-arrivals_from defrag held (frame ∷ frames) = ap suc (length-arrivals_from defrag (held_behind defrag held frame) frames)

@@ -8,7 +8,7 @@ use Rattle.fanout_group.specs.declared.logs.Fate.{Fate}
 use Rattle.fanout_group.specs.declared.logs.Fate.TheVariants.{Kept, Refused}
 use Rattle.fanout_group.specs.declared.logs.Try.{Try}
 
--- so many places after a member, round the group
+-- n places after a member, round the group
 behind_is : (members at count : ℕ) → at < members → behind members at count ≡ (at + count) % members
 behind_is members at zero h =
     let none : at + zero ≡ at = omega arith in
@@ -18,27 +18,27 @@ behind_is members at (suc count) h =
     behind_is members ((at + 1) % members) count (mod_below (at + 1) members (omega arith))
     ∙ mod-add-mod (at + 1) members count ∙ ap (λ (n : ℕ). n % members) further
 
--- none is no value
+-- `None` isn't a value
 no_try : (P : Type 0) (t : Try) → ◌≡◌ {A = Option Try} None (Some t) → P
 no_try P t e = grind arith
 
 one_try : (u t : Try) → ◌≡◌ {A = Option Try} (Some u) (Some t) → t ≡ u
 one_try u t e = grind arith
 
--- the member of a try among refusals and one try more
+-- the member of a try among refusals and one more try
 member_at : (members at count i : ℕ) (fate : Fate) (t : Try) → slice_get (refused_from members at count ++ a_try (behind members at count) fate ∷ []) i ≡ Some t → t.member ≡ behind members at i
 member_at members at zero zero fate t e = ap (λ (u : Try). u.member) (one_try (a_try at fate) t e)
 member_at members at zero (suc i) fate t e = no_try (t.member ≡ behind members at (suc i)) t e
 member_at members at (suc count) zero fate t e = ap (λ (u : Try). u.member) (one_try (a_try at Refused) t e)
 member_at members at (suc count) (suc i) fate t e = member_at members ((at + 1) % members) count i fate t e
 
--- the same without the one more
+-- the same without the last try
 refused_at : (members at count i : ℕ) (t : Try) → slice_get (refused_from members at count) i ≡ Some t → t.member ≡ behind members at i
 refused_at members at zero i t e = no_try (t.member ≡ behind members at i) t e
 refused_at members at (suc count) zero t e = ap (λ (u : Try). u.member) (one_try (a_try at Refused) t e)
 refused_at members at (suc count) (suc i) t e = refused_at members ((at + 1) % members) count i t e
 
--- before the one more each is refused
+-- each try before the last is refused
 fate_at : (members at count i end : ℕ) (fate : Fate) (t : Try) → i < count → slice_get (refused_from members at count ++ a_try end fate ∷ []) i ≡ Some t → t.fate ≡ Refused
 fate_at members at zero i end fate t h e = absurd (omega arith)
 fate_at members at (suc count) zero end fate t h e = ap (λ (u : Try). u.fate) (one_try (a_try at Refused) t e)

@@ -46,7 +46,7 @@ last_of present (t ∷ tries) last e =
     let one : length (t ∷ tries) - 1 ≡ length tries = omega arith in
     last_try present (t ∷ tries) (length tries) last refl (ap (λ k. slice_get (t ∷ tries) k) (sym one) ∙ e)
 
--- one refusal more in the round
+-- one more refusal in the round
 pub record Turned (members home turn : ℕ) (before more now : List Try) : Type 0 where
   pub tried : now ≡ refused_from members home (turn + 1)
   pub told : more ≡ before ++ refused_from members home (turn + 1)
@@ -66,6 +66,6 @@ turned members home turn member answer back before told more tried now at_desk i
           ∙ ap (λ (tries : List Try). before ++ tries) one;
     }
 
--- what holds of the value of an option that is there
+-- what holds of the value of an option that has one
 pub of_some : {A : Type 0} (P : A → Type 0) (answer : Option A) (x : A) → answer ≡ Some x → IfSome answer P → P x
 of_some {A = A} P answer x e h = subst (λ (o : Option A). IfSome o P) e h

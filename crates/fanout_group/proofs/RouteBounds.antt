@@ -33,7 +33,7 @@ pub behind_below : (members at count : ℕ) → at < members → behind members 
 behind_below members at zero h = h
 behind_below members at (suc count) h = behind_below members ((at + 1) % members) count (omega arith)
 
--- what a member's number and a fate say of the tries that settle
+-- what a member's number and a fate say about the tries that settle
 abbrev pub settles_in : ℕ → Try → ℕ
 settles_in members t = one_if (is_settled t.fate && ltb t.member members)
 
@@ -86,7 +86,7 @@ present_stays Cpu members present tries at last = at
 present_stays Rollover members present tries at last = last
 present_stays Qm members present tries at last = at
 
--- what holds of the tries of every entry, where a verdict of 0 ends the arrival
+-- what holds of the tries of every entry, where a verdict of 0 refuses the arrival
 pub record Ends (ended : Bool) (members present : ℕ) (tries : List Try) : Type 0 where
   pub settles : sum_by (settles_in members) tries ≡ one_if (not ended)
   pub last : last_member present tries < members
@@ -100,7 +100,7 @@ entry_ends true rolls members home present tries h at none = record {
 entry_ends false rolls members home present tries h at route =
     let settled = route_settles rolls members home present tries h route in record { settles = settled.once; last = settled.last }
 
--- the same of an entry of a log
+-- the same for an entry of a log
 pub tries_end : (rules : Rules) (present : ℕ) (frame : Frame) (entry : ArrivalLog) → 0 < rules.members → present < rules.members
     → IsEntry rules present frame entry → Ends (eqb entry.verdict 0) rules.members present entry.tries
 tries_end rules present frame entry some at is =
@@ -112,7 +112,7 @@ pub present_is_member : (rules : Rules) (present : ℕ) (frame : Frame) (entry :
 present_is_member rules present frame entry some at is =
     present_stays rules.mode rules.members present entry.tries at (tries_end rules present frame entry some at is).last
 
--- the same of a route
+-- the same for a route
 pub present_after-route : (rolls : Bool) (mode : Mode) (members home present : ℕ) (tries : List Try) → home < members → present < members
     → IsRoute rolls members home tries → present_after mode present tries < members
 present_after-route rolls mode members home present tries h at route =

@@ -37,7 +37,7 @@ settled_of cpu index (note ∷ notes) =
     let both = sum_by-append f (frame_note cpu note) (frame_notes cpu notes) in
     omega (arith, both, sum_by-cons f note notes, one_note cpu index note, settled_of cpu index notes)
 
--- whether a fate is none of a packet that was handed back
+-- whether a fate isn't that of a packet that was handed back
 abbrev pub is_settled : Fate → Bool
 is_settled fates.Kept = true
 is_settled fates.Dropped = true

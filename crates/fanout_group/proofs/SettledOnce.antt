@@ -1,4 +1,5 @@
--- Each arrival that passes is settled once by the tries of its entry, and so by the notes of all members.
+-- Each arrival that passes is settled once by the tries of its entry, and so by the notes of all
+-- members.
 use Rattle.std.proofs.Common.{◌≡◌, ℕ, ◌+◌, ◌<◌, Bool, true, false, cond, not, ◌&&◌, ◌||◌, eqb, ltb, List, [], ◌∷◌, length, get_or, refl, sym, ap, ◌∙◌, arith}
 use Rattle.std.specs.Prelude.{sum_by}
 use Rattle.std.proofs.lemmas.Bool.{and_parts, eq-eqb, eqb-true, ne_eqb}
@@ -23,7 +24,7 @@ is_it cpu index frame = eqb frame.cpu cpu && eqb frame.index index
 abbrev attempt_of : Frame → ArrivalLog → Try → Attempt
 attempt_of frame entry t = record { frame = frame; hash = entry.hash; verdict = entry.verdict; fate = t.fate }
 
--- what one try settles stands at its member alone
+-- what one try changes is at its own member
 try_at : (f : Attempt → ℕ) (attempt : Attempt) (here : Bool) → sum_by f (cond here (attempt ∷ []) []) ≡ cond here (f attempt) 0
 try_at f attempt true = omega arith
 try_at f attempt false = refl

@@ -1,4 +1,4 @@
--- All that arrives of a capture is sound.
+-- Every arrival of a capture is sound.
 use Rattle.std.proofs.Common.{◌≡◌, Bool, true, false, List, [], ◌∷◌, ◌++◌, refl}
 use Rattle.std.specs.Prelude.{All, IfSome, Option, None, Some, option_to_list}
 use Rattle.std.specs.List.{AllByRecursion}
@@ -10,7 +10,7 @@ use Rattle.ip_defrag.specs.Fold.{pass}
 use Rattle.fanout_group.specs.Arrivals.{IsArrival, IsUntagged, arrival_at, arrivals_from, arrivals_of, held_behind, somes}
 use Rattle.fanout_group.proofs.ArrivalFacts.{IsArrivalAt, arrives_if, passes, untagged_is}
 
--- what a frame leaves held, and what arrives at it
+-- what a frame leaves held, and what arrives with it
 record Leaves (frame : Frame) (behind : List Frame) (comes : Option Frame) : Type 0 where
   pub held : All IsUntagged behind
   pub arrival : IfSome comes (IsArrivalAt (untagged frame))

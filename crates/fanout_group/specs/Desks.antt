@@ -1,4 +1,4 @@
--- What a desk answers, and what it says of the tries that were made at it.
+-- What a desk answers, and what it reports of the tries that were made at it.
 use Rattle.std.specs.Prelude.{◌≡◌, ℕ}
 use Rattle.ring_model.specs.declared.notes.Offer.{Offer}
 use Rattle.ring_model.specs.declared.notes.Put.{Put}

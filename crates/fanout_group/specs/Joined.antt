@@ -1,5 +1,4 @@
--- When logs and notes speak of the same: each try has its note at its member, and each note its
--- try.
+-- When logs and notes agree: each try has its note at its member, and each note its try.
 use Rattle.std.specs.Prelude.{◌≡◌, ℕ, ◌+◌, ◌<◌, ◌≤◌, List, [], ◌∷◌, ◌++◌, length, count_by}
 use Rattle.std.specs.Prelude.{filter_map, sum_by, nat_lt, ◌==◌, if◌then◌else◌, slice_index_or}
 use Rattle.std.specs.Prelude.{Option}
@@ -9,7 +8,7 @@ use Rattle.ring_model.specs.Offers.{offer_of}
 use Rattle.ring_model.specs.Fates.{frame_notes}
 use Rattle.ring_model.specs.declared.notes.Note.{Note}
 use Rattle.ring_model.specs.declared.notes.Note.TheVariants as notes
--- `Rises` is of the dealer's tickets, which those of the logs are
+-- `Rises` is that of the dealer's tickets, since those of the logs are the dealer's
 pub use Rattle.ticket_dealer.specs.Tickets.{Rises}
 use Rattle.fanout_group.specs.Rules.{Rules}
 use Rattle.fanout_group.specs.declared.modes.Mode.TheVariants.{Lb}
@@ -40,7 +39,7 @@ attempts_at member (frame ∷ frames) (entry ∷ log) =
     attempts_in member frame entry entry.tries ++ attempts_at member frames log
 attempts_at member frames log = []
 
--- the note of a try: of a packet that was kept it has the offer, of another its frame and its need
+-- the note of a try: it has the offer if the packet was kept, otherwise the packet's frame and need
 abbrev pub IsNoteOf : ℕ → Option (List ℕ) → Attempt → Note → Type 0
 IsNoteOf room own attempt (notes.Kept offer found) =
     (attempt.fate ≡ Kept) × (offer ≡ offer_of room own attempt.hash attempt.verdict attempt.frame)
@@ -72,7 +71,7 @@ nothing_logged = record { arrivals = []; log = [] }
 abbrev pub tickets_of : List ArrivalLog → List ℕ
 tickets_of log = filter_map (λ entry. entry.ticket) log
 
--- Logs and notes are joined. A CPU that isn't there has no arrival, so no note speaks of it.
+-- Logs and notes are joined. A CPU that doesn't exist has no arrival, so no note is about it.
 pub record AreJoined (rules : Rules) (room : ℕ) (cpus : List Logged) (members : List (List Note))
     : Type 0 where
   pub each : (cpu member : ℕ) → member < length members →

@@ -14,7 +14,7 @@ use Rattle.fanout_group.specs.Plans.{Shape, has_backup}
 use Rattle.fanout_group.specs.Rules.{Rules}
 use Rattle.fanout_group.specs.declared.logs.ArrivalLog.{ArrivalLog}
 
--- what a group looks at its arrivals with: the key of the flow hash, the filter, the station's own
+-- what a group judges its arrivals by: the key of the flow hash, the filter, the station's own
 -- address, and the receive queue of each CPU
 pub record Lens : Type 0 where
   pub key : Option (List ℕ)
@@ -66,7 +66,7 @@ first_entry lens frame ticket = record {
 }
 
 -- what an arrival offers to rings whose blocks have this room, by its hash and its verdict: nothing
--- where that is 0
+-- if that is 0
 abbrev pub offer_if : ℕ → Option (List ℕ) → ℕ → ℕ → Frame → Option Offer
 offer_if room own hash verdict frame =
     if verdict == 0 then None else Some (offer_of room own hash verdict frame)
@@ -75,15 +75,14 @@ abbrev pub offer_by : Lens → ℕ → Frame → Option Offer
 offer_by lens room frame =
     offer_if room lens.own (hash_by lens.key frame) (verdict_by lens frame) frame
 
--- of a CPU the two lenses show the same
+-- the two lenses show the same for a CPU
 pub record AgreesAt (cpu : ℕ) (group lens : Lens) : Type 0 where
   pub key : group.key ≡ lens.key
   pub filter : group.filter ≡ lens.filter
   pub own : group.own ≡ lens.own
   pub queue : group.queue cpu ≡ lens.queue cpu
 
--- an arrival is judged by the rules of its group: its entry, with no try yet, and the offer that it
--- makes
+-- an arrival is judged by the rules of its group: its entry, with no try yet, and its offer
 pub record IsJudged (group : Lens) (room : ℕ) (arrival : Frame) (entry : ArrivalLog)
     (made : Option Offer) : Type 0 where
   pub entry_is : entry ≡ first_entry group arrival entry.ticket

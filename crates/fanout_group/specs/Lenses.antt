@@ -1,9 +1,9 @@
--- What the code's rules for the arrivals of a CPU stand for.
+-- The rules of the definitions that the code's rules for the arrivals of a CPU represent.
 use Rattle.std.specs.Prelude.{option_copied}
 use Rattle.fanout_group.specs.Judgements.{Lens}
 use Rattle.fanout_group.specs.declared.judgements.ArrivalRules.{ArrivalRules}
 
--- with the CPU's receive queue as that of every CPU
+-- with the CPU's receive queue in place of every CPU's
 abbrev pub lens_of : ArrivalRules → Lens
 lens_of rules = record {
   key = option_copied rules.key;

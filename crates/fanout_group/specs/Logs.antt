@@ -1,18 +1,18 @@
 -- When the log of a CPU is lawful: it has the CPU's arrivals, each with what the group's rules say
--- of it.
+-- about it.
 use Rattle.std.specs.Prelude.{◌≡◌, ℕ, List, [], ◌∷◌, ◌==◌, MatchBool}
 use Rattle.frame_view.specs.declared.frames.Frame.{Frame}
 use Rattle.fanout_group.specs.Rules.{Rules, HasTicket, home_of, rolls_over}
 use Rattle.fanout_group.specs.Routes.{IsRoute, present_after}
 use Rattle.fanout_group.specs.declared.logs.ArrivalLog.{ArrivalLog}
 
--- the entry of an arrival, where the CPU's present member is this
+-- the entry of an arrival, given the CPU's present member
 pub record IsEntry (rules : Rules) (present : ℕ) (frame : Frame) (entry : ArrivalLog) : Type 0 where
   pub index : entry.index ≡ frame.index
   pub hash : entry.hash ≡ rules.hash frame
   pub verdict : entry.verdict ≡ rules.verdict frame
   pub ticket : HasTicket rules.mode entry.ticket
-  -- a verdict of 0 ends the arrival
+  -- a verdict of 0 refuses the arrival
   pub tries : MatchBool (entry.verdict == 0) (entry.tries ≡ [])
       (IsRoute (rolls_over rules) rules.members (home_of rules present entry.ticket frame)
       entry.tries)

@@ -1,4 +1,4 @@
--- The law that each arrival which the filter passes stands exactly once.
+-- The law that each arrival that passes the filter appears exactly once.
 use Rattle.std.specs.Prelude.{◌≡◌, ℕ, ◌+◌, ◌<◌, ◌≤◌, Bool, ◌&&◌, not, List, [], ◌∷◌, length, sum_by}
 use Rattle.std.specs.Prelude.{◌==◌, if◌then◌else◌, slice_index_or}
 use Rattle.std.specs.List.{list_any}
@@ -29,7 +29,7 @@ times_settled cpu index members = sum_by (λ notes. sum_by (settles cpu index) n
 abbrev pub passes : ℕ → List ArrivalLog → Bool
 passes index log = list_any (λ entry. (entry.index == index) && not (entry.verdict == 0)) log
 
--- the frames of one CPU, with indexes that rise
+-- the frames of one CPU, with rising indexes
 abbrev pub AreOf : ℕ → ℕ → List Frame → Type 0
 AreOf cpu least [] = Unit {0}
 AreOf cpu least (frame ∷ frames) =
@@ -46,8 +46,8 @@ pub record IsGroupReport (rules : Rules) (room : ℕ) (cpus : List Logged)
       IsLawful rules logged.arrivals logged.log
   pub joined : AreJoined rules room cpus members
 
--- Among the Kept and Dropped notes of all members each arrival that passes stands once, and nothing
--- else stands there.
+-- Among the Kept and Dropped notes of all members each arrival that passes appears once, and
+-- nothing else appears there.
 abbrev pub EachStandsOnce : List Logged → List (List Note) → Type 0
 EachStandsOnce cpus members = (cpu index : ℕ) →
     times_settled cpu index members

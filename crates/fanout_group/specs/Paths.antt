@@ -1,4 +1,4 @@
--- The receive path of a CPU: what its frames so far have left, and when its log is lawful over
+-- The receive path of a CPU: its state after the frames so far, and when its log is lawful over
 -- them.
 use Rattle.std.specs.Prelude.{◌≡◌, ℕ, List, [], ◌∷◌, ◌++◌, Option, None, Some}
 use Rattle.frame_view.specs.declared.frames.Frame.{Frame}
@@ -55,7 +55,7 @@ IsPathTo rules frames arrival path =
     × (arrivals_of (has_defrag path.shape.flags) frames ≡ earlier ++ arrival ∷ [])
     × HasLogged rules frames earlier path
 
--- what a frame more leaves: a lawful log, or an arrival that is to be logged
+-- after one more frame: a lawful log, or an arrival that is to be logged
 abbrev pub IsPathBehind : Rules → List Frame → Option Frame → Path → Type 0
 IsPathBehind rules frames None path = IsPath rules frames path
 IsPathBehind rules frames (Some arrival) path = IsPathTo rules frames arrival path

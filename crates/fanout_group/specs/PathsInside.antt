@@ -1,4 +1,4 @@
--- What the code's receive path stands for.
+-- The receive path of the definitions that the code's fields represent.
 use Rattle.std.specs.Prelude.{◌≡◌, ◌<◌, [], is_some, unwrap_or, All}
 use Rattle.fanout_group.specs.Arrivals.{IsUntagged}
 use Rattle.fanout_group.specs.Paths.{Path}
@@ -15,7 +15,7 @@ path_value inside = record {
 }
 
 pub record IsInGroup (inside : Inside) : Type 0 where
-  -- fragments are put together exactly where the group is to
+  -- fragments are reassembled exactly if the group's flags say so
   pub defrag : is_some inside.reassembly ≡ has_defrag inside.plan.flags
   -- what is held was untagged before
   pub held : All IsUntagged (unwrap_or inside.reassembly [])

@@ -1,4 +1,4 @@
--- Which groups there may be.
+-- Which groups are valid.
 use Rattle.std.specs.Prelude.{◌≡◌, ℕ, ◌<◌, ◌≤◌, Bool, true, false, ◌&&◌, ◌||◌, not, bit_and, nat_lt}
 use Rattle.std.specs.Prelude.{◌==◌, if◌then◌else◌, Option, None, Some}
 use Rattle.fanout_group.specs.Rules.{is_rollover}
@@ -20,11 +20,11 @@ pub record Shape : Type 0 where
 abbrev pub AreFlags : ℕ → Type 0
 AreFlags flags = bit_and flags 0x9000 ≡ flags
 
--- other members are tried where the home has no room
+-- other members are tried if the home has no room
 abbrev pub has_backup : ℕ → Bool
 has_backup flags = not (bit_and flags 0x1000 == 0)
 
--- fragments are put together before a member is chosen
+-- fragments are reassembled before a member is chosen
 abbrev pub has_defrag : ℕ → Bool
 has_defrag flags = not (bit_and flags 0x8000 == 0)
 
@@ -33,8 +33,8 @@ abbrev pub is_hash : Mode → Bool
 is_hash Hash = true
 is_hash mode = false
 
--- why there is no group of n members, in this mode, with these flags and with or without a
--- key of the flow hash: the first that applies
+-- why a group of n members, in this mode, with these flags and with or without a key of the flow
+-- hash is refused: the first that applies
 abbrev pub fault_of : ℕ → Mode → ℕ → Bool → Option PlanError
 fault_of members mode flags has_key =
     if members == 0 then Some NoMember
@@ -43,7 +43,7 @@ fault_of members mode flags has_key =
     else if is_hash mode && not has_key then Some NoKey
     else None
 
--- a shape without such a fault: with a key, or in another mode than Hash, there is a group of it
+-- a shape without such a fault: with a key, or in a mode other than Hash, its group is valid
 pub record IsPlan (shape : Shape) : Type 0 where
   pub some : 0 < shape.members
   pub few : shape.members ≤ 8

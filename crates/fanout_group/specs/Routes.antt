@@ -21,7 +21,7 @@ abbrev pub behind : ℕ → ℕ → ℕ → ℕ
 behind members at zero = at
 behind members at (suc count) = behind members ((at + 1) % members) count
 
--- the one try that is no refusal: the member takes the packet or drops it
+-- the one try that isn't a refusal: the member takes the packet or drops it
 abbrev pub IsSettled : Fate → Type 0
 IsSettled Kept = Unit {0}
 IsSettled Dropped = Unit {0}
@@ -64,7 +64,7 @@ abbrev pub AreRefusals : ℕ → ℕ → List Try → Type 0
 AreRefusals members home tries =
     (count : ℕ) × (count ≤ members) × (tries ≡ refused_from members home count)
 
--- tries of an arrival that are no route yet: with rollover some refusals, without it none was made
+-- tries of an arrival that aren't a whole route yet: with rollover some refusals, without it none
 abbrev pub IsBegun : Bool → ℕ → ℕ → List Try → Type 0
 IsBegun rolls members home tries = MatchBool rolls (AreRefusals members home tries) (tries ≡ [])
 

@@ -9,7 +9,7 @@ use Rattle.fanout_group.specs.declared.modes.Mode.TheVariants.{Hash, Lb, Cpu, Ro
 pub record Rules : Type 0 where
   pub members : ℕ
   pub mode : Mode
-  -- PACKET_FANOUT_FLAG_ROLLOVER: other members are tried where the home has no room
+  -- PACKET_FANOUT_FLAG_ROLLOVER: other members are tried if the home has no room
   pub backup : Bool
   -- the receive queue of a CPU
   pub queue : ℕ → ℕ
@@ -20,7 +20,7 @@ pub record Rules : Type 0 where
   -- how many bytes of an arrival the filter keeps; 0 refuses it
   pub verdict : Frame → ℕ
 
--- the member that an arrival is for first, where the CPU's present member is this
+-- the member that an arrival is for first, given the CPU's present member
 abbrev pub home_by : Mode → ℕ → ℕ → ℕ → ℕ → ℕ → ℕ → ℕ
 home_by Hash members hash ticket cpu queue present = hash % members
 home_by Lb members hash ticket cpu queue present = ticket % members

@@ -18,15 +18,15 @@ use std::mem;
 /// Delivers a packet to a group by its mode: makes the tries of an arrival at a desk, in order, and
 /// reports them at the end of a list.
 ///
-/// The home is by the mode the offer's hash, the ticket, the frame's CPU or the receive queue
-/// modulo the number of members, or the CPU's present member (PACKET_FANOUT of packet(7); that it
-/// is a modulo, and the present member of each CPU, are this project's own choice). Without
-/// rollover the packet is put at home. With it each member is tried once, from the home on round
-/// the group, until one keeps the packet; where all refuse it is put at home. In mode `Rollover`
-/// the member of the last try is `present` from then on.
+/// Depending on the mode, the home is the offer's hash, the ticket, the frame's CPU or the receive
+/// queue modulo the number of members, or the CPU's present member (PACKET_FANOUT of packet(7); the
+/// modulo and the present member of each CPU are this project's own choice). Without rollover the
+/// packet is put at home. With it each member is tried once, from the home on round the group,
+/// until one keeps the packet; if all refuse it is put at home. In mode `Rollover` the member of
+/// the last try is `present` from then on.
 ///
 /// After `Memory` the tries that were made are in the list, and `present` is unchanged: without
-/// rollover none was made, with it all of them are refusals, and no member has the packet.
+/// rollover none was made; with it all of them are refusals, and no member has the packet.
 pub fn deliver<D: Desk>(
     alloc: Global,
     plan: &Plan,

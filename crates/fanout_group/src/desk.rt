@@ -7,7 +7,7 @@ ghost use Rattle.ring_model.specs.declared.notes.Offer.{Offer};
 
 use ring_model::{Offer, Put, Tried, Unput};
 
-/// The members of a group, as one arrival meets them. A desk is made for one delivery. Contracts
+/// The members of a group, as one arrival finds them. A desk is made for one delivery. Contracts
 /// see the tries that were made at it, and which offers a member takes.
 pub trait Desk {
     // The tries that were made at this desk, in order.
@@ -20,8 +20,8 @@ pub trait Desk {
     ghost follows: { Self → Self → Type 0 };
 
     /// Offers a packet to a member, which keeps it, or refuses it and is as it was; then the offer
-    /// comes back. After `Unput`, which is memory that ran out and hands the offer back too, no try
-    /// was made.
+    /// comes back. `Unput` means that memory ran out; it hands the offer back too, and no try was
+    /// made.
     fn try_put(&mut self, member: u32, offer: Offer) -> Result<Tried, Unput>
         requires takes { takes self.old member offer }
         requires few { length (tried self.old) < 9 }
@@ -33,8 +33,8 @@ pub trait Desk {
         ensures same { TakesTheSame (takes self.old) (takes self.new) }
         ensures follows { follows self.old self.new };
 
-    /// Gives a packet to a member, which keeps it or drops it. After `Unput`, which is want of
-    /// memory and hands the offer back, no try was made.
+    /// Gives a packet to a member, which keeps it or drops it. `Unput` means that memory ran out;
+    /// it hands the offer back, and no try was made.
     fn put(&mut self, member: u32, offer: Offer) -> Result<Put, Unput>
         requires takes { takes self.old member offer }
         requires few { length (tried self.old) < 9 }
@@ -48,7 +48,7 @@ pub trait Desk {
     // Any desk is its own continuation.
     ghost stays: { (desk : Self) → follows desk desk };
 
-    // And what follows what follows a desk follows it too.
+    // And a continuation of a desk's continuation is one of the desk.
     ghost goes_on: { (first then_ last : Self) → follows first then_ → follows then_ last
         → follows first last };
 }

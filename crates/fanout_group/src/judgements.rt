@@ -15,14 +15,14 @@ use frame_view::{Frame, link_header, pkttype, view};
 use ring_model::Offer;
 use std::alloc::Global;
 
-/// What a group looks at the arrivals of one CPU with.
+/// The rules by which a group judges the arrivals of one CPU.
 #[derive(Clone, Copy)]
 pub struct ArrivalRules<'a> {
     /// The key of the flow hash; without one every hash is 0.
     pub key: Option<&'a Key>,
     /// The filter; without one every arrival is kept whole.
     pub filter: Option<&'a Program>,
-    /// The station's own address, by which a packet is for this host or another one.
+    /// The station's own address, which decides whether a packet is for this host or another one.
     pub own: Option<[u8; 6]>,
     /// The receive queue of the CPU.
     pub queue: u32,
@@ -30,12 +30,12 @@ pub struct ArrivalRules<'a> {
     pub room: u32,
 }
 
-/// An arrival that was looked at.
+/// An arrival that was judged.
 #[derive(Debug, Drop)]
 pub struct Judged {
     /// Its entry in its CPU's log, with no try yet.
     pub entry: ArrivalLog,
-    /// What it offers to a member; nothing where its verdict is 0.
+    /// What it offers to a member; nothing if its verdict is 0.
     pub offer: Option<Offer>,
 }
 
@@ -43,7 +43,7 @@ pub struct Judged {
 const HEADERS: u32 = 82;
 
 impl ArrivalRules<'_> {
-    /// Looks at an arrival of the CPU, with its ticket where it drew one: its flow hash, then the
+    /// Judges an arrival of the CPU, with its ticket if it drew one: its flow hash, then the
     /// filter's verdict on it, then the offer that it makes. It takes no memory.
     pub fn judge(&self, alloc: Global, arrival: Frame, ticket: Option<u64>) -> Judged
         requires arrival { IsArrival arrival }
@@ -98,8 +98,8 @@ impl ArrivalRules<'_> {
         verdict_with(self.filter, &seen)
     }
 
-    /// What an arrival offers to a member: the least of its captured bytes, its verdict, and what a
-    /// block has room for. Nothing where its verdict is 0.
+    /// What an arrival offers to a member: as many bytes as the least of its captured length, its
+    /// verdict, and what a block has room for. Nothing if its verdict is 0.
     fn offer(&self, arrival: Frame, pkttype: u8, hash: u32, verdict: u32) -> Option<Offer>
         requires arrival { IsArrival arrival }
         requires room { 82 < self.now.room }

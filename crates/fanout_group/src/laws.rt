@@ -10,21 +10,21 @@ ghost use Rattle.fanout_group.specs.Rules.{Rules};
 ghost use Rattle.fanout_group.specs.declared.logs.Try.{Try};
 ghost use Rattle.ring_model.specs.declared.notes.Note.{Note};
 
-/// Where logs are lawful and joined with notes, each arrival that the filter passes stands once
-/// among all Kept and Dropped notes of all members, and nothing else stands there.
+/// Where logs are lawful and joined with notes, each arrival that the filter passes appears once
+/// among all Kept and Dropped notes of all members, and nothing else appears there.
 pub fn each_frame_stands_exactly_once()
     ensures { (rules : Rules) (room : ℕ) (cpus : List Logged) (members : List (List Note))
         → IsGroupReport rules room cpus members → EachStandsOnce cpus members }
 {}
 
-/// The arrivals of a CPU's frames have its number, and indexes that rise, with and without
+/// The arrivals of a CPU's frames have its number and rising indexes, with and without
 /// defragmentation.
 pub fn arrivals_rise()
     ensures { (defrag : Bool) (cpu least : ℕ) (frames : List Frame) → AreOf cpu least frames
         → AreOf cpu least (arrivals_of defrag frames) }
 {}
 
-/// All that arrives of a capture's frames is sound: untagged, no runt, with a time within its
+/// Every arrival of a capture's frames is sound: untagged, not a runt, with a fraction below a
 /// second, and with no more bytes than were on the wire.
 pub fn arrivals_are_sound()
     ensures { (defrag : Bool) (frames : List Frame) → All (λ frame. frame.tag ≡ None) frames
@@ -32,7 +32,8 @@ pub fn arrivals_are_sound()
 {}
 
 /// Try i of an arrival, counted from 0, is at the member i places after the home, round the group,
-/// and each try before the last is refused. So it is of the tries that were made before `Memory`.
+/// and each try before the last is refused. The same holds of the tries that were made before
+/// `Memory`.
 pub fn tries_go_round()
     ensures member { (rolls : Bool) (members home : ℕ) (tries : List Try) → home < members
         → IsRoute rolls members home tries → GoesRound members home tries }

@@ -1,5 +1,5 @@
 //! Who gets a frame: the modes of a fanout group, the log of what was tried, and the law that each
-//! frame stands exactly once.
+//! frame appears exactly once.
 #![tactic(auto)]
 
 mod delivery;

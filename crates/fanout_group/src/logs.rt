@@ -1,8 +1,8 @@
-//! The log of a CPU: each arrival with its ticket, hash and verdict, and what was tried with it.
+//! The log of a CPU: each arrival with its ticket, hash and verdict, and its tries.
 use crate::TryList;
 use frame_view::ItemList;
 
-/// What came of a try.
+/// The result of a try.
 #[derive(Clone, Copy, Debug, Default, PartialEq, Eq)]
 pub enum Fate {
     /// The member kept the packet.
@@ -10,7 +10,7 @@ pub enum Fate {
     Kept,
     /// The member had no room and was left as it was.
     Refused,
-    /// The member had no room and the packet is lost.
+    /// The member had no room, and the packet is lost.
     Dropped,
 }
 
@@ -19,7 +19,7 @@ pub enum Fate {
 pub struct Try {
     /// The member, from 0.
     pub member: u32,
-    /// What came of it.
+    /// Its result.
     pub fate: Fate,
 }
 
@@ -28,13 +28,13 @@ pub struct Try {
 pub struct ArrivalLog {
     /// The index of its frame in the capture, from 0.
     pub index: u32,
-    /// Its number among all arrivals of the group, from 0; there exactly in mode `Lb`.
+    /// Its number among all arrivals of the group, from 0; it has one exactly in mode `Lb`.
     pub ticket: Option<u64>,
     /// Its flow hash, 0 without a key.
     pub hash: u32,
-    /// How many bytes the filter keeps at most; 0 ends the arrival.
+    /// How many bytes the filter keeps at most; 0 refuses the arrival.
     pub verdict: u32,
-    /// The tries that were made with it, none where the verdict is 0.
+    /// The tries that were made with it, none if the verdict is 0.
     pub tries: TryList,
 }
 

@@ -1,4 +1,4 @@
-//! The fanout modes of `linux/if_packet.h` that a group may have.
+//! The fanout modes of `linux/if_packet.h` that a group can have.
 
 /// How a group chooses the member that an arrival is for.
 #[derive(Clone, Copy, Debug, PartialEq, Eq)]

@@ -5,16 +5,16 @@ ghost use Rattle.fanout_group.specs.Plans.{AreFlags, fault_of, has_defrag, rolls
 use crate::{Mode, PlanError};
 use std::marker::Model;
 
-/// PACKET_FANOUT_FLAG_ROLLOVER: other members are tried where the home has no room.
+/// PACKET_FANOUT_FLAG_ROLLOVER: other members are tried if the home has no room.
 const ROLLOVER: u32 = 0x1000;
 
-/// PACKET_FANOUT_FLAG_DEFRAG: fragments are put together before a member is chosen.
+/// PACKET_FANOUT_FLAG_DEFRAG: fragments are reassembled before a member is chosen.
 const DEFRAG: u32 = 0x8000;
 
 /// The most members of a group. That there are at most eight is this project's own choice.
 const MOST_MEMBERS: u32 = 8;
 
-/// The shape of a group that there may be. Contracts see its members, its mode and its flags.
+/// The shape of a valid group. Contracts see its members, its mode and its flags.
 #[derive(Clone, Copy, Debug, PartialEq, Eq)]
 pub struct Plan {
     /// The number of members, 1 to 8.
@@ -97,15 +97,15 @@ impl Plan {
         self.flags
     }
 
-    /// Whether other members are tried where the home has no room: always in mode `Rollover`, and
-    /// with the flag.
+    /// Whether other members are tried if the home has no room: always in mode `Rollover`, and with
+    /// the flag.
     pub(crate) fn rolls_over(&self) -> bool
         ensures { result ≡ rolls_over self.now }
     {
         matches!(self.mode, Mode::Rollover) || self.flags & ROLLOVER != 0
     }
 
-    /// Whether fragments are put together before a member is chosen.
+    /// Whether fragments are reassembled before a member is chosen.
     pub(crate) fn has_defrag(&self) -> bool
         ensures { result ≡ has_defrag self.now.flags }
     {

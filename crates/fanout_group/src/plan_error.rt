@@ -1,4 +1,4 @@
-//! Why there is no group of a shape.
+//! Why a group is refused.
 ghost use Rattle.std.specs.Prelude.{◌≡◌, Some};
 ghost use Rattle.fanout_group.specs.PlanWords.{word_of};
 
@@ -12,14 +12,15 @@ pub enum PlanError {
     NoMember,
     /// It has more than eight members.
     TooMany,
-    /// Other members are tried in mode `Rollover` anyway, so the flag of rollover isn't for it.
+    /// Other members are tried in mode `Rollover` anyway, so the flag of rollover isn't allowed
+    /// there.
     BackupOfRollover,
     /// In mode `Hash` the flow hash decides, and it needs a key.
     NoKey,
 }
 
 impl PlanError {
-    /// The word for the fault, as a program prints it.
+    /// The word for the fault, as the program prints it.
     pub fn word(&self) -> &'static str
         ensures { result.now ≡ word_of self.now }
     {

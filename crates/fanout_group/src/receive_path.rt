@@ -23,7 +23,7 @@ use smallvec::SmallVec;
 use std::alloc::Global;
 use std::marker::Model;
 
-/// The bytes of a link header; a frame with fewer is no arrival.
+/// The bytes of a link header; a frame with fewer isn't an arrival.
 const LINK_HEADER: usize = 14;
 
 /// The receive path of a CPU. Contracts see the fragments that it holds, the present member and the
@@ -32,7 +32,7 @@ const LINK_HEADER: usize = 14;
 pub struct ReceivePath {
     /// The shape of the group.
     plan: Plan,
-    /// The fragments that are held, where the group is to put them together.
+    /// The fragments that are held, if the group reassembles them.
     reassembly: Option<Defrag>,
     /// The member that an arrival is for in mode `Rollover`.
     present: u32,
@@ -71,10 +71,10 @@ impl ReceivePath {
         }
     }
 
-    /// Takes a frame of the CPU's capture, and gives what arrives at it: the frame itself,
-    /// untagged, or with the flag of defragmentation the datagram that it completed; nothing where
-    /// that has fewer than 14 bytes, or where the frame is held or given up. After `Memory` the
-    /// path is unchanged, and the frame is dropped.
+    /// Takes a frame of the CPU's capture, and returns what arrives with it: the frame itself,
+    /// untagged, or with the flag of defragmentation the datagram that it completed; nothing if
+    /// that has fewer than 14 bytes, or if the frame is held or given up. After `Memory` the path
+    /// is unchanged, and the frame is dropped.
     pub fn arrive(&mut self, frame: Frame) -> Result<Option<Frame>, Memory>
         requires bare { frame.tag ≡ None }
         requires captured { IsCaptured frame }
@@ -96,7 +96,7 @@ impl ReceivePath {
         Ok(without_runt(whole))
     }
 
-    /// Passes an untagged frame through reassembly, where the group is to put fragments together.
+    /// Passes an untagged frame through reassembly, if the group reassembles fragments.
     fn reassemble(&mut self, frame: Frame) -> Result<Option<Frame>, Memory>
         requires untagged { IsUntagged frame }
         ensures whole { IfOk result (λ whole.
@@ -131,8 +131,8 @@ impl ReceivePath {
         Ok(())
     }
 
-    /// Delivers the offer of an arrival, and logs the arrival with the tries that were made: room
-    /// for the entry is asked for first, so that no packet is kept that isn't logged. After
+    /// Delivers the offer of an arrival, and logs the arrival with the tries that were made: memory
+    /// for the entry is reserved first, so that no packet is kept without being logged. After
     /// `Memory` the path is unchanged, and the desk's tries are what `deliver` says of them.
     pub fn deliver<D: Desk>(
         &mut self,
@@ -247,7 +247,7 @@ fn push(reassembly: &mut Defrag, frame: Frame) -> Result<Option<Frame>, Memory>
     }
 }
 
-/// What is left where a frame with fewer bytes than a link header falls.
+/// Only frames that have a link header; others are dropped here.
 fn without_runt(frame: Option<Frame>) -> Option<Frame>
     ensures { result ≡ no_runt frame }
 {

@@ -1,5 +1,5 @@
-//! One try at a desk, listed: room for it is asked for first, so that no try is made that
-//! isn't reported.
+//! One try at a desk, listed: memory for it is reserved first, so that no try is made without being
+//! reported.
 ghost use Rattle.std.specs.Prelude.{◌≡◌, ◌<◌, [], ◌∷◌, ◌++◌, length, IfOk, IfSome, OnErr};
 ghost use Rattle.smallvec.specs.SmallVec.{HasRoomFor};
 ghost use Rattle.fanout_group.specs.Desks.{TakesTheSame};
@@ -19,7 +19,7 @@ fn add(tries: &mut SmallVec<Try, 1>, member: u32, fate: Fate)
     tries.push_reserved(Try { member, fate });
 }
 
-/// Tries to give an offer to a member; it comes back where the member refuses it.
+/// Tries to give an offer to a member; it comes back if the member refuses it.
 pub(crate) fn try_at<D: Desk>(
     desk: &mut D,
     member: u32,

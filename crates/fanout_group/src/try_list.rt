@@ -8,8 +8,8 @@ use smallvec::SmallVec;
 use std::alloc::Global;
 use std::marker::Model;
 
-/// Tries, in order. Contracts see their list. Nearly every arrival has one try, and that one stands
-/// in the list itself: only a second one takes memory.
+/// Tries, in order. Contracts see their list. Nearly every arrival has one try, which is stored in
+/// the list itself: only a second one takes memory.
 #[derive(Debug, Drop)]
 pub struct TryList {
     tries: SmallVec<Try, 1>,
@@ -25,7 +25,7 @@ impl Model for TryList {
 }
 
 impl TryList {
-    /// The list without a try. It takes no memory.
+    /// An empty list. It takes no memory.
     pub fn new(alloc: Global) -> TryList
         ensures { result ≡ [] }
     {
@@ -41,22 +41,21 @@ impl TryList {
         self.tries.len()
     }
 
-    /// Whether there is no try.
+    /// Whether the list is empty.
     pub fn is_empty(&self) -> bool
         ensures { IsTrue result ↔ (self.now ≡ []) }
     {
         self.tries.is_empty()
     }
 
-    /// The try at a place, counted from 0. `None` comes exactly where the place isn't below the
-    /// length.
+    /// The try at a place, counted from 0. `None` exactly if the place isn't below the length.
     pub fn get(&self, at: usize) -> Option<&Try>
         ensures { option_copied result ≡ slice_get self.now at }
     {
         self.tries.as_slice().get(at)
     }
 
-    /// All tries, lent in their order.
+    /// All tries, borrowed, in their order.
     pub fn as_slice(&self) -> &[Try]
         ensures { result.now ≡ self.now }
     {
@@ -72,7 +71,7 @@ impl TryList {
         Ok(())
     }
 
-    /// The tries, to make room and to put more behind them. It takes no memory.
+    /// The tries as a `Vec`, so that memory can be reserved and more appended. It takes no memory.
     pub(crate) fn into_small(self) -> SmallVec<Try, 1>
         ensures { result.items ≡ self }
     {

@@ -6,8 +6,8 @@ ghost use Rattle.fanout_group.specs.declared.logs.Try.{Try};
 use crate::Try;
 use std::marker::Model;
 
-/// The tries that were made at a desk, in their order: what a `Desk` says of its tries can stand in
-/// it. It takes no memory, and its calls do nothing when they run.
+/// The tries that were made at a desk, in their order: a `Desk` can record its tries in it. It
+/// takes no memory, and its calls do nothing when they run.
 #[derive(Drop)]
 pub struct TryTrace {
     ghost tries: { List Try },
@@ -18,14 +18,14 @@ impl Model for TryTrace {
 }
 
 impl TryTrace {
-    /// That of no try.
+    /// The trace of no try.
     pub fn new() -> TryTrace
         ensures { result.tries ≡ [] }
     {
         TryTrace {}
     }
 
-    /// That with one try more.
+    /// The trace with one more try.
     pub fn after(&self, _made: &Try) -> TryTrace
         ensures { result.tries ≡ self.now.tries ++ _made.now ∷ [] }
     {

@@ -1,4 +1,4 @@
-//! Frames that were built, against those that another program built of the same parts.
+//! Frames that were built, compared with those that another program built from the same parts.
 ghost use Rattle.std.specs.Prelude.{◌≡◌, ◌≤◌, length, IfOk};
 
 use frame_view::{ByteList, Memory, Parts, build};

@@ -70,14 +70,14 @@ pub(crate) const SENDER: [u8; 6] = [0x02, 0x00, 0x5e, 0x10, 0x00, 0x01];
 /// The address of the station that received them.
 pub(crate) const RECEIVER: [u8; 6] = [0x02, 0x00, 0x5e, 0x10, 0x00, 0x02];
 
-/// From the one to the other, over IPv4.
+/// From one station to the other, over IPv4.
 pub(crate) const LINK: Link = Link {
     to: RECEIVER,
     from: SENDER,
     protocol: 0x0800,
 };
 
-/// From the one to the other, over IPv6.
+/// From one station to the other, over IPv6.
 pub(crate) const LINK6: Link = Link {
     to: RECEIVER,
     from: SENDER,

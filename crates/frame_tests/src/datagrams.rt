@@ -17,7 +17,7 @@ fn shown(alloc: Global, frame: &Frame, headers: usize) -> Result<(String, bool),
     Ok((header, rest == data(alloc, 0, len, 0)?.as_slice()))
 }
 
-/// The datagram of some fragments, all of which it takes.
+/// The datagram that some fragments make up; the last one pushed completes it.
 fn whole_of(alloc: Global, pieces: &[Piece]) -> Result<Frame, Fail> {
     let (whole, _, _) = pushed(alloc, pieces)?;
     Ok(whole.ok_or("a whole datagram")?)
@@ -148,7 +148,7 @@ fn keeps_flags_and_tag_of_the_first_fragment(rt: HostRuntime) -> Result<(), Fail
     });
     let mut first = frame(rt.alloc(), &fragment(0xe000, 8))?;
     first.tag = tag;
-    // What is captured after the total length is no data.
+    // Bytes captured after the total length aren't data.
     first.bytes.push(0xff)?;
     let mut defrag = Defrag::new(rt.alloc());
     let early = defrag.push(frame(rt.alloc(), &fragment(1, 4))?)?.whole;

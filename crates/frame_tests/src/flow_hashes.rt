@@ -5,7 +5,7 @@ use std::alloc::Global;
 use std::process::Abort;
 use std::test::Fail;
 
-/// The usual key, of the verification suite.
+/// The default key, of the verification suite.
 const DIGITS: &[u8] =
     b"6d5a56da255b0ec24167253d43a38fb0d0ca2bcbae7b30b477cb2da38030f20c6a42b73bbeac01fa";
 
@@ -93,7 +93,7 @@ fn joined(alloc: Global, first: &[u8], second: &[u8]) -> Result<Vec<u8>, Memory>
     Ok(bytes)
 }
 
-/// Two ports, one after the other.
+/// Two ports, one after another.
 fn ports(sport: u16, dport: u16) -> [u8; 4] {
     let (source, dest) = (sport.to_be_bytes(), dport.to_be_bytes());
     [source[0], source[1], dest[0], dest[1]]
@@ -105,7 +105,7 @@ fn hash(rt: &impl Abort, key: &Key, input: &[u8]) -> u32 {
     toeplitz(key, input)
 }
 
-/// Holds the hashes of two addresses, and of these with two ports after them, to a row's.
+/// Compares the hashes of two addresses, and of these with two ports after them, with a row's.
 fn check_hashes(
     rt: &impl Abort,
     alloc: Global,
@@ -124,7 +124,7 @@ fn check_hashes(
     Ok(())
 }
 
-/// Holds the hashes of each row to the row.
+/// Compares the hashes of each row with the row.
 fn check_ipv4(rt: &impl Abort, alloc: Global, key: &Key, rows: &[Ipv4Row]) -> Result<(), Fail> {
     for (from, to, sport, dport, plain, ported) in rows {
         let addresses = joined(alloc, from, to)?;
@@ -140,7 +140,7 @@ fn meets_the_published_suite_over_ipv4(rt: HostRuntime) -> Result<(), Fail> {
     check_ipv4(&rt, rt.alloc(), &key, &OVER_IPV4)
 }
 
-/// Holds the hashes of each row to the row.
+/// Compares the hashes of each row with the row.
 fn check_ipv6(rt: &impl Abort, alloc: Global, key: &Key, rows: &[Ipv6Row]) -> Result<(), Fail> {
     for (from, to, sport, dport, plain, ported) in rows {
         let addresses = joined(alloc, &from.to_be_bytes(), &to.to_be_bytes())?;
@@ -187,7 +187,7 @@ static FLOWS: [Flow; 3] = [
     (0x0a00_0001, 4000, 0x0a00_0001, 53, 0x8c19_de0a),
 ];
 
-/// Holds the hash of a segment in either direction to each row.
+/// Compares the hash of a segment in either direction with each row.
 fn check_flows(rt: &impl Abort, key: &Key, rows: &[Flow]) {
     for (a, a_port, b, b_port, want) in rows {
         let there = over_ipv4(*a, *b, Some((*a_port, *b_port)));

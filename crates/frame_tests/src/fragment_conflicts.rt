@@ -8,7 +8,7 @@ use std::process::Abort;
 use std::test::Fail;
 
 /// A name, two fragments, how many of them are given up and how many stay held. A fragment is the
-/// first eight bytes of the datagram but for the fields that it names.
+/// first eight bytes of the datagram, except for the fields that it names.
 type Pair = (&'static str, Piece, Piece, u32, u32);
 
 static PAIRS: [Pair; 11] = [
@@ -110,7 +110,7 @@ static PAIRS: [Pair; 11] = [
     ),
 ];
 
-/// Of each pair no datagram comes, and so many fragments are given up and held.
+/// No pair makes a datagram, and these numbers of its fragments are given up and held.
 fn check_pairs(rt: &impl Abort, alloc: Global, pairs: &[Pair]) -> Result<(), Fail> {
     for (name, first, second, given_up, held) in pairs {
         let (whole, discarded, pending) = pushed(alloc, &[*first, *second])?;
@@ -125,7 +125,8 @@ fn gives_up_what_conflicts(rt: HostRuntime) -> Result<(), Fail> {
     check_pairs(&rt, rt.alloc(), &PAIRS)
 }
 
-/// The seconds of two fragments that are a datagram, how many are given up, and how many stay held.
+/// The seconds of two fragments that make a datagram, how many are given up, and how many stay
+/// held.
 type Age = (u32, u32, u32, u32);
 
 static AGES: [Age; 5] = [
@@ -136,7 +137,7 @@ static AGES: [Age; 5] = [
     (130, 100, 0, 0),
 ];
 
-/// What comes of two fragments with a row's seconds: whether a datagram does, and how many
+/// The result of two fragments with a row's seconds: whether a datagram comes out, and how many
 /// fragments are given up and held.
 fn aged(alloc: Global, age: &Age) -> Result<(bool, u32, u32), Fail> {
     let early = Piece {
@@ -151,7 +152,7 @@ fn aged(alloc: Global, age: &Age) -> Result<(bool, u32, u32), Fail> {
     Ok((whole.is_some(), discarded, pending))
 }
 
-/// Holds what comes of each row's fragments to the row.
+/// Compares the result of each row's fragments with the row.
 fn check_ages(rt: &impl Abort, alloc: Global, ages: &[Age]) -> Result<(), Fail> {
     for age in ages {
         let (first, second, given_up, held) = *age;
@@ -166,7 +167,7 @@ fn gives_up_a_datagram_of_30_seconds(rt: HostRuntime) -> Result<(), Fail> {
     check_ages(&rt, rt.alloc(), &AGES)
 }
 
-/// Pushes the first fragment of each of so many names, and gives how many are given up.
+/// Pushes the first fragment of each of n names, and returns how many are given up.
 fn push_names(alloc: Global, defrag: &mut Defrag, count: u16) -> Result<u32, Memory> {
     let mut discarded = 0_u32;
     for ident in 0..count {
@@ -176,7 +177,7 @@ fn push_names(alloc: Global, defrag: &mut Defrag, count: u16) -> Result<u32, Mem
     Ok(discarded)
 }
 
-/// Pushes the last fragment of a name, and says whether a datagram comes of it.
+/// Pushes the last fragment of a name, and returns whether a datagram comes out.
 fn is_ended(alloc: Global, defrag: &mut Defrag, ident: u16) -> Result<bool, Memory> {
     let last = Piece {
         ident,

@@ -1,9 +1,9 @@
-//! Frames of fragments from 10.0.0.1 to 10.0.0.2, and what comes of pushing them.
+//! Frames of fragments from 10.0.0.1 to 10.0.0.2, and the results of pushing them.
 use frame_view::{ByteList, Frame, Memory};
 use ip_defrag::Defrag;
 use std::alloc::Global;
 
-/// What a fragment says, and when it came.
+/// The fields of a fragment, and when it came.
 #[derive(Clone, Copy)]
 pub(crate) struct Piece {
     pub index: u32,
@@ -11,13 +11,13 @@ pub(crate) struct Piece {
     pub ident: u16,
     pub protocol: u8,
     pub ttl: u8,
-    /// The length of its options in words of four bytes, which are no-operations.
+    /// The length of its options in words of four bytes, all of them no-operation.
     pub options: u8,
     /// The flags and the offset in units of eight bytes.
     pub place: u16,
     /// The length of its data.
     pub len: u16,
-    /// What is added to the place of each byte for its value.
+    /// What is added to the place of each byte to get its value.
     pub salt: u8,
 }
 
@@ -46,7 +46,7 @@ pub(crate) const fn fragment(place: u16, len: u16) -> Piece {
     }
 }
 
-/// The bytes at some places: each place's remainder by 251, and the salt.
+/// The bytes at some places: each place modulo 251, plus the salt.
 pub(crate) fn data(alloc: Global, from: u16, len: u16, salt: u8) -> Result<Vec<u8>, Memory> {
     let mut bytes = Vec::new(alloc);
     for place in from..from.saturating_add(len) {
@@ -92,8 +92,8 @@ pub(crate) fn frame(alloc: Global, piece: &Piece) -> Result<Frame, Memory> {
     })
 }
 
-/// Pushes some fragments, one after the other: what the last one gives, and how many were given up
-/// in all.
+/// Pushes some fragments, one after another: what the last one gives, and how many were given up in
+/// all.
 fn push_all(
     alloc: Global,
     defrag: &mut Defrag,
@@ -109,8 +109,8 @@ fn push_all(
     Ok((whole, discarded))
 }
 
-/// What comes of some fragments, one after the other: what the last one gives, how many were given
-/// up in all, and how many are held.
+/// The result of some fragments, one after another: what the last one gives, how many were given up
+/// in all, and how many are held.
 pub(crate) fn pushed(alloc: Global, pieces: &[Piece]) -> Result<(Option<Frame>, u32, u32), Memory> {
     let mut defrag = Defrag::new(alloc);
     let (whole, discarded) = push_all(alloc, &mut defrag, pieces)?;

@@ -9,7 +9,7 @@ use frame_view::{ByteList, Headers, Link, Packet, V4Part, V6Part, checksum, pktt
 use std::process::Abort;
 use std::test::Fail;
 
-/// An IPv4 header without options from the one station to the other: total length, identification,
+/// An IPv4 header without options from one station to the other: total length, identification,
 /// more, offset, protocol, ports.
 const fn v4(
     total: u32,
@@ -35,7 +35,7 @@ const fn v4(
     )
 }
 
-/// An IPv6 header from the one station to the other: next header, ports.
+/// An IPv6 header from one station to the other: next header, ports.
 const fn v6(next: u8, ports: (u16, u16)) -> Headers {
     Headers::V6(
         LINK6,
@@ -128,7 +128,7 @@ fn tells_packet_types(rt: HostRuntime) {
     check_type(&rt, "another host", &UDP, Some(SENDER), 3);
 }
 
-/// The sum of a frame's header, which stands after 14 bytes and has 20, is 0.
+/// The sum of a frame's header, which follows 14 bytes and has 20, is 0.
 fn check_sum(rt: &impl Abort, name: &str, bytes: &[u8]) {
     let header = bytes.get(14..34).unwrap_or(&[]);
     assert!(rt; header.len() == 20, "{name}");

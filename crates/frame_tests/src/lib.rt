@@ -1,7 +1,7 @@
 //! Tests of frames, made frames and hashes of flows: frames that a Linux kernel sent, with what
 //! another program reads in them, the published suite of receive side scaling, and values that
-//! another program computed; and of reassembly: fragments of IPv4 datagrams, whose headers another
-//! program computed.
+//! another program computed. Tests of reassembly: fragments of IPv4 datagrams, whose headers
+//! another program computed.
 #![tactic(auto)]
 
 #[cfg(test)]

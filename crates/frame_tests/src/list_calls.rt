@@ -1,4 +1,4 @@
-//! Lists that are pushed to with memory there.
+//! Lists that are pushed to with enough memory.
 use frame_view::{ByteList, Memory, MomentList};
 use std::alloc::Global;
 use std::test::Fail;
@@ -11,7 +11,7 @@ fn two_bytes(alloc: Global) -> Result<ByteList, Memory> {
     Ok(bytes)
 }
 
-/// A list of the last moment that there is.
+/// A list of the last possible moment.
 fn last_moment(alloc: Global) -> Result<MomentList, Memory> {
     let mut moments = MomentList::new(alloc);
     moments.push(u64::MAX)?;

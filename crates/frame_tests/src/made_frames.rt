@@ -17,7 +17,7 @@ fn fnv(bytes: &[u8], before: u32) -> u32 {
     hash
 }
 
-/// FNV-1a of nothing.
+/// FNV-1a of no bytes.
 const START: u32 = 0x811c_9dc5;
 
 /// FNV-1a of the bytes of all frames.
@@ -29,7 +29,7 @@ fn fnv_of_all(frames: &[Frame]) -> u32 {
     hash
 }
 
-/// The hash of all bytes of so many frames of a seed.
+/// The hash of all bytes of the first n frames of a seed.
 fn check_seed(rt: &impl Abort, alloc: Global, seed: u64, count: u32, want: u32) -> Result<(), Fail>
     requires { count ≤ 20000 }
 {

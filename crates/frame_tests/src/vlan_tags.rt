@@ -61,7 +61,7 @@ fn takes_the_first_tag_out(rt: HostRuntime) -> Result<(), Fail> {
     Ok(())
 }
 
-/// What a packet of these bytes is with its tag put back.
+/// The frame of a packet of these bytes with its tag put back.
 fn check_retag(rt: &impl Abort, alloc: Global, bytes: &[u8], want: &[u8]) -> Result<(), Fail> {
     let tagged = retag(alloc, &packet(alloc, bytes)?)?;
     assert_eq!(rt; tagged.as_slice(), want);

@@ -1,4 +1,4 @@
-//! What arrives of tagged fragments, on a path that puts them together.
+//! What arrives of tagged fragments, on a path that reassembles them.
 ghost use Rattle.std.specs.Prelude.{◌≡◌, ◌≤◌, None, length, IfOk};
 ghost use Rattle.capture_file.specs.Laws.{IsCaptured};
 
@@ -40,7 +40,7 @@ fn fragment(alloc: Global, index: u32, place: u16, content: &[u8]) -> Result<Fra
     })
 }
 
-/// What arrives at a fragment.
+/// What arrives with a fragment.
 fn arrive(
     alloc: Global,
     path: &mut ReceivePath,
@@ -53,8 +53,8 @@ fn arrive(
     path.arrive(fragment(alloc, index, place, content)?)
 }
 
-/// Whether something arrives at the last fragment of a datagram, at its first after that, and at a
-/// copy once it is whole; and what arrives at the second, which makes it whole.
+/// Whether something arrives with the last fragment of a datagram, with its first after that, and
+/// with a copy once it is whole; and what arrives with the second, which completes it.
 fn arrivals(alloc: Global, plan: Plan) -> Result<([bool; 3], Option<Frame>), Memory> {
     let mut path = ReceivePath::new(alloc, plan);
     let last = arrive(alloc, &mut path, 0, 2, &[20, 21, 22, 23])?.is_some();
@@ -64,7 +64,7 @@ fn arrivals(alloc: Global, plan: Plan) -> Result<([bool; 3], Option<Frame>), Mem
     Ok(([last, first, late], whole))
 }
 
-/// Holds the datagram of 40 bytes, with the tag of its frames, to what is wanted.
+/// Compares the datagram of 40 bytes, with the tag of its frames, with what is expected.
 fn check_whole(rt: &impl Abort, whole: &Frame) {
     let tag = Tag {
         tpid: 0x8100,

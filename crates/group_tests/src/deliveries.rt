@@ -12,7 +12,7 @@ use std::alloc::Global;
 use std::process::Abort;
 use std::test::Fail;
 
-/// The usual key of receive side scaling.
+/// The default key of receive side scaling.
 pub(crate) const DIGITS: &[u8] =
     b"6d5a56da255b0ec24167253d43a38fb0d0ca2bcbae7b30b477cb2da38030f20c6a42b73bbeac01fa";
 
@@ -68,7 +68,7 @@ pub(crate) fn take(
     }
 }
 
-/// The ticket of an arrival, where the mode draws one.
+/// The ticket of an arrival, if the mode draws one.
 fn ticket(mode: Mode, next: u32) -> Option<u64>
     ensures { HasTicket mode result }
 {
@@ -111,10 +111,10 @@ fn log_of(
 
 const ROLLOVER: u32 = 0x1000;
 
-/// An arrival of zeros alone.
+/// An arrival of zeros.
 const NO_BYTES: &[u8] = &[];
 
-/// A name, the mode, the flags, and the tries of nine arrivals alike at two members with room for
+/// A name, the mode, the flags, and the tries of nine equal arrivals at two members with room for
 /// four packets each.
 type Row = (&'static str, Mode, u32, [&'static str; 9]);
 
@@ -185,7 +185,7 @@ static ROUNDS: [Row; 4] = [
     ),
 ];
 
-/// Holds the tries of each arrival of a log to what is wanted.
+/// Compares the tries of each arrival of a log with what is expected.
 fn check_tries(
     rt: &impl Abort,
     alloc: Global,
@@ -202,7 +202,7 @@ fn check_tries(
     Ok(())
 }
 
-/// Holds the tries of nine arrivals to a row.
+/// Compares the tries of nine arrivals with a row.
 fn check_rounds(rt: &impl Abort, alloc: Global, row: &Row) -> Result<(), Fail> {
     let (name, mode, flags, rounds) = row;
     assert!(rt; *flags == 0 || *flags == ROLLOVER);
@@ -238,7 +238,8 @@ fn check_hashes(rt: &impl Abort, log: &ArrivalList) {
     }
 }
 
-/// Holds the hash and the tries of both directions at this number of members to what is wanted.
+/// Compares the hash and the tries of both directions at this number of members with what is
+/// expected.
 fn check_flow(
     rt: &impl Abort,
     alloc: Global,
@@ -277,7 +278,7 @@ const IP_96: &[u8] = b"4\n40 0 0 12\n21 0 1 2048\n6 0 0 96\n6 0 0 0\n";
 /// An ARP frame.
 const ARP: &[u8] = &[2, 0, 0, 0, 0, 2, 2, 0, 0, 0, 0, 1, 0x08, 0x06];
 
-/// Each entry of a log has its place for its ticket, and the verdict that is wanted.
+/// Each entry of a log has its place for its ticket, and the expected verdict.
 fn check_tickets(rt: &impl Abort, log: &ArrivalList, verdicts: &[u32]) {
     for (entry, verdict) in log.as_slice().iter().zip(verdicts) {
         let ticket = Some(u64::from(entry.index));

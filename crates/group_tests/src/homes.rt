@@ -1,4 +1,4 @@
-//! Which groups are valid, and the member that an arrival is for where each member has room.
+//! Which groups are valid, and the member that an arrival is for if each member has room.
 ghost use Rattle.std.specs.Prelude.{◌≡◌, ◌<◌, None, length, IfOk};
 ghost use Rattle.fanout_group.specs.Arrivals.{IsArrival};
 ghost use Rattle.fanout_group.specs.Rules.{HasTicket};
@@ -38,7 +38,7 @@ static GROUPS: [Group; 8] = [
     (8, Mode::Qm, ROLLOVER, false, None),
 ];
 
-/// Holds the fault of each group to its row.
+/// Compares the fault of each group with its row.
 fn check_groups(rt: &impl Abort, groups: &[Group]) {
     for (members, mode, flags, has_key, want) in groups {
         let flags = *flags;
@@ -62,7 +62,7 @@ fn the_first_fault_of_a_group(rt: HostRuntime) -> Result<(), Fail> {
     Ok(())
 }
 
-/// The member that keeps an arrival, where each member has room.
+/// The member that keeps an arrival, if each member has room.
 fn member_of(
     alloc: Global,
     plan: Plan,
@@ -120,7 +120,7 @@ fn homes_of(alloc: Global, home: &Home) -> Result<(Option<u32>, Option<u32>), Fa
     Ok((by_cpu, by_queue))
 }
 
-/// Holds the members of each row's arrival to the row.
+/// Compares the members of each row's arrival with the row.
 fn check_homes(rt: &impl Abort, alloc: Global, homes: &[Home]) -> Result<(), Fail> {
     for home in homes {
         let (members, cpu, queue, by_cpu, by_queue) = *home;

@@ -1,4 +1,4 @@
-//! A desk whose members are numbers: how many packets more each has room for.
+//! A desk whose members are numbers: how many more packets each has room for.
 ghost use Rattle.std.specs.Prelude.{◌≡◌, ◌<◌, ◌∷◌, ◌++◌, [], length, refl, IfOk, OnErr};
 ghost use Rattle.std.specs.Prelude.{if◌then◌else◌};
 ghost use Rattle.std.proofs.Common.{◌∙◌};
@@ -64,7 +64,7 @@ impl Desk for ListDesk {
     ghost goes_on = { λ first next last one two. two ∙ one };
 }
 
-/// Some tries in words, as `refused 0 kept 1`.
+/// Some tries in words, such as `refused 0 kept 1`.
 pub(crate) fn shown(alloc: Global, tries: &[Try]) -> Result<String, Memory> {
     let mut text = String::new(alloc);
     for one in tries {

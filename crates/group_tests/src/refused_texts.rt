@@ -6,7 +6,7 @@ use std::test::Fail;
 /// Texts at the edges of the form, with the fault of each that is refused, and the verdict of each
 /// that isn't.
 static TEXTS: [(&str, Result<u32, FilterError>); 37] = [
-    // the last instruction is no return
+    // the last instruction isn't a return
     ("1\n0 0 0 5\n", Err(FilterError::NoReturn)),
     ("2\n52 0 0 0\n6 0 0 0\n", Err(FilterError::BadConstant(0))),
     ("2\n5 0 0 1\n6 0 0 0\n", Err(FilterError::BadJump(0))),
@@ -17,7 +17,7 @@ static TEXTS: [(&str, Result<u32, FilterError>); 37] = [
         "2\n32 0 0 4294963220\n6 0 0 0\n",
         Err(FilterError::BadAncillary(0)),
     ),
-    // no line, blank lines alone, a count of 0
+    // no line, only blank lines, a count of 0
     ("", Err(FilterError::BadCount)),
     ("\n \t\n", Err(FilterError::BadCount)),
     ("0\n", Err(FilterError::BadCount)),

@@ -26,7 +26,7 @@ pub(crate) fn deal(alloc: Global, frames: Frames, cpus: u32) -> Result<Vec<Packe
     Ok(lists)
 }
 
-/// So many lists without a packet.
+/// An empty list of packets for each CPU.
 fn no_packets(alloc: Global, cpus: u32) -> Result<Vec<Packets>, Memory>
     ensures { IfOk result (λ lists. lists.items ≡ replicate cpus []) }
 {

@@ -1,4 +1,4 @@
--- The notes of a member that is closed.
+-- The notes of a closed member.
 use Rattle.std.proofs.Common.{◌≡◌, ◌<◌, ◌≤◌, ℕ, List, [], ◌∷◌, ◌++◌, length, refl, sym, ap, ◌∙◌, subst, arith, append-nil, length-append}
 use Rattle.std.proofs.lemmas.List.Elements.{filter-append}
 use Rattle.std.specs.List.{AllByRecursion}
@@ -12,7 +12,7 @@ use Rattle.member_turns.specs.Entries.{may_note}
 use Rattle.member_turns.specs.EntryLaws.{one_seat}
 use Rattle.member_turns.specs.Seats.{Lock, Seat}
 
--- what a turn of one of the seats added, one of them may add
+-- what a turn of one of the seats added, one of the seats may add
 of_turn : (lock : Lock) (number : ℕ) (entries rest : List Note) → number < lock.seats → IsTurn (may_note lock.base) number entries
     → AllByRecursion (IsOfSeat lock) rest → AllByRecursion (IsOfSeat lock) (entries ++ rest)
 of_turn lock number [] rest within turn are = are
@@ -34,7 +34,7 @@ few_added lock n (turn ∷ turns) lawful =
     let long = length-append turn.1 (added_in turns) in
     omega (arith, one, rest, long)
 
--- nobody may add that the ring was closed
+-- no seat may add the note that the ring was closed
 own_closed : (lock : Lock) (number : ℕ) (history : List Note)
     → own (may_note lock.base) number (history ++ Finished ∷ []) ≡ own (may_note lock.base) number history
 own_closed lock number history =

@@ -114,7 +114,7 @@ fates_here at fate = ap (λ (b : Bool). (if b then fate ∷ [] else []) ++ []) (
 fates_elsewhere : (at m : ℕ) (fate : Fate) → m ≢ at → fates_at m (a_try at fate ∷ []) ≡ []
 fates_elsewhere at m fate other = ap (λ (b : Bool). (if b then fate ∷ [] else []) ++ []) (ne_eqb at m (λ same. other (sym same)))
 
--- the desk as a turn of the seat at this place leaves it
+-- the desk after a turn of the seat at this place
 abbrev pub desk_after : DeskValue → ℕ → Seat → List Try → Bool → DeskValue
 desk_after desk at after told full =
     record { offer = desk.offer; locks = desk.locks; seats = set desk.seats at after; tries = told; full = full }

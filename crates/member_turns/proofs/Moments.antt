@@ -1,4 +1,4 @@
--- The clock of a ring is the moment of the last tick, which the timer's own notes tell.
+-- The clock of a ring is the moment of the last tick, which the timer's own notes give.
 use Rattle.std.proofs.Common.{◌≡◌, ℕ, Bool, true, false, List, [], ◌∷◌, Option, Some, None, refl, ap, ◌∙◌, eq-eqb, if◌then◌else◌}
 use Rattle.std.proofs.lemmas.Bool.{false≢true}
 use Rattle.std.specs.Prelude.{◌==◌, nat_lt, ◌+◌}
@@ -44,7 +44,7 @@ clock_from size state (note ∷ notes) = clock_from size (after size state note)
 pub clock_is : (size : Size) (notes : List Note) → (state_of size notes).clock ≡ moment_of notes
 clock_is size notes = clock_from size (first_state size) notes
 
--- a note that brings no moment may be left out
+-- a note without a moment may be left out
 or_not : (b : Bool) (ms : ℕ) (note : Note) (notes : List Note) → moment_from ms (note ∷ notes) ≡ moment_from ms notes
     → moment_from ms (if b then note ∷ notes else notes) ≡ moment_from ms notes
 or_not true ms note notes same = same
@@ -69,6 +69,6 @@ moments_own cpus ms (Ticked now found ∷ notes) =
 moments_own cpus ms (Counted ∷ notes) = moments_own cpus ms notes
 moments_own cpus ms (Finished ∷ notes) = moments_own cpus ms notes
 
--- what the timer's own notes tell is the moment of all notes
+-- the moment from the timer's own notes is that of all notes
 pub own_moment : (base : RingBase) (notes : List Note) → moment_of (own (may_note base) base.cpus notes) ≡ moment_of notes
 own_moment base notes = moments_own base.cpus 0 notes

@@ -41,7 +41,7 @@ try_may base number offer (Held held) same few = (seat_may base number offer.fra
 pub tick_may : (base : RingBase) (number ms : ℕ) (found : Found) → number ≡ base.cpus → IsTurn (may_note base) number (Ticked ms found ∷ [])
 tick_may base number ms found same = (eq-eqb number base.cpus same, refl)
 
--- a seat that is in its turn leaves with these entries more
+-- a seat that is in its turn leaves with these additional entries
 pub adds_in : (base : RingBase) (seat entered : Seat) (before stored added : List Note) → entered ≡ inside seat before
     → stored ≡ before ++ added → IsTurn (may_note base) seat.number added → AddsIn (may_note base) entered stored
 adds_in base seat entered before stored added in_turn more turn = (
@@ -55,14 +55,14 @@ pub record Entered (lock : Lock) (seat entered : Seat) (before : List Note) : Ty
   pub goes : GoesOn (may_note lock.base) seat.number seat.last before
   pub in_turn : entered ≡ inside seat before
 
--- the same of the lock and the seat that the caller sees
+-- the same for the lock and the seat that the caller sees
 pub entered_at : (within lock : Lock) (own_seat seat entered : Seat) (before : List Note) → within ≡ lock → own_seat ≡ seat
     → GoesOn (may_note within.base) own_seat.number own_seat.last before → entered ≡ inside own_seat before → Entered lock seat entered before
 entered_at within lock own_seat seat entered before same_lock same_seat goes in_turn =
     subst (λ (l : Lock). Entered l seat entered before) same_lock
     (subst (λ (s : Seat). Entered within s entered before) same_seat (record { goes = goes; in_turn = in_turn }))
 
--- and this is what the turn leaves
+-- and this is the state after the turn
 pub turn_done : (lock : Lock) (seat entered after : Seat) (number : ℕ) (before stored added : List Note) → IsReady lock number seat
     → Entered lock seat entered before → stored ≡ before ++ added
     → IsTurn (may_note lock.base) seat.number added → after ≡ outside entered stored → Turned lock seat after added
@@ -86,7 +86,7 @@ clock_known lock seat size before ready goes =
 pub same_kind : (before after : Feeding) → KeepsEnd (feed_of before) (feed_of after) → after.kind ≡ before.kind
 same_kind before after keeps = ap (λ ring. ring.kind) keeps.ring
 
--- what follows from each of the two answers of a call follows from the call
+-- what follows from either answer of a call follows from the call
 pub of_both : {T E : Type 0} {C : Type 0} (answer : Result T E) (P : T → Type 0) (Q : E → Type 0) → IfOk answer P → IfErr answer Q
     → ((x : T) → P x → C) → ((e : E) → Q e → C) → C
 of_both (Ok x) P Q ok err by_ok by_err = by_ok x ok

@@ -1,4 +1,4 @@
--- What a member that is closed leaves.
+-- What a closed member leaves.
 use Rattle.std.specs.Prelude.{◌≡◌, ℕ, ◌<◌, ◌≤◌, true, List, [], ◌∷◌, ◌++◌, length}
 use Rattle.std.specs.List.{AllByRecursion}
 use Rattle.ring_model.specs.declared.notes.Note.{Note}
@@ -19,7 +19,7 @@ IsOfSeat lock note = (number : ℕ) × (number < lock.seats) × (may_note lock.b
 abbrev pub HasOwn : Lock → List Note → Seat → Type 0
 HasOwn lock notes seat = own (may_note lock.base) seat.number notes ≡ own_of lock seat
 
--- the notes of a closed member: what its seats added, at most one note for each time that one
+-- the notes of a closed member: what its seats added, at most one note for each time that a seat
 -- entered, and at the end that the ring was closed
 pub record AreClosedNotes (lock : Lock) (seats : List Seat) (notes : List Note) : Type 0 where
   pub history : List Note

@@ -1,4 +1,4 @@
--- Tries at a desk, one after the other.
+-- Tries at a desk, one after another.
 use Rattle.std.proofs.Common.{◌≡◌, ◌<◌, ℕ, List, [], ◌∷◌, ◌++◌, refl, sym, ap, ◌∙◌, subst}
 use Rattle.std.proofs.Common.{append_assoc, append-nil}
 use Rattle.std.specs.Prelude.{◌==◌, if◌then◌else◌, slice_index_or}
@@ -9,7 +9,7 @@ use Rattle.ring_model.specs.declared.notes.Offer.{Offer}
 use Rattle.member_turns.specs.Desks.{AreNotesOfTries, DeskValue, Follows, Tried, fates_at}
 use Rattle.member_turns.specs.Seats.{Lock, Seat, own_of}
 
--- what came of tries and of more tries
+-- the results of tries and of more tries
 pub fates_on : (member : ℕ) (a b : List Try)
     → fates_at member (a ++ b) ≡ fates_at member a ++ fates_at member b
 fates_on member [] b = refl
@@ -27,7 +27,7 @@ notes_on offer [] b (x ∷ xs) ys h k = absurd h
 notes_on offer (f ∷ a) b [] ys h k = absurd h
 notes_on offer (f ∷ a) b (x ∷ xs) ys h k = (h.0, notes_on offer a b xs ys h.1 k)
 
--- no try leaves a seat as it was
+-- without a try a seat is as it was
 pub tried_none : (offer : Offer) (lock : Lock) (seat : Seat) → Tried offer [] lock seat seat
 tried_none offer lock seat = record {
   ready = λ number ready. ready;

@@ -13,7 +13,7 @@ use Rattle.tp_layout.specs.Requests.{room_of}
 use Rattle.tp_layout.specs.Writing.{IsWritable}
 use Rattle.member_turns.specs.Seats.{IsReady, Lock, Seat, own_of}
 
--- the note of a try of this offer that came out so
+-- the note of a try of this offer with this fate
 abbrev pub IsNoteOfTry : Offer → Fate → Note → Type 0
 IsNoteOfTry offer fate (Kept kept found) = (fate ≡ fates.Kept) × (kept ≡ offer)
 IsNoteOfTry offer fate (Refused cpu index need number) =
@@ -32,7 +32,7 @@ AreNotesOfTries offer (fate ∷ more) [] = ⊥
 AreNotesOfTries offer (fate ∷ more) (note ∷ notes) =
     IsNoteOfTry offer fate note × AreNotesOfTries offer more notes
 
--- what came of the tries at a member
+-- the results of the tries at a member
 abbrev pub fates_at : ℕ → List Try → List Fate
 fates_at member [] = []
 fates_at member (t ∷ tries) =
@@ -51,12 +51,12 @@ pub record DeskValue : Type 0 where
 abbrev pub refused_turn : Bool → ℕ
 refused_turn full = if full then 1 else 0
 
--- how many turns were made at it: one a try, and that one
+-- how many turns were made at it: one for each try, and the failed one
 abbrev pub turns_at : DeskValue → ℕ
 turns_at desk = length desk.tries + refused_turn desk.full
 
--- a member takes an offer at a desk: it is that of the desk, and may be put into the member's ring
--- by its CPU's seat
+-- a member takes an offer at a desk: it is the desk's offer, and its CPU's seat may put it into the
+-- member's ring
 pub record TakesAt (made : Offer) (locks : List Lock) (member : ℕ) (offer : Offer) : Type 0 where
   pub same : offer ≡ made
   pub within : member < length locks
@@ -73,8 +73,8 @@ pub record Tried (offer : Offer) (came : List Fate) (lock : Lock) (before after 
   pub own : own_of lock after ≡ own_of lock before ++ notes
   pub are_notes : AreNotesOfTries offer came notes
 
--- the same desk after some tries more: each seat has the notes of the tries at its member, and
--- entered at most once a turn that was made since
+-- the same desk after some more tries: each seat has the notes of the tries at its member, and
+-- entered at most once for each turn since
 pub record Follows (old new : DeskValue) : Type 0 where
   pub offer_is : new.offer ≡ old.offer
   pub locks_are : new.locks ≡ old.locks

@@ -1,4 +1,4 @@
--- A note may be added by one seat at most.
+-- At most one seat may add a note.
 use Rattle.std.proofs.Common.{◌≡◌, ℕ, true, sym, ◌∙◌}
 use Rattle.std.proofs.lemmas.Bool.{and_parts, eqb-true, false≢true}
 use Rattle.std.specs.Prelude.{◌==◌, nat_lt}

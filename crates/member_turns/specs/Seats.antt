@@ -7,7 +7,7 @@ use Rattle.turn_lock.specs.Seats.{IsIdleSeatOf, LockValue, SeatValue}
 use Rattle.member_turns.specs.Entries.{may_note}
 use Rattle.member_turns.specs.declared.ring_base.RingBase.{RingBase}
 
--- contracts see a member as its lock, and a stand as its seat
+-- contracts see a member as its lock, and a member's seat as one at that lock
 abbrev pub Lock : Type 0
 Lock = LockValue Note RingBase
 
@@ -23,12 +23,12 @@ pub record IsReady (lock : Lock) (number : ℕ) (seat : Seat) : Type 0 where
 abbrev pub own_of : Lock → Seat → List Note
 own_of lock seat = own (may_note lock.base) seat.number seat.last
 
--- the moment of the last tick among notes, or this one where none is
+-- the moment of the last tick among notes, or this one if there is none
 abbrev pub moment_from : ℕ → List Note → ℕ
 moment_from ms [] = ms
 moment_from ms (Ticked now found ∷ notes) = moment_from now notes
 moment_from ms (note ∷ notes) = moment_from ms notes
 
--- the moment of the last tick, 0 where none is
+-- the moment of the last tick, 0 if there is none
 abbrev pub moment_of : List Note → ℕ
 moment_of notes = moment_from 0 notes

@@ -16,7 +16,7 @@ pub record Turned (lock : Lock) (before after : Seat) (notes : List Note) : Type
   pub entered : after.entered ≡ before.entered + 1
   pub own : own_of lock after ≡ own_of lock before ++ notes
 
--- a turn in which a packet was tried, with the one note that says what came of it
+-- a turn in which a packet was tried, with the one note that gives the result
 pub record IsTryTurn (lock : Lock) (before after : Seat) (offer : Offer) (tried : Tried)
     : Type 0 where
   pub found : Found

@@ -1,4 +1,4 @@
-//! How a member is closed, once all its stands are handed in.
+//! How a member is closed, once all its seats are handed in.
 ghost use Rattle.std.specs.Prelude.{◌≡◌, ◌++◌, ◌^◌, ◌<◌, ◌≤◌, false, length, IfOk};
 ghost use Rattle.std.specs.List.{AllByRecursion};
 ghost use Rattle.block_ring.specs.Noting.{held_count, held_numbers};
@@ -17,21 +17,21 @@ use std::alloc::Global;
 use tp_layout::Block;
 use turn_lock::TurnSeat;
 
-/// What is left of a member that is closed.
+/// What is left of a closed member.
 #[derive(Drop)]
 pub struct ClosedMember {
-    /// The notes of its ring, of which the last says that it was closed.
+    /// The notes of its ring, the last of which says that it was closed.
     pub notes: Notes,
     /// The blocks that were retired and that the reader didn't take.
     pub pending: Pending<Block>,
 }
 
-/// Closes a member, when all its stands are handed in and its reader has no block in hand. An open
+/// Closes a member, when all its seats are handed in and its reader has no block in hand. An open
 /// block that has packets is retired.
 ///
-/// The notes are those that the seats added, each seat's in its order, and after them the one that
-/// the ring was closed. `Pending` has all blocks that were retired, of which the reader took the
-/// first ones and the pending ones are left.
+/// The notes are those that the seats added, each seat's in its order, followed by the note that
+/// the ring was closed. `Pending` has the list of all blocks that were retired; the reader took the
+/// first ones, and the pending ones are left.
 pub fn close_member(
     alloc: Global,
     member: Member,
@@ -61,7 +61,7 @@ pub fn close_member(
     Ok(ClosedMember { notes, pending })
 }
 
-/// The seat of each stand.
+/// The lock's seat of each of a member's seats.
 fn as_seats(alloc: Global, stands: Vec<Stand>) -> Result<Vec<TurnSeat<MemberRing>>, Memory>
     ensures { IfOk result (λ seats. seats.items ≡ stands.items) }
 {

@@ -22,9 +22,9 @@ impl Model for Member {
     ghost invariant = { λ member. member.lock.first ≡ [] };
 }
 
-/// A seat at a member. Seat C is that of CPU C, and the one after those of all CPUs is the
-/// timer's. Contracts see its lock, its number, how often it entered, and the notes that were
-/// stored when it left the last time.
+/// A seat at a member. Seat C is that of CPU C, and the one after those of all CPUs is the timer's.
+/// Contracts see its lock, its number, how often it entered, and the notes that were stored when it
+/// left the last time.
 #[derive(Drop)]
 pub struct Stand {
     /// The seat at the member's lock.

@@ -12,11 +12,11 @@ use tp_layout::Block;
 use turn_lock::Kept;
 
 /// The receive ring of a member, which the lock keeps. Its entries are the ring's notes; a seat may
-/// add the notes that are about frames of its CPU, and the seat after those of the CPUs, which is
-/// the timer's, those of ticks.
+/// add the notes about frames of its CPU, and the seat after those of the CPUs, which is the
+/// timer's, those of ticks.
 #[derive(Drop)]
 pub struct MemberRing {
-    /// The feeder's side of the ring. It stands in a box, so that a turn hands on a pointer.
+    /// The feeder's side of the ring. It is in a box, so that a turn hands on a pointer.
     pub(crate) producer: Box<Producer<TableFeeder<Block>>>,
     /// How many CPUs put frames into it.
     pub(crate) cpus: u32,

@@ -13,9 +13,9 @@ use std::alloc::Global;
 use tp_layout::{Block, Shape, a_shape_is_sound, blocks};
 use turn_lock::{TurnLock, TurnSeat};
 
-/// A member with an empty ring of this shape, the stands at it, and the reader's end of its ring.
-/// There is a stand for each of the CPUs, from 0 up, and one more for the timer; there are at most
-/// 8 CPUs.
+/// A member with an empty ring of this shape, the seats at it, and the reader's end of its ring.
+/// There is a seat for each of the CPUs, from 0 up, and one more for the timer; there are at most 8
+/// CPUs.
 pub fn open_member(
     alloc: Global,
     shape: &Shape,
@@ -58,7 +58,7 @@ fn new_ring(
     Ok((MemberRing { producer, cpus }, walker))
 }
 
-/// Each seat as a stand.
+/// Each seat of the lock as one at the member.
 fn as_stands(alloc: Global, seats: Vec<TurnSeat<MemberRing>>) -> Result<Vec<Stand>, Memory>
     ensures { IfOk result (λ stands. stands.items ≡ seats.items) }
 {

@@ -1,4 +1,4 @@
-//! The members of a group as the delivery of one packet meets them, where other threads meet them
+//! The members of a group as the delivery of one packet finds them, while other threads use them
 //! too.
 ghost use Rattle.std.specs.Prelude.{◌≡◌, ◌≤◌};
 ghost use Rattle.fanout_group.specs.Desks.{fate_of_put, fate_of_try};
@@ -14,21 +14,20 @@ use std::sync::Wait;
 
 /// A desk over the members of a group, at which one packet is delivered. Each try waits for its
 /// turn at its member, and is one turn there. Contracts see the packet's offer, the members' locks,
-/// the stands, the tries so far, and whether a request for memory was refused; then no more turns
-/// are made.
+/// the seats, the tries so far, and whether an allocation failed; then no more turns are made.
 #[derive(Drop)]
 pub struct TurnDesk<'a, R: Wait> {
     /// The runtime, which lets a thread wait.
     rt: &'a R,
     /// The members, from 0 up.
     members: &'a [Member],
-    /// The stand of the packet's CPU at each member.
+    /// The seat of the packet's CPU at each member.
     stands: Vec<Stand>,
-    /// Whether a request for memory was refused.
+    /// Whether an allocation failed.
     full: bool,
-    /// The tries so far. It takes no room: only contracts read it.
+    /// The tries so far. It takes no memory: only contracts read it.
     tries: TryTrace,
-    /// The offer that is delivered. It takes no room either.
+    /// The offer that is delivered. It takes no memory either.
     offer: Snapshot<Offer>,
 }
 
@@ -55,7 +54,7 @@ impl<'a, R: Wait> Model for TurnDesk<'a, R> {
 }
 
 impl<'a, R: Wait> TurnDesk<'a, R> {
-    /// A desk for this offer, over members and the stands of the offer's CPU at them. It takes no
+    /// A desk for this offer, over members and the seats of the offer's CPU at them. It takes no
     /// memory.
     pub fn new(
         rt: &'a R,
@@ -76,7 +75,7 @@ impl<'a, R: Wait> TurnDesk<'a, R> {
         }
     }
 
-    /// Gives the stands back, after at most nine turns.
+    /// Gives the seats back, after at most nine turns.
     pub fn into_stands(self) -> Vec<Stand>
         ensures stands { result.items ≡ self.entry.seats }
         ensures turns { turns_at self.entry ≤ 9 }
@@ -85,7 +84,7 @@ impl<'a, R: Wait> TurnDesk<'a, R> {
     }
 }
 
-/// What came of a try.
+/// The result of a try.
 fn fate_of_try(tried: &Tried) -> Fate
     ensures { result ≡ fate_of_try tried.now }
 {
@@ -95,7 +94,7 @@ fn fate_of_try(tried: &Tried) -> Fate
     }
 }
 
-/// What came of a put.
+/// The result of a put.
 fn fate_of_put(put: &Put) -> Fate
     ensures { result ≡ fate_of_put put.now }
 {

@@ -1,5 +1,5 @@
 //! The turns at a member: a packet is tried or put, or the clock goes on. Each is one turn of a
-//! seat, and adds one note, or none where a request for memory was refused.
+//! seat, and adds one note, or none if an allocation failed.
 ghost use Rattle.std.specs.Prelude.{◌≡◌, ◌+◌, ◌^◌, ◌<◌, ◌≤◌, [], ◌∷◌, IfErr, IfOk, OnErr, OnOk};
 ghost use Rattle.member_turns.specs.Seats.{IsReady, moment_of, own_of};
 ghost use Rattle.member_turns.specs.TurnEffects.{IsPutTurn, IsTickTurn, IsTryTurn, Turned};
@@ -12,12 +12,11 @@ use frame_view::Memory;
 use ring_model::{Offer, Put, Tried, Unput};
 use std::sync::Wait;
 
-/// Keeps a packet at a member, or hands it back where the ring has no room for it and the next
-/// block is still the reader's; then only the note is new. It waits for the turn of the stand,
-/// which is that of the packet's CPU and has entered fewer than 2^32 times.
+/// Keeps a packet at a member, or hands it back if the ring has no room for it and the next block
+/// is still the reader's; then only the note is new. It waits for the turn of the seat, which is
+/// that of the packet's CPU and has entered fewer than 2^32 times.
 ///
-/// After `Unput` a request for memory was refused: the turn added no note, and the offer comes
-/// back.
+/// `Unput` means that an allocation failed: the turn added no note, and the offer comes back.
 pub fn try_turn<R: Wait>(
     rt: &R,
     member: &Member,
@@ -39,12 +38,11 @@ pub fn try_turn<R: Wait>(
     tried
 }
 
-/// Keeps a packet at a member, or drops it where the ring has no room for it and the next block is
-/// still the reader's; an open block is then retired, and the ring is frozen. The stand is as for
+/// Keeps a packet at a member, or drops it if the ring has no room for it and the next block is
+/// still the reader's; an open block is then retired, and the ring is frozen. The seat is as for
 /// `try_turn`.
 ///
-/// After `Unput` a request for memory was refused: the turn added no note, and the offer comes
-/// back.
+/// `Unput` means that an allocation failed: the turn added no note, and the offer comes back.
 pub fn put_turn<R: Wait>(
     rt: &R,
     member: &Member,
@@ -67,8 +65,8 @@ pub fn put_turn<R: Wait>(
 }
 
 /// Brings a member's clock forward to a moment, in milliseconds, which isn't before the last one
-/// that this stand reported. It waits for the turn of the stand, which is the timer's and has
-/// entered fewer than 2^32 times.
+/// that this seat reported. It waits for the turn of the seat, which is the timer's and has entered
+/// fewer than 2^32 times.
 ///
 /// After `Memory` the turn added no note.
 pub fn tick_turn<R: Wait>(rt: &R, member: &Member, stand: &mut Stand, ms: u64) -> Result<(), Memory>

@@ -44,7 +44,8 @@ notes-append room own [] b (note ∷ x) y h k = absurd h
 notes-append room own (attempt ∷ a) b [] y h k = absurd h
 notes-append room own (attempt ∷ a) b (note ∷ x) y h k = (h.0, notes-append room own a b x y h.1 k)
 
--- a frame with the entry that the log will have of it, at rings of this room and a station of this address
+-- a frame with the entry that the log will have of it, at rings of this room and a station of this
+-- address
 pub record Arrival : Type 0 where
   pub room : ℕ
   pub own : Option (List ℕ)

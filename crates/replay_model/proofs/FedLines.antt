@@ -66,7 +66,7 @@ module _ (P : ℕ → Ring → Type 0) (rules : Rules) (steps : RingSteps) (arri
         };
       }
 
--- after so many frames of a CPU
+-- after n frames of a CPU
 record Feeds (P : ℕ → Ring → Type 0) (rules : Rules) (steps : RingSteps) (arriving : List Waiting) (clock cpu times : ℕ) (old new : Replay) : Type 0 where
   goes : Goes P rules steps arriving clock new
   here : (cpu_at new cpu).waiting ≡ drop times (cpu_at old cpu).waiting

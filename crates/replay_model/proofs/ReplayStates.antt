@@ -33,7 +33,8 @@ pub record Logs (rules : Rules) (number : ℕ) (arrivals : List Frame) (cpu : Cp
   pub of : AreOf number least (somes cpu.waiting)
   pub lawful : (more : List ArrivalLog) → IsLawfulFrom rules cpu.present (somes cpu.waiting) more → IsLawful rules arrivals (cpu.log ++ more)
 
--- The log of a CPU and the notes of a member are joined so far: what is joined of what waits completes them.
+-- The log of a CPU and the notes of a member are joined so far: what is joined of what waits
+-- completes them.
 pub record Joins (room : ℕ) (own : Option (List ℕ)) (number member : ℕ) (arrivals : List Frame) (cpu : Cpu) (notes : List Note) : Type 0 where
   pub joined : (log : List ArrivalLog) (more : List Note)
       → AreNotesOf room own (attempts_at member (somes cpu.waiting) log) (frame_notes number more)

@@ -1,4 +1,4 @@
--- Each note that a replay adds may stand, so a ring stays open until it is closed.
+-- Each note that a replay adds may follow those before it, so a ring stays open until it is closed.
 use Rattle.std.proofs.Common.{◌≡◌, ℕ, ◌+◌, ◌≤◌, Bool, true, false, cond, List, [], ◌∷◌, ◌++◌, length, Option, None, Some, refl, subst, arith, append_assoc}
 use Rattle.std.specs.Prelude.{nat_lt}
 use Rattle.std.proofs.lemmas.Grind.{common_steps}
@@ -17,7 +17,8 @@ use Rattle.replay_model.specs.RingSteps.{block_steps}
 use Rattle.replay_model.proofs.KeptOpen.{KeepOpen}
 use Rattle.replay_model.proofs.Noted.{state-noted}
 
--- a ring of this size that isn't closed: what may follow its state may follow its notes, and its clock isn't past this moment
+-- a ring of this size that isn't closed: what may follow its state may follow its notes, and its
+-- clock isn't past this moment
 pub record IsOpen (size : Size) (clock : ℕ) (ring : Ring) : Type 0 where
   pub size_is : ring.size ≡ size
   pub run : (more : List Note) → IsRun ring.size (state ring) more → IsRun ring.size (first_state ring.size) (ring.notes ++ more)

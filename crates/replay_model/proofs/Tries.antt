@@ -21,7 +21,7 @@ abbrev IsKeptWithin : ℕ → ℕ → ℕ → List Try → Type 0
 IsKeptWithin members at left tries =
     (count : ℕ) × (count < left) × (tries ≡ refused_from members at count ++ a_try (behind members at count) Kept ∷ [])
 
--- so many tries round the group, until one keeps the packet
+-- at most n tries round the group, until one keeps the packet
 abbrev IsWay : Bool → ℕ → ℕ → ℕ → List Try → Type 0
 IsWay kept members at left tries = MatchBool kept (IsKeptWithin members at left tries) (tries ≡ refused_from members at left)
 

@@ -24,7 +24,7 @@ pub fn a_replay_reports_a_group()
 {}
 
 /// Among the Kept and Dropped notes of a replay's members each arrival that the filter passes
-/// stands once, and nothing else stands there.
+/// appears once, and nothing else appears there.
 pub fn each_frame_of_a_replay_stands_exactly_once()
     ensures { (rules : Rules) (size : Size) (arriving : List (List (Option Frame)))
         (lines : List Line)

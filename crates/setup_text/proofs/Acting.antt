@@ -1,4 +1,5 @@
--- What a line of a setup does: it changes one part of what is said, or nothing, or it is never accepted.
+-- What a line of a setup does: it changes one part of what is said, or nothing, or it is never
+-- accepted.
 use Rattle.std.proofs.Common.{◌≡◌, ℕ, Bool, true, false, List, [], ◌∷◌, ◌++◌, length, refl, subst, Option, Some, None, Ok, Err}
 use Rattle.std.specs.Prelude.{Result, bytes_eq, codes, is_some, nat_lt, if◌then◌else◌}
 use Rattle.std.specs.List.{find}

@@ -70,7 +70,7 @@ workers_few : (word : List ℕ) (workers : ℕ) → number_to 8 word ≡ Ok work
 unfolding number_to
 workers_few word workers h = number_small 8 (number_of word) workers h
 
--- what stands once keeps what holds of its value
+-- a word that may appear only once keeps what holds of its value
 once_keeps : {A : Type 0} (P : A → Type 0) (before : Option A) (given : Result A SetupKind) (draft : Option A → Draft) (next : Draft)
     → ((value : A) → given ≡ Ok value → P value) → ((value : A) → P value → IsDraft (draft (Some value)))
     → said (put_once before given) draft ≡ Ok next → IsDraft next

@@ -29,7 +29,7 @@ pub data Part : Type 0 where
   SkipBad : Part
   Cpus : Part
 
--- what stands in each
+-- what each of them holds
 abbrev pub Held : Part → Type 0
 Held BlockSize = Option ℕ
 Held BlockNr = Option ℕ
@@ -99,7 +99,7 @@ put Dump draft value = record draft { dump = value }
 put SkipBad draft value = record draft { skip_bad = value }
 put Cpus draft value = record draft { cpus = value }
 
--- whether a part is said that stands once
+-- whether a part that may appear only once is given
 abbrev pub is_full : (part : Part) → Held part → Bool
 is_full BlockSize value = is_some value
 is_full BlockNr value = is_some value

@@ -147,7 +147,7 @@ mode_writable mode.Cpu = record { some = omega arith; short = omega arith; graph
 mode_writable mode.Rollover = record { some = omega arith; short = omega arith; graphic = refl }
 mode_writable mode.Qm = record { some = omega arith; short = omega arith; graphic = refl }
 
--- ---- what stands once
+-- ---- words that may appear only once
 
 once_said : {A : Type 0} (before : Option A) (given : Result A SetupKind) (value : A) (draft : Option A → Draft) → before ≡ None → given ≡ Ok value
     → once before given draft ≡ Ok (draft (Some value))

@@ -40,7 +40,7 @@ abbrev pub said : {A : Type 0} → Result A SetupKind → (A → Draft) → Resu
 said (Ok value) draft = Ok (draft value)
 said (Err fault) draft = Err fault
 
--- what is kept of a word that stands once: where it stood before that is the fault
+-- what is kept of a word that may appear only once: that it appeared before is the fault
 abbrev pub put_once : {A : Type 0} → Option A → Result A SetupKind → Result (Option A) SetupKind
 put_once (Some before) value = Err Twice
 put_once None (Ok value) = Ok (Some value)
@@ -50,12 +50,12 @@ abbrev pub once :
     {A : Type 0} → Option A → Result A SetupKind → (Option A → Draft) → Result Draft SetupKind
 once before value draft = said (put_once before value) draft
 
--- a flag that stands once
+-- a flag that may appear only once
 abbrev pub set_once : Bool → Result Bool SetupKind
 set_once true = Err Twice
 set_once false = Ok true
 
--- what stands once with the word `yes`, and with no other
+-- a word that may appear only once, with the value `yes` and no other
 abbrev pub yes_once : Bool → List ℕ → Result Bool SetupKind
 yes_once true word = Err Twice
 yes_once false word = if bytes_eq word (codes "yes") then Ok true else Err UnknownWord

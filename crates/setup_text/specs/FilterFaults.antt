@@ -6,8 +6,8 @@ use Rattle.bpf_filter.specs.declared.error.FilterError.TheVariants.{BadJump, Bad
 use Rattle.bpf_filter.specs.declared.error.FilterError.TheVariants.{NoReturn, BadAncillary, Memory}
 use Rattle.bpf_filter.specs.declared.error.FilterError.TheVariants.{TooLarge}
 
--- The line of a fault, in a text of n instructions: the first line has their number,
--- and instruction n, from 0, stands in line n + 2. What isn't in a line is in line 0.
+-- The line of a fault, in a text of n instructions: the first line has their number, and
+-- instruction n, from 0, is in line n + 2. What isn't in a line is in line 0.
 abbrev pub line_of : FilterError → ℕ → ℕ
 line_of (BadLine line) instructions = line
 line_of BadCount instructions = 1

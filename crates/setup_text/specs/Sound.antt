@@ -38,7 +38,7 @@ pub record IsSetup (setup : Setup) : Type 0 where
   pub count : setup.count ≤ 20000
   pub workers : setup.workers ≤ 8
 
--- the moments rise or stand, in milliseconds, and each is a number of 32 bits
+-- the moments don't fall, are in milliseconds, and each is a number of 32 bits
 abbrev pub AreRising : ℕ → List ℕ → Type 0
 AreRising before [] = Unit {0}
 AreRising before (moment ∷ moments) =

@@ -51,7 +51,7 @@ abbrev pub hexed : SetupWord → Option (List ℕ) → List (List (List ℕ))
 hexed word None = []
 hexed word (Some bytes) = valued word (encode_lower bytes)
 
--- what stands there only where it is so
+-- an entry that is there only if this holds
 abbrev pub noted : Bool → SetupWord → List ℕ → List (List (List ℕ))
 noted true word value = valued word value
 noted false word value = []

@@ -50,7 +50,7 @@ pub(crate) struct Draft {
     pub(crate) members: Option<u32>,
     /// How the member of an arrival is chosen.
     pub(crate) mode: Option<Mode>,
-    /// Whether other members are tried where the home has no room.
+    /// Whether other members are tried if the home has no room.
     pub(crate) rollover: bool,
     /// Whether fragments are put together.
     pub(crate) defrag: bool,
@@ -217,7 +217,7 @@ impl Draft {
     }
 }
 
-/// Keeps the value of a word that stands once.
+/// Keeps the value of a word that may appear only once.
 fn once<T: Drop>(field: &mut Option<T>, value: Result<T, SetupKind>) -> Result<(), SetupKind>
     ensures { leaves field.new result ≡ put_once field.old value }
 {

@@ -26,10 +26,9 @@ pub enum SetupKind {
     /// A byte that is neither printable ASCII nor space nor tab, a wrong number of values, or a
     /// ninth CPU.
     BadLine,
-    /// A line that begins with no setup word, or a value that is none of the words that may stand
-    /// there.
+    /// A line that begins with no setup word, or a value that is none of the words allowed there.
     UnknownWord,
-    /// A setup word that stood before, or a flag that stood before.
+    /// A setup word or a flag that appeared before.
     Twice,
     /// No number, a number out of its range, a name of more than 255 bytes, or no key or address.
     BadNumber,
@@ -63,7 +62,7 @@ pub enum Needed {
 }
 
 impl SetupKind {
-    /// The word for the fault, as a program prints it. After `missing`, `request` and `group` the
+    /// The word for the fault, as the program prints it. After `missing`, `request` and `group` the
     /// inner word follows.
     pub fn word(&self) -> &'static str
         ensures { result.now ≡ kind_word self.now }

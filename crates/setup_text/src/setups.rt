@@ -44,8 +44,8 @@ pub struct Setup {
     pub prefix: Word,
     /// Whether the retired blocks are written too.
     pub dump: bool,
-    /// Whether a frame that is longer than a slot of a transmit ring holds is skipped, in place
-    /// of stopping the ring.
+    /// Whether a frame that is longer than a slot of a transmit ring holds is skipped, in place of
+    /// stopping the ring.
     pub skip_bad: bool,
     /// The number that `make`'s frames are made from; 0 where no line says it.
     pub seed: u64,

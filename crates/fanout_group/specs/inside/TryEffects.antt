@@ -1,4 +1,4 @@
--- What one try leaves: it stands at the desk, and in the list where tries are reported.
+-- What one try leaves: it is at the desk, and in the list where tries are reported.
 use Rattle.std.specs.Prelude.{◌≡◌, List, [], ◌∷◌, ◌++◌, Option, None, Some}
 use Rattle.ring_model.specs.declared.notes.Offer.{Offer}
 use Rattle.fanout_group.specs.declared.logs.Fate.{Fate}

@@ -1,4 +1,4 @@
--- The lines so far are those of a schedule of so many frames.
+-- The lines so far are those of a schedule of that number of frames.
 use Rattle.std.proofs.Common.{◌≡◌}
 use Rattle.made_captures.specs.Made.{made_lines}
 use Rattle.made_captures.proofs.scheduling.made_schedule.Given as goal

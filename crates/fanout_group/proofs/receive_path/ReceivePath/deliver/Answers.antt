@@ -31,7 +31,7 @@ returns-clause-route g c =
     (g.D.Desk.tried c.deliver_and_log.new.desk))
     c.self.view_is c.in_ok-deliver_and_log.ensures.route
 
--- what holds anyway holds after an error
+-- what always holds also holds after an error
 after_err : {A E : Type 0} (result : Result A E) (P : Type 0) → P → OnErr result P
 after_err (Ok value) P p = tt
 after_err (Err error) P p = p

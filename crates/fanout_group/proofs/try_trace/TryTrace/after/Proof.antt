@@ -1,4 +1,4 @@
--- `after` picks the tries with the one more. Assumes `Logic`.
+-- `after` chooses the tries with one more. Assumes `Logic`.
 use Rattle.std.proofs.Common.{List, [], ◌∷◌, ◌++◌, refl}
 use seplogic.Ra.Ura.{Ura}
 use mir.Syntax.{Fn}
