@@ -1,4 +1,4 @@
--- The works of members: each stands at the place of its number.
+-- The works of members: each is at the place of its number.
 use Rattle.std.proofs.Common.{◌≡◌, ℕ, zero, suc, ◌+◌, inl, inr, List, [], ◌∷◌, ◌++◌, length, length-append, refl, sym, ap, ◌∙◌, subst, ⊎_elim, arith}
 use Rattle.std.specs.Prelude.{map, ⊤}
 use Rattle.std.specs.List.{AllByRecursion}
@@ -22,7 +22,7 @@ AreMembers member shape [] = ⊤
 AreMembers member shape (taker ∷ takers) =
     (AreNumbered member shape 1 taker.pass.handed × (taker.pass.fetched ≡ [])) × AreMembers (member + 1) shape takers
 
--- the work stands at the place of its number
+-- the work is at the place of its number
 pub record StandsAt (works : List Work) (first : ℕ) (member : ℕ) (shape : RingRequest) (work : Work) : Type 0 where
   pub place : ℕ
   pub at : get_elem? works place ≡ some work
@@ -57,7 +57,8 @@ pub record IsPlaced (all : List (List Work)) (first : ℕ) (shape : RingRequest)
   pub number_is : work.number ≡ place + 1
   pub shape_is : work.shape ≡ shape
 
--- a work that was handed with the pass of one of these takers, or with one of others, which handed none
+-- a work that was handed with the pass of one of these takers, or with one of others, which handed
+-- none
 pub placed : (member : ℕ) (shape : RingRequest) (takers : List HandingValue) (others : List PassValue) (work : Work) → AreMembers member shape takers
     → AllByRecursion (λ (pass : PassValue). pass.handed ≡ []) others
     → WasHanded work (passes_of takers ++ others) → IsPlaced (handed_of takers) member shape work

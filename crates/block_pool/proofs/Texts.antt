@@ -19,7 +19,7 @@ IsRead = (shape : RingRequest) (number status : ℕ) (packets : List Packet) (by
     → taken_in shape bytes ≡ record { number = number; status = status; packets = packets }
 
 module _ (tells : IsRead) (shape : RingRequest) (text : List ℕ) (small : shape.block_size ≤ 1048576) where
-  -- a text that stands alone begins a block
+  -- a text on its own begins a block
   begins : (number status : ℕ) (packets : List Packet) → IsTextWith shape number status packets text → BeginsWith shape number status packets text
   begins number status packets is = record {
     lawful = is.lawful;

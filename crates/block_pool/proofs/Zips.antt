@@ -63,7 +63,7 @@ module _ {A : Type 0} where
   all_each P Q [] each all = tt
   all_each P Q (x ∷ xs) each all = (each x all.0, all_each P Q xs each all.1)
 
--- what is so of each item but the last, and of the last
+-- what holds of each item except the last, and of the last
 pub all_but : {A : Type 0} (P : A → Type 0) (xs : List A) (x : A) → AllByRecursion P (xs ++ x ∷ []) → AllByRecursion P xs × P x
 all_but P [] x all = (tt, all.0)
 all_but P (y ∷ xs) x all = let rest = all_but P xs x all.1 in ((all.0, rest.0), rest.1)

@@ -89,8 +89,8 @@ fn serve<G: Gate + Sync, R: Threads + Wait + Sync>(
     decoders
 }
 
-/// Runs a job with these takers. Whatever it answers, the dealer then has no live feeder: its one
-/// seat of a feeder stands for the takers.
+/// Runs a job with these takers. Whatever it returns, the dealer then has no live feeder: its one
+/// feeder's seat represents the takers.
 fn take_all<'a, S: Source + Send, G: Gate + Sync, R: Threads + Wait + Sync>(
     rt: &R,
     pool: &Pool<G>,

@@ -13,7 +13,7 @@ use std::alloc::Global;
 use std::sync::Wait;
 use work_queue::{Work, WorkPass, WorkQueue};
 
-/// So many calls of `fetch` a worker makes at most.
+/// The most calls of `fetch` that a worker makes.
 const MOST_FETCHES: u64 = (1 << 40) - 1;
 
 /// A worker's thread.

@@ -25,14 +25,14 @@ Ticks = (cpus : ℕ) (notes : List Note) → seats.IsSeatRun cpus notes → tick
 abbrev pub Counts : Type 0
 Counts = (cpus : ℕ) (notes : List Note) → seats.IsSeatRun cpus notes → NoneCounted notes
 
--- a note that a seat of the lock may add is one of a seat of a ring of so many CPUs
+-- a note that a seat of the lock may add is one that a seat of a ring of n CPUs may add
 of_seats : (lock : Lock) (cpus : ℕ) (notes : List Note) → lock.base.cpus ≡ cpus → AllByRecursion (IsOfSeat lock) notes
     → AllByRecursion (seats.IsOfSeat cpus) notes
 of_seats lock cpus [] count all = tt
 of_seats lock cpus (note ∷ notes) count all =
     ((all.0.0, subst (λ (n : ℕ). may_add n all.0.0 note ≡ true) count all.0.2), of_seats lock cpus notes count all.1)
 
--- of a closed member with so many CPUs
+-- of a closed member with n CPUs
 pub seat_run : (lock : Lock) (cpus : ℕ) (stands : List Seat) (notes : List Note) → lock.base.cpus ≡ cpus → AreClosedNotes lock stands notes
     → seats.IsSeatRun cpus notes
 seat_run lock cpus stands notes count closed = record {
@@ -41,7 +41,7 @@ seat_run lock cpus stands notes count closed = record {
   each_note = of_seats lock cpus closed.history count closed.each_note;
 }
 
--- the last of the stands
+-- the last of the seats
 last_has : (P : Seat → Type 0) (stands : List Seat) (last : Seat) → AllByRecursion P (stands ++ last ∷ []) → P last
 last_has P [] last all = all.0
 last_has P (stand ∷ stands) last all = last_has P stands last all.1
@@ -104,7 +104,7 @@ module _ (ticks : Ticks) (counts : Counts) (job : Job) (moments : List ℕ) (cpu
         ring = closed.ring;
       }
 
-  -- there is a stand of the timer where there is a member
+  -- there is a seat of the timer where there is a member
   some_stand : (member : ℕ) (stands : List Seat) → member < length stands → Seat
   some_stand member [] within = absurd (omega (arith, within))
   some_stand member (stand ∷ stands) within = stand

@@ -126,7 +126,7 @@ module _ (numbered : AreNumbered) (ticks : Ticks) (counts : Counts) (joins : Joi
   within_notes : (member : ℕ) → member < length (notes_of_members members) → member < length members
   within_notes member within = subst (λ (n : ℕ). member < n) (length-map members notes_in) within
 
-  -- some member and some stand, where there is a member
+  -- some member and some seat, where there is a member
   some_member : (member : ℕ) (all : List MemberLeft) → member < length all → MemberLeft
   some_member member [] within = absurd (omega (arith, within))
   some_member member (one ∷ all) within = one

@@ -36,7 +36,7 @@ AreRingsOf shape (notes ∷ all) [] = ⊥
 AreRingsOf shape (notes ∷ all) (ring ∷ rings) =
     IsRingOf shape notes ring × AreRingsOf shape all rings
 
--- a member was closed with these stands, which are all of its seats
+-- a member was closed with these seats, which are all it has
 pub record IsClosedOver (shape : RingRequest) (stands : List Seat) (member : MemberLeft)
     : Type 0 where
   pub notes : AreClosedNotes member.lock stands member.notes

@@ -14,7 +14,7 @@ use Rattle.setup_text.specs.declared.jobs.Job.{Job}
 use Rattle.ticket_dealer.specs.Seats.{SeatValue}
 use Rattle.tp_layout.specs.Requests.{room_of}
 
--- the stand of a CPU at a member: it isn't in a turn, and has added one note for each try at the
+-- the seat of a CPU at a member: it isn't in a turn, and has added one note for each try at the
 -- member that the log of these arrivals has, in order
 pub record IsFedAt (job : Job) (cpu member : ℕ) (arrivals : List Frame) (log : List ArrivalLog)
     (lock : Lock) (stand : Seat) : Type 0 where
@@ -27,7 +27,7 @@ abbrev pub arrivals_in : Feeding → List Frame
 arrivals_in feed = arrivals_of (has_defrag feed.path.shape.flags) (frames_in feed)
 
 -- The feeder of this CPU has fed all frames of its capture and logged what arrived, lawfully; its
--- stands at the members have the notes of the log's tries, and in mode Lb its seat at the dealer
+-- seats at the members have the notes of the log's tries, and in mode Lb its seat at the dealer
 -- drew the log's tickets.
 pub record HasFed (job : Job) (locks : List Lock) (cpu : ℕ) (feed : Feeding) (stands : List Seat)
     (seat : SeatValue) : Type 0 where

@@ -10,7 +10,7 @@ use Rattle.capture_reports.specs.Closed.{IsClosedOver, IsLockOf, MemberLeft, loc
 use Rattle.capture_reports.specs.Feeders.{HasFed}
 use Rattle.capture_reports.specs.Timing.{AreTimed}
 
--- what a feeder left: its CPU, its stands at the members from 0 up, and its seat at the dealer
+-- what a feeder left: its CPU, its seats at the members from 0 up, and its seat at the dealer
 pub record CpuLeft : Type 0 where
   pub feed : Feeding
   pub stands : List Seat
@@ -24,11 +24,11 @@ feeds_of cpus = map (λ cpu. cpu.feed) cpus
 abbrev pub seats_of : List CpuLeft → List SeatValue
 seats_of cpus = map (λ cpu. cpu.seat) cpus
 
--- the stands of the CPUs at a member
+-- the seats of the CPUs at a member
 abbrev pub stands_at : ℕ → Seat → List CpuLeft → List Seat
 stands_at member none cpus = map (λ cpu. slice_index_or cpu.stands member none) cpus
 
--- the stands of the CPUs at a member, and after them the timer's
+-- the seats of the CPUs at a member, and after them the timer's
 abbrev pub all_stands_at : ℕ → Seat → List CpuLeft → List Seat → List Seat
 all_stands_at member none cpus timer =
     stands_at member none cpus ++ slice_index_or timer member none ∷ []
@@ -40,8 +40,8 @@ pub record HaveDealt (cpus : List CpuLeft) (seats : List SeatValue) (number : �
   pub seats_are : seats ≡ seats_of cpus ++ others
   pub none : AllByRecursion DrewNone others
 
--- Each CPU of the job was fed to its end, the timer told all moments to each member, each member
--- was closed with the stands of all CPUs and the timer's, and the dealer with all its seats.
+-- Each CPU of the job was fed to its end, the timer reported all moments to each member, each
+-- member was closed with the seats of all CPUs and the timer's, and the dealer with all its seats.
 pub record AreLeft (job : Job) (moments : List ℕ) (cpus : List CpuLeft) (members : List MemberLeft)
     (timer : List Seat) (seats : List SeatValue) (number : ℕ) : Type 0 where
   pub cpu_count : length cpus ≡ length job.setup.cpus

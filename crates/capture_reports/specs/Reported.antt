@@ -38,7 +38,7 @@ pub record IsGroupRun (job : Job) (moments : List ℕ) (bytes : List (List ℕ))
 abbrev pub taken_of_notes : RingRequest → List Note → List Taken
 taken_of_notes shape notes = taken_from shape 1 (state_of (size_of shape) notes).done
 
--- a member's report has these notes and this ring, and what a reader gives that read all blocks
+-- a member's report has these notes and this ring, and what a reader returns that read all blocks
 pub record IsReported (shape : RingRequest) (asked : Bool) (notes : List Note)
     (ring : Pends ShapedBytes) (member : MemberReport) : Type 0 where
   pub notes_are : member.notes ≡ notes

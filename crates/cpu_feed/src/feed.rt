@@ -62,7 +62,7 @@ pub struct CpuFeed<S: Source> {
     path: ReceivePath,
     /// Whether a piece was lost because it couldn't be allocated: no more is read then.
     stuck: bool,
-    /// The source as it was handed in. It takes no room: only contracts read it.
+    /// The source as it was handed in. It takes no memory: only contracts read it.
     first: Snapshot<Option<S>>,
     /// The bytes that the source gave. They take no room: only contracts read them.
     trace: Trace,

@@ -80,7 +80,7 @@ module _ {T : Type 0} where
     rings_are (lock ∷ locks) (row ∷ rows) (walker ∷ walkers) (closed ∷ all) over =
         ap (λ (rs : List (Pends ShapedBytes)). closed.ring ∷ rs) (rings_are locks rows walkers all over.1)
 
-    -- each member was closed over its stands
+    -- each member was closed over its seats
     pub closed_over : (job : Job) (locks : List Lock) (rows : List (List Seat)) (walkers : List (Walker T)) (all : List (Closed T))
         → Over locks rows walkers all → AllByRecursion (IsMemberOf job) locks → (member : ℕ) (row : List Seat) (none : MemberLeft)
         → member < length (members_left locks all)

@@ -38,7 +38,7 @@ first_waits : (waiting : List (Option Frame)) → somes waiting ≡ option_to_li
 first_waits [] = refl
 first_waits (arrival ∷ waiting) = refl
 
--- one frame more
+-- one more frame
 pub arrived_more : (all : List Frame) (arrival : Option Frame) (old new : Feeding) → Takes all old arrival new
     → old.path.held ≡ held_from (has_defrag old.path.shape.flags) [] (take old.fed all)
     → new.path.held ≡ held_from (has_defrag new.path.shape.flags) [] (take new.fed all)

@@ -1,4 +1,4 @@
--- Members, their stands and their readers when all threads have ended.
+-- Members, their seats and their readers when all threads have ended.
 use Rattle.std.proofs.Common.{◌≡◌, ◌<◌, ℕ, zero, suc, false, List, [], ◌∷◌, ◌++◌, length, length-append, get_or, sym, ap, ◌∙◌, subst, arith}
 use Rattle.std.specs.Prelude.{map, replicate}
 use Rattle.std.specs.List.{AllByRecursion, AllZip}
@@ -44,24 +44,24 @@ all_mapped : {A B : Type 0} (P : B → Type 0) (f : A → B) (xs : List A) → A
 all_mapped P f [] all = tt
 all_mapped P f (x ∷ xs) all = (all.0, all_mapped P f xs all.1)
 
--- ---- the stands at a member
+-- ---- the seats at a member
 
--- all stands of a member are there, and none is in its turn
+-- all seats of a member are there, and none is in its turn
 pub record AreHandedIn (lock : Lock) (stands : List Seat) : Type 0 where
   pub all : length stands ≡ lock.seats
   pub own : AllByRecursion (IsIdleSeatOf lock) stands
 
--- the stands of all users
+-- the seats of all users
 abbrev pub columns_of : {S : Type 0} → List (Feeder S) → List Seat → List (List Seat)
 columns_of feeders timer = map stands_in feeders ++ timer ∷ []
 
--- the stands at all members
+-- the seats at all members
 abbrev pub rows_of : {S : Type 0} → ℕ → List (Feeder S) → List Seat → List (List Seat)
 rows_of members feeders timer = with_all (replicate members []) (columns_of feeders timer)
 
 module _ {S : Type 0} (job : Job) (dealer : DealerValue) (moments : List ℕ) (locks : List Lock) (before after : List (Feeder S)) (timer : List Seat)
     (outs : Outs job locks dealer before after) (timed : AreTimed moments locks timer) where
-  -- each user has a stand at each member
+  -- each user has a seat at each member
   columns_long : AllByRecursion (λ (column : List Seat). length column ≡ length locks) (columns_of after timer)
   columns_long =
       all_append (λ (column : List Seat). length column ≡ length locks) (map stands_in after) (timer ∷ [])
@@ -70,7 +70,7 @@ module _ {S : Type 0} (job : Job) (dealer : DealerValue) (moments : List ℕ) (l
   pub rows_long : length (rows_of (length locks) after timer) ≡ length locks
   rows_long = with_all_long (columns_of after timer) (replicate (length locks) []) ∙ length-replicate (length locks) []
 
-  -- a member's stands
+  -- a member's seats
   pub row_is : (member : ℕ) (row : List Seat) (stand : Seat) → member < length locks
       → get_or (rows_of (length locks) after timer) member row ≡ items_at member stand (columns_of after timer)
   row_is member row stand within =

@@ -52,7 +52,7 @@ pub placed : (group : Lens) (room cpu : ℕ) (arrival : Frame) (entry : ArrivalL
 placed group room cpu arrival entry None judged place = tt
 placed group room cpu arrival entry (Some offer) judged place = ap (λ (o : Offer). o.frame.cpu) (by_entry group room arrival entry offer judged) ∙ place
 
--- what a stand has after the tries at its member
+-- what a seat has after the tries at its member
 record Changed (offer : Offer) (came : List Fate) (lock : Lock) (before after : Seat) : Type 0 where
   pub ready : (number : ℕ) → IsReady lock number before → IsReady lock number after
   pub notes : List Note

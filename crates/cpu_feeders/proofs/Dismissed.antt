@@ -74,7 +74,7 @@ weaker : (P Q : SeatValue → Type 0) (seats : List SeatValue) → ((seat : Seat
 weaker P Q [] to all = tt
 weaker P Q (seat ∷ seats) to all = (to seat all.0, weaker P Q seats to all.1)
 
--- the stands of a member, as two lists
+-- the seats of a member, as two lists
 stands_at : {S : Type 0} (member : ℕ) (none : Seat) (feeders : List (Feeder S)) (timer : List Seat)
     → items_at member none (columns_of feeders timer) ≡ all_stands_at member none (map fed.left_of feeders) timer
 stands_at member none [] timer = refl

@@ -96,7 +96,7 @@ module _ {S : Type 0} where
         ap (λ (first : Option SourceSeen). first ∷ firsts_of (map feed_in after)) outs.0.first
         ∙ ap (λ (firsts : List (Option SourceSeen)). o.feed.first ∷ firsts) (same_firsts before after outs.1)
 
-    -- the stands at a member
+    -- the seats at a member
     pub idle_at : (before after : List (Feeder S)) (member : ℕ) (lock : Lock) (stand : Seat) → Outs before after → member < length locks
         → AllByRecursion (λ (stands : List Seat). IsIdleSeatOf (get_or locks member lock) (get_or stands member stand)) (map stands_in after)
     idle_at [] [] member lock stand outs within = tt

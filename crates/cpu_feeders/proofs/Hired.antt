@@ -48,7 +48,7 @@ fresh_ready lock number = record { idle = ((refl, refl, refl), refl); number_is 
 none_added : (lock : Lock) (number : ℕ) → IsEmpty lock → own_of lock (fresh_seat lock number) ≡ []
 none_added lock number empty = ap (λ (notes : List Note). own (may_note lock.base) number notes) empty
 
--- a user's stand at a member
+-- a user's seat at a member
 stand_at : (locks : List Lock) (number member : ℕ) (lock : Lock) (stand : Seat) → member < length locks
     → get_or (fresh_stands locks number) member stand ≡ fresh_seat (get_or locks member lock) number
 stand_at locks number member lock stand within = get_or-map (λ (l : Lock). fresh_seat l number) locks member lock stand within
@@ -66,7 +66,7 @@ module _ (job : Job) (locks : List Lock) (members : AllByRecursion (IsMemberOf j
         ticks = ap ticks_of (none_added lock cpus none);
       })
 
-  -- the timer's stands
+  -- the timer's seats
   pub first_timed : (stands : List Seat) → stands ≡ fresh_stands locks (length job.setup.cpus) → AreTimed [] locks stands
   first_timed stands are = subst (λ (s : List Seat). AreTimed [] locks s) (sym are) (record {
     count = stands_many locks (length job.setup.cpus);

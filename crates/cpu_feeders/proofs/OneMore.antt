@@ -45,7 +45,7 @@ zip_more {A = A} {B = B} R xs now ys later x y xs_is ys_is all one =
     subst (λ (zs : List A). AllZip R zs later) (sym xs_is)
     (subst (λ (ws : List B). AllZip R (xs ++ x ∷ []) ws) (sym ys_is) (all_zipped_more R xs ys x y all one))
 
--- ---- stands
+-- ---- seats at members
 
 pub grown_users : (locks more : List Lock) (lock : Lock) (count : ℕ) (users now : List (List Seat)) (stands : List Seat) → users ≡ fresh_users locks 0 count
     → stands ≡ fresh_seats lock 0 count → now ≡ with_each users stands → more ≡ locks ++ lock ∷ [] → now ≡ fresh_users more 0 count

@@ -21,7 +21,7 @@ all_read base done now walked left retired h more all =
 pub contents_length : (blocks : List (ShapedBytes × ℕ)) → length (contents_of blocks) ≡ length blocks
 contents_length blocks = length-map blocks (λ (one : ShapedBytes × ℕ). (one.0.bytes, one.1))
 
--- how many blocks were read once so many of those that are left were
+-- the number of blocks read when n of those that are left were read
 pub pending_length : (base : Base) (first now : List Taken) (blocks : List (ShapedBytes × ℕ)) (at : ℕ) → at ≤ length blocks
     → now ≡ first ++ taken_of base (contents_of (take at blocks)) → length now ≡ length first + at
 pending_length base first now blocks at within is =

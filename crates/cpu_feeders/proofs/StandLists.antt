@@ -1,4 +1,4 @@
--- The stands of members and of users.
+-- The seats of members and of users.
 use Rattle.std.proofs.Common.{◌≡◌, ℕ, zero, suc, ◌+◌, ◌<◌, List, [], ◌∷◌, ◌++◌, length, length-append, get_or, append_assoc, append-nil, refl, sym, ap, ◌∙◌, subst, arith, set}
 use Rattle.std.specs.Prelude.{map, replicate}
 use Rattle.std.specs.List.{AllByRecursion}
@@ -63,7 +63,7 @@ module _ {A : Type 0} where
   no_list (suc n) zero empty within = refl
   no_list (suc n) (suc at) empty within = no_list n at empty (omega (arith, within))
 
--- ---- fresh stands
+-- ---- fresh seats at members
 
 pub users_long : (locks : List Lock) (number count : ℕ) → length (fresh_users locks number count) ≡ count
 users_long locks number zero = refl
@@ -91,13 +91,13 @@ last_next locks number (suc count) =
     (last_next locks (number + 1) count
     ∙ ap (λ (n : ℕ). fresh_users locks (number + 1) count ++ fresh_stands locks n ∷ []) (let g : number + 1 + count ≡ number + suc count = omega arith in g))
 
--- the last user's stands
+-- the last user's seats
 pub last_user : (locks : List Lock) (count : ℕ) → fresh_users locks 0 (count + 1) ≡ fresh_users locks 0 count ++ fresh_stands locks count ∷ []
 last_user locks count =
     ap (fresh_users locks 0) (let g : count + 1 ≡ suc count = omega arith in g) ∙ last_next locks 0 count
     ∙ ap (λ (n : ℕ). fresh_users locks 0 count ++ fresh_stands locks n ∷ []) (let g : 0 + count ≡ count = omega arith in g)
 
--- ---- a loop over stands
+-- ---- a loop over seats
 
 pub next_within : (all done rest after : List Seat) (stand : Seat) (first now : List (List Seat)) (at : ℕ) → all ≡ done ++ rest → rest ≡ stand ∷ after
     → length done ≡ at → now ≡ with_each first done → length all ≡ length first → at < length now

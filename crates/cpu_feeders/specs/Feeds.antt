@@ -15,7 +15,7 @@ pub record AreMembersFor (job : Job) (cpu : ℕ) (locks : List Lock) : Type 0 wh
   pub cpu_is : (member : ℕ) (lock : Lock) → member < length locks →
       cpu < (slice_index_or locks member lock).base.cpus
 
--- a CPU's stand at a member, before its first turn
+-- a CPU's seat at a member, before its first turn
 pub record IsFreshStand (cpu : ℕ) (lock : Lock) (stand : Seat) : Type 0 where
   pub ready : IsReady lock cpu stand
   pub entered : stand.entered ≡ 0

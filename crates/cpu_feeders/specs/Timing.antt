@@ -5,7 +5,7 @@ use Rattle.member_turns.specs.Seats.{IsReady, Lock, Seat}
 use Rattle.member_turns.specs.TurnEffects.{IsTickTurn}
 use Rattle.cpu_feeders.specs.declared.timer.Timer.{Timer}
 
--- a ready stand of the timer at each member
+-- a ready seat of the timer at each member
 pub record AreTimers (locks : List Lock) (seats : List Seat) : Type 0 where
   pub count : length seats ≡ length locks
   pub ready : (member : ℕ) (lock : Lock) (seat : Seat) → member < length seats →

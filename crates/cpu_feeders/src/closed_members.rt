@@ -1,6 +1,7 @@
 //! The members of a run and their readers after the joins.
 ghost use Rattle.std.specs.Prelude.{◌≡◌, ◌+◌, ◌≤◌, ◌<◌, ◌^◌, ◌++◌, length, map, IfOk, OnOk};
-ghost use Rattle.cpu_feeders.specs.inside.Closings.{AllAtEnd, AllClosedWith, AreAtEnd, IsClosedWith};
+ghost use Rattle.cpu_feeders.specs.inside.Closings.{AllAtEnd, AllClosedWith, AreAtEnd};
+ghost use Rattle.cpu_feeders.specs.inside.Closings.{IsClosedWith};
 ghost use Rattle.cpu_feeders.specs.Walks.{taken_of};
 ghost use Rattle.member_turns.specs.Closings.{contents_of};
 ghost use Rattle.tp_layout.specs.Requests.{numbers_of};

@@ -19,7 +19,7 @@ pub(crate) struct Left<S: Source> {
     pub(crate) cpus: Vec<CpuFeed<S>>,
     /// The seat of each CPU's feeder at the dealer.
     pub(crate) seats: Vec<DealerSeat>,
-    /// The stands at each member: of the CPUs from 0 up, and then of the timer.
+    /// The seats at each member: of the CPUs from 0 up, and then of the timer.
     pub(crate) stands: Vec<StandList>,
 }
 
@@ -52,7 +52,7 @@ impl<S: Source> Left<S> {
     }
 }
 
-/// Puts the stands of timers, who have one at each member, after these.
+/// Puts the seats of timers, which have one at each member, after these.
 fn add_timers(stands: &mut Vec<StandList>, timers: Vec<Timer>) -> Result<(), Memory>
     requires timers { AllByRecursion (λ it. length it.stands.items ≡ length stands.old.items)
         timers.items }
@@ -65,7 +65,7 @@ fn add_timers(stands: &mut Vec<StandList>, timers: Vec<Timer>) -> Result<(), Mem
     Ok(())
 }
 
-/// Takes feeders and the timer apart, who have a stand at each of `members` members.
+/// Takes feeders and the timer apart, which have a seat at each of `members` members.
 pub(crate) fn gather<S: Source>(
     alloc: Global,
     members: usize,

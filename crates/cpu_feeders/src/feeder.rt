@@ -3,8 +3,10 @@
 //!
 //! In mode `Lb` an arrival draws its ticket first, whatever becomes of it. Then its hash and
 //! verdict are found, and then its tries are made, each in a turn at its member.
-ghost use Rattle.std.specs.Prelude.{◌≡◌, ◌<◌, ◌≤◌, ◌^◌, ℕ, [], Some, false, length, IfOk, IfSome, OnOk};
-ghost use Rattle.cpu_feeders.specs.inside.FeedSteps.{Awaits, FeedsOn, Goes, IsDrawing, IsLogged, IsSameSource, has_drawn_for};
+ghost use Rattle.std.specs.Prelude.{◌≡◌, ◌<◌, ◌≤◌, ◌^◌, ℕ, [], Some, false, length, IfOk, IfSome};
+ghost use Rattle.std.specs.Prelude.{OnOk};
+ghost use Rattle.cpu_feeders.specs.inside.FeedSteps.{Awaits, FeedsOn, Goes, IsDrawing, IsLogged};
+ghost use Rattle.cpu_feeders.specs.inside.FeedSteps.{IsSameSource, has_drawn_for};
 ghost use Rattle.cpu_feeders.specs.Feeds.{AreMembersFor, FeedsOut, HasEnded, IsFreshFeeder};
 ghost use Rattle.fanout_group.specs.Arrivals.{IsArrival};
 ghost use Rattle.fanout_group.specs.Rules.{HasTicket};
@@ -30,13 +32,13 @@ use tap_outside::Source;
 pub struct Feeder<S: Source> {
     /// Its CPU.
     pub feed: CpuFeed<S>,
-    /// Its stand at each member, from 0 up.
+    /// Its seat at each member, from 0 up.
     pub stands: Vec<Stand>,
     /// Its seat at the dealer, from which it draws tickets.
     pub seat: DealerSeat,
     /// What its source is read into.
     pub buffer: Buffer,
-    /// Whether a request for memory was refused.
+    /// Whether an allocation failed.
     pub full: bool,
 }
 
@@ -218,8 +220,8 @@ fn feed_or_fill<S: Source, R: Wait, G: Gate>(
     }
 }
 
-/// Feeds all frames of its CPU's capture and delivers what arrives to the members, or stops where
-/// a request for memory is refused. Either way the dealer then has one live feeder less.
+/// Feeds all frames of its CPU's capture and delivers what arrives to the members, or stops where a
+/// request for memory is refused. Either way the dealer then has one live feeder less.
 pub fn run_feeder<S: Source, R: Wait, G: Gate>(
     rt: &R,
     alloc: Global,

@@ -1,8 +1,10 @@
 //! The workers of a run before they start.
-ghost use Rattle.std.specs.Prelude.{◌≡◌, ◌+◌, ◌<◌, ◌≤◌, ◌++◌, ◌∷◌, [], false, length, map, option_map, IfOk, OnOk};
+ghost use Rattle.std.specs.Prelude.{◌≡◌, ◌+◌, ◌<◌, ◌≤◌, ◌++◌, ◌∷◌, [], false, length, map};
+ghost use Rattle.std.specs.Prelude.{option_map, IfOk, OnOk};
 ghost use Rattle.std.specs.List.{AllByRecursion};
 ghost use Rattle.cpu_feeders.specs.Feeds.{IsFreshSeat};
-ghost use Rattle.cpu_feeders.specs.inside.FreshWorkers.{AreNumbered, first_feed, first_feeds, in_order};
+ghost use Rattle.cpu_feeders.specs.inside.FreshWorkers.{AreNumbered, first_feed, first_feeds};
+ghost use Rattle.cpu_feeders.specs.inside.FreshWorkers.{in_order};
 ghost use Rattle.cpu_feeders.specs.declared.worker.Worker.TheVariants as worker;
 ghost use Rattle.ticket_dealer.specs.Seats.{DealerValue, IsFreshOf};
 
@@ -22,8 +24,8 @@ use std::collections::VecDeque;
 use tap_outside::Source;
 use tp_layout::Block;
 
-/// The feeder of a CPU, of which nothing was read. Its stands are the first of these, and its seat
-/// the last.
+/// The feeder of a CPU, of which nothing was read. Its seats at the members are the first of these,
+/// and its seat at the dealer is the last.
 fn fresh_feeder<S: Source>(
     alloc: Global,
     number: u32,
@@ -51,7 +53,7 @@ fn fresh_feeder<S: Source>(
     })
 }
 
-/// A feeder for each source, with the stands of its CPU.
+/// A feeder for each source, with the seats of its CPU.
 pub(crate) fn feeders_of<S: Source>(
     alloc: Global,
     plan: Plan,

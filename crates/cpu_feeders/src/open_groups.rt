@@ -18,7 +18,7 @@ pub(crate) struct OpenGroup {
     pub(crate) members: Vec<Member>,
     /// The reader's end of each member's ring.
     pub(crate) ends: Vec<TableWalker<Block>>,
-    /// The stands of each user: of each CPU from 0 up, and then of the timer.
+    /// The seats of each user: of each CPU from 0 up, and then of the timer.
     pub(crate) users: Vec<StandList>,
 }
 

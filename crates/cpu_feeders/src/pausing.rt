@@ -5,8 +5,8 @@ use std::thread;
 use std::thread::Parker;
 use std::time::Duration;
 
-/// So many looks in a row that found nothing are each followed by a yield, those after them by a
-/// sleep.
+/// The number of unsuccessful polls in a row that are each followed by a yield; those after them
+/// are followed by a sleep.
 const YIELDS: u32 = 100;
 
 /// How long a sleep is, in microseconds.
@@ -23,7 +23,7 @@ const SLEEP: u64 = 50;
 pub struct Idler {
     /// How many looks in a row have found nothing.
     empty_looks: u32,
-    /// What it sleeps by. Nobody else has it, so nobody wakes the thread.
+    /// What it sleeps on. Nobody else has it, so nobody wakes the thread.
     sleeper: Parker,
 }
 

@@ -1,4 +1,5 @@
-//! The stands of a run: each member has one for each user, and each user has one at each member.
+//! The seats at the members of a run: each member has one for each user, and each user has one at
+//! each member.
 ghost use Rattle.std.specs.Prelude.{◌≡◌, [], length, replicate, IfOk, OnOk};
 ghost use Rattle.cpu_feeders.specs.inside.Stands.{with_each};
 
@@ -6,10 +7,10 @@ use frame_view::{ItemList, Memory};
 use member_turns::Stand;
 use std::alloc::Global;
 
-/// Stands in an order.
+/// Seats at members, in order.
 pub(crate) type StandList = ItemList<Stand>;
 
-/// So many empty lists.
+/// `count` empty lists.
 pub(crate) fn empty_lists(alloc: Global, count: usize) -> Result<Vec<StandList>, Memory>
     ensures { IfOk result (λ lists. lists.items ≡ replicate count []) }
 {
@@ -20,7 +21,7 @@ pub(crate) fn empty_lists(alloc: Global, count: usize) -> Result<Vec<StandList>,
     Ok(lists)
 }
 
-/// Puts one stand at the end of each list.
+/// Puts one seat at the end of each list.
 pub(crate) fn add_to_each(lists: &mut Vec<StandList>, stands: Vec<Stand>) -> Result<(), Memory>
     requires count { length stands.items ≡ length lists.old.items }
     ensures { OnOk result (lists.new.items ≡ with_each lists.old.items stands.items) }

@@ -13,9 +13,9 @@ use std::sync::Wait;
 /// The timer's thread.
 #[derive(Drop)]
 pub struct Timer {
-    /// Its stand at each member, from 0 up.
+    /// Its seat at each member, from 0 up.
     pub stands: Vec<Stand>,
-    /// Whether a request for memory was refused.
+    /// Whether an allocation failed.
     pub full: bool,
 }
 

@@ -1,4 +1,4 @@
-//! What is done to a ring, and what came of it.
+//! What is done to a ring, and the result.
 ghost use Rattle.std.specs.Prelude.{◌≡◌, ◌+◌, ◌<◌, ◌≤◌, false, length};
 ghost use Rattle.ring_words.specs.PlainRings.{has_block};
 
@@ -17,14 +17,14 @@ use tp_layout::{RingRequest, Shape};
 pub(crate) enum Act {
     /// A frame of this number and length is put.
     Put(u32, u32),
-    /// It is tried.
+    /// The frame is tried.
     Try(u32, u32),
     Tick(u64),
     Read,
     Stats,
 }
 
-/// What a note says, its frame by its number alone.
+/// What a note says, with only the number of its frame.
 #[derive(Clone, Copy, Debug, PartialEq, Eq)]
 pub(crate) enum Said {
     Kept(u32, Found),
@@ -46,7 +46,7 @@ fn say(note: &Note) -> Said {
     }
 }
 
-/// What came of a ring: its notes, the number, status and end of each block that was read, and the
+/// The result of a ring: its notes, the number, status and end of each block that was read, and the
 /// statistics.
 #[derive(Drop)]
 pub(crate) struct Ran {
@@ -55,7 +55,7 @@ pub(crate) struct Ran {
     pub(crate) stats: Vec<(u64, u64, u64)>,
 }
 
-/// Does one thing to a ring.
+/// Does one act at a ring.
 fn do_act(
     alloc: Global,
     shape: &Shape,
@@ -82,7 +82,7 @@ fn do_act(
     }
 }
 
-/// Does these things to a new ring, closes it and reads what is left.
+/// Does these acts at a new ring, closes it and reads what is left.
 pub(crate) fn run(alloc: Global, request: RingRequest, acts: &[Act]) -> Result<Ran, Fail>
     requires { length acts.now < 100 }
 {

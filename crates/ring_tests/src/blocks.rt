@@ -1,4 +1,4 @@
-//! Puts into a ring of blocks that need no memory where room was reserved.
+//! Puts into a ring of blocks that need no memory after room was reserved.
 ghost use Rattle.std.specs.Prelude.{◌≡◌, ◌+◌, ◌<◌, ◌≤◌, IfOk, [], length};
 ghost use Rattle.tp_layout.specs.Requests.{room_of};
 ghost use Rattle.tp_layout.specs.Writing.{IsWritable};
@@ -61,7 +61,7 @@ fn put_three(alloc: Global, ring: &mut Ring) -> Result<[Put; 3], Memory>
     ])
 }
 
-/// The same of a new ring.
+/// The same for a new ring.
 fn three_puts(alloc: Global) -> Result<[Put; 3], Fail> {
     let shape = page_shape()?;
     let mut ring = new_ring(alloc, &shape)?;

@@ -36,7 +36,7 @@ pub(crate) fn offer(alloc: Global, index: u32, length: u32) -> Result<Offer, Mem
     })
 }
 
-/// A length of a frame that goes into a block.
+/// A length of a frame that fits into a block.
 pub(crate) fn fitting(shape: &Shape, length: u32) -> u32
     ensures least { 14 ≤ result }
     ensures room { 82 + result ≤ room_of shape.now }

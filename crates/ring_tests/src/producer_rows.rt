@@ -160,12 +160,12 @@ static ROWS: [Row; 7] = [
     },
 ];
 
-/// Holds notes and the blocks that were read to a row.
+/// Compares the notes and the blocks that were read with a row.
 fn check_row(rt: &impl Abort, row: &Row, notes: &[Said], read: &[Seen]) {
     assert_eq!(rt; (row.name, notes, read), (row.name, row.notes, row.read));
 }
 
-/// Holds the notes and the blocks of each row's ring to the row.
+/// Compares the notes and the blocks of each row's ring with the row.
 fn check_rows(rt: &impl Abort, alloc: Global, rows: &[Row]) -> Result<(), Fail> {
     for row in rows {
         if row.acts.len() >= 100 {
@@ -183,7 +183,7 @@ fn notes_and_blocks(rt: HostRuntime) -> Result<(), Fail> {
     check_rows(&rt, rt.alloc(), &ROWS)
 }
 
-/// Statistics are taken once a packet has opened a block anew.
+/// Statistics are taken after a packet has thawed the ring.
 static COUNTED: [Act; 9] = [
     Put(0, 1514),
     Put(1, 1514),

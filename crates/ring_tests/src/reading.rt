@@ -1,4 +1,4 @@
-//! What a reader reads of blocks that are handed to it, with its texts kept and without.
+//! What a reader reads from blocks that are handed to it, with their texts kept and without.
 ghost use Rattle.std.specs.Prelude.{◌≡◌, ◌+◌, ◌≤◌, IfOk};
 ghost use Rattle.reader_walk.specs.Takers.{IsReadable};
 ghost use Rattle.ring_model.specs.Sizes.{need_of};
@@ -48,7 +48,7 @@ fn empty_block(alloc: Global, shape: &Shape) -> Result<Block, Memory>
     }
 }
 
-/// Block 1 of this shape with the packet of an offer alone, retired with status 1.
+/// Block 1 of this shape with only the packet of an offer, retired with status 1.
 fn block_with(alloc: Global, shape: &Shape, offer: &Offer) -> Result<Block, Memory>
     requires sound { IsWritable offer.now }
     requires fits { first_of shape.now + need_of offer.now.snap ≤ shape.now.block_size }
@@ -89,7 +89,7 @@ fn is_that_packet(packet: &Packet) -> bool {
         && packet.bytes.as_slice() == FRAME.as_slice()
 }
 
-/// What is seen of what was read.
+/// What is reported of what was read.
 fn seen_of(outputs: &Outputs) -> Seen {
     let packets = &outputs.walked;
     let sizes = (outputs.blocks, packets.len(), outputs.dump.len());
@@ -100,7 +100,7 @@ fn seen_of(outputs: &Outputs) -> Seen {
     (sizes, are_that)
 }
 
-/// What a reader reads of two blocks, one handed to it as a reader and one as a taker.
+/// What a reader reads from two blocks, one handed to it as a reader and one as a taker.
 fn read_two(
     alloc: Global,
     shape: &Shape,
@@ -117,7 +117,7 @@ fn read_two(
     Ok(seen_of(&reader.outputs()))
 }
 
-/// What a reader reads of two blocks with that frame alone, with their texts kept or without.
+/// What a reader reads from two blocks with only that frame, with their texts kept or without.
 fn seen_with(alloc: Global, shape: &Shape, dump: bool) -> Result<Seen, Memory>
     requires { 144 ≤ room_of shape.now }
 {

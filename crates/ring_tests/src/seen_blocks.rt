@@ -18,7 +18,7 @@ fn u32_at(bytes: &[u8], at: usize) -> Option<u32>
     }
 }
 
-/// The number that a block was retired under, its status and the place after its packets.
+/// The number that a block was retired with, its status and the place after its packets.
 fn seen(block: &Block) -> Option<Seen> {
     let bytes = block.bytes();
     Some((u32_at(bytes, 24)?, u32_at(bytes, 8)?, u32_at(bytes, 20)?))

@@ -15,7 +15,7 @@ use std::thread;
 use std::thread::Threads;
 use tp_layout::{Block, Shape, a_shape_is_sound, blocks};
 
-/// How often a side looks again where it finds nothing, before it gives up.
+/// How often a side polls again after finding nothing, before it gives up.
 const LOOKS: u64 = 100_000_000;
 
 /// The milliseconds after which a block is retired.
@@ -75,7 +75,7 @@ fn feed(alloc: Global, ring: &mut Ring, count: u32) -> Result<(), Memory>
     Ok(())
 }
 
-/// The same, and gives the end back.
+/// The same, and returns the end.
 fn feed_all(alloc: Global, mut ring: Ring, count: u32) -> Result<TableFeeder<Block>, Memory>
     requires room { 142 ≤ room_of ring.shape }
     requires notes { ring.notes ≡ [] }
@@ -101,7 +101,7 @@ fn seen_of(outputs: &Outputs) -> (u64, usize, bool) {
     (outputs.blocks, packets.len(), are_in_place(packets))
 }
 
-/// Reads `count` blocks, and gives what is seen of them, and the end.
+/// Reads `count` blocks, and returns what is seen of them, and the end.
 fn read_all(
     mut reader: Reader,
     mut walker: TableWalker<Block>,
@@ -128,8 +128,7 @@ fn read_all(
     Ok((seen_of(&reader.outputs()), walker))
 }
 
-/// What is seen of `count` blocks by a reader in a thread of its own, and how many blocks are then
-/// left.
+/// What a reader in a thread of its own sees of `count` blocks, and how many blocks are then left.
 fn pass_on<R: Threads + Sync>(
     rt: &R,
     alloc: Global,

@@ -1,5 +1,6 @@
--- The arrivals of a run are those that the filter ended, and those that its members' notes keep or drop: of
--- a group, whatever its rings, and of a report whose statistics count what notes keep and drop.
+-- The arrivals of a run are those that the filter ended, and those that its members' notes keep or
+-- drop: of a group, whatever its rings, and of a report whose statistics count what notes keep and
+-- drop.
 use Rattle.std.proofs.Common.{◌≡◌, ℕ, zero, suc, ◌+◌, ◌-◌, ◌<◌, ◌≤◌, Bool, true, false, cond, not, ◌&&◌, eqb, ltb, List, [], ◌∷◌, ◌++◌, length, get_or, inl, inr, refl, sym, ap, subst, ◌∙◌, arith}
 use Rattle.std.specs.Prelude.{Option, count_by, sum_by}
 use Rattle.std.proofs.lemmas.Bool.{cases_lt, eq-eqb, lt-ltb}

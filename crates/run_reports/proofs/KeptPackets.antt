@@ -71,7 +71,7 @@ by_here : (size : Size) (s : State) (offer : Offer) (now : Option (List Offer)) 
 by_here size s offer None e may = absurd (rw e at may)
 by_here size s offer (Some offers) e may = sym (append_assoc (offers_in s.done) offers (offer ∷ []))
 
--- a note that may stand adds what it keeps
+-- a note that may follow adds what it keeps
 noted : (size : Size) (s : State) (note : Note) → MayStand size s note → all_in (after size s note) ≡ all_in s ++ kept_of (note ∷ [])
 noted size s (Kept offer NotAsked) may = by_here size s offer s.now refl may
 noted size s (Kept offer Free) may = ap (λ (os : List Offer). os ++ offer ∷ []) (by_retired s.done (status_of false s) s.now)

@@ -1,4 +1,4 @@
--- An arrival that passes stands among the notes of the member of its last try.
+-- An arrival that passes is among the notes of the member of its last try.
 use Rattle.std.proofs.Common.{◌≡◌, ℕ, zero, suc, ◌+◌, ◌%◌, ◌<◌, Bool, true, false, cond, not, ◌&&◌, ◌||◌, eqb, List, [], ◌∷◌, ◌++◌, get_or, inl, inr, refl, sym, ap, ◌∙◌, arith}
 use Rattle.std.specs.Prelude.{MatchBool, sum_by}
 use Rattle.std.specs.List.{list_any}

@@ -1,4 +1,5 @@
--- Each packet that a group reports is short enough for an output file: it was cut to the room of a block.
+-- Each packet that a group reports is short enough for an output file: it was cut to the room of a
+-- block.
 use Rattle.std.proofs.Common.{◌≡◌, ℕ, ◌<◌, ◌≤◌, Bool, List, [], ◌∷◌, length, get_or, Option, sym, subst, arith}
 use Rattle.std.specs.Prelude.{All, map}
 use Rattle.std.specs.List.{AllByRecursion}

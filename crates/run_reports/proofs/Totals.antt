@@ -1,4 +1,5 @@
--- The arrivals of a run over rings of blocks are those that the filter ended, those that members kept and those that they dropped.
+-- The arrivals of a run over rings of blocks are those that the filter ended, those that members
+-- kept and those that they dropped.
 use Rattle.std.proofs.Common.{◌≡◌, ℕ, ◌+◌, List, length, arith}
 use Rattle.capture_file.specs.declared.cpu_end.CpuEnd.{CpuEnd}
 use Rattle.ring_model.specs.Fates.{drops_of, kept_of, totals_of}

@@ -15,8 +15,8 @@ abbrev pub passes : Rules → ℕ → List Frame → Bool
 passes rules index arrivals =
     list_any (λ frame. (frame.index == index) && not (rules.verdict frame == 0)) arrivals
 
--- Among the Kept and Dropped notes of all members each arrival whose verdict isn't 0 stands once,
--- and nothing else stands there: such a note names a CPU and the index of a frame.
+-- Among the Kept and Dropped notes of all members each arrival whose verdict isn't 0 appears once,
+-- and nothing else appears there: such a note names a CPU and the index of a frame.
 abbrev pub EachArrivalStandsOnce : Rules → List Logged → List (List Note) → Type 0
 EachArrivalStandsOnce rules cpus members = (cpu index : ℕ) →
     times_settled cpu index members
@@ -28,7 +28,7 @@ abbrev pub ends_at : ℕ → ℕ → ArrivalLog → Bool
 ends_at member index entry =
     (entry.index == index) && (not (entry.verdict == 0) && (last_member 0 entry.tries == member))
 
--- it stands among the notes of one member: that of the last try of its route
+-- it is among the notes of one member: that of the last try of its route
 abbrev pub EachStandsAtItsLastTry : List Logged → List (List Note) → Type 0
 EachStandsAtItsLastTry cpus members = (cpu index member : ℕ) → member < length members →
     sum_by (settles cpu index) (slice_index_or members member [])

@@ -37,7 +37,7 @@ pub record IsReport (rules : Rules) (shape : RingRequest) (asked : Bool)
   pub members : All (IsMember shape asked) report.members
 
 -- The report of a run of a job whose CPUs' sources gave these bytes and ended so. It holds of every
--- command; what a command adds stands beside it.
+-- command; what a command adds has a record of its own.
 pub record IsRunReport (job : Job) (bytes : List (List ℕ)) (ends : List CpuEnd)
     (report : RunReport) : Type 0 where
   -- there is a log for each source: its `frames`, `given` and `end` are those of the bytes
@@ -48,8 +48,8 @@ pub record IsRunReport (job : Job) (bytes : List (List ℕ)) (ends : List CpuEnd
   -- the notes of each member are a whole run of its ring; `walked`, `dump` and `blocks` are those
   -- of the notes
   pub members : All (IsMember job.setup.shape job.setup.dump) report.members
-  -- each arrival whose verdict isn't 0 stands once among all Kept and Dropped notes, and nothing
-  -- else stands there
+  -- each arrival whose verdict isn't 0 appears once among all Kept and Dropped notes, and nothing
+  -- else appears there
   pub once : EachArrivalStandsOnce (rules_of job) (logged (arriving_of job bytes) report.cpus)
       (notes_of report.members)
   -- each packet is short enough for an output file

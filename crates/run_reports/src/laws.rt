@@ -30,8 +30,8 @@ pub fn a_group_s_packets_are_short()
         → AreShort report.members }
 {}
 
-/// Where logs are lawful and joined with notes, each arrival whose verdict isn't 0 stands once
-/// among all Kept and Dropped notes of all members, and nothing else stands there.
+/// Where logs are lawful and joined with notes, each arrival whose verdict isn't 0 appears once
+/// among all Kept and Dropped notes of all members, and nothing else appears there.
 pub fn each_arrival_stands_exactly_once()
     ensures { (rules : Rules) (room : ℕ) (cpus : List Logged) (members : List (List Note))
         → IsGroupReport rules room cpus members → EachArrivalStandsOnce rules cpus members }
@@ -72,7 +72,7 @@ pub fn a_member_with_blocks_left_dropped_nothing()
     a_ring_with_blocks_left_drops_nothing();
 }
 
-/// It stands among the notes of one member: that of the last try of its route.
+/// It is among the notes of one member: that of the last try of its route.
 pub fn each_arrival_stands_at_its_last_try()
     ensures { (rules : Rules) (room : ℕ) (cpus : List Logged) (members : List (List Note))
         → IsGroupReport rules room cpus members → EachStandsAtItsLastTry cpus members }

@@ -1,4 +1,5 @@
--- A request that passes for a receive ring passes for a transmit ring without what only the former has.
+-- A request that passes for a receive ring passes for a transmit ring without what only the former
+-- has.
 use Rattle.std.proofs.Common.{◌≡◌, ◌*◌, ◌/◌, ◌%◌, Bool, true, false, Option, None, Some, Ok, Err, refl, ap, ◌∙◌}
 use Rattle.std.specs.Prelude.{◌==◌, ◌||◌, not, nat_lt, if◌then◌else◌}
 use Rattle.tp_layout.specs.declared.requests.RingRequest.{RingRequest}

@@ -1,4 +1,4 @@
--- What the fields of a forwarder stand for.
+-- What the fields of a forwarder represent.
 use Rattle.std.specs.Prelude.{◌≡◌, ◌*◌, ◌^◌, ◌≤◌, length, take, None}
 use Rattle.reader_walk.specs.Readers.{walked_of}
 use Rattle.tap_forward.specs.Forwarders.{ForwarderValue}

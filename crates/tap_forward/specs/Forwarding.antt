@@ -10,7 +10,7 @@ abbrev pub is_sendable : ℕ → Packet → Bool
 is_sendable room packet =
     nat_le 14 (length (frame_of packet)) && nat_le (length (frame_of packet)) room
 
--- what is sent of a packet: its frame, as a packet that stands alone
+-- what is sent of a packet: its frame, as a packet on its own
 abbrev pub as_sent : Packet → Packet
 as_sent packet = plain_of (frame_of packet)
 

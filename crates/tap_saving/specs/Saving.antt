@@ -66,7 +66,7 @@ pub record Touches (old new : StoreSeen) (names : List (List ℕ)) : Type 0 wher
   pub others : KeepsAllBut old.held new.held names
   pub later : old.save_faults ≤ new.save_faults
 
--- no save failed: an exact store's count of faults of saving stands still
+-- no save failed: an exact store's count of failed saves is unchanged
 abbrev pub NoSaveFailed : StoreSeen → StoreSeen → Type 0
 NoSaveFailed old new = IsTrue old.exact → new.save_faults ≡ old.save_faults
 

@@ -15,7 +15,7 @@ static ADDED: [Row; 85] = [
     // unknown words, and those of no command
     ("blok 3\n", "setup line 6: unknown_word\n"),
     ("Tov 8\n", "setup line 6: unknown_word\n"),
-    // the number of values comes before a word that stood before
+    // the number of values is tested before a word that appeared before
     ("block_size\n", "setup line 6: bad_line\n"),
     ("block_size 1 2\n", "setup line 6: bad_line\n"),
     ("block_size x\n", "setup line 6: twice\n"),

@@ -73,7 +73,7 @@ static TOGETHER: [(Command, &[Row]); 7] = [
     ),
 ];
 
-/// `TOGETHER`, whose values stand in the proof of this function alone.
+/// `TOGETHER`, whose values appear only in this function's proof.
 fn all_together() -> &'static [(Command, &'static [Row])] {
     &TOGETHER
 }

@@ -179,7 +179,7 @@ pub(crate) fn printed_slots(
     summary(alloc, RingKind::Slots, 8, &report, None)
 }
 
-/// So many packets of 14 bytes.
+/// `count` packets of 14 bytes.
 fn packets(alloc: Global, count: usize) -> Result<Packets, Memory> {
     let mut packets = Packets::new(alloc);
     for _packet in 0..count {

@@ -12,7 +12,7 @@ use Rattle.tp_layout.specs.Layouts.{Taken}
 use Rattle.turn_lock.specs.Seats.{IsIdleSeatOf}
 
 module _ {T : Type 0} (base_of : T → Base) (taken_by : T → List Taken) where
-  -- a member that may be closed with these stands, and its reader: all its seats are handed in, and
+  -- a member that may be closed with these seats, and its reader: all its seats are handed in, and
   -- the reader has no block of its ring in hand, and didn't run out of memory
   pub record AreAtEnd (lock : Lock) (stands : List Seat) (walker : Walker T) : Type 0 where
     pub all : length stands ≡ lock.seats

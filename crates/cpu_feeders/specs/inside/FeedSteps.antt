@@ -30,9 +30,9 @@ pub record IsDrawing (dealer : DealerValue) (seat : SeatValue) : Type 0 where
 abbrev pub has_drawn_for : SeatValue → Option ℕ → SeatValue
 has_drawn_for seat ticket = record seat { drawn = seat.drawn ++ option_to_list ticket }
 
--- ---- its stands at the members
+-- ---- its seats at the members
 
--- a ready stand at each member, each of which entered so often at most
+-- a ready seat at each member, none of which has entered more often than this
 pub record AreStands (cpu most : ℕ) (locks : List Lock) (stands : List Seat) : Type 0 where
   pub count : length stands ≡ length locks
   pub ready : (member : ℕ) (lock : Lock) (stand : Seat) → member < length stands →
@@ -40,7 +40,7 @@ pub record AreStands (cpu most : ℕ) (locks : List Lock) (stands : List Seat) :
   pub entered : (member : ℕ) (stand : Seat) → member < length stands →
       (slice_index_or stands member stand).entered ≤ most
 
--- at each member the stand's own notes are those of the log's attempts
+-- at each member the seat's own notes are those of the log's attempts
 abbrev pub AreFedAt : Job → ℕ → List Frame → List ArrivalLog → List Lock → List Seat → Type 0
 AreFedAt job cpu arrivals log locks stands =
     (member : ℕ) (lock : Lock) (stand : Seat) → member < length stands →
@@ -92,7 +92,7 @@ pub record Awaits (job : Job) (locks : List Lock) (arrival : Frame) (feed : Feed
 
 -- ---- a delivery
 
--- what an arrival does to a stand: its tries there are made, or none where it offers nothing
+-- what an arrival does to a seat: its tries there are made, or none where it offers nothing
 abbrev pub IsTriedAs : Option Offer → List Fate → Lock → Seat → Seat → Type 0
 IsTriedAs None came lock before after = (came ≡ []) × (after ≡ before)
 IsTriedAs (Some offer) came lock before after = Tried offer came lock before after

@@ -17,7 +17,7 @@ pub record IsOpened (shape : RingRequest) (cpus : ℕ) (lock : Lock) (end : Walk
   pub first : lock.first ≡ []
   pub fresh : end ≡ fresh_walker end.id shape.block_nr (numbers_of shape)
 
--- the members of a job's group, each opened; the readers' ends of their rings; and the stands of
+-- the members of a job's group, each opened; the readers' ends of their rings; and the seats of
 -- each user: of each CPU from 0 up, and then of the timer
 pub record IsGroupOf (job : Job) (locks : List Lock) (ends : List Walking) (users : List (List Seat))
     : Type 0 where

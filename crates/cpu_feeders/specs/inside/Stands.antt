@@ -1,4 +1,5 @@
--- The stands of a run: each member has one for each user, and each user has one at each member.
+-- The seats at the members of a run: each member has one for each user, and each user has one at
+-- each member.
 use Rattle.std.specs.Prelude.{ℕ, zero, suc, ◌+◌, List, [], ◌∷◌, ◌++◌, map}
 use Rattle.member_turns.specs.Seats.{Lock, Seat}
 use Rattle.turn_lock.specs.Seats.{fresh_seat}
@@ -14,7 +15,7 @@ abbrev pub with_all : {A : Type 0} → List (List A) → List (List A) → List 
 with_all lists [] = lists
 with_all lists (column ∷ columns) = with_all (with_each lists column) columns
 
--- the fresh stands of a user at members with these locks
+-- the fresh seats of a user at members with these locks
 abbrev pub fresh_stands : List Lock → ℕ → List Seat
 fresh_stands locks number = map (λ lock. fresh_seat lock number) locks
 

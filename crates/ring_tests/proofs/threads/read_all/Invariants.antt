@@ -2,7 +2,7 @@ use Rattle.std.proofs.Common.{◌≡◌, ◌≤◌, false, None, length}
 use Rattle.tp_layout.specs.Requests.{numbers_of}
 use Rattle.ring_tests.proofs.threads.read_all.Given as goal
 
--- each look took a block at most, and no block is in hand
+-- each look took at most one block, and no block is in hand
 abbrev pub invariant-loop-look : goal.invariant-loop-look
 invariant-loop-look l = record {
   kind : l.walker.kind ≡ numbers_of l.reader.shape;

@@ -3,7 +3,7 @@ use Rattle.frame_view.specs.declared.frames.Packet.{Packet}
 use Rattle.tap_forward.specs.Sending.{IsGoing, WasGiven}
 use Rattle.tap_forward.proofs.sender.Sender.give_all.Given as goal
 
--- the packets that are counted were given, and at most so many were placed and skipped
+-- the packets that are counted were given, and at most that number was placed or skipped
 abbrev pub invariant-loop-given : goal.invariant-loop-given
 invariant-loop-given l = record {
   going : IsGoing l.self.ring;
