@@ -5,7 +5,7 @@ use Rattle.std.specs.Prelude.{nat_lt}
 use Rattle.std.proofs.lemmas.List.Concat.{flat_map-append}
 use Rattle.std.proofs.lemmas.List.Sums.{sum_by-append, sum_by-cons}
 use Rattle.ring_model.specs.Asking.{is_empty_block}
-use Rattle.ring_model.specs.Ring.{EndsThere, IsRun, IsWholeRun, MayStand, Size, State, after, after_all, after_due, after_drop, finished, first_state, open_count, retired, state_of, status_of, with_offer}
+use Rattle.ring_model.specs.Ring.{EndsThere, IsRun, IsWholeRun, MayFollow, Size, State, after, after_all, after_due, after_drop, finished, first_state, open_count, retired, state_of, status_of, with_offer}
 use Rattle.ring_model.specs.declared.notes.Found.{Found}
 use Rattle.ring_model.specs.declared.notes.Found.TheVariants.{NotAsked, Free, Held}
 use Rattle.ring_model.specs.declared.notes.Note.{Note}
@@ -70,15 +70,15 @@ held_few [] = omega arith
 held_few (note ∷ notes) = let all = sum_by-cons held_in note notes in let one = held_one note in let rest = held_few notes in omega arith
 
 run_push-from : (size : Size) (s : State) (notes : List Note) (note : Note) → IsOpenRun size s notes
-    → MayStand size (after_all size s notes) note → GoesOn note → IsOpenRun size s (notes ++ note ∷ [])
-run_push-from size s [] note run stands on = (stands, on, tt)
-run_push-from size s (first ∷ notes) note run stands on =
-    (run.0, run.1, run_push-from size (after size s first) notes note run.2 stands on)
+    → MayFollow size (after_all size s notes) note → GoesOn note → IsOpenRun size s (notes ++ note ∷ [])
+run_push-from size s [] note run may_follow on = (may_follow, on, tt)
+run_push-from size s (first ∷ notes) note run may_follow on =
+    (run.0, run.1, run_push-from size (after size s first) notes note run.2 may_follow on)
 
 -- one more note that may follow and doesn't close the ring
 pub run_push : (size : Size) (notes : List Note) (note : Note) → IsOpenRun size (first_state size) notes
-    → MayStand size (state_of size notes) note → GoesOn note → IsOpenRun size (first_state size) (notes ++ note ∷ [])
-run_push size notes note run stands on = run_push-from size (first_state size) notes note run stands on
+    → MayFollow size (state_of size notes) note → GoesOn note → IsOpenRun size (first_state size) (notes ++ note ∷ [])
+run_push size notes note run may_follow on = run_push-from size (first_state size) notes note run may_follow on
 
 ends_later : (note : Note) (notes : List Note) → GoesOn note → EndsThere note notes
 ends_later (Kept offer found) notes on = tt

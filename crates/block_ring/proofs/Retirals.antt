@@ -10,7 +10,7 @@ use Rattle.block_ring.specs.Machines.{HoldsText, IsAt, offers_of, retire_now, te
 use Rattle.block_ring.specs.declared.machine.Machine.{Machine}
 use Rattle.block_ring.specs.OpenBlocks.{OpenText}
 use Rattle.block_ring.specs.declared.open_block.OpenBlock.{OpenBlock}
-use Rattle.block_ring.specs.Texts.{AreTexts, StandsForTexts}
+use Rattle.block_ring.specs.Texts.{AreTexts, RepresentsTexts}
 
 drop_push : {X : Type 0} (count : ℕ) (all : List X) (x : X) → count ≤ length all → drop count (all ++ x ∷ []) ≡ drop count all ++ x ∷ []
 drop_push zero all x within = refl
@@ -29,21 +29,21 @@ texts_push shape number last (e ∷ entries) (b ∷ done) entry block all at tex
     (all.0, all.1, texts_push shape (number + 1) last entries done entry block all.2 (omega arith) text status)
 
 -- the end's list with the entry after it, given that the end reported retiring it
-pub stands_push : (shape : RingRequest) (done : List (List Offer × ℕ)) (before after : Feed) (entry : Entry) (block : List Offer × ℕ) (last : ℕ)
-    → StandsForTexts shape done before → after.retired ≡ before.retired + 1 → after.passed ≡ before.passed
+pub represents_push : (shape : RingRequest) (done : List (List Offer × ℕ)) (before after : Feed) (entry : Entry) (block : List Offer × ℕ) (last : ℕ)
+    → RepresentsTexts shape done before → after.retired ≡ before.retired + 1 → after.passed ≡ before.passed
     → after.shown ≡ before.shown ++ entry ∷ [] → 1 + length done ≡ last
     → BeginsWith shape last block.1 (packets_of_offers shape block.0) entry.0 → entry.1 ≡ block.1
-    → StandsForTexts shape (done ++ block ∷ []) after
-stands_push shape done before after entry block last (all, stands, texts) retired passed shown at text status =
+    → RepresentsTexts shape (done ++ block ∷ []) after
+represents_push shape done before after entry block last (all, represents, texts) retired passed shown at text status =
     let more = length-append all (entry ∷ []) in
-    let count = stands.count in
-    let front = stands.front in
+    let count = represents.count in
+    let front = represents.front in
     let within : before.passed ≤ length all = omega arith in (
       all ++ entry ∷ [],
       record {
         count = omega arith;
         front = omega arith;
-        rest = rw (passed, shown) (drop_push before.passed all entry within ∙ ap (λ es. es ++ entry ∷ []) stands.rest);
+        rest = rw (passed, shown) (drop_push before.passed all entry within ∙ ap (λ es. es ++ entry ∷ []) represents.rest);
       },
       texts_push shape 1 last all done entry block texts at text status,
     )
@@ -51,16 +51,16 @@ stands_push shape done before after entry block last (all, stands, texts) retire
 -- the open block is retired with its text
 pub retired_texts : (shape : RingRequest) (done : List (List Offer × ℕ)) (now : Option (List Offer)) (text : OpenText) (current : OpenBlock)
     (before after : Feed) (content : List ℕ) (status : ℕ)
-    → HoldsText shape text now (Some current) → StandsForTexts shape done before
+    → HoldsText shape text now (Some current) → RepresentsTexts shape done before
     → after ≡ record before { retired = before.retired + 1; shown = before.shown ++ (content, status) ∷ [] }
     → BeginsWith shape (length done + 1) status (packets_of_offers shape (offers_of now)) content
-    → StandsForTexts shape (retired done status now) after
+    → RepresentsTexts shape (retired done status now) after
     × (length (retired done status now) ≡ length done + 1)
     × (open_count now ≡ 1)
-retired_texts shape done None text current before after content status holds stands retires begins = elim holds [ ]
-retired_texts shape done (Some offers) text current before after content status holds stands retires begins =
+retired_texts shape done None text current before after content status holds represents retires begins = elim holds [ ]
+retired_texts shape done (Some offers) text current before after content status holds represents retires begins =
     let count = length-append done ((offers, status) ∷ []) in (
-      stands_push shape done before after (content, status) (offers, status) (length done + 1) stands
+      represents_push shape done before after (content, status) (offers, status) (length done + 1) represents
           (ap (λ (feed : Feed). feed.retired) retires) (ap (λ (feed : Feed). feed.passed) retires)
           (ap (λ (feed : Feed). feed.shown) retires) (omega arith) begins refl,
       omega arith,
@@ -82,7 +82,7 @@ retired_at feed in_hand state machine block timed_out after content status at cu
     subst (λ b. HoldsText machine.shape (text_of state) state.now b) current at.now_is in
     let both = retired_texts machine.shape state.done state.now (text_of state) block (feed machine.end) (feed after) content status
     holds at.texts retires begins in
-    let texts = subst (λ s. StandsForTexts machine.shape (retired state.done s state.now) (feed after)) status_is both.0 in
+    let texts = subst (λ s. RepresentsTexts machine.shape (retired state.done s state.now) (feed after)) status_is both.0 in
     let count = subst (λ s. length (retired state.done s state.now) ≡ length state.done + 1) status_is both.1 in
     let one = both.2 in
     let opened = at.opened in

@@ -67,7 +67,7 @@ module _ {E : Type 0} (feed : E → Feed) (given inside before after_it : Produc
       record {
         shape = there.shape;
         notes = there.notes;
-        stands = there.stands;
+        may_follow = there.may_follow;
         texts = there.texts;
         looks = there.looks;
         numbers = there.numbers;
@@ -107,7 +107,7 @@ module _ {E : Type 0} (feed : E → Feed) (before after_it : Machine E) (notes :
       → Keeps feed (record after_it { notes = new_notes }) items room_after
   kept_on new_notes items pushed last few = rw pushed (record {
     at = at_notes feed _ after_it new_notes at_after;
-    run = rw step.shape (run_push (size_of before.shape) notes note keeps.run step.stands on);
+    run = rw step.shape (run_push (size_of before.shape) notes note keeps.run step.may_follow on);
     looks = looks_after;
     numbers = numbers;
     last = (let more = length-append notes (note ∷ []) in omega arith);
@@ -122,7 +122,7 @@ module _ {E : Type 0} (feed : E → Feed) (before after_it : Machine E) (notes :
   added spare spare_after items less pushed = rw pushed (record {
     shape = step.shape;
     notes = refl;
-    stands = step.stands;
+    may_follow = step.may_follow;
     texts = at_after.texts;
     looks = looks_after;
     numbers = numbers;

@@ -1,14 +1,14 @@
 -- The machine of a ring at a state of its notes.
 use Rattle.std.specs.Prelude.{◌≡◌, ℕ, ◌+◌, ◌^◌, ◌≤◌, Bool, List, [], ◌∷◌, length, Option, None}
 use Rattle.std.specs.Prelude.{Some}
-use Rattle.ring_model.specs.Ring.{MayStand, Size, State, after, open_count, retired, status_of}
+use Rattle.ring_model.specs.Ring.{MayFollow, Size, State, after, open_count, retired, status_of}
 use Rattle.ring_model.specs.declared.notes.Note.{Note}
 use Rattle.ring_model.specs.declared.notes.Offer.{Offer}
 use Rattle.ring_words.specs.Rings.{Feed}
 use Rattle.tp_layout.specs.Requests.{numbers_of, size_of}
 use Rattle.tp_layout.specs.declared.requests.RingRequest.{RingRequest}
 use Rattle.block_ring.specs.OpenBlocks.{Holds, OpenText}
-use Rattle.block_ring.specs.Texts.{StandsForTexts}
+use Rattle.block_ring.specs.Texts.{RepresentsTexts}
 use Rattle.block_ring.specs.declared.machine.Machine.{Machine}
 use Rattle.block_ring.specs.declared.open_block.OpenBlock.{OpenBlock}
 
@@ -37,7 +37,7 @@ pub record IsAt {E : Type 0} (feed : E → Feed) (in_hand : ℕ) (state : State)
   pub given : (feed machine.end).given ≡ machine.opened + in_hand
   pub retired_is : (feed machine.end).retired ≡ length state.done
   pub opened : machine.opened ≡ length state.done + open_count state.now
-  pub texts : StandsForTexts machine.shape state.done (feed machine.end)
+  pub texts : RepresentsTexts machine.shape state.done (feed machine.end)
   pub now_is : HoldsText machine.shape (text_of state) state.now machine.current
   pub clock_is : machine.clock ≡ state.clock
   pub deadline_is : machine.deadline ≡ state.deadline
@@ -61,7 +61,7 @@ pub record KeepsEnd (before after : Feed) : Type 0 where
 pub record Stepped {E : Type 0} (feed : E → Feed) (old_state : State) (note : Note)
     (before after_it : Machine E) : Type 0 where
   pub at : IsAt feed 0 (after (size_of before.shape) old_state note) after_it
-  pub stands : MayStand (size_of before.shape) old_state note
+  pub may_follow : MayFollow (size_of before.shape) old_state note
   pub end : KeepsEnd (feed before.end) (feed after_it.end)
   pub shape : after_it.shape ≡ before.shape
 

@@ -1,7 +1,7 @@
 -- A ring that frames are put into, as contracts see it.
 use Rattle.std.specs.Prelude.{◌≡◌, ℕ, ◌+◌, ◌<◌, ◌≤◌, List, [], ◌∷◌, ◌++◌, length, Some}
 use Rattle.ring_model.specs.Asking.{found_for, put_by, tick_note, try_by}
-use Rattle.ring_model.specs.Ring.{MayStand, Size, State, after, first_state, state_of}
+use Rattle.ring_model.specs.Ring.{MayFollow, Size, State, after, first_state, state_of}
 use Rattle.ring_model.specs.Sizes.{need_of}
 use Rattle.ring_model.specs.Told.{put_told, try_told}
 use Rattle.ring_model.specs.declared.notes.Found.{Found}
@@ -16,7 +16,7 @@ use Rattle.tp_layout.specs.Requests.{size_of}
 use Rattle.tp_layout.specs.declared.requests.RingRequest.{RingRequest}
 use Rattle.block_ring.specs.Machines.{IsAt, IsFew, KeepsEnd}
 use Rattle.block_ring.specs.Noting.{CountsHeld, FoundAsNoted, WasHeld, found_with, held_count}
-use Rattle.block_ring.specs.Texts.{StandsForTexts}
+use Rattle.block_ring.specs.Texts.{RepresentsTexts}
 use Rattle.block_ring.specs.declared.machine.Machine.{Machine}
 
 pub record Producing (E : Type 0) : Type 0 where
@@ -50,8 +50,8 @@ pub record Adds {E : Type 0} (feed : E → Feed) (before after : Producing E) (n
     : Type 0 where
   pub shape : after.shape ≡ before.shape
   pub notes : after.notes ≡ before.notes ++ note ∷ []
-  pub stands : MayStand (size before) (state before) note
-  pub texts : StandsForTexts after.shape (state after).done (feed after.end)
+  pub may_follow : MayFollow (size before) (state before) note
+  pub texts : RepresentsTexts after.shape (state after).done (feed after.end)
   pub looks : held_count after.notes ≤ (feed after.end).holds
   pub numbers : FoundAsNoted after.notes (feed after.end).found
   pub spare : before.spare ≤ after.spare + 1
@@ -103,7 +103,7 @@ GoesOn note = Unit {0}
 abbrev pub IsOpenRun : Size → State → List Note → Type 0
 IsOpenRun size state [] = Unit {0}
 IsOpenRun size state (note ∷ notes) =
-    MayStand size state note × GoesOn note × IsOpenRun size (after size state note) notes
+    MayFollow size state note × GoesOn note × IsOpenRun size (after size state note) notes
 
 -- what the fields of a ring keep
 pub record Keeps {E : Type 0} (feed : E → Feed) (machine : Machine E) (notes : List Note) (room : ℕ)

@@ -1,7 +1,7 @@
 -- The texts of a ring's retired blocks.
 use Rattle.std.specs.Prelude.{◌≡◌, ℕ, ◌+◌, List, [], ◌∷◌}
 use Rattle.ring_model.specs.declared.notes.Offer.{Offer}
-use Rattle.ring_words.specs.Rings.{Entry, Feed, StandsFor}
+use Rattle.ring_words.specs.Rings.{Entry, Feed, RepresentsBlocks}
 use Rattle.tp_layout.specs.Blocks.{BeginsWith}
 use Rattle.tp_layout.specs.Dump.{packets_of_offers}
 use Rattle.tp_layout.specs.declared.requests.RingRequest.{RingRequest}
@@ -18,5 +18,6 @@ AreTexts shape number (entry ∷ entries) (block ∷ done) =
     × AreTexts shape (number + 1) entries done
 
 -- an end represents the texts of retired blocks
-abbrev pub StandsForTexts : RingRequest → List (List Offer × ℕ) → Feed → Type 0
-StandsForTexts shape done feed = (all : List Entry) × StandsFor feed all × AreTexts shape 1 all done
+abbrev pub RepresentsTexts : RingRequest → List (List Offer × ℕ) → Feed → Type 0
+RepresentsTexts shape done feed =
+    (all : List Entry) × RepresentsBlocks feed all × AreTexts shape 1 all done

@@ -21,7 +21,7 @@ ghost use Rattle.std.specs.Prelude.{None, Some};
 ghost use Rattle.ring_model.specs.Asking.{found_for, has_room, is_empty_block, look, put_by};
 ghost use Rattle.ring_model.specs.Asking.{tick_note, try_by};
 ghost use Rattle.ring_model.specs.Fates.{stats_of};
-ghost use Rattle.ring_model.specs.Ring.{HasRoom, MayStand, State, after, after_due, first_state};
+ghost use Rattle.ring_model.specs.Ring.{HasRoom, MayFollow, State, after, after_due, first_state};
 ghost use Rattle.ring_model.specs.Ring.{open_count, status_of};
 ghost use Rattle.ring_model.specs.Sizes.{need_of};
 ghost use Rattle.ring_model.specs.declared.notes.Found.TheVariants as found;
@@ -68,7 +68,7 @@ pub(crate) struct Machine<E> {
 impl<E: FeederEnd<Block> + Drop> Machine<E> {
     ghost use Rattle.block_ring.specs.Machines.{At, IsAt, IsFew, IsFresh, KeepsEnd, keep_first};
     ghost use Rattle.block_ring.specs.Machines.{open_next, retire_now};
-    ghost use Rattle.block_ring.specs.Texts.{StandsForTexts};
+    ghost use Rattle.block_ring.specs.Texts.{RepresentsTexts};
 
     /// A machine with block 1 open. The end is fresh, so its first look finds that block free.
     pub(crate) fn new(shape: Shape, mut end: E, notes: Vec<Note>) -> Machine<E>
@@ -108,7 +108,7 @@ impl<E: FeederEnd<Block> + Drop> Machine<E> {
         requires writable { IsWritable offer.now }
         ensures at { IsAt E.feed 0
             (after (size_of self.old.shape) state (put_by offer.now result)) self.new }
-        ensures stands { MayStand (size_of self.old.shape) state (put_by offer.now result) }
+        ensures may_follow { MayFollow (size_of self.old.shape) state (put_by offer.now result) }
         ensures looked { WasHeld result
             (Rose (E.feed self.old.end).holds (E.feed self.new.end).holds) }
         ensures count { CountsHeld result
@@ -147,7 +147,7 @@ impl<E: FeederEnd<Block> + Drop> Machine<E> {
         requires writable { IsWritable offer.now }
         ensures at { IsAt E.feed 0
             (after (size_of self.old.shape) state (try_by offer.now result)) self.new }
-        ensures stands { MayStand (size_of self.old.shape) state (try_by offer.now result) }
+        ensures may_follow { MayFollow (size_of self.old.shape) state (try_by offer.now result) }
         ensures looked { WasHeld result
             (Rose (E.feed self.old.end).holds (E.feed self.new.end).holds) }
         ensures count { CountsHeld result
@@ -182,7 +182,7 @@ impl<E: FeederEnd<Block> + Drop> Machine<E> {
         requires small { ms ≤ 2 ^ 63 }
         ensures at { IsAt E.feed 0
             (after (size_of self.old.shape) state (notes.Ticked ms result)) self.new }
-        ensures stands { MayStand (size_of self.old.shape) state (notes.Ticked ms result) }
+        ensures may_follow { MayFollow (size_of self.old.shape) state (notes.Ticked ms result) }
         ensures looked { WasHeld result
             (Rose (E.feed self.old.end).holds (E.feed self.new.end).holds) }
         ensures count { CountsHeld result
@@ -289,7 +289,7 @@ impl<E: FeederEnd<Block> + Drop> Machine<E> {
         ghost state: { State }
         requires at { IsAt E.feed 0 state self }
         requires few { IsFew self }
-        ensures texts { StandsForTexts self.shape
+        ensures texts { RepresentsTexts self.shape
             (after (size_of self.shape) state notes.Finished).done (E.feed result.0) }
         ensures end { KeepsEnd (E.feed self.end) (E.feed result.0) }
         ensures holds { (E.feed result.0).holds ≡ (E.feed self.end).holds }

@@ -49,7 +49,7 @@ impl<E: FeederEnd<Block> + Drop> Producer<E> {
     ghost use Rattle.block_ring.specs.Machines.{IsFresh, KeepsEnd};
     ghost use Rattle.block_ring.specs.Noting.{FoundAsNoted, held_count};
     ghost use Rattle.block_ring.specs.Producing.{Adds, Opens, Puts, Stays, Ticks, Tries, state};
-    ghost use Rattle.block_ring.specs.Texts.{StandsForTexts};
+    ghost use Rattle.block_ring.specs.Texts.{RepresentsTexts};
     ghost use Rattle.block_ring.specs.Ticking.{IsBackwardsFrom};
     ghost use Rattle.block_ring.specs.declared.error.TickError.{TickError};
     ghost use Rattle.block_ring.specs.declared.error.TickError.TheVariants.{Backwards};
@@ -168,7 +168,7 @@ impl<E: FeederEnd<Block> + Drop> Producer<E> {
     pub fn finish(self) -> (E, Notes)
         ensures notes { result.1 ≡ self.notes ++ Finished ∷ [] }
         ensures run { IsWholeRun (size_of self.shape) result.1 }
-        ensures texts { StandsForTexts self.shape
+        ensures texts { RepresentsTexts self.shape
             (state_of (size_of self.shape) result.1).done (E.feed result.0) }
         ensures looks { held_count result.1 ≤ (E.feed result.0).holds }
         ensures numbers { FoundAsNoted result.1 (E.feed result.0).found }

@@ -7,7 +7,7 @@ use Rattle.std.proofs.lemmas.Bool.Decides.{Decides-eqb, nat_tests}
 use Rattle.bpf_filter.specs.declared.insn.Insn.{Insn}
 use Rattle.bpf_filter.specs.Codes.{State, Next, Answers, GoesOn, Effect, absolute, bits_and, bits_or, bits_xor, codes, difference, effect, effect_from, header_length, is_at_least, is_equal, is_greater, left_shift, load_a, load_x, number_at, product, quotient, remainder, right_shift, shares_bit, sum}
 use Rattle.bpf_filter.specs.Programs.{IsRunnable, has_bad_jump, is_among}
-use Rattle.bpf_filter.specs.Sight.{Sight}
+use Rattle.bpf_filter.specs.PacketFacts.{PacketFacts}
 use Rattle.bpf_filter.specs.Tables.{item_at}
 
 abbrev pub is_return : ℕ → Bool
@@ -31,7 +31,7 @@ Leads behind (GoesOn skip s) = skip < behind
 -- ---- what each row of the table does
 
 abbrev IsRow : ℕ × Effect → Type 0
-IsRow row = (behind : ℕ) (i : Insn) (p : Sight) (s : State) → row.0 ≡ i.code → Fits behind i → Leads behind (row.1 i p s)
+IsRow row = (behind : ℕ) (i : Insn) (p : PacketFacts) (s : State) → row.0 ≡ i.code → Fits behind i → Leads behind (row.1 i p s)
 
 -- an instruction that isn't a return isn't the last one
 some_behind : (code behind : ℕ) (i : Insn) → is_return code ≡ false → code ≡ i.code → Fits behind i → 0 < behind
@@ -41,7 +41,7 @@ some_behind code zero i h e f =
 some_behind code (suc behind) i h e f = omega arith
 
 next_row : (code : ℕ) (does : Effect) → is_return code ≡ false
-    → ((behind : ℕ) (i : Insn) (p : Sight) (s : State) → 0 < behind → Leads behind (does i p s)) → IsRow (code, does)
+    → ((behind : ℕ) (i : Insn) (p : PacketFacts) (s : State) → 0 < behind → Leads behind (does i p s)) → IsRow (code, does)
 next_row code does h leads behind i p s e f = leads behind i p s (some_behind code behind i h e f)
 
 load_a_leads : (number : Option ℕ) (behind : ℕ) (s : State) → 0 < behind → Leads behind (load_a number s)
@@ -52,11 +52,11 @@ load_x_leads : (number : Option ℕ) (behind : ℕ) (s : State) → 0 < behind �
 load_x_leads None behind s h = tt
 load_x_leads (Some number) behind s h = h
 
-to_a : (code : ℕ) (number : Insn → Sight → State → Option ℕ) → is_return code ≡ false → IsRow (code, λ i p s. load_a (number i p s) s)
+to_a : (code : ℕ) (number : Insn → PacketFacts → State → Option ℕ) → is_return code ≡ false → IsRow (code, λ i p s. load_a (number i p s) s)
 to_a code number h =
     next_row code (λ i p s. load_a (number i p s) s) h (λ behind i p s l. load_a_leads (number i p s) behind s l)
 
-to_x : (code : ℕ) (number : Insn → Sight → State → Option ℕ) → is_return code ≡ false → IsRow (code, λ i p s. load_x (number i p s) s)
+to_x : (code : ℕ) (number : Insn → PacketFacts → State → Option ℕ) → is_return code ≡ false → IsRow (code, λ i p s. load_x (number i p s) s)
 to_x code number h =
     next_row code (λ i p s. load_x (number i p s) s) h (λ behind i p s l. load_x_leads (number i p s) behind s l)
 
@@ -108,7 +108,7 @@ unfolding codes
 rows =
     (to_a 0x00 (λ i p s. Some i.k) refl, (to_a 0x20 (λ i p s. absolute 4 i.k p) refl, (to_a 0x28 (λ i p s. absolute 2 i.k p) refl, (to_a 0x30 (λ i p s. absolute 1 i.k p) refl, (to_a 0x40 (λ i p s. number_at 4 (s.x + i.k) p.bytes) refl, (to_a 0x48 (λ i p s. number_at 2 (s.x + i.k) p.bytes) refl, (to_a 0x50 (λ i p s. number_at 1 (s.x + i.k) p.bytes) refl, (to_a 0x60 (λ i p s. Some (slice_index s.memory i.k)) refl, (to_a 0x80 (λ i p s. Some p.wire) refl, (to_x 0x01 (λ i p s. Some i.k) refl, (to_x 0x61 (λ i p s. Some (slice_index s.memory i.k)) refl, (to_x 0x81 (λ i p s. Some p.wire) refl, (to_x 0xb1 (λ i p s. option_map header_length (number_at 1 i.k p.bytes)) refl, (to_word 0x02 (λ s. s.a) refl, (to_word 0x03 (λ s. s.x) refl, (to_a 0x84 (λ i p s. difference 0 s.a) refl, (by_k 0x04 sum refl, (by_x 0x0c sum refl, (by_k 0x14 difference refl, (by_x 0x1c difference refl, (by_k 0x24 product refl, (by_x 0x2c product refl, (by_k 0x34 quotient refl, (by_x 0x3c quotient refl, (by_k 0x44 bits_or refl, (by_x 0x4c bits_or refl, (by_k 0x54 bits_and refl, (by_x 0x5c bits_and refl, (by_k 0x64 left_shift refl, (by_x 0x6c left_shift refl, (by_k 0x74 right_shift refl, (by_x 0x7c right_shift refl, (by_k 0x94 remainder refl, (by_x 0x9c remainder refl, (by_k 0xa4 bits_xor refl, (by_x 0xac bits_xor refl, (always, (branch_k 0x15 is_equal refl, (branch_x 0x1d is_equal refl, (branch_k 0x25 is_greater refl, (branch_x 0x2d is_greater refl, (branch_k 0x35 is_at_least refl, (branch_x 0x3d is_at_least refl, (branch_k 0x45 shares_bit refl, (branch_x 0x4d shares_bit refl, (returns_k, (returns_a, (to_x 0x07 (λ i p s. Some s.a) refl, (to_a 0x87 (λ i p s. Some s.x) refl, tt)))))))))))))))))))))))))))))))))))))))))))))))))
 
-by_row : (rows : List (ℕ × Effect)) (behind : ℕ) (i : Insn) (p : Sight) (s : State) → AllByRecursion IsRow rows → Fits behind i
+by_row : (rows : List (ℕ × Effect)) (behind : ℕ) (i : Insn) (p : PacketFacts) (s : State) → AllByRecursion IsRow rows → Fits behind i
     → Leads behind (effect_from (item_at rows i.code) i p s)
 by_row [] behind i p s h f = tt
 by_row (row ∷ rows) behind i p s h f = by_test (row.0 == i.code) refl (by_row rows behind i p s h.1 f)
@@ -120,10 +120,10 @@ by_row (row ∷ rows) behind i p s h f = by_test (row.0 == i.code) refl (by_row 
 
 -- ---- what a step does
 
-pub effect_leads : (behind : ℕ) (i : Insn) (p : Sight) (s : State) → Fits behind i → Leads behind (effect i p s)
+pub effect_leads : (behind : ℕ) (i : Insn) (p : PacketFacts) (s : State) → Fits behind i → Leads behind (effect i p s)
 effect_leads behind i p s f = by_row codes behind i p s rows f
 
-pub skip_inside : (behind : ℕ) (i : Insn) (p : Sight) (s : State) (skip : ℕ) (next : State) → Fits behind i → GoesOn skip next ≡ effect i p s → skip < behind
+pub skip_inside : (behind : ℕ) (i : Insn) (p : PacketFacts) (s : State) (skip : ℕ) (next : State) → Fits behind i → GoesOn skip next ≡ effect i p s → skip < behind
 skip_inside behind i p s skip next f e = subst (Leads behind) (sym e) (effect_leads behind i p s f)
 
 -- ---- the instructions of an accepted program

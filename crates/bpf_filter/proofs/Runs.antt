@@ -7,11 +7,11 @@ use Rattle.bpf_filter.specs.Codes.{State, Next, Answers, GoesOn, effect}
 use Rattle.bpf_filter.proofs.Checks.{accepted_fit, accepted_some}
 use Rattle.bpf_filter.proofs.Leads.{AllFit, Fits, skip_inside}
 use Rattle.bpf_filter.specs.Programs.{program_of}
-use Rattle.bpf_filter.specs.Sight.{Sight}
+use Rattle.bpf_filter.specs.PacketFacts.{PacketFacts}
 use Rattle.bpf_filter.specs.Verdict.{go, follow, verdict_of, first_state}
 
 -- skipping instructions is leaving them out
-pub go-drop : (program : List Insn) (skip : ℕ) (p : Sight) (s : State) → go program skip p s ≡ go (drop skip program) 0 p s
+pub go-drop : (program : List Insn) (skip : ℕ) (p : PacketFacts) (s : State) → go program skip p s ≡ go (drop skip program) 0 p s
 unfolding go
 go-drop [] zero p s = refl
 go-drop [] (suc skip) p s = refl
@@ -42,7 +42,7 @@ follow-same (Answers number) behind other h = refl
 follow-same (GoesOn skip s) behind other h = h skip s
 
 -- one step of the counter
-go-step : (code : List Insn) (at : ℕ) (insn : Insn) (p : Sight) (s : State) → At code at insn → go (drop at code) 0 p s ≡ follow (effect insn p s) (λ skip next. go (drop (at + (1 + skip)) code) 0 p next)
+go-step : (code : List Insn) (at : ℕ) (insn : Insn) (p : PacketFacts) (s : State) → At code at insn → go (drop at code) 0 p s ≡ follow (effect insn p s) (λ skip next. go (drop (at + (1 + skip)) code) 0 p next)
 unfolding go
 go-step code at insn p s a =
     ap (λ program. go program 0 p s) a.here
@@ -53,19 +53,19 @@ go-step code at insn p s a =
     ∙ ap (λ n. go (drop n code) 0 p s) (omega arith))
 
 -- the instructions from the counter on give the verdict, and there is one
-pub record Goes (code : List Insn) (at : ℕ) (p : Sight) (s : State) : Type 0 where
+pub record Goes (code : List Insn) (at : ℕ) (p : PacketFacts) (s : State) : Type 0 where
   pub same : go (drop at code) 0 p s ≡ verdict_of code p
   pub inside : at < length code
 
-pub goes_first : (code : List Insn) (p : Sight) (s : State) → program_of code ≡ Ok code → s ≡ first_state → Goes code 0 p s
+pub goes_first : (code : List Insn) (p : PacketFacts) (s : State) → program_of code ≡ Ok code → s ≡ first_state → Goes code 0 p s
 unfolding verdict_of
 goes_first code p s h e = record { same = ap (λ s. go code 0 p s) e; inside = accepted_some code h }
 
-pub goes_to_answer : (code : List Insn) (at : ℕ) (insn : Insn) (p : Sight) (s : State) (answer : ℕ) → Goes code at p s → At code at insn → Answers answer ≡ effect insn p s → answer ≡ verdict_of code p
+pub goes_to_answer : (code : List Insn) (at : ℕ) (insn : Insn) (p : PacketFacts) (s : State) (answer : ℕ) → Goes code at p s → At code at insn → Answers answer ≡ effect insn p s → answer ≡ verdict_of code p
 goes_to_answer code at insn p s answer g a e =
     ap (λ next. follow next (λ skip next. go (drop (at + (1 + skip)) code) 0 p next)) e ∙ sym (go-step code at insn p s a) ∙ g.same
 
-goes_on : (code : List Insn) (at : ℕ) (insn : Insn) (p : Sight) (s : State) (skip : ℕ) (next : State) → Goes code at p s → At code at insn → GoesOn skip next ≡ effect insn p s → Goes code (at + (1 + skip)) p next
+goes_on : (code : List Insn) (at : ℕ) (insn : Insn) (p : PacketFacts) (s : State) (skip : ℕ) (next : State) → Goes code at p s → At code at insn → GoesOn skip next ≡ effect insn p s → Goes code (at + (1 + skip)) p next
 goes_on code at insn p s skip next g a e = record {
   same = ap (λ next. follow next (λ skip next. go (drop (at + (1 + skip)) code) 0 p next)) e
       ∙ sym (go-step code at insn p s a) ∙ g.same;
@@ -73,7 +73,7 @@ goes_on code at insn p s skip next g a e = record {
 }
 
 -- a step by one or more instructions
-pub goes_further : (code : List Insn) (at : ℕ) (insn : Insn) (p : Sight) (s : State) (further : ℕ) (next : State) → Goes code at p s → At code at insn → 0 < further → GoesOn (further - 1) next ≡ effect insn p s → Goes code (at + further) p next
+pub goes_further : (code : List Insn) (at : ℕ) (insn : Insn) (p : PacketFacts) (s : State) (further : ℕ) (next : State) → Goes code at p s → At code at insn → 0 < further → GoesOn (further - 1) next ≡ effect insn p s → Goes code (at + further) p next
 goes_further code at insn p s further next g a l e =
     let same : at + (1 + (further - 1)) ≡ at + further = omega arith in
     subst (λ at. Goes code at p next) same (goes_on code at insn p s (further - 1) next g a e)

@@ -6,7 +6,7 @@ use Rattle.std.specs.Prelude.{if◌then◌else◌, bit_and, bit_or, bit_xor, Opt
 use Rattle.std.specs.List.{fold}
 use Rattle.std.specs.Option.{option_map, option_or}
 use Rattle.bpf_filter.specs.declared.insn.Insn.{Insn}
-use Rattle.bpf_filter.specs.Sight.{Sight}
+use Rattle.bpf_filter.specs.PacketFacts.{PacketFacts}
 use Rattle.bpf_filter.specs.Tables.{item_at}
 
 -- the accumulator, the index register and the sixteen memory words, each of 32 bits
@@ -23,7 +23,7 @@ pub data Next : Type 0 where
 
 -- what an instruction does with a packet and a state
 abbrev pub Effect : Type 0
-Effect = Insn → Sight → State → Next
+Effect = Insn → PacketFacts → State → Next
 
 -- ---- loads
 
@@ -35,7 +35,7 @@ number_at size place bytes =
     else None
 
 -- the places from 0xfffff000 (SKF_AD_OFF) on that mean something other than bytes
-abbrev pub ancillary : List (ℕ × (Sight → ℕ))
+abbrev pub ancillary : List (ℕ × (PacketFacts → ℕ))
 ancillary =
     (0xfffff000, λ p. p.protocol)  -- SKF_AD_PROTOCOL
     ∷ (0xfffff004, λ p. p.pkttype)  -- SKF_AD_PKTTYPE
@@ -47,7 +47,7 @@ ancillary =
     ∷ []
 
 -- the number at a place of the packet; an ancillary number is given whole, whatever the size
-abbrev pub absolute : ℕ → ℕ → Sight → Option ℕ
+abbrev pub absolute : ℕ → ℕ → PacketFacts → Option ℕ
 absolute size place p =
     option_or (option_map (λ fact. fact p) (item_at ancillary place)) (number_at size place p.bytes)
 

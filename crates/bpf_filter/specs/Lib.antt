@@ -2,7 +2,7 @@ pub mod Answers
 pub mod Codes
 pub mod Listings
 pub mod Programs
-pub mod Sight
+pub mod PacketFacts
 pub mod Tables
 pub mod Verdict
 pub mod Words

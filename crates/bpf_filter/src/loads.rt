@@ -3,7 +3,7 @@ ghost use Rattle.std.specs.Prelude.{◌≡◌, ◌+◌, is_some};
 ghost use Rattle.std.specs.Option.{option_map};
 ghost use Rattle.bpf_filter.specs.Codes.{absolute, ancillary, header_length, number_at};
 ghost use Rattle.bpf_filter.specs.inside.Machines.{bytes_of};
-ghost use Rattle.bpf_filter.specs.Sight.{sight_of};
+ghost use Rattle.bpf_filter.specs.PacketFacts.{facts_of};
 ghost use Rattle.bpf_filter.specs.Tables.{item_at};
 
 use crate::packets::Seen;
@@ -33,7 +33,7 @@ pub(crate) enum Size {
 /// there. `None` if some of these bytes are missing.
 #[inline]
 pub(crate) fn absolute(size: Size, place: u32, packet: &Seen<'_>) -> Option<u32>
-    ensures { result ≡ absolute (bytes_of size) place (sight_of packet.now) }
+    ensures { result ≡ absolute (bytes_of size) place (facts_of packet.now) }
 {
     if place >= ANCILLARY {
         if let Some(number) = fact(place, packet) {
@@ -45,7 +45,7 @@ pub(crate) fn absolute(size: Size, place: u32, packet: &Seen<'_>) -> Option<u32>
 
 /// The fact beside a packet's bytes that a place means.
 fn fact(place: u32, packet: &Seen<'_>) -> Option<u32>
-    ensures { result ≡ option_map (λ fact. fact (sight_of packet.now)) (item_at ancillary place) }
+    ensures { result ≡ option_map (λ fact. fact (facts_of packet.now)) (item_at ancillary place) }
 {
     match place {
         0xffff_f000 => Some(u32::from(packet.protocol)), // SKF_AD_PROTOCOL

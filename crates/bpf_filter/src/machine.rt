@@ -5,7 +5,7 @@ ghost use Rattle.bpf_filter.specs.Codes.{GoesOn, effect, left_shift, load_a, loa
 ghost use Rattle.bpf_filter.specs.Codes.{to_a, to_word};
 ghost use Rattle.bpf_filter.specs.inside.Machines.{GoesFurther, is_calculation, next_of, state_of};
 ghost use Rattle.bpf_filter.specs.Programs.{IsRunnable};
-ghost use Rattle.bpf_filter.specs.Sight.{Sight, sight_of};
+ghost use Rattle.bpf_filter.specs.PacketFacts.{PacketFacts, facts_of};
 ghost use Rattle.bpf_filter.specs.Verdict.{first_state};
 
 use crate::insn::Insn;
@@ -54,7 +54,7 @@ impl Machine {
     pub(crate) fn perform(&mut self, insn: &Insn, packet: &Seen<'_>) -> Next
         requires { IsRunnable insn.now }
         ensures next { next_of result self.new
-            ≡ effect insn.now (sight_of packet.now) (state_of self.old) }
+            ≡ effect insn.now (facts_of packet.now) (state_of self.old) }
         ensures further { GoesFurther result }
     {
         let (k, a, x) = (insn.k, self.a, self.x);
@@ -99,7 +99,7 @@ impl Machine {
     #[tactic(auto, unfolding(crate::specs::Codes::codes))]
     fn calculated(&self, insn: &Insn) -> u32
         requires { is_calculation insn.now.code ≡ true }
-        ensures { (p : Sight) → effect insn.now p (state_of self.now)
+        ensures { (p : PacketFacts) → effect insn.now p (state_of self.now)
             ≡ to_a result (state_of self.now) }
     {
         let (k, a, x) = (insn.k, self.a, self.x);

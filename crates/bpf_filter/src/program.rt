@@ -4,7 +4,7 @@ ghost use Rattle.bpf_filter.specs.Answers.{Gives};
 ghost use Rattle.bpf_filter.specs.Codes.{is_code};
 ghost use Rattle.bpf_filter.specs.Programs.{program_of, fault_of, fault_of_known, first_fault};
 ghost use Rattle.bpf_filter.specs.Programs.{ends_with_return};
-ghost use Rattle.bpf_filter.specs.Sight.{sight_of};
+ghost use Rattle.bpf_filter.specs.PacketFacts.{facts_of};
 ghost use Rattle.bpf_filter.specs.Verdict.{verdict_of, verdict_with};
 
 use crate::error::FilterError;
@@ -74,7 +74,7 @@ impl Program {
     /// How many bytes of a packet to keep; 0 refuses it. It takes no memory, and always returns,
     /// because all jumps go forward.
     pub fn verdict(&self, packet: &Seen<'_>) -> u32
-        ensures { result ≡ verdict_of self.now (sight_of packet.now) }
+        ensures { result ≡ verdict_of self.now (facts_of packet.now) }
     {
         let code = self.code.as_slice();
         let mut machine = Machine::new();
@@ -91,7 +91,7 @@ impl Program {
 /// The verdict of a filter on a packet: how many bytes to keep. Without a filter it is the greatest
 /// number, which keeps all.
 pub fn verdict_with(filter: Option<&Program>, packet: &Seen<'_>) -> u32
-    ensures { result ≡ verdict_with (option_copied filter.entry) (sight_of packet.now) }
+    ensures { result ≡ verdict_with (option_copied filter.entry) (facts_of packet.now) }
 {
     match filter {
         Some(program) => program.verdict(packet),

@@ -14,14 +14,14 @@ use Rattle.capture_file.specs.declared.format_decoder.FormatDecoder.{FormatDecod
 use Rattle.capture_file.specs.declared.format_decoder.FormatDecoder.TheVariants.{Pcapng}
 use Rattle.capture_file.specs.Pcap as pcap
 use Rattle.capture_file.specs.Capture.{is_pcapng, error_from, frames_of, damage_of, end_of}
-use Rattle.capture_file.specs.Decoding.{frames_as, damage_as, end_as, kept_as, kept_of, reads_blocks, StandsAs, FeedsAs, FeedsFrom, IsBegun, DecoderValue, Stands, StandsBy}
+use Rattle.capture_file.specs.Decoding.{frames_as, damage_as, end_as, kept_as, kept_of, reads_blocks, RepresentsAs, FeedsAs, FeedsFrom, IsBegun, DecoderValue, Represents, RepresentsBy}
 use Rattle.capture_file.proofs.Formats.{format_stays, frames_are, damage_is, end_is, brief, gathers, gathers_all}
 
 -- ---- a decoder of blocks
 
 pub blocks_end : (decoder : blocks.DecoderValue) (answer : Result Unit BlockError) (end : Option CaptureError) → blocks.IsEnd decoder answer
-    → option_map error_from (result_err answer) ≡ end → (cpu : ℕ) (fed : List ℕ) → StandsAs cpu (Pcapng decoder) fed → end ≡ end_as true fed
-blocks_end decoder answer end is same cpu fed stands = sym same ∙ ap (option_map error_from) (is cpu fed stands)
+    → option_map error_from (result_err answer) ≡ end → (cpu : ℕ) (fed : List ℕ) → RepresentsAs cpu (Pcapng decoder) fed → end ≡ end_as true fed
+blocks_end decoder answer end is same cpu fed represents = sym same ∙ ap (option_map error_from) (is cpu fed represents)
 
 -- a fault translated as the code does it
 pub mapped : (fault : Option BlockError) (damage : Option CaptureError) → MatchOption fault (damage ≡ None) (λ x. IsSomeAnd damage (λ y. y ≡ error_from x))
@@ -31,10 +31,10 @@ mapped (Some fault) None e = absurd e
 mapped (Some fault) (Some other) e = ap Some e
 
 pub blocks_feed : (old new : blocks.DecoderValue) (piece : List ℕ) (fault : Option BlockError) (damage : Option CaptureError) (before after : List Frame)
-    → blocks.StandsOn old new piece → blocks.AppendsNew old piece before after → blocks.IsDamage old piece fault → damage ≡ option_map error_from fault
+    → blocks.RepresentsMore old new piece → blocks.AppendsNew old piece before after → blocks.IsDamage old piece fault → damage ≡ option_map error_from fault
     → FeedsFrom (Pcapng old) piece damage (Pcapng new) before after
-blocks_feed old new piece fault damage before after stands frames is same cpu fed h = record {
-  stands = stands cpu fed h;
+blocks_feed old new piece fault damage before after represents frames is same cpu fed h = record {
+  represents = represents cpu fed h;
   frames = frames cpu fed h;
   damage_is = same ∙ ap (option_map error_from) (is cpu fed h);
 }
@@ -47,13 +47,13 @@ nothing_yet true cpu = refl
 nothing_yet false cpu = refl
 
 pub begun : (cpu : ℕ) (first rest : List ℕ) (made fed decoder : FormatDecoder) (unused damage : Option CaptureError) (before between after : List Frame)
-    → reads_blocks made ≡ is_pcapng first → StandsAs cpu made []
+    → reads_blocks made ≡ is_pcapng first → RepresentsAs cpu made []
     → FeedsFrom made first unused fed before between → reads_blocks fed ≡ reads_blocks made
     → FeedsFrom fed rest damage decoder between after → reads_blocks decoder ≡ reads_blocks fed
     → IsBegun cpu first rest decoder damage before after
 begun cpu first rest made fed decoder unused damage before between after format empty one same two kept =
     let f = one cpu [] empty in
-    let s = two cpu first f.stands in
+    let s = two cpu first f.represents in
     let kind : reads_blocks fed ≡ is_pcapng first = same ∙ format in
     let old : frames_as (is_pcapng first) cpu first ≡ f.frames.0 =
     ap (λ (k : Bool). frames_as k cpu first) (sym format) ∙ f.frames.2 ∙ ap (λ (xs : List Frame). xs ++ f.frames.0) (nothing_yet (reads_blocks made) cpu) in
@@ -62,7 +62,7 @@ begun cpu first rest made fed decoder unused damage before between after format 
     ∙ ap (λ (k : Bool). frames_as k cpu first ++ s.frames.0) kind ∙ ap (λ (xs : List Frame). xs ++ s.frames.0) old in
     record {
       format = kept ∙ kind;
-      stands = s.stands;
+      represents = s.represents;
       frames =
           s.frames.1 ∙ ap (λ (xs : List Frame). xs ++ s.frames.0) f.frames.1 ∙ append_assoc before f.frames.0 s.frames.0
           ∙ ap (λ (xs : List Frame). before ++ xs) (sym new);
@@ -71,15 +71,15 @@ begun cpu first rest made fed decoder unused damage before between after format 
 
 -- ---- a decoder of either format
 
-module _ (cpu : ℕ) (value inside : DecoderValue) (fed : List ℕ) (view : inside ≡ value) (stands : Stands cpu value fed) where
-  told : Stands cpu inside fed
-  told = subst (λ (v : DecoderValue). Stands cpu v fed) (sym view) stands
+module _ (cpu : ℕ) (value inside : DecoderValue) (fed : List ℕ) (view : inside ≡ value) (represents : Represents cpu value fed) where
+  told : Represents cpu inside fed
+  told = subst (λ (v : DecoderValue). Represents cpu v fed) (sym view) represents
 
-  by_format : (format : Option FormatDecoder) → inside.format ≡ format → StandsBy cpu inside.start format fed
-  by_format format e = subst (λ (f : Option FormatDecoder). StandsBy cpu inside.start f fed) e told.told
+  by_format : (format : Option FormatDecoder) → inside.format ≡ format → RepresentsBy cpu inside.start format fed
+  by_format format e = subst (λ (f : Option FormatDecoder). RepresentsBy cpu inside.start f fed) e told.told
 
-  pub stands_cpu : inside.cpu ≡ cpu
-  stands_cpu = told.cpu
+  pub represents_cpu : inside.cpu ≡ cpu
+  represents_cpu = told.cpu
 
   -- while the format isn't known
   pub not_yet : inside.format ≡ None → (inside.start ≡ fed) × (length fed < 4)
@@ -93,14 +93,14 @@ module _ (cpu : ℕ) (value inside : DecoderValue) (fed : List ℕ) (view : insi
 
   -- once it is
   module _ (decoder : FormatDecoder) (e : inside.format ≡ Some decoder) where
-    known : StandsBy cpu inside.start (Some decoder) fed
+    known : RepresentsBy cpu inside.start (Some decoder) fed
     known = by_format (Some decoder) e
 
     kind : reads_blocks decoder ≡ is_pcapng fed
     kind = known.2
 
-    pub stands_known : StandsAs cpu decoder fed
-    stands_known = known.3
+    pub represents_known : RepresentsAs cpu decoder fed
+    represents_known = known.3
 
     pub end_known : (answer : Option CaptureError) → answer ≡ end_as (reads_blocks decoder) fed → answer ≡ end_of fed
     end_known answer is = is ∙ ap (λ (k : Bool). end_as k fed) kind ∙ sym (end_is fed)
@@ -114,12 +114,12 @@ module _ (cpu : ℕ) (value inside : DecoderValue) (fed : List ℕ) (view : insi
       now = kind ∙ sym (format_stays fed piece known.1)
 
       fed_on : FeedsAs decoder piece damage new before after cpu fed
-      fed_on = feeds cpu fed stands_known
+      fed_on = feeds cpu fed represents_known
 
-      pub known_stands : Stands cpu (record { cpu = inside.cpu; start = inside.start; format = Some new }) (fed ++ piece)
-      known_stands = record {
-        cpu = stands_cpu;
-        told = (known.0, omega (arith, known.1, length-append fed piece), same ∙ now, fed_on.stands);
+      pub known_represents : Represents cpu (record { cpu = inside.cpu; start = inside.start; format = Some new }) (fed ++ piece)
+      known_represents = record {
+        cpu = represents_cpu;
+        told = (known.0, omega (arith, known.1, length-append fed piece), same ∙ now, fed_on.represents);
       }
 
       pub known_frames : (more : List Frame) × (after ≡ before ++ more) × (frames_of cpu (fed ++ piece) ≡ frames_of cpu fed ++ more)
@@ -143,8 +143,8 @@ module _ (cpu : ℕ) (value inside : DecoderValue) (fed : List ℕ) (view : insi
       brief_now : length (fed ++ piece) < 4
       brief_now = subst (λ (xs : List ℕ). length xs < 4) still less
 
-      pub waiting_stands : Stands cpu (record { cpu = inside.cpu; start = new; format = inside.format }) (fed ++ piece)
-      waiting_stands = rw none (record { cpu = stands_cpu; told = (still, brief_now) })
+      pub waiting_represents : Represents cpu (record { cpu = inside.cpu; start = new; format = inside.format }) (fed ++ piece)
+      waiting_represents = rw none (record { cpu = represents_cpu; told = (still, brief_now) })
 
       pub waiting_frames : (into : List Frame) → (more : List Frame) × (into ≡ into ++ more) × (frames_of cpu (fed ++ piece) ≡ frames_of cpu fed ++ more)
       waiting_frames into =
@@ -165,16 +165,16 @@ module _ (cpu : ℕ) (value inside : DecoderValue) (fed : List ℕ) (view : insi
       first = sym (format_stays new rest full) ∙ ap is_pcapng whole
 
       begun_here : IsBegun cpu new rest decoder damage before after
-      begun_here = subst (λ (n : ℕ). IsBegun n new rest decoder damage before after) stands_cpu is
+      begun_here = subst (λ (n : ℕ). IsBegun n new rest decoder damage before after) represents_cpu is
 
-      pub begun_stands : (start : List ℕ) → start ≡ [] → Stands cpu (record { cpu = inside.cpu; start = start; format = Some decoder }) (fed ++ piece)
-      begun_stands start empty = record {
-        cpu = stands_cpu;
+      pub begun_represents : (start : List ℕ) → start ≡ [] → Represents cpu (record { cpu = inside.cpu; start = start; format = Some decoder }) (fed ++ piece)
+      begun_represents start empty = record {
+        cpu = represents_cpu;
         told = (
           empty,
           omega (arith, full, length-append new rest, ap length whole),
           begun_here.format ∙ first,
-          subst (λ (bytes : List ℕ). StandsAs cpu decoder bytes) whole begun_here.stands,
+          subst (λ (bytes : List ℕ). RepresentsAs cpu decoder bytes) whole begun_here.represents,
         );
       }
 

@@ -10,14 +10,14 @@ use Rattle.capture_file.specs.declared.stage.Stage.{Stage}
 use Rattle.capture_file.specs.declared.stage.Stage.TheVariants.{Header, Records, Damaged}
 use Rattle.capture_file.specs.Pcap.{header_of, captured, stop_of, damage_of, end_of}
 use Rattle.capture_file.specs.Reading.{error_of, end_at, IsSoundStage}
-use Rattle.capture_file.specs.PcapDecoding.{stage_of, stage_behind, kept_of, Stands, PcapValue}
+use Rattle.capture_file.specs.PcapDecoding.{stage_of, stage_behind, kept_of, Represents, PcapValue}
 use Rattle.capture_file.proofs.Records.{has_whole, has_oversized}
 use Rattle.capture_file.proofs.PcapFeeding.{short, damage_is_error}
 use Rattle.capture_file.proofs.PcapSettling.{kept_none}
 
 -- a decoder that nothing was fed to
-pub stands_new : (number : ℕ) (kept : List ℕ) → kept ≡ [] → Stands number (record { cpu = number; stage = Header; stop = 0; index = 0; rest = kept }) []
-stands_new number kept none =
+pub represents_new : (number : ℕ) (kept : List ℕ) → kept ≡ [] → Represents number (record { cpu = number; stage = Header; stop = 0; index = 0; rest = kept }) []
+represents_new number kept none =
     let told = short number [] (omega arith) in
     record {
       cpu = refl;
@@ -31,15 +31,15 @@ behind_not_header : (header : Result Format CaptureError) → stage_behind heade
 behind_not_header (Ok format) e = cc
 behind_not_header (Err damage) e = cc
 
-module _ (number : ℕ) (decoder old : PcapValue) (fed : List ℕ) (view : decoder ≡ old) (stands : Stands number old fed) where
+module _ (number : ℕ) (decoder old : PcapValue) (fed : List ℕ) (view : decoder ≡ old) (represents : Represents number old fed) where
   at : decoder.stage ≡ stage_of fed
-  at = ap (λ (v : PcapValue). v.stage) view ∙ stands.stage
+  at = ap (λ (v : PcapValue). v.stage) view ∙ represents.stage
 
   place : decoder.stop ≡ stop_of fed
-  place = ap (λ (v : PcapValue). v.stop) view ∙ stands.stop
+  place = ap (λ (v : PcapValue). v.stop) view ∙ represents.stop
 
   all : decoder.rest ≡ kept_of fed
-  all = ap (λ (v : PcapValue). v.rest) view ∙ stands.rest
+  all = ap (λ (v : PcapValue). v.rest) view ∙ represents.rest
 
   error : damage_of fed ≡ error_of decoder.stage
   error = damage_is_error fed ∙ ap error_of (sym at)

@@ -12,7 +12,7 @@ use Rattle.capture_file.specs.declared.stage.Stage.{Stage}
 use Rattle.capture_file.specs.declared.stage.Stage.TheVariants.{Header, Records, Damaged}
 use Rattle.capture_file.specs.Pcap.{header_of, counted, begins_oversized, frames_of, stop_of, damage_of}
 use Rattle.capture_file.specs.Reading.{Reached, read_from, start, first_place, stage_with, error_of, Comes, ComesBehind, Begins, Feeds}
-use Rattle.capture_file.specs.PcapDecoding.{stage_of, stage_by, stage_behind, kept_by, kept_of, Stands, PcapValue}
+use Rattle.capture_file.specs.PcapDecoding.{stage_of, stage_by, stage_behind, kept_by, kept_of, Represents, PcapValue}
 use Rattle.capture_file.proofs.Records.{header_of-append, read_from-frames}
 use Rattle.capture_file.proofs.Whole.{counted-append, all_of, all_read_from, all_accounts, all_append}
 use Rattle.capture_file.proofs.PcapFeeding.{short, refused, damage_oversized, damage_too_large, stage_whole, damage_is_error, stays}
@@ -229,41 +229,41 @@ module _ (number : ℕ) (fed piece : List ℕ) (before after : List Frame) (prog
 
 -- a decoder that represents bytes was fed
 pub settles : (number : ℕ) (fed piece : List ℕ) (decoder : PcapValue) (before after : List Frame) (progress : Progress) (kept taken : List ℕ) (beyond : Bool)
-    → Stands number decoder fed → taken ≡ take (33554432 - (decoder.stop + length decoder.rest)) piece
+    → Represents number decoder fed → taken ≡ take (33554432 - (decoder.stop + length decoder.rest)) piece
     → beyond ≡ nat_lt (33554432 - (decoder.stop + length decoder.rest)) (length piece)
     → Feeds decoder.cpu decoder.stage (record { stop = decoder.stop; index = decoder.index }) (decoder.rest ++ taken) progress kept before after
     → Settles number (frames_of number fed) (fed ++ piece) before after (stage_with progress.stage beyond) progress.next (drop progress.cut kept)
-settles number fed piece decoder before after progress kept taken beyond stands part large feeds =
+settles number fed piece decoder before after progress kept taken beyond represents part large feeds =
     let next : Place = record { stop = decoder.stop; index = decoder.index } in
-    let place : next ≡ (all_of number fed).next = rw (stands.stop, stands.index) refl in
+    let place : next ≡ (all_of number fed).next = rw (represents.stop, represents.index) refl in
     settles_by_damage number fed piece before after progress kept taken beyond decoder.stage next decoder.rest place part large
-    (damage_of fed) refl stands.stage stands.rest (rw stands.cpu at feeds)
+    (damage_of fed) refl represents.stage represents.rest (rw represents.cpu at feeds)
 
 -- the same by the steps of a feed: the room that is left, what was taken of the piece, and the
 -- stage with what is beyond
 pub settles_here : (number : ℕ) (fed piece : List ℕ) (old decoder : PcapValue) (before after : List Frame) (progress : Progress) (kept taken : List ℕ) (size count : ℕ) (stage : Stage)
-    → decoder ≡ old → Stands number old fed → size ≡ length decoder.rest → count ≡ min (33554432 - (decoder.stop + size)) (length piece) → taken ≡ take count piece
+    → decoder ≡ old → Represents number old fed → size ≡ length decoder.rest → count ≡ min (33554432 - (decoder.stop + size)) (length piece) → taken ≡ take count piece
     → stage ≡ stage_with progress.stage (nat_lt (33554432 - (decoder.stop + size)) (length piece))
     → Feeds decoder.cpu decoder.stage (record { stop = decoder.stop; index = decoder.index }) (decoder.rest ++ taken) progress kept before after
     → Settles number (frames_of number fed) (fed ++ piece) before after stage progress.next (drop progress.cut kept)
-settles_here number fed piece old decoder before after progress kept taken size count stage view stands len room part with feeds =
-    let s = subst (λ (v : PcapValue). Stands number v fed) (sym view) stands in
+settles_here number fed piece old decoder before after progress kept taken size count stage view represents len room part with feeds =
+    let s = subst (λ (v : PcapValue). Represents number v fed) (sym view) represents in
     let all : taken ≡ take (33554432 - (decoder.stop + size)) piece = part ∙ rw room (take_min (33554432 - (decoder.stop + size)) piece) in
     rw with (settles number fed piece decoder before after progress kept taken _ s (rw len at all) (rw len refl) feeds)
 
 -- the decoder that is left represents all bytes
 module _ (number : ℕ) (base : List Frame) (fed bytes : List ℕ) (before after : List Frame) (old decoder : PcapValue) (stage : Stage) (next : Place) (rest kept : List ℕ)
-    (view : decoder ≡ old) (stands : Stands number old fed) (h : Settles number base bytes before after stage next rest) where
+    (view : decoder ≡ old) (represents : Represents number old fed) (h : Settles number base bytes before after stage next rest) where
   same_cpu : decoder.cpu ≡ number
-  same_cpu = ap (λ (v : PcapValue). v.cpu) view ∙ stands.cpu
+  same_cpu = ap (λ (v : PcapValue). v.cpu) view ∙ represents.cpu
 
-  pub stands_on : error_of stage ≡ None → kept ≡ rest
-      → Stands number (record { cpu = decoder.cpu; stage = stage; stop = next.stop; index = next.index; rest = kept }) bytes
-  stands_on none all = record { cpu = same_cpu; stage = h.at; stop = h.stop; index = h.index; rest = all ∙ h.kept none }
+  pub represents_more : error_of stage ≡ None → kept ≡ rest
+      → Represents number (record { cpu = decoder.cpu; stage = stage; stop = next.stop; index = next.index; rest = kept }) bytes
+  represents_more none all = record { cpu = same_cpu; stage = h.at; stop = h.stop; index = h.index; rest = all ∙ h.kept none }
 
-  pub stands_damaged : (damage : CaptureError) → stage ≡ Damaged damage → kept ≡ []
-      → Stands number (record { cpu = decoder.cpu; stage = stage; stop = next.stop; index = next.index; rest = kept }) bytes
-  stands_damaged damage at none =
+  pub represents_damaged : (damage : CaptureError) → stage ≡ Damaged damage → kept ≡ []
+      → Represents number (record { cpu = decoder.cpu; stage = stage; stop = next.stop; index = next.index; rest = kept }) bytes
+  represents_damaged damage at none =
       let some : damage_of bytes ≡ Some damage = damage_is_error bytes ∙ ap error_of (sym h.at) ∙ rw at refl in
       record { cpu = same_cpu; stage = h.at; stop = h.stop; index = h.index; rest = none ∙ sym (rw some refl) }
 

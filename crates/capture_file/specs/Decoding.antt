@@ -40,15 +40,15 @@ reads_blocks (Pcap decoder) = false
 reads_blocks (Pcapng decoder) = true
 
 -- the decoder represents the bytes that it was fed
-abbrev pub StandsAs : ℕ → FormatDecoder → List ℕ → Type 0
-StandsAs cpu (Pcap decoder) fed = records.Stands cpu decoder fed
-StandsAs cpu (Pcapng decoder) fed = blocks.Stands cpu decoder fed
+abbrev pub RepresentsAs : ℕ → FormatDecoder → List ℕ → Type 0
+RepresentsAs cpu (Pcap decoder) fed = records.Represents cpu decoder fed
+RepresentsAs cpu (Pcapng decoder) fed = blocks.Represents cpu decoder fed
 
 -- a feed of a decoder that represented these bytes: it represents the piece too, and its frames and
 -- its damage are reported
 pub record FeedsAs (old : FormatDecoder) (piece : List ℕ) (damage : Option CaptureError)
     (new : FormatDecoder) (before after : List Frame) (cpu : ℕ) (fed : List ℕ) : Type 0 where
-  pub stands : StandsAs cpu new (fed ++ piece)
+  pub represents : RepresentsAs cpu new (fed ++ piece)
   pub frames :
       (more : List Frame)
       × (after ≡ before ++ more)
@@ -59,26 +59,26 @@ pub record FeedsAs (old : FormatDecoder) (piece : List ℕ) (damage : Option Cap
 abbrev pub FeedsFrom :
     FormatDecoder → List ℕ → Option CaptureError → FormatDecoder → List Frame → List Frame → Type 0
 FeedsFrom old piece damage new before after =
-    (cpu : ℕ) (fed : List ℕ) → StandsAs cpu old fed
+    (cpu : ℕ) (fed : List ℕ) → RepresentsAs cpu old fed
     → FeedsAs old piece damage new before after cpu fed
 
 abbrev pub EndsAs : FormatDecoder → Result Unit CaptureError → Type 0
 EndsAs decoder answer =
     (cpu : ℕ) (fed : List ℕ)
-    → StandsAs cpu decoder fed
+    → RepresentsAs cpu decoder fed
     → result_err answer ≡ end_as (reads_blocks decoder) fed
 
 abbrev pub CountsAs : FormatDecoder → ℕ → Type 0
 CountsAs decoder count =
     (cpu : ℕ) (fed : List ℕ)
-    → StandsAs cpu decoder fed
+    → RepresentsAs cpu decoder fed
     → count ≡ length (kept_as (reads_blocks decoder) fed)
 
 -- a decoder of the format that the first bytes say was fed them and those after them
 pub record IsBegun (cpu : ℕ) (first rest : List ℕ) (decoder : FormatDecoder)
     (damage : Option CaptureError) (before after : List Frame) : Type 0 where
   pub format : reads_blocks decoder ≡ is_pcapng first
-  pub stands : StandsAs cpu decoder (first ++ rest)
+  pub represents : RepresentsAs cpu decoder (first ++ rest)
   pub frames : after ≡ before ++ frames_as (is_pcapng first) cpu (first ++ rest)
   pub damage_is : damage ≡ damage_as (is_pcapng first) (first ++ rest)
 
@@ -99,18 +99,18 @@ pub record IsSound (d : Inside) : Type 0 where
 
 -- the bytes that were fed are the first ones, fewer than four, or the decoder of their format
 -- represents them
-abbrev pub StandsBy : ℕ → List ℕ → Option FormatDecoder → List ℕ → Type 0
-StandsBy number start None fed = (start ≡ fed) × (length fed < 4)
-StandsBy number start (Some decoder) fed =
+abbrev pub RepresentsBy : ℕ → List ℕ → Option FormatDecoder → List ℕ → Type 0
+RepresentsBy number start None fed = (start ≡ fed) × (length fed < 4)
+RepresentsBy number start (Some decoder) fed =
     (start ≡ [])
     × (4 ≤ length fed)
     × (reads_blocks decoder ≡ is_pcapng fed)
-    × StandsAs number decoder fed
+    × RepresentsAs number decoder fed
 
 -- the decoder represents the bytes that it was fed
-pub record Stands (number : ℕ) (decoder : DecoderValue) (fed : List ℕ) : Type 0 where
+pub record Represents (number : ℕ) (decoder : DecoderValue) (fed : List ℕ) : Type 0 where
   pub cpu : decoder.cpu ≡ number
-  pub told : StandsBy number decoder.start decoder.format fed
+  pub told : RepresentsBy number decoder.start decoder.format fed
 
 -- the bytes that are kept of those that were fed
 abbrev pub kept_of : List ℕ → List ℕ
@@ -132,14 +132,14 @@ UnlessMemory (Ok x) P = P
 UnlessMemory (Err error) P = UnlessWanted error P
 
 -- what represented some bytes before a feed represents them and the piece after it
-abbrev pub StandsOn : DecoderValue → DecoderValue → List ℕ → Type 0
-StandsOn old new piece =
-    (cpu : ℕ) (fed : List ℕ) → Stands cpu old fed → Stands cpu new (fed ++ piece)
+abbrev pub RepresentsMore : DecoderValue → DecoderValue → List ℕ → Type 0
+RepresentsMore old new piece =
+    (cpu : ℕ) (fed : List ℕ) → Represents cpu old fed → Represents cpu new (fed ++ piece)
 
 -- a feed appended the frames that are new with the piece
 abbrev pub AppendsNew : DecoderValue → List ℕ → List Frame → List Frame → Type 0
 AppendsNew decoder piece before after =
-    (cpu : ℕ) (fed : List ℕ) → Stands cpu decoder fed
+    (cpu : ℕ) (fed : List ℕ) → Represents cpu decoder fed
     → (more : List Frame)
     × (after ≡ before ++ more)
     × (frames_of cpu (fed ++ piece) ≡ frames_of cpu fed ++ more)
@@ -147,34 +147,36 @@ AppendsNew decoder piece before after =
 -- the damage is that of all bytes that were fed, the piece included
 abbrev pub IsDamage : DecoderValue → List ℕ → Option CaptureError → Type 0
 IsDamage decoder piece damage =
-    (cpu : ℕ) (fed : List ℕ) → Stands cpu decoder fed → damage ≡ damage_of (fed ++ piece)
+    (cpu : ℕ) (fed : List ℕ) → Represents cpu decoder fed → damage ≡ damage_of (fed ++ piece)
 
 -- a feed returned the damage of all bytes that were fed, the piece included
 abbrev pub AnswersDamage : {X : Type 0} → DecoderValue → List ℕ → Result X CaptureError → Type 0
 AnswersDamage decoder piece answer =
-    (cpu : ℕ) (fed : List ℕ) → Stands cpu decoder fed → result_err answer ≡ damage_of (fed ++ piece)
+    (cpu : ℕ) (fed : List ℕ)
+    → Represents cpu decoder fed
+    → result_err answer ≡ damage_of (fed ++ piece)
 
 -- the answer is the end of all bytes that were fed
 abbrev pub AnswersEnd : {X : Type 0} → DecoderValue → Result X CaptureError → Type 0
 AnswersEnd decoder answer =
-    (cpu : ℕ) (fed : List ℕ) → Stands cpu decoder fed → result_err answer ≡ end_of fed
+    (cpu : ℕ) (fed : List ℕ) → Represents cpu decoder fed → result_err answer ≡ end_of fed
 
 -- the number of bytes that are kept of those that were fed
 abbrev pub CountsKept : DecoderValue → ℕ → Type 0
 CountsKept decoder count =
-    (cpu : ℕ) (fed : List ℕ) → Stands cpu decoder fed → count ≡ length (kept_of fed)
+    (cpu : ℕ) (fed : List ℕ) → Represents cpu decoder fed → count ≡ length (kept_of fed)
 
 -- no more bytes are kept than there are from the stop on
 abbrev pub KeepsAfterStop : DecoderValue → ℕ → Type 0
 KeepsAfterStop decoder count =
-    (cpu : ℕ) (fed : List ℕ) → Stands cpu decoder fed → stop_of fed + count ≤ length fed
+    (cpu : ℕ) (fed : List ℕ) → Represents cpu decoder fed → stop_of fed + count ≤ length fed
 
 -- in a block that is skipped at most three bytes are kept
 abbrev pub KeepsNoBody : DecoderValue → ℕ → Type 0
 KeepsNoBody decoder count =
-    (cpu : ℕ) (fed : List ℕ) → Stands cpu decoder fed → IsTrue (is_skipping fed) → count ≤ 3
+    (cpu : ℕ) (fed : List ℕ) → Represents cpu decoder fed → IsTrue (is_skipping fed) → count ≤ 3
 
 -- after damage no byte is kept
 abbrev pub KeepsNoDamage : DecoderValue → ℕ → Type 0
 KeepsNoDamage decoder count =
-    (cpu : ℕ) (fed : List ℕ) → Stands cpu decoder fed → IsSome (damage_of fed) → count ≡ 0
+    (cpu : ℕ) (fed : List ℕ) → Represents cpu decoder fed → IsSome (damage_of fed) → count ≡ 0

@@ -54,7 +54,7 @@ abbrev pub kept_of : List ℕ → List ℕ
 kept_of bytes = kept_by (damage_of bytes) bytes
 
 -- the decoder represents the bytes that it was fed
-pub record Stands (number : ℕ) (decoder : PcapValue) (fed : List ℕ) : Type 0 where
+pub record Represents (number : ℕ) (decoder : PcapValue) (fed : List ℕ) : Type 0 where
   pub cpu : decoder.cpu ≡ number
   pub stage : decoder.stage ≡ stage_of fed
   pub stop : decoder.stop ≡ stop_of fed
@@ -62,14 +62,14 @@ pub record Stands (number : ℕ) (decoder : PcapValue) (fed : List ℕ) : Type 0
   pub rest : decoder.rest ≡ kept_of fed
 
 -- what represented some bytes before a feed represents them and the piece after it
-abbrev pub StandsOn : PcapValue → PcapValue → List ℕ → Type 0
-StandsOn old new piece =
-    (cpu : ℕ) (fed : List ℕ) → Stands cpu old fed → Stands cpu new (fed ++ piece)
+abbrev pub RepresentsMore : PcapValue → PcapValue → List ℕ → Type 0
+RepresentsMore old new piece =
+    (cpu : ℕ) (fed : List ℕ) → Represents cpu old fed → Represents cpu new (fed ++ piece)
 
 -- a feed appended the frames that are new with the piece
 abbrev pub AppendsNew : PcapValue → List ℕ → List Frame → List Frame → Type 0
 AppendsNew decoder piece before after =
-    (cpu : ℕ) (fed : List ℕ) → Stands cpu decoder fed
+    (cpu : ℕ) (fed : List ℕ) → Represents cpu decoder fed
     → (more : List Frame)
     × (after ≡ before ++ more)
     × (frames_of cpu (fed ++ piece) ≡ frames_of cpu fed ++ more)
@@ -77,14 +77,14 @@ AppendsNew decoder piece before after =
 -- a feed returned the damage of all bytes that were fed, the piece included
 abbrev pub IsDamage : PcapValue → List ℕ → Option CaptureError → Type 0
 IsDamage decoder piece damage =
-    (cpu : ℕ) (fed : List ℕ) → Stands cpu decoder fed → damage ≡ damage_of (fed ++ piece)
+    (cpu : ℕ) (fed : List ℕ) → Represents cpu decoder fed → damage ≡ damage_of (fed ++ piece)
 
 -- the answer is the end of all bytes that were fed
 abbrev pub AnswersEnd : {X : Type 0} → PcapValue → Result X CaptureError → Type 0
 AnswersEnd decoder answer =
-    (cpu : ℕ) (fed : List ℕ) → Stands cpu decoder fed → result_err answer ≡ end_of fed
+    (cpu : ℕ) (fed : List ℕ) → Represents cpu decoder fed → result_err answer ≡ end_of fed
 
 -- the number of bytes that are kept of those that were fed
 abbrev pub CountsKept : PcapValue → ℕ → Type 0
 CountsKept decoder count =
-    (cpu : ℕ) (fed : List ℕ) → Stands cpu decoder fed → count ≡ length (kept_of fed)
+    (cpu : ℕ) (fed : List ℕ) → Represents cpu decoder fed → count ≡ length (kept_of fed)

@@ -42,14 +42,14 @@ impl Model for Decoder {
 }
 
 impl Decoder {
-    ghost use Rattle.capture_file.specs.Decoding.{Stands, StandsOn, AppendsNew, IsDamage};
+    ghost use Rattle.capture_file.specs.Decoding.{Represents, RepresentsMore, AppendsNew, IsDamage};
     ghost use Rattle.capture_file.specs.Decoding.{AnswersDamage, AnswersEnd, CountsKept};
     ghost use Rattle.capture_file.specs.Decoding.{KeepsAfterStop, KeepsNoBody, KeepsNoDamage};
     ghost use Rattle.capture_file.specs.Decoding.{UnlessMemory};
 
     /// A decoder that nothing was fed to. It takes no memory.
     pub fn new(alloc: Global, cpu: u32) -> Decoder
-        ensures { Stands cpu result [] }
+        ensures { Represents cpu result [] }
     {
         Decoder {
             alloc,
@@ -65,7 +65,7 @@ impl Decoder {
     /// call.
     pub fn feed(&mut self, piece: &[u8], into: &mut Frames) -> Result<(), CaptureError>
         // The decoder represents all bytes that it was fed.
-        ensures stands { UnlessMemory result (StandsOn self.old self.new piece.now) }
+        ensures represents { UnlessMemory result (RepresentsMore self.old self.new piece.now) }
 
         // Exactly the new frames are appended.
         ensures frames { UnlessMemory result (AppendsNew self.old piece.now into.old into.new) }
@@ -85,7 +85,7 @@ impl Decoder {
 
     /// Takes the next bytes, and returns the damage, if there is any.
     fn read_on(&mut self, piece: &[u8], into: &mut Frames) -> Result<Option<CaptureError>, Memory>
-        ensures stands { IfOk result (λ damage. StandsOn self.old self.new piece.now) }
+        ensures represents { IfOk result (λ damage. RepresentsMore self.old self.new piece.now) }
         ensures frames { IfOk result (λ damage.
             AppendsNew self.old piece.now into.old into.new) }
         ensures damage { IfOk result (λ damage. IsDamage self.old piece.now damage) }
@@ -102,7 +102,7 @@ impl Decoder {
     /// Collects the first four bytes, and reads on in the format that they say.
     fn begin(&mut self, piece: &[u8], into: &mut Frames) -> Result<Option<CaptureError>, Memory>
         requires { self.old.format ≡ None }
-        ensures stands { IfOk result (λ damage. StandsOn self.old self.new piece.now) }
+        ensures represents { IfOk result (λ damage. RepresentsMore self.old self.new piece.now) }
         ensures frames { IfOk result (λ damage.
             AppendsNew self.old piece.now into.old into.new) }
         ensures damage { IfOk result (λ damage. IsDamage self.old piece.now damage) }

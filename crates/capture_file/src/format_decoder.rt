@@ -21,7 +21,7 @@ pub(crate) enum FormatDecoder {
 }
 
 impl FormatDecoder {
-    ghost use Rattle.capture_file.specs.Decoding.{reads_blocks, StandsAs, FeedsFrom, EndsAs};
+    ghost use Rattle.capture_file.specs.Decoding.{reads_blocks, RepresentsAs, FeedsFrom, EndsAs};
     ghost use Rattle.capture_file.specs.Decoding.{CountsAs};
 
     /// A decoder that nothing was fed to, of the format that a capture's first four bytes say.
@@ -29,7 +29,7 @@ impl FormatDecoder {
     pub(crate) fn new(alloc: Global, cpu: u32, first: &[u8]) -> FormatDecoder
         requires { length first.now ≡ 4 }
         ensures format { reads_blocks result ≡ is_pcapng first.now }
-        ensures stands { StandsAs cpu result [] }
+        ensures represents { RepresentsAs cpu result [] }
     {
         if first == SECTION_HEADER.as_slice() {
             FormatDecoder::Pcapng(BlockDecoder::new(alloc, cpu))

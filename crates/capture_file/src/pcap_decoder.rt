@@ -42,12 +42,13 @@ impl Model for PcapDecoder {
 }
 
 impl PcapDecoder {
-    ghost use Rattle.capture_file.specs.PcapDecoding.{Stands, StandsOn, AppendsNew, IsDamage};
+    ghost use Rattle.capture_file.specs.PcapDecoding.{Represents, RepresentsMore, AppendsNew};
+    ghost use Rattle.capture_file.specs.PcapDecoding.{IsDamage};
     ghost use Rattle.capture_file.specs.PcapDecoding.{AnswersEnd, CountsKept};
 
     /// A decoder that nothing was fed to. It takes no memory.
     pub fn new(alloc: Global, cpu: u32) -> PcapDecoder
-        ensures { Stands cpu result [] }
+        ensures { Represents cpu result [] }
     {
         PcapDecoder {
             alloc,
@@ -63,7 +64,7 @@ impl PcapDecoder {
     /// nothing. After `Memory` the decoder and `into` are as before the call.
     pub fn feed(&mut self, piece: &[u8], into: &mut Frames) -> Result<Option<CaptureError>, Memory>
         // The decoder represents all bytes that it was fed.
-        ensures stands { IfOk result (λ damage. StandsOn self.old self.new piece.now) }
+        ensures represents { IfOk result (λ damage. RepresentsMore self.old self.new piece.now) }
 
         // Exactly the new frames are appended.
         ensures frames { IfOk result (λ damage.

@@ -2,7 +2,7 @@
 use Rattle.std.proofs.Common.{◌≡◌, ℕ, ◌+◌, ◌≤◌, List, [], ◌++◌, length, Option, None, Some, sym, ap, ◌∙◌, subst, arith, length-append}
 use Rattle.std.specs.Prelude.{◌<◌, IsSome}
 use Rattle.capture_file.specs.Capture.{damage_of, end_of, frames_of}
-use Rattle.capture_file.specs.Decoding.{Stands}
+use Rattle.capture_file.specs.Decoding.{Represents}
 use Rattle.capture_file.specs.declared.cpu_end.CpuEnd.{CpuEnd}
 use Rattle.capture_file.specs.declared.cpu_end.CpuEnd.TheVariants.{Fault}
 use Rattle.capture_file.specs.declared.error.CaptureError.{CaptureError}
@@ -15,12 +15,12 @@ use Rattle.capture_reading.specs.declared.so_far.SoFar.{SoFar}
 use Rattle.capture_reading.proofs.Giving.{IsTheEnd, IsUncut, end_gives, fault_gives, gave_nothing, is_small, piece_gives}
 
 -- nothing was read
-pub nothing_yet : (cpu : ℕ) (source : SourceSeen) (so_far : SoFar) → Stands cpu so_far.decoder []
+pub nothing_yet : (cpu : ℕ) (source : SourceSeen) (so_far : SoFar) → Represents cpu so_far.decoder []
     → frames_of cpu [] ≡ [] → damage_of [] ≡ None
     → so_far.frames ≡ [] → so_far.given ≡ 0 → so_far.ended ≡ None → IsSoFar cpu source source so_far
-nothing_yet cpu source so_far stands empty sound frames given ended = record {
+nothing_yet cpu source so_far represents empty sound frames given ended = record {
   bytes = [];
-  stands = stands;
+  represents = represents;
   frames_are = frames ∙ sym empty;
   given_is = given;
   gave = subst (λ (e : Option CpuEnd). GaveBy source source [] e) (sym ended)
@@ -43,7 +43,7 @@ ends_so : (cpu : ℕ) (first old new : SourceSeen) (so_far : SoFar) (end : CpuEn
     → IsSoFar cpu first new (record so_far { ended = Some end })
 ends_so cpu first old new so_far end h gave = record {
   bytes = h.bytes;
-  stands = h.stands;
+  represents = h.represents;
   frames_are = h.frames_are;
   given_is = h.given_is;
   gave = gave;
@@ -62,28 +62,28 @@ read_failed cpu first old new so_far none few failed h =
 pub read_to_end : (cpu : ℕ) (first old new : SourceSeen) (so_far : SoFar) (piece : List ℕ)
     (end : CpuEnd)
     → so_far.ended ≡ None → so_far.given ≤ 33554432 → GavePiece old new piece → piece ≡ []
-    → ((number : ℕ) (fed : List ℕ) → Stands number so_far.decoder fed → end ≡ end_by (end_of fed))
+    → ((number : ℕ) (fed : List ℕ) → Represents number so_far.decoder fed → end ≡ end_by (end_of fed))
     → IsSoFar cpu first old so_far → IsSoFar cpu first new (record so_far { ended = Some end })
 read_to_end cpu first old new so_far piece end none few gave empty is h =
     ends_so cpu first old new so_far end h
     (end_gives (Some first) old new h.bytes piece end (few_read so_far.given h.bytes h.given_is few)
-    (still_gives first old h.bytes so_far.ended h.gave none) gave empty (is cpu h.bytes h.stands))
+    (still_gives first old h.bytes so_far.ended h.gave none) gave empty (is cpu h.bytes h.represents))
 
 -- a piece more
 pub read_piece : (cpu : ℕ) (first old new : SourceSeen) (so_far next : SoFar) (piece : List ℕ)
     (damage : Option CaptureError) → IsTheEnd → IsUncut
     → so_far.ended ≡ None → so_far.given ≤ 33554432 → length piece ≤ 65536 → GavePiece old new piece
-    → ((number : ℕ) (fed : List ℕ) → Stands number so_far.decoder fed
+    → ((number : ℕ) (fed : List ℕ) → Represents number so_far.decoder fed
     → Appends number fed piece next.decoder so_far.frames next.frames damage)
     → next.given ≡ so_far.given + length piece → next.ended ≡ ended_by damage
     → IsSoFar cpu first old so_far → IsSoFar cpu first new next
 read_piece cpu first old new so_far next piece damage end uncut none few small gave all given is h =
     let one : Appends cpu h.bytes piece next.decoder so_far.frames next.frames damage =
-    all cpu h.bytes h.stands in
+    all cpu h.bytes h.represents in
     let given_is = h.given_is in
     record {
       bytes = h.bytes ++ piece;
-      stands = one.decodes.stands;
+      represents = one.decodes.represents;
       frames_are = one.new_is ∙ ap (λ (fs : List Frame). fs ++ one.more) h.frames_are
           ∙ sym one.decodes.frames;
       given_is = omega (arith, given, given_is, length-append h.bytes piece);

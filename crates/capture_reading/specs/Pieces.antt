@@ -1,7 +1,7 @@
 -- What a piece brings to a decoder.
 use Rattle.std.specs.Prelude.{◌≡◌, ℕ, Bool, true, false, List, ◌++◌, Option, None, Some}
 use Rattle.capture_file.specs.Capture.{frames_of, damage_of}
-use Rattle.capture_file.specs.Decoding.{DecoderValue, Stands}
+use Rattle.capture_file.specs.Decoding.{DecoderValue, Represents}
 use Rattle.capture_file.specs.declared.error.CaptureError.{CaptureError}
 use Rattle.capture_file.specs.declared.error.CaptureError.TheVariants as errors
 use Rattle.capture_file.specs.declared.cpu_end.CpuEnd.{CpuEnd}
@@ -12,7 +12,7 @@ use Rattle.frame_view.specs.declared.frames.Frame.{Frame}
 -- damage
 pub record Decodes (cpu : ℕ) (fed piece : List ℕ) (decoder : DecoderValue) (more : List Frame)
     (damage : Option CaptureError) : Type 0 where
-  pub stands : Stands cpu decoder (fed ++ piece)
+  pub represents : Represents cpu decoder (fed ++ piece)
   pub frames : frames_of cpu (fed ++ piece) ≡ frames_of cpu fed ++ more
   pub damage_is : damage ≡ damage_of (fed ++ piece)
 

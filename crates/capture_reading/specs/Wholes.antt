@@ -1,7 +1,7 @@
 -- What was read of a capture.
 use Rattle.std.specs.Prelude.{◌≡◌, ℕ, ◌-◌, List, length, is_some, if◌then◌else◌, ⊤, Option, None, Some}
 use Rattle.capture_file.specs.Capture.{frames_of}
-use Rattle.capture_file.specs.Decoding.{Stands}
+use Rattle.capture_file.specs.Decoding.{Represents}
 use Rattle.tap_outside.specs.Seen.{SourceSeen}
 use Rattle.capture_reading.specs.Sources.{GaveBy, GaveIfThere}
 use Rattle.capture_reading.specs.declared.so_far.SoFar.{SoFar}
@@ -27,7 +27,7 @@ IsStillThere old new = ⊥
 -- their number
 pub record IsSoFar (cpu : ℕ) (old new : SourceSeen) (so_far : SoFar) : Type 0 where
   pub bytes : List ℕ
-  pub stands : Stands cpu so_far.decoder bytes
+  pub represents : Represents cpu so_far.decoder bytes
   pub frames_are : so_far.frames ≡ frames_of cpu bytes
   pub given_is : so_far.given ≡ length bytes
   pub gave : GaveBy old new bytes so_far.ended

@@ -1,7 +1,7 @@
 //! A piece of a capture, decoded.
 ghost use Rattle.std.specs.Prelude.{◌≡◌, ℕ, List, IfOk, OnErr};
 ghost use Rattle.capture_file.specs.Capture.{end_of};
-ghost use Rattle.capture_file.specs.Decoding.{Stands};
+ghost use Rattle.capture_file.specs.Decoding.{Represents};
 ghost use Rattle.capture_reading.specs.Pieces.{Appends, Decodes, ended_by, is_want};
 ghost use Rattle.capture_reading.specs.Sources.{end_by};
 
@@ -36,7 +36,7 @@ pub(crate) fn feed(
     piece: &[u8],
     into: &mut Frames,
 ) -> Result<Option<CaptureError>, Memory>
-    ensures appends { IfOk result (λ damage. (cpu : ℕ) (fed : List ℕ) → Stands cpu decoder.old fed
+    ensures appends { IfOk result (λ damage. (cpu : ℕ) (fed : List ℕ) → Represents cpu decoder.old fed
         → Appends cpu fed piece.now decoder.new into.old into.new damage) }
     ensures decoder { OnErr result (decoder.new ≡ decoder.old) }
     ensures into { OnErr result (into.new ≡ into.old) }
@@ -56,7 +56,7 @@ pub(crate) fn feed(
 /// by now. The error is out of memory: the decoder is as before then, so that the piece may be fed
 /// again.
 pub fn decode(alloc: Global, decoder: &mut Decoder, piece: &[u8]) -> Result<Decoded, Memory>
-    ensures decodes { IfOk result (λ decoded. (cpu : ℕ) (fed : List ℕ) → Stands cpu decoder.old fed
+    ensures decodes { IfOk result (λ decoded. (cpu : ℕ) (fed : List ℕ) → Represents cpu decoder.old fed
         → Decodes cpu fed piece.now decoder.new decoded.frames decoded.damage) }
     ensures same { OnErr result (decoder.new ≡ decoder.old) }
 {
@@ -75,7 +75,7 @@ fn is_want(error: &CaptureError) -> bool
 /// How a capture ends whose source was read to its end: whole, or damaged, a cut among that. It
 /// takes no memory.
 pub fn end_at(decoder: &Decoder) -> CpuEnd
-    ensures { (cpu : ℕ) (fed : List ℕ) → Stands cpu decoder.now fed → result ≡ end_by (end_of fed) }
+    ensures { (cpu : ℕ) (fed : List ℕ) → Represents cpu decoder.now fed → result ≡ end_by (end_of fed) }
 {
     match decoder.end() {
         Ok(()) => CpuEnd::Whole,

@@ -15,7 +15,7 @@ use Rattle.ticket_dealer.specs.Seats.{SeatValue}
 use Rattle.tp_layout.specs.Requests.{size_of}
 use Rattle.turn_lock.specs.Histories.{own}
 use Rattle.capture_reports.specs.Closed.{AreRingsOf, IsRingOf, MemberLeft, locks_of, notes_of_members, rings_of}
-use Rattle.capture_reports.specs.Left.{AreLeft, CpuLeft, stands_at}
+use Rattle.capture_reports.specs.Left.{AreLeft, CpuLeft, member_seats_at}
 use Rattle.capture_reports.specs.Timing.{IsTicked, IsTimed}
 
 -- the laws of the notes that a timer adds
@@ -33,25 +33,25 @@ of_seats lock cpus (note ∷ notes) count all =
     ((all.0.0, subst (λ (n : ℕ). may_add n all.0.0 note ≡ true) count all.0.2), of_seats lock cpus notes count all.1)
 
 -- of a closed member with n CPUs
-pub seat_run : (lock : Lock) (cpus : ℕ) (stands : List Seat) (notes : List Note) → lock.base.cpus ≡ cpus → AreClosedNotes lock stands notes
+pub seat_run : (lock : Lock) (cpus : ℕ) (member_seats : List Seat) (notes : List Note) → lock.base.cpus ≡ cpus → AreClosedNotes lock member_seats notes
     → seats.IsSeatRun cpus notes
-seat_run lock cpus stands notes count closed = record {
+seat_run lock cpus member_seats notes count closed = record {
   history = closed.history;
   notes_are = closed.notes_are;
   each_note = of_seats lock cpus closed.history count closed.each_note;
 }
 
 -- the last of the seats
-last_has : (P : Seat → Type 0) (stands : List Seat) (last : Seat) → AllByRecursion P (stands ++ last ∷ []) → P last
+last_has : (P : Seat → Type 0) (member_seats : List Seat) (last : Seat) → AllByRecursion P (member_seats ++ last ∷ []) → P last
 last_has P [] last all = all.0
-last_has P (stand ∷ stands) last all = last_has P stands last all.1
+last_has P (member_seat ∷ member_seats) last all = last_has P member_seats last all.1
 
 -- what the timer added there are the moments
-ticked : (ticks : Ticks) (counts : Counts) (moments : List ℕ) (lock : Lock) (stands : List Seat) (timer : Seat) (notes : List Note)
-    → AreClosedNotes lock (stands ++ timer ∷ []) notes → IsTimed moments lock timer → IsTicked moments notes
-ticked ticks counts moments lock stands timer notes closed timed =
-    let run = seat_run lock lock.base.cpus (stands ++ timer ∷ []) notes refl closed in
-    let mine : own (may_note lock.base) timer.number notes ≡ own_of lock timer = last_has (HasOwn lock notes) stands timer closed.each_seat in
+ticked : (ticks : Ticks) (counts : Counts) (moments : List ℕ) (lock : Lock) (member_seats : List Seat) (timer : Seat) (notes : List Note)
+    → AreClosedNotes lock (member_seats ++ timer ∷ []) notes → IsTimed moments lock timer → IsTicked moments notes
+ticked ticks counts moments lock member_seats timer notes closed timed =
+    let run = seat_run lock lock.base.cpus (member_seats ++ timer ∷ []) notes refl closed in
+    let mine : own (may_note lock.base) timer.number notes ≡ own_of lock timer = last_has (HasOwn lock notes) member_seats timer closed.each_seat in
     record {
       ticks = ticks lock.base.cpus notes run
           ∙ ap (λ (n : ℕ). ticks_of (own (may_note lock.base) n notes)) (sym timed.ready.number_is)
@@ -90,25 +90,25 @@ module _ (ticks : Ticks) (counts : Counts) (job : Job) (moments : List ℕ) (cpu
   pub within_locks : (member : ℕ) → member < length members → member < length (locks_of members)
   within_locks member within = subst (λ (n : ℕ). member < n) (sym (length-map members lock_in)) within
 
-  member_left : (member : ℕ) (stand : Seat) (none : MemberLeft) → member < length members → IsMemberLeft job moments (get_or members member none)
-  member_left member stand none within =
-      let closed = left.closed member stand none within in
+  member_left : (member : ℕ) (member_seat : Seat) (none : MemberLeft) → member < length members → IsMemberLeft job moments (get_or members member none)
+  member_left member member_seat none within =
+      let closed = left.closed member member_seat none within in
       let there : member < length timer = subst (λ (n : ℕ). member < n) (sym left.timed.count) (within_locks member within) in
-      let timed : IsTimed moments (get_or members member none).lock (get_or timer member stand) =
-      subst (λ (lock : Lock). IsTimed moments lock (get_or timer member stand)) (lock_at member none within)
-      (left.timed.each member none.lock stand there) in
+      let timed : IsTimed moments (get_or members member none).lock (get_or timer member member_seat) =
+      subst (λ (lock : Lock). IsTimed moments lock (get_or timer member member_seat)) (lock_at member none within)
+      (left.timed.each member none.lock member_seat there) in
       record {
         run = closed.run;
-        ticked = ticked ticks counts moments (get_or members member none).lock (stands_at member stand cpus) (get_or timer member stand)
+        ticked = ticked ticks counts moments (get_or members member none).lock (member_seats_at member member_seat cpus) (get_or timer member member_seat)
             (get_or members member none).notes closed.notes timed;
         ring = closed.ring;
       }
 
   -- there is a seat of the timer where there is a member
-  some_stand : (member : ℕ) (stands : List Seat) → member < length stands → Seat
-  some_stand member [] within = absurd (omega (arith, within))
-  some_stand member (stand ∷ stands) within = stand
+  some_member_seat : (member : ℕ) (member_seats : List Seat) → member < length member_seats → Seat
+  some_member_seat member [] within = absurd (omega (arith, within))
+  some_member_seat member (member_seat ∷ member_seats) within = member_seat
 
   pub members_left : AllByRecursion (IsMemberLeft job moments) members
   members_left = by_place (IsMemberLeft job moments) members (λ member none within.
-      member_left member (some_stand member timer (subst (λ (n : ℕ). member < n) (sym left.timed.count) (within_locks member within))) none within)
+      member_left member (some_member_seat member timer (subst (λ (n : ℕ). member < n) (sym left.timed.count) (within_locks member within))) none within)

@@ -27,11 +27,11 @@ use Rattle.ticket_dealer.specs.Seats.{SeatValue}
 use Rattle.tp_layout.specs.Requests.{room_of}
 use Rattle.turn_lock.specs.Histories.{own}
 use Rattle.capture_reports.specs.Feeders.{HasFed, IsFedAt, arrivals_in}
-use Rattle.capture_reports.specs.Left.{CpuLeft, feeds_of, seats_of, stands_at}
+use Rattle.capture_reports.specs.Left.{CpuLeft, feeds_of, seats_of, member_seats_at}
 
 -- the CPU of this number was fed
 abbrev pub Fed : Job → List Lock → ℕ → CpuLeft → Type 0
-Fed job locks cpu left = HasFed job locks cpu left.feed left.stands left.seat
+Fed job locks cpu left = HasFed job locks cpu left.feed left.member_seats left.seat
 
 -- and so CPUs with the numbers from this one up
 abbrev pub AllFed : Job → List Lock → ℕ → List CpuLeft → Type 0
@@ -116,33 +116,33 @@ drawn_are job locks at (left ∷ cpus) fed lb =
     ∙ ap (λ (more : List (List ℕ)). left.seat.drawn ∷ more) (drawn_are job locks (at + 1) cpus fed.1 lb)
 
 -- of a member's notes those that a CPU's seat may add are the notes of its log's tries there
-own_here : (job : Job) (locks : List Lock) (at member : ℕ) (left : CpuLeft) (lock : Lock) (stand : Seat) (notes : List Note)
-    → Fed job locks at left → member < length locks → HasOwn (get_or locks member lock) notes (get_or left.stands member stand)
+own_here : (job : Job) (locks : List Lock) (at member : ℕ) (left : CpuLeft) (lock : Lock) (member_seat : Seat) (notes : List Note)
+    → Fed job locks at left → member < length locks → HasOwn (get_or locks member lock) notes (get_or left.member_seats member member_seat)
     → AreNotesOf (room_of job.setup.shape) job.setup.mac (attempts_at member (arrivals_in left.feed) left.feed.path.log)
     (own (may_note (get_or locks member lock).base) at notes)
-own_here job locks at member left lock stand notes fed within has =
-    let there : IsFedAt job at member (arrivals_in left.feed) left.feed.path.log (get_or locks member lock) (get_or left.stands member stand) =
-    fed.each member lock stand (subst (λ (n : ℕ). member < n) (sym fed.count) within) in
+own_here job locks at member left lock member_seat notes fed within has =
+    let there : IsFedAt job at member (arrivals_in left.feed) left.feed.path.log (get_or locks member lock) (get_or left.member_seats member member_seat) =
+    fed.each member lock member_seat (subst (λ (n : ℕ). member < n) (sym fed.count) within) in
     subst (λ (n : ℕ). AreNotesOf (room_of job.setup.shape) job.setup.mac (attempts_at member (arrivals_in left.feed) left.feed.path.log)
     (own (may_note (get_or locks member lock).base) n notes)) there.ready.number_is
     (subst (λ (mine : List Note). AreNotesOf (room_of job.setup.shape) job.setup.mac (attempts_at member (arrivals_in left.feed) left.feed.path.log) mine)
     (sym has) there.own)
 
-pub own_at : (job : Job) (locks : List Lock) (at : ℕ) (cpus : List CpuLeft) (cpu member : ℕ) (lock : Lock) (stand : Seat) (notes : List Note) (rest : List Seat)
+pub own_at : (job : Job) (locks : List Lock) (at : ℕ) (cpus : List CpuLeft) (cpu member : ℕ) (lock : Lock) (member_seat : Seat) (notes : List Note) (rest : List Seat)
     → AllFed job locks at cpus → cpu < length cpus → member < length locks
-    → AllByRecursion (HasOwn (get_or locks member lock) notes) (stands_at member stand cpus ++ rest)
+    → AllByRecursion (HasOwn (get_or locks member lock) notes) (member_seats_at member member_seat cpus ++ rest)
     → AreNotesOf (room_of job.setup.shape) job.setup.mac
     (attempts_at member (logged_at (map logged_of cpus) cpu).arrivals (logged_at (map logged_of cpus) cpu).log)
     (own (may_note (get_or locks member lock).base) (at + cpu) notes)
-own_at job locks at [] cpu member lock stand notes rest fed below within has = absurd (omega (arith, below))
-own_at job locks at (left ∷ cpus) zero member lock stand notes rest fed below within has =
+own_at job locks at [] cpu member lock member_seat notes rest fed below within has = absurd (omega (arith, below))
+own_at job locks at (left ∷ cpus) zero member lock member_seat notes rest fed below within has =
     let here : at ≡ at + 0 = omega arith in
     subst (λ (n : ℕ). AreNotesOf (room_of job.setup.shape) job.setup.mac (attempts_at member (arrivals_in left.feed) left.feed.path.log)
     (own (may_note (get_or locks member lock).base) n notes)) here
-    (own_here job locks at member left lock stand notes fed.0 within has.0)
-own_at job locks at (left ∷ cpus) (suc cpu) member lock stand notes rest fed below within has =
+    (own_here job locks at member left lock member_seat notes fed.0 within has.0)
+own_at job locks at (left ∷ cpus) (suc cpu) member lock member_seat notes rest fed below within has =
     let there : at + 1 + cpu ≡ at + suc cpu = omega arith in
     subst (λ (n : ℕ). AreNotesOf (room_of job.setup.shape) job.setup.mac
     (attempts_at member (logged_at (map logged_of cpus) cpu).arrivals (logged_at (map logged_of cpus) cpu).log)
     (own (may_note (get_or locks member lock).base) n notes)) there
-    (own_at job locks (at + 1) cpus cpu member lock stand notes rest fed.1 (omega (arith, below)) within has.1)
+    (own_at job locks (at + 1) cpus cpu member lock member_seat notes rest fed.1 (omega (arith, below)) within has.1)

@@ -30,7 +30,7 @@ use Rattle.tp_layout.specs.Requests.{room_of, size_of}
 use Rattle.turn_lock.specs.Histories.{own}
 use Rattle.std.proofs.lemmas.List.Elements.{All-get_or}
 use Rattle.capture_reports.specs.Closed.{IsLockOf, MemberLeft, locks_of, notes_of_members, rings_of}
-use Rattle.capture_reports.specs.Left.{AreLeft, CpuLeft, all_stands_at, feeds_of, seats_of}
+use Rattle.capture_reports.specs.Left.{AreLeft, CpuLeft, all_member_seats_at, feeds_of, seats_of}
 use Rattle.capture_reports.specs.Reported.{IsGroupRun}
 use Rattle.capture_reports.specs.Timing.{IsTicked}
 use Rattle.capture_reports.proofs.FedCpus.{AllFed, Fed, all_fed, drawn_are, lawful_at, logged_are, logged_of, logs_are, own_at}
@@ -75,29 +75,29 @@ module _ (numbered : AreNumbered) (ticks : Ticks) (counts : Counts) (joins : Joi
       subst (IsLockOf job) (lock_at ticks counts job moments cpus members timer seats number left member none within)
       (All-get_or (IsLockOf job) (locks_of members) member none.lock (within_locks ticks counts job moments cpus members timer seats number left member within) left.locks)
 
-  run_at : (member : ℕ) (stand : Seat) (none : MemberLeft) → member < length members
+  run_at : (member : ℕ) (member_seat : Seat) (none : MemberLeft) → member < length members
       → runs.IsSeatRun (length (map logged_of cpus)) (notes_at (notes_of_members members) member)
-  run_at member stand none within =
-      let closed = left.closed member stand none within in
+  run_at member member_seat none within =
+      let closed = left.closed member member_seat none within in
       let lock = lock_there member none within in
       subst (runs.IsSeatRun (length (map logged_of cpus))) (sym (notes_there member none within))
-      (seat_run (get_or members member none).lock (length (map logged_of cpus)) (all_stands_at member stand cpus timer)
+      (seat_run (get_or members member none).lock (length (map logged_of cpus)) (all_member_seats_at member member_seat cpus timer)
       (get_or members member none).notes (lock.cpus ∙ sym cpus_are) closed.notes)
 
   abbrev AreOwn : ℕ → ℕ → List Note → Type 0
   AreOwn cpu member mine = AreNotesOf (room_of job.setup.shape) job.setup.mac
       (attempts_at member (logged_at (map logged_of cpus) cpu).arrivals (logged_at (map logged_of cpus) cpu).log) mine
 
-  added_at : (cpu member : ℕ) (stand : Seat) (none : MemberLeft) → cpu < length (map logged_of cpus) → member < length members
+  added_at : (cpu member : ℕ) (member_seat : Seat) (none : MemberLeft) → cpu < length (map logged_of cpus) → member < length members
       → AreOwn cpu member (own (may_add (length (map logged_of cpus))) cpu (notes_at (notes_of_members members) member))
-  added_at cpu member stand none below within =
-      let closed = left.closed member stand none within in
+  added_at cpu member member_seat none below within =
+      let closed = left.closed member member_seat none within in
       let lock = lock_there member none within in
       let notes : List Note = (get_or members member none).notes in
       let same = lock_at ticks counts job moments cpus members timer seats number left member none within in
-      let each = subst (λ (l : Lock). AllByRecursion (HasOwn l notes) (all_stands_at member stand cpus timer)) (sym same) closed.notes.each_seat in
+      let each = subst (λ (l : Lock). AllByRecursion (HasOwn l notes) (all_member_seats_at member member_seat cpus timer)) (sym same) closed.notes.each_seat in
       let mine : AreOwn cpu member (own (may_note (get_or (locks_of members) member none.lock).base) (0 + cpu) notes) =
-      own_at job (locks_of members) 0 cpus cpu member none.lock stand notes (get_or timer member stand ∷ []) fed
+      own_at job (locks_of members) 0 cpus cpu member none.lock member_seat notes (get_or timer member member_seat ∷ []) fed
       (subst (λ (n : ℕ). cpu < n) (length-map cpus logged_of) below)
       (within_locks ticks counts job moments cpus members timer seats number left member within) each in
       let here : 0 + cpu ≡ cpu = omega arith in
@@ -131,12 +131,12 @@ module _ (numbered : AreNumbered) (ticks : Ticks) (counts : Counts) (joins : Joi
   some_member member [] within = absurd (omega (arith, within))
   some_member member (one ∷ all) within = one
 
-  some_stand : (member : ℕ) (stands : List Seat) → member < length stands → Seat
-  some_stand member [] within = absurd (omega (arith, within))
-  some_stand member (stand ∷ stands) within = stand
+  some_member_seat : (member : ℕ) (member_seats : List Seat) → member < length member_seats → Seat
+  some_member_seat member [] within = absurd (omega (arith, within))
+  some_member_seat member (member_seat ∷ member_seats) within = member_seat
 
-  stand_of : (member : ℕ) → member < length members → Seat
-  stand_of member within = some_stand member timer (subst (λ (n : ℕ). member < n) (sym left.timed.count)
+  member_seat_of : (member : ℕ) → member < length members → Seat
+  member_seat_of member within = some_member_seat member timer (subst (λ (n : ℕ). member < n) (sym left.timed.count)
       (within_locks ticks counts job moments cpus members timer seats number left member within))
 
   threads : AreThreads (rules_of job) (room_of job.setup.shape) (map logged_of cpus) seats number (notes_of_members members)
@@ -145,9 +145,9 @@ module _ (numbered : AreNumbered) (ticks : Ticks) (counts : Counts) (joins : Joi
     count = length-map members notes_in ∙ left.member_count;
     frames = frames_at;
     lawful = λ cpu. lawful_at job (locks_of members) 0 cpus cpu fed;
-    runs = λ member within. let there = within_notes member within in run_at member (stand_of member there) (some_member member members there) there;
+    runs = λ member within. let there = within_notes member within in run_at member (member_seat_of member there) (some_member member members there) there;
     added = λ cpu member below within.
-        let there = within_notes member within in added_at cpu member (stand_of member there) (some_member member members there) below there;
+        let there = within_notes member within in added_at cpu member (member_seat_of member there) (some_member member members there) below there;
     tickets = have_tickets;
   }
 

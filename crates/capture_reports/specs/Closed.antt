@@ -37,9 +37,9 @@ AreRingsOf shape (notes ∷ all) (ring ∷ rings) =
     IsRingOf shape notes ring × AreRingsOf shape all rings
 
 -- a member was closed with these seats, which are all it has
-pub record IsClosedOver (shape : RingRequest) (stands : List Seat) (member : MemberLeft)
+pub record IsClosedOver (shape : RingRequest) (member_seats : List Seat) (member : MemberLeft)
     : Type 0 where
-  pub notes : AreClosedNotes member.lock stands member.notes
+  pub notes : AreClosedNotes member.lock member_seats member.notes
   pub run : IsWholeRun (size_of shape) member.notes
   pub ring : IsRingOf shape member.notes member.ring
 

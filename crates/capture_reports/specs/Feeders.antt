@@ -17,10 +17,10 @@ use Rattle.tp_layout.specs.Requests.{room_of}
 -- the seat of a CPU at a member: it isn't in a turn, and has added one note for each try at the
 -- member that the log of these arrivals has, in order
 pub record IsFedAt (job : Job) (cpu member : ℕ) (arrivals : List Frame) (log : List ArrivalLog)
-    (lock : Lock) (stand : Seat) : Type 0 where
-  pub ready : IsReady lock cpu stand
+    (lock : Lock) (member_seat : Seat) : Type 0 where
+  pub ready : IsReady lock cpu member_seat
   pub own : AreNotesOf (room_of job.setup.shape) job.setup.mac
-      (attempts_at member arrivals log) (own_of lock stand)
+      (attempts_at member arrivals log) (own_of lock member_seat)
 
 -- what arrives at the frames of a CPU's capture, so far as it was read
 abbrev pub arrivals_in : Feeding → List Frame
@@ -29,14 +29,14 @@ arrivals_in feed = arrivals_of (has_defrag feed.path.shape.flags) (frames_in fee
 -- The feeder of this CPU has fed all frames of its capture and logged what arrived, lawfully; its
 -- seats at the members have the notes of the log's tries, and in mode Lb its seat at the dealer
 -- drew the log's tickets.
-pub record HasFed (job : Job) (locks : List Lock) (cpu : ℕ) (feed : Feeding) (stands : List Seat)
-    (seat : SeatValue) : Type 0 where
+pub record HasFed (job : Job) (locks : List Lock) (cpu : ℕ) (feed : Feeding)
+    (member_seats : List Seat) (seat : SeatValue) : Type 0 where
   pub number : feed.number ≡ cpu
   pub shape : feed.path.shape ≡ job.setup.plan
   pub ended : IsSome feed.ended
   pub lawful : IsPath (rules_of job) (frames_in feed) feed.path
-  pub count : length stands ≡ length locks
-  pub each : (member : ℕ) (lock : Lock) (stand : Seat) → member < length stands →
+  pub count : length member_seats ≡ length locks
+  pub each : (member : ℕ) (lock : Lock) (member_seat : Seat) → member < length member_seats →
       IsFedAt job cpu member (arrivals_in feed) feed.path.log
-      (slice_index_or locks member lock) (slice_index_or stands member stand)
+      (slice_index_or locks member lock) (slice_index_or member_seats member member_seat)
   pub tickets : job.setup.plan.mode ≡ Lb → seat.drawn ≡ tickets_of feed.path.log

@@ -13,7 +13,7 @@ use Rattle.capture_reports.specs.Timing.{AreTimed}
 -- what a feeder left: its CPU, its seats at the members from 0 up, and its seat at the dealer
 pub record CpuLeft : Type 0 where
   pub feed : Feeding
-  pub stands : List Seat
+  pub member_seats : List Seat
   pub seat : SeatValue
 
 -- the CPUs
@@ -25,13 +25,13 @@ abbrev pub seats_of : List CpuLeft → List SeatValue
 seats_of cpus = map (λ cpu. cpu.seat) cpus
 
 -- the seats of the CPUs at a member
-abbrev pub stands_at : ℕ → Seat → List CpuLeft → List Seat
-stands_at member none cpus = map (λ cpu. slice_index_or cpu.stands member none) cpus
+abbrev pub member_seats_at : ℕ → Seat → List CpuLeft → List Seat
+member_seats_at member none cpus = map (λ cpu. slice_index_or cpu.member_seats member none) cpus
 
 -- the seats of the CPUs at a member, and after them the timer's
-abbrev pub all_stands_at : ℕ → Seat → List CpuLeft → List Seat → List Seat
-all_stands_at member none cpus timer =
-    stands_at member none cpus ++ slice_index_or timer member none ∷ []
+abbrev pub all_member_seats_at : ℕ → Seat → List CpuLeft → List Seat → List Seat
+all_member_seats_at member none cpus timer =
+    member_seats_at member none cpus ++ slice_index_or timer member none ∷ []
 
 -- the dealer was closed with these seats: those of the feeders, and others that drew no ticket
 pub record HaveDealt (cpus : List CpuLeft) (seats : List SeatValue) (number : ℕ) : Type 0 where
@@ -49,9 +49,9 @@ pub record AreLeft (job : Job) (moments : List ℕ) (cpus : List CpuLeft) (membe
   pub locks : All (IsLockOf job) (locks_of members)
   pub fed : (cpu : ℕ) (none : CpuLeft) → cpu < length cpus →
       let left = slice_index_or cpus cpu none in
-      HasFed job (locks_of members) cpu left.feed left.stands left.seat
+      HasFed job (locks_of members) cpu left.feed left.member_seats left.seat
   pub timed : AreTimed moments (locks_of members) timer
-  pub closed : (member : ℕ) (stand : Seat) (none : MemberLeft) → member < length members →
-      IsClosedOver job.setup.shape (all_stands_at member stand cpus timer)
+  pub closed : (member : ℕ) (member_seat : Seat) (none : MemberLeft) → member < length members →
+      IsClosedOver job.setup.shape (all_member_seats_at member member_seat cpus timer)
       (slice_index_or members member none)
   pub dealt : HaveDealt cpus seats number

@@ -5,7 +5,7 @@ use Rattle.std.proofs.lemmas.Bool.{eqb-true}
 use Rattle.std.proofs.lemmas.List.{length-drop}
 use Rattle.frame_view.specs.declared.frames.Frame.{Frame}
 use Rattle.capture_file.specs.Capture.{damage_of, end_of, frames_of}
-use Rattle.capture_file.specs.Decoding.{DecoderValue, Stands}
+use Rattle.capture_file.specs.Decoding.{DecoderValue, Represents}
 use Rattle.capture_file.specs.declared.error.CaptureError.{CaptureError}
 use Rattle.capture_file.specs.declared.cpu_end.CpuEnd.{CpuEnd}
 use Rattle.capture_file.specs.declared.cpu_end.CpuEnd.TheVariants.{Fault}
@@ -20,10 +20,10 @@ abbrev pub AreTooMany : Type 0
 AreTooMany = (bytes : List ℕ) → 33554432 < length bytes → IsSome (damage_of bytes)
 
 -- before the first piece
-pub begins : (number : ℕ) (first : Option SourceSeen) (decoder : DecoderValue) → Stands number decoder [] → frames_of number [] ≡ [] → damage_of [] ≡ None
+pub begins : (number : ℕ) (first : Option SourceSeen) (decoder : DecoderValue) → Represents number decoder [] → frames_of number [] ≡ [] → damage_of [] ≡ None
     → IsFed number first first [] None 0 0 decoder []
-begins number first decoder stands empty sound = record {
-  stands = stands;
+begins number first decoder represents empty sound = record {
+  represents = represents;
   waiting_is = sym empty;
   within = omega arith;
   given_is = refl;
@@ -40,7 +40,7 @@ ended_so : (number : ℕ) (first now then_ : Option SourceSeen) (bytes : List �
     → IsFed number first now bytes None fed given decoder waiting → Giving first then_ bytes (Some end)
     → IsFed number first then_ bytes (Some end) fed given decoder waiting
 ended_so number first now then_ bytes fed given decoder waiting end h giving = record {
-  stands = h.stands;
+  represents = h.represents;
   waiting_is = h.waiting_is;
   within = h.within;
   given_is = h.given_is;
@@ -65,11 +65,11 @@ failed many number first old new bytes fed given decoder waiting h none =
 -- a read gave no byte
 pub at_end : AreTooMany → (number : ℕ) (first : Option SourceSeen) (old new : SourceSeen) (bytes piece : List ℕ) (fed given : ℕ) (decoder : DecoderValue) (waiting : List Frame) (end : CpuEnd)
     → IsFed number first (Some old) bytes None fed given decoder waiting → GavePiece old new piece → piece ≡ []
-    → ((cpu : ℕ) (fed : List ℕ) → Stands cpu decoder fed → end ≡ end_by (end_of fed))
+    → ((cpu : ℕ) (fed : List ℕ) → Represents cpu decoder fed → end ≡ end_by (end_of fed))
     → IsFed number first (Some new) bytes (Some end) fed given decoder waiting
 at_end many number first old new bytes piece fed given decoder waiting end h gave empty is =
     ended_so number first (Some old) (Some new) bytes fed given decoder waiting end h
-    (end_gives first old new bytes piece end (is_small bytes (h.sound refl) (many bytes)) h.giving gave empty (is number bytes h.stands))
+    (end_gives first old new bytes piece end (is_small bytes (h.sound refl) (many bytes)) h.giving gave empty (is number bytes h.represents))
 
 pub no_bytes : (bytes : List ℕ) → true ≡ (length bytes == 0) → bytes ≡ []
 no_bytes [] e = refl
@@ -79,7 +79,7 @@ no_bytes (byte ∷ bytes) e = let none = eqb-true (length (byte ∷ bytes)) 0 (s
 pub ends_here : AreTooMany → (number : ℕ) (first now : Option SourceSeen) (old new : SourceSeen) (bytes piece : List ℕ) (ended : Option CpuEnd) (fed given : ℕ)
     (decoder : DecoderValue) (waiting : List Frame) (end : CpuEnd)
     → IsFed number first now bytes ended fed given decoder waiting → now ≡ Some old → ended ≡ None → GavePiece old new piece → piece ≡ []
-    → ((cpu : ℕ) (fed : List ℕ) → Stands cpu decoder fed → end ≡ end_by (end_of fed))
+    → ((cpu : ℕ) (fed : List ℕ) → Represents cpu decoder fed → end ≡ end_by (end_of fed))
     → IsFed number first (Some new) bytes (Some end) fed given decoder waiting
 ends_here many number first now old new bytes piece ended fed given decoder waiting end h there unended gave empty is =
     let P : Option SourceSeen → Option CpuEnd → Type 0 = λ n e. IsFed number first n bytes e fed given decoder waiting in
@@ -98,15 +98,15 @@ piece_more : (number : ℕ) (first : Option SourceSeen) (old new : SourceSeen) (
     (damage : Option CaptureError) → AreTooMany → IsTheEnd → IsUncut
     → IsFed number first (Some old) bytes None fed given before waiting → length (frames_of number bytes) ≤ fed
     → GavePiece old new piece → length piece ≤ 65536
-    → ((cpu : ℕ) (fed : List ℕ) → Stands cpu before fed → Decodes cpu fed piece decoder more damage)
+    → ((cpu : ℕ) (fed : List ℕ) → Represents cpu before fed → Decodes cpu fed piece decoder more damage)
     → IsFed number first (Some new) (bytes ++ piece) (ended_by damage) fed (given + length piece) decoder more
 piece_more number first old new bytes piece fed given before decoder waiting more damage many the_end uncut h all took small decodes =
-    let one : Decodes number bytes piece decoder more damage = decodes number bytes h.stands in
+    let one : Decodes number bytes piece decoder more damage = decodes number bytes h.represents in
     let within = h.within in
     let given_is = h.given_is in
     let same : length (frames_of number bytes) ≡ fed = omega (arith, within, all) in
     record {
-      stands = one.stands;
+      represents = one.represents;
       waiting_is = sym (ap (λ (fs : List Frame). drop fed fs) one.frames ∙ drop_front fed (frames_of number bytes) more same);
       within = omega (arith, within, ap (λ (fs : List Frame). length fs) one.frames, length-append (frames_of number bytes) more);
       given_is = omega (arith, given_is, length-append bytes piece);
@@ -119,7 +119,7 @@ pub piece_taken : (number : ℕ) (first now : Option SourceSeen) (old new : Sour
     (waiting more kept : List Frame) (damage : Option CaptureError) → AreTooMany → IsTheEnd → IsUncut
     → IsFed number first now bytes ended fed given before waiting → now ≡ Some old → ended ≡ None → length (frames_of number bytes) ≤ fed
     → GavePiece old new took → length took ≤ 65536 → piece ≡ took → grown ≡ bytes ++ took
-    → ((cpu : ℕ) (fed : List ℕ) → Stands cpu before fed → Decodes cpu fed piece decoder more damage) → kept ≡ more → after ≡ ended_by damage
+    → ((cpu : ℕ) (fed : List ℕ) → Represents cpu before fed → Decodes cpu fed piece decoder more damage) → kept ≡ more → after ≡ ended_by damage
     → IsFed number first (Some new) grown after fed (given + length piece) decoder kept
 piece_taken number first now old new bytes grown took piece ended after fed given before decoder waiting more kept damage many the_end uncut h there unended all took_is small same grown_is decodes kept_is after_is =
     let P : Option SourceSeen → Option CpuEnd → Type 0 = λ n e. IsFed number first n bytes e fed given before waiting in
@@ -135,10 +135,10 @@ piece_taken number first now old new bytes grown took piece ended after fed give
 -- the frames that are new
 pub piece_frames : (number : ℕ) (first now : Option SourceSeen) (bytes grown took piece : List ℕ) (ended : Option CpuEnd) (fed given : ℕ) (before decoder : DecoderValue)
     (waiting more : List Frame) (damage : Option CaptureError) → IsFed number first now bytes ended fed given before waiting → piece ≡ took → grown ≡ bytes ++ took
-    → ((cpu : ℕ) (fed : List ℕ) → Stands cpu before fed → Decodes cpu fed piece decoder more damage)
+    → ((cpu : ℕ) (fed : List ℕ) → Represents cpu before fed → Decodes cpu fed piece decoder more damage)
     → frames_of number grown ≡ frames_of number bytes ++ more
 piece_frames number first now bytes grown took piece ended fed given before decoder waiting more damage h same grown_is decodes =
-    let one : Decodes number bytes piece decoder more damage = decodes number bytes h.stands in
+    let one : Decodes number bytes piece decoder more damage = decodes number bytes h.represents in
     ap (λ (b : List ℕ). frames_of number b) (grown_is ∙ ap (λ (p : List ℕ). bytes ++ p) (sym same)) ∙ one.frames
 
 -- ---- what all frames are

@@ -4,7 +4,7 @@ use Rattle.std.specs.Prelude.{◌≡◌, ◌≢◌, ℕ, Bool, true, false, ◌+
 use Rattle.std.specs.Prelude.{◌++◌, length, drop, slice_get, is_some, if◌then◌else◌, Option, None}
 use Rattle.std.specs.Prelude.{Some, IsSome}
 use Rattle.capture_file.specs.Capture.{damage_of, frames_of}
-use Rattle.capture_file.specs.Decoding.{DecoderValue, Stands}
+use Rattle.capture_file.specs.Decoding.{DecoderValue, Represents}
 use Rattle.fanout_group.specs.Arrivals.{arrivals_from}
 use Rattle.fanout_group.specs.Paths.{Path}
 use Rattle.fanout_group.specs.Plans.{has_defrag}
@@ -50,7 +50,7 @@ waiting_of all cpu =
 pub record IsFed (number : ℕ) (first now : Option SourceSeen) (bytes : List ℕ)
     (ended : Option CpuEnd) (fed given : ℕ) (decoder : DecoderValue)
     (waiting : List Frame) : Type 0 where
-  pub stands : Stands number decoder bytes
+  pub represents : Represents number decoder bytes
   pub waiting_is : waiting ≡ drop fed (frames_of number bytes)
   pub within : fed ≤ length (frames_of number bytes)
   pub given_is : given ≡ length bytes

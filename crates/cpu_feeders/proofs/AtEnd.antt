@@ -13,14 +13,14 @@ use Rattle.ticket_dealer.specs.Seats.{DealerValue}
 use Rattle.turn_lock.specs.Seats.{IsIdleSeatOf}
 use Rattle.cpu_feeders.specs.inside.Closings.{AllAtEnd}
 use Rattle.cpu_feeders.specs.inside.FreshWorkers.{IsFreshReader, IsMemberOf, IsReaderAt}
-use Rattle.cpu_feeders.specs.inside.Stands.{with_all}
+use Rattle.cpu_feeders.specs.inside.MemberSeats.{with_all}
 use Rattle.cpu_feeders.specs.Walks.{Walks}
 use Rattle.cpu_feeders.specs.WorkerEffects.{IsWalkedOut}
 use Rattle.cpu_feeders.specs.declared.feeder.Feeder.{Feeder}
 use Rattle.cpu_feeders.specs.declared.walker.Walker.{Walker}
-use Rattle.cpu_feeders.proofs.FedFeeders.{Outs, idle_at, stands_in, stands_long}
+use Rattle.cpu_feeders.proofs.FedFeeders.{Outs, idle_at, member_seats_in, member_seats_long}
 use Rattle.cpu_feeders.proofs.Ticking.{item}
-use Rattle.cpu_feeders.proofs.StandLists.{all_at, items_at, no_list, nothing, with_all_long}
+use Rattle.cpu_feeders.proofs.MemberSeatLists.{all_at, items_at, no_list, nothing, with_all_long}
 
 -- a relation at each place is one of the lists
 pub by_places : {A B : Type 0} (R : A → B → Type 0) (xs : List A) (ys : List B) → length ys ≡ length xs
@@ -47,13 +47,13 @@ all_mapped P f (x ∷ xs) all = (all.0, all_mapped P f xs all.1)
 -- ---- the seats at a member
 
 -- all seats of a member are there, and none is in its turn
-pub record AreHandedIn (lock : Lock) (stands : List Seat) : Type 0 where
-  pub all : length stands ≡ lock.seats
-  pub own : AllByRecursion (IsIdleSeatOf lock) stands
+pub record AreHandedIn (lock : Lock) (member_seats : List Seat) : Type 0 where
+  pub all : length member_seats ≡ lock.seats
+  pub own : AllByRecursion (IsIdleSeatOf lock) member_seats
 
 -- the seats of all users
 abbrev pub columns_of : {S : Type 0} → List (Feeder S) → List Seat → List (List Seat)
-columns_of feeders timer = map stands_in feeders ++ timer ∷ []
+columns_of feeders timer = map member_seats_in feeders ++ timer ∷ []
 
 -- the seats at all members
 abbrev pub rows_of : {S : Type 0} → ℕ → List (Feeder S) → List Seat → List (List Seat)
@@ -64,43 +64,43 @@ module _ {S : Type 0} (job : Job) (dealer : DealerValue) (moments : List ℕ) (l
   -- each user has a seat at each member
   columns_long : AllByRecursion (λ (column : List Seat). length column ≡ length locks) (columns_of after timer)
   columns_long =
-      all_append (λ (column : List Seat). length column ≡ length locks) (map stands_in after) (timer ∷ [])
-      (all_mapped (λ (column : List Seat). length column ≡ length locks) stands_in after (stands_long job locks dealer before after outs)) (timed.count, tt)
+      all_append (λ (column : List Seat). length column ≡ length locks) (map member_seats_in after) (timer ∷ [])
+      (all_mapped (λ (column : List Seat). length column ≡ length locks) member_seats_in after (member_seats_long job locks dealer before after outs)) (timed.count, tt)
 
   pub rows_long : length (rows_of (length locks) after timer) ≡ length locks
   rows_long = with_all_long (columns_of after timer) (replicate (length locks) []) ∙ length-replicate (length locks) []
 
   -- a member's seats
-  pub row_is : (member : ℕ) (row : List Seat) (stand : Seat) → member < length locks
-      → get_or (rows_of (length locks) after timer) member row ≡ items_at member stand (columns_of after timer)
-  row_is member row stand within =
+  pub row_is : (member : ℕ) (row : List Seat) (member_seat : Seat) → member < length locks
+      → get_or (rows_of (length locks) after timer) member row ≡ items_at member member_seat (columns_of after timer)
+  row_is member row member_seat within =
       let many : length (replicate (length locks) (nothing {A = Seat})) ≡ length locks = length-replicate (length locks) nothing in
-      all_at (columns_of after timer) (replicate (length locks) []) member row stand (omega (arith, within, many))
+      all_at (columns_of after timer) (replicate (length locks) []) member row member_seat (omega (arith, within, many))
       (subst (λ (n : ℕ). AllByRecursion (λ (column : List Seat). length column ≡ n) (columns_of after timer)) (sym many) columns_long)
-      ∙ ap (λ (list : List Seat). list ++ items_at member stand (columns_of after timer)) (no_list (length locks) member row within)
+      ∙ ap (λ (list : List Seat). list ++ items_at member member_seat (columns_of after timer)) (no_list (length locks) member row within)
 
-  idle_columns : (member : ℕ) (lock : Lock) (stand : Seat) → member < length locks
-      → AllByRecursion (λ (column : List Seat). IsIdleSeatOf (get_or locks member lock) (get_or column member stand)) (columns_of after timer)
-  idle_columns member lock stand within =
+  idle_columns : (member : ℕ) (lock : Lock) (member_seat : Seat) → member < length locks
+      → AllByRecursion (λ (column : List Seat). IsIdleSeatOf (get_or locks member lock) (get_or column member member_seat)) (columns_of after timer)
+  idle_columns member lock member_seat within =
       let count = timed.count in
-      all_append (λ (column : List Seat). IsIdleSeatOf (get_or locks member lock) (get_or column member stand)) (map stands_in after) (timer ∷ [])
-      (idle_at job locks dealer before after member lock stand outs within)
-      ((timed.each member lock stand (omega (arith, within, count))).ready.idle, tt)
+      all_append (λ (column : List Seat). IsIdleSeatOf (get_or locks member lock) (get_or column member member_seat)) (map member_seats_in after) (timer ∷ [])
+      (idle_at job locks dealer before after member lock member_seat outs within)
+      ((timed.each member lock member_seat (omega (arith, within, count))).ready.idle, tt)
 
   handed_in : (member : ℕ) (lock : Lock) (row : List Seat) → AllByRecursion (IsMemberOf job) locks → length after ≡ length job.setup.cpus
       → member < length locks → AreHandedIn (get_or locks member lock) (get_or (rows_of (length locks) after timer) member row)
   handed_in member lock row members count within =
       let count_timer = timed.count in
-      let stand : Seat = item timer member (omega (arith, within, count_timer)) in
-      let row_stands = row_is member row stand within in
+      let member_seat : Seat = item timer member (omega (arith, within, count_timer)) in
+      let row_member_seats = row_is member row member_seat within in
       let seats = (at_place (IsMemberOf job) locks member lock members within).seats in
-      let long = length-map (columns_of after timer) (λ (column : List Seat). get_or column member stand) in
-      let users = length-append (map stands_in after) (timer ∷ []) in
-      let fed = length-map after stands_in in
-      subst (λ (stands : List Seat). AreHandedIn (get_or locks member lock) stands) (sym row_stands) (record {
+      let long = length-map (columns_of after timer) (λ (column : List Seat). get_or column member member_seat) in
+      let users = length-append (map member_seats_in after) (timer ∷ []) in
+      let fed = length-map after member_seats_in in
+      subst (λ (member_seats : List Seat). AreHandedIn (get_or locks member lock) member_seats) (sym row_member_seats) (record {
         all = omega (arith, seats, long, users, fed, count);
-        own = all_mapped (IsIdleSeatOf (get_or locks member lock)) (λ (column : List Seat). get_or column member stand) (columns_of after timer)
-            (idle_columns member lock stand within);
+        own = all_mapped (IsIdleSeatOf (get_or locks member lock)) (λ (column : List Seat). get_or column member member_seat) (columns_of after timer)
+            (idle_columns member lock member_seat within);
       })
 
   pub all_handed_in : AllByRecursion (IsMemberOf job) locks → length after ≡ length job.setup.cpus → AllZip AreHandedIn locks (rows_of (length locks) after timer)
@@ -119,21 +119,21 @@ module _ {T : Type 0} (base_of : T → Base) (taken_by : T → List Taken) where
 
   pub all_at_end : (locks : List Lock) (rows : List (List Seat)) (walkers : List (Walker T)) → AllZip AreHandedIn locks rows
       → AllZip IsBack locks walkers → AllAtEnd base_of taken_by locks rows walkers
-  all_at_end [] [] [] stands readers = tt
-  all_at_end [] [] (walker ∷ walkers) stands readers = absurd readers
-  all_at_end [] (row ∷ rows) walkers stands readers = absurd stands
-  all_at_end (lock ∷ locks) [] walkers stands readers = absurd stands
-  all_at_end (lock ∷ locks) (row ∷ rows) [] stands readers = absurd readers
-  all_at_end (lock ∷ locks) (row ∷ rows) (walker ∷ walkers) stands readers = (
+  all_at_end [] [] [] member_seats readers = tt
+  all_at_end [] [] (walker ∷ walkers) member_seats readers = absurd readers
+  all_at_end [] (row ∷ rows) walkers member_seats readers = absurd member_seats
+  all_at_end (lock ∷ locks) [] walkers member_seats readers = absurd member_seats
+  all_at_end (lock ∷ locks) (row ∷ rows) [] member_seats readers = absurd readers
+  all_at_end (lock ∷ locks) (row ∷ rows) (walker ∷ walkers) member_seats readers = (
     record {
-      all = stands.0.all;
-      own = stands.0.own;
+      all = member_seats.0.all;
+      own = member_seats.0.own;
       ring = readers.0.ring;
       shape = readers.0.shape;
       walks = readers.0.walks;
       full = readers.0.full;
     },
-    all_at_end locks rows walkers stands.1 readers.1,
+    all_at_end locks rows walkers member_seats.1 readers.1,
   )
 
   module _ (job : Job) (dealer : DealerValue) where

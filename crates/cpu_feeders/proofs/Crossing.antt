@@ -15,7 +15,7 @@ use Rattle.ip_defrag.specs.contracts.datagrams.Datagram as Datagram
 use Rattle.ip_defrag.specs.contracts.defrag.Defrag as Defrag
 use Rattle.ip_defrag.specs.contracts.fragments.Fragment as Fragment
 use Rattle.ip_defrag.specs.contracts.trace.Trace as DefragTrace
-use Rattle.member_turns.specs.contracts.member.Stand as Stand
+use Rattle.member_turns.specs.contracts.member.MemberSeat as MemberSeat
 use Rattle.member_turns.specs.contracts.member_ring.MemberRing as MemberRing
 use Rattle.ring_model.specs.contracts.notes.Note as Note
 use Rattle.tap_outside.specs.declared.reading.Source as source
@@ -62,8 +62,8 @@ trace_send = search (sendable, crosses) depth 40
 pub ring_send : IsSend MemberRing.the_row
 ring_send = search (sendable, crosses, seat.the_send, shared.the_send, shared.the_sync, lease.the_send, lease.the_sync, note_send, block_send) depth 60 fits 20000
 
-pub stand_send : IsSend Stand.the_row
-stand_send = search (sendable, crosses, seat.the_send, ring_send) depth 60 fits 20000
+pub member_seat_send : IsSend MemberSeat.the_row
+member_seat_send = search (sendable, crosses, seat.the_send, ring_send) depth 60 fits 20000
 
 pub buffer_send : IsSend Buffer.the_row
 buffer_send = search (sendable, crosses) depth 40
@@ -72,13 +72,13 @@ pub feed_send : (S : RattleType) (g : source.Ghosts S.Denot) → IsSend S → Is
 feed_send S g s = search (sendable, crosses, decoder_send, frame_send, path_send, trace_send) depth 60 fits 20000
 
 pub timer_send : IsSend (Timer.the_field).row
-timer_send = search (sendable, crosses, stand_send) depth 60 fits 20000
+timer_send = search (sendable, crosses, member_seat_send) depth 60 fits 20000
 
 pub walker_send : (T : RattleType) → IsSend T → IsSend (Walker.the_field T).row
 walker_send T t = search (sendable, crosses, seat_send, seat.the_send, shared.the_send, shared.the_sync, lease.the_send, lease.the_sync, block_send) depth 60 fits 20000
 
 pub feeder_send : (S : RattleType) (g : source.Ghosts S.Denot) → IsSend S → IsSend (Feeder.the_field S g).row
-feeder_send S g s = search (sendable, crosses, seat_send, stand_send, buffer_send, feed_send) depth 60 fits 20000
+feeder_send S g s = search (sendable, crosses, seat_send, member_seat_send, buffer_send, feed_send) depth 60 fits 20000
 
 pub worker_send : (S T : RattleType) (g : source.Ghosts S.Denot) → IsSend S → IsSend T → IsSend (Worker.the_row S T g)
 worker_send S T g s t = search (sendable, timer_send, walker_send, feeder_send) depth 60 fits 20000

@@ -21,7 +21,7 @@ use Rattle.run_reports.specs.Jobs.{lens_of, rules_of}
 use Rattle.setup_text.specs.declared.jobs.Job.{Job}
 use Rattle.ticket_dealer.specs.Seats.{SeatValue}
 use Rattle.tp_layout.specs.Requests.{room_of}
-use Rattle.cpu_feeders.specs.inside.FeedSteps.{AreFedAt, AreStands, Awaits, Goes, IsLogged, IsTriedAs, has_drawn_for}
+use Rattle.cpu_feeders.specs.inside.FeedSteps.{AreFedAt, AreMemberSeats, Awaits, Goes, IsLogged, IsTriedAs, has_drawn_for}
 
 -- what the delivery of an arrival adds to a seat's notes, by the law on it
 abbrev pub DeliveryAdds : Type 0
@@ -94,38 +94,38 @@ module _ (job : Job) (locks : List Lock) (arrival : Frame) (queue : ℕ) (ticket
   abbrev next : Feeding
   next = record old { path = logged whole_entry old.path }
 
-  changed : (member : ℕ) (lock : Lock) (stand : Seat) → member < length before
+  changed : (member : ℕ) (lock : Lock) (member_seat : Seat) → member < length before
       → Changed (offer_in (room_of job.setup.shape) job.setup.mac entry arrival) (fates_at member logs.tries)
-      (get_or locks member lock) (get_or before member stand) (get_or after member stand)
-  changed member lock stand within =
+      (get_or locks member lock) (get_or before member member_seat) (get_or after member member_seat)
+  changed member lock member_seat within =
       changed_by (lens_of job) (room_of job.setup.shape) arrival entry made (fates_at member logs.tries)
-      (get_or locks member lock) (get_or before member stand) (get_or after member stand) judged (logs.each member lock stand within)
+      (get_or locks member lock) (get_or before member member_seat) (get_or after member member_seat) judged (logs.each member lock member_seat within)
 
   there : (member : ℕ) → member < length after → member < length before
   there member within = let count = logs.count in omega (arith, within, count)
 
-  stands_after : AreStands old.number (9 * old.fed) locks after
-  stands_after = record {
-    count = logs.count ∙ awaits.stands_are.count;
-    ready = λ member lock stand within.
-        (changed member lock stand (there member within)).ready old.number (awaits.stands_are.ready member lock stand (there member within));
-    entered = λ member stand within.
-        let turns = logs.entered member stand (there member within) in
-        let most = awaits.stands_are.entered member stand (there member within) in
+  member_seats_after : AreMemberSeats old.number (9 * old.fed) locks after
+  member_seats_after = record {
+    count = logs.count ∙ awaits.member_seats_are.count;
+    ready = λ member lock member_seat within.
+        (changed member lock member_seat (there member within)).ready old.number (awaits.member_seats_are.ready member lock member_seat (there member within));
+    entered = λ member member_seat within.
+        let turns = logs.entered member member_seat (there member within) in
+        let most = awaits.member_seats_are.entered member member_seat (there member within) in
         let room = awaits.room in
         omega (arith, turns, most, room);
   }
 
   fed_after : (earlier : List Frame) → length earlier ≡ length old.path.log → AreFedAt job old.number earlier old.path.log locks before
       → AreFedAt job old.number (earlier ++ arrival ∷ []) (old.path.log ++ whole_entry ∷ []) locks after
-  fed_after earlier same fed member lock stand within =
-      let was = fed member lock stand (there member within) in
-      let now = changed member lock stand (there member within) in
+  fed_after earlier same fed member lock member_seat within =
+      let was = fed member lock member_seat (there member within) in
+      let now = changed member lock member_seat (there member within) in
       record {
         ready = now.ready old.number was.ready;
         own = subst (λ (own : List Note). AreNotesOf (room_of job.setup.shape) job.setup.mac
             (attempts_at member (earlier ++ arrival ∷ []) (old.path.log ++ whole_entry ∷ [])) own) (sym now.own)
-            (adds (room_of job.setup.shape) job.setup.mac member earlier old.path.log (own_of (get_or locks member lock) (get_or before member stand))
+            (adds (room_of job.setup.shape) job.setup.mac member earlier old.path.log (own_of (get_or locks member lock) (get_or before member member_seat))
             arrival whole_entry now.notes was.own same now.are_notes);
       }
 
@@ -145,7 +145,7 @@ module _ (job : Job) (locks : List Lock) (arrival : Frame) (queue : ℕ) (ticket
   goes_next = record {
     shape = awaits.shape;
     few = awaits.few;
-    stands_are = stands_after;
+    member_seats_are = member_seats_after;
     lawful = λ all whole. subst (λ (feed : Feeding). IsLawful (rules_of job) all feed) logs.new_is (lawful_after all whole);
     noted = λ all whole.
         let to = awaits.noted all whole in

@@ -8,7 +8,7 @@ use Rattle.capture_model.specs.Threads.{DrewNone}
 use Rattle.capture_reading.specs.Sources.{AllGave}
 use Rattle.capture_reports.specs.Closed.{IsClosedOver, IsLockOf, MemberLeft, locks_of, notes_of_members, rings_of}
 use Rattle.capture_reports.specs.Feeders.{HasFed}
-use Rattle.capture_reports.specs.Left.{AreLeft, CpuLeft, all_stands_at, feeds_of}
+use Rattle.capture_reports.specs.Left.{AreLeft, CpuLeft, all_member_seats_at, feeds_of}
 use Rattle.capture_reports.specs.Reported.{IsGroupRun}
 use Rattle.capture_reports.specs.Timing.{AreTimed}
 use Rattle.cpu_feed.specs.Closing.{AllClose, bytes_of, ends_of, firsts_of}
@@ -29,7 +29,7 @@ use Rattle.cpu_feeders.specs.inside.Crews.{HaveWorked}
 use Rattle.cpu_feeders.specs.inside.FreshWorkers.{IsMemberOf}
 use Rattle.cpu_feeders.specs.inside.WorkerKinds.{feeders_in, is_full, timers_in, walkers_in}
 use Rattle.cpu_feeders.specs.Runs.{AreTakersOf, IsTakerRun}
-use Rattle.cpu_feeders.specs.inside.Stands.{with_all}
+use Rattle.cpu_feeders.specs.inside.MemberSeats.{with_all}
 use Rattle.cpu_feeders.specs.Timing.{TimesOut}
 use Rattle.cpu_feeders.specs.WorkerEffects.{IsFedOut, IsWalkedOut}
 use Rattle.cpu_feeders.specs.declared.closed_members.Closed.{Closed}
@@ -40,7 +40,7 @@ use Rattle.cpu_feeders.specs.declared.worker.Worker.{Worker}
 use Rattle.cpu_feeders.proofs.AllClosed as closed
 use Rattle.cpu_feeders.proofs.AtEnd.{all_append, all_at_end, all_back, all_handed_in, columns_of, row_is, rows_of}
 use Rattle.cpu_feeders.proofs.FedFeeders as fed
-use Rattle.cpu_feeders.proofs.StandLists.{items_at}
+use Rattle.cpu_feeders.proofs.MemberSeatLists.{items_at}
 use Rattle.cpu_feeders.proofs.WorkerOrder as order
 
 -- the law on what threads leave, and that on what sources gave
@@ -57,7 +57,7 @@ LeavesGiven = (cpus : List Feeding) (nows : List (Option SourceSeen)) (logs : Li
 -- one timer has told all moments
 timer_out : (moments : List ℕ) (locks : List Lock) (timer : Timer) (timers : List Timer)
     → AllZip (λ (old new : Timer). TimesOut moments locks new) (timer ∷ []) timers → AllByRecursion (λ (t : Timer). t.full ≡ false) timers
-    → (last : Timer) × (timers ≡ last ∷ []) × AreTimed moments locks last.stands.items
+    → (last : Timer) × (timers ≡ last ∷ []) × AreTimed moments locks last.member_seats.items
 timer_out moments locks timer [] out free = absurd out
 timer_out moments locks timer (last ∷ []) out free = (last, refl, out.0 free.0)
 timer_out moments locks timer (last ∷ other ∷ timers) out free = absurd out.1
@@ -75,14 +75,14 @@ weaker P Q [] to all = tt
 weaker P Q (seat ∷ seats) to all = (to seat all.0, weaker P Q seats to all.1)
 
 -- the seats of a member, as two lists
-stands_at : {S : Type 0} (member : ℕ) (none : Seat) (feeders : List (Feeder S)) (timer : List Seat)
-    → items_at member none (columns_of feeders timer) ≡ all_stands_at member none (map fed.left_of feeders) timer
-stands_at member none [] timer = refl
-stands_at member none (feeder ∷ feeders) timer =
-    ap (λ (stands : List Seat). get_or feeder.stands.items member none ∷ stands) (stands_at member none feeders timer)
+member_seats_at : {S : Type 0} (member : ℕ) (none : Seat) (feeders : List (Feeder S)) (timer : List Seat)
+    → items_at member none (columns_of feeders timer) ≡ all_member_seats_at member none (map fed.left_of feeders) timer
+member_seats_at member none [] timer = refl
+member_seats_at member none (feeder ∷ feeders) timer =
+    ap (λ (member_seats : List Seat). get_or feeder.member_seats.items member none ∷ member_seats) (member_seats_at member none feeders timer)
 
-abbrev pub timer_stands : Timer → List Seat
-timer_stands timer = timer.stands.items
+abbrev pub timer_member_seats : Timer → List Seat
+timer_member_seats timer = timer.member_seats.items
 
 module _ {S T : Type 0} (base_of : T → Base) (taken_by : T → List Taken) (job : Job) (moments : List ℕ) (firsts : List (Option SourceSeen))
     (takers : List T) (locks : List Lock) (dealer : DealerValue) (spare : List SeatValue) (workers : List (Worker S T))
@@ -115,7 +115,7 @@ module _ {S T : Type 0} (base_of : T → Base) (taken_by : T → List Taken) (jo
   outs : fed.Outs job locks dealer old_feeders feeders
   outs = fed.all_out job locks dealer old_feeders feeders fed_out (order.free_feeders workers free)
 
-  pub timer_is : (last : Timer) × (timers_in workers ≡ last ∷ []) × AreTimed moments locks last.stands.items
+  pub timer_is : (last : Timer) × (timers_in workers ≡ last ∷ []) × AreTimed moments locks last.member_seats.items
   timer_is =
       timer_out moments locks worked.hired.timer (timers_in workers)
       (subst (λ (ts : List Timer). AllZip (λ (old new : Timer). TimesOut moments locks new) ts (timers_in workers))
@@ -126,7 +126,7 @@ module _ {S T : Type 0} (base_of : T → Base) (taken_by : T → List Taken) (jo
   abbrev pub timer : Timer
   timer = timer_is.0
 
-  timed : AreTimed moments locks timer.stands.items
+  timed : AreTimed moments locks timer.member_seats.items
   timed = timer_is.2
 
   old_count : length old_feeders ≡ length job.setup.cpus
@@ -139,30 +139,30 @@ module _ {S T : Type 0} (base_of : T → Base) (taken_by : T → List Taken) (jo
 
   -- ---- what the calls ask for
 
-  pub feeders_stand : (all : List (Feeder S)) (members : ℕ) → all ≡ feeders → members ≡ job.setup.plan.members
-      → AllByRecursion (λ (f : Feeder S). length f.stands.items ≡ members) all
-  feeders_stand all members are count =
-      subst (λ (fs : List (Feeder S)). AllByRecursion (λ (f : Feeder S). length f.stands.items ≡ members) fs) (sym are)
-      (subst (λ (n : ℕ). AllByRecursion (λ (f : Feeder S). length f.stands.items ≡ n) feeders) (worked.hired.count ∙ sym count)
-      (fed.stands_long job locks dealer old_feeders feeders outs))
+  pub feeders_member_seat : (all : List (Feeder S)) (members : ℕ) → all ≡ feeders → members ≡ job.setup.plan.members
+      → AllByRecursion (λ (f : Feeder S). length f.member_seats.items ≡ members) all
+  feeders_member_seat all members are count =
+      subst (λ (fs : List (Feeder S)). AllByRecursion (λ (f : Feeder S). length f.member_seats.items ≡ members) fs) (sym are)
+      (subst (λ (n : ℕ). AllByRecursion (λ (f : Feeder S). length f.member_seats.items ≡ n) feeders) (worked.hired.count ∙ sym count)
+      (fed.member_seats_long job locks dealer old_feeders feeders outs))
 
-  pub timers_stand : (all : List Timer) (members : ℕ) → all ≡ timers_in workers → members ≡ job.setup.plan.members
-      → AllByRecursion (λ (t : Timer). length t.stands.items ≡ members) all
-  timers_stand all members are count =
-      subst (λ (ts : List Timer). AllByRecursion (λ (t : Timer). length t.stands.items ≡ members) ts) (sym (are ∙ timer_is.1))
+  pub timers_member_seat : (all : List Timer) (members : ℕ) → all ≡ timers_in workers → members ≡ job.setup.plan.members
+      → AllByRecursion (λ (t : Timer). length t.member_seats.items ≡ members) all
+  timers_member_seat all members are count =
+      subst (λ (ts : List Timer). AllByRecursion (λ (t : Timer). length t.member_seats.items ≡ members) ts) (sym (are ∙ timer_is.1))
       (timed.count ∙ worked.hired.count ∙ sym count, tt)
 
   abbrev pub all_rows : List (List Seat)
-  all_rows = rows_of (length locks) feeders timer.stands.items
+  all_rows = rows_of (length locks) feeders timer.member_seats.items
 
   pub rows_are : (some_feeders : List (Feeder S)) (timers : List Timer) (members : ℕ) (rows : List (List Seat)) → some_feeders ≡ feeders
       → timers ≡ timers_in workers → members ≡ job.setup.plan.members
-      → rows ≡ with_all (replicate members []) (map fed.stands_in some_feeders ++ map timer_stands timers) → rows ≡ all_rows
+      → rows ≡ with_all (replicate members []) (map fed.member_seats_in some_feeders ++ map timer_member_seats timers) → rows ≡ all_rows
   rows_are some_feeders timers members rows feeders_are timers_are count are =
       are
-      ∙ ap (λ (n : ℕ). with_all (replicate n []) (map fed.stands_in some_feeders ++ map timer_stands timers)) (count ∙ sym worked.hired.count)
-      ∙ ap (λ (fs : List (Feeder S)). with_all (replicate (length locks) []) (map fed.stands_in fs ++ map timer_stands timers)) feeders_are
-      ∙ ap (λ (ts : List Timer). with_all (replicate (length locks) []) (map fed.stands_in feeders ++ map timer_stands ts)) (timers_are ∙ timer_is.1)
+      ∙ ap (λ (n : ℕ). with_all (replicate n []) (map fed.member_seats_in some_feeders ++ map timer_member_seats timers)) (count ∙ sym worked.hired.count)
+      ∙ ap (λ (fs : List (Feeder S)). with_all (replicate (length locks) []) (map fed.member_seats_in fs ++ map timer_member_seats timers)) feeders_are
+      ∙ ap (λ (ts : List Timer). with_all (replicate (length locks) []) (map fed.member_seats_in feeders ++ map timer_member_seats ts)) (timers_are ∙ timer_is.1)
 
   pub at_end : (rows : List (List Seat)) (some_walkers : List (Walker T)) → rows ≡ all_rows → some_walkers ≡ walkers
       → AllAtEnd base_of taken_by locks rows some_walkers
@@ -170,7 +170,7 @@ module _ {S T : Type 0} (base_of : T → Base) (taken_by : T → List Taken) (jo
       subst (λ (ws : List (Walker T)). AllAtEnd base_of taken_by locks rows ws) (sym walkers_are)
       (subst (λ (rs : List (List Seat)). AllAtEnd base_of taken_by locks rs walkers) (sym rows_is)
       (all_at_end base_of taken_by locks all_rows walkers
-      (all_handed_in job dealer moments locks old_feeders feeders timer.stands.items outs timed worked.hired.members feeder_count)
+      (all_handed_in job dealer moments locks old_feeders feeders timer.member_seats.items outs timed worked.hired.members feeder_count)
       (all_back base_of taken_by job dealer locks old_walkers walkers worked.hired.members worked.hired.readers worked.hired.fresh_readers
       walked_out (order.free_walkers workers free))))
 
@@ -239,33 +239,33 @@ module _ {S T : Type 0} (base_of : T → Base) (taken_by : T → List Taken) (jo
     members_long = sym (length-map members (λ (member : MemberLeft). member.lock)) ∙ ap (λ (ls : List Lock). length ls) locks_are
 
     fed_at : (cpu : ℕ) (none : CpuLeft) → cpu < length (map fed.left_of feeders)
-        → let left = get_or (map fed.left_of feeders) cpu none in HasFed job locks cpu left.feed left.stands left.seat
+        → let left = get_or (map fed.left_of feeders) cpu none in HasFed job locks cpu left.feed left.member_seats left.seat
     fed_at cpu none within =
         let from : 0 + cpu ≡ cpu = omega arith in
         let left = get_or (map fed.left_of feeders) cpu none in
-        subst (λ (number : ℕ). HasFed job locks number left.feed left.stands left.seat) from
+        subst (λ (number : ℕ). HasFed job locks number left.feed left.member_seats left.seat) from
         (fed.all_fed job locks dealer job.setup.plan 0 firsts old_feeders feeders worked.hired.feeds_are outs cpu none within)
 
-    closed_at : (member : ℕ) (stand : Seat) (none : MemberLeft) → member < length members
-        → IsClosedOver job.setup.shape (all_stands_at member stand (map fed.left_of feeders) timer.stands.items) (get_or members member none)
-    closed_at member stand none within =
+    closed_at : (member : ℕ) (member_seat : Seat) (none : MemberLeft) → member < length members
+        → IsClosedOver job.setup.shape (all_member_seats_at member member_seat (map fed.left_of feeders) timer.member_seats.items) (get_or members member none)
+    closed_at member member_seat none within =
         let long = members_long in
         let there : member < length locks = omega (arith, within, long) in
-        subst (λ (stands : List Seat). IsClosedOver job.setup.shape stands (get_or members member none))
-        (row_is job dealer moments locks old_feeders feeders timer.stands.items outs timed member [] stand there
-        ∙ stands_at member stand feeders timer.stands.items)
+        subst (λ (member_seats : List Seat). IsClosedOver job.setup.shape member_seats (get_or members member none))
+        (row_is job dealer moments locks old_feeders feeders timer.member_seats.items outs timed member [] member_seat there
+        ∙ member_seats_at member member_seat feeders timer.member_seats.items)
         (closed.closed_over base_of taken_by job locks all_rows walkers all over worked.hired.members member [] none within)
 
     left : (number : ℕ) (seats : List SeatValue) → seats ≡ all_seats → AreDealt seats number
-        → AreLeft job moments (map fed.left_of feeders) members timer.stands.items seats number
+        → AreLeft job moments (map fed.left_of feeders) members timer.member_seats.items seats number
     left number seats are dealt = record {
       cpu_count = fed.lefts_long feeders ∙ feeder_count;
       member_count = members_long ∙ worked.hired.count;
       locks = subst (λ (ls : List Lock). All (IsLockOf job) ls) (sym locks_are) (all_of (IsLockOf job) locks (only_locks job locks worked.hired.members));
       fed = λ cpu none within.
           let one = get_or (map fed.left_of feeders) cpu none in
-          subst (λ (ls : List Lock). HasFed job ls cpu one.feed one.stands one.seat) (sym locks_are) (fed_at cpu none within);
-      timed = subst (λ (ls : List Lock). AreTimed moments ls timer.stands.items) (sym locks_are) timed;
+          subst (λ (ls : List Lock). HasFed job ls cpu one.feed one.member_seats one.seat) (sym locks_are) (fed_at cpu none within);
+      timed = subst (λ (ls : List Lock). AreTimed moments ls timer.member_seats.items) (sym locks_are) timed;
       closed = closed_at;
       dealt = record {
         dealt = dealt;
@@ -289,7 +289,7 @@ module _ {S T : Type 0} (base_of : T → Base) (taken_by : T → List Taken) (jo
         let lefts : List CpuLeft = map fed.left_of feeders in
         let closes : AllClose (feeds_of lefts) nows logs = subst (λ (cs : List Feeding). AllClose cs nows logs) (cpus_are ∙ sym (fed.feeds_are feeders)) close in
         let run : IsGroupRun job moments (bytes_of (feeds_of lefts)) (ends_of logs) logs (notes_of_members members) (rings_of members) =
-        group job moments lefts members timer.stands.items seats number nows logs setup (left number seats are dealt) closes in
+        group job moments lefts members timer.member_seats.items seats number nows logs setup (left number seats are dealt) closes in
         record {
           bytes = bytes_of (feeds_of lefts);
           ends = ends_of logs;

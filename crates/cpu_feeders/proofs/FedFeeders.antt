@@ -30,14 +30,14 @@ module _ {S : Type 0} where
   abbrev pub feed_in : Feeder S → Feeding
   feed_in feeder = feeder.feed
 
-  abbrev pub stands_in : Feeder S → List Seat
-  stands_in feeder = feeder.stands.items
+  abbrev pub member_seats_in : Feeder S → List Seat
+  member_seats_in feeder = feeder.member_seats.items
 
   abbrev pub seat_in : Feeder S → SeatValue
   seat_in feeder = feeder.seat
 
   abbrev pub left_of : Feeder S → CpuLeft
-  left_of feeder = record { feed = feeder.feed; stands = feeder.stands.items; seat = feeder.seat }
+  left_of feeder = record { feed = feeder.feed; member_seats = feeder.member_seats.items; seat = feeder.seat }
 
   pub feeds_are : (feeders : List (Feeder S)) → feeds_of (map left_of feeders) ≡ map feed_in feeders
   feeds_are [] = refl
@@ -75,12 +75,12 @@ module _ {S : Type 0} where
     outs_long (o ∷ before) [] outs = absurd outs
     outs_long (o ∷ before) (n ∷ after) outs = ap suc (outs_long before after outs.1)
 
-    pub stands_long : (before after : List (Feeder S)) → Outs before after
-        → AllByRecursion (λ (f : Feeder S). length f.stands.items ≡ length locks) after
-    stands_long [] [] outs = tt
-    stands_long [] (n ∷ after) outs = absurd outs
-    stands_long (o ∷ before) [] outs = absurd outs
-    stands_long (o ∷ before) (n ∷ after) outs = (outs.0.fed.count, stands_long before after outs.1)
+    pub member_seats_long : (before after : List (Feeder S)) → Outs before after
+        → AllByRecursion (λ (f : Feeder S). length f.member_seats.items ≡ length locks) after
+    member_seats_long [] [] outs = tt
+    member_seats_long [] (n ∷ after) outs = absurd outs
+    member_seats_long (o ∷ before) [] outs = absurd outs
+    member_seats_long (o ∷ before) (n ∷ after) outs = (outs.0.fed.count, member_seats_long before after outs.1)
 
     pub all_ended : (before after : List (Feeder S)) → Outs before after → AllByRecursion (λ (cpu : Feeding). IsSome cpu.ended) (map feed_in after)
     all_ended [] [] outs = tt
@@ -97,19 +97,19 @@ module _ {S : Type 0} where
         ∙ ap (λ (firsts : List (Option SourceSeen)). o.feed.first ∷ firsts) (same_firsts before after outs.1)
 
     -- the seats at a member
-    pub idle_at : (before after : List (Feeder S)) (member : ℕ) (lock : Lock) (stand : Seat) → Outs before after → member < length locks
-        → AllByRecursion (λ (stands : List Seat). IsIdleSeatOf (get_or locks member lock) (get_or stands member stand)) (map stands_in after)
-    idle_at [] [] member lock stand outs within = tt
-    idle_at [] (n ∷ after) member lock stand outs within = absurd outs
-    idle_at (o ∷ before) [] member lock stand outs within = absurd outs
-    idle_at (o ∷ before) (n ∷ after) member lock stand outs within =
+    pub idle_at : (before after : List (Feeder S)) (member : ℕ) (lock : Lock) (member_seat : Seat) → Outs before after → member < length locks
+        → AllByRecursion (λ (member_seats : List Seat). IsIdleSeatOf (get_or locks member lock) (get_or member_seats member member_seat)) (map member_seats_in after)
+    idle_at [] [] member lock member_seat outs within = tt
+    idle_at [] (n ∷ after) member lock member_seat outs within = absurd outs
+    idle_at (o ∷ before) [] member lock member_seat outs within = absurd outs
+    idle_at (o ∷ before) (n ∷ after) member lock member_seat outs within =
         let count = outs.0.fed.count in
-        ((outs.0.fed.each member lock stand (omega (arith, within, count))).ready.idle, idle_at before after member lock stand outs.1 within)
+        ((outs.0.fed.each member lock member_seat (omega (arith, within, count))).ready.idle, idle_at before after member lock member_seat outs.1 within)
 
     -- each CPU was fed
     pub all_fed : (plan : Shape) (at : ℕ) (firsts : List (Option SourceSeen)) (before after : List (Feeder S))
         → map feed_in before ≡ first_feeds plan at firsts → Outs before after → (cpu : ℕ) (none : CpuLeft) → cpu < length (map left_of after)
-        → let left = get_or (map left_of after) cpu none in HasFed job locks (at + cpu) left.feed left.stands left.seat
+        → let left = get_or (map left_of after) cpu none in HasFed job locks (at + cpu) left.feed left.member_seats left.seat
     all_fed plan at firsts [] [] are outs cpu none within = absurd (omega (arith, within))
     all_fed plan at firsts [] (n ∷ after) are outs cpu none within = absurd outs
     all_fed plan at firsts (o ∷ before) [] are outs cpu none within = absurd outs
@@ -117,12 +117,12 @@ module _ {S : Type 0} where
     all_fed plan at (first ∷ firsts) (o ∷ before) (n ∷ after) are outs zero none within =
         let head : o.feed ≡ first_feed plan at first = cc in
         let number : o.feed.number ≡ at + 0 = omega (arith, ap (λ (f : Feeding). f.number) head) in
-        subst (λ (number : ℕ). HasFed job locks number n.feed n.stands.items n.seat) number outs.0.fed
+        subst (λ (number : ℕ). HasFed job locks number n.feed n.member_seats.items n.seat) number outs.0.fed
     all_fed plan at (first ∷ firsts) (o ∷ before) (n ∷ after) are outs (suc cpu) none within =
         let rest : map feed_in before ≡ first_feeds plan (at + 1) firsts = cc in
         let there : at + 1 + cpu ≡ at + suc cpu = omega arith in
         let left = get_or (map left_of after) cpu none in
-        subst (λ (number : ℕ). HasFed job locks number left.feed left.stands left.seat) there
+        subst (λ (number : ℕ). HasFed job locks number left.feed left.member_seats left.seat) there
         (all_fed plan (at + 1) firsts before after rest outs.1 cpu none (omega (arith, within)))
 
 -- ---- feeders that are made one after the other

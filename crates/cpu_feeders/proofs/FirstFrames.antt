@@ -14,8 +14,8 @@ use Rattle.run_reports.specs.Jobs.{rules_of}
 use Rattle.setup_text.specs.declared.jobs.Job.{Job}
 use Rattle.ticket_dealer.specs.Seats.{DealerValue, SeatValue}
 use Rattle.tp_layout.specs.Requests.{room_of}
-use Rattle.cpu_feeders.specs.inside.FeedSteps.{AreFedAt, AreStands, Goes}
-use Rattle.cpu_feeders.specs.Feeds.{FeedsOut, IsFreshSeat, IsFreshStand}
+use Rattle.cpu_feeders.specs.inside.FeedSteps.{AreFedAt, AreMemberSeats, Goes}
+use Rattle.cpu_feeders.specs.Feeds.{FeedsOut, IsFreshSeat, IsFreshMemberSeat}
 use Rattle.cpu_feeders.specs.declared.feeder.Feeder.{Feeder}
 use Rattle.cpu_feeders.proofs.NextFrames.{fed_same}
 use Rattle.cpu_feeders.proofs.Ticking.{item}
@@ -27,36 +27,36 @@ first_lawful : (rules : Rules) (plan : Shape) (path : Path) → path ≡ first_p
 first_lawful rules plan path is =
     subst (λ (p : Path). IsPath rules [] p) (sym is) (record { held_is = refl; lawful = tt; present_is = refl })
 
-module _ (job : Job) (locks : List Lock) (dealer : DealerValue) (feed : Feeding) (stands : List Seat) (seat : SeatValue) (fed : feed.fed ≡ 0)
-    (path : feed.path ≡ first_path job.setup.plan) (count : length stands ≡ length locks)
-    (each : (member : ℕ) (lock : Lock) (stand : Seat) → member < length stands → IsFreshStand feed.number (get_or locks member lock) (get_or stands member stand))
+module _ (job : Job) (locks : List Lock) (dealer : DealerValue) (feed : Feeding) (member_seats : List Seat) (seat : SeatValue) (fed : feed.fed ≡ 0)
+    (path : feed.path ≡ first_path job.setup.plan) (count : length member_seats ≡ length locks)
+    (each : (member : ℕ) (lock : Lock) (member_seat : Seat) → member < length member_seats → IsFreshMemberSeat feed.number (get_or locks member lock) (get_or member_seats member member_seat))
     (fresh : IsFreshSeat dealer seat) where
   log_is : feed.path.log ≡ []
   log_is = ap (λ (p : Path). p.log) path
 
-  first_noted : AreFedAt job feed.number [] [] locks stands
-  first_noted member lock stand within = record {
-    ready = (each member lock stand within).ready;
-    own = subst (λ (notes : List Note). AreNotesOf (room_of job.setup.shape) job.setup.mac [] notes) (sym (each member lock stand within).none) tt;
+  first_noted : AreFedAt job feed.number [] [] locks member_seats
+  first_noted member lock member_seat within = record {
+    ready = (each member lock member_seat within).ready;
+    own = subst (λ (notes : List Note). AreNotesOf (room_of job.setup.shape) job.setup.mac [] notes) (sym (each member lock member_seat within).none) tt;
   }
 
-  first_stands : AreStands feed.number (9 * feed.fed) locks stands
-  first_stands = record {
+  first_member_seats : AreMemberSeats feed.number (9 * feed.fed) locks member_seats
+  first_member_seats = record {
     count = count;
-    ready = λ member lock stand within. (each member lock stand within).ready;
-    entered = λ member stand within. let none = (each member (item locks member (omega (arith, within, count))) stand within).entered in omega (arith, none);
+    ready = λ member lock member_seat within. (each member lock member_seat within).ready;
+    entered = λ member member_seat within. let none = (each member (item locks member (omega (arith, within, count))) member_seat within).entered in omega (arith, none);
   }
 
-  pub first_goes : Goes job locks feed stands seat
+  pub first_goes : Goes job locks feed member_seats seat
   first_goes = record {
     shape = ap (λ (p : Path). p.shape) path;
     few = omega (arith, fed);
-    stands_are = first_stands;
+    member_seats_are = first_member_seats;
     lawful = λ all whole.
         subst (λ (frames : List Frame). IsPath (rules_of job) frames feed.path) (sym (none_taken all feed.fed fed))
         (first_lawful (rules_of job) job.setup.plan feed.path path);
     noted = λ all whole.
-        fed_same job feed.number feed.number [] (arrivals_of (has_defrag feed.path.shape.flags) (take feed.fed all)) [] feed.path.log locks stands refl
+        fed_same job feed.number feed.number [] (arrivals_of (has_defrag feed.path.shape.flags) (take feed.fed all)) [] feed.path.log locks member_seats refl
         (ap (λ (frames : List Frame). arrivals_of (has_defrag feed.path.shape.flags) frames) (none_taken all feed.fed fed)) log_is first_noted;
     tickets = fresh.fresh.1 ∙ sym (ap (λ (log : List ArrivalLog). tickets_of log) log_is);
     drawn = let none = ap (λ (drawn : List ℕ). length drawn) fresh.fresh.1 in omega (arith, none);

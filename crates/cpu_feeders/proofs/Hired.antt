@@ -22,11 +22,11 @@ use Rattle.tp_layout.specs.Requests.{numbers_of}
 use Rattle.tp_layout.specs.declared.requests.RingRequest.{RingRequest}
 use Rattle.turn_lock.specs.Histories.{own}
 use Rattle.turn_lock.specs.Seats.{fresh_seat}
-use Rattle.cpu_feeders.specs.Feeds.{IsFreshFeeder, IsFreshSeat, IsFreshStand}
+use Rattle.cpu_feeders.specs.Feeds.{IsFreshFeeder, IsFreshSeat, IsFreshMemberSeat}
 use Rattle.cpu_feeders.specs.inside.FreshWorkers.{AreHired, IsFreshReader, IsMemberOf, IsReaderAt, first_feed, first_feeds, in_order}
 use Rattle.cpu_feeders.specs.inside.Openings.{IsOpened}
 use Rattle.cpu_feeders.specs.Runs.{IsFreshTaker}
-use Rattle.cpu_feeders.specs.inside.Stands.{fresh_stands, fresh_users}
+use Rattle.cpu_feeders.specs.inside.MemberSeats.{fresh_member_seats, fresh_users}
 use Rattle.cpu_feeders.specs.Walks.{Walks, taken_of}
 use Rattle.cpu_feeders.specs.WorkerEffects.{IsReadyWorker}
 use Rattle.cpu_feeders.specs.declared.feeder.Feeder.{Feeder}
@@ -35,7 +35,7 @@ use Rattle.cpu_feeders.specs.declared.walker.Walker.{Walker}
 use Rattle.cpu_feeders.specs.declared.worker.Worker.{Worker}
 use Rattle.cpu_feeders.specs.declared.worker.Worker.TheVariants as worker
 use Rattle.cpu_feeders.proofs.AtEnd.{at_place}
-use Rattle.cpu_feeders.proofs.FedFeeders.{feed_in, firsts_long, stands_in}
+use Rattle.cpu_feeders.proofs.FedFeeders.{feed_in, firsts_long, member_seats_in}
 use Rattle.cpu_feeders.proofs.WorkerOrder.{all_ready}
 
 -- the member's list has nothing yet
@@ -49,12 +49,12 @@ none_added : (lock : Lock) (number : ℕ) → IsEmpty lock → own_of lock (fres
 none_added lock number empty = ap (λ (notes : List Note). own (may_note lock.base) number notes) empty
 
 -- a user's seat at a member
-stand_at : (locks : List Lock) (number member : ℕ) (lock : Lock) (stand : Seat) → member < length locks
-    → get_or (fresh_stands locks number) member stand ≡ fresh_seat (get_or locks member lock) number
-stand_at locks number member lock stand within = get_or-map (λ (l : Lock). fresh_seat l number) locks member lock stand within
+member_seat_at : (locks : List Lock) (number member : ℕ) (lock : Lock) (member_seat : Seat) → member < length locks
+    → get_or (fresh_member_seats locks number) member member_seat ≡ fresh_seat (get_or locks member lock) number
+member_seat_at locks number member lock member_seat within = get_or-map (λ (l : Lock). fresh_seat l number) locks member lock member_seat within
 
-stands_many : (locks : List Lock) (number : ℕ) → length (fresh_stands locks number) ≡ length locks
-stands_many locks number = length-map locks (λ (l : Lock). fresh_seat l number)
+member_seats_many : (locks : List Lock) (number : ℕ) → length (fresh_member_seats locks number) ≡ length locks
+member_seats_many locks number = length-map locks (λ (l : Lock). fresh_seat l number)
 
 module _ (job : Job) (locks : List Lock) (members : AllByRecursion (IsMemberOf job) locks) (empty : AllByRecursion IsEmpty locks)
     (count : length locks ≡ job.setup.plan.members) where
@@ -67,30 +67,30 @@ module _ (job : Job) (locks : List Lock) (members : AllByRecursion (IsMemberOf j
       })
 
   -- the timer's seats
-  pub first_timed : (stands : List Seat) → stands ≡ fresh_stands locks (length job.setup.cpus) → AreTimed [] locks stands
-  first_timed stands are = subst (λ (s : List Seat). AreTimed [] locks s) (sym are) (record {
-    count = stands_many locks (length job.setup.cpus);
+  pub first_timed : (member_seats : List Seat) → member_seats ≡ fresh_member_seats locks (length job.setup.cpus) → AreTimed [] locks member_seats
+  first_timed member_seats are = subst (λ (s : List Seat). AreTimed [] locks s) (sym are) (record {
+    count = member_seats_many locks (length job.setup.cpus);
     each = λ member lock seat within.
-        let many = stands_many locks (length job.setup.cpus) in
+        let many = member_seats_many locks (length job.setup.cpus) in
         let there : member < length locks = omega (arith, within, many) in
-        fresh_timed (get_or locks member lock) (length job.setup.cpus) (get_or (fresh_stands locks (length job.setup.cpus)) member seat)
+        fresh_timed (get_or locks member lock) (length job.setup.cpus) (get_or (fresh_member_seats locks (length job.setup.cpus)) member seat)
         (at_place (IsMemberOf job) locks member lock members there).is_lock.cpus (at_place IsEmpty locks member lock empty there)
-        (stand_at locks (length job.setup.cpus) member lock seat there);
+        (member_seat_at locks (length job.setup.cpus) member lock seat there);
   })
 
-  fresh_stand : (lock : Lock) (number : ℕ) (stand : Seat) → IsEmpty lock → stand ≡ fresh_seat lock number → IsFreshStand number lock stand
-  fresh_stand lock number stand none is =
-      subst (λ (s : Seat). IsFreshStand number lock s) (sym is)
+  fresh_member_seat : (lock : Lock) (number : ℕ) (member_seat : Seat) → IsEmpty lock → member_seat ≡ fresh_seat lock number → IsFreshMemberSeat number lock member_seat
+  fresh_member_seat lock number member_seat none is =
+      subst (λ (s : Seat). IsFreshMemberSeat number lock s) (sym is)
       (record { ready = fresh_ready lock number; entered = refl; none = none_added lock number none })
 
   module _ {S : Type 0} (dealer : DealerValue) where
     fresh_feeder : (number : ℕ) (first : Option SourceSeen) (feeder : Feeder S) → feeder.feed ≡ first_feed job.setup.plan number first
-        → feeder.stands.items ≡ fresh_stands locks number → feeder.full ≡ false → IsFreshSeat dealer feeder.seat → number < length job.setup.cpus
+        → feeder.member_seats.items ≡ fresh_member_seats locks number → feeder.full ≡ false → IsFreshSeat dealer feeder.seat → number < length job.setup.cpus
         → IsFreshFeeder job locks dealer feeder
-    fresh_feeder number first feeder feed stands free seat one_of =
+    fresh_feeder number first feeder feed member_seats free seat one_of =
         let number_is : feeder.feed.number ≡ number = ap (λ (f : Feeding). f.number) feed in
-        let many = stands_many locks number in
-        let long : length feeder.stands.items ≡ length locks = ap (λ (s : List Seat). length s) stands ∙ many in
+        let many = member_seats_many locks number in
+        let long : length feeder.member_seats.items ≡ length locks = ap (λ (s : List Seat). length s) member_seats ∙ many in
         record {
           full = free;
           fed = ap (λ (f : Feeding). f.fed) feed;
@@ -103,29 +103,29 @@ module _ (job : Job) (locks : List Lock) (members : AllByRecursion (IsMemberOf j
                 omega (arith, cpus, number_is, one_of);
           };
           count = long;
-          each = λ member lock stand within.
+          each = λ member lock member_seat within.
               let there : member < length locks = omega (arith, within, long) in
-              let here : get_or feeder.stands.items member stand ≡ fresh_seat (get_or locks member lock) number =
-              ap (λ (s : List Seat). get_or s member stand) stands ∙ stand_at locks number member lock stand there in
-              subst (λ (n : ℕ). IsFreshStand n (get_or locks member lock) (get_or feeder.stands.items member stand)) (sym number_is)
-              (fresh_stand (get_or locks member lock) number (get_or feeder.stands.items member stand) (at_place IsEmpty locks member lock empty there) here);
+              let here : get_or feeder.member_seats.items member member_seat ≡ fresh_seat (get_or locks member lock) number =
+              ap (λ (s : List Seat). get_or s member member_seat) member_seats ∙ member_seat_at locks number member lock member_seat there in
+              subst (λ (n : ℕ). IsFreshMemberSeat n (get_or locks member lock) (get_or feeder.member_seats.items member member_seat)) (sym number_is)
+              (fresh_member_seat (get_or locks member lock) number (get_or feeder.member_seats.items member member_seat) (at_place IsEmpty locks member lock empty there) here);
           seat = seat;
         }
 
     -- the feeders
     pub fresh_feeders : (at : ℕ) (firsts : List (Option SourceSeen)) (feeders : List (Feeder S)) → map feed_in feeders ≡ first_feeds job.setup.plan at firsts
-        → map stands_in feeders ≡ fresh_users locks at (length firsts) → AllByRecursion (λ (f : Feeder S). f.full ≡ false) feeders
+        → map member_seats_in feeders ≡ fresh_users locks at (length firsts) → AllByRecursion (λ (f : Feeder S). f.full ≡ false) feeders
         → AllByRecursion (λ (f : Feeder S). IsFreshSeat dealer f.seat) feeders → at + length firsts ≡ length job.setup.cpus
         → AllByRecursion (IsFreshFeeder job locks dealer) feeders
-    fresh_feeders at firsts [] feeds stands free seats all = tt
-    fresh_feeders at [] (feeder ∷ feeders) feeds stands free seats all = cc
-    fresh_feeders at (first ∷ firsts) (feeder ∷ feeders) feeds stands free seats all =
+    fresh_feeders at firsts [] feeds member_seats free seats all = tt
+    fresh_feeders at [] (feeder ∷ feeders) feeds member_seats free seats all = cc
+    fresh_feeders at (first ∷ firsts) (feeder ∷ feeders) feeds member_seats free seats all =
         let feed : feeder.feed ≡ first_feed job.setup.plan at first = cc in
         let feeds_left : map feed_in feeders ≡ first_feeds job.setup.plan (at + 1) firsts = cc in
-        let stand : feeder.stands.items ≡ fresh_stands locks at = cc in
-        let stands_left : map stands_in feeders ≡ fresh_users locks (at + 1) (length firsts) = cc in (
-          fresh_feeder at first feeder feed stand free.0 seats.0 (omega (arith, all)),
-          fresh_feeders (at + 1) firsts feeders feeds_left stands_left free.1 seats.1 (omega (arith, all)),
+        let member_seat : feeder.member_seats.items ≡ fresh_member_seats locks at = cc in
+        let member_seats_left : map member_seats_in feeders ≡ fresh_users locks (at + 1) (length firsts) = cc in (
+          fresh_feeder at first feeder feed member_seat free.0 seats.0 (omega (arith, all)),
+          fresh_feeders (at + 1) firsts feeders feeds_left member_seats_left free.1 seats.1 (omega (arith, all)),
         )
 
 -- ---- members and readers
@@ -237,12 +237,12 @@ module _ {S T : Type 0} (base_of : T → Base) (taken_by : T → List Taken) (jo
       → AllZip (IsOpened job.setup.shape (length job.setup.cpus)) locks ends → AllByRecursion (IsFreshTaker base_of taken_by job.setup.shape) takers
       → map taker_in walkers ≡ takers → map end_in walkers ≡ ends
       → AllByRecursion (λ (w : Walker T). (w.released ≡ 0) × (w.full ≡ false)) walkers → AllByRecursion (λ (w : Walker T). IsFreshOf dealer w.seat) walkers
-      → timer.stands.items ≡ fresh_stands locks (length job.setup.cpus) → users ≡ fresh_users locks 0 (length job.setup.cpus)
-      → map feed_in feeders ≡ first_feeds job.setup.plan 0 firsts → map stands_in feeders ≡ users
+      → timer.member_seats.items ≡ fresh_member_seats locks (length job.setup.cpus) → users ≡ fresh_users locks 0 (length job.setup.cpus)
+      → map feed_in feeders ≡ first_feeds job.setup.plan 0 firsts → map member_seats_in feeders ≡ users
       → AllByRecursion (λ (f : Feeder S). f.full ≡ false) feeders → AllByRecursion (λ (f : Feeder S). IsFreshSeat dealer f.seat) feeders
       → length walkers + length spare ≡ 9 → dealer.feeders ≡ length job.setup.cpus → AllByRecursion (IsFreshOf dealer) spare
       → workers ≡ in_order walkers timer feeders → AreHired base_of taken_by job firsts takers locks dealer spare workers
-  hired ends users spare walkers timer feeders workers sources count opened fresh takers_are ends_are unread seats timer_is users_are feeds stands free drawing
+  hired ends users spare walkers timer feeders workers sources count opened fresh takers_are ends_are unread seats timer_is users_are feeds member_seats free drawing
       spare_count feeder_count spare_are workers_are =
       let members = opened_members job locks ends opened in
       let readers = fresh_readers base_of taken_by job.setup.shape dealer (length job.setup.cpus) locks walkers
@@ -261,9 +261,9 @@ module _ {S T : Type 0} (base_of : T → Base) (taken_by : T → List Taken) (jo
         readers = readers.0;
         fresh_readers = readers.1;
         takers_are = takers_are;
-        timed = first_timed job locks members.0 members.1 count timer.stands.items timer_is;
+        timed = first_timed job locks members.0 members.1 count timer.member_seats.items timer_is;
         fresh_feeders = fresh_feeders job locks members.0 members.1 count dealer 0 firsts feeders feeds
-            (stands ∙ users_are ∙ ap (λ (n : ℕ). fresh_users locks 0 n) (sym sources)) free drawing (omega (arith, sources));
+            (member_seats ∙ users_are ∙ ap (λ (n : ℕ). fresh_users locks 0 n) (sym sources)) free drawing (omega (arith, sources));
         feeds_are = feeds;
         seats = spare_count;
         feeder_count = feeder_count ∙ sym feeders_many;

@@ -1,5 +1,5 @@
 pub mod Ticking
-pub mod StandLists
+pub mod MemberSeatLists
 pub mod WorkerOrder
 pub mod FedFeeders
 pub mod AtEnd

@@ -6,8 +6,8 @@ use Rattle.std.proofs.lemmas.List.{map-append}
 use Rattle.std.proofs.lemmas.Slice.Zip.{all_zipped_more}
 use Rattle.member_turns.specs.Seats.{Lock, Seat}
 use Rattle.turn_lock.specs.Seats.{fresh_seats}
-use Rattle.cpu_feeders.specs.inside.Stands.{fresh_users, with_all, with_each}
-use Rattle.cpu_feeders.proofs.StandLists.{one_member}
+use Rattle.cpu_feeders.specs.inside.MemberSeats.{fresh_users, with_all, with_each}
+use Rattle.cpu_feeders.proofs.MemberSeatLists.{one_member}
 
 -- ---- items that are handed on from one list to another
 
@@ -47,10 +47,10 @@ zip_more {A = A} {B = B} R xs now ys later x y xs_is ys_is all one =
 
 -- ---- seats at members
 
-pub grown_users : (locks more : List Lock) (lock : Lock) (count : ℕ) (users now : List (List Seat)) (stands : List Seat) → users ≡ fresh_users locks 0 count
-    → stands ≡ fresh_seats lock 0 count → now ≡ with_each users stands → more ≡ locks ++ lock ∷ [] → now ≡ fresh_users more 0 count
-grown_users locks more lock count users now stands users_are stands_are now_is more_is =
-    now_is ∙ ap (λ (us : List (List Seat)). with_each us stands) users_are ∙ ap (with_each (fresh_users locks 0 count)) stands_are
+pub grown_users : (locks more : List Lock) (lock : Lock) (count : ℕ) (users now : List (List Seat)) (member_seats : List Seat) → users ≡ fresh_users locks 0 count
+    → member_seats ≡ fresh_seats lock 0 count → now ≡ with_each users member_seats → more ≡ locks ++ lock ∷ [] → now ≡ fresh_users more 0 count
+grown_users locks more lock count users now member_seats users_are member_seats_are now_is more_is =
+    now_is ∙ ap (λ (us : List (List Seat)). with_each us member_seats) users_are ∙ ap (with_each (fresh_users locks 0 count)) member_seats_are
     ∙ one_member locks lock 0 count ∙ ap (λ (ls : List Lock). fresh_users ls 0 count) (sym more_is)
 
 pub next_rows : {A : Type 0} (column_of : A → List Seat) (all rows now : List (List Seat)) (rest after : List A) (x : A) → rest ≡ x ∷ after

@@ -16,10 +16,10 @@ pub record AreMembersFor (job : Job) (cpu : ℕ) (locks : List Lock) : Type 0 wh
       cpu < (slice_index_or locks member lock).base.cpus
 
 -- a CPU's seat at a member, before its first turn
-pub record IsFreshStand (cpu : ℕ) (lock : Lock) (stand : Seat) : Type 0 where
-  pub ready : IsReady lock cpu stand
-  pub entered : stand.entered ≡ 0
-  pub none : own_of lock stand ≡ []
+pub record IsFreshMemberSeat (cpu : ℕ) (lock : Lock) (member_seat : Seat) : Type 0 where
+  pub ready : IsReady lock cpu member_seat
+  pub entered : member_seat.entered ≡ 0
+  pub none : own_of lock member_seat ≡ []
 
 -- a feeder's seat at the dealer, before its first ticket
 pub record IsFreshSeat (dealer : DealerValue) (seat : SeatValue) : Type 0 where
@@ -33,17 +33,17 @@ pub record IsFreshFeeder {S : Type 0} (job : Job) (locks : List Lock) (dealer : 
   pub fed : feeder.feed.fed ≡ 0
   pub path : feeder.feed.path ≡ first_path job.setup.plan
   pub members : AreMembersFor job feeder.feed.number locks
-  pub count : length feeder.stands.items ≡ length locks
-  pub each : (member : ℕ) (lock : Lock) (stand : Seat) → member < length feeder.stands.items →
-      IsFreshStand feeder.feed.number (slice_index_or locks member lock)
-      (slice_index_or feeder.stands.items member stand)
+  pub count : length feeder.member_seats.items ≡ length locks
+  pub each : (member : ℕ) (lock : Lock) (member_seat : Seat) → member < length feeder.member_seats.items →
+      IsFreshMemberSeat feeder.feed.number (slice_index_or locks member lock)
+      (slice_index_or feeder.member_seats.items member member_seat)
   pub seat : IsFreshSeat dealer feeder.seat
 
 -- a feeder has fed all frames of the source that it was given
 pub record FeedsOut {S : Type 0} (job : Job) (locks : List Lock) (before after : Feeder S)
     : Type 0 where
   pub first : after.feed.first ≡ before.feed.first
-  pub fed : HasFed job locks before.feed.number after.feed after.stands.items after.seat
+  pub fed : HasFed job locks before.feed.number after.feed after.member_seats.items after.seat
 
 -- a feeder's seat of this dealer that owes nothing: it has called `done`
 pub record HasEnded (dealer : DealerValue) (seat : SeatValue) : Type 0 where

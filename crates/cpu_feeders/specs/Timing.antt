@@ -19,4 +19,4 @@ pub record HaveTicked (ms : ℕ) (locks : List Lock) (before after : List Seat) 
 
 -- unless a request for memory was refused the timer has told each member all moments
 abbrev pub TimesOut : List ℕ → List Lock → Timer → Type 0
-TimesOut moments locks timer = timer.full ≡ false → AreTimed moments locks timer.stands.items
+TimesOut moments locks timer = timer.full ≡ false → AreTimed moments locks timer.member_seats.items

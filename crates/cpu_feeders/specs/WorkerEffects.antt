@@ -29,7 +29,7 @@ module _ {S T : Type 0} (base_of : T → Base) (taken_by : T → List Taken) (jo
   -- a worker that has done nothing
   abbrev pub IsReadyWorker : Worker S T → Type 0
   IsReadyWorker (worker.Walks walker) = Walks base_of taken_by (base_of walker.taker) walker × IsFreshOf dealer walker.seat
-  IsReadyWorker (worker.Ticks timer) = AreTimed [] locks timer.stands.items
+  IsReadyWorker (worker.Ticks timer) = AreTimed [] locks timer.member_seats.items
   IsReadyWorker (worker.Feeds feeder) = IsFreshFeeder job locks dealer feeder
 
   -- what it leaves, where these are the moments

@@ -5,5 +5,5 @@ pub mod FeedSteps
 pub mod FreshWorkers
 pub mod Openings
 pub mod Readers
-pub mod Stands
+pub mod MemberSeats
 pub mod WorkerKinds

@@ -7,11 +7,11 @@ ghost use Rattle.member_turns.specs.Closings.{contents_of};
 ghost use Rattle.tp_layout.specs.Requests.{numbers_of};
 
 use crate::Walker;
-use crate::stands::StandList;
+use crate::member_seats::SeatList;
 use crate::taking::first_of;
 use fanout_group::DealerSeat;
 use frame_view::Memory;
-use member_turns::{Member, Stand, close_member};
+use member_turns::{Member, MemberSeat, close_member};
 use reader_walk::Taker;
 use ring_model::Notes;
 use ring_words::Pending;
@@ -53,15 +53,15 @@ fn read_pending<T: Taker>(taker: &mut T, pending: &Pending<Block>) -> Result<(),
 fn close_one<T: Taker + Drop>(
     alloc: Global,
     member: Member,
-    stands: Vec<Stand>,
+    member_seats: Vec<MemberSeat>,
     walker: Walker<T>,
 ) -> Result<Closed<T>, Memory>
-    requires { AreAtEnd T.base T.taken member stands.items walker }
+    requires { AreAtEnd T.base T.taken member member_seats.items walker }
     ensures { IfOk result (λ closed.
-        IsClosedWith T.base T.taken member stands.items walker closed) }
+        IsClosedWith T.base T.taken member member_seats.items walker closed) }
 {
     let mut taker = walker.taker;
-    let closed = close_member(alloc, member, stands, walker.end)?;
+    let closed = close_member(alloc, member, member_seats, walker.end)?;
     read_pending(&mut taker, &closed.pending)?;
     Ok(Closed {
         notes: closed.notes,
@@ -75,19 +75,19 @@ fn close_one<T: Taker + Drop>(
 pub(crate) fn close_group<T: Taker + Drop>(
     alloc: Global,
     members: Vec<Member>,
-    stands: Vec<StandList>,
+    member_seats: Vec<SeatList>,
     walkers: Vec<Walker<T>>,
 ) -> Result<Vec<Closed<T>>, Memory>
-    requires { AllAtEnd T.base T.taken members.items stands.items walkers.items }
+    requires { AllAtEnd T.base T.taken members.items member_seats.items walkers.items }
     ensures { IfOk result (λ closed.
-        AllClosedWith T.base T.taken members.items stands.items walkers.items closed.items) }
+        AllClosedWith T.base T.taken members.items member_seats.items walkers.items closed.items) }
 {
     let mut members = VecDeque::from(members);
-    let mut stands = VecDeque::from(stands);
+    let mut member_seats = VecDeque::from(member_seats);
     let mut all = Vec::with_capacity(alloc, walkers.len())?;
     for walker in walkers {
         let member = first_of(&mut members);
-        let list = first_of(&mut stands);
+        let list = first_of(&mut member_seats);
         all.push(close_one(alloc, member, list.into_vec(), walker)?)?;
     }
     Ok(all)

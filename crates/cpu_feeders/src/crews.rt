@@ -82,7 +82,7 @@ fn crew_of<S: Source, T: Taker + Drop>(
     let mut users = group.users;
     let mut spare = dealt.spare;
     let timer = Timer {
-        stands: last_of(&mut users).into_vec(),
+        member_seats: last_of(&mut users).into_vec(),
         full: false,
     };
     let walkers = walkers_of(alloc, takers, group.ends, &mut spare)?;

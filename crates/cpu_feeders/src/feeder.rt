@@ -19,7 +19,7 @@ use capture_reading::Buffer;
 use cpu_feed::{CpuFeed, Fed, rules_at};
 use fanout_group::{ArrivalLog, Dealer, DealerSeat, Mode};
 use frame_view::{Frame, Memory};
-use member_turns::{Member, Stand, TurnDesk};
+use member_turns::{Member, MemberSeat, TurnDesk};
 use ring_model::Offer;
 use setup_text::Job;
 use std::alloc::Global;
@@ -33,7 +33,7 @@ pub struct Feeder<S: Source> {
     /// Its CPU.
     pub feed: CpuFeed<S>,
     /// Its seat at each member, from 0 up.
-    pub stands: Vec<Stand>,
+    pub member_seats: Vec<MemberSeat>,
     /// Its seat at the dealer, from which it draws tickets.
     pub seat: DealerSeat,
     /// What its source is read into.
@@ -67,17 +67,17 @@ fn deliver<S: Source, R: Wait>(
 ) -> Result<(), Memory>
     requires ticket { HasTicket feeder.old.feed.path.shape.mode entry.ticket }
     requires none { entry.tries ≡ [] }
-    requires desk { AreForDesk offer members.now feeder.old.stands.items }
+    requires desk { AreForDesk offer members.now feeder.old.member_seats.items }
     requires takes { (member : ℕ) → member < feeder.old.feed.path.shape.members
         → TakesAt offer members.now member offer }
     ensures ok { OnOk result (IsLogged queue members.now entry (Some offer)
-        feeder.old.feed feeder.new.feed feeder.old.stands.items feeder.new.stands.items) }
+        feeder.old.feed feeder.new.feed feeder.old.member_seats.items feeder.new.member_seats.items) }
     ensures seat { feeder.new.seat ≡ feeder.old.seat }
 {
-    let stands = mem::replace(&mut feeder.stands, Vec::new(alloc));
-    let mut desk = TurnDesk::new(rt, members, stands, &offer);
+    let member_seats = mem::replace(&mut feeder.member_seats, Vec::new(alloc));
+    let mut desk = TurnDesk::new(rt, members, member_seats, &offer);
     let delivered = feeder.feed.deliver(alloc, &mut desk, queue, entry, offer);
-    feeder.stands = desk.into_stands();
+    feeder.member_seats = desk.into_member_seats();
     delivered
 }
 
@@ -95,12 +95,12 @@ fn log<S: Source, R: Wait, G: Gate>(
     requires ticket { HasTicket feeder.old.feed.path.shape.mode entry.ticket }
     requires none { entry.tries ≡ [] }
     requires desk { IfSome offer (λ offer.
-        AreForDesk offer members.now feeder.old.stands.items) }
+        AreForDesk offer members.now feeder.old.member_seats.items) }
     requires takes { IfSome offer (λ offer.
         (member : ℕ) → member < feeder.old.feed.path.shape.members
         → TakesAt offer members.now member offer) }
     ensures ok { OnOk result (IsLogged queue members.now entry offer
-        feeder.old.feed feeder.new.feed feeder.old.stands.items feeder.new.stands.items) }
+        feeder.old.feed feeder.new.feed feeder.old.member_seats.items feeder.new.member_seats.items) }
     ensures seat { feeder.new.seat ≡ feeder.old.seat }
 {
     match offer {
@@ -130,9 +130,9 @@ fn arrive<S: Source, R: Wait, G: Gate>(
     requires arrival { IsArrival arrival }
     requires seat { IsDrawing dealer.now feeder.old.seat }
     requires awaits { Awaits job.now members.now arrival
-        feeder.old.feed feeder.old.stands.items feeder.old.seat }
+        feeder.old.feed feeder.old.member_seats.items feeder.old.seat }
     ensures goes { OnOk result (Goes job.now members.now
-        feeder.new.feed feeder.new.stands.items feeder.new.seat) }
+        feeder.new.feed feeder.new.member_seats.items feeder.new.seat) }
     ensures fed { OnOk result (feeder.new.feed.fed ≡ feeder.old.feed.fed) }
     ensures same { OnOk result (IsSameSource feeder.old.feed feeder.new.feed) }
     ensures seat { IsDrawing dealer.now feeder.new.seat }
@@ -166,9 +166,9 @@ fn feed_next<S: Source, R: Wait, G: Gate>(
     requires members { AreMembersFor job.now feeder.old.feed.number members.now }
     requires seat { IsDrawing dealer.now feeder.old.seat }
     requires goes { Goes job.now members.now
-        feeder.old.feed feeder.old.stands.items feeder.old.seat }
+        feeder.old.feed feeder.old.member_seats.items feeder.old.seat }
     ensures fed { IfOk result (λ more. FeedsOn more job.now members.now
-        feeder.old.feed feeder.new.feed feeder.new.stands.items feeder.new.seat) }
+        feeder.old.feed feeder.new.feed feeder.new.member_seats.items feeder.new.seat) }
     ensures same { OnOk result (IsSameSource feeder.old.feed feeder.new.feed) }
     ensures seat { IsDrawing dealer.now feeder.new.seat }
 {

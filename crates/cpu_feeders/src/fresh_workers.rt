@@ -9,7 +9,7 @@ ghost use Rattle.cpu_feeders.specs.declared.worker.Worker.TheVariants as worker;
 ghost use Rattle.ticket_dealer.specs.Seats.{DealerValue, IsFreshOf};
 
 use crate::feeder::Feeder;
-use crate::stands::StandList;
+use crate::member_seats::SeatList;
 use crate::taking::{first_of, last_of};
 use crate::worker::Worker;
 use crate::{Timer, Walker};
@@ -31,22 +31,22 @@ fn fresh_feeder<S: Source>(
     number: u32,
     plan: Plan,
     source: Option<S>,
-    users: &mut VecDeque<StandList>,
+    users: &mut VecDeque<SeatList>,
     seats: &mut Vec<DealerSeat>,
 ) -> Result<Feeder<S>, Memory>
     requires users { 0 < length users.old.items }
     requires seats { 0 < length seats.old.items }
     ensures feed { IfOk result (λ feeder.
         feeder.feed ≡ first_feed plan number (option_map S.seen source)) }
-    ensures stands { IfOk result (λ feeder.
-        users.old.items ≡ feeder.stands.items ∷ users.new.items) }
+    ensures member_seats { IfOk result (λ feeder.
+        users.old.items ≡ feeder.member_seats.items ∷ users.new.items) }
     ensures seat { IfOk result (λ feeder. seats.old.items ≡ seats.new.items ++ feeder.seat ∷ []) }
     ensures full { IfOk result (λ feeder. feeder.full ≡ false) }
 {
     let buffer = Buffer::new(alloc)?;
     Ok(Feeder {
         feed: CpuFeed::new(alloc, number, source, plan),
-        stands: first_of(users).into_vec(),
+        member_seats: first_of(users).into_vec(),
         seat: last_of(seats),
         buffer,
         full: false,
@@ -58,7 +58,7 @@ pub(crate) fn feeders_of<S: Source>(
     alloc: Global,
     plan: Plan,
     sources: Vec<Option<S>>,
-    users: Vec<StandList>,
+    users: Vec<SeatList>,
     mut seats: Vec<DealerSeat>,
 ) -> Result<Vec<Feeder<S>>, Memory>
     requires few { length sources.items ≤ 8 }
@@ -66,8 +66,8 @@ pub(crate) fn feeders_of<S: Source>(
     requires seats { length seats.items ≡ length sources.items }
     ensures feeds { IfOk result (λ feeders. map (λ feeder. feeder.feed) feeders.items
         ≡ first_feeds plan 0 (map (option_map S.seen) sources.items)) }
-    ensures stands { IfOk result (λ feeders.
-        map (λ feeder. feeder.stands.items) feeders.items ≡ users.items) }
+    ensures member_seats { IfOk result (λ feeders.
+        map (λ feeder. feeder.member_seats.items) feeders.items ≡ users.items) }
     ensures full { IfOk result (λ feeders.
         AllByRecursion (λ feeder. feeder.full ≡ false) feeders.items) }
     ensures seats { IfOk result (λ feeders. (dealer : DealerValue)

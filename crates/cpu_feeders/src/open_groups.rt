@@ -2,9 +2,9 @@
 ghost use Rattle.std.specs.Prelude.{◌≡◌, ◌+◌, ◌≤◌, ◌∷◌, ◌++◌, [], length, IfOk, OnOk};
 ghost use Rattle.std.specs.List.{AllZip};
 ghost use Rattle.cpu_feeders.specs.inside.Openings.{IsOpened};
-ghost use Rattle.cpu_feeders.specs.inside.Stands.{fresh_users};
+ghost use Rattle.cpu_feeders.specs.inside.MemberSeats.{fresh_users};
 
-use crate::stands::{StandList, add_to_each, empty_lists};
+use crate::member_seats::{SeatList, add_to_each, empty_lists};
 use frame_view::Memory;
 use member_turns::{Member, open_member};
 use ring_words::TableWalker;
@@ -19,7 +19,7 @@ pub(crate) struct OpenGroup {
     /// The reader's end of each member's ring.
     pub(crate) ends: Vec<TableWalker<Block>>,
     /// The seats of each user: of each CPU from 0 up, and then of the timer.
-    pub(crate) users: Vec<StandList>,
+    pub(crate) users: Vec<SeatList>,
 }
 
 impl OpenGroup {
@@ -36,10 +36,10 @@ impl OpenGroup {
         ensures count { OnOk result
             (length self.new.members.items ≡ length self.old.members.items + 1) }
     {
-        let (member, stands, end) = open_member(alloc, shape, cpus)?;
+        let (member, member_seats, end) = open_member(alloc, shape, cpus)?;
         self.members.push(member)?;
         self.ends.push(end)?;
-        add_to_each(&mut self.users, stands)
+        add_to_each(&mut self.users, member_seats)
     }
 }
 

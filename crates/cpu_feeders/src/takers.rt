@@ -141,7 +141,7 @@ fn dismiss<S: Source, T: Taker + Drop>(
     let parted = part(alloc, crew.workers)?;
     let members = job.setup.plan.members() as usize;
     let left = gather(alloc, members, parted.feeders, parted.timers)?;
-    let closed = close_group(alloc, crew.members, left.stands, parted.walkers)?;
+    let closed = close_group(alloc, crew.members, left.member_seats, parted.walkers)?;
     let cpus = close_cpus(alloc, left.cpus)?;
     let mut seats = left.seats;
     let workers = assemble(alloc, cpus, closed, &mut seats)?;

@@ -7,14 +7,14 @@ ghost use Rattle.setup_text.specs.Sound.{AreMoments};
 
 use crate::{Gate, Point};
 use frame_view::Memory;
-use member_turns::{Member, Stand, tick_turn};
+use member_turns::{Member, MemberSeat, tick_turn};
 use std::sync::Wait;
 
 /// The timer's thread.
 #[derive(Drop)]
 pub struct Timer {
     /// Its seat at each member, from 0 up.
-    pub stands: Vec<Stand>,
+    pub member_seats: Vec<MemberSeat>,
     /// Whether an allocation failed.
     pub full: bool,
 }
@@ -23,20 +23,20 @@ pub struct Timer {
 fn tick_members<R: Wait>(
     rt: &R,
     members: &[Member],
-    stands: &mut Vec<Stand>,
+    member_seats: &mut Vec<MemberSeat>,
     ms: u64,
 ) -> Result<(), Memory>
-    requires timers { AreTimers members.now stands.old.items }
-    requires few { (member : ℕ) (seat : Seat) → member < length stands.old.items →
-        (slice_index_or stands.old.items member seat).entered < 2 ^ 32 }
-    requires later { (member : ℕ) (lock : Lock) (seat : Seat) → member < length stands.old.items →
+    requires timers { AreTimers members.now member_seats.old.items }
+    requires few { (member : ℕ) (seat : Seat) → member < length member_seats.old.items →
+        (slice_index_or member_seats.old.items member seat).entered < 2 ^ 32 }
+    requires later { (member : ℕ) (lock : Lock) (seat : Seat) → member < length member_seats.old.items →
         moment_of (own_of (slice_index_or members.now member lock)
-        (slice_index_or stands.old.items member seat)) ≤ ms }
+        (slice_index_or member_seats.old.items member seat)) ≤ ms }
     requires small { ms ≤ 2 ^ 63 }
-    ensures { OnOk result (HaveTicked ms members.now stands.old.items stands.new.items) }
+    ensures { OnOk result (HaveTicked ms members.now member_seats.old.items member_seats.new.items) }
 {
     for at in 0..members.len() {
-        tick_turn(rt, &members[at], &mut stands[at], ms)?;
+        tick_turn(rt, &members[at], &mut member_seats[at], ms)?;
     }
     Ok(())
 }
@@ -47,15 +47,15 @@ fn tick_all<R: Wait, G: Gate>(
     members: &[Member],
     moments: &[u64],
     gate: &G,
-    stands: &mut Vec<Stand>,
+    member_seats: &mut Vec<MemberSeat>,
 ) -> Result<(), Memory>
     requires moments { AreMoments moments.now }
-    requires fresh { AreTimed [] members.now stands.old.items }
-    ensures { OnOk result (AreTimed moments.now members.now stands.new.items) }
+    requires fresh { AreTimed [] members.now member_seats.old.items }
+    ensures { OnOk result (AreTimed moments.now members.now member_seats.new.items) }
 {
     for ms in moments {
         gate.at(Point::Ticking { ms: *ms });
-        tick_members(rt, members, stands, *ms)?;
+        tick_members(rt, members, member_seats, *ms)?;
     }
     Ok(())
 }
@@ -70,10 +70,10 @@ pub fn run_timer<R: Wait, G: Gate>(
     timer: &mut Timer,
 )
     requires moments { AreMoments moments.now }
-    requires fresh { AreTimed [] members.now timer.old.stands.items }
+    requires fresh { AreTimed [] members.now timer.old.member_seats.items }
     ensures { TimesOut moments.now members.now timer.new }
 {
-    match tick_all(rt, members, moments, gate, &mut timer.stands) {
+    match tick_all(rt, members, moments, gate, &mut timer.member_seats) {
         Ok(()) => {}
         Err(Memory) => timer.full = true,
     }

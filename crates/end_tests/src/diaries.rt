@@ -148,7 +148,7 @@ fn lines_of_seats(alloc: Global, diary: &Diary, seats: u32) -> Result<Vec<u32>, 
 }
 
 #[test]
-fn each_line_stands_once_and_in_order(rt: HostRuntime) -> Result<(), Fail> {
+fn each_line_is_there_once_and_in_order(rt: HostRuntime) -> Result<(), Fail> {
     // how many seats there are, how many lines each writes, and how many the diary has in the end
     for (seats, lines, all) in [(1, 3, 3), (2, 2, 4), (3, 1000, 3000)] {
         let diary = written_by_all(&rt, rt.alloc(), seats, lines)?;

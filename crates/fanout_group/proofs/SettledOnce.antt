@@ -8,7 +8,7 @@ use Rattle.frame_view.specs.declared.frames.Frame.{Frame}
 use Rattle.ring_model.specs.declared.notes.Note.{Note}
 use Rattle.fanout_group.specs.Joined.{Attempt, Logged, attempts_at, attempts_in, nothing_logged}
 use Rattle.fanout_group.specs.Logs.{IsLawfulFrom}
-use Rattle.fanout_group.specs.Once.{AreOf, EachStandsOnce, IsGroupReport, passes, settles}
+use Rattle.fanout_group.specs.Once.{AreOf, EachAppearsOnce, IsGroupReport, passes, settles}
 use Rattle.fanout_group.specs.Routes.{present_after}
 use Rattle.fanout_group.specs.Rules.{Rules}
 use Rattle.fanout_group.specs.declared.logs.ArrivalLog.{ArrivalLog}
@@ -72,10 +72,10 @@ module _ (cpu index members : ℕ) (frame : Frame) (entry : ArrivalLog) where
       let first = nothing_at (ltb t.member members) _ (unsettled (is_settled t.fate) (is_it cpu index frame) it) in
       omega (arith, first, tries_split t tries, entry_silent tries it)
 
-  entry_stands : (it ended : Bool) → is_it cpu index frame ≡ it → sum_by (settles_in members) entry.tries ≡ one_if (not ended)
+  entry_appears : (it ended : Bool) → is_it cpu index frame ≡ it → sum_by (settles_in members) entry.tries ≡ one_if (not ended)
       → sum_below (λ k. sum_by (try_settles cpu index) (attempts_in k frame entry entry.tries)) members ≡ one_if (it && not ended)
-  entry_stands true ended it once = entry_settles entry.tries it ∙ once
-  entry_stands false ended it once = entry_silent entry.tries it
+  entry_appears true ended it once = entry_settles entry.tries it ∙ once
+  entry_appears false ended it once = entry_silent entry.tries it
 
 -- a frame whose index is below those of the log isn't in it
 absent : (rules : Rules) (cpu index least present : ℕ) (frames : List Frame) (log : List ArrivalLog) → index < least
@@ -92,13 +92,13 @@ either_once : (x y : Bool) → (x ≡ true → y ≡ false) → one_if x + one_i
 either_once true y h = ap (λ b. 1 + one_if b) (h refl)
 either_once false y h = omega arith
 
-log_stands : (rules : Rules) (cpu index least present : ℕ) (frames : List Frame) (log : List ArrivalLog) → 0 < rules.members
+log_appears : (rules : Rules) (cpu index least present : ℕ) (frames : List Frame) (log : List ArrivalLog) → 0 < rules.members
     → present < rules.members → AreOf cpu least frames → IsLawfulFrom rules present frames log
     → sum_below (λ k. sum_by (try_settles cpu index) (attempts_at k frames log)) rules.members ≡ one_if (passes index log)
-log_stands rules cpu index least present [] [] some at of lawful = sum_below-zero rules.members
-log_stands rules cpu index least present [] (entry ∷ log) some at of lawful = absurd lawful
-log_stands rules cpu index least present (frame ∷ frames) [] some at of lawful = absurd lawful
-log_stands rules cpu index least present (frame ∷ frames) (entry ∷ log) some at of lawful =
+log_appears rules cpu index least present [] [] some at of lawful = sum_below-zero rules.members
+log_appears rules cpu index least present [] (entry ∷ log) some at of lawful = absurd lawful
+log_appears rules cpu index least present (frame ∷ frames) [] some at of lawful = absurd lawful
+log_appears rules cpu index least present (frame ∷ frames) (entry ∷ log) some at of lawful =
     let is = lawful.0 in
     let f : Attempt → ℕ = try_settles cpu index in
     let after = present_after rules.mode present entry.tries in
@@ -108,8 +108,8 @@ log_stands rules cpu index least present (frame ∷ frames) (entry ∷ log) some
     ap (λ b. b && eqb frame.index index) (eq-eqb frame.cpu cpu of.0) ∙ sym (ap (λ i. eqb i index) is.index) in
     let now = eqb entry.index index && not (eqb entry.verdict 0) in
     let first : sum_below here rules.members ≡ one_if now =
-    entry_stands cpu index rules.members frame entry (eqb entry.index index) (eqb entry.verdict 0) it (tries_end rules present frame entry some at is).settles in
-    let rest = log_stands rules cpu index (frame.index + 1) after frames log some (present_is_member rules present frame entry some at is) of.2 lawful.1 in
+    entry_appears cpu index rules.members frame entry (eqb entry.index index) (eqb entry.verdict 0) it (tries_end rules present frame entry some at is).settles in
+    let rest = log_appears rules cpu index (frame.index + 1) after frames log some (present_is_member rules present frame entry some at is) of.2 lawful.1 in
     let no_more : now ≡ true → passes index log ≡ false = λ yes.
     let same = eqb-true entry.index index (and_parts (eqb entry.index index) (not (eqb entry.verdict 0)) yes).0 in
     absent rules cpu index (frame.index + 1) after frames log (omega (arith, is.index)) of.2 lawful.1 in
@@ -117,9 +117,9 @@ log_stands rules cpu index least present (frame ∷ frames) (entry ∷ log) some
     ∙ sum_below-add here later rules.members ∙ ap (λ n. n + sum_below later rules.members) first ∙ ap (λ n. one_if now + n) rest
     ∙ either_once now (passes index log) no_more
 
-pub each_stands_once : (rules : Rules) (room : ℕ) (cpus : List Logged) (members : List (List Note)) → IsGroupReport rules room cpus members
-    → EachStandsOnce cpus members
-each_stands_once rules room cpus members report cpu index =
+pub each_appears_once : (rules : Rules) (room : ℕ) (cpus : List Logged) (members : List (List Note)) → IsGroupReport rules room cpus members
+    → EachAppearsOnce cpus members
+each_appears_once rules room cpus members report cpu index =
     let logged = get_or cpus cpu nothing_logged in
     let settled = λ (notes : List Note). sum_by (settles cpu index) notes in
     let tried = λ (k : ℕ). sum_by (try_settles cpu index) (attempts_at k logged.arrivals logged.log) in
@@ -128,4 +128,4 @@ each_stands_once rules room cpus members report cpu index =
     settled_of cpu index (get_or members k [])
     ∙ settled_by_tries room rules.own cpu index (attempts_at k logged.arrivals logged.log) _ (report.joined.each cpu k below))
     ∙ ap (sum_below tried) report.count
-    ∙ log_stands rules cpu index 0 0 logged.arrivals logged.log report.some report.some (report.frames cpu) (report.lawful cpu)
+    ∙ log_appears rules cpu index 0 0 logged.arrivals logged.log report.some report.some (report.frames cpu) (report.lawful cpu)

@@ -1,7 +1,7 @@
 -- What a group makes of an arrival before any member is chosen: its flow hash and its verdict, and
 -- the offer that follows.
 use Rattle.std.specs.Prelude.{◌≡◌, ℕ, List, [], ◌==◌, if◌then◌else◌, Option, None, Some}
-use Rattle.bpf_filter.specs.Sight.{Sight}
+use Rattle.bpf_filter.specs.PacketFacts.{PacketFacts}
 use Rattle.bpf_filter.specs.Verdict.{verdict_with}
 use Rattle.bpf_filter.specs.declared.insn.Insn.{Insn}
 use Rattle.flow_hash.specs.FlowHash.{flow_input}
@@ -28,8 +28,8 @@ hash_by None frame = 0
 hash_by (Some key) frame = hash_of key (flow_input (view_of frame.bytes))
 
 -- what the filter sees of an arrival
-abbrev pub sight_by : Lens → Frame → Sight
-sight_by lens frame = record {
+abbrev pub facts_by : Lens → Frame → PacketFacts
+facts_by lens frame = record {
   bytes = frame.bytes;
   wire = frame.wire;
   protocol = protocol_of frame.bytes;
@@ -41,7 +41,7 @@ sight_by lens frame = record {
 
 -- the verdict on an arrival
 abbrev pub verdict_by : Lens → Frame → ℕ
-verdict_by lens frame = verdict_with lens.filter (sight_by lens frame)
+verdict_by lens frame = verdict_with lens.filter (facts_by lens frame)
 
 -- the rules of a group of some shape
 abbrev pub rules_by : Shape → Lens → Rules

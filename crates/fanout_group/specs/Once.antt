@@ -48,7 +48,7 @@ pub record IsGroupReport (rules : Rules) (room : ℕ) (cpus : List Logged)
 
 -- Among the Kept and Dropped notes of all members each arrival that passes appears once, and
 -- nothing else appears there.
-abbrev pub EachStandsOnce : List Logged → List (List Note) → Type 0
-EachStandsOnce cpus members = (cpu index : ℕ) →
+abbrev pub EachAppearsOnce : List Logged → List (List Note) → Type 0
+EachAppearsOnce cpus members = (cpu index : ℕ) →
     times_settled cpu index members
     ≡ (if passes index (slice_index_or cpus cpu nothing_logged).log then 1 else 0)

@@ -4,7 +4,7 @@ ghost use Rattle.frame_view.specs.declared.frames.Frame.{Frame};
 ghost use Rattle.capture_file.specs.Laws.{IsCaptured};
 ghost use Rattle.fanout_group.specs.Arrivals.{IsArrival, arrivals_of};
 ghost use Rattle.fanout_group.specs.Joined.{Logged};
-ghost use Rattle.fanout_group.specs.Once.{AreOf, EachStandsOnce, IsGroupReport};
+ghost use Rattle.fanout_group.specs.Once.{AreOf, EachAppearsOnce, IsGroupReport};
 ghost use Rattle.fanout_group.specs.Routes.{AreRefusedBeforeLast, GoesRound, IsBegun, IsRoute};
 ghost use Rattle.fanout_group.specs.Rules.{Rules};
 ghost use Rattle.fanout_group.specs.declared.logs.Try.{Try};
@@ -12,9 +12,9 @@ ghost use Rattle.ring_model.specs.declared.notes.Note.{Note};
 
 /// Where logs are lawful and joined with notes, each arrival that the filter passes appears once
 /// among all Kept and Dropped notes of all members, and nothing else appears there.
-pub fn each_frame_stands_exactly_once()
+pub fn each_frame_appears_exactly_once()
     ensures { (rules : Rules) (room : ℕ) (cpus : List Logged) (members : List (List Note))
-        → IsGroupReport rules room cpus members → EachStandsOnce cpus members }
+        → IsGroupReport rules room cpus members → EachAppearsOnce cpus members }
 {}
 
 /// The arrivals of a CPU's frames have its number and rising indexes, with and without

@@ -20,7 +20,9 @@ pub use capture_file::CpuEnd;
 pub use delivery::deliver;
 pub use desk::Desk;
 pub use judgements::{ArrivalRules, Judged};
-pub use laws::{arrivals_are_sound, arrivals_rise, each_frame_stands_exactly_once, tries_go_round};
+pub use laws::{
+    arrivals_are_sound, arrivals_rise, each_frame_appears_exactly_once, tries_go_round,
+};
 pub use logs::{ArrivalList, ArrivalLog, Fate, Try};
 pub use modes::Mode;
 pub use plan::Plan;

@@ -2,7 +2,7 @@
 ghost use Rattle.std.specs.Prelude.{◌≡◌, ◌+◌, ◌<◌, ◌≤◌, IfOk, length};
 
 use Act::{Place, Queue, Send, Status};
-use Said::{Bad, Done, Full, Stands, Stopped, TooLong, Took, Wanting};
+use Said::{Bad, Done, Full, HasStatus, Stopped, TooLong, Took, Wanting};
 use frame_view::Packets;
 use std::alloc::Global;
 use std::process::Abort;
@@ -45,7 +45,7 @@ enum Said {
     Bad(u32),
     Wanting,
     /// A slot has this status, or there is no such slot (9).
-    Stands(u32),
+    HasStatus(u32),
 }
 
 /// What is done to a new ring, what it answers, and the lengths of the packets that it sends.
@@ -153,13 +153,13 @@ static ROWS: [Row; 6] = [
             Done,
             Done,
             Done,
-            Stands(1),
+            HasStatus(1),
             Bad(1),
-            Stands(0),
-            Stands(4),
-            Stands(1),
-            Stands(0),
-            Stands(9),
+            HasStatus(0),
+            HasStatus(4),
+            HasStatus(1),
+            HasStatus(0),
+            HasStatus(9),
         ],
         lengths: &[60],
     },
@@ -196,7 +196,7 @@ fn do_act(ring: &mut TxRing, act: Act, out: &mut Packets) -> Said
             say_place(ring.place(next, length, &bytes[..count.min(2100)]))
         }
         Send => say_send(ring.send(out)),
-        Status(slot) => Stands(ring.status(slot).unwrap_or(9)),
+        Status(slot) => HasStatus(ring.status(slot).unwrap_or(9)),
     }
 }
 
@@ -277,7 +277,7 @@ fn padded(alloc: Global) -> Result<Packets, Fail> {
 }
 
 #[test]
-fn zeros_stand_after_the_bytes_that_were_given(rt: HostRuntime) -> Result<(), Fail> {
+fn zeros_follow_the_bytes_that_were_given(rt: HostRuntime) -> Result<(), Fail> {
     let out = padded(rt.alloc())?;
     let packet = out.get(4).ok_or("a fifth packet")?;
     let bytes = b"\x06\x06\x06\x06\x06\x06\x06\x06\x06\x06\x06\x06\x06\x06\x00\x00";

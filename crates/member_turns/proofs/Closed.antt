@@ -6,7 +6,7 @@ use Rattle.ring_model.specs.declared.notes.Note.{Note}
 use Rattle.ring_model.specs.declared.notes.Note.TheVariants.{Finished}
 use Rattle.turn_lock.specs.Endings.{Ends, HasTurns, IsTurnOf, added_in}
 use Rattle.turn_lock.specs.Histories.{IsTurn, own}
-use Rattle.turn_lock.proofs.Lists.{own_stands, turn_few}
+use Rattle.turn_lock.proofs.Lists.{own_stays, turn_few}
 use Rattle.member_turns.specs.Closings.{AreClosedNotes, HasOwn, IsOfSeat}
 use Rattle.member_turns.specs.Entries.{may_note}
 use Rattle.member_turns.specs.EntryLaws.{one_seat}
@@ -44,7 +44,7 @@ own_all : (lock : Lock) (turns : List (ℕ × List Note)) (history : List Note) 
     → AllByRecursion (HasTurns (may_note lock.base) turns history) seats → AllByRecursion (HasOwn lock (history ++ Finished ∷ [])) seats
 own_all lock turns history [] all = tt
 own_all lock turns history (seat ∷ seats) all = (
-  own_closed lock seat.number history ∙ own_stands (may_note lock.base) (one_seat lock.base) seat.number seat.last history all.0.1,
+  own_closed lock seat.number history ∙ own_stays (may_note lock.base) (one_seat lock.base) seat.number seat.last history all.0.1,
   own_all lock turns history seats all.1,
 )
 

@@ -176,8 +176,8 @@ try_noted made offer (Held number) tried fate same told is = (
   ap (λ (o : Offer). need_of o.snap) same,
 )
 
-fresh_ok : (made : Offer) (members : List Lock) (stands : List Seat) → AreForDesk made members stands → IsDesk (fresh_desk made members stands)
-fresh_ok made members stands are = record {
+fresh_ok : (made : Offer) (members : List Lock) (member_seats : List Seat) → AreForDesk made members member_seats → IsDesk (fresh_desk made members member_seats)
+fresh_ok made members member_seats are = record {
   count = are.count;
   ready = are.ready;
   few = λ m s inside. let few = are.few m s inside in omega (arith, few);
@@ -185,10 +185,10 @@ fresh_ok made members stands are = record {
 }
 
 -- a desk before the first try
-pub new_desk : (made offer : Offer) (members : List Lock) (stands : List Seat) (tries : List Try) → AreForDesk made members stands
+pub new_desk : (made offer : Offer) (members : List Lock) (member_seats : List Seat) (tries : List Try) → AreForDesk made members member_seats
     → offer ≡ made → tries ≡ []
-    → IsDesk (record { offer = offer; locks = members; seats = stands; tries = tries; full = false })
-new_desk made offer members stands tries are same none =
-    subst (λ (o : Offer). IsDesk (record { offer = o; locks = members; seats = stands; tries = tries; full = false })) (sym same)
-    (subst (λ (ts : List Try). IsDesk (record { offer = made; locks = members; seats = stands; tries = ts; full = false })) (sym none)
-    (fresh_ok made members stands are))
+    → IsDesk (record { offer = offer; locks = members; seats = member_seats; tries = tries; full = false })
+new_desk made offer members member_seats tries are same none =
+    subst (λ (o : Offer). IsDesk (record { offer = o; locks = members; seats = member_seats; tries = tries; full = false })) (sym same)
+    (subst (λ (ts : List Try). IsDesk (record { offer = made; locks = members; seats = member_seats; tries = ts; full = false })) (sym none)
+    (fresh_ok made members member_seats are))

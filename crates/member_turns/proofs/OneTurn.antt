@@ -12,7 +12,7 @@ use Rattle.ring_model.specs.declared.notes.Offer.{Offer}
 use Rattle.ring_words.specs.TableEnds.{Feeding, feed_of}
 use Rattle.turn_lock.specs.Histories.{GoesOn, IsTurn, own}
 use Rattle.turn_lock.specs.Seats.{AddsIn, inside, outside}
-use Rattle.turn_lock.proofs.Lists.{own_stands, own_turn}
+use Rattle.turn_lock.proofs.Lists.{own_stays, own_turn}
 use Rattle.member_turns.specs.Entries.{is_seat_of, may_note}
 use Rattle.member_turns.specs.EntryLaws.{one_seat}
 use Rattle.member_turns.specs.Seats.{IsReady, Lock, Seat, moment_of, own_of}
@@ -80,7 +80,7 @@ pub clock_known : (lock : Lock) (seat : Seat) (size : Size) (before : List Note)
 clock_known lock seat size before ready goes =
     clock_is size before ∙ sym (own_moment lock.base before)
     ∙ ap (λ (n : ℕ). moment_of (own (may_note lock.base) n before)) (sym ready.number_is)
-    ∙ ap moment_of (own_stands (may_note lock.base) (one_seat lock.base) seat.number seat.last before goes)
+    ∙ ap moment_of (own_stays (may_note lock.base) (one_seat lock.base) seat.number seat.last before goes)
 
 -- a call of the ring leaves the kind of its blocks
 pub same_kind : (before after : Feeding) → KeepsEnd (feed_of before) (feed_of after) → after.kind ≡ before.kind

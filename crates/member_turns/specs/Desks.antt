@@ -99,15 +99,15 @@ pub record IsDesk (desk : DeskValue) : Type 0 where
   pub turns : turns_at desk ≤ 9
 
 -- the seats of all members, each ready to be entered nine times by an offer's CPU
-pub record AreForDesk (made : Offer) (members : List Lock) (stands : List Seat) : Type 0 where
-  pub count : length stands ≡ length members
-  pub ready : (member : ℕ) (lock : Lock) (seat : Seat) → member < length stands →
+pub record AreForDesk (made : Offer) (members : List Lock) (member_seats : List Seat) : Type 0 where
+  pub count : length member_seats ≡ length members
+  pub ready : (member : ℕ) (lock : Lock) (seat : Seat) → member < length member_seats →
       IsReady (slice_index_or members member lock) made.frame.cpu
-      (slice_index_or stands member seat)
-  pub few : (member : ℕ) (seat : Seat) → member < length stands →
-      (slice_index_or stands member seat).entered ≤ 2 ^ 32 - 9
+      (slice_index_or member_seats member seat)
+  pub few : (member : ℕ) (seat : Seat) → member < length member_seats →
+      (slice_index_or member_seats member seat).entered ≤ 2 ^ 32 - 9
 
 -- a desk before the first try
 abbrev pub fresh_desk : Offer → List Lock → List Seat → DeskValue
-fresh_desk made members stands =
-    record { offer = made; locks = members; seats = stands; tries = []; full = false }
+fresh_desk made members member_seats =
+    record { offer = made; locks = members; seats = member_seats; tries = []; full = false }

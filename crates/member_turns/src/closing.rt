@@ -9,7 +9,7 @@ ghost use Rattle.ring_model.specs.Ring.{IsWholeRun, state_of};
 ghost use Rattle.tp_layout.specs.Requests.{numbers_of, size_of};
 ghost use Rattle.turn_lock.specs.Seats.{IsIdleSeatOf};
 
-use crate::{Member, MemberRing, Stand};
+use crate::{Member, MemberRing, MemberSeat};
 use frame_view::Memory;
 use ring_model::Notes;
 use ring_words::{Pending, TableWalker, finish};
@@ -35,14 +35,14 @@ pub struct ClosedMember {
 pub fn close_member(
     alloc: Global,
     member: Member,
-    stands: Vec<Stand>,
+    member_seats: Vec<MemberSeat>,
     walker: TableWalker<Block>,
 ) -> Result<ClosedMember, Memory>
-    requires all { length stands.items ≡ member.seats }
-    requires own { AllByRecursion (IsIdleSeatOf member) stands.items }
+    requires all { length member_seats.items ≡ member.seats }
+    requires own { AllByRecursion (IsIdleSeatOf member) member_seats.items }
     requires ring { table_numbers walker.id ≡ member.base.table }
     requires hand { walker.in_hand ≡ false }
-    ensures notes { IfOk result (λ closed. AreClosedNotes member stands.items closed.notes) }
+    ensures notes { IfOk result (λ closed. AreClosedNotes member member_seats.items closed.notes) }
     ensures run { IfOk result (λ closed. IsWholeRun (size_of member.base.shape) closed.notes) }
     ensures texts { IfOk result (λ closed. AreTexts member.base.shape 1 closed.pending.retired
         (state_of (size_of member.base.shape) closed.notes).done) }
@@ -54,7 +54,7 @@ pub fn close_member(
     ensures passed { IfOk result (λ closed. closed.pending.passed ≡ length walker.taken) }
     ensures kind { IfOk result (λ closed. closed.pending.kind ≡ numbers_of member.base.shape) }
 {
-    let seats = as_seats(alloc, stands)?;
+    let seats = as_seats(alloc, member_seats)?;
     let ring = member.lock.close(seats);
     let (feeder, notes) = Box::into_inner(ring.producer).finish();
     let pending = finish(alloc, feeder, walker)?;
@@ -62,12 +62,15 @@ pub fn close_member(
 }
 
 /// The lock's seat of each of a member's seats.
-fn as_seats(alloc: Global, stands: Vec<Stand>) -> Result<Vec<TurnSeat<MemberRing>>, Memory>
-    ensures { IfOk result (λ seats. seats.items ≡ stands.items) }
+fn as_seats(
+    alloc: Global,
+    member_seats: Vec<MemberSeat>,
+) -> Result<Vec<TurnSeat<MemberRing>>, Memory>
+    ensures { IfOk result (λ seats. seats.items ≡ member_seats.items) }
 {
-    let mut seats = Vec::with_capacity(alloc, stands.len())?;
-    for stand in stands {
-        seats.push(stand.seat)?;
+    let mut seats = Vec::with_capacity(alloc, member_seats.len())?;
+    for member_seat in member_seats {
+        seats.push(member_seat.seat)?;
     }
     Ok(seats)
 }

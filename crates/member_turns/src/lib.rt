@@ -11,7 +11,7 @@ mod turn_desk;
 mod turns;
 
 pub use closing::{ClosedMember, close_member};
-pub use member::{Member, Stand};
+pub use member::{Member, MemberSeat};
 pub use member_ring::MemberRing;
 pub use opening::open_member;
 pub use ring_base::RingBase;

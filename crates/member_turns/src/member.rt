@@ -26,15 +26,15 @@ impl Model for Member {
 /// Contracts see its lock, its number, how often it entered, and the notes that were stored when it
 /// left the last time.
 #[derive(Drop)]
-pub struct Stand {
+pub struct MemberSeat {
     /// The seat at the member's lock.
     pub(crate) seat: TurnSeat<MemberRing>,
 }
 
-impl Model for Stand {
+impl Model for MemberSeat {
     ghost use Rattle.member_turns.specs.Seats.{Seat};
 
     ghost Value = { Seat };
 
-    ghost view = { λ stand. stand.seat };
+    ghost view = { λ member_seat. member_seat.seat };
 }

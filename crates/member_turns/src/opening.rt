@@ -5,7 +5,7 @@ ghost use Rattle.ring_words.specs.TableEnds.{fresh_walker};
 ghost use Rattle.tp_layout.specs.Requests.{numbers_of};
 ghost use Rattle.turn_lock.specs.Seats.{fresh_seats};
 
-use crate::{Member, MemberRing, Stand};
+use crate::{Member, MemberRing, MemberSeat};
 use block_ring::Producer;
 use frame_view::Memory;
 use ring_words::{TableWalker, table_ring};
@@ -20,7 +20,7 @@ pub fn open_member(
     alloc: Global,
     shape: &Shape,
     cpus: u32,
-) -> Result<(Member, Vec<Stand>, TableWalker<Block>), Memory>
+) -> Result<(Member, Vec<MemberSeat>, TableWalker<Block>), Memory>
     requires few { cpus ≤ 8 }
     ensures base { IfOk result (λ opened. opened.0.base ≡ record {
       shape = shape.now;
@@ -29,14 +29,15 @@ pub fn open_member(
     }) }
     ensures first { IfOk result (λ opened. opened.0.first ≡ []) }
     ensures count { IfOk result (λ opened. opened.0.seats ≡ cpus + 1) }
-    ensures stands { IfOk result (λ opened. opened.1.items ≡ fresh_seats opened.0 0 (cpus + 1)) }
+    ensures member_seats { IfOk result (λ opened.
+        opened.1.items ≡ fresh_seats opened.0 0 (cpus + 1)) }
     ensures walker { IfOk result (λ opened. opened.2
         ≡ fresh_walker opened.2.id shape.now.block_nr (numbers_of shape.now)) }
 {
     let (ring, walker) = new_ring(alloc, shape, cpus)?;
     let (lock, seats) = TurnLock::new(alloc, ring, cpus + 1)?;
-    let stands = as_stands(alloc, seats)?;
-    Ok((Member { lock }, stands, walker))
+    let member_seats = as_member_seats(alloc, seats)?;
+    Ok((Member { lock }, member_seats, walker))
 }
 
 /// An empty ring, and the reader's end of it.
@@ -59,12 +60,15 @@ fn new_ring(
 }
 
 /// Each seat of the lock as one at the member.
-fn as_stands(alloc: Global, seats: Vec<TurnSeat<MemberRing>>) -> Result<Vec<Stand>, Memory>
-    ensures { IfOk result (λ stands. stands.items ≡ seats.items) }
+fn as_member_seats(
+    alloc: Global,
+    seats: Vec<TurnSeat<MemberRing>>,
+) -> Result<Vec<MemberSeat>, Memory>
+    ensures { IfOk result (λ member_seats. member_seats.items ≡ seats.items) }
 {
-    let mut stands = Vec::with_capacity(alloc, seats.len())?;
+    let mut member_seats = Vec::with_capacity(alloc, seats.len())?;
     for seat in seats {
-        stands.push(Stand { seat })?;
+        member_seats.push(MemberSeat { seat })?;
     }
-    Ok(stands)
+    Ok(member_seats)
 }

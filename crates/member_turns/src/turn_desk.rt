@@ -5,7 +5,7 @@ ghost use Rattle.fanout_group.specs.Desks.{fate_of_put, fate_of_try};
 ghost use Rattle.member_turns.specs.Desks.{AreForDesk, Follows, TakesAt, fresh_desk, turns_at};
 ghost use Rattle.member_turns.specs.DeskLaws.{follows_itself, follows_on};
 
-use crate::{Member, Stand, put_turn, try_turn};
+use crate::{Member, MemberSeat, put_turn, try_turn};
 use fanout_group::{Desk, Fate, Try, TryTrace};
 use ring_model::{Offer, Put, Tried, Unput};
 use std::marker::Model;
@@ -22,7 +22,7 @@ pub struct TurnDesk<'a, R: Wait> {
     /// The members, from 0 up.
     members: &'a [Member],
     /// The seat of the packet's CPU at each member.
-    stands: Vec<Stand>,
+    seats: Vec<MemberSeat>,
     /// Whether an allocation failed.
     full: bool,
     /// The tries so far. It takes no memory: only contracts read it.
@@ -39,7 +39,7 @@ impl<'a, R: Wait> Model for TurnDesk<'a, R> {
     ghost view = { λ desk. record {
       offer = desk.offer.value;
       locks = desk.members.now;
-      seats = desk.stands.items;
+      seats = desk.seats.items;
       tries = desk.tries.tries;
       full = desk.full;
     } };
@@ -47,7 +47,7 @@ impl<'a, R: Wait> Model for TurnDesk<'a, R> {
     ghost invariant = { λ desk. IsDesk (record {
       offer = desk.offer.value;
       locks = desk.members.now;
-      seats = desk.stands.items;
+      seats = desk.seats.items;
       tries = desk.tries.tries;
       full = desk.full;
     }) };
@@ -59,16 +59,16 @@ impl<'a, R: Wait> TurnDesk<'a, R> {
     pub fn new(
         rt: &'a R,
         members: &'a [Member],
-        stands: Vec<Stand>,
+        seats: Vec<MemberSeat>,
         offer: &Offer,
     ) -> TurnDesk<'a, R>
-        requires { AreForDesk offer.now members.now stands.items }
-        ensures { result ≡ fresh_desk offer.now members.now stands.items }
+        requires { AreForDesk offer.now members.now seats.items }
+        ensures { result ≡ fresh_desk offer.now members.now seats.items }
     {
         TurnDesk {
             rt,
             members,
-            stands,
+            seats,
             full: false,
             tries: TryTrace::new(),
             offer: Snapshot::of(offer),
@@ -76,11 +76,11 @@ impl<'a, R: Wait> TurnDesk<'a, R> {
     }
 
     /// Gives the seats back, after at most nine turns.
-    pub fn into_stands(self) -> Vec<Stand>
-        ensures stands { result.items ≡ self.entry.seats }
+    pub fn into_member_seats(self) -> Vec<MemberSeat>
+        ensures seats { result.items ≡ self.entry.seats }
         ensures turns { turns_at self.entry ≤ 9 }
     {
-        self.stands
+        self.seats
     }
 }
 
@@ -116,7 +116,7 @@ impl<'a, R: Wait> Desk for TurnDesk<'a, R> {
             return Err(Unput { offer });
         }
         let at = member as usize;
-        match try_turn(self.rt, &self.members[at], &mut self.stands[at], offer) {
+        match try_turn(self.rt, &self.members[at], &mut self.seats[at], offer) {
             Ok(tried) => {
                 let fate = fate_of_try(&tried);
                 self.tries = self.tries.after(&Try { member, fate });
@@ -134,7 +134,7 @@ impl<'a, R: Wait> Desk for TurnDesk<'a, R> {
             return Err(Unput { offer });
         }
         let at = member as usize;
-        match put_turn(self.rt, &self.members[at], &mut self.stands[at], offer) {
+        match put_turn(self.rt, &self.members[at], &mut self.seats[at], offer) {
             Ok(put) => {
                 let fate = fate_of_put(&put);
                 self.tries = self.tries.after(&Try { member, fate });

@@ -6,7 +6,7 @@ ghost use Rattle.member_turns.specs.TurnEffects.{IsPutTurn, IsTickTurn, IsTryTur
 ghost use Rattle.tp_layout.specs.Requests.{room_of};
 ghost use Rattle.tp_layout.specs.Writing.{IsWritable};
 
-use crate::{Member, Stand};
+use crate::{Member, MemberSeat};
 use block_ring::TickError;
 use frame_view::Memory;
 use ring_model::{Offer, Put, Tried, Unput};
@@ -20,21 +20,21 @@ use std::sync::Wait;
 pub fn try_turn<R: Wait>(
     rt: &R,
     member: &Member,
-    stand: &mut Stand,
+    member_seat: &mut MemberSeat,
     offer: Offer,
 ) -> Result<Tried, Unput>
-    requires ready { IsReady member.now offer.frame.cpu stand.old }
+    requires ready { IsReady member.now offer.frame.cpu member_seat.old }
     requires cpu { offer.frame.cpu < member.now.base.cpus }
-    requires few { stand.old.entered < 2 ^ 32 }
+    requires few { member_seat.old.entered < 2 ^ 32 }
     requires room { 82 + offer.snap ≤ room_of member.now.base.shape }
     requires sound { IsWritable offer }
-    ensures tried { IfOk result (IsTryTurn member.now stand.old stand.new offer) }
+    ensures tried { IfOk result (IsTryTurn member.now member_seat.old member_seat.new offer) }
     ensures unput { IfErr result (λ unput. unput.offer ≡ offer) }
-    ensures err { OnErr result (Turned member.now stand.old stand.new []) }
+    ensures err { OnErr result (Turned member.now member_seat.old member_seat.new []) }
 {
-    let mut ring = member.lock.enter(rt, &mut stand.seat);
+    let mut ring = member.lock.enter(rt, &mut member_seat.seat);
     let tried = ring.producer.try_put(offer);
-    member.lock.leave(&mut stand.seat, ring);
+    member.lock.leave(&mut member_seat.seat, ring);
     tried
 }
 
@@ -46,21 +46,21 @@ pub fn try_turn<R: Wait>(
 pub fn put_turn<R: Wait>(
     rt: &R,
     member: &Member,
-    stand: &mut Stand,
+    member_seat: &mut MemberSeat,
     offer: Offer,
 ) -> Result<Put, Unput>
-    requires ready { IsReady member.now offer.frame.cpu stand.old }
+    requires ready { IsReady member.now offer.frame.cpu member_seat.old }
     requires cpu { offer.frame.cpu < member.now.base.cpus }
-    requires few { stand.old.entered < 2 ^ 32 }
+    requires few { member_seat.old.entered < 2 ^ 32 }
     requires room { 82 + offer.snap ≤ room_of member.now.base.shape }
     requires sound { IsWritable offer }
-    ensures put { IfOk result (IsPutTurn member.now stand.old stand.new offer) }
+    ensures put { IfOk result (IsPutTurn member.now member_seat.old member_seat.new offer) }
     ensures unput { IfErr result (λ unput. unput.offer ≡ offer) }
-    ensures err { OnErr result (Turned member.now stand.old stand.new []) }
+    ensures err { OnErr result (Turned member.now member_seat.old member_seat.new []) }
 {
-    let mut ring = member.lock.enter(rt, &mut stand.seat);
+    let mut ring = member.lock.enter(rt, &mut member_seat.seat);
     let put = ring.producer.put(offer);
-    member.lock.leave(&mut stand.seat, ring);
+    member.lock.leave(&mut member_seat.seat, ring);
     put
 }
 
@@ -69,17 +69,22 @@ pub fn put_turn<R: Wait>(
 /// fewer than 2^32 times.
 ///
 /// After `Memory` the turn added no note.
-pub fn tick_turn<R: Wait>(rt: &R, member: &Member, stand: &mut Stand, ms: u64) -> Result<(), Memory>
-    requires ready { IsReady member.now member.now.base.cpus stand.old }
-    requires few { stand.old.entered < 2 ^ 32 }
-    requires later { moment_of (own_of member.now stand.old) ≤ ms }
+pub fn tick_turn<R: Wait>(
+    rt: &R,
+    member: &Member,
+    member_seat: &mut MemberSeat,
+    ms: u64,
+) -> Result<(), Memory>
+    requires ready { IsReady member.now member.now.base.cpus member_seat.old }
+    requires few { member_seat.old.entered < 2 ^ 32 }
+    requires later { moment_of (own_of member.now member_seat.old) ≤ ms }
     requires small { ms ≤ 2 ^ 63 }
-    ensures ticked { OnOk result (IsTickTurn member.now stand.old stand.new ms) }
-    ensures err { OnErr result (Turned member.now stand.old stand.new []) }
+    ensures ticked { OnOk result (IsTickTurn member.now member_seat.old member_seat.new ms) }
+    ensures err { OnErr result (Turned member.now member_seat.old member_seat.new []) }
 {
-    let mut ring = member.lock.enter(rt, &mut stand.seat);
+    let mut ring = member.lock.enter(rt, &mut member_seat.seat);
     let ticked = ring.producer.tick(ms);
-    member.lock.leave(&mut stand.seat, ring);
+    member.lock.leave(&mut member_seat.seat, ring);
     match ticked {
         Ok(()) => Ok(()),
         Err(TickError::Memory) => Err(Memory),

@@ -12,20 +12,20 @@ use Rattle.pcapng_blocks.specs.declared.stage.Stage.TheVariants as stages
 use Rattle.pcapng_blocks.specs.Blocks.{Spot}
 use Rattle.pcapng_blocks.specs.Capture.{counted, damage_of}
 use Rattle.pcapng_blocks.specs.Reading.{spot_of, Feeds, IsKept, IsSoundAt}
-use Rattle.pcapng_blocks.specs.Decoding.{stage_with, error_of, stage_of, Stands, DecoderValue}
+use Rattle.pcapng_blocks.specs.Decoding.{stage_with, error_of, stage_of, Represents, DecoderValue}
 use Rattle.pcapng_blocks.proofs.Settling.{Settles, settles, damage_is_error}
 
 -- what a feed leaves, by its steps: what was taken of the piece, and the stage with what is beyond
 pub settles_here : (number : ℕ) (fed piece taken : List ℕ) (now : DecoderValue) (cpu : ℕ) (cursor : Cursor) (stage : Stage) (count : ℕ) (old new : Held) (before after : List Frame)
     (progress : Progress) (size : ℕ) (then_ : Stage)
-    → record { cpu = cpu; fed = count; stage = stage; spot = spot_of cursor old.interfaces.items; rest = old.kept.items } ≡ now → Stands number now fed
+    → record { cpu = cpu; fed = count; stage = stage; spot = spot_of cursor old.interfaces.items; rest = old.kept.items } ≡ now → Represents number now fed
     → size ≡ min (33554432 - count) (length piece) → taken ≡ take size piece
     → then_ ≡ stage_with progress.stage (nat_lt (33554432 - count) (length piece))
     → Feeds cpu stage cursor old taken before progress new after
     → Settles number fed piece before after then_ (spot_of progress.cursor new.interfaces.items) (drop progress.cut new.kept.items)
-settles_here number fed piece taken now cpu cursor stage count old new before after progress size then_ view stands room part with feeds =
-    let s = subst (λ (v : DecoderValue). Stands number v fed) (sym view) stands in
-    let mine : Stands number (record { cpu = number; fed = count; stage = stage; spot = spot_of cursor old.interfaces.items; rest = old.kept.items }) fed =
+settles_here number fed piece taken now cpu cursor stage count old new before after progress size then_ view represents room part with feeds =
+    let s = subst (λ (v : DecoderValue). Represents number v fed) (sym view) represents in
+    let mine : Represents number (record { cpu = number; fed = count; stage = stage; spot = spot_of cursor old.interfaces.items; rest = old.kept.items }) fed =
     record { cpu = refl; count = s.count; stage = s.stage; spot = s.spot; rest = s.rest } in
     let all : taken ≡ take (33554432 - count) piece = part ∙ ap (λ (n : ℕ). take n piece) room ∙ take_min (33554432 - count) piece in
     rw with (settles number fed piece taken cursor stage count old new before after progress (nat_lt (33554432 - count) (length piece)) mine all refl
@@ -39,21 +39,21 @@ fed_on fed piece taken count size counts room part =
 
 -- the decoder that is left represents all bytes
 module _ (number : ℕ) (fed piece taken : List ℕ) (before after : List Frame) (old decoder : DecoderValue) (stage : Stage) (spot : Spot) (rest kept : List ℕ) (size : ℕ)
-    (view : decoder ≡ old) (stands : Stands number old fed) (room : size ≡ min (33554432 - decoder.fed) (length piece)) (part : taken ≡ take size piece)
+    (view : decoder ≡ old) (represents : Represents number old fed) (room : size ≡ min (33554432 - decoder.fed) (length piece)) (part : taken ≡ take size piece)
     (h : Settles number fed piece before after stage spot rest) where
-  was : Stands number decoder fed
-  was = subst (λ (v : DecoderValue). Stands number v fed) (sym view) stands
+  was : Represents number decoder fed
+  was = subst (λ (v : DecoderValue). Represents number v fed) (sym view) represents
 
   count : decoder.fed + length taken ≡ length (counted (fed ++ piece))
   count = fed_on fed piece taken decoder.fed size was.count room part
 
-  pub stands_on : error_of stage ≡ None → kept ≡ rest
-      → Stands number (record { cpu = decoder.cpu; fed = decoder.fed + length taken; stage = stage; spot = spot; rest = kept }) (fed ++ piece)
-  stands_on none all = record { cpu = was.cpu; count = count; stage = h.at; spot = h.place; rest = all ∙ h.kept none }
+  pub represents_more : error_of stage ≡ None → kept ≡ rest
+      → Represents number (record { cpu = decoder.cpu; fed = decoder.fed + length taken; stage = stage; spot = spot; rest = kept }) (fed ++ piece)
+  represents_more none all = record { cpu = was.cpu; count = count; stage = h.at; spot = h.place; rest = all ∙ h.kept none }
 
-  pub stands_damaged : (error : BlockError) → stage ≡ stages.Damaged error → kept ≡ []
-      → Stands number (record { cpu = decoder.cpu; fed = decoder.fed + length taken; stage = stage; spot = spot; rest = kept }) (fed ++ piece)
-  stands_damaged error at none =
+  pub represents_damaged : (error : BlockError) → stage ≡ stages.Damaged error → kept ≡ []
+      → Represents number (record { cpu = decoder.cpu; fed = decoder.fed + length taken; stage = stage; spot = spot; rest = kept }) (fed ++ piece)
+  represents_damaged error at none =
       let told : stage_of (fed ++ piece) ≡ stages.Damaged error = sym h.at ∙ at in
       record { cpu = was.cpu; count = count; stage = h.at; spot = h.place; rest = none ∙ rw told refl }
 

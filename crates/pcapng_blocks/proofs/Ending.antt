@@ -14,7 +14,7 @@ use Rattle.pcapng_blocks.specs.Heads.{look_at, is_skipped}
 use Rattle.pcapng_blocks.specs.Blocks.{Spot}
 use Rattle.pcapng_blocks.specs.Capture.{counted, origin, reached_in, stop_of, damage_of, end_of}
 use Rattle.pcapng_blocks.specs.Reading.{waiting, rest_in, IsKept, IsPart, IsSoundAt}
-use Rattle.pcapng_blocks.specs.Decoding.{stage_of, kept_of, end_at, Stands}
+use Rattle.pcapng_blocks.specs.Decoding.{stage_of, kept_of, end_at, Represents}
 use Rattle.pcapng_blocks.proofs.HeadLooks.{look_at-there, look_head}
 use Rattle.pcapng_blocks.proofs.FrontBlocks.{front_bad, front_empty, part_short}
 use Rattle.pcapng_blocks.proofs.Splits.{split_part, accounts}
@@ -31,9 +31,9 @@ unfolding look_at
 look_nothing = refl
 
 -- a decoder that nothing was fed to
-pub stands_new : (number : ℕ) (kept : List ℕ) (spot : Spot) → kept ≡ [] → spot ≡ origin
-    → Stands number (record { cpu = number; fed = 0; stage = stages.Blocks; spot = spot; rest = kept }) []
-stands_new number kept spot none at =
+pub represents_new : (number : ℕ) (kept : List ℕ) (spot : Spot) → kept ≡ [] → spot ≡ origin
+    → Represents number (record { cpu = number; fed = 0; stage = stages.Blocks; spot = spot; rest = kept }) []
+represents_new number kept spot none at =
     let now = reached_nothing in
     record {
       cpu = refl;

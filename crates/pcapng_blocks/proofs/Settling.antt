@@ -20,7 +20,7 @@ use Rattle.pcapng_blocks.specs.Heads.{look_at, is_skipped}
 use Rattle.pcapng_blocks.specs.Blocks.{Spot, Reached, front_of, split_from}
 use Rattle.pcapng_blocks.specs.Capture.{counted, origin, reached_in, frames_of, damage_of}
 use Rattle.pcapng_blocks.specs.Reading.{spot_of, waiting, stage_at, rest_in, Comes, Feeds}
-use Rattle.pcapng_blocks.specs.Decoding.{stage_with, error_of, stage_of, kept_of, Stands}
+use Rattle.pcapng_blocks.specs.Decoding.{stage_with, error_of, stage_of, kept_of, Represents}
 use Rattle.pcapng_blocks.proofs.FrontBlocks.{part_short}
 use Rattle.pcapng_blocks.proofs.Splits.{accounts, go_on_by, split_append, split_frames, StopsAlike, split_alike}
 
@@ -248,31 +248,31 @@ front_fine bytes e = let h = (accounts 0 origin [] (counted bytes)).ends in rw e
 
 -- a decoder that represents bytes was fed
 pub settles : (number : ℕ) (fed piece taken : List ℕ) (cursor : Cursor) (stage : Stage) (count : ℕ) (old new : Held) (before after : List Frame) (progress : Progress) (beyond : Bool)
-    → Stands number (record { cpu = number; fed = count; stage = stage; spot = spot_of cursor old.interfaces.items; rest = old.kept.items }) fed
+    → Represents number (record { cpu = number; fed = count; stage = stage; spot = spot_of cursor old.interfaces.items; rest = old.kept.items }) fed
     → taken ≡ take (33554432 - count) piece → beyond ≡ nat_lt (33554432 - count) (length piece)
     → Feeds number stage cursor old taken before progress new after
     → Settles number fed piece before after (stage_with progress.stage beyond) (spot_of progress.cursor new.interfaces.items) (drop progress.cut new.kept.items)
-settles number fed piece taken cursor stage count old new before after progress beyond stands part many feeds =
+settles number fed piece taken cursor stage count old new before after progress beyond represents part many feeds =
     elim (stage_is fed) [
       | failed error e at d ↦
-          let here : stage ≡ stages.Damaged error = stands.stage ∙ at in
+          let here : stage ≡ stages.Damaged error = represents.stage ∙ at in
           let unread = rw here at feeds in
-          let spot : spot_of cursor new.interfaces.items ≡ (reached_in 0 fed).spot = ap (spot_of cursor) unread.interfaces ∙ stands.spot in
+          let spot : spot_of cursor new.interfaces.items ≡ (reached_in 0 fed).spot = ap (spot_of cursor) unread.interfaces ∙ represents.spot in
           rw (unread.progress_is, spot) (settles_fault number fed piece error before after (drop 0 new.kept.items) e unread.frames)
       | large e more at d ↦
-          let here : stage ≡ stages.Damaged TooLarge = stands.stage ∙ at in
+          let here : stage ≡ stages.Damaged TooLarge = represents.stage ∙ at in
           let unread = rw here at feeds in
-          let spot : spot_of cursor new.interfaces.items ≡ (reached_in 0 fed).spot = ap (spot_of cursor) unread.interfaces ∙ stands.spot in
+          let spot : spot_of cursor new.interfaces.items ≡ (reached_in 0 fed).spot = ap (spot_of cursor) unread.interfaces ∙ represents.spot in
           rw (unread.progress_is, spot) (settles_large number fed piece before after (drop 0 new.kept.items) e more unread.frames)
       | fine e few at d ↦
           let spot = (reached_in 0 fed).spot in
           let left = (reached_in 0 fed).left in
           let look = look_at spot.order spot.stop left in
-          let size : count ≡ length fed = stands.count ∙ ap length (take_all 33554432 fed few) in
-          let here : stage ≡ waiting look left = stands.stage ∙ at in
-          let kept : old.kept.items ≡ rest_in (waiting look left) left = stands.rest ∙ ap (λ (s : Stage). rest_in s left) at in
+          let size : count ≡ length fed = represents.count ∙ ap length (take_all 33554432 fed few) in
+          let here : stage ≡ waiting look left = represents.stage ∙ at in
+          let kept : old.kept.items ≡ rest_in (waiting look left) left = represents.rest ∙ ap (λ (s : Stage). rest_in s left) at in
           let over : beyond ≡ nat_lt 33554432 (length (fed ++ piece)) = many ∙ ap (λ (n : ℕ). nat_lt (33554432 - n) (length piece)) size ∙ left_beyond fed piece few in
-          let place : spot_of cursor old.interfaces.items ≡ spot = stands.spot in
+          let place : spot_of cursor old.interfaces.items ≡ spot = represents.spot in
           let front : front_of spot.order spot.interfaces spot.stop left ≡ Part = front_fine fed e in
           let comes =
           waiting_feeds number look cursor left taken old before after progress new (ap (λ (x : Spot). look_at x.order x.stop left) place)

@@ -64,7 +64,7 @@ abbrev pub kept_of : List ℕ → List ℕ
 kept_of bytes = rest_in (stage_of bytes) (reached_in 0 bytes).left
 
 -- the decoder represents the bytes that it was fed
-pub record Stands (number : ℕ) (decoder : DecoderValue) (fed : List ℕ) : Type 0 where
+pub record Represents (number : ℕ) (decoder : DecoderValue) (fed : List ℕ) : Type 0 where
   pub cpu : decoder.cpu ≡ number
   pub count : decoder.fed ≡ length (counted fed)
   pub stage : decoder.stage ≡ stage_of fed
@@ -72,14 +72,14 @@ pub record Stands (number : ℕ) (decoder : DecoderValue) (fed : List ℕ) : Typ
   pub rest : decoder.rest ≡ kept_of fed
 
 -- what represented some bytes before a feed represents them and the piece after it
-abbrev pub StandsOn : DecoderValue → DecoderValue → List ℕ → Type 0
-StandsOn old new piece =
-    (cpu : ℕ) (fed : List ℕ) → Stands cpu old fed → Stands cpu new (fed ++ piece)
+abbrev pub RepresentsMore : DecoderValue → DecoderValue → List ℕ → Type 0
+RepresentsMore old new piece =
+    (cpu : ℕ) (fed : List ℕ) → Represents cpu old fed → Represents cpu new (fed ++ piece)
 
 -- a feed appended the frames that are new with the piece
 abbrev pub AppendsNew : DecoderValue → List ℕ → List Frame → List Frame → Type 0
 AppendsNew decoder piece before after =
-    (cpu : ℕ) (fed : List ℕ) → Stands cpu decoder fed
+    (cpu : ℕ) (fed : List ℕ) → Represents cpu decoder fed
     → (more : List Frame)
     × (after ≡ before ++ more)
     × (frames_of cpu (fed ++ piece) ≡ frames_of cpu fed ++ more)
@@ -87,14 +87,14 @@ AppendsNew decoder piece before after =
 -- a feed returned the damage of all bytes that were fed, the piece included
 abbrev pub IsDamage : DecoderValue → List ℕ → Option BlockError → Type 0
 IsDamage decoder piece damage =
-    (cpu : ℕ) (fed : List ℕ) → Stands cpu decoder fed → damage ≡ damage_of (fed ++ piece)
+    (cpu : ℕ) (fed : List ℕ) → Represents cpu decoder fed → damage ≡ damage_of (fed ++ piece)
 
 -- the answer is the end of all bytes that were fed
 abbrev pub IsEnd : DecoderValue → Result Unit BlockError → Type 0
 IsEnd decoder answer =
-    (cpu : ℕ) (fed : List ℕ) → Stands cpu decoder fed → result_err answer ≡ end_of fed
+    (cpu : ℕ) (fed : List ℕ) → Represents cpu decoder fed → result_err answer ≡ end_of fed
 
 -- the number of bytes that are kept of those that were fed
 abbrev pub CountsKept : DecoderValue → ℕ → Type 0
 CountsKept decoder count =
-    (cpu : ℕ) (fed : List ℕ) → Stands cpu decoder fed → count ≡ length (kept_of fed)
+    (cpu : ℕ) (fed : List ℕ) → Represents cpu decoder fed → count ≡ length (kept_of fed)

@@ -46,12 +46,13 @@ impl Model for BlockDecoder {
 }
 
 impl BlockDecoder {
-    ghost use Rattle.pcapng_blocks.specs.Decoding.{Stands, StandsOn, AppendsNew, IsDamage, IsEnd};
+    ghost use Rattle.pcapng_blocks.specs.Decoding.{Represents, RepresentsMore, AppendsNew};
+    ghost use Rattle.pcapng_blocks.specs.Decoding.{IsDamage, IsEnd};
     ghost use Rattle.pcapng_blocks.specs.Decoding.{CountsKept};
 
     /// A decoder that nothing was fed to. It takes no memory.
     pub fn new(alloc: Global, cpu: u32) -> BlockDecoder
-        ensures { Stands cpu result [] }
+        ensures { Represents cpu result [] }
     {
         BlockDecoder {
             alloc,
@@ -76,7 +77,7 @@ impl BlockDecoder {
     /// nothing. After `Memory` the decoder and `into` are as before the call.
     pub fn feed(&mut self, piece: &[u8], into: &mut Frames) -> Result<Option<BlockError>, Memory>
         // The decoder represents all bytes that it was fed.
-        ensures stands { IfOk result (λ damage. StandsOn self.old self.new piece.now) }
+        ensures represents { IfOk result (λ damage. RepresentsMore self.old self.new piece.now) }
 
         // Exactly the new frames are appended.
         ensures frames { IfOk result (λ damage. AppendsNew self.old piece.now into.old into.new) }

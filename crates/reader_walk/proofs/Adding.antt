@@ -7,11 +7,11 @@ use Rattle.tp_layout.specs.declared.requests.RingRequest.{RingRequest}
 use Rattle.reader_walk.specs.Readers.{ReaderValue, has_read}
 use Rattle.reader_walk.specs.ReadersInside.{IsSound, blocks_of, mark_of, reader_value}
 use Rattle.reader_walk.specs.Texts.{kept_if}
-use Rattle.reader_walk.specs.declared.piles.Pile.{Pile}
-use Rattle.reader_walk.proofs.Heaps.{counted_more, dump_more, one_more}
+use Rattle.reader_walk.specs.declared.copies.Copies.{Copies}
+use Rattle.reader_walk.proofs.MarkedBlocks.{counted_more, dump_more, one_more}
 
 -- what was taken was added to what was read, with this part of its text, or all is as before
-pub record Adds (taken : Taken) (text : List ℕ) (before after : Pile) (result : Result (Unit {0}) Memory) : Type 0 where
+pub record Adds (taken : Taken) (text : List ℕ) (before after : Copies) (result : Result (Unit {0}) Memory) : Type 0 where
   pub marks : OnOk result (after.marks.items ≡ before.marks.items ++ mark_of taken ∷ [])
   pub walked : OnOk result (after.walked.items ≡ before.walked.items ++ taken.packets)
   pub dump : OnOk result (after.dump.items ≡ before.dump.items ++ text)
@@ -19,7 +19,7 @@ pub record Adds (taken : Taken) (text : List ℕ) (before after : Pile) (result 
   pub same_walked : OnErr result (after.walked.items ≡ before.walked.items)
   pub same_dump : OnErr result (after.dump.items ≡ before.dump.items)
 
-sound_with : (text : RingRequest → Taken → List ℕ) (shape : RingRequest) (dumps : Bool) (before after : Pile) (taken : Taken)
+sound_with : (text : RingRequest → Taken → List ℕ) (shape : RingRequest) (dumps : Bool) (before after : Copies) (taken : Taken)
     (result : Result (Unit {0}) Memory) → IsSound text shape dumps before
     → Adds taken (kept_if dumps (text shape taken)) before after result → IsSound text shape dumps after
 sound_with text shape dumps before after taken (Ok u) sound adds = record {
@@ -33,7 +33,7 @@ sound_with text shape dumps before after taken (Err e) sound adds = record {
 }
 
 ok_with : (text : RingRequest → Taken → List ℕ) (taken_in : RingRequest → List ℕ → Taken) (shape : RingRequest) (dumps : Bool)
-    (held : Option (List ℕ)) (bytes : List ℕ) (before after : Pile) (value : ReaderValue) (kept : List ℕ) (result : Result (Unit {0}) Memory)
+    (held : Option (List ℕ)) (bytes : List ℕ) (before after : Copies) (value : ReaderValue) (kept : List ℕ) (result : Result (Unit {0}) Memory)
     → reader_value shape dumps before held ≡ value → IsSound text shape dumps before → Adds (taken_in shape bytes) kept before after result
     → OnOk result (reader_value shape dumps after held ≡ record (has_read taken_in bytes value) { held = value.held })
 ok_with text taken_in shape dumps held bytes before after value kept (Ok u) view sound adds =
@@ -42,7 +42,7 @@ ok_with text taken_in shape dumps held bytes before after value kept (Ok u) view
     ∙ ap (λ (v : ReaderValue). record (has_read taken_in bytes v) { held = v.held }) view
 ok_with text taken_in shape dumps held bytes before after value kept (Err e) view sound adds = tt
 
-err_with : (taken : Taken) (kept : List ℕ) (shape : RingRequest) (dumps : Bool) (held : Option (List ℕ)) (before after : Pile)
+err_with : (taken : Taken) (kept : List ℕ) (shape : RingRequest) (dumps : Bool) (held : Option (List ℕ)) (before after : Copies)
     (value : ReaderValue) (result : Result (Unit {0}) Memory) → reader_value shape dumps before held ≡ value
     → Adds taken kept before after result → OnErr result (reader_value shape dumps after held ≡ value)
 err_with taken kept shape dumps held before after value (Ok u) view adds = tt
@@ -52,7 +52,7 @@ err_with taken kept shape dumps held before after value (Err e) view adds =
 
 -- a block or a slot of its own shape, which is the reader's, was added or not
 module _ (text : RingRequest → Taken → List ℕ) (taken_in : RingRequest → List ℕ → Taken) (own shape : RingRequest) (dumps : Bool)
-    (held : Option (List ℕ)) (bytes : List ℕ) (before after : Pile) (value : ReaderValue) (result : Result (Unit {0}) Memory)
+    (held : Option (List ℕ)) (bytes : List ℕ) (before after : Copies) (value : ReaderValue) (result : Result (Unit {0}) Memory)
     (is_own : own ≡ value.shape) (view : reader_value shape dumps before held ≡ value) (sound : IsSound text shape dumps before)
     (adds : Adds (taken_in own bytes) (kept_if dumps (text own (taken_in own bytes))) before after result) where
   added : Adds (taken_in shape bytes) (kept_if dumps (text shape (taken_in shape bytes))) before after result

@@ -1,4 +1,4 @@
 mod Adding
-mod Heaps
+mod MarkedBlocks
 mod Units
 mod Telling

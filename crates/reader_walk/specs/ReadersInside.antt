@@ -4,8 +4,8 @@ use Rattle.frame_view.specs.declared.frames.Packet.{Packet}
 use Rattle.tp_layout.specs.Layouts.{Taken}
 use Rattle.tp_layout.specs.declared.requests.RingRequest.{RingRequest}
 use Rattle.reader_walk.specs.Readers.{ReaderValue, kept_texts}
-use Rattle.reader_walk.specs.declared.piles.Mark.{Mark}
-use Rattle.reader_walk.specs.declared.piles.Pile.{Pile}
+use Rattle.reader_walk.specs.declared.copies.Mark.{Mark}
+use Rattle.reader_walk.specs.declared.copies.Copies.{Copies}
 
 -- what is kept of a block or a slot beside its packets
 abbrev pub mark_of : Taken → Mark
@@ -19,11 +19,11 @@ taken_by (mark ∷ marks) packets =
     ∷ taken_by marks (drop mark.packets packets)
 
 -- what a reader's fields represent
-abbrev pub blocks_of : Pile → List Taken
-blocks_of pile = taken_by pile.marks.items pile.walked.items
+abbrev pub blocks_of : Copies → List Taken
+blocks_of copies = taken_by copies.marks.items copies.walked.items
 
-abbrev pub reader_value : RingRequest → Bool → Pile → Option (List ℕ) → ReaderValue
-reader_value shape dumps pile held = record { shape = shape; dumps = dumps; taken = blocks_of pile; held = held }
+abbrev pub reader_value : RingRequest → Bool → Copies → Option (List ℕ) → ReaderValue
+reader_value shape dumps copies held = record { shape = shape; dumps = dumps; taken = blocks_of copies; held = held }
 
 -- how many packets the blocks of some marks have
 abbrev pub packets_in : List Mark → ℕ
@@ -31,6 +31,6 @@ packets_in [] = 0
 packets_in (mark ∷ marks) = mark.packets + packets_in marks
 
 -- what the fields keep of what was read, given the text of one block or slot
-pub record IsSound (text : RingRequest → Taken → List ℕ) (shape : RingRequest) (dumps : Bool) (pile : Pile) : Type 0 where
-  pub counted : packets_in pile.marks.items ≡ length pile.walked.items
-  pub dump : pile.dump.items ≡ kept_texts text dumps shape (blocks_of pile)
+pub record IsSound (text : RingRequest → Taken → List ℕ) (shape : RingRequest) (dumps : Bool) (copies : Copies) : Type 0 where
+  pub counted : packets_in copies.marks.items ≡ length copies.walked.items
+  pub dump : copies.dump.items ≡ kept_texts text dumps shape (blocks_of copies)

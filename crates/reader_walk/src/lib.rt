@@ -2,9 +2,9 @@
 //! back.
 #![tactic(auto)]
 
+mod copies;
 mod laws;
 mod outputs;
-mod piles;
 mod reader;
 mod taker;
 

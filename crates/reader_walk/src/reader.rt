@@ -11,7 +11,7 @@ ghost use Rattle.std.specs.Prelude.{OnSome};
 ghost use Rattle.ring_words.specs.Counts.{Rose};
 ghost use Rattle.tp_layout.specs.Requests.{numbers_of};
 
-use crate::piles::Pile;
+use crate::copies::Copies;
 use crate::{Outputs, Taker};
 use frame_view::{ByteList, Memory, Packet, Packets};
 use ring_words::WalkerEnd;
@@ -33,7 +33,7 @@ pub struct RingReader<B: Layout> {
     /// Whether texts are kept.
     dumps: bool,
     /// What was read.
-    pile: Pile,
+    copies: Copies,
     /// A block or a slot that was taken and not read, because memory ran out.
     held: Option<B>,
 }
@@ -51,9 +51,9 @@ impl<B: Layout> Model for RingReader<B> {
     ghost use Rattle.reader_walk.specs.Takers.{IsRetiredUnit};
 
     ghost view = { λ reader.
-        reader_value reader.shape reader.dumps reader.pile (option_map B.bytes reader.held) };
+        reader_value reader.shape reader.dumps reader.copies (option_map B.bytes reader.held) };
 
-    ghost invariant = { λ reader. IsSound B.text_of reader.shape reader.dumps reader.pile
+    ghost invariant = { λ reader. IsSound B.text_of reader.shape reader.dumps reader.copies
         × IfSome reader.held (IsRetiredUnit B.shape B.ready reader.shape) };
 }
 
@@ -71,7 +71,7 @@ impl<B: Layout> RingReader<B> {
             alloc,
             shape,
             dumps: dump,
-            pile: Pile {
+            copies: Copies {
                 marks: Vec::new(alloc),
                 walked: Vec::new(alloc),
                 dump: Vec::new(alloc),
@@ -149,27 +149,27 @@ impl<B: Layout> RingReader<B> {
             ≡ record (has_read B.taken_in (B.bytes unit.now) self.old) { held = self.old.held }) }
         ensures err { OnErr result (self.new ≡ self.old) }
     {
-        self.pile.add(self.alloc, unit, self.dumps)
+        self.copies.add(self.alloc, unit, self.dumps)
     }
 
     /// The packets that were read so far, in order.
-    #[tactic(auto, using(crate::proofs::Heaps::all_walked))]
+    #[tactic(auto, using(crate::proofs::MarkedBlocks::all_walked))]
     pub fn walked(&self) -> &[Packet]
         ensures { result.now ≡ walked_of self.now.taken }
     {
-        self.pile.walked.as_slice()
+        self.copies.walked.as_slice()
     }
 
     /// All that was read.
-    #[tactic(auto, using(crate::proofs::Heaps::all_walked, crate::proofs::Heaps::as_many))]
+    #[tactic(auto, using(crate::proofs::MarkedBlocks::all_walked, crate::proofs::MarkedBlocks::as_many))]
     pub fn outputs(self) -> Outputs
         requires { self.held ≡ None }
         ensures { result ≡ outputs_by B.text_of self }
     {
-        let blocks = self.pile.marks.len() as u64;
+        let blocks = self.copies.marks.len() as u64;
         Outputs {
-            walked: Packets::from_vec(self.pile.walked),
-            dump: ByteList::from_vec(self.pile.dump),
+            walked: Packets::from_vec(self.copies.walked),
+            dump: ByteList::from_vec(self.copies.dump),
             blocks,
         }
     }

@@ -3,7 +3,7 @@ use Rattle.std.proofs.Common.{◌≡◌, ℕ, ◌+◌, ◌≤◌, Bool, true, fa
 use Rattle.std.specs.Prelude.{nat_lt}
 use Rattle.std.proofs.lemmas.Grind.{common_steps}
 use Rattle.ring_model.specs.Asking.{put_by, put_note, try_by, try_note, tick_note}
-use Rattle.ring_model.specs.Ring.{Size, State, EndsThere, IsRun, MayStand, after, after_drop, after_due, first_state}
+use Rattle.ring_model.specs.Ring.{Size, State, EndsThere, IsRun, MayFollow, after, after_drop, after_due, first_state}
 use Rattle.ring_model.specs.Rings.{Ring, note_of_put, fresh, note_of_tick, note_of_try, noted, read_once, state}
 use Rattle.ring_model.specs.declared.notes.Offer.{Offer}
 use Rattle.ring_model.specs.declared.notes.Found.{Found}
@@ -42,7 +42,7 @@ releases_later low last later (count ∷ counts) [] more h = absurd h
 releases_later low last later (count ∷ counts) (note ∷ notes) more h = (h.0, h.1, releases_later count last later counts notes more h.2)
 
 -- a note more, which isn't the last
-pub noted_open : (size : Size) (clock now : ℕ) (ring : Ring) (note : Note) → IsOpen size clock ring → MayStand ring.size (state ring) note
+pub noted_open : (size : Size) (clock now : ℕ) (ring : Ring) (note : Note) → IsOpen size clock ring → MayFollow ring.size (state ring) note
     → ((more : List Note) → EndsThere note more) → IsUnreleased ring.released note → (after ring.size (state ring) note).clock ≤ now
     → IsOpen size now (noted ring note)
 noted_open size clock now ring note h may ends found early = record {
@@ -55,14 +55,14 @@ noted_open size clock now ring note h may ends found early = record {
   unreleased = releases_more 0 ring.released h.releases ring.notes note h.unreleased found;
 }
 
-put_stands : (size : Size) (released : ℕ) (s : State) (offer : Offer) → MayStand size s (put_note size released s offer)
-put_stands size released s offer = grind (arith, common_steps)
+put_may_follow : (size : Size) (released : ℕ) (s : State) (offer : Offer) → MayFollow size s (put_note size released s offer)
+put_may_follow size released s offer = grind (arith, common_steps)
 
-try_stands : (size : Size) (released : ℕ) (s : State) (offer : Offer) → MayStand size s (try_note size released s offer)
-try_stands size released s offer = grind (arith, common_steps)
+try_may_follow : (size : Size) (released : ℕ) (s : State) (offer : Offer) → MayFollow size s (try_note size released s offer)
+try_may_follow size released s offer = grind (arith, common_steps)
 
-tick_stands : (size : Size) (released : ℕ) (s : State) (ms : ℕ) → s.clock ≤ ms → MayStand size s (tick_note size released s ms)
-tick_stands size released s ms later = grind (arith, common_steps)
+tick_may_follow : (size : Size) (released : ℕ) (s : State) (ms : ℕ) → s.clock ≤ ms → MayFollow size s (tick_note size released s ms)
+tick_may_follow size released s ms later = grind (arith, common_steps)
 
 -- only a tick moves the clock
 drop_clock : (s : State) (now : Option (List Offer)) → (after_drop s now).clock ≡ s.clock
@@ -99,19 +99,19 @@ try_ends offer (Held number) more = tt
 
 pub put_open : (size : Size) (clock : ℕ) (ring : Ring) (offer : Offer) → IsOpen size clock ring → IsOpen size clock (noted ring (note_of_put ring offer))
 put_open size clock ring offer h =
-    noted_open size clock clock ring (note_of_put ring offer) h (put_stands ring.size ring.released (state ring) offer) (put_ends offer _)
+    noted_open size clock clock ring (note_of_put ring offer) h (put_may_follow ring.size ring.released (state ring) offer) (put_ends offer _)
     (put_unreleased ring.size ring.released (state ring) offer)
     (rw (put_clock ring.size (state ring) offer) h.clock_is)
 
 pub try_open : (size : Size) (clock : ℕ) (ring : Ring) (offer : Offer) → IsOpen size clock ring → IsOpen size clock (noted ring (note_of_try ring offer))
 try_open size clock ring offer h =
-    noted_open size clock clock ring (note_of_try ring offer) h (try_stands ring.size ring.released (state ring) offer) (try_ends offer _)
+    noted_open size clock clock ring (note_of_try ring offer) h (try_may_follow ring.size ring.released (state ring) offer) (try_ends offer _)
     (try_unreleased ring.size ring.released (state ring) offer)
     (rw (try_clock ring.size (state ring) offer) h.clock_is)
 
 pub tick_open : (size : Size) (clock ms : ℕ) (ring : Ring) → clock ≤ ms → IsOpen size clock ring → IsOpen size ms (noted ring (note_of_tick ring ms))
 tick_open size clock ms ring later h =
-    noted_open size clock ms ring (note_of_tick ring ms) h (tick_stands ring.size ring.released (state ring) ms (omega arith)) (λ more. tt)
+    noted_open size clock ms ring (note_of_tick ring ms) h (tick_may_follow ring.size ring.released (state ring) ms (omega arith)) (λ more. tt)
     (tick_unreleased ring.size ring.released (state ring) ms)
     (tick_clock ring.size (state ring) ms _)
 

@@ -2,7 +2,7 @@
 ghost use Rattle.std.specs.Prelude.{◌<◌, List, Option};
 ghost use Rattle.frame_view.specs.declared.frames.Frame.{Frame};
 ghost use Rattle.ring_model.specs.Ring.{Size};
-ghost use Rattle.fanout_group.specs.Once.{EachStandsOnce};
+ghost use Rattle.fanout_group.specs.Once.{EachAppearsOnce};
 ghost use Rattle.fanout_group.specs.Rules.{Rules};
 ghost use Rattle.replay_model.specs.Replay.{replayed};
 ghost use Rattle.replay_model.specs.Reports.{AreArrivals, IsReplayReport, IsRingReport, logged_of};
@@ -11,7 +11,7 @@ ghost use Rattle.replay_model.specs.RingSteps.{block_steps};
 ghost use Rattle.schedule_lines.specs.Ascending.{IsSchedule};
 ghost use Rattle.schedule_lines.specs.declared.lines.Line.{Line};
 
-use fanout_group::each_frame_stands_exactly_once;
+use fanout_group::each_frame_appears_exactly_once;
 
 /// Whatever the schedule, the logs of a replay over rings of blocks are lawful, logs and notes are
 /// joined, and each member's notes are a run of its ring from its opening to its close.
@@ -25,14 +25,14 @@ pub fn a_replay_reports_a_group()
 
 /// Among the Kept and Dropped notes of a replay's members each arrival that the filter passes
 /// appears once, and nothing else appears there.
-pub fn each_frame_of_a_replay_stands_exactly_once()
+pub fn each_frame_of_a_replay_appears_exactly_once()
     ensures { (rules : Rules) (size : Size) (arriving : List (List (Option Frame)))
         (lines : List Line)
         → 0 < rules.members → AreArrivals arriving → IsSchedule lines
-        → EachStandsOnce
+        → EachAppearsOnce
         (logged_of arriving (replayed rules (block_steps size) arriving lines).cpus)
         (notes_of (replayed rules (block_steps size) arriving lines).members) }
 {
-    each_frame_stands_exactly_once();
+    each_frame_appears_exactly_once();
     a_replay_reports_a_group();
 }

@@ -5,4 +5,4 @@
 
 mod laws;
 
-pub use laws::{a_replay_reports_a_group, each_frame_of_a_replay_stands_exactly_once};
+pub use laws::{a_replay_reports_a_group, each_frame_of_a_replay_appears_exactly_once};

@@ -2,7 +2,7 @@
 use Rattle.std.proofs.Common.{◌≡◌, ℕ, ◌+◌, ◌<◌, ◌≤◌, Bool, true, false, cond, List, [], ◌∷◌, ◌++◌, length, Option, None, Some, refl, arith, length-append}
 use Rattle.std.specs.Prelude.{nat_lt}
 use Rattle.ring_model.specs.Fates.{drops_of}
-use Rattle.ring_model.specs.Ring.{Size, State, IsRun, MayStand, after, after_all, after_drop, after_due, retired, finished, open_count, status_of}
+use Rattle.ring_model.specs.Ring.{Size, State, IsRun, MayFollow, after, after_all, after_drop, after_due, retired, finished, open_count, status_of}
 use Rattle.ring_model.specs.declared.notes.Offer.{Offer}
 use Rattle.ring_model.specs.declared.notes.Found.{Found}
 use Rattle.ring_model.specs.declared.notes.Found.TheVariants.{NotAsked, Free, Held}

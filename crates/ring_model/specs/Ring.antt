@@ -150,21 +150,21 @@ pub record IsDue (state : State) (ms : ℕ) : Type 0 where
   pub over : state.deadline ≤ ms
 
 -- a note may follow a state
-abbrev pub MayStand : Size → State → Note → Type 0
-MayStand size state (Kept offer NotAsked) = HasRoom size (need_of offer.snap) state.now
-MayStand size state (Kept offer Free) = HasNoRoom size (need_of offer.snap) state.now
-MayStand size state (Kept offer (Held number)) = ⊥
-MayStand size state (Refused cpu index need number) =
+abbrev pub MayFollow : Size → State → Note → Type 0
+MayFollow size state (Kept offer NotAsked) = HasRoom size (need_of offer.snap) state.now
+MayFollow size state (Kept offer Free) = HasNoRoom size (need_of offer.snap) state.now
+MayFollow size state (Kept offer (Held number)) = ⊥
+MayFollow size state (Refused cpu index need number) =
     HasNoRoom size need state.now × IsHeld size state number
-MayStand size state (Dropped cpu index need number) =
+MayFollow size state (Dropped cpu index need number) =
     HasNoRoom size need state.now × IsHeld size state number
-MayStand size state (Ticked ms NotAsked) =
+MayFollow size state (Ticked ms NotAsked) =
     (state.clock ≤ ms) × ((ms < state.deadline) ⊎ (IsDue state ms × (state.now ≡ Some [])))
-MayStand size state (Ticked ms Free) = IsDue state ms × (state.now ≢ Some [])
-MayStand size state (Ticked ms (Held number)) =
+MayFollow size state (Ticked ms Free) = IsDue state ms × (state.now ≢ Some [])
+MayFollow size state (Ticked ms (Held number)) =
     IsDue state ms × (state.now ≢ Some []) × IsHeld size state number
-MayStand size state Counted = Unit {0}
-MayStand size state Finished = Unit {0}
+MayFollow size state Counted = Unit {0}
+MayFollow size state Finished = Unit {0}
 
 -- nothing follows the note that closes the ring
 abbrev pub EndsThere : Note → List Note → Type 0
@@ -175,7 +175,7 @@ EndsThere note notes = Unit {0}
 abbrev pub IsRun : Size → State → List Note → Type 0
 IsRun size state [] = Unit {0}
 IsRun size state (note ∷ notes) =
-    MayStand size state note × EndsThere note notes × IsRun size (after size state note) notes
+    MayFollow size state note × EndsThere note notes × IsRun size (after size state note) notes
 
 -- notes of a ring from its opening to its close
 pub record IsWholeRun (size : Size) (notes : List Note) : Type 0 where

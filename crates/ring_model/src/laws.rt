@@ -1,28 +1,28 @@
 //! Laws of the definitions, each the contract of a function that does nothing.
 ghost use Rattle.std.specs.Prelude.{◌≡◌, ◌+◌, ◌<◌, ◌≤◌, ℕ, List, [], length};
 ghost use Rattle.ring_model.specs.Fates.{drops_of, kept_of, totals_of};
-ghost use Rattle.ring_model.specs.Ring.{Size, IsRun, MayStand, first_state, state_of};
+ghost use Rattle.ring_model.specs.Ring.{Size, IsRun, MayFollow, first_state, state_of};
 ghost use Rattle.ring_model.specs.Rings.{Ring, note_of_put, note_of_tick, note_of_try, state};
 ghost use Rattle.ring_model.specs.Unreleased.{IsUnreleased, last_moment};
 ghost use Rattle.ring_model.specs.declared.notes.Note.{Note};
 ghost use Rattle.ring_model.specs.declared.notes.Offer.{Offer};
 
 /// The note of a put is possible, whatever the reader has released.
-pub fn puts_stand()
+pub fn puts_may_follow()
     ensures { (ring : Ring) (offer : Offer)
-        → MayStand ring.size (state ring) (note_of_put ring offer) }
+        → MayFollow ring.size (state ring) (note_of_put ring offer) }
 {}
 
 /// The note of a try is possible.
-pub fn tries_stand()
+pub fn tries_may_follow()
     ensures { (ring : Ring) (offer : Offer)
-        → MayStand ring.size (state ring) (note_of_try ring offer) }
+        → MayFollow ring.size (state ring) (note_of_try ring offer) }
 {}
 
 /// The note of a tick is possible, where the clock doesn't go back.
-pub fn ticks_stand()
+pub fn ticks_may_follow()
     ensures { (ring : Ring) (ms : ℕ) → (state ring).clock ≤ ms
-        → MayStand ring.size (state ring) (note_of_tick ring ms) }
+        → MayFollow ring.size (state ring) (note_of_tick ring ms) }
 {}
 
 /// A ring whose notes retire fewer blocks than it has drops nothing.

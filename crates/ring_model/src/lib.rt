@@ -8,8 +8,9 @@ mod sizes;
 mod tallying;
 
 pub use laws::{
-    a_block_noted_as_held_is_unreleased, a_ring_with_blocks_left_drops_nothing, puts_stand,
-    statistics_count_each_packet, the_clock_is_that_of_the_last_tick, ticks_stand, tries_stand,
+    a_block_noted_as_held_is_unreleased, a_ring_with_blocks_left_drops_nothing, puts_may_follow,
+    statistics_count_each_packet, the_clock_is_that_of_the_last_tick, ticks_may_follow,
+    tries_may_follow,
 };
 pub use notes::{Found, Note, Notes, Offer, Put, Stats, Tried, Unput};
 pub use noting::{noted_put, noted_try};

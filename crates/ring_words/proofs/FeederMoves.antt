@@ -8,7 +8,7 @@ use lib.ListN.{get_elem?}
 use Rattle.atomic_table.specs.Table.{State, Act, keeps, takes, gives, Allows, Valid, step, stepped, carried_after, rest}
 use Rattle.atomic_table.proofs.Lists.{set_here, set_else}
 use Rattle.ring_words.specs.Rings.{Entry, IsMark, IsStatus}
-use Rattle.ring_words.specs.Sights.{from_start}
+use Rattle.ring_words.specs.FoundWords.{from_start}
 use Rattle.ring_words.specs.Tables.{Course, IsRing}
 use Rattle.ring_words.specs.Plays.{Holder, Looks, Stores}
 use Rattle.ring_words.specs.declared.known.Known.{Known}
@@ -315,7 +315,7 @@ module _ {B : Type 0} (bytes kind_of : B → List ℕ) (ready : B → ℕ → �
                     let same : entry ≡ one = at_end c.log entry one (subst (λ k. get_elem? log k ≡ some one) last is) in
                     record {
                       block = block;
-                      stands = record { home = home; same_kind = is_kind ∙ feed.same_kind };
+                      at_place = record { home = home; same_kind = is_kind ∙ feed.same_kind };
                       content = ap (λ z. z.0) same;
                       is_ready = subst (λ z. ready block (j + 1) z.1) same (subst (λ k. ready block (k + 1) status) (sym e) is_ready);
                     };

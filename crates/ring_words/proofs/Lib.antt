@@ -12,4 +12,4 @@ mod FeederSteps
 mod WalkerSteps
 mod PendingSteps
 mod Seeing
-mod Standing
+mod LooksFound

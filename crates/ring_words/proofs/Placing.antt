@@ -7,7 +7,7 @@ use lib.ListN.{get_elem?}
 use Rattle.atomic_table.proofs.Lists.{at_set, set_else, set_here}
 use Rattle.ring_words.proofs.Entries.{within}
 use Rattle.ring_words.specs.Rings.{Entry}
-use Rattle.ring_words.specs.Sights.{from_start}
+use Rattle.ring_words.specs.FoundWords.{from_start}
 use Rattle.ring_words.specs.Tables.{Course, Home, IsPlaced, Knows, Sits}
 use Rattle.ring_words.specs.declared.known.Known.{Known}
 
@@ -34,7 +34,7 @@ module _ {B : Type 0} (bytes kind_of : B → List ℕ) (ready : B → ℕ → �
         let waits = placed.waiting entry (same.log entry at) (same.from_taken from) in
         record {
           block = waits.block;
-          stands = record { home = home ∙ waits.stands.home; same_kind = waits.stands.same_kind };
+          at_place = record { home = home ∙ waits.at_place.home; same_kind = waits.at_place.same_kind };
           content = waits.content;
           is_ready = waits.is_ready;
         };

@@ -7,7 +7,7 @@ use Rattle.std.proofs.Math.Seq.{take-append_seam}
 use Rattle.std.proofs.lemmas.List.{length-append}
 use Rattle.atomic_table.proofs.Lists.{at_last, at_longer}
 use Rattle.ring_words.specs.Rings.{Entry}
-use Rattle.ring_words.specs.Sights.{IsLook, IsVisit, WasRetired, from_start}
+use Rattle.ring_words.specs.FoundWords.{IsLook, IsVisit, WasRetired, from_start}
 use Rattle.ring_words.specs.TableEnds.{even_count, odd_count}
 use Rattle.ring_words.specs.Tables.{Course, IsSeen}
 use Rattle.ring_words.proofs.Entries.{at_new, length-snoc, take-longer, within}
@@ -76,11 +76,11 @@ module _ (places : ℕ) (c : Course) (seen : IsSeen places c) where
   -- the feeder was given a block
   pub seen_free : (word given : ℕ) → given ≡ c.given → word % 2 ≡ 0 → get_elem? (from_start places c.marks) given ≡ some word
       → IsSeen places (record c { given = given + 1; looks = c.looks ++ word ∷ [] })
-  seen_free word given same even stands =
+  seen_free word given same even at_place =
       let rank : even_count c.looks ≡ given = seen.given ∙ sym same in
       record {
         looks = look_more (IsLook places c.log c.marks c.freed_at) even_count c.looks word seen.looks (record {
-          mark = λ _. ap (λ k. get_elem? (from_start places c.marks) k) rank ∙ stands;
+          mark = λ _. ap (λ k. get_elem? (from_start places c.marks) k) rank ∙ at_place;
           free = λ _ at is. start_made places c.freed_at (length c.looks) seen.freed_made (even_count c.looks) at is;
           number = λ odd. absurd (omega arith);
           held = λ odd. absurd (omega arith);
@@ -106,8 +106,8 @@ module _ (places : ℕ) (c : Course) (seen : IsSeen places c) where
           mark = λ even. absurd (omega arith);
           free = λ even. absurd (omega arith);
           number = λ _. (c.released, omega arith, record { entry = entry; at = at; is = is });
-          held = λ _ when stands.
-              let below = within (from_start places c.freed_at) (even_count c.looks) when stands in
+          held = λ _ when at_place.
+              let below = within (from_start places c.freed_at) (even_count c.looks) when at_place in
               let long = length-start places c.freed_at in
               absurd (omega arith);
         });
@@ -135,7 +135,7 @@ module _ (places : ℕ) (c : Course) (seen : IsSeen places c) where
             at = ap (λ k. get_elem? c.log k) rank ∙ at;
             is = is ∙ ap (λ k. (k + 1) * 256 + entry.1) (sym rank);
           };
-          shown = λ _ when stands. seen.shown_made (odd_count c.visits) when stands;
+          shown = λ _ when at_place. seen.shown_made (odd_count c.visits) when at_place;
           mark = λ even. absurd (omega arith);
           none = λ even. absurd (omega arith);
         });
@@ -150,7 +150,7 @@ module _ (places : ℕ) (c : Course) (seen : IsSeen places c) where
   -- the reader found that the next block wasn't retired
   pub seen_none : (word taken : ℕ) → taken ≡ c.taken → length c.log ≤ taken → get_elem? (from_start places c.marks) taken ≡ some word → word % 2 ≡ 0
       → IsSeen places (record c { visits = c.visits ++ word ∷ [] })
-  seen_none word taken same all stands even =
+  seen_none word taken same all at_place even =
       let rank : odd_count c.visits ≡ taken = seen.taken ∙ sym same in
       let shown = seen.shown in
       record {
@@ -159,7 +159,7 @@ module _ (places : ℕ) (c : Course) (seen : IsSeen places c) where
         visits = look_more (IsVisit places c.log c.marks c.shown_at) odd_count c.visits word seen.visits (record {
           number = λ odd. absurd (omega arith);
           shown = λ odd. absurd (omega arith);
-          mark = λ _. ap (λ k. get_elem? (from_start places c.marks) k) rank ∙ stands;
+          mark = λ _. ap (λ k. get_elem? (from_start places c.marks) k) rank ∙ at_place;
           none = λ _ when is. let below = within c.shown_at (odd_count c.visits) when is in absurd (omega arith);
         });
         taken = odd_count_push c.visits word ∙ omega (arith, seen.taken);

@@ -8,7 +8,7 @@ use lib.ListN.{get_elem?}
 use Rattle.atomic_table.specs.Table.{State, Act, keeps, takes, gives, Allows, Valid, step, stepped, carried_after, rest}
 use Rattle.atomic_table.proofs.Lists.{set_here, set_else}
 use Rattle.ring_words.specs.Rings.{Entry, IsMark}
-use Rattle.ring_words.specs.Sights.{from_start}
+use Rattle.ring_words.specs.FoundWords.{from_start}
 use Rattle.ring_words.specs.Tables.{Course, IsRing}
 use Rattle.ring_words.specs.Plays.{Fetches, FoundNext, Frees, Holder}
 use Rattle.ring_words.specs.declared.known.Known.{Known}
@@ -215,14 +215,14 @@ module _ {B : Type 0} (bytes kind_of : B → List ℕ) (ready : B → ℕ → �
         entry = entry.0;
         at = entry.1;
         block = waits.block;
-        home = waits.stands.home;
+        home = waits.at_place.home;
         odd = ap (λ w. w % 2) written.0 ∙ odd_word (k + 1) entry.0.1 written.1;
         written = written.0;
         is = ap₂ (λ content state. (content, state)) waits.content status;
         found = record {
           block = waits.block;
           hand = refl;
-          same_kind = waits.stands.same_kind ∙ sym walk.same_kind;
+          same_kind = waits.at_place.same_kind ∙ sym walk.same_kind;
           status = rw status written.1;
           number = number;
           few = omega arith;

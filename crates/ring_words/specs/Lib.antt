@@ -4,7 +4,7 @@ pub mod Looks
 pub mod PlainRings
 pub mod PlainLaws
 pub mod Knowing
-pub mod Sights
+pub mod FoundWords
 pub mod Tables
 pub mod Plays
 pub mod TableEnds

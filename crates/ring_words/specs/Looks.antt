@@ -20,6 +20,6 @@ abbrev pub OnHeld : {B : Type 0} → Next B → Type 0 → Type 0
 OnHeld next P = IfHeld next (λ number. P)
 
 -- the block of this number is at the place that the next one takes
-pub record StandsBefore (places next number : ℕ) : Type 0 where
+pub record IsOneRoundBefore (places next number : ℕ) : Type 0 where
   pub opened : 0 < number
   pub place : number + places ≡ next

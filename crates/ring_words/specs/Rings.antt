@@ -54,7 +54,7 @@ abbrev pub and_found : ℕ → Option (List ℕ) → Option (List ℕ)
 and_found number found = option_map (λ numbers. numbers ++ number ∷ []) found
 
 -- the end represents the list of all blocks retired so far
-pub record StandsFor (feed : Feed) (all : List Entry) : Type 0 where
+pub record RepresentsBlocks (feed : Feed) (all : List Entry) : Type 0 where
   pub count : length all ≡ feed.retired
   pub front : feed.passed ≤ feed.retired
   pub rest : drop feed.passed all ≡ feed.shown
@@ -67,7 +67,7 @@ pub record LeavesFeeder (before after : Feed) : Type 0 where
   pub retired : after.retired ≡ before.retired
   pub holds : after.holds ≡ before.holds
   pub found : after.found ≡ before.found
-  pub stands : (all : List Entry) → StandsFor before all → StandsFor after all
+  pub represents : (all : List Entry) → RepresentsBlocks before all → RepresentsBlocks after all
 
 -- what an end of the reader's side reports
 pub record Walk : Type 0 where

@@ -3,7 +3,7 @@ use Rattle.std.specs.Prelude.{◌≡◌, ℕ, zero, suc, ◌+◌, ◌-◌, ◌/�
 use Rattle.std.specs.Prelude.{false, List, [], ◌∷◌, ◌++◌, length, Option, None, Some, nat_eq}
 use Rattle.std.specs.Prelude.{if◌then◌else◌}
 use Rattle.atomic_table.specs.Seated.{TableId}
-use Rattle.ring_words.specs.Looks.{StandsBefore}
+use Rattle.ring_words.specs.Looks.{IsOneRoundBefore}
 use Rattle.ring_words.specs.Plays.{Holder}
 use Rattle.ring_words.specs.Rings.{Entry, Feed, IsMark, IsStatus, Ring, Walk}
 
@@ -129,7 +129,7 @@ pub record FoundNumber (before after : Feeding) (number : ℕ) : Type 0 where
   pub word : ℕ
   pub odd : IsStatus (word % 256)
   pub is_number : word / 256 ≡ number
-  pub stands : StandsBefore before.places (before.given + 1) number
+  pub at_place : IsOneRoundBefore before.places (before.given + 1) number
   pub now : after ≡ record before { looks = before.looks ++ word ∷ [] }
   pub holds : odd_count after.looks ≡ odd_count before.looks + 1
   pub found : found_in after.looks ≡ found_in before.looks ++ number ∷ []

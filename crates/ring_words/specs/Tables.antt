@@ -9,7 +9,7 @@ use mathlib.Core.Option as maybe
 use lib.ListN.{get_elem?}
 use Rattle.atomic_table.specs.Table.{State}
 use Rattle.ring_words.specs.Rings.{Entry, IsMark, IsStatus}
-use Rattle.ring_words.specs.Sights.{IsLook, IsVisit, from_start}
+use Rattle.ring_words.specs.FoundWords.{IsLook, IsVisit, from_start}
 use Rattle.ring_words.specs.TableEnds.{even_count, odd_count}
 use Rattle.ring_words.specs.declared.known.Known.{Known}
 
@@ -38,14 +38,14 @@ Home B = maybe.Option (Option B)
 module _ {B : Type 0} (bytes kind_of : B → List ℕ) (ready : B → ℕ → ℕ → Type 0) (kind : List ℕ)
   where
     -- a block is at this place
-    pub record Stands (homes : List (Home B)) (place : ℕ) (block : B) : Type 0 where
+    pub record IsAtPlace (homes : List (Home B)) (place : ℕ) (block : B) : Type 0 where
       pub home : get_elem? homes place ≡ some (some (Some block))
       pub same_kind : kind_of block ≡ kind
 
     -- the block of an entry is at this place, and may be there as a retired one
     pub record Waits (homes : List (Home B)) (place index : ℕ) (entry : Entry) : Type 0 where
       pub block : B
-      pub stands : Stands homes place block
+      pub at_place : IsAtPlace homes place block
       pub content : bytes block ≡ entry.0
       pub is_ready : ready block (index + 1) entry.1
 
@@ -74,7 +74,7 @@ module _ {B : Type 0} (bytes kind_of : B → List ℕ) (ready : B → ℕ → �
           → index < course.given
           → get_elem? homes (index % places) ≡ some none
       -- or it is free, at its place
-      pub free : course.given ≤ index → (block : B) × Stands homes (index % places) block
+      pub free : course.given ≤ index → (block : B) × IsAtPlace homes (index % places) block
 
     -- who owns which block of a ring
     pub record IsOwnedBy (course : Course) (state : State (Option B) Known) : Type 0 where
@@ -210,8 +210,8 @@ LooksHold places views =
 -- Between these two states a step added this word to the looks that the feeder's end knows, and
 -- nothing else of what either end knows of its stores. Then it is the word that was at the place of
 -- the next block.
-abbrev pub LooksStand : {B : Type 0} → State (Option B) Known → State (Option B) Known → Type 0
-LooksStand before after =
+abbrev pub LooksAreTrue : {B : Type 0} → State (Option B) Known → State (Option B) Known → Type 0
+LooksAreTrue before after =
     length after.homes ≡ length before.homes
     → (feeder walker : ℕ) (fed fed' walked : Known) (word : ℕ)
     → get_elem? before.views feeder ≡ some fed → get_elem? after.views feeder ≡ some fed'
@@ -221,8 +221,8 @@ LooksStand before after =
     → word ≡ slice_index before.words (fed.given % length before.homes)
 
 -- the same of the looks of the reader's end
-abbrev pub VisitsStand : {B : Type 0} → State (Option B) Known → State (Option B) Known → Type 0
-VisitsStand before after =
+abbrev pub VisitsAreTrue : {B : Type 0} → State (Option B) Known → State (Option B) Known → Type 0
+VisitsAreTrue before after =
     length after.homes ≡ length before.homes
     → (feeder walker : ℕ) (fed walked walked' : Known) (word : ℕ)
     → get_elem? before.views feeder ≡ some fed → get_elem? after.views feeder ≡ some fed

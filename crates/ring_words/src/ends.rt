@@ -8,7 +8,7 @@
 ghost use Rattle.std.specs.Prelude.{◌≡◌, ◌+◌, ◌<◌, ◌≤◌, ◌^◌, ℕ, true, false, List, [], ◌∷◌, ◌++◌};
 ghost use Rattle.std.specs.Prelude.{Some, IfSome, IfNone, OnSome};
 ghost use Rattle.ring_words.specs.Counts.{Rose};
-ghost use Rattle.ring_words.specs.Looks.{IfFree, IfHeld, OnFree, OnHeld, StandsBefore};
+ghost use Rattle.ring_words.specs.Looks.{IfFree, IfHeld, OnFree, OnHeld, IsOneRoundBefore};
 ghost use Rattle.ring_words.specs.Rings.{Feed, IsMark, IsStatus, LeavesFeeder, Walk, and_found};
 
 use crate::Content;
@@ -51,7 +51,7 @@ pub trait FeederEnd<B: Content> {
             (feed self.new ≡ record (feed self.old) { given = (feed self.old).given + 1 }) }
 
         ensures number { IfHeld result
-            (StandsBefore (feed self.old).ring.places ((feed self.old).given + 1)) }
+            (IsOneRoundBefore (feed self.old).ring.places ((feed self.old).given + 1)) }
         ensures held { OnHeld result
             (feed self.new ≡ record (feed self.old) {
               holds = (feed self.new).holds;

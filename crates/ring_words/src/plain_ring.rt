@@ -5,7 +5,7 @@ ghost use Rattle.std.specs.Prelude.{◌++◌, length, map, Option, Some, IfOk, I
 ghost use Rattle.std.specs.List.{AllByRecursion};
 ghost use Rattle.std.specs.VecDeque.{deque_capacity};
 ghost use Rattle.ring_words.specs.Counts.{Rose};
-ghost use Rattle.ring_words.specs.Looks.{IfFree, IfHeld, OnFree, OnHeld, StandsBefore};
+ghost use Rattle.ring_words.specs.Looks.{IfFree, IfHeld, OnFree, OnHeld, IsOneRoundBefore};
 ghost use Rattle.ring_words.specs.PlainRings.{IsOwned, Stays, Took, fresh, has_block, ring_of};
 ghost use Rattle.ring_words.specs.Rings.{IsMark, IsStatus};
 

@@ -19,8 +19,8 @@ ghost use Rattle.std.specs.List.{AllByRecursion};
 ghost use Rattle.ring_words.specs.Knowing.{all_known};
 ghost use Rattle.atomic_table.specs.Table.{State};
 ghost use Rattle.ring_words.specs.TableEnds.{fresh_feeder, fresh_walker};
-ghost use Rattle.ring_words.specs.Tables.{Course, EachKnows, IsOwnedBy, LooksHold, LooksStand};
-ghost use Rattle.ring_words.specs.Tables.{TakesFront, VisitsStand};
+ghost use Rattle.ring_words.specs.Tables.{Course, EachKnows, IsOwnedBy, LooksHold, LooksAreTrue};
+ghost use Rattle.ring_words.specs.Tables.{TakesFront, VisitsAreTrue};
 ghost use Rattle.ring_words.specs.declared.known.Known.{Known};
 ghost use Rattle.std.specs.declared.snapshot.Snapshot.{Snapshot};
 
@@ -93,11 +93,11 @@ pub fn table_looks_hold<B: Content + Drop>()
     ensures looks { (sample : Snapshot B) (before after : State (Option B) Known) →
         ⟦<Handover as TableRule<Option<B>, Known, Snapshot<B>>>⟧.holds sample before →
         ⟦<Handover as TableRule<Option<B>, Known, Snapshot<B>>>⟧.holds sample after →
-        LooksStand before after }
+        LooksAreTrue before after }
     ensures visits { (sample : Snapshot B) (before after : State (Option B) Known) →
         ⟦<Handover as TableRule<Option<B>, Known, Snapshot<B>>>⟧.holds sample before →
         ⟦<Handover as TableRule<Option<B>, Known, Snapshot<B>>>⟧.holds sample after →
-        VisitsStand before after }
+        VisitsAreTrue before after }
     ensures seen { (sample : Snapshot B) (state : State (Option B) Known) →
         ⟦<Handover as TableRule<Option<B>, Known, Snapshot<B>>>⟧.holds sample state →
         LooksHold (length state.homes) state.views }

@@ -73,9 +73,9 @@ by_cpu : (count of : ℕ) (note : Note) → settled note ≡ 1 → NoneFrom coun
 by_cpu count of note e none =
     let all = sum_below-same (λ cpu. sum_by settled (cond (eqb of cpu) (note ∷ []) [])) (λ cpu. cond (eqb of cpu) 1 0) count
     (λ cpu below. at_one note (eqb of cpu) e) in
-    let stands = sum_below-at of 1 count in
+    let settled_once = sum_below-at of 1 count in
     elim (cases_lt of count) [
-      | inl below ↦ sym (all ∙ stands ∙ ap (λ b. cond b 1 0) (lt-ltb of count below))
+      | inl below ↦ sym (all ∙ settled_once ∙ ap (λ b. cond b 1 0) (lt-ltb of count below))
       | inr past ↦ absurd (there note (eqb of of) (eq-eqb of of refl) (none of past))
     ]
 

@@ -6,7 +6,7 @@ use Rattle.std.proofs.lemmas.List.{append-nil, map-append}
 use Rattle.frame_view.specs.declared.frames.Packet.{Packet}
 use Rattle.ring_model.specs.Fates.{kept_of}
 use Rattle.ring_model.specs.Offers.{packet_of}
-use Rattle.ring_model.specs.Ring.{Size, State, IsRun, IsWholeRun, MayStand, after, after_all, after_drop, after_due, first_state, retired, finished, status_of, state_of, with_offer}
+use Rattle.ring_model.specs.Ring.{Size, State, IsRun, IsWholeRun, MayFollow, after, after_all, after_drop, after_due, first_state, retired, finished, status_of, state_of, with_offer}
 use Rattle.ring_model.specs.declared.notes.Offer.{Offer}
 use Rattle.ring_model.specs.declared.notes.Found.{Found}
 use Rattle.ring_model.specs.declared.notes.Found.TheVariants.{NotAsked, Free, Held}
@@ -66,13 +66,13 @@ by_tick : (early : Bool) (s due : State) (ms deadline : ℕ) → all_in due ≡ 
 by_tick true s due ms deadline h = refl
 by_tick false s due ms deadline h = h
 
-by_here : (size : Size) (s : State) (offer : Offer) (now : Option (List Offer)) → s.now ≡ now → MayStand size s (Kept offer NotAsked)
+by_here : (size : Size) (s : State) (offer : Offer) (now : Option (List Offer)) → s.now ≡ now → MayFollow size s (Kept offer NotAsked)
     → all_of s.done (with_offer offer now) ≡ all_of s.done now ++ offer ∷ []
 by_here size s offer None e may = absurd (rw e at may)
 by_here size s offer (Some offers) e may = sym (append_assoc (offers_in s.done) offers (offer ∷ []))
 
 -- a note that may follow adds what it keeps
-noted : (size : Size) (s : State) (note : Note) → MayStand size s note → all_in (after size s note) ≡ all_in s ++ kept_of (note ∷ [])
+noted : (size : Size) (s : State) (note : Note) → MayFollow size s note → all_in (after size s note) ≡ all_in s ++ kept_of (note ∷ [])
 noted size s (Kept offer NotAsked) may = by_here size s offer s.now refl may
 noted size s (Kept offer Free) may = ap (λ (os : List Offer). os ++ offer ∷ []) (by_retired s.done (status_of false s) s.now)
 noted size s (Kept offer (Held number)) may = absurd may

@@ -17,7 +17,7 @@ use Rattle.fanout_group.specs.declared.logs.Fate.TheVariants.{Kept, Refused, Dro
 use Rattle.fanout_group.specs.declared.logs.Try.{Try}
 use Rattle.fanout_group.proofs.Members.{one_if}
 use Rattle.fanout_group.proofs.SettledNotes.{is_settled, settled_by_tries, settled_of, try_settles}
-use Rattle.run_reports.specs.Once.{EachStandsAtItsLastTry, ends_at}
+use Rattle.run_reports.specs.Once.{EachIsAtItsLastTry, ends_at}
 
 -- this frame of this CPU
 abbrev is_it : ℕ → ℕ → Frame → Bool
@@ -70,10 +70,10 @@ module _ (cpu index member : ℕ) (frame : Frame) (entry : ArrivalLog) where
       let first = settles_not (is_settled t.fate) (eqb t.member member) (is_it cpu index frame) it in
       omega (arith, first, tries_split t tries, entry_silent tries it)
 
-  entry_stands : (it last : Bool) → is_it cpu index frame ≡ it → sum_by (settled_at member) entry.tries ≡ one_if last
+  entry_appears : (it last : Bool) → is_it cpu index frame ≡ it → sum_by (settled_at member) entry.tries ≡ one_if last
       → sum_by f (attempts_in member frame entry entry.tries) ≡ one_if (it && last)
-  entry_stands true last it once = entry_settles entry.tries it ∙ once
-  entry_stands false last it once = entry_silent entry.tries it
+  entry_appears true last it once = entry_settles entry.tries it ∙ once
+  entry_appears false last it once = entry_silent entry.tries it
 
 -- ---- the last try of a route
 
@@ -133,13 +133,13 @@ either_once : (x y : Bool) → (x ≡ true → y ≡ false) → one_if x + one_i
 either_once true y h = ap (λ b. 1 + one_if b) (h refl)
 either_once false y h = omega arith
 
-log_stands : (rules : Rules) (cpu index member least present : ℕ) (frames : List Frame) (log : List ArrivalLog) → AreOf cpu least frames
+log_appears : (rules : Rules) (cpu index member least present : ℕ) (frames : List Frame) (log : List ArrivalLog) → AreOf cpu least frames
     → IsLawfulFrom rules present frames log
     → sum_by (try_settles cpu index) (attempts_at member frames log) ≡ one_if (list_any (ends_at member index) log)
-log_stands rules cpu index member least present [] [] of lawful = refl
-log_stands rules cpu index member least present [] (entry ∷ log) of lawful = absurd lawful
-log_stands rules cpu index member least present (frame ∷ frames) [] of lawful = absurd lawful
-log_stands rules cpu index member least present (frame ∷ frames) (entry ∷ log) of lawful =
+log_appears rules cpu index member least present [] [] of lawful = refl
+log_appears rules cpu index member least present [] (entry ∷ log) of lawful = absurd lawful
+log_appears rules cpu index member least present (frame ∷ frames) [] of lawful = absurd lawful
+log_appears rules cpu index member least present (frame ∷ frames) (entry ∷ log) of lawful =
     let is = lawful.0 in
     let f : Attempt → ℕ = try_settles cpu index in
     let after = present_after rules.mode present entry.tries in
@@ -147,8 +147,8 @@ log_stands rules cpu index member least present (frame ∷ frames) (entry ∷ lo
     ap (λ b. b && eqb frame.index index) (eq-eqb frame.cpu cpu of.0) ∙ sym (ap (λ i. eqb i index) is.index) in
     let last = not (eqb entry.verdict 0) && eqb (last_member 0 entry.tries) member in
     let settled = entry_ends (eqb entry.verdict 0) (rolls_over rules) member rules.members (home_of rules present entry.ticket frame) entry.tries is.tries in
-    let first = entry_stands cpu index member frame entry (eqb entry.index index) last it settled in
-    let rest = log_stands rules cpu index member (frame.index + 1) after frames log of.2 lawful.1 in
+    let first = entry_appears cpu index member frame entry (eqb entry.index index) last it settled in
+    let rest = log_appears rules cpu index member (frame.index + 1) after frames log of.2 lawful.1 in
     let no_more : ends_at member index entry ≡ true → list_any (ends_at member index) log ≡ false = λ yes.
     let same = eqb-true entry.index index (and_parts (eqb entry.index index) last yes).0 in
     absent rules cpu index member (frame.index + 1) after frames log (omega (arith, is.index)) of.2 lawful.1 in
@@ -157,9 +157,9 @@ log_stands rules cpu index member least present (frame ∷ frames) (entry ∷ lo
     ∙ either_once (ends_at member index entry) (list_any (ends_at member index) log) no_more
 
 pub each_at_its_last : (rules : Rules) (room : ℕ) (cpus : List Logged) (members : List (List Note)) → IsGroupReport rules room cpus members
-    → EachStandsAtItsLastTry cpus members
+    → EachIsAtItsLastTry cpus members
 each_at_its_last rules room cpus members report cpu index member below =
     let logged = get_or cpus cpu nothing_logged in
     settled_of cpu index (get_or members member [])
     ∙ settled_by_tries room rules.own cpu index (attempts_at member logged.arrivals logged.log) _ (report.joined.each cpu member below)
-    ∙ log_stands rules cpu index member 0 0 logged.arrivals logged.log (report.frames cpu) (report.lawful cpu)
+    ∙ log_appears rules cpu index member 0 0 logged.arrivals logged.log (report.frames cpu) (report.lawful cpu)

@@ -4,12 +4,12 @@ use Rattle.std.specs.Prelude.{if◌then◌else◌}
 use Rattle.frame_view.specs.declared.frames.Frame.{Frame}
 use Rattle.fanout_group.specs.Joined.{Logged, nothing_logged}
 use Rattle.fanout_group.specs.Logs.{IsLawfulFrom}
-use Rattle.fanout_group.specs.Once.{EachStandsOnce, IsGroupReport, passes as entry_passes}
+use Rattle.fanout_group.specs.Once.{EachAppearsOnce, IsGroupReport, passes as entry_passes}
 use Rattle.fanout_group.specs.Routes.{present_after}
 use Rattle.fanout_group.specs.Rules.{Rules}
 use Rattle.fanout_group.specs.declared.logs.ArrivalLog.{ArrivalLog}
 use Rattle.ring_model.specs.declared.notes.Note.{Note}
-use Rattle.run_reports.specs.Once.{EachArrivalStandsOnce, passes}
+use Rattle.run_reports.specs.Once.{EachArrivalAppearsOnce, passes}
 
 same_passes : (rules : Rules) (present index : ℕ) (frames : List Frame) (log : List ArrivalLog) → IsLawfulFrom rules present frames log
     → passes rules index frames ≡ entry_passes index log
@@ -25,7 +25,7 @@ same_passes rules present index (frame ∷ frames) (entry ∷ log) h =
     (same_passes rules (present_after rules.mode present entry.tries) index frames log h.1)
 
 pub each_arrival : (rules : Rules) (room : ℕ) (cpus : List Logged) (members : List (List Note)) → IsGroupReport rules room cpus members
-    → EachStandsOnce cpus members → EachArrivalStandsOnce rules cpus members
+    → EachAppearsOnce cpus members → EachArrivalAppearsOnce rules cpus members
 each_arrival rules room cpus members group once cpu index =
     let logged = get_or cpus cpu nothing_logged in
     once cpu index ∙ ap (λ (b : Bool). if b then 1 else 0) (sym (same_passes rules 0 index logged.arrivals logged.log (group.lawful cpu)))

@@ -17,8 +17,8 @@ passes rules index arrivals =
 
 -- Among the Kept and Dropped notes of all members each arrival whose verdict isn't 0 appears once,
 -- and nothing else appears there: such a note names a CPU and the index of a frame.
-abbrev pub EachArrivalStandsOnce : Rules → List Logged → List (List Note) → Type 0
-EachArrivalStandsOnce rules cpus members = (cpu index : ℕ) →
+abbrev pub EachArrivalAppearsOnce : Rules → List Logged → List (List Note) → Type 0
+EachArrivalAppearsOnce rules cpus members = (cpu index : ℕ) →
     times_settled cpu index members
     ≡ (if passes rules index (slice_index_or cpus cpu nothing_logged).arrivals then 1 else 0)
 
@@ -29,8 +29,8 @@ ends_at member index entry =
     (entry.index == index) && (not (entry.verdict == 0) && (last_member 0 entry.tries == member))
 
 -- it is among the notes of one member: that of the last try of its route
-abbrev pub EachStandsAtItsLastTry : List Logged → List (List Note) → Type 0
-EachStandsAtItsLastTry cpus members = (cpu index member : ℕ) → member < length members →
+abbrev pub EachIsAtItsLastTry : List Logged → List (List Note) → Type 0
+EachIsAtItsLastTry cpus members = (cpu index member : ℕ) → member < length members →
     sum_by (settles cpu index) (slice_index_or members member [])
     ≡ (if list_any (ends_at member index) (slice_index_or cpus cpu nothing_logged).log
     then 1 else 0)

@@ -16,7 +16,7 @@ use Rattle.tp_layout.specs.declared.requests.RingRequest.{RingRequest}
 use Rattle.run_reports.specs.Jobs.{arriving_of, rules_of}
 use Rattle.run_reports.specs.Logs.{AreLogsFrom}
 use Rattle.run_reports.specs.Members.{AreShort, IsMember}
-use Rattle.run_reports.specs.Once.{EachArrivalStandsOnce}
+use Rattle.run_reports.specs.Once.{EachArrivalAppearsOnce}
 
 -- the arrivals of each CPU beside its log
 abbrev pub logged : List (List (Option Frame)) → List CpuLog → List Logged
@@ -50,7 +50,7 @@ pub record IsRunReport (job : Job) (bytes : List (List ℕ)) (ends : List CpuEnd
   pub members : All (IsMember job.setup.shape job.setup.dump) report.members
   -- each arrival whose verdict isn't 0 appears once among all Kept and Dropped notes, and nothing
   -- else appears there
-  pub once : EachArrivalStandsOnce (rules_of job) (logged (arriving_of job bytes) report.cpus)
+  pub once : EachArrivalAppearsOnce (rules_of job) (logged (arriving_of job bytes) report.cpus)
       (notes_of report.members)
   -- each packet is short enough for an output file
   pub short : AreShort report.members

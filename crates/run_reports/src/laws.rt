@@ -10,7 +10,7 @@ ghost use Rattle.ring_model.specs.declared.notes.Note.{Note};
 ghost use Rattle.run_reports.specs.Jobs.{arriving_of, rules_of};
 ghost use Rattle.run_reports.specs.Logs.{AreLogsFrom};
 ghost use Rattle.run_reports.specs.Members.{AreShort, DropsNoneBelow};
-ghost use Rattle.run_reports.specs.Once.{EachArrivalStandsOnce, EachStandsAtItsLastTry};
+ghost use Rattle.run_reports.specs.Once.{EachArrivalAppearsOnce, EachIsAtItsLastTry};
 ghost use Rattle.run_reports.specs.Reports.{IsReport, IsRunReport};
 ghost use Rattle.run_reports.specs.Totals.{TotalsAddUp};
 ghost use Rattle.setup_text.specs.Runnable.{IsRunnable};
@@ -18,7 +18,7 @@ ghost use Rattle.setup_text.specs.declared.jobs.Job.{Job};
 ghost use Rattle.setup_text.specs.declared.reports.RunReport.{RunReport};
 ghost use Rattle.tp_layout.specs.Requests.{size_of};
 
-use fanout_group::each_frame_stands_exactly_once;
+use fanout_group::each_frame_appears_exactly_once;
 use ring_model::{a_ring_with_blocks_left_drops_nothing, statistics_count_each_packet};
 
 /// Each packet that a group reports is short enough for an output file: it was cut to the room of a
@@ -32,11 +32,11 @@ pub fn a_group_s_packets_are_short()
 
 /// Where logs are lawful and joined with notes, each arrival whose verdict isn't 0 appears once
 /// among all Kept and Dropped notes of all members, and nothing else appears there.
-pub fn each_arrival_stands_exactly_once()
+pub fn each_arrival_appears_exactly_once()
     ensures { (rules : Rules) (room : ℕ) (cpus : List Logged) (members : List (List Note))
-        → IsGroupReport rules room cpus members → EachArrivalStandsOnce rules cpus members }
+        → IsGroupReport rules room cpus members → EachArrivalAppearsOnce rules cpus members }
 {
-    each_frame_stands_exactly_once();
+    each_frame_appears_exactly_once();
 }
 
 /// A report is that of a run where its logs are those of the bytes, logs and notes are joined, and
@@ -48,7 +48,7 @@ pub fn a_group_s_report_is_that_of_a_run()
         → IsReport (rules_of job) job.setup.shape job.setup.dump (arriving_of job bytes) report
         → IsRunReport job bytes ends report }
 {
-    each_arrival_stands_exactly_once();
+    each_arrival_appears_exactly_once();
     a_group_s_packets_are_short();
 }
 
@@ -73,7 +73,7 @@ pub fn a_member_with_blocks_left_dropped_nothing()
 }
 
 /// It is among the notes of one member: that of the last try of its route.
-pub fn each_arrival_stands_at_its_last_try()
+pub fn each_arrival_is_at_its_last_try()
     ensures { (rules : Rules) (room : ℕ) (cpus : List Logged) (members : List (List Note))
-        → IsGroupReport rules room cpus members → EachStandsAtItsLastTry cpus members }
+        → IsGroupReport rules room cpus members → EachIsAtItsLastTry cpus members }
 {}

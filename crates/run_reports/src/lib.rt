@@ -6,6 +6,6 @@ mod laws;
 
 pub use laws::{
     a_group_s_packets_are_short, a_group_s_report_is_that_of_a_run,
-    a_member_with_blocks_left_dropped_nothing, each_arrival_stands_at_its_last_try,
-    each_arrival_stands_exactly_once, the_totals_add_up,
+    a_member_with_blocks_left_dropped_nothing, each_arrival_appears_exactly_once,
+    each_arrival_is_at_its_last_try, the_totals_add_up,
 };

@@ -1,6 +1,6 @@
 mod SlotPuts
 pub mod SlotBounds
 pub mod SlotNumbers
-pub mod SlotStands
+pub mod SlotPasses
 pub mod SlotReads
 pub mod SlotTold

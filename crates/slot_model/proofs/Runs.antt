@@ -7,7 +7,7 @@ use Rattle.ring_model.specs.declared.notes.Found.TheVariants.{NotAsked, Free, He
 use Rattle.ring_model.specs.declared.notes.Note.{Note}
 use Rattle.ring_model.specs.declared.notes.Note.TheVariants.{Kept, Refused, Dropped, Ticked, Counted, Finished}
 use Rattle.ring_model.specs.declared.notes.Offer.{Offer}
-use Rattle.slot_model.specs.SlotSteps.{IsOpenSlotRun, IsSlotRun, IsWholeSlotRun, SlotGoesOn, SlotMayStand, SlotState, first_slot_state, slot_after, slot_after_all, slot_state_of, slot_status}
+use Rattle.slot_model.specs.SlotSteps.{IsOpenSlotRun, IsSlotRun, IsWholeSlotRun, SlotGoesOn, SlotMayFollow, SlotState, first_slot_state, slot_after, slot_after_all, slot_state_of, slot_status}
 
 pub slot_after_all-push : (s : SlotState) (notes : List Note) (note : Note) → slot_after_all s (notes ++ note ∷ []) ≡ slot_after (slot_after_all s notes) note
 slot_after_all-push s [] note = refl
@@ -17,15 +17,15 @@ pub slot_state_push : (notes : List Note) (note : Note) → slot_state_of (notes
 slot_state_push notes note = slot_after_all-push first_slot_state notes note
 
 run_push_from : (slots : ℕ) (s : SlotState) (notes : List Note) (note : Note) → IsOpenSlotRun slots s notes
-    → SlotMayStand slots (slot_after_all s notes) note → SlotGoesOn note → IsOpenSlotRun slots s (notes ++ note ∷ [])
-run_push_from slots s [] note run stands on = (stands, on, tt)
-run_push_from slots s (first ∷ notes) note run stands on =
-    (run.0, run.1, run_push_from slots (slot_after s first) notes note run.2 stands on)
+    → SlotMayFollow slots (slot_after_all s notes) note → SlotGoesOn note → IsOpenSlotRun slots s (notes ++ note ∷ [])
+run_push_from slots s [] note run may_follow on = (may_follow, on, tt)
+run_push_from slots s (first ∷ notes) note run may_follow on =
+    (run.0, run.1, run_push_from slots (slot_after s first) notes note run.2 may_follow on)
 
 -- one more note that may follow and doesn't close the ring
 pub slot_run_push : (slots : ℕ) (notes : List Note) (note : Note) → IsOpenSlotRun slots first_slot_state notes
-    → SlotMayStand slots (slot_state_of notes) note → SlotGoesOn note → IsOpenSlotRun slots first_slot_state (notes ++ note ∷ [])
-slot_run_push slots notes note run stands on = run_push_from slots first_slot_state notes note run stands on
+    → SlotMayFollow slots (slot_state_of notes) note → SlotGoesOn note → IsOpenSlotRun slots first_slot_state (notes ++ note ∷ [])
+slot_run_push slots notes note run may_follow on = run_push_from slots first_slot_state notes note run may_follow on
 
 ends_later : (note : Note) (notes : List Note) → SlotGoesOn note → EndsThere note notes
 ends_later (Kept offer found) notes on = tt

@@ -67,20 +67,20 @@ abbrev pub IsSlotHeld : ℕ → SlotState → ℕ → Type 0
 IsSlotHeld slots state number = (0 < number) × (number + slots ≡ next_slot state)
 
 -- a note may follow a state of a ring of n slots
-abbrev pub SlotMayStand : ℕ → SlotState → Note → Type 0
-SlotMayStand slots state (Kept offer Free) = Unit {0}
-SlotMayStand slots state (Kept offer found) = ⊥
-SlotMayStand slots state (Refused cpu index need number) = IsSlotHeld slots state number
-SlotMayStand slots state (Dropped cpu index need number) = IsSlotHeld slots state number
-SlotMayStand slots state (Ticked ms found) = ⊥
-SlotMayStand slots state Counted = Unit {0}
-SlotMayStand slots state Finished = Unit {0}
+abbrev pub SlotMayFollow : ℕ → SlotState → Note → Type 0
+SlotMayFollow slots state (Kept offer Free) = Unit {0}
+SlotMayFollow slots state (Kept offer found) = ⊥
+SlotMayFollow slots state (Refused cpu index need number) = IsSlotHeld slots state number
+SlotMayFollow slots state (Dropped cpu index need number) = IsSlotHeld slots state number
+SlotMayFollow slots state (Ticked ms found) = ⊥
+SlotMayFollow slots state Counted = Unit {0}
+SlotMayFollow slots state Finished = Unit {0}
 
 -- each note may follow those before it
 abbrev pub IsSlotRun : ℕ → SlotState → List Note → Type 0
 IsSlotRun slots state [] = Unit {0}
 IsSlotRun slots state (note ∷ notes) =
-    SlotMayStand slots state note
+    SlotMayFollow slots state note
     × EndsThere note notes
     × IsSlotRun slots (slot_after state note) notes
 
@@ -93,7 +93,7 @@ SlotGoesOn note = Unit {0}
 abbrev pub IsOpenSlotRun : ℕ → SlotState → List Note → Type 0
 IsOpenSlotRun slots state [] = Unit {0}
 IsOpenSlotRun slots state (note ∷ notes) =
-    SlotMayStand slots state note
+    SlotMayFollow slots state note
     × SlotGoesOn note
     × IsOpenSlotRun slots (slot_after state note) notes
 

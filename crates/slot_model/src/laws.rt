@@ -8,19 +8,19 @@ ghost use Rattle.ring_model.specs.declared.notes.Note.{Note};
 ghost use Rattle.ring_model.specs.declared.notes.Offer.{Offer};
 ghost use Rattle.slot_model.specs.SlotFates.{slot_counts_of, slot_totals_of, without_freezes};
 ghost use Rattle.slot_model.specs.SlotRings.{slot_note_of_put, slot_note_of_try, slot_state};
-ghost use Rattle.slot_model.specs.SlotSteps.{IsSlotRun, SlotMayStand, first_slot_state};
+ghost use Rattle.slot_model.specs.SlotSteps.{IsSlotRun, SlotMayFollow, first_slot_state};
 ghost use Rattle.slot_model.specs.SlotSteps.{slot_state_of};
 
 /// The note of a put is possible, whatever the reader has released.
-pub fn slot_puts_stand()
+pub fn slot_puts_may_follow()
     ensures { (ring : Ring) (offer : Offer)
-        → SlotMayStand ring.size.blocks (slot_state ring) (slot_note_of_put ring offer) }
+        → SlotMayFollow ring.size.blocks (slot_state ring) (slot_note_of_put ring offer) }
 {}
 
 /// The note of a try is possible.
-pub fn slot_tries_stand()
+pub fn slot_tries_may_follow()
     ensures { (ring : Ring) (offer : Offer)
-        → SlotMayStand ring.size.blocks (slot_state ring) (slot_note_of_try ring offer) }
+        → SlotMayFollow ring.size.blocks (slot_state ring) (slot_note_of_try ring offer) }
 {}
 
 /// A ring whose notes fill fewer slots than it has drops nothing.

@@ -222,9 +222,9 @@ whole_end content bytes rest (Damaged damage) parts none is all sane = by (end_o
     wrong : (found : CaptureError) → end_of bytes ≡ Some found → damage ≡ found → ⊥
     wrong found e same = at (damage_or_cut bytes damage (e ∙ ap Some (sym same))) where
       at : (damage_of bytes ≡ Some damage) ⊎ ((place : ℕ) × (damage ≡ Truncated place)) → ⊥
-      at (inl stands) =
+      at (inl damaged) =
           none_some (end_of content) damage none (damage_end content damage
-          (ap damage_of parts ∙ (stays 0 bytes rest damage stands).same))
+          (ap damage_of parts ∙ (stays 0 bytes rest damage damaged).same))
       at (inr cut) =
           let same_bytes : bytes ≡ content = subst (λ (d : CaptureError). WhereEnded (Damaged d)
           (bytes ≡ content)) cut.1 all in

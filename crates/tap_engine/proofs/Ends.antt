@@ -7,7 +7,7 @@ use Rattle.fanout_group.specs.declared.runs.CpuLog.{CpuLog}
 use Rattle.run_reports.specs.Logs.{AreLogsFrom}
 use Rattle.run_reports.specs.Jobs.{arriving_of, rules_of}
 use Rattle.run_reports.specs.Members.{AreShort, DropsNoneBelow}
-use Rattle.run_reports.specs.Once.{EachArrivalStandsOnce}
+use Rattle.run_reports.specs.Once.{EachArrivalAppearsOnce}
 use Rattle.run_reports.specs.Reports.{logged, notes_of}
 use Rattle.setup_text.specs.declared.jobs.Job.{Job}
 use Rattle.setup_text.specs.declared.reports.MemberReport.{MemberReport}
@@ -53,7 +53,7 @@ report_members Slots job bytes ends report is =
 -- each arrival that passes stands once
 pub report_once : (rings : RingKind) (job : Job) (bytes : List (List ℕ)) (ends : List CpuEnd)
     (report : RunReport) → IsReportBy rings job bytes ends report
-    → EachArrivalStandsOnce (rules_of job) (logged (arriving_of job bytes) report.cpus)
+    → EachArrivalAppearsOnce (rules_of job) (logged (arriving_of job bytes) report.cpus)
     (notes_of report.members)
 report_once Blocks job bytes ends report is = is.once
 report_once Slots job bytes ends report is = is.once

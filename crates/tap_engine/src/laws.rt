@@ -3,7 +3,7 @@
 ghost use Rattle.std.specs.Prelude.{Option, All};
 ghost use Rattle.run_reports.specs.Jobs.{arriving_of, rules_of};
 ghost use Rattle.run_reports.specs.Members.{DropsNoneBelow};
-ghost use Rattle.run_reports.specs.Once.{EachArrivalStandsOnce};
+ghost use Rattle.run_reports.specs.Once.{EachArrivalAppearsOnce};
 ghost use Rattle.run_reports.specs.Reports.{logged, notes_of};
 ghost use Rattle.tap_outside.specs.Contents.{Contents};
 ghost use Rattle.tap_engine.specs.Commands.{Named, rings_of};
@@ -16,10 +16,10 @@ use v2_replay::a_member_with_slots_left_dropped_nothing;
 /// In a report that is worth the headline each arrival whose verdict isn't 0 appears once among
 /// what the members kept and dropped, and nothing else appears there. It does nothing; its contract
 /// is the law.
-pub fn each_frame_of_a_run_stands_exactly_once(report: &RunReport)
+pub fn each_frame_of_a_run_appears_exactly_once(report: &RunReport)
     ensures { (held : Option Contents) (named : Named)
         (headline : IsHeadline held named report.now) →
-        EachArrivalStandsOnce (rules_of headline.job)
+        EachArrivalAppearsOnce (rules_of headline.job)
         (logged (arriving_of headline.job headline.bytes) report.now.cpus)
         (notes_of report.now.members) }
 {

@@ -16,6 +16,6 @@ mod sources;
 
 pub use calls::{run, run_plain};
 pub use laws::{
-    a_ring_that_is_not_filled_dropped_nothing, each_frame_of_a_run_stands_exactly_once,
+    a_ring_that_is_not_filled_dropped_nothing, each_frame_of_a_run_appears_exactly_once,
 };
 pub use outcomes::{Outcome, Status};

@@ -7,7 +7,7 @@ use Rattle.std.proofs.lemmas.List.{length-take}
 use Rattle.std.proofs.lemmas.Bool.{le-ltb, lt-ltb}
 use Rattle.block_ring.specs.Machines.{IsFresh, KeepsEnd}
 use Rattle.block_ring.specs.Producing.{Adds, Opens, Producing, Stays}
-use Rattle.block_ring.specs.Texts.{StandsForTexts}
+use Rattle.block_ring.specs.Texts.{RepresentsTexts}
 use Rattle.block_ring.specs.Walking.{StaysBy, TookBy}
 use Rattle.reader_walk.specs.Readers.{ReaderValue, Reads, new_reader}
 use Rattle.tp_layout.specs.Layouts.{Taken, taken_in}
@@ -40,7 +40,7 @@ goes_in room offer sound =
 
 -- the feeder's side went on, and the reader has what it had
 pub read_on : (shape : RingRequest) (asked : Bool) (before now : List (List Offer × ℕ)) (ring after : PlainState) (reader : ReaderValue)
-    → HasRead shape asked before ring reader → Grows before now → StandsForTexts shape now (feed_of after) → KeepsEnd (feed_of ring) (feed_of after)
+    → HasRead shape asked before ring reader → Grows before now → RepresentsTexts shape now (feed_of after) → KeepsEnd (feed_of ring) (feed_of after)
     → HasRead shape asked now after reader
 read_on shape asked before now ring after reader h more texts keeps =
     let released : after.released ≡ ring.released = some_same after.released ring.released keeps.freed in
@@ -66,8 +66,8 @@ pub noted_member : (shape : RingRequest) (asked : Bool) (m : Parts) (after : Pro
 noted_member shape asked m after note h few adds =
     let same : after.shape ≡ shape = adds.shape ∙ h.shape_is in
     let count : length after.notes ≡ length m.producer.notes + 1 = ap (λ (ns : List Note). length ns) adds.notes ∙ length-append m.producer.notes (note ∷ []) in
-    let P : RingRequest → Type 0 = λ s. StandsForTexts s (state_of (size_of s) after.notes).done (feed_of after.end) in
-    let texts : StandsForTexts shape (state_of (size_of shape) after.notes).done (feed_of after.end) = subst P same adds.texts in
+    let P : RingRequest → Type 0 = λ s. RepresentsTexts s (state_of (size_of s) after.notes).done (feed_of after.end) in
+    let texts : RepresentsTexts shape (state_of (size_of shape) after.notes).done (feed_of after.end) = subst P same adds.texts in
     let Q : List Note → Type 0 = λ ns. Grows (state_of (size_of shape) m.producer.notes).done (state_of (size_of shape) ns).done in
     let more = subst Q (sym adds.notes) (grows_noted (size_of shape) m.producer.notes note) in
     record {
@@ -121,10 +121,10 @@ new_member shape asked count contents ring producer reader small e kind opens is
     let retired : (feed_of producer.end).retired ≡ 0 = ap (λ (f : words.Feed). f.retired) opens.end ∙ ap (λ (r : PlainState). r.retired) e in
     let shown : (feed_of producer.end).shown ≡ [] = ap (λ (f : words.Feed). f.shown) opens.end ∙ ap (λ (r : PlainState). r.shown) e in
     let none_noted : length producer.notes ≡ 0 = ap (λ (ns : List Note). length ns) opens.notes in
-    let none : StandsForTexts shape [] (feed_of producer.end) =
+    let none : RepresentsTexts shape [] (feed_of producer.end) =
     ([], record { count = sym retired; front = omega (arith, taken); rest = drop-nil producer.end.taken ∙ sym shown }, tt) in
     let done : (state_of (size_of shape) producer.notes).done ≡ [] = ap (λ (ns : List Note). (state_of (size_of shape) ns).done) opens.notes in
-    let Q : List (List Offer × ℕ) → Type 0 = λ d. StandsForTexts shape d (feed_of producer.end) in
+    let Q : List (List Offer × ℕ) → Type 0 = λ d. RepresentsTexts shape d (feed_of producer.end) in
     record {
       shape_is = opens.shape;
       small = small;
@@ -243,10 +243,10 @@ few_taken shape asked m h free =
 -- the close retires the open block
 pub closing_read : (shape : RingRequest) (asked : Bool) (m : Parts) (notes : List Note) (after : PlainState) (ring : Ring) → IsMember shape asked m
     → m.stuck ≡ false → ring_of m.producer ≡ ring → notes ≡ m.producer.notes ++ Finished ∷ []
-    → StandsForTexts m.producer.shape (state_of (size_of m.producer.shape) notes).done (feed_of after) → KeepsEnd (feed_of m.producer.end) (feed_of after)
+    → RepresentsTexts m.producer.shape (state_of (size_of m.producer.shape) notes).done (feed_of after) → KeepsEnd (feed_of m.producer.end) (feed_of after)
     → HasRead shape asked (state_of (size_of shape) (ring.notes ++ Finished ∷ [])).done after m.reader
 closing_read shape asked m notes after ring h free view noted_is texts keeps =
-    let P : RingRequest → Type 0 = λ s. StandsForTexts s (state_of (size_of s) notes).done (feed_of after) in
+    let P : RingRequest → Type 0 = λ s. RepresentsTexts s (state_of (size_of s) notes).done (feed_of after) in
     let Q : List Note → Type 0 = λ ns. Grows (state_of (size_of shape) m.producer.notes).done (state_of (size_of shape) ns).done in
     let more = subst Q (sym noted_is) (grows_noted (size_of shape) m.producer.notes Finished) in
     let R : List Note → Type 0 = λ ns. HasRead shape asked (state_of (size_of shape) ns).done after m.reader in

@@ -96,10 +96,10 @@ one_read tells shape asked done ring after reader next content small h t is hand
     let released : after.released ≡ ring.released + 1 =
     t.released ∙ ap (λ (b : Bool). if b then ring.released else ring.released + 1) free in
     let all = h.texts.0 in
-    let stands = h.texts.1 in
+    let represents = h.texts.1 in
     let same = h.none_in_hand in
     let front : drop ring.released all ≡ (content, t.first.0) ∷ after.shown =
-    ap (λ n. drop n all) (sym same) ∙ stands.rest ∙ t.first.1 in
+    ap (λ n. drop n all) (sym same) ∙ represents.rest ∙ t.first.1 in
     let block = next_block shape 1 ring.released (1 + ring.released) all done content t.first.0 after.shown refl h.texts.2 front in
     let said = tells shape (1 + ring.released) block.block.1 (packets_of_offers shape block.block.0) content small block.begins in
     let leaves = took_leaves ring after content t in
@@ -110,7 +110,7 @@ one_read tells shape asked done ring after reader next content small h t is hand
         shape_is = ap (λ (r : ReaderValue). r.shape) is ∙ h.shape_is;
         asked_is = ap (λ (r : ReaderValue). r.dumps) is ∙ h.asked_is;
         kind_is = ap (λ (r : PlainState). r.kind) t.rest ∙ h.kind_is;
-        texts = (all, leaves.stands all stands, h.texts.2);
+        texts = (all, leaves.represents all represents, h.texts.2);
         none_held = none;
         none_in_hand = omega (arith, taken, released, same);
         taken_is = ap (λ (r : ReaderValue). r.taken) is
@@ -156,12 +156,12 @@ pub none_read : (shape : RingRequest) (asked : Bool) (done : List (List Offer ×
     → HasRead shape asked done ring reader → Stays ring after → next ≡ reader → length ring.shown ≡ 0 → ReadNone shape asked done ring after next
 none_read shape asked done ring after reader next h stays is empty =
     let all = h.texts.0 in
-    let stands = h.texts.1 in
+    let represents = h.texts.1 in
     let same = h.none_in_hand in
     let leaves = stays_leaves ring after stays in
     let released : after.released ≡ ring.released = ap (λ (r : PlainState). r.released) stays in
     let none = nil_from_length ring.shown empty in
-    let rest : drop ring.released all ≡ [] = ap (λ n. drop n all) (sym same) ∙ stands.rest ∙ none in
+    let rest : drop ring.released all ≡ [] = ap (λ n. drop n all) (sym same) ∙ represents.rest ∙ none in
     let few = length-drop ring.released all in
     let gone : length (drop ring.released all) ≡ 0 = ap (λ (es : List Entry). length es) rest in
     let many = as_many_texts shape 1 all done h.texts.2 in
@@ -170,7 +170,7 @@ none_read shape asked done ring after reader next h stays is empty =
         shape_is = ap (λ (r : ReaderValue). r.shape) is ∙ h.shape_is;
         asked_is = ap (λ (r : ReaderValue). r.dumps) is ∙ h.asked_is;
         kind_is = ap (λ (r : PlainState). r.kind) stays ∙ h.kind_is;
-        texts = (all, leaves.stands all stands, h.texts.2);
+        texts = (all, leaves.represents all represents, h.texts.2);
         none_held = ap (λ (r : ReaderValue). r.held) is ∙ h.none_held;
         none_in_hand = ap (λ (r : PlainState). r.taken) stays ∙ same ∙ sym released;
         taken_is = ap (λ (r : ReaderValue). r.taken) is ∙ h.taken_is ∙ ap (λ n. taken_from shape 1 (take n done)) (sym released);

@@ -1,6 +1,6 @@
 -- Retired blocks, as a reader has them.
 use Rattle.std.specs.Prelude.{◌≡◌, ℕ, Bool, List, take, None}
-use Rattle.block_ring.specs.Texts.{StandsForTexts}
+use Rattle.block_ring.specs.Texts.{RepresentsTexts}
 use Rattle.reader_walk.specs.Readers.{ReaderValue}
 use Rattle.ring_model.specs.declared.notes.Offer.{Offer}
 use Rattle.ring_words.specs.PlainRings.{PlainState, feed_of}
@@ -15,7 +15,7 @@ pub record HasRead (shape : RingRequest) (asked : Bool) (done : List (List Offer
   pub shape_is : reader.shape ≡ shape
   pub asked_is : reader.dumps ≡ asked
   pub kind_is : ring.kind ≡ numbers_of shape
-  pub texts : StandsForTexts shape done (feed_of ring)
+  pub texts : RepresentsTexts shape done (feed_of ring)
   pub none_held : reader.held ≡ None
   pub none_in_hand : ring.taken ≡ ring.released
   pub taken_is : reader.taken ≡ taken_from shape 1 (take ring.released done)

@@ -24,7 +24,7 @@ use Rattle.tp_layout.proofs.Bytes.{IsBytes, bytes-drop, bytes-take}
 use Rattle.tp_layout.proofs.Chains.{fixed, none, head_tests_are, packets_tests_are, zeros_step}
 use Rattle.tp_layout.proofs.Walks.{head, or_none}
 use Rattle.tp_layout.proofs.Opens.{split, within, needs-cons, length-block_text}
-use Rattle.tp_layout.proofs.BlockTexts.{BlockReads, block_reads, BlockStands, block_stands, first_time_in}
+use Rattle.tp_layout.proofs.BlockTexts.{BlockReads, block_reads, BlockPasses, block_passes, first_time_in}
 
 -- ---- the reader's tests are those of the definition
 
@@ -122,11 +122,11 @@ end_lawful shape number status packets lawful =
     and_from _ _ (and_from (end % 8 == 0) _ (eq-eqb (end % 8) 0 even) (lt-ltb (first_of shape) end (omega (arith, some)))) (le-leb end shape.block_size lawful.fits)
 
 -- a lawful text at the start passes
-pub begins_stands : (fits : ℕ → Bool) (shape : RingRequest) (number status : ℕ) (packets : List Packet) (bytes : List ℕ) → shape.block_size ≤ 1048576
-    → ((end : ℕ) → end_may shape end ≡ true → fits end ≡ true) → BeginsWith shape number status packets bytes → BlockStands fits shape number status packets bytes
-begins_stands fits shape number status packets bytes sound may is =
+pub begins_passing : (fits : ℕ → Bool) (shape : RingRequest) (number status : ℕ) (packets : List Packet) (bytes : List ℕ) → shape.block_size ≤ 1048576
+    → ((end : ℕ) → end_may shape end ≡ true → fits end ≡ true) → BeginsWith shape number status packets bytes → BlockPasses fits shape number status packets bytes
+begins_passing fits shape number status packets bytes sound may is =
     let text = block_text shape number status packets in
-    block_stands fits shape number status packets bytes (drop (length text) bytes) sound is.lawful
+    block_passes fits shape number status packets bytes (drop (length text) bytes) sound is.lawful
     (may (first_of shape + needs_of packets) (end_lawful shape number status packets is.lawful)) (split text bytes is.begins)
 
 -- ---- a block
@@ -158,8 +158,8 @@ pub block_only : (answer : Result (List Packet) LayoutError) (shape : RingReques
     → (number status : ℕ) (packets : List Packet) → BeginsWith shape number status packets bytes → answer ≡ Ok packets
 unfolding fault_of
 block_only answer shape bytes h sound e so number status packets begins =
-    let stood = begins_stands (end_may shape) shape number status packets bytes sound.small (λ end may. may) begins in
-    ok_by answer packets (e ∙ tests_are (end_may shape) shape bytes h ∙ stood.tests) (if_ok answer (packets_of shape bytes) packets so stood.packets_are)
+    let passed_text = begins_passing (end_may shape) shape number status packets bytes sound.small (λ end may. may) begins in
+    ok_by answer packets (e ∙ tests_are (end_may shape) shape bytes h ∙ passed_text.tests) (if_ok answer (packets_of shape bytes) packets so passed_text.packets_are)
 
 -- ---- a text on its own
 
@@ -292,16 +292,16 @@ text_only answer shape text sound e so number status packets lawful is =
     let end = first_of shape + needs_of packets in
     let size : end ≡ length text = sym (ap length is ∙ length-block_text shape number status packets) in
     let fit : fits_of (At (length text)) shape end ≡ true = and_from (end_may shape end) (end == length text) (end_lawful shape number status packets lawful) (eq-eqb end (length text) size) in
-    let stood = block_stands (fits_of (At (length text)) shape) shape number status packets text [] sound.small lawful fit (is ∙ sym (append-nil (block_text shape number status packets))) in
-    ok_by answer packets (e ∙ stood.tests) (if_ok answer (packets_of shape text) packets so stood.packets_are)
+    let passed_text = block_passes (fits_of (At (length text)) shape) shape number status packets text [] sound.small lawful fit (is ∙ sym (append-nil (block_text shape number status packets))) in
+    ok_by answer packets (e ∙ passed_text.tests) (if_ok answer (packets_of shape text) packets so passed_text.packets_are)
 
 -- ---- the text that a block begins with
 
 pub lent : (shape : RingRequest) (number status : ℕ) (packets : List Packet) (bytes : List ℕ) → shape.block_size ≤ 1048576
     → BeginsWith shape number status packets bytes → take (number_at 4 20 bytes) bytes ≡ block_text shape number status packets
 lent shape number status packets bytes sound is =
-    let stood = begins_stands (end_may shape) shape number status packets bytes sound (λ end may. may) is in
-    ap (λ (n : ℕ). take n bytes) (stood.end_is ∙ sym (length-block_text shape number status packets)) ∙ is.begins
+    let passed_text = begins_passing (end_may shape) shape number status packets bytes sound (λ end may. may) is in
+    ap (λ (n : ℕ). take n bytes) (passed_text.end_is ∙ sym (length-block_text shape number status packets)) ∙ is.begins
 
 -- a block that begins with a lawful text has all of it
 pub begins_within : (shape : RingRequest) (number status : ℕ) (bytes : List ℕ) → shape.block_size ≤ 1048576
@@ -314,7 +314,7 @@ begins_within shape number status bytes sound begins =
       arith,
       within (block_text shape number status packets) bytes is.begins,
       length-block_text shape number status packets,
-      (begins_stands (end_may shape) shape number status packets bytes sound (λ end may. may) is).end_is,
+      (begins_passing (end_may shape) shape number status packets bytes sound (λ end may. may) is).end_is,
     ) in
     (∥∥₁_elim begins le_prop (λ p. long p.0 p.1), ∥∥₁_elim begins le_prop (λ p. ends p.0 p.1))
 
@@ -342,8 +342,8 @@ packets_pass : (shape : RingRequest) (number status : ℕ) (packets : List Packe
     → BeginsWith shape number status packets bytes → packets_tests (number_at 4 12 bytes) (first_of shape) (area_of shape bytes) ≡ None
 unfolding block_tests
 packets_pass shape number status packets bytes sound is =
-    let stood = begins_stands (end_may shape) shape number status packets bytes sound (λ end may. may) is in
-    let rest = or_none (descriptor_tests (end_may shape) shape bytes) _ stood.tests in
+    let passed_text = begins_passing (end_may shape) shape number status packets bytes sound (λ end may. may) is in
+    let rest = or_none (descriptor_tests (end_may shape) shape bytes) _ passed_text.tests in
     (or_none (packets_tests (number_at 4 12 bytes) (first_of shape) (area_of shape bytes)) _ rest.1).0
 
 -- a lawful text has no fault
@@ -360,7 +360,7 @@ pub begins_well : (shape : RingRequest) (number status : ℕ) (bytes : List ℕ)
 begins_well shape number status bytes sound begins =
     let whole = begins_within shape number status bytes sound begins in
     let ends : (packets : List Packet) → BeginsWith shape number status packets bytes → number_at 4 20 bytes ≡ first_of shape + needs_of packets = λ packets is.
-    (begins_stands (end_may shape) shape number status packets bytes sound (λ end may. may) is).end_is in
+    (begins_passing (end_may shape) shape number status packets bytes sound (λ end may. may) is).end_is in
     let after : first_of shape ≤ number_at 4 20 bytes = ∥∥₁_elim begins le_prop (λ p. omega (arith, ends p.0 p.1)) in
     let fits : number_at 4 20 bytes ≤ shape.block_size = ∥∥₁_elim begins le_prop (λ p. omega (arith, ends p.0 p.1, p.1.lawful.fits)) in
     record {
@@ -375,7 +375,7 @@ begins_well shape number status bytes sound begins =
 pub begins_read : (shape : RingRequest) (number status : ℕ) (packets : List Packet) (bytes : List ℕ) → shape.block_size ≤ 1048576
     → BeginsWith shape number status packets bytes → packets_of shape bytes ≡ packets
 begins_read shape number status packets bytes sound is =
-    (begins_stands (end_may shape) shape number status packets bytes sound (λ end may. may) is).packets_are
+    (begins_passing (end_may shape) shape number status packets bytes sound (λ end may. may) is).packets_are
 
 -- where the packets of n bytes may end
 abbrev ends_in : RingRequest → ℕ → ℕ → Bool
@@ -396,7 +396,7 @@ begins_pass shape number status packets bytes sound is =
     let long : end ≤ length bytes = omega (arith, within text bytes is.begins, length-block_text shape number status packets) in
     let fit : ends_in shape (length bytes) end ≡ true =
     and_from (end_may shape end) (nat_le end (length bytes)) (end_lawful shape number status packets is.lawful) (le-leb end (length bytes) long) in
-    (block_stands (ends_in shape (length bytes)) shape number status packets bytes (drop (length text) bytes) sound is.lawful fit (split text bytes is.begins)).tests
+    (block_passes (ends_in shape (length bytes)) shape number status packets bytes (drop (length text) bytes) sound is.lawful fit (split text bytes is.begins)).tests
 
 pub begins_has : (shape : RingRequest) (number status : ℕ) (bytes : List ℕ) → IsBytes bytes → shape.block_size ≤ 1048576 → length bytes ≤ shape.block_size
     → BeginsLawfully shape number status bytes → HasText shape bytes (packets_of shape bytes)

@@ -20,8 +20,8 @@ use Rattle.tp_layout.proofs.Walks.{front, head, unless_none, or_none, packets_st
 use Rattle.tp_layout.proofs.Puts.{length-packet_text}
 use Rattle.tp_layout.proofs.Opens.{needs-cons, length-descriptor, length-packets_text, length-block_text}
 use Rattle.tp_layout.proofs.Tables.{AllRead, AllFit, bytes_read, read_bytes, zeros_read, zeros_passed, zeros_fit, size_of_zeros, behind}
-use Rattle.tp_layout.proofs.PacketTexts.{reads, stands, pass}
-use Rattle.tp_layout.proofs.PacketTexts as stand
+use Rattle.tp_layout.proofs.PacketTexts.{reads, passes_tests, pass}
+use Rattle.tp_layout.proofs.PacketTexts as text_proofs
 
 -- ---- packets that passed are a text
 
@@ -69,14 +69,14 @@ packets_read (suc (suc more)) at bytes h e =
 
 -- ---- a text of packets passes
 
-pub record PacketsStand (at : ℕ) (packets : List Packet) (bytes : List ℕ) : Type 0 where
+pub record PacketsArePassing (at : ℕ) (packets : List Packet) (bytes : List ℕ) : Type 0 where
   pub tests : packets_tests (length packets) at bytes ≡ None
   pub packets_are : packets_in (length packets) bytes ≡ packets
 
 -- a packet and those after it
 packets_more : (last : Bool) (at : ℕ) (packet : Packet) (packets : List Packet) (bytes rest : List ℕ) → (length packets == 0) ≡ last
-    → stand.Stands last at packet bytes → drop (need_of_packet packet) bytes ≡ rest → PacketsStand (at + need_of_packet packet) packets rest
-    → PacketsStand at (packet ∷ packets) bytes
+    → text_proofs.PassesTests last at packet bytes → drop (need_of_packet packet) bytes ≡ rest → PacketsArePassing (at + need_of_packet packet) packets rest
+    → PacketsArePassing at (packet ∷ packets) bytes
 packets_more last at packet packets bytes rest is_last first behind_it more =
     let back : drop (need_at bytes) bytes ≡ rest = rw first.need_is behind_it in
     record {
@@ -84,24 +84,24 @@ packets_more last at packet packets bytes rest is_last first behind_it more =
       packets_are = packets_in_suc (length packets) bytes ∙ rw (first.packet_is, back, more.packets_are) refl;
     }
 
-pub packets_stand : (at : ℕ) (packets : List Packet) → AllByRecursion IsLawfulPacket packets → needs_of packets ≤ 1048576
-    → PacketsStand at packets (packets_text packets)
+pub packets_are_passing : (at : ℕ) (packets : List Packet) → AllByRecursion IsLawfulPacket packets → needs_of packets ≤ 1048576
+    → PacketsArePassing at packets (packets_text packets)
 unfolding packets_text
-packets_stand at [] each small = record { tests = packets_end 0 at [] (omega arith) (omega arith); packets_are = none_in 0 [] refl }
-packets_stand at (packet ∷ []) each small =
+packets_are_passing at [] each small = record { tests = packets_end 0 at [] (omega arith) (omega arith); packets_are = none_in 0 [] refl }
+packets_are_passing at (packet ∷ []) each small =
     let text = packet_text 0 packet in
     let need : need_of_packet packet ≤ 1048576 = omega (arith, small, needs-cons packet []) in
-    let first = stands true at packet text [] need each.0 (sym (append-nil text)) in
+    let first = passes_tests true at packet text [] need each.0 (sym (append-nil text)) in
     let past : drop (need_of_packet packet) text ≡ [] = drop_all (need_of_packet packet) text (omega (arith, length-packet_text 0 packet)) in
-    packets_more true at packet [] text [] refl first past (packets_stand (at + need_of_packet packet) [] tt (omega arith))
-packets_stand at (packet ∷ next ∷ packets) each small =
+    packets_more true at packet [] text [] refl first past (packets_are_passing (at + need_of_packet packet) [] tt (omega arith))
+packets_are_passing at (packet ∷ next ∷ packets) each small =
     let text = packet_text (need_of_packet packet) packet in
     let rest = packets_text (next ∷ packets) in
     let sum = needs-cons packet (next ∷ packets) in
-    let first = stands false at packet (text ++ rest) rest (omega (arith, small, sum)) each.0 refl in
+    let first = passes_tests false at packet (text ++ rest) rest (omega (arith, small, sum)) each.0 refl in
     let past : drop (need_of_packet packet) (text ++ rest) ≡ rest = drop_at text rest (need_of_packet packet) (length-packet_text (need_of_packet packet) packet) in
     packets_more false at packet (next ∷ packets) (text ++ rest) rest (not_last (length packets)) first past
-    (packets_stand (at + need_of_packet packet) (next ∷ packets) each.1 (omega (arith, small, sum)))
+    (packets_are_passing (at + need_of_packet packet) (next ∷ packets) each.1 (omega (arith, small, sum)))
 
 -- ---- a block that passed is a text
 
@@ -226,18 +226,18 @@ times_fit shape number status packets each =
     let last = last_small (0, 0) packets none_small each in
     (first.0, (first.1, (last.0, (last.1, tt))))
 
-pub record BlockStands (fits : ℕ → Bool) (shape : RingRequest) (number status : ℕ) (packets : List Packet) (bytes : List ℕ) : Type 0 where
+pub record BlockPasses (fits : ℕ → Bool) (shape : RingRequest) (number status : ℕ) (packets : List Packet) (bytes : List ℕ) : Type 0 where
   pub tests : block_tests fits shape bytes ≡ None
   pub packets_are : packets_of shape bytes ≡ packets
   pub number_is : number_at 8 24 bytes ≡ number
   pub status_is : number_at 4 8 bytes ≡ status
   pub end_is : number_at 4 20 bytes ≡ first_of shape + needs_of packets
 
-pub block_stands : (fits : ℕ → Bool) (shape : RingRequest) (number status : ℕ) (packets : List Packet) (bytes rest : List ℕ) → shape.block_size ≤ 1048576
+pub block_passes : (fits : ℕ → Bool) (shape : RingRequest) (number status : ℕ) (packets : List Packet) (bytes rest : List ℕ) → shape.block_size ≤ 1048576
     → IsLawful shape number status packets → fits (first_of shape + needs_of packets) ≡ true → bytes ≡ block_text shape number status packets ++ rest
-    → BlockStands fits shape number status packets bytes
+    → BlockPasses fits shape number status packets bytes
 unfolding block_tests packets_of block_text descriptor_text head_tests time_tests
-block_stands fits shape number status packets bytes rest sound lawful fit e =
+block_passes fits shape number status packets bytes rest sound lawful fit e =
     let first = first_of shape in
     let end = first + needs_of packets in
     let desc = descriptor_of shape number status packets in
@@ -262,8 +262,8 @@ block_stands fits shape number status packets bytes rest sound lawful fit e =
     let area : area_of shape bytes ≡ texts =
     ap (λ (n : ℕ). drop first (take n bytes)) h.1.1.1.1.1.0 ∙ ap (drop first) cut
     ∙ drop_at (descriptor_text shape desc) texts first (length-descriptor shape desc) in
-    let stood = packets_stand first packets lawful.each (omega (arith, small)) in
-    let packets_same : packets_in (number_at 4 12 bytes) (area_of shape bytes) ≡ packets = rw (h.1.1.1.0, area) stood.packets_are in
+    let passed_text = packets_are_passing first packets lawful.each (omega (arith, small)) in
+    let packets_same : packets_in (number_at 4 12 bytes) (area_of shape bytes) ≡ packets = rw (h.1.1.1.0, area) passed_text.packets_are in
     let early : first_time packets ≡ (number_at 4 4 (area_of shape bytes), number_at 4 8 (area_of shape bytes)) =
     ap first_time (sym packets_same) ∙ first_time_in (number_at 4 12 bytes) (area_of shape bytes) (omega (arith, h.1.1.1.0, lawful.some)) in
     let heads : head_tests fits shape bytes ≡ None =
@@ -274,7 +274,7 @@ block_stands fits shape number status packets bytes rest sound lawful fit e =
     (pass (number_at 4 16 bytes == first) _ _ _ (eq-eqb _ _ h.1.1.1.1.0)
     (pass (fits (number_at 4 20 bytes)) _ _ _ (ap fits h.1.1.1.1.1.0 ∙ fit)
     (pass (nat_lt 0 (number_at 8 24 bytes)) _ _ _ (lt-ltb 0 (number_at 8 24 bytes) (omega (arith, h.1.1.1.1.1.1.0, lawful.numbered))) refl)))))) in
-    let tests : packets_tests (number_at 4 12 bytes) first (area_of shape bytes) ≡ None = rw (h.1.1.1.0, area) stood.tests in
+    let tests : packets_tests (number_at 4 12 bytes) first (area_of shape bytes) ≡ None = rw (h.1.1.1.0, area) passed_text.tests in
     let times : time_tests (number_at 4 4 (area_of shape bytes), number_at 4 8 (area_of shape bytes)) (last_time (packets_in (number_at 4 12 bytes) (area_of shape bytes))) bytes ≡ None =
     rw packets_same
     (pass ((number_at 4 32 bytes == number_at 4 4 (area_of shape bytes)) && (number_at 4 36 bytes == number_at 4 8 (area_of shape bytes))) _ _ _

@@ -15,21 +15,21 @@ use Rattle.tp_layout.specs.Dump.{packets_of_offers}
 use Rattle.tp_layout.specs.Laws.{Said, text_of_said, HaveOneText, IsOffer, GoIn, filled, written}
 use Rattle.tp_layout.proofs.Puts.{length-put, length-packet_text}
 use Rattle.tp_layout.proofs.Opens.{opened, held, closes, needs-cons, length-header}
-use Rattle.tp_layout.proofs.BlockTexts.{BlockStands, block_stands}
+use Rattle.tp_layout.proofs.BlockTexts.{BlockPasses, block_passes}
 use Rattle.tp_layout.proofs.Answering.{end_lawful}
 
 -- ---- a text has one meaning
 
-text_stands : (shape : RingRequest) (said : Said) → IsShape shape → IsLawful shape said.number said.status said.packets
-    → BlockStands (end_may shape) shape said.number said.status said.packets (text_of_said shape said)
-text_stands shape said sound lawful =
-    block_stands (end_may shape) shape said.number said.status said.packets (text_of_said shape said) [] sound.small lawful
+text_passes : (shape : RingRequest) (said : Said) → IsShape shape → IsLawful shape said.number said.status said.packets
+    → BlockPasses (end_may shape) shape said.number said.status said.packets (text_of_said shape said)
+text_passes shape said sound lawful =
+    block_passes (end_may shape) shape said.number said.status said.packets (text_of_said shape said) [] sound.small lawful
     (end_lawful shape said.number said.status said.packets lawful) (sym (append-nil (text_of_said shape said)))
 
 pub one_text : (shape : RingRequest) (first second : Said) → HaveOneText shape first second → first ≡ second
 one_text shape first second h =
-    let a = text_stands shape first h.sound h.lawful in
-    let b = subst (λ (text : List ℕ). BlockStands (end_may shape) shape second.number second.status second.packets text) (sym h.same) (text_stands shape second h.sound h.other) in
+    let a = text_passes shape first h.sound h.lawful in
+    let b = subst (λ (text : List ℕ). BlockPasses (end_may shape) shape second.number second.status second.packets text) (sym h.same) (text_passes shape second h.sound h.other) in
     let number : first.number ≡ second.number = sym a.number_is ∙ b.number_is in
     let status : first.status ≡ second.status = sym a.status_is ∙ b.status_is in
     let packets : first.packets ≡ second.packets = sym a.packets_are ∙ b.packets_are in

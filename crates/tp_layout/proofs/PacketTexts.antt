@@ -245,7 +245,7 @@ tag_back (Some tag) bytes h status tci tpid =
     rw (status, tci, tpid, low) refl
 
 -- the bytes there are a packet's text
-pub record Stands (last : Bool) (at : ℕ) (packet : Packet) (bytes : List ℕ) : Type 0 where
+pub record PassesTests (last : Bool) (at : ℕ) (packet : Packet) (bytes : List ℕ) : Type 0 where
   pub packet_is : packet_at bytes ≡ packet
   pub need_is : need_at bytes ≡ need_of_packet packet
   pub tests : packet_tests last at bytes ≡ None
@@ -262,10 +262,10 @@ next_same : (last : Bool) (packet : Packet) (bytes : List ℕ) → need_at bytes
 next_same true packet bytes e = refl
 next_same false packet bytes e = e
 
-pub stands : (last : Bool) (at : ℕ) (packet : Packet) (bytes rest : List ℕ) → need_of_packet packet ≤ 1048576 → IsLawfulPacket packet
-    → bytes ≡ packet_text (next_in last packet) packet ++ rest → Stands last at packet bytes
+pub passes_tests : (last : Bool) (at : ℕ) (packet : Packet) (bytes rest : List ℕ) → need_of_packet packet ≤ 1048576 → IsLawfulPacket packet
+    → bytes ≡ packet_text (next_in last packet) packet ++ rest → PassesTests last at packet bytes
 unfolding packet_at header_tests address_tests
-stands last at packet bytes rest small lawful e =
+passes_tests last at packet bytes rest small lawful e =
     let next = next_in last packet in
     let n = numbers next packet bytes rest (next_small last packet small) lawful e in
     let h = n.header in

@@ -14,7 +14,7 @@ use Rattle.tp_layout.specs.Rows.{number_at, first_fault}
 use Rattle.tp_layout.specs.Packets.{packet_at, need_at, padding_rows}
 use Rattle.tp_layout.specs.Blocks.{is_status, last_time_after}
 use Rattle.tp_layout.specs.Faults.{snap_may, next_of, packets_fault_by, packets_in, area_of}
-use Rattle.tp_layout.specs.Checks.{unless, head_tests, fixed_tests, packet_tests, packets_tests, Stands}
+use Rattle.tp_layout.specs.Checks.{unless, head_tests, fixed_tests, packet_tests, packets_tests, PassesTests}
 
 -- ---- a step
 
@@ -161,25 +161,25 @@ area_small shape bytes sound size order within =
 -- ---- packets in a block
 
 -- what is known of the first of these packets
-pub record Standing (count : ℕ) (bytes : List ℕ) : Type 0 where
+pub record FirstPasses (count : ℕ) (bytes : List ℕ) : Type 0 where
   pub header : 88 ≤ length bytes
   pub snap : 82 + number_at 4 12 bytes ≤ length bytes
   pub within : need_at bytes ≤ length bytes
   pub small : number_at 4 12 bytes ≤ 1048576
-  pub rest : Stands (count - 1) (drop (need_at bytes) bytes)
+  pub rest : PassesTests (count - 1) (drop (need_at bytes) bytes)
 
-pub standing : (count : ℕ) (bytes : List ℕ) → 0 < count → Stands count bytes → Standing count bytes
-standing count bytes some stands =
-    let tests = or_none _ _ (sym (packets_step count stands.0 bytes some) ∙ stands.1) in
-    let first = front (count - 1 == 0) stands.0 bytes tests.0 in
+pub first_passes : (count : ℕ) (bytes : List ℕ) → 0 < count → PassesTests count bytes → FirstPasses count bytes
+first_passes count bytes some passes_tests =
+    let tests = or_none _ _ (sym (packets_step count passes_tests.0 bytes some) ∙ passes_tests.1) in
+    let first = front (count - 1 == 0) passes_tests.0 bytes tests.0 in
     let within = first.within in
-    let few = stands.2 in
+    let few = passes_tests.2 in
     record {
       header = first.header;
       snap = omega arith;
       within = within;
       small = omega arith;
-      rest = (stands.0 + need_at bytes, tests.1, omega (arith, length-drop (need_at bytes) bytes));
+      rest = (passes_tests.0 + need_at bytes, tests.1, omega (arith, length-drop (need_at bytes) bytes));
     }
 
 pub none_in : (count : ℕ) (bytes : List ℕ) → count ≡ 0 → packets_in count bytes ≡ []

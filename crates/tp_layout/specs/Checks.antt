@@ -101,5 +101,6 @@ abbrev pub EndsWithin : RingRequest → (ℕ → Bool) → ℕ → Type 0
 EndsWithin shape fits size = (end : ℕ) → fits end ≡ true → (first_of shape < end) × (end ≤ size)
 
 -- bytes that begin with n packets that passed their tests
-abbrev pub Stands : ℕ → List ℕ → Type 0
-Stands count bytes = (at : ℕ) × (packets_tests count at bytes ≡ None) × (length bytes ≤ 1048576)
+abbrev pub PassesTests : ℕ → List ℕ → Type 0
+PassesTests count bytes =
+    (at : ℕ) × (packets_tests count at bytes ≡ None) × (length bytes ≤ 1048576)

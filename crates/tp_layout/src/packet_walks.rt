@@ -1,7 +1,7 @@
 //! The packets of a block that passed its tests, one after another.
 ghost use Rattle.std.specs.Prelude.{◌≡◌, ◌≤◌, ◌++◌, length, take, OnOk};
 ghost use Rattle.tp_layout.specs.Faults.{packets_in};
-ghost use Rattle.tp_layout.specs.Checks.{Stands};
+ghost use Rattle.tp_layout.specs.Checks.{PassesTests};
 
 use crate::fields::u32_at;
 use crate::packet_refs::{PacketRef, packet_at};
@@ -27,17 +27,17 @@ impl<'a> Model for PacketWalk<'a> {
     ghost Value = { List Packet };
 
     ghost use Rattle.tp_layout.specs.Faults.{packets_in};
-    ghost use Rattle.tp_layout.specs.Checks.{Stands};
+    ghost use Rattle.tp_layout.specs.Checks.{PassesTests};
 
     ghost view = { λ walk. packets_in walk.left walk.rest.now };
 
-    ghost invariant = { λ walk. Stands walk.left walk.rest.now };
+    ghost invariant = { λ walk. PassesTests walk.left walk.rest.now };
 }
 
 impl<'a> PacketWalk<'a> {
     /// The packets of bytes that passed the tests.
     pub(crate) fn of(left: u32, rest: &'a [u8]) -> PacketWalk<'a>
-        requires { Stands left rest.now }
+        requires { PassesTests left rest.now }
         ensures { result ≡ packets_in left rest.now }
     {
         PacketWalk { left, rest }

@@ -65,7 +65,7 @@ module _ {V E B : Type 0} (stored : V → List E) where
   -- it is as seats are between two calls
   pub left_seat : (old new : Seat (Option V) (Knows E B)) (p : Place E) (x : V) (ticket : ℕ) → IsSeat old ticket → new.me ≡ (left old.me.0 (stored x), []) → IsSeat new ticket
   left_seat old new p x ticket ok me = record {
-    stands_for = record (ok.stands_for) { last = stored x };
+    represented = record (ok.represented) { last = stored x };
     one = ap (λ (m : Me (Option V) (Knows E B)). m.0.places) me ∙ ap (with_last (stored x)) ok.one;
     makes_none = ap (λ (m : Me (Option V) (Knows E B)). m.0.spare) me ∙ ok.makes_none;
     ticket_is = ap (λ (m : Me (Option V) (Knows E B)). m.0.ticket) me ∙ ok.ticket_is;
@@ -82,7 +82,7 @@ module _ {V E B : Type 0} (stored : V → List E) where
 
   pub entered_seat : (old new : Seat (Option V) (Knows E B)) (ticket before : ℕ) (entries : List E) → IsSeat old before → ticket < 2 ^ 38 → new.me ≡ (entered (drew old.me.0 ticket) entries, (0, None) ∷ []) → IsSeat new ticket
   entered_seat old new ticket before entries ok small me = record {
-    stands_for = record (ok.stands_for) { drawn = ok.stands_for.drawn + 1 };
+    represented = record (ok.represented) { drawn = ok.represented.drawn + 1 };
     one = ap (λ (m : Me (Option V) (Knows E B)). m.0.places) me ∙ ap with_ticket ok.one;
     makes_none = ap (λ (m : Me (Option V) (Knows E B)). m.0.spare) me ∙ ok.makes_none;
     ticket_is = ap (λ (m : Me (Option V) (Knows E B)). m.0.ticket) me;
@@ -119,7 +119,7 @@ module _ {V E B : Type 0} where
 
   pub fresh_is_seat : (seat : Seat (Option V) (Knows E B)) (base : Option B) (first : List E) (number next : ℕ) → seat.me ≡ (seated base first number 0 next, []) → IsSeat seat 0
   fresh_is_seat seat base first number next me = record {
-    stands_for = fresh_place number first;
+    represented = fresh_place number first;
     one = ap (λ (m : Me (Option V) (Knows E B)). m.0.places) me;
     makes_none = ap (λ (m : Me (Option V) (Knows E B)). m.0.spare) me;
     ticket_is = ap (λ (m : Me (Option V) (Knows E B)). m.0.ticket) me;

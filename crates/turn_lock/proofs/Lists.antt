@@ -73,8 +73,8 @@ module _ {E : Type 0} (may_add : ℕ → E → Bool) where
       ap (λ (b : Bool). cond b (e ∷ own may_add number es) (own may_add number es)) never ∙ own_none alone number es by_others.1
 
   -- where a list grows by others' entries, the seat's own entries are those that it began with
-  pub own_stands : ((m n : ℕ) (e : E) → may_add m e ≡ true → may_add n e ≡ true → m ≡ n) → (number : ℕ) (last entries : List E) → GoesOn may_add number last entries → own may_add number entries ≡ own may_add number last
-  own_stands alone number last entries goes = ap (own may_add number) goes.1 ∙ filter-append (may_add number) last goes.0 ∙ ap (λ (z : List E). own may_add number last ++ z) (own_none alone number goes.0 goes.2) ∙ append-nil (own may_add number last)
+  pub own_stays : ((m n : ℕ) (e : E) → may_add m e ≡ true → may_add n e ≡ true → m ≡ n) → (number : ℕ) (last entries : List E) → GoesOn may_add number last entries → own may_add number entries ≡ own may_add number last
+  own_stays alone number last entries goes = ap (own may_add number) goes.1 ∙ filter-append (may_add number) last goes.0 ∙ ap (λ (z : List E). own may_add number last ++ z) (own_none alone number goes.0 goes.2) ∙ append-nil (own may_add number last)
 
   -- what a turn adds is the seat's own
   own_added : (number : ℕ) (es : List E) → IsTurn may_add number es → own may_add number es ≡ es
@@ -84,7 +84,7 @@ module _ {E : Type 0} (may_add : ℕ → E → Bool) where
   -- a turn adds to the seat's own entries what it adds to the list
   pub own_turn : ((m n : ℕ) (e : E) → may_add m e ≡ true → may_add n e ≡ true → m ≡ n) → (number : ℕ) (last before es : List E) → GoesOn may_add number last before → IsTurn may_add number es
       → own may_add number (before ++ es) ≡ own may_add number last ++ es
-  own_turn alone number last before es goes turn = filter-append (may_add number) before es ∙ ap (λ (z : List E). z ++ own may_add number es) (own_stands alone number last before goes) ∙ ap (λ (z : List E). own may_add number last ++ z) (own_added number es turn)
+  own_turn alone number last before es goes turn = filter-append (may_add number) before es ∙ ap (λ (z : List E). z ++ own may_add number es) (own_stays alone number last before goes) ∙ ap (λ (z : List E). own may_add number last ++ z) (own_added number es turn)
 
 module _ {A : Type 0} where
   -- a prefix of a list is one of a longer list

@@ -24,12 +24,13 @@ pub record IsLast {E : Type 0} (may_add : ℕ → E → Bool) (first : List E) (
 
 module _ {E B : Type 0} where
   -- the seat j of the table represents, at its place k, this seat of the lock
-  abbrev pub StandsAt : List (Knows E B) → ℕ → ℕ → Knows E B → Place E → Type 0
-  StandsAt views j k v place = (get_elem? views j ≡ some v) × (get_elem? v.places k ≡ some place)
+  abbrev pub RepresentsSeatAt : List (Knows E B) → ℕ → ℕ → Knows E B → Place E → Type 0
+  RepresentsSeatAt views j k v place =
+      (get_elem? views j ≡ some v) × (get_elem? v.places k ≡ some place)
 
   -- the seat j of the table represents this seat of the lock
-  abbrev pub StandsFor : List (Knows E B) → ℕ → Knows E B → Place E → Type 0
-  StandsFor views j v place = (k : ℕ) × StandsAt views j k v place
+  abbrev pub RepresentsSeat : List (Knows E B) → ℕ → Knows E B → Place E → Type 0
+  RepresentsSeat views j v place = (k : ℕ) × RepresentsSeatAt views j k v place
 
   -- the seat j of the table is in its turn
   abbrev pub IsInside : List (Knows E B) → ℕ → Knows E B → Type 0
@@ -62,22 +63,25 @@ module _ {V E B : Type 0} (stored : V → List E) (base : V → B) (may_add : B 
     -- each ticket has one seat: a number is at one place of one seat of the table. A seat of the
     -- table that was joined with others has a place for each seat of the lock that was joined into
     -- it
-    pub stands_once : (i j k l : ℕ) (v w : Knows E B) (here there : Place E) →
-        StandsAt table.views i k v here → StandsAt table.views j l w there →
+    pub appears_once : (i j k l : ℕ) (v w : Knows E B) (here there : Place E) →
+        RepresentsSeatAt table.views i k v here → RepresentsSeatAt table.views j l w there →
         here.number ≡ there.number → (i ≡ j) × (k ≡ l)
-    pub each_drew : (j : ℕ) (v : Knows E B) (place : Place E) → StandsFor table.views j v place →
+    pub each_drew :
+        (j : ℕ) (v : Knows E B) (place : Place E) → RepresentsSeat table.views j v place →
         (place.drawn ≡ times place.number owners) × (place.drawn ≤ 2 ^ 32)
     -- a turn that has ended added one entry at most, which its seat may add
     pub each_turn : (i number : ℕ) (entries : List E) → get_elem? owners i ≡ some number →
         get_elem? added i ≡ some entries → IsTurn (may_add b) number entries
     -- a seat has at most one ticket that hasn't ended
-    pub each_waits : (i j : ℕ) (v : Knows E B) (place : Place E) → StandsFor table.views j v place →
+    pub each_waits :
+        (i j : ℕ) (v : Knows E B) (place : Place E) → RepresentsSeat table.views j v place →
         length added ≤ i → get_elem? owners i ≡ some place.number → v.ticket ≡ i
     -- the value has its place
     pub value_is :
         HasPlace stored base b (f ++ all_added added) (get_elem? owners (length added)) table
     -- what each seat left the last time
-    pub each_last : (j : ℕ) (v : Knows E B) (place : Place E) → StandsFor table.views j v place →
+    pub each_last :
+        (j : ℕ) (v : Knows E B) (place : Place E) → RepresentsSeat table.views j v place →
         IsLast (may_add b) f owners added place.number place.last
     -- no two seats are in their turn at once
     pub one_inside :

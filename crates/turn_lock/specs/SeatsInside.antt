@@ -50,8 +50,8 @@ module _ {V E B : Type 0} where
 
   -- it represents one seat of the lock, makes no other, and has its ticket's number in hand
   pub record IsSeat (s : Seat (Option V) (Knows E B)) (ticket : ℕ) : Type 0 where
-    pub stands_for : Place E
-    pub one : s.me.0.places ≡ stands_for ∷ []
+    pub represented : Place E
+    pub one : s.me.0.places ≡ represented ∷ []
     pub makes_none : s.me.0.spare ≡ 0
     pub ticket_is : s.me.0.ticket ≡ ticket
     pub small : ticket < 2 ^ 38

@@ -14,7 +14,7 @@ use atomic_table::TableRule;
 /// Where a list grows by entries that other seats may add, the seat's own entries in it are those
 /// that it began with. So each entry of a lock's history that a seat may add is in the list that
 /// the seat left the last time.
-pub fn own_entries_stand_in_last<V: Kept>()
+pub fn own_entries_are_in_last<V: Kept>()
     ensures { (base : V.Base) (number : ℕ) (last entries : List V.Entry)
         → GoesOn (V.may_add base) number last entries
         → own (V.may_add base) number entries ≡ own (V.may_add base) number last }

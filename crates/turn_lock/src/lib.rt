@@ -15,6 +15,6 @@ mod turn_seat;
 mod turns;
 
 pub use kept::Kept;
-pub use laws::{a_turn_adds_to_its_own, own_entries_stand_in_last, the_turn_history_holds};
+pub use laws::{a_turn_adds_to_its_own, own_entries_are_in_last, the_turn_history_holds};
 pub use turn_lock::TurnLock;
 pub use turn_seat::TurnSeat;

@@ -25,7 +25,7 @@ use Rattle.slot_model.proofs.Runs.{slot_counted, slot_state_push}
 use Rattle.slot_model.specs.SlotSteps.{SlotState, slot_after, slot_state_of, slot_status}
 use Rattle.tp_layout.specs.Requests.{numbers_of}
 use Rattle.tp_layout.specs.declared.requests.RingRequest.{RingRequest}
-use Rattle.v2_ring.specs.SlotContents.{StandsForSlots}
+use Rattle.v2_ring.specs.SlotContents.{RepresentsSlots}
 use Rattle.v2_ring.specs.SlotMachines.{IsFreshSlots, KeepsSlotEnd}
 use Rattle.v2_ring.specs.SlotProducing.{SlotAdds, SlotProducing}
 use Rattle.v2_ring.specs.SlotWalking.{SlotStaysBy, SlotTookBy}
@@ -68,7 +68,7 @@ front_stays count before now g h = ap (λ done. take count done) g.is ∙ take-a
 
 -- the feeder's side went on, and the reader has what it had
 read_on : (shape : RingRequest) (asked : Bool) (before now : List (Offer × ℕ)) (ring after : PlainState) (reader : ReaderValue)
-    → HasReadSlots shape asked before ring reader → Grows before now → StandsForSlots shape now (feed_of after) → KeepsSlotEnd (feed_of ring) (feed_of after)
+    → HasReadSlots shape asked before ring reader → Grows before now → RepresentsSlots shape now (feed_of after) → KeepsSlotEnd (feed_of ring) (feed_of after)
     → HasReadSlots shape asked now after reader
 read_on shape asked before now ring after reader h more texts keeps =
     let released : after.released ≡ ring.released = some_same after.released ring.released keeps.freed in
@@ -96,7 +96,7 @@ pub noted_member : (shape : RingRequest) (asked : Bool) (m : Parts) (after : Slo
 noted_member shape asked m after note h few adds =
     let same : after.shape ≡ shape = adds.shape ∙ h.shape_is in
     let count : length after.notes ≡ length m.producer.notes + 1 = ap (λ (ns : List Note). length ns) adds.notes ∙ length-append m.producer.notes (note ∷ []) in
-    let texts = subst (λ (s : RingRequest). StandsForSlots s (slot_state_of after.notes).done (feed_of after.end)) same adds.texts in
+    let texts = subst (λ (s : RingRequest). RepresentsSlots s (slot_state_of after.notes).done (feed_of after.end)) same adds.texts in
     let more = subst (λ (ns : List Note). Grows (slot_state_of m.producer.notes).done (slot_state_of ns).done) (sym adds.notes) (grows_noted m.producer.notes note) in
     record {
       shape_is = same;
@@ -138,7 +138,7 @@ new_member shape asked count contents ring producer reader e kind opens is =
     let taken : ring.taken ≡ 0 = ap (λ (r : PlainState). r.taken) e in
     let retired : ring.retired ≡ 0 = ap (λ (r : PlainState). r.retired) e in
     let shown : ring.shown ≡ [] = ap (λ (r : PlainState). r.shown) e in
-    let none : StandsForSlots shape [] (feed_of ring) =
+    let none : RepresentsSlots shape [] (feed_of ring) =
     ([], record { count = sym retired; front = omega (arith, taken); rest = drop-nil ring.taken ∙ sym shown }, tt) in
     subst (λ (p : SlotProducing PlainState). KeepsSlots shape asked (record { producer = p; reader = reader; stuck = false })) (sym opens) (record {
       shape_is = refl;

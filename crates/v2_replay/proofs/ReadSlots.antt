@@ -123,10 +123,10 @@ one_read tells shape asked done ring after reader next content h t is hand =
     let released : after.released ≡ ring.released + 1 =
     t.released ∙ ap (λ (b : Bool). if b then ring.released else ring.released + 1) free in
     let all = h.texts.0 in
-    let stands = h.texts.1 in
+    let represents = h.texts.1 in
     let same = h.none_in_hand in
     let front : drop ring.released all ≡ (content, t.first.0) ∷ after.shown =
-    ap (λ n. drop n all) (sym same) ∙ stands.rest ∙ t.first.1 in
+    ap (λ n. drop n all) (sym same) ∙ represents.rest ∙ t.first.1 in
     let slot = next_slot shape ring.released all done content t.first.0 after.shown h.texts.2 front in
     let told = tells shape slot.slot.1 (slot_packet_of slot.slot.0) content slot.begins in
     let leaves = took_leaves ring after content t in
@@ -137,7 +137,7 @@ one_read tells shape asked done ring after reader next content h t is hand =
         shape_is = ap (λ (r : ReaderValue). r.shape) is ∙ h.shape_is;
         asked_is = ap (λ (r : ReaderValue). r.dumps) is ∙ h.asked_is;
         kind_is = ap (λ (r : PlainState). r.kind) t.rest ∙ h.kind_is;
-        texts = (all, leaves.stands all stands, h.texts.2);
+        texts = (all, leaves.represents all represents, h.texts.2);
         none_held = none;
         none_in_hand = omega (arith, taken, released, same);
         taken_is = ap (λ (r : ReaderValue). r.taken) is
@@ -184,12 +184,12 @@ pub none_read : (shape : RingRequest) (asked : Bool) (done : List (Offer × ℕ)
     → HasReadSlots shape asked done ring reader → Stays ring after → next ≡ reader → length ring.shown ≡ 0 → ReadNone shape asked done ring after next
 none_read shape asked done ring after reader next h stays is empty =
     let all = h.texts.0 in
-    let stands = h.texts.1 in
+    let represents = h.texts.1 in
     let same = h.none_in_hand in
     let leaves = stays_leaves ring after stays in
     let released : after.released ≡ ring.released = ap (λ (r : PlainState). r.released) stays in
     let none = nil_from_length ring.shown empty in
-    let rest : drop ring.released all ≡ [] = ap (λ n. drop n all) (sym same) ∙ stands.rest ∙ none in
+    let rest : drop ring.released all ≡ [] = ap (λ n. drop n all) (sym same) ∙ represents.rest ∙ none in
     let few = length-drop ring.released all in
     let gone : length (drop ring.released all) ≡ 0 = ap (λ (es : List Entry). length es) rest in
     let many = as_many_slots shape all done h.texts.2 in
@@ -198,7 +198,7 @@ none_read shape asked done ring after reader next h stays is empty =
         shape_is = ap (λ (r : ReaderValue). r.shape) is ∙ h.shape_is;
         asked_is = ap (λ (r : ReaderValue). r.dumps) is ∙ h.asked_is;
         kind_is = ap (λ (r : PlainState). r.kind) stays ∙ h.kind_is;
-        texts = (all, leaves.stands all stands, h.texts.2);
+        texts = (all, leaves.represents all represents, h.texts.2);
         none_held = ap (λ (r : ReaderValue). r.held) is ∙ h.none_held;
         none_in_hand = ap (λ (r : PlainState). r.taken) stays ∙ same ∙ sym released;
         taken_is = ap (λ (r : ReaderValue). r.taken) is ∙ h.taken_is ∙ ap (λ n. slots_taken (take n done)) (sym released);

@@ -13,7 +13,7 @@ use Rattle.ring_model.specs.Ring.{Size}
 use Rattle.ring_model.specs.Rings.{Ring}
 use Rattle.ring_model.specs.declared.notes.Note.{Note}
 use Rattle.run_reports.specs.Jobs.{arriving_of, rules_of}
-use Rattle.run_reports.specs.Once.{EachArrivalStandsOnce}
+use Rattle.run_reports.specs.Once.{EachArrivalAppearsOnce}
 use Rattle.run_reports.specs.Reports.{logged}
 use Rattle.run_reports.proofs.Shorts.{short_members}
 use Rattle.run_reports.proofs.ArrivalOrder.{AreNumbered, arrive}
@@ -35,7 +35,7 @@ member_lawful shape asked ring h = record { run = h.run; walked = refl; dump = r
 
 abbrev pub EachOnce : Type 0
 EachOnce = (rules : Rules) (room : ℕ) (cpus : List Logged) (members : List (List Note)) → IsGroupReport rules room cpus members
-    → EachArrivalStandsOnce rules cpus members
+    → EachArrivalAppearsOnce rules cpus members
 
 module _ (law : AreNumbered) (once : EachOnce) (job : Job) (lines : List Line) (all : List (List ℕ)) (ends : List CpuEnd) (setup : IsRunnable job.setup)
     (slots : IsSlotShape job.setup.shape) (schedule : IsSchedule lines) (many : length ends ≡ length all) where

@@ -11,10 +11,10 @@ use Rattle.ring_model.specs.Unreleased.{IsUnreleased}
 use Rattle.ring_model.specs.declared.notes.Note.{Note}
 use Rattle.ring_model.specs.declared.notes.Note.TheVariants.{Counted, Finished}
 use Rattle.ring_model.specs.declared.notes.Offer.{Offer}
-use Rattle.slot_model.proofs.Looks.{slot_put_stands, slot_put_unreleased, slot_try_stands, slot_try_unreleased}
+use Rattle.slot_model.proofs.Looks.{slot_put_may_follow, slot_put_unreleased, slot_try_may_follow, slot_try_unreleased}
 use Rattle.slot_model.proofs.Runs.{slot_goes_put, slot_goes_try, slot_run_closed, slot_run_push}
 use Rattle.slot_model.specs.SlotRings.{slot_state}
-use Rattle.slot_model.specs.SlotSteps.{IsOpenSlotRun, IsWholeSlotRun, SlotGoesOn, SlotMayStand, first_slot_state}
+use Rattle.slot_model.specs.SlotSteps.{IsOpenSlotRun, IsWholeSlotRun, SlotGoesOn, SlotMayFollow, first_slot_state}
 use Rattle.v2_replay.specs.SlotReplays.{slot_steps}
 use Rattle.v2_replay.specs.SlotReports.{IsSlotRingReport}
 
@@ -26,7 +26,7 @@ pub record IsOpenSlots (size : Size) (clock : ℕ) (ring : Ring) : Type 0 where
   pub unreleased : AreReleases 0 ring.released releases ring.notes
 
 -- a note more
-noted_open : (size : Size) (clock : ℕ) (ring : Ring) (note : Note) → IsOpenSlots size clock ring → SlotMayStand ring.size.blocks (slot_state ring) note
+noted_open : (size : Size) (clock : ℕ) (ring : Ring) (note : Note) → IsOpenSlots size clock ring → SlotMayFollow ring.size.blocks (slot_state ring) note
     → SlotGoesOn note → IsUnreleased ring.released note → IsOpenSlots size clock (noted ring note)
 noted_open size clock ring note h may goes found = record {
   size_is = h.size_is;
@@ -38,13 +38,13 @@ noted_open size clock ring note h may goes found = record {
 put_open : (size : Size) (clock : ℕ) (ring : Ring) (offer : Offer) → IsOpenSlots size clock ring
     → IsOpenSlots size clock (noted ring (put_note (slot_steps size) ring offer))
 put_open size clock ring offer h =
-    noted_open size clock ring (put_note (slot_steps size) ring offer) h (slot_put_stands ring.size.blocks ring.released (slot_state ring) offer)
+    noted_open size clock ring (put_note (slot_steps size) ring offer) h (slot_put_may_follow ring.size.blocks ring.released (slot_state ring) offer)
     (slot_goes_put offer _) (slot_put_unreleased ring.size.blocks ring.released (slot_state ring) offer)
 
 try_open : (size : Size) (clock : ℕ) (ring : Ring) (offer : Offer) → IsOpenSlots size clock ring
     → IsOpenSlots size clock (noted ring (try_note (slot_steps size) ring offer))
 try_open size clock ring offer h =
-    noted_open size clock ring (try_note (slot_steps size) ring offer) h (slot_try_stands ring.size.blocks ring.released (slot_state ring) offer)
+    noted_open size clock ring (try_note (slot_steps size) ring offer) h (slot_try_may_follow ring.size.blocks ring.released (slot_state ring) offer)
     (slot_goes_try offer _) (slot_try_unreleased ring.size.blocks ring.released (slot_state ring) offer)
 
 tick_open : (size : Size) (clock ms : ℕ) (ring : Ring) → clock ≤ ms → IsOpenSlots size clock ring → IsOpenSlots size ms ring

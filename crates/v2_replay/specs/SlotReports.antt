@@ -9,7 +9,7 @@ use Rattle.ring_model.specs.Rings.{Ring}
 use Rattle.run_reports.specs.Jobs.{arriving_of, rules_of}
 use Rattle.run_reports.specs.Logs.{AreLogsFrom}
 use Rattle.run_reports.specs.Members.{AreShort}
-use Rattle.run_reports.specs.Once.{EachArrivalStandsOnce}
+use Rattle.run_reports.specs.Once.{EachArrivalAppearsOnce}
 use Rattle.run_reports.specs.Reports.{logged, notes_of}
 use Rattle.setup_text.specs.declared.jobs.Job.{Job}
 use Rattle.setup_text.specs.declared.reports.MemberReport.{MemberReport}
@@ -51,7 +51,7 @@ pub record IsSlotRunReport (job : Job) (bytes : List (List ℕ)) (ends : List Cp
   pub members : All (IsSlotMember job.setup.shape job.setup.dump) report.members
   -- each arrival whose verdict isn't 0 stands once among all Kept and Dropped notes, and nothing
   -- else stands there
-  pub once : EachArrivalStandsOnce (rules_of job) (logged (arriving_of job bytes) report.cpus)
+  pub once : EachArrivalAppearsOnce (rules_of job) (logged (arriving_of job bytes) report.cpus)
       (notes_of report.members)
   -- each packet is short enough for an output file
   pub short : AreShort report.members

@@ -9,7 +9,7 @@ use Rattle.slot_layout.specs.SlotLayouts.{slot_taken}
 use Rattle.tp_layout.specs.Layouts.{Taken}
 use Rattle.tp_layout.specs.Requests.{numbers_of}
 use Rattle.tp_layout.specs.declared.requests.RingRequest.{RingRequest}
-use Rattle.v2_ring.specs.SlotContents.{StandsForSlots}
+use Rattle.v2_ring.specs.SlotContents.{RepresentsSlots}
 
 -- filled slots, as they are read
 abbrev pub slots_taken : List (Offer × ℕ) → List Taken
@@ -30,7 +30,7 @@ pub record HasReadSlots (shape : RingRequest) (asked : Bool) (done : List (Offer
   pub shape_is : reader.shape ≡ shape
   pub asked_is : reader.dumps ≡ asked
   pub kind_is : ring.kind ≡ numbers_of shape
-  pub texts : StandsForSlots shape done (feed_of ring)
+  pub texts : RepresentsSlots shape done (feed_of ring)
   pub none_held : reader.held ≡ None
   pub none_in_hand : ring.taken ≡ ring.released
   pub taken_is : reader.taken ≡ slots_taken (take ring.released done)

@@ -16,7 +16,7 @@ use crate::new_members::open_members;
 use capture_file::frames_are_numbered;
 use frame_view::Memory;
 use replay_machine::{Setting, replay_over};
-use run_reports::each_arrival_stands_exactly_once;
+use run_reports::each_arrival_appears_exactly_once;
 use schedule_lines::Schedule;
 use setup_text::{Job, Ran};
 use slot_layout::a_checked_ring_is_bounded;
@@ -106,5 +106,5 @@ pub fn a_job_over_slots_reports_a_group()
         (slot_replay_of job lines all).members }
 {
     frames_are_numbered();
-    each_arrival_stands_exactly_once();
+    each_arrival_appears_exactly_once();
 }

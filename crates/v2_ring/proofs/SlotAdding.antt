@@ -3,7 +3,7 @@ use Rattle.std.proofs.Common.{◌≡◌, ℕ, ◌+◌, ◌^◌, ◌<◌, ◌≤�
 use Rattle.ring_model.specs.declared.notes.Found.{Found}
 use Rattle.ring_model.specs.declared.notes.Note.{Note}
 use Rattle.ring_words.specs.Rings.{Feed}
-use Rattle.slot_model.specs.SlotSteps.{SlotGoesOn, SlotMayStand, SlotState, slot_after, slot_state_of}
+use Rattle.slot_model.specs.SlotSteps.{SlotGoesOn, SlotMayFollow, SlotState, slot_after, slot_state_of}
 use Rattle.slot_model.proofs.Runs.{slot_counted, slot_run_push, slot_state_push}
 use Rattle.v2_ring.specs.SlotMachines.{IsReserved, IsSlotAt, IsSlotFew, KeepsSlotEnd}
 use Rattle.v2_ring.specs.SlotProducing.{SlotAdds, SlotKeeps, SlotLooks, SlotProducing, slots_filled}
@@ -12,7 +12,7 @@ use Rattle.v2_ring.specs.declared.machine.SlotMachine.{SlotMachine}
 -- the machine has taken a step that added a note
 pub record Stepped {E : Type 0} (feed : E → Feed) (old_state : SlotState) (note : Note) (before after_it : SlotMachine E) : Type 0 where
   pub at : IsSlotAt feed 0 (slot_after old_state note) after_it
-  pub stands : SlotMayStand before.shape.frame_nr old_state note
+  pub may_follow : SlotMayFollow before.shape.frame_nr old_state note
   pub end : KeepsSlotEnd (feed before.end) (feed after_it.end)
   pub shape : after_it.shape ≡ before.shape
 
@@ -62,7 +62,7 @@ module _ {E : Type 0} (feed : E → Feed) (machine reserved : SlotMachine E) (r 
   step_reserved note after_it step =
       let beside = subst (λ m. Stepped feed (slot_state_of machine.notes.items) note m after_it) r.same
       (subst (λ (items : List Note). Stepped feed (slot_state_of items) note reserved after_it) r.items step) in
-      record { at = beside.at; stands = beside.stands; end = beside.end; shape = beside.shape }
+      record { at = beside.at; may_follow = beside.may_follow; end = beside.end; shape = beside.shape }
 
   pub looks_reserved : (found : Found) (after_it : Feed)
       → SlotLooks reserved.shape.frame_nr (slot_state_of reserved.notes.items) found (feed reserved.end) after_it
@@ -89,7 +89,7 @@ module _ {E : Type 0} (feed : E → Feed) (before after_it : SlotMachine E) (not
       → SlotKeeps feed (record after_it { notes = new_notes }) items room_after
   kept_with new_notes items room_after on pushed last few = rw pushed (record {
     at = at_beside feed _ after_it new_notes after_it.room at_after;
-    run = rw step.shape (slot_run_push before.shape.frame_nr notes note keeps.run step.stands on);
+    run = rw step.shape (slot_run_push before.shape.frame_nr notes note keeps.run step.may_follow on);
     last = (let more = length-append notes (note ∷ []) in omega arith);
     few = few;
   })
@@ -106,7 +106,7 @@ module _ {E : Type 0} (feed : E → Feed) (before after_it : SlotMachine E) (not
   added items pushed = rw pushed (record {
     shape = step.shape;
     notes = refl;
-    stands = step.stands;
+    may_follow = step.may_follow;
     texts = at_after.texts;
     end = step.end;
   })

@@ -8,7 +8,7 @@ use Rattle.slot_layout.specs.SlotDump.{slot_packet_of}
 use Rattle.slot_layout.specs.SlotTexts.{SlotBegins}
 use Rattle.slot_model.specs.SlotSteps.{SlotState, slot_after, slot_status}
 use Rattle.tp_layout.specs.declared.requests.RingRequest.{RingRequest}
-use Rattle.v2_ring.specs.SlotContents.{AreSlotTexts, StandsForSlots}
+use Rattle.v2_ring.specs.SlotContents.{AreSlotTexts, RepresentsSlots}
 use Rattle.v2_ring.specs.SlotMachines.{IsSlotAt}
 use Rattle.v2_ring.specs.declared.machine.SlotMachine.{SlotMachine}
 
@@ -27,21 +27,21 @@ texts_push shape (e ∷ entries) (b ∷ done) entry slot all text status =
     (all.0, all.1, texts_push shape entries done entry slot all.2 text status)
 
 -- the end's list with the entry after it, given that the end reported retiring it
-stands_push : (shape : RingRequest) (done : List (Offer × ℕ)) (before after : Feed) (entry : Entry) (slot : Offer × ℕ)
-    → StandsForSlots shape done before → after.retired ≡ before.retired + 1 → after.passed ≡ before.passed
+represents_push : (shape : RingRequest) (done : List (Offer × ℕ)) (before after : Feed) (entry : Entry) (slot : Offer × ℕ)
+    → RepresentsSlots shape done before → after.retired ≡ before.retired + 1 → after.passed ≡ before.passed
     → after.shown ≡ before.shown ++ entry ∷ []
     → SlotBegins shape slot.1 (slot_packet_of slot.0) entry.0 → entry.1 ≡ slot.1
-    → StandsForSlots shape (done ++ slot ∷ []) after
-stands_push shape done before after entry slot (all, stands, texts) retired passed shown text status =
+    → RepresentsSlots shape (done ++ slot ∷ []) after
+represents_push shape done before after entry slot (all, represents, texts) retired passed shown text status =
     let more = length-append all (entry ∷ []) in
-    let count = stands.count in
-    let front = stands.front in
+    let count = represents.count in
+    let front = represents.front in
     let within : before.passed ≤ length all = omega arith in (
       all ++ entry ∷ [],
       record {
         count = omega arith;
         front = omega arith;
-        rest = rw (passed, shown) (drop_push before.passed all entry within ∙ ap (λ es. es ++ entry ∷ []) stands.rest);
+        rest = rw (passed, shown) (drop_push before.passed all entry within ∙ ap (λ es. es ++ entry ∷ []) represents.rest);
       },
       texts_push shape all done entry slot texts text status,
     )
@@ -69,7 +69,7 @@ filled_at feed state machine offer after content status room at status_is retire
       far = subst (λ n. 2 ^ 40 ≤ n) (sym (ap (λ (f : Feed). f.ring.bound) retires)) at.far;
       given = omega (arith, given, at.given, count);
       retired_is = omega (arith, retired, at.retired_is, count);
-      texts = stands_push machine.shape state.done (feed machine.end) (feed after) (content, status) slot at.texts
+      texts = represents_push machine.shape state.done (feed machine.end) (feed after) (content, status) slot at.texts
           retired (ap (λ (f : Feed). f.passed) retires) (ap (λ (f : Feed). f.shown) retires) text status_is;
       kept_is = omega (arith, at.kept_is);
       dropped_is = at.dropped_is;

@@ -1,7 +1,7 @@
 -- The texts of a ring's filled slots.
 use Rattle.std.specs.Prelude.{◌≡◌, ℕ, List, [], ◌∷◌}
 use Rattle.ring_model.specs.declared.notes.Offer.{Offer}
-use Rattle.ring_words.specs.Rings.{Entry, Feed, StandsFor}
+use Rattle.ring_words.specs.Rings.{Entry, Feed, RepresentsBlocks}
 use Rattle.slot_layout.specs.SlotDump.{slot_packet_of}
 use Rattle.slot_layout.specs.SlotTexts.{SlotBegins}
 use Rattle.tp_layout.specs.declared.requests.RingRequest.{RingRequest}
@@ -17,6 +17,6 @@ AreSlotTexts shape (entry ∷ entries) (slot ∷ done) =
     × AreSlotTexts shape entries done
 
 -- an end represents the texts of filled slots
-abbrev pub StandsForSlots : RingRequest → List (Offer × ℕ) → Feed → Type 0
-StandsForSlots shape done feed =
-    (all : List Entry) × StandsFor feed all × AreSlotTexts shape all done
+abbrev pub RepresentsSlots : RingRequest → List (Offer × ℕ) → Feed → Type 0
+RepresentsSlots shape done feed =
+    (all : List Entry) × RepresentsBlocks feed all × AreSlotTexts shape all done

@@ -5,7 +5,7 @@ use Rattle.slot_layout.specs.SlotShapes.{IsSlotShape}
 use Rattle.slot_model.specs.SlotSteps.{SlotState}
 use Rattle.tp_layout.specs.Requests.{numbers_of}
 use Rattle.tp_layout.specs.declared.requests.RingRequest.{RingRequest}
-use Rattle.v2_ring.specs.SlotContents.{StandsForSlots}
+use Rattle.v2_ring.specs.SlotContents.{RepresentsSlots}
 use Rattle.v2_ring.specs.declared.machine.SlotMachine.{SlotMachine}
 
 -- the machine is at this state, with `in_hand` slots in hand
@@ -17,7 +17,7 @@ pub record IsSlotAt {E : Type 0} (feed : E → Feed) (in_hand : ℕ) (state : Sl
   pub far : 2 ^ 40 ≤ (feed machine.end).ring.bound
   pub given : (feed machine.end).given ≡ length state.done + in_hand
   pub retired_is : (feed machine.end).retired ≡ length state.done
-  pub texts : StandsForSlots machine.shape state.done (feed machine.end)
+  pub texts : RepresentsSlots machine.shape state.done (feed machine.end)
   pub kept_is : machine.kept ≡ state.kept
   pub dropped_is : machine.dropped ≡ state.dropped
 

@@ -10,10 +10,10 @@ use Rattle.ring_model.specs.declared.notes.Tried.{Tried}
 use Rattle.ring_words.specs.Counts.{Rose}
 use Rattle.ring_words.specs.Rings.{Feed}
 use Rattle.slot_model.specs.SlotAsking.{slot_look}
-use Rattle.slot_model.specs.SlotSteps.{IsOpenSlotRun, SlotMayStand, SlotState, first_slot_state}
+use Rattle.slot_model.specs.SlotSteps.{IsOpenSlotRun, SlotMayFollow, SlotState, first_slot_state}
 use Rattle.slot_model.specs.SlotSteps.{slot_state_of}
 use Rattle.tp_layout.specs.declared.requests.RingRequest.{RingRequest}
-use Rattle.v2_ring.specs.SlotContents.{StandsForSlots}
+use Rattle.v2_ring.specs.SlotContents.{RepresentsSlots}
 use Rattle.v2_ring.specs.SlotMachines.{IsSlotAt, KeepsSlotEnd}
 use Rattle.v2_ring.specs.declared.machine.SlotMachine.{SlotMachine}
 
@@ -34,8 +34,8 @@ pub record SlotAdds {E : Type 0} (feed : E → Feed) (before after : SlotProduci
     : Type 0 where
   pub shape : after.shape ≡ before.shape
   pub notes : after.notes ≡ before.notes ++ note ∷ []
-  pub stands : SlotMayStand before.shape.frame_nr (slots_filled before) note
-  pub texts : StandsForSlots after.shape (slots_filled after).done (feed after.end)
+  pub may_follow : SlotMayFollow before.shape.frame_nr (slots_filled before) note
+  pub texts : RepresentsSlots after.shape (slots_filled after).done (feed after.end)
   pub end : KeepsSlotEnd (feed before.end) (feed after.end)
 
 -- what the one look of a call found. If the slot was still the reader's one more look is counted,

@@ -11,7 +11,8 @@ ghost use Rattle.ring_model.specs.declared.notes.Found.TheVariants as found;
 ghost use Rattle.ring_model.specs.declared.notes.Note.TheVariants as notes;
 ghost use Rattle.slot_layout.specs.SlotShapes.{IsSlotShape};
 ghost use Rattle.slot_model.specs.SlotFates.{slot_stats_of};
-ghost use Rattle.slot_model.specs.SlotSteps.{SlotMayStand, SlotState, first_slot_state, slot_after};
+ghost use Rattle.slot_model.specs.SlotSteps.{SlotMayFollow, SlotState, first_slot_state};
+ghost use Rattle.slot_model.specs.SlotSteps.{slot_after};
 ghost use Rattle.tp_layout.specs.Requests.{numbers_of};
 ghost use Rattle.tp_layout.specs.Writing.{IsWritable};
 
@@ -88,7 +89,7 @@ impl<E: FeederEnd<Slot> + Drop> SlotMachine<E> {
         requires fits { 66 + offer.now.snap ≤ self.old.shape.frame_size }
         requires writable { IsWritable offer.now }
         ensures at { IsSlotAt E.feed 0 (slot_after state (put_by offer.now result)) self.new }
-        ensures stands { SlotMayStand self.old.shape.frame_nr state (put_by offer.now result) }
+        ensures may_follow { SlotMayFollow self.old.shape.frame_nr state (put_by offer.now result) }
         ensures looks { SlotLooks self.old.shape.frame_nr state result
             (E.feed self.old.end) (E.feed self.new.end) }
         ensures end { KeepsSlotEnd (E.feed self.old.end) (E.feed self.new.end) }
@@ -111,7 +112,7 @@ impl<E: FeederEnd<Slot> + Drop> SlotMachine<E> {
         requires fits { 66 + offer.now.snap ≤ self.old.shape.frame_size }
         requires writable { IsWritable offer.now }
         ensures at { IsSlotAt E.feed 0 (slot_after state (try_by offer.now result)) self.new }
-        ensures stands { SlotMayStand self.old.shape.frame_nr state (try_by offer.now result) }
+        ensures may_follow { SlotMayFollow self.old.shape.frame_nr state (try_by offer.now result) }
         ensures looks { SlotLooks self.old.shape.frame_nr state result
             (E.feed self.old.end) (E.feed self.new.end) }
         ensures end { KeepsSlotEnd (E.feed self.old.end) (E.feed self.new.end) }

@@ -42,7 +42,7 @@ impl<E: FeederEnd<Slot> + Drop> Model for SlotProducer<E> {
 }
 
 impl<E: FeederEnd<Slot> + Drop> SlotProducer<E> {
-    ghost use Rattle.v2_ring.specs.SlotContents.{StandsForSlots};
+    ghost use Rattle.v2_ring.specs.SlotContents.{RepresentsSlots};
     ghost use Rattle.v2_ring.specs.SlotMachines.{IsFreshSlots};
     ghost use Rattle.v2_ring.specs.SlotProducing.{SlotAdds, SlotPuts, SlotTries, slots_filled};
 
@@ -121,7 +121,7 @@ impl<E: FeederEnd<Slot> + Drop> SlotProducer<E> {
         ensures end { result.0 ≡ self.end }
         ensures notes { result.1 ≡ self.notes ++ Finished ∷ [] }
         ensures run { IsWholeSlotRun self.shape.frame_nr result.1 }
-        ensures texts { StandsForSlots self.shape (slot_state_of result.1).done (E.feed result.0) }
+        ensures texts { RepresentsSlots self.shape (slot_state_of result.1).done (E.feed result.0) }
     {
         let SlotMachine { end, mut notes, .. } = self.machine;
         notes.push_reserved(Note::Finished);

@@ -14,9 +14,9 @@ use Rattle.turn_lock.specs.Seats.{IsIdleSeatOf}
 module _ {T : Type 0} (base_of : T → Base) (taken_by : T → List Taken) where
   -- a member that may be closed with these seats, and its reader: all its seats are handed in, and
   -- the reader has no block of its ring in hand, and didn't run out of memory
-  pub record AreAtEnd (lock : Lock) (stands : List Seat) (walker : Walker T) : Type 0 where
-    pub all : length stands ≡ lock.seats
-    pub own : AllByRecursion (IsIdleSeatOf lock) stands
+  pub record AreAtEnd (lock : Lock) (member_seats : List Seat) (walker : Walker T) : Type 0 where
+    pub all : length member_seats ≡ lock.seats
+    pub own : AllByRecursion (IsIdleSeatOf lock) member_seats
     pub ring : table_numbers walker.end.id ≡ lock.base.table
     pub shape : (base_of walker.taker).shape ≡ lock.base.shape
     pub walks : Walks base_of taken_by (base_of walker.taker) walker
@@ -24,9 +24,9 @@ module _ {T : Type 0} (base_of : T → Base) (taken_by : T → List Taken) where
 
   -- what is left of them: the member was closed, and the taker has read all blocks that its ring
   -- retired
-  pub record IsClosedWith (lock : Lock) (stands : List Seat) (walker : Walker T) (closed : Closed T)
+  pub record IsClosedWith (lock : Lock) (member_seats : List Seat) (walker : Walker T) (closed : Closed T)
       : Type 0 where
-    pub over : IsClosedOver lock.base.shape stands
+    pub over : IsClosedOver lock.base.shape member_seats
         (record { lock = lock; notes = closed.notes; ring = closed.ring })
     pub base : base_of closed.taker ≡ base_of walker.taker
     pub read : taken_by closed.taker ≡ taken_of (base_of walker.taker) closed.ring.retired
@@ -35,12 +35,12 @@ module _ {T : Type 0} (base_of : T → Base) (taken_by : T → List Taken) where
   -- and so of each member
   abbrev pub AllAtEnd : List Lock → List (List Seat) → List (Walker T) → Type 0
   AllAtEnd [] [] [] = ⊤
-  AllAtEnd (lock ∷ locks) (stands ∷ rows) (walker ∷ walkers) =
-      AreAtEnd lock stands walker × AllAtEnd locks rows walkers
+  AllAtEnd (lock ∷ locks) (member_seats ∷ rows) (walker ∷ walkers) =
+      AreAtEnd lock member_seats walker × AllAtEnd locks rows walkers
   AllAtEnd locks rows walkers = ⊥
 
   abbrev pub AllClosedWith : List Lock → List (List Seat) → List (Walker T) → List (Closed T) → Type 0
   AllClosedWith [] [] [] [] = ⊤
-  AllClosedWith (lock ∷ locks) (stands ∷ rows) (walker ∷ walkers) (closed ∷ all) =
-      IsClosedWith lock stands walker closed × AllClosedWith locks rows walkers all
+  AllClosedWith (lock ∷ locks) (member_seats ∷ rows) (walker ∷ walkers) (closed ∷ all) =
+      IsClosedWith lock member_seats walker closed × AllClosedWith locks rows walkers all
   AllClosedWith locks rows walkers all = ⊥

@@ -33,19 +33,19 @@ has_drawn_for seat ticket = record seat { drawn = seat.drawn ++ option_to_list t
 -- ---- its seats at the members
 
 -- a ready seat at each member, none of which has entered more often than this
-pub record AreStands (cpu most : ℕ) (locks : List Lock) (stands : List Seat) : Type 0 where
-  pub count : length stands ≡ length locks
-  pub ready : (member : ℕ) (lock : Lock) (stand : Seat) → member < length stands →
-      IsReady (slice_index_or locks member lock) cpu (slice_index_or stands member stand)
-  pub entered : (member : ℕ) (stand : Seat) → member < length stands →
-      (slice_index_or stands member stand).entered ≤ most
+pub record AreMemberSeats (cpu most : ℕ) (locks : List Lock) (member_seats : List Seat) : Type 0 where
+  pub count : length member_seats ≡ length locks
+  pub ready : (member : ℕ) (lock : Lock) (member_seat : Seat) → member < length member_seats →
+      IsReady (slice_index_or locks member lock) cpu (slice_index_or member_seats member member_seat)
+  pub entered : (member : ℕ) (member_seat : Seat) → member < length member_seats →
+      (slice_index_or member_seats member member_seat).entered ≤ most
 
 -- at each member the seat's own notes are those of the log's attempts
 abbrev pub AreFedAt : Job → ℕ → List Frame → List ArrivalLog → List Lock → List Seat → Type 0
-AreFedAt job cpu arrivals log locks stands =
-    (member : ℕ) (lock : Lock) (stand : Seat) → member < length stands →
+AreFedAt job cpu arrivals log locks member_seats =
+    (member : ℕ) (lock : Lock) (member_seat : Seat) → member < length member_seats →
     IsFedAt job cpu member arrivals log (slice_index_or locks member lock)
-    (slice_index_or stands member stand)
+    (slice_index_or member_seats member member_seat)
 
 -- what arrived at the frames that were fed, where these are all frames of the source
 abbrev pub arrived_of : List Frame → Feeding → List Frame
@@ -54,14 +54,14 @@ arrived_of all feed = arrivals_of (has_defrag feed.path.shape.flags) (take feed.
 -- ---- between two frames
 
 -- what arrived at the frames so far is logged, and was delivered
-pub record Goes (job : Job) (locks : List Lock) (feed : Feeding) (stands : List Seat)
+pub record Goes (job : Job) (locks : List Lock) (feed : Feeding) (member_seats : List Seat)
     (seat : SeatValue) : Type 0 where
   pub shape : feed.path.shape ≡ job.setup.plan
   pub few : feed.fed ≤ 2097150
-  pub stands_are : AreStands feed.number (9 * feed.fed) locks stands
+  pub member_seats_are : AreMemberSeats feed.number (9 * feed.fed) locks member_seats
   pub lawful : (all : List Frame) → IsAllOfCpu all feed → IsLawful (rules_of job) all feed
   pub noted : (all : List Frame) → IsAllOfCpu all feed →
-      AreFedAt job feed.number (arrived_of all feed) feed.path.log locks stands
+      AreFedAt job feed.number (arrived_of all feed) feed.path.log locks member_seats
   pub tickets : seat.drawn ≡ tickets_of feed.path.log
   pub drawn : length seat.drawn ≤ feed.fed
 
@@ -69,24 +69,24 @@ pub record Goes (job : Job) (locks : List Lock) (feed : Feeding) (stands : List 
 
 -- the arrivals so far are these and one that is still to be delivered
 abbrev pub IsBehind : Job → List Frame → Frame → Feeding → List Lock → List Seat → Type 0
-IsBehind job arrivals arrival feed locks stands =
+IsBehind job arrivals arrival feed locks member_seats =
     (earlier : List Frame) × (arrivals ≡ earlier ++ arrival ∷ [])
     × (length earlier ≡ length feed.path.log)
-    × AreFedAt job feed.number earlier feed.path.log locks stands
+    × AreFedAt job feed.number earlier feed.path.log locks member_seats
 
 -- one arrival, of the frame that was fed last, is still to be delivered and logged
 pub record Awaits (job : Job) (locks : List Lock) (arrival : Frame) (feed : Feeding)
-    (stands : List Seat) (seat : SeatValue) : Type 0 where
+    (member_seats : List Seat) (seat : SeatValue) : Type 0 where
   pub place : arrival.cpu ≡ feed.number
   pub shape : feed.path.shape ≡ job.setup.plan
   pub few : feed.fed ≤ 2097150
   pub most : ℕ
   pub room : most + 9 ≤ 9 * feed.fed
-  pub stands_are : AreStands feed.number most locks stands
+  pub member_seats_are : AreMemberSeats feed.number most locks member_seats
   pub lawful : (all : List Frame) → IsAllOfCpu all feed →
       IsPathTo (rules_of job) (take feed.fed all) arrival feed.path
   pub noted : (all : List Frame) → IsAllOfCpu all feed →
-      IsBehind job (arrived_of all feed) arrival feed locks stands
+      IsBehind job (arrived_of all feed) arrival feed locks member_seats
   pub tickets : seat.drawn ≡ tickets_of feed.path.log
   pub drawn : length seat.drawn + 1 ≤ feed.fed
 
@@ -105,20 +105,20 @@ pub record IsLogged (queue : ℕ) (locks : List Lock) (entry : ArrivalLog) (made
   pub lawful : (group : Lens) (room : ℕ) →
       LogsLawfully group room (λ arrival. group.queue arrival.cpu ≡ queue) old entry made new
   pub count : length after ≡ length before
-  pub each : (member : ℕ) (lock : Lock) (stand : Seat) → member < length before →
+  pub each : (member : ℕ) (lock : Lock) (member_seat : Seat) → member < length before →
       IsTriedAs made (fates_at member tries) (slice_index_or locks member lock)
-      (slice_index_or before member stand) (slice_index_or after member stand)
-  pub entered : (member : ℕ) (stand : Seat) → member < length before →
-      (slice_index_or after member stand).entered
-      ≤ (slice_index_or before member stand).entered + 9
+      (slice_index_or before member member_seat) (slice_index_or after member member_seat)
+  pub entered : (member : ℕ) (member_seat : Seat) → member < length before →
+      (slice_index_or after member member_seat).entered
+      ≤ (slice_index_or before member member_seat).entered + 9
 
 -- ---- a frame
 
 -- a frame more was fed and delivered, or none was left
 abbrev pub FeedsOn : Bool → Job → List Lock → Feeding → Feeding → List Seat → SeatValue → Type 0
-FeedsOn more job locks old new stands seat =
-    MatchBool more ((new.fed ≡ old.fed + 1) × Goes job locks new stands seat)
-    (HasFed job locks new.number new stands seat)
+FeedsOn more job locks old new member_seats seat =
+    MatchBool more ((new.fed ≡ old.fed + 1) × Goes job locks new member_seats seat)
+    (HasFed job locks new.number new member_seats seat)
 
 -- the same CPU, with the same source
 pub record IsSameSource (old new : Feeding) : Type 0 where

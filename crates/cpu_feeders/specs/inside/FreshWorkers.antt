@@ -89,7 +89,7 @@ pub record AreHired {S T : Type 0} (base_of : T → Base) (taken_by : T → List
   pub readers : AllZip IsReaderAt locks walkers
   pub fresh_readers : AllByRecursion (IsFreshReader base_of taken_by job.setup.shape dealer) walkers
   pub takers_are : map (λ walker. walker.taker) walkers ≡ takers
-  pub timed : AreTimed [] locks timer.stands.items
+  pub timed : AreTimed [] locks timer.member_seats.items
   pub fresh_feeders : AllByRecursion (IsFreshFeeder job locks dealer) feeders
   pub feeds_are : map (λ feeder. feeder.feed) feeders ≡ first_feeds job.setup.plan 0 firsts
   pub seats : length walkers + length spare ≡ 9

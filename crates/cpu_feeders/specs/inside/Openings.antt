@@ -1,7 +1,7 @@
 -- A group before its threads start.
 use Rattle.std.specs.Prelude.{◌≡◌, ℕ, ◌+◌, List, [], length}
 use Rattle.std.specs.List.{AllZip}
-use Rattle.cpu_feeders.specs.inside.Stands.{fresh_users}
+use Rattle.cpu_feeders.specs.inside.MemberSeats.{fresh_users}
 use Rattle.member_turns.specs.Entries.{table_numbers}
 use Rattle.member_turns.specs.Seats.{Lock, Seat}
 use Rattle.ring_words.specs.TableEnds.{Walking, fresh_walker}

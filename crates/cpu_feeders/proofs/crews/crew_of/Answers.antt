@@ -4,9 +4,9 @@ use Rattle.std.proofs.lemmas.List.{length-map}
 use Rattle.std.proofs.lemmas.Slice.Zip.{AllZip-long}
 use Rattle.tap_outside.specs.Seen.{SourceSeen}
 use Rattle.cpu_feeders.specs.inside.Openings.{IsOpened}
-use Rattle.cpu_feeders.specs.inside.Stands.{fresh_stands, fresh_users}
+use Rattle.cpu_feeders.specs.inside.MemberSeats.{fresh_member_seats, fresh_users}
 use Rattle.cpu_feeders.proofs.Hired.{hired}
-use Rattle.cpu_feeders.proofs.StandLists.{last_apart, last_user, users_long}
+use Rattle.cpu_feeders.proofs.MemberSeatLists.{last_apart, last_user, users_long}
 use Rattle.cpu_feeders.proofs.crews.crew_of.Goals as goal
 
 pub last_of-requires : goal.last_of-requires
@@ -38,7 +38,7 @@ returns g c =
     let locks = c.args.group.members.items in
     let cpus = length c.args.job.now.setup.cpus in
     let dealer = c.args.dealt.dealer in
-    let apart = last_apart c.last_of.new.list.items (fresh_users locks 0 cpus) c.last_of.result (fresh_stands locks cpus)
+    let apart = last_apart c.last_of.new.list.items (fresh_users locks 0 cpus) c.last_of.result (fresh_member_seats locks cpus)
     (sym c.last_of.ensures ∙ c.requires.group.users_are ∙ last_user locks cpus) in
     let drawn = c.in_ok-walkers.ensures.seats dealer c.requires.dealt.spare_are in
     hired g.T.Taker.base g.T.Taker.taken c.args.job.now (map seen c.args.sources.items) c.args.takers.items locks dealer
@@ -55,7 +55,7 @@ returns g c =
     (c.into_vec.ensures ∙ apart.1)
     apart.0
     c.in_ok-feeders.ensures.feeds
-    c.in_ok-feeders.ensures.stands
+    c.in_ok-feeders.ensures.member_seats
     c.in_ok-feeders.ensures.full
     (c.in_ok-feeders.ensures.seats dealer c.requires.dealt.seats_are)
     (c.in_ok-walkers.ensures.count ∙ c.requires.dealt.spare_count)

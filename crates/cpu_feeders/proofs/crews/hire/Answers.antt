@@ -2,7 +2,7 @@ use Rattle.std.proofs.Common.{◌≡◌, ◌<◌, ◌≤◌, ◌+◌, ℕ, lengt
 use Rattle.std.specs.List.{AllZip}
 use Rattle.cpu_feeders.specs.inside.FreshWorkers.{IsDealt}
 use Rattle.cpu_feeders.specs.inside.Openings.{IsOpened}
-use Rattle.cpu_feeders.specs.inside.Stands.{fresh_users}
+use Rattle.cpu_feeders.specs.inside.MemberSeats.{fresh_users}
 use Rattle.cpu_feeders.proofs.crews.hire.Goals as goal
 
 pub open_group-requires : goal.open_group-requires

@@ -4,9 +4,9 @@ use Rattle.std.specs.List.{AllByRecursion}
 use Rattle.std.proofs.lemmas.List.{length-replicate}
 use Rattle.cpu_feeders.specs.declared.feeder.Feeder.{Feeder}
 use Rattle.cpu_feeders.specs.declared.timer.Timer.{Timer}
-use Rattle.cpu_feeders.proofs.FedFeeders.{feed_in, seat_in, stands_in}
+use Rattle.cpu_feeders.proofs.FedFeeders.{feed_in, seat_in, member_seats_in}
 use Rattle.cpu_feeders.proofs.OneMore.{empty, first_items, last_items, next_all, next_items, next_rows, then_rows}
-use Rattle.cpu_feeders.proofs.StandLists.{with_each_long}
+use Rattle.cpu_feeders.proofs.MemberSeatLists.{with_each_long}
 use Rattle.cpu_feeders.proofs.ended_workers.gather.Goals as goal
 
 pub loop-feeder-init : goal.loop-feeder-init
@@ -19,16 +19,16 @@ loop-feeder-init g c =
     record {
       cpus = first_items feed_in left.cpus.items rest all made.cpus same;
       seats = first_items seat_in left.seats.items rest all made.seats same;
-      count = ap length made.stands ∙ length-replicate c.args.members [];
-      as_many = subst (λ (fs : List (Feeder g.row.S.Denot)). AllByRecursion (λ (f : Feeder g.row.S.Denot). length f.stands.items ≡ c.args.members) fs)
+      count = ap length made.member_seats ∙ length-replicate c.args.members [];
+      as_many = subst (λ (fs : List (Feeder g.row.S.Denot)). AllByRecursion (λ (f : Feeder g.row.S.Denot). length f.member_seats.items ≡ c.args.members) fs)
           (sym same) c.requires.feeders;
-      stands = rw (made.stands, same) refl;
+      member_seats = rw (made.member_seats, same) refl;
     }
 
 pub add-requires : goal.add-requires
 add-requires g c =
     let inv = c.loop-feeder.invariant in
-    let here = next_all (λ (f : Feeder g.row.S.Denot). length f.stands.items ≡ c.args.members) _ _ c.in-Some.feeder c.in-Some.ensures.steps.0 inv.as_many in
+    let here = next_all (λ (f : Feeder g.row.S.Denot). length f.member_seats.items ≡ c.args.members) _ _ c.in-Some.feeder c.in-Some.ensures.steps.0 inv.as_many in
     record { count = here.0 ∙ sym inv.count }
 
 pub loop-feeder-preserved : goal.loop-feeder-preserved
@@ -43,14 +43,14 @@ loop-feeder-preserved g c =
     record {
       cpus = next_items feed_in old.cpus.items now.cpus.items _ rest after c.in-Some.feeder next added.cpus inv.cpus;
       seats = next_items seat_in old.seats.items now.seats.items _ rest after c.in-Some.feeder next added.seats inv.seats;
-      count = ap length added.stands ∙ with_each_long old.stands.items c.in-Some.feeder.stands.items ∙ inv.count;
-      as_many = (next_all (λ (f : Feeder g.row.S.Denot). length f.stands.items ≡ c.args.members) rest after c.in-Some.feeder next inv.as_many).1;
-      stands = next_rows stands_in _ old.stands.items now.stands.items rest after c.in-Some.feeder next added.stands inv.stands;
+      count = ap length added.member_seats ∙ with_each_long old.member_seats.items c.in-Some.feeder.member_seats.items ∙ inv.count;
+      as_many = (next_all (λ (f : Feeder g.row.S.Denot). length f.member_seats.items ≡ c.args.members) rest after c.in-Some.feeder next inv.as_many).1;
+      member_seats = next_rows member_seats_in _ old.member_seats.items now.member_seats.items rest after c.in-Some.feeder next added.member_seats inv.member_seats;
     }
 
 pub add_timers-requires : goal.add_timers-requires
 add_timers-requires g c = record {
-  timers = subst (λ (n : ℕ). AllByRecursion (λ (t : Timer). length t.stands.items ≡ n) c.args.timers.items)
+  timers = subst (λ (n : ℕ). AllByRecursion (λ (t : Timer). length t.member_seats.items ≡ n) c.args.timers.items)
       (sym c.loop-feeder.invariant.count) c.requires.timers;
 }
 
@@ -62,7 +62,7 @@ returns g c =
     record {
       cpus = last_items feed_in c.loop-feeder.left.cpus.items _ rest.items none inv.cpus;
       seats = last_items seat_in c.loop-feeder.left.seats.items _ rest.items none inv.seats;
-      stands = c.in_ok-add_timers.ensures
-          ∙ then_rows stands_in (replicate c.args.members []) c.loop-feeder.left.stands.items (map stands_in c.args.feeders.items)
-          (map (λ (t : Timer). t.stands.items) c.args.timers.items) rest.items none inv.stands;
+      member_seats = c.in_ok-add_timers.ensures
+          ∙ then_rows member_seats_in (replicate c.args.members []) c.loop-feeder.left.member_seats.items (map member_seats_in c.args.feeders.items)
+          (map (λ (t : Timer). t.member_seats.items) c.args.timers.items) rest.items none inv.member_seats;
     }

@@ -8,7 +8,7 @@ feeding-init g c =
     record {
       same = record { number = refl; first = refl };
       members = fresh.members;
-      goes = first_goes c.args.job.now c.args.members.now c.args.dealer.now c.args.feeder.now.feed c.args.feeder.now.stands.items c.args.feeder.now.seat
+      goes = first_goes c.args.job.now c.args.members.now c.args.dealer.now c.args.feeder.now.feed c.args.feeder.now.member_seats.items c.args.feeder.now.seat
           fresh.fed fresh.path fresh.count fresh.each fresh.seat;
       seat = record { own = fresh.seat.fresh.0; owes = fresh.seat.owes };
     }

@@ -7,7 +7,7 @@ abbrev pub invariant-feeding : goal.invariant-feeding
 invariant-feeding g l = record {
   same : IsSameSource l.initial.feeder.feed l.feeder.feed;
   members : AreMembersFor l.job l.feeder.feed.number l.members;
-  goes : Goes l.job l.members l.feeder.feed l.feeder.stands.items l.feeder.seat;
+  goes : Goes l.job l.members l.feeder.feed l.feeder.member_seats.items l.feeder.seat;
   seat : IsDrawing l.dealer l.feeder.seat;
 }
 

@@ -11,7 +11,7 @@ arrive-requires-clause-awaits g c =
     let new = c.next.new.self in
     let told = c.in_ok-arrival.ensures in
     let fed : FedOne old new = subst (λ (f : Fed). GoesOn old f new) c.in-Arrival.is told.more in
-    awaits_one c.args.job.now c.args.members.now old new c.args.feeder.now.stands.items c.args.feeder.now.seat (arrival_of c.in_ok-arrival.field-0)
+    awaits_one c.args.job.now c.args.members.now old new c.args.feeder.now.member_seats.items c.args.feeder.now.seat (arrival_of c.in_ok-arrival.field-0)
     c.requires.goes told.same told.takes told.lawful c.in-Arrival.arrival (ap arrival_of c.in-Arrival.is)
     (subst (λ (f : Fed). IfSome (arrival_of f) (λ arrival. arrival.cpu ≡ old.number)) c.in-Arrival.is told.place) fed
 
@@ -22,7 +22,7 @@ returns-in-Nothing-clause-fed g c =
     let told = c.in_ok-arrival.ensures in
     let fed : FedOne old new = subst (λ (f : Fed). GoesOn old f new) c.in-Nothing.is told.more in (
       fed.one,
-      goes_still c.args.job.now c.args.members.now old new c.args.feeder.now.stands.items c.args.feeder.now.seat (arrival_of c.in_ok-arrival.field-0)
+      goes_still c.args.job.now c.args.members.now old new c.args.feeder.now.member_seats.items c.args.feeder.now.seat (arrival_of c.in_ok-arrival.field-0)
           c.requires.goes told.same told.takes told.lawful (ap arrival_of c.in-Nothing.is) fed,
     )
 
@@ -32,5 +32,5 @@ returns-in-End-clause-fed g c =
     let new = c.next.new.self in
     let told = c.in_ok-arrival.ensures in
     let end : IsAtItsEnd new = subst (λ (f : Fed). GoesOn old f new) c.in-End.is told.more in
-    has_fed c.args.job.now c.args.members.now old new c.args.feeder.now.stands.items c.args.feeder.now.seat (arrival_of c.in_ok-arrival.field-0)
+    has_fed c.args.job.now c.args.members.now old new c.args.feeder.now.member_seats.items c.args.feeder.now.seat (arrival_of c.in_ok-arrival.field-0)
     c.requires.goes told.same told.takes told.lawful (ap arrival_of c.in-End.is) end

@@ -7,7 +7,7 @@ use Rattle.turn_lock.proofs.SeatLists.{all_but}
 use Rattle.cpu_feeders.specs.Feeds.{IsFreshSeat}
 use Rattle.cpu_feeders.specs.inside.FreshWorkers.{first_feed, first_feeds}
 use Rattle.cpu_feeders.specs.declared.feeder.Feeder.{Feeder}
-use Rattle.cpu_feeders.proofs.FedFeeders.{feed_in, next_feed, stands_in}
+use Rattle.cpu_feeders.proofs.FedFeeders.{feed_in, next_feed, member_seats_in}
 use Rattle.cpu_feeders.proofs.OneMore.{all_more, as_many, both_shorter, both_shorter_at_end, empty, made_all, next_item, some_left}
 use Rattle.cpu_feeders.proofs.fresh_workers.feeders_of.Goals as goal
 
@@ -24,7 +24,7 @@ loop-source-init g c =
       users = ap length users ∙ c.requires.users ∙ sym long;
       left = c.requires.seats ∙ sym long;
       feeds = rw (none, rest) refl;
-      stands = rw (none, users) refl;
+      member_seats = rw (none, users) refl;
       full = rw none tt;
       seats = λ dealer own. (own, rw none tt);
     }
@@ -46,11 +46,11 @@ loop-source-preserved g c =
     let counted : c.len-number.result ≡ length c.loop-source.feeders.items = c.len-number.ensures ∙ c.loop-source.feeders.ok.0 in
     record {
       count = as_many _ made now rest after c.in-Some.source feeder next pushed inv.count;
-      users = both_shorter c.loop-source.users.items users rest after feeder.stands.items c.in-Some.source fresh.stands next inv.users;
+      users = both_shorter c.loop-source.users.items users rest after feeder.member_seats.items c.in-Some.source fresh.member_seats next inv.users;
       left = both_shorter_at_end c.loop-source.seats.items seats rest after feeder.seat c.in-Some.source fresh.seat next inv.left;
       feeds = next_feed seen c.args.plan made now rest after _ c.in-Some.source
           feeder next pushed (fresh.feed ∙ ap (λ (n : ℕ). first_feed c.args.plan n (seen c.in-Some.source)) counted) inv.feeds;
-      stands = next_item stands_in made now c.loop-source.users.items users _ feeder feeder.stands.items fresh.stands pushed refl inv.stands;
+      member_seats = next_item member_seats_in made now c.loop-source.users.items users _ feeder feeder.member_seats.items fresh.member_seats pushed refl inv.member_seats;
       full = all_more (λ (f : Feeder g.row.S.Denot). f.full ≡ false) made now feeder pushed inv.full fresh.full;
       seats = λ dealer own.
           let both = inv.seats dealer own in
@@ -80,13 +80,13 @@ returns-clause-feeds g c =
     (ap (λ (some : List (Option g.row.S.Denot)). first_feeds c.args.plan (length c.loop-source.feeders.items) (map seen some)) none)
     c.loop-source.invariant.feeds
 
-pub returns-clause-stands : goal.returns-clause-stands
-returns-clause-stands g c =
+pub returns-clause-member_seats : goal.returns-clause-member_seats
+returns-clause-member_seats g c =
     let rest = c.loop-source.source-iterator.rest in
     let count : length rest.items ≡ 0 = sym rest.ok.0 ∙ c.in-None.ensures.steps.0 in
     let users = c.loop-source.invariant.users in
-    made_all stands_in c.loop-source.feeders.items c.loop-source.users.items _ (empty c.loop-source.users.items (omega (arith, users, count)))
-    c.loop-source.invariant.stands
+    made_all member_seats_in c.loop-source.feeders.items c.loop-source.users.items _ (empty c.loop-source.users.items (omega (arith, users, count)))
+    c.loop-source.invariant.member_seats
 
 pub returns-clause-full : goal.returns-clause-full
 returns-clause-full g c = c.loop-source.invariant.full

@@ -17,7 +17,7 @@ invariant-loop-source g l =
       feeds : map (λ feeder. feeder.feed) l.feeders.items
           ++ first_feeds l.plan (length l.feeders.items) (map seen l.source-iterator.rest.items)
           ≡ first_feeds l.plan 0 (map seen l.fn.sources.items);
-      stands : map (λ feeder. feeder.stands.items) l.feeders.items ++ l.users.items ≡ l.fn.users.items;
+      member_seats : map (λ feeder. feeder.member_seats.items) l.feeders.items ++ l.users.items ≡ l.fn.users.items;
       full : AllByRecursion (λ feeder. feeder.full ≡ false) l.feeders.items;
       seats : (dealer : DealerValue) → AllByRecursion (IsFreshSeat dealer) l.fn.seats.items
           → AllByRecursion (IsFreshSeat dealer) l.seats.items

@@ -1,7 +1,7 @@
 use Rattle.std.proofs.Common.{◌≡◌, ◌+◌, length}
 use Rattle.std.specs.List.{AllZip}
 use Rattle.cpu_feeders.specs.inside.Openings.{IsOpened}
-use Rattle.cpu_feeders.specs.inside.Stands.{fresh_users}
+use Rattle.cpu_feeders.specs.inside.MemberSeats.{fresh_users}
 use Rattle.cpu_feeders.proofs.open_groups.open_group.Given as goal
 
 abbrev pub invariant-loop-member : goal.invariant-loop-member

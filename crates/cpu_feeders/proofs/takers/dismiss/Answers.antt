@@ -8,13 +8,13 @@ use Rattle.cpu_feeders.proofs.takers.dismiss.Goals as goal
 pub gather-requires-clause-feeders : goal.gather-requires-clause-feeders
 gather-requires-clause-feeders g c =
     let w = c.requires.worked in
-    left.feeders_stand g.T.Taker.base g.T.Taker.taken c.args.job.now w.0 w.1 w.2 c.args.crew.members.items c.args.crew.dealer c.args.crew.spare.items
+    left.feeders_member_seat g.T.Taker.base g.T.Taker.taken c.args.job.now w.0 w.1 w.2 c.args.crew.members.items c.args.crew.dealer c.args.crew.spare.items
     c.args.crew.workers.items w.3 c.in_ok-parted.ensures.full _ _ c.in_ok-parted.ensures.feeders c.members-members.ensures.value
 
 pub gather-requires-clause-timers : goal.gather-requires-clause-timers
 gather-requires-clause-timers g c =
     let w = c.requires.worked in
-    left.timers_stand g.T.Taker.base g.T.Taker.taken c.args.job.now w.0 w.1 w.2 c.args.crew.members.items c.args.crew.dealer c.args.crew.spare.items
+    left.timers_member_seat g.T.Taker.base g.T.Taker.taken c.args.job.now w.0 w.1 w.2 c.args.crew.members.items c.args.crew.dealer c.args.crew.spare.items
     c.args.crew.workers.items w.3 c.in_ok-parted.ensures.full _ _ c.in_ok-parted.ensures.timers c.members-members.ensures.value
 
 pub close_group-requires : goal.close_group-requires
@@ -22,7 +22,7 @@ close_group-requires g c =
     let w = c.requires.worked in
     let rows = left.rows_are g.T.Taker.base g.T.Taker.taken c.args.job.now w.0 w.1 w.2 c.args.crew.members.items c.args.crew.dealer c.args.crew.spare.items
     c.args.crew.workers.items w.3 c.in_ok-parted.ensures.full _ _ _ _ c.in_ok-parted.ensures.feeders c.in_ok-parted.ensures.timers
-    c.members-members.ensures.value c.in_ok-left.ensures.stands in
+    c.members-members.ensures.value c.in_ok-left.ensures.member_seats in
     left.at_end g.T.Taker.base g.T.Taker.taken c.args.job.now w.0 w.1 w.2 c.args.crew.members.items c.args.crew.dealer c.args.crew.spare.items
     c.args.crew.workers.items w.3 c.in_ok-parted.ensures.full _ _ rows c.in_ok-parted.ensures.walkers
 
@@ -37,7 +37,7 @@ close-requires-clause-all g c =
     let w = c.requires.worked in
     let rows = left.rows_are g.T.Taker.base g.T.Taker.taken c.args.job.now w.0 w.1 w.2 c.args.crew.members.items c.args.crew.dealer c.args.crew.spare.items
     c.args.crew.workers.items w.3 c.in_ok-parted.ensures.full _ _ _ _ c.in_ok-parted.ensures.feeders c.in_ok-parted.ensures.timers
-    c.members-members.ensures.value c.in_ok-left.ensures.stands in
+    c.members-members.ensures.value c.in_ok-left.ensures.member_seats in
     let over = left.over_all g.T.Taker.base g.T.Taker.taken c.args.job.now w.0 w.1 w.2 c.args.crew.members.items c.args.crew.dealer c.args.crew.spare.items
     c.args.crew.workers.items w.3 c.in_ok-parted.ensures.full _ _ c.in_ok-closed.closed.items rows c.in_ok-parted.ensures.walkers c.in_ok-closed.ensures in
     let seats = left.seats_are g.T.Taker.base g.T.Taker.taken c.args.job.now w.0 w.1 w.2 c.args.crew.members.items c.args.crew.dealer c.args.crew.spare.items
@@ -51,7 +51,7 @@ close-requires-clause-own g c =
     let w = c.requires.worked in
     let rows = left.rows_are g.T.Taker.base g.T.Taker.taken c.args.job.now w.0 w.1 w.2 c.args.crew.members.items c.args.crew.dealer c.args.crew.spare.items
     c.args.crew.workers.items w.3 c.in_ok-parted.ensures.full _ _ _ _ c.in_ok-parted.ensures.feeders c.in_ok-parted.ensures.timers
-    c.members-members.ensures.value c.in_ok-left.ensures.stands in
+    c.members-members.ensures.value c.in_ok-left.ensures.member_seats in
     let over = left.over_all g.T.Taker.base g.T.Taker.taken c.args.job.now w.0 w.1 w.2 c.args.crew.members.items c.args.crew.dealer c.args.crew.spare.items
     c.args.crew.workers.items w.3 c.in_ok-parted.ensures.full _ _ c.in_ok-closed.closed.items rows c.in_ok-parted.ensures.walkers c.in_ok-closed.ensures in
     let seats = left.seats_are g.T.Taker.base g.T.Taker.taken c.args.job.now w.0 w.1 w.2 c.args.crew.members.items c.args.crew.dealer c.args.crew.spare.items
@@ -64,7 +64,7 @@ pub returns : goal.returns
 returns g c = λ moments firsts takers worked.
     let rows = left.rows_are g.T.Taker.base g.T.Taker.taken c.args.job.now moments firsts takers c.args.crew.members.items c.args.crew.dealer c.args.crew.spare.items
     c.args.crew.workers.items worked c.in_ok-parted.ensures.full _ _ _ _ c.in_ok-parted.ensures.feeders c.in_ok-parted.ensures.timers
-    c.members-members.ensures.value c.in_ok-left.ensures.stands in
+    c.members-members.ensures.value c.in_ok-left.ensures.member_seats in
     let over = left.over_all g.T.Taker.base g.T.Taker.taken c.args.job.now moments firsts takers c.args.crew.members.items c.args.crew.dealer c.args.crew.spare.items
     c.args.crew.workers.items worked c.in_ok-parted.ensures.full _ _ c.in_ok-closed.closed.items rows c.in_ok-parted.ensures.walkers c.in_ok-closed.ensures in
     let seats = left.seats_are g.T.Taker.base g.T.Taker.taken c.args.job.now moments firsts takers c.args.crew.members.items c.args.crew.dealer c.args.crew.spare.items

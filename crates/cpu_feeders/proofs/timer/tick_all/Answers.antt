@@ -21,7 +21,7 @@ tick_members-requires-clause-few g c = λ member seat inside.
 
 pub tick_members-requires-clause-later : goal.tick_members-requires-clause-later
 tick_members-requires-clause-later g c = λ member lock seat inside.
-    not_before c.args.moments.now c.loop-ms.ms-index 0 (get_or c.args.members.now member lock) (get_or c.loop-ms.stands.items member seat)
+    not_before c.args.moments.now c.loop-ms.ms-index 0 (get_or c.args.members.now member lock) (get_or c.loop-ms.member_seats.items member seat)
     c.requires.moments.rising c.loop-ms-test.true (c.loop-ms.invariant.each member lock seat inside)
 
 pub tick_members-requires-clause-small : goal.tick_members-requires-clause-small
@@ -33,8 +33,8 @@ pub loop-ms-preserved : goal.loop-ms-preserved
 loop-ms-preserved g c =
     let at = c.loop-ms.ms-index in
     let moments = c.args.moments.now in
-    let old = c.loop-ms.stands.items in
-    let now = c.tick_members.new.stands.items in
+    let old = c.loop-ms.member_seats.items in
+    let now = c.tick_members.new.member_seats.items in
     let ticked = c.in_ok-tick_members.ensures in
     subst (λ (told : List ℕ). AreTimed told c.args.members.now now) (sym (take_more moments at 0 c.loop-ms-test.true)) (record {
       count = ticked.count ∙ c.loop-ms.invariant.count;

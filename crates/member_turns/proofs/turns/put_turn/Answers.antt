@@ -9,9 +9,9 @@ use Rattle.member_turns.proofs.turns.put_turn.Goals as goal
 pub leave-requires-clause-turn : goal.leave-requires-clause-turn
 leave-requires-clause-turn g c =
     let base = c.member.inside.lock.base in
-    let seat = c.stand.inside.seat in
+    let seat = c.member_seat.inside.seat in
     let before = c.enter-ring.result.producer.value.notes in
-    let number = ap (λ (s : Seat). s.number) c.stand.view_is ∙ c.requires.ready.number_is in
+    let number = ap (λ (s : Seat). s.number) c.member_seat.view_is ∙ c.requires.ready.number_is in
     let few = subst (λ (l : Lock). c.args.offer.frame.cpu < l.base.cpus) (sym c.member.view_is) c.requires.cpu in
     let leaves = adds_in base seat c.enter-ring.new.seat before c.put-put.new.self.notes in
     of_both c.put-put.result _ _ c.put-put.ensures.put c.put-put.ensures.unput
@@ -24,9 +24,9 @@ leave-requires-clause-turn g c =
 pub returns-clause-put : goal.returns-clause-put
 returns-clause-put g c =
     let lock = c.args.member.now in
-    let seat = c.args.stand.now in
+    let seat = c.args.member_seat.now in
     let before = c.enter-ring.result.producer.value.notes in
-    let at = entered_at c.member.inside.lock lock c.stand.inside.seat seat c.enter-ring.new.seat before c.member.view_is c.stand.view_is
+    let at = entered_at c.member.inside.lock lock c.member_seat.inside.seat seat c.enter-ring.new.seat before c.member.view_is c.member_seat.view_is
     c.enter-ring.ensures.goes_on c.enter-ring.ensures.seat in
     IfOk-weaker c.put-put.result _ (IsPutTurn lock seat c.leave.new.seat c.args.offer) (λ put found. record {
       found = found.0;
@@ -40,9 +40,9 @@ returns-clause-put g c =
 pub returns-clause-err : goal.returns-clause-err
 returns-clause-err g c =
     let lock = c.args.member.now in
-    let seat = c.args.stand.now in
+    let seat = c.args.member_seat.now in
     let before = c.enter-ring.result.producer.value.notes in
-    let at = entered_at c.member.inside.lock lock c.stand.inside.seat seat c.enter-ring.new.seat before c.member.view_is c.stand.view_is
+    let at = entered_at c.member.inside.lock lock c.member_seat.inside.seat seat c.enter-ring.new.seat before c.member.view_is c.member_seat.view_is
     c.enter-ring.ensures.goes_on c.enter-ring.ensures.seat in
     IfErr-weaker c.put-put.result _ (λ _. Turned lock seat c.leave.new.seat []) (λ unput stays.
     turn_done lock seat c.enter-ring.new.seat c.leave.new.seat c.args.offer.frame.cpu before c.put-put.new.self.notes [] c.requires.ready at

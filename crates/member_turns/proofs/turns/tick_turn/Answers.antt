@@ -16,9 +16,9 @@ use Rattle.member_turns.proofs.turns.tick_turn.Goals as goal
 pub leave-requires-clause-turn : goal.leave-requires-clause-turn
 leave-requires-clause-turn g c =
     let base = c.member.inside.lock.base in
-    let seat = c.stand.inside.seat in
+    let seat = c.member_seat.inside.seat in
     let before = c.enter-ring.result.producer.value.notes in
-    let number = ap (λ (s : Seat). s.number) c.stand.view_is ∙ c.requires.ready.number_is ∙ ap (λ (l : Lock). l.base.cpus) (sym c.member.view_is) in
+    let number = ap (λ (s : Seat). s.number) c.member_seat.view_is ∙ c.requires.ready.number_is ∙ ap (λ (l : Lock). l.base.cpus) (sym c.member.view_is) in
     let leaves = adds_in base seat c.enter-ring.new.seat before c.tick-ticked.new.self.notes in
     of_both c.tick-ticked.result _ _ c.tick-ticked.ensures.ticked c.tick-ticked.ensures.err
     (λ _ found. leaves (Ticked c.args.ms found.0 ∷ []) c.enter-ring.ensures.seat
@@ -30,9 +30,9 @@ leave-requires-clause-turn g c =
 pub unreachable-requires : goal.unreachable-requires
 unreachable-requires g c =
     let lock = c.args.member.now in
-    let seat = c.args.stand.now in
+    let seat = c.args.member_seat.now in
     let before = c.enter-ring.result.producer.value.notes in
-    let at = entered_at c.member.inside.lock lock c.stand.inside.seat seat c.enter-ring.new.seat before c.member.view_is c.stand.view_is
+    let at = entered_at c.member.inside.lock lock c.member_seat.inside.seat seat c.enter-ring.new.seat before c.member.view_is c.member_seat.view_is
     c.enter-ring.ensures.goes_on c.enter-ring.ensures.seat in
     let size = size_of c.deref_mut.result.now.shape in
     let now = c.deref_mut.result.now.notes in
@@ -48,9 +48,9 @@ unreachable-requires g c =
 pub returns-clause-ticked : goal.returns-clause-ticked
 returns-clause-ticked g c =
     let lock = c.args.member.now in
-    let seat = c.args.stand.now in
+    let seat = c.args.member_seat.now in
     let before = c.enter-ring.result.producer.value.notes in
-    let at = entered_at c.member.inside.lock lock c.stand.inside.seat seat c.enter-ring.new.seat before c.member.view_is c.stand.view_is
+    let at = entered_at c.member.inside.lock lock c.member_seat.inside.seat seat c.enter-ring.new.seat before c.member.view_is c.member_seat.view_is
     c.enter-ring.ensures.goes_on c.enter-ring.ensures.seat in
     elim c.match-ticked.branch [
       | in-Ok w ↦
@@ -68,9 +68,9 @@ returns-clause-ticked g c =
 pub returns-clause-err : goal.returns-clause-err
 returns-clause-err g c =
     let lock = c.args.member.now in
-    let seat = c.args.stand.now in
+    let seat = c.args.member_seat.now in
     let before = c.enter-ring.result.producer.value.notes in
-    let at = entered_at c.member.inside.lock lock c.stand.inside.seat seat c.enter-ring.new.seat before c.member.view_is c.stand.view_is
+    let at = entered_at c.member.inside.lock lock c.member_seat.inside.seat seat c.enter-ring.new.seat before c.member.view_is c.member_seat.view_is
     c.enter-ring.ensures.goes_on c.enter-ring.ensures.seat in
     elim c.match-ticked.branch [
       | in-Ok w ↦ subst (λ r. OnErr r (Turned lock seat c.leave.new.seat [])) (sym w.result-is) tt

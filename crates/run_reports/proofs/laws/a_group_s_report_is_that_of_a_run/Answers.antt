@@ -6,6 +6,6 @@ returns c = λ job bytes ends report setup logs group. record {
   logs = logs;
   group = group.group;
   members = group.members;
-  once = c.each_arrival_stands_exactly_once.ensures _ _ _ _ group.group;
+  once = c.each_arrival_appears_exactly_once.ensures _ _ _ _ group.group;
   short = c.a_group_s_packets_are_short.ensures job (arriving_of job bytes) report setup group;
 }

@@ -4,7 +4,7 @@ use Rattle.std.proofs.Math.Logic.{∥∥₁_elim}
 use Rattle.tp_layout.proofs.Opens.{within}
 use Rattle.slot_layout.specs.SlotTexts.{slot_text}
 use Rattle.slot_layout.proofs.SlotNumbers.{length-slot_text}
-use Rattle.slot_layout.proofs.SlotStands.{begins_stands}
+use Rattle.slot_layout.proofs.SlotPasses.{begins_passing}
 use Rattle.slot_layout.proofs.reading.packet_of.Goals as goal
 
 pub packet_at-requires : goal.packet_at-requires
@@ -15,7 +15,7 @@ packet_at-requires c =
     ∥∥₁_elim c.requires.2 le_prop (λ x.
     omega (
       arith,
-      (begins_stands shape status x.0 bytes x.1).snap_is,
+      (begins_passing shape status x.0 bytes x.1).snap_is,
       length-slot_text status x.0,
       within (slot_text status x.0) bytes x.1.begins,
     ))

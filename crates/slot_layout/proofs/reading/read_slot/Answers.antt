@@ -1,6 +1,6 @@
 use Rattle.std.proofs.Common.{◌∙◌, refl, sym, arith}
 use Rattle.slot_layout.proofs.SlotReads.{has_slot_text}
-use Rattle.slot_layout.proofs.SlotStands.{begins_stands, refused, refused_lawful}
+use Rattle.slot_layout.proofs.SlotPasses.{begins_passing, refused, refused_lawful}
 use Rattle.slot_layout.proofs.reading.read_slot.Goals as goal
 
 pub returns-in_err-check_fields-clause-only : goal.returns-in_err-check_fields-clause-only
@@ -18,4 +18,4 @@ returns-clause-found c =
 
 pub returns-clause-only : goal.returns-clause-only
 returns-clause-only c status packet begins =
-    (refl, c.packet_at.ensures ∙ (begins_stands c.args.shape.now status packet c.args.bytes.now begins).packet_is)
+    (refl, c.packet_at.ensures ∙ (begins_passing c.args.shape.now status packet c.args.bytes.now begins).packet_is)

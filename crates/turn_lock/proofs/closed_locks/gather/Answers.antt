@@ -14,7 +14,7 @@ loop-other-init g c =
       table = ap (λ s. s.lock) c.last.view_is ∙ own.1.0;
       places = ap (λ ps. map place_of c.pop.new.self.items ++ ps) (sym (append-nil seat.me.0.places))
           ∙ places_with c.pop.new.self.items c.in-Some.last seat c.last.inside.ticket [] ok c.last.view_is ∙ append-nil _ ∙ ap (map place_of) (sym items);
-      first = (ok.stands_for, ap (λ ps. get_elem? ps 0) ok.one);
+      first = (ok.represented, ap (λ ps. get_elem? ps 0) ok.one);
       stage = (idle_of seat.me.0.stage seat.me.0.seen seat.me.1 ok.holds (ap (λ s. s.turn) c.last.view_is ∙ own.1.1)).0;
       own = own.0;
     }

@@ -26,7 +26,7 @@ invariant_of-self g c =
     let found = c.put-found.result in
     let s = state_of (size_of machine.shape) machine.notes.items in
     let step : Stepped g.E.FeederEnd.feed s (put_by c.args.offer found) machine c.put-found.new.self =
-    record { at = c.put-found.ensures.at; stands = c.put-found.ensures.stands; end = c.put-found.ensures.end; shape = c.put-found.ensures.same.0 } in
+    record { at = c.put-found.ensures.at; may_follow = c.put-found.ensures.may_follow; end = c.put-found.ensures.end; shape = c.put-found.ensures.same.0 } in
     let looks = looks_more machine.notes.items (put_by c.args.offer found) _ _ c.self.invariant.looks few c.put-found.ensures.end.holds
     (put_looked c.args.offer found _ _ c.put-found.ensures.looked) in
     let numbers = numbers_after machine.notes.items (put_by c.args.offer found) found _ _ c.self.invariant.numbers c.put-found.ensures.number (put_number c.args.offer found) in
@@ -51,7 +51,7 @@ returns-clause-put g c =
     let s = state_of (size_of machine.shape) machine.notes.items in
     let note = put_by c.args.offer found in
     let step : Stepped g.E.FeederEnd.feed s note machine c.put-found.new.self =
-    record { at = c.put-found.ensures.at; stands = c.put-found.ensures.stands; end = c.put-found.ensures.end; shape = c.put-found.ensures.same.0 } in
+    record { at = c.put-found.ensures.at; may_follow = c.put-found.ensures.may_follow; end = c.put-found.ensures.end; shape = c.put-found.ensures.same.0 } in
     let looks = looks_more machine.notes.items (put_by c.args.offer found) _ _ c.self.invariant.looks few c.put-found.ensures.end.holds
     (put_looked c.args.offer found _ _ c.put-found.ensures.looked) in
     let numbers = numbers_after machine.notes.items (put_by c.args.offer found) found _ _ c.self.invariant.numbers c.put-found.ensures.number (put_number c.args.offer found) in

@@ -22,7 +22,7 @@ invariant_of-self g c =
     let end = keeps_end _ _ (ap g.E.FeederEnd.feed c.take_stats-stats.ensures.end) in
     let numbers = numbers_after machine.notes.items Counted NotAsked _ _ c.self.invariant.numbers (ap (λ e. (g.E.FeederEnd.feed e).found) c.take_stats-stats.ensures.end) refl in
     let step : Stepped g.E.FeederEnd.feed s Counted machine new =
-    record { at = c.take_stats-stats.ensures.at; stands = tt; end = end; shape = c.take_stats-stats.ensures.same.0 } in
+    record { at = c.take_stats-stats.ensures.at; may_follow = tt; end = end; shape = c.take_stats-stats.ensures.same.0 } in
     let spare = ap (λ (p : Producing g.row.E.Denot). p.spare) c.self.view_is in
     kept_on g.E.FeederEnd.feed machine new machine.notes.items Counted _ _ c.self.invariant step
     tt (omega (arith, end.holds, c.self.invariant.looks)) numbers c.push_reserved.new.self c.push_reserved.new.self.items
@@ -39,7 +39,7 @@ returns-clause-taken g c =
     let end = keeps_end _ _ (ap g.E.FeederEnd.feed c.take_stats-stats.ensures.end) in
     let numbers = numbers_after machine.notes.items Counted NotAsked _ _ c.self.invariant.numbers (ap (λ e. (g.E.FeederEnd.feed e).found) c.take_stats-stats.ensures.end) refl in
     let step : Stepped g.E.FeederEnd.feed s Counted machine new =
-    record { at = c.take_stats-stats.ensures.at; stands = tt; end = end; shape = c.take_stats-stats.ensures.same.0 } in
+    record { at = c.take_stats-stats.ensures.at; may_follow = tt; end = end; shape = c.take_stats-stats.ensures.same.0 } in
     let pushed : c.push_reserved.new.self.items ≡ machine.notes.items ++ Counted ∷ [] =
     rw (c.push_reserved.ensures.items, c.take_stats-stats.ensures.same.1) in
     let room = vec_capacity machine.notes in

@@ -35,7 +35,7 @@ invariant_of-self g c =
     let found = c.tick-found.result in
     let s = state_of (size_of machine.shape) machine.notes.items in
     let step : Stepped g.E.FeederEnd.feed s (Ticked c.args.ms found) machine c.tick-found.new.self =
-    record { at = c.tick-found.ensures.at; stands = c.tick-found.ensures.stands; end = c.tick-found.ensures.end; shape = c.tick-found.ensures.same.0 } in
+    record { at = c.tick-found.ensures.at; may_follow = c.tick-found.ensures.may_follow; end = c.tick-found.ensures.end; shape = c.tick-found.ensures.same.0 } in
     let looks = looks_more machine.notes.items (Ticked c.args.ms found) _ _ c.self-2.invariant.looks few c.tick-found.ensures.end.holds
     (tick_looked c.args.ms found _ _ c.tick-found.ensures.looked) in
     let numbers = numbers_after machine.notes.items (Ticked c.args.ms found) found _ _ c.self-2.invariant.numbers c.tick-found.ensures.number (tick_number c.args.ms found) in
@@ -59,7 +59,7 @@ returns-clause-ticked g c =
     let s = state_of (size_of machine.shape) machine.notes.items in
     let note = Ticked c.args.ms found in
     let step : Stepped g.E.FeederEnd.feed s note machine c.tick-found.new.self =
-    record { at = c.tick-found.ensures.at; stands = c.tick-found.ensures.stands; end = c.tick-found.ensures.end; shape = c.tick-found.ensures.same.0 } in
+    record { at = c.tick-found.ensures.at; may_follow = c.tick-found.ensures.may_follow; end = c.tick-found.ensures.end; shape = c.tick-found.ensures.same.0 } in
     let looks = looks_more machine.notes.items (Ticked c.args.ms found) _ _ c.self-2.invariant.looks few c.tick-found.ensures.end.holds
     (tick_looked c.args.ms found _ _ c.tick-found.ensures.looked) in
     let numbers = numbers_after machine.notes.items (Ticked c.args.ms found) found _ _ c.self-2.invariant.numbers c.tick-found.ensures.number (tick_number c.args.ms found) in

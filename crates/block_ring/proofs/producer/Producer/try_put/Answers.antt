@@ -26,7 +26,7 @@ invariant_of-self g c =
     let found = c.try_put-found.result in
     let s = state_of (size_of machine.shape) machine.notes.items in
     let step : Stepped g.E.FeederEnd.feed s (try_by c.args.offer found) machine c.try_put-found.new.self =
-    record { at = c.try_put-found.ensures.at; stands = c.try_put-found.ensures.stands; end = c.try_put-found.ensures.end; shape = c.try_put-found.ensures.same.0 } in
+    record { at = c.try_put-found.ensures.at; may_follow = c.try_put-found.ensures.may_follow; end = c.try_put-found.ensures.end; shape = c.try_put-found.ensures.same.0 } in
     let looks = looks_more machine.notes.items (try_by c.args.offer found) _ _ c.self.invariant.looks few c.try_put-found.ensures.end.holds
     (try_looked c.args.offer found _ _ c.try_put-found.ensures.looked) in
     let numbers = numbers_after machine.notes.items (try_by c.args.offer found) found _ _ c.self.invariant.numbers c.try_put-found.ensures.number (try_number c.args.offer found) in
@@ -51,7 +51,7 @@ returns-clause-tried g c =
     let s = state_of (size_of machine.shape) machine.notes.items in
     let note = try_by c.args.offer found in
     let step : Stepped g.E.FeederEnd.feed s note machine c.try_put-found.new.self =
-    record { at = c.try_put-found.ensures.at; stands = c.try_put-found.ensures.stands; end = c.try_put-found.ensures.end; shape = c.try_put-found.ensures.same.0 } in
+    record { at = c.try_put-found.ensures.at; may_follow = c.try_put-found.ensures.may_follow; end = c.try_put-found.ensures.end; shape = c.try_put-found.ensures.same.0 } in
     let looks = looks_more machine.notes.items (try_by c.args.offer found) _ _ c.self.invariant.looks few c.try_put-found.ensures.end.holds
     (try_looked c.args.offer found _ _ c.try_put-found.ensures.looked) in
     let numbers = numbers_after machine.notes.items (try_by c.args.offer found) found _ _ c.self.invariant.numbers c.try_put-found.ensures.number (try_number c.args.offer found) in

@@ -1,5 +1,5 @@
 use Rattle.std.proofs.Common.{◌+◌, ◌<◌, ◌≤◌, ap, arith, length, ◌∙◌}
-use Rattle.bpf_filter.specs.Sight.{sight_of}
+use Rattle.bpf_filter.specs.PacketFacts.{facts_of}
 use Rattle.bpf_filter.specs.Verdict.{verdict_of}
 use Rattle.bpf_filter.proofs.Checks.{accepted_small}
 use Rattle.bpf_filter.proofs.Runs.{accepted_at, goes_first, goes_further, goes_to_answer, same_accepted}
@@ -17,7 +17,7 @@ returns-in-Answer c =
     goes_to_answer _ _ _ _ _ _ c.loop-answer.invariant
     (accepted_at _ _ _ (same_accepted _ _ c.self.invariant c.as_slice-code.ensures.value) c.loop-answer.invariant.inside)
     c.in-Answer.ensures.next
-    ∙ ap (λ code. verdict_of code (sight_of c.args.packet.now)) (c.as_slice-code.ensures.value ∙ c.self.view_is)
+    ∙ ap (λ code. verdict_of code (facts_of c.args.packet.now)) (c.as_slice-code.ensures.value ∙ c.self.view_is)
 
 pub loop-answer-preserved : goal.loop-answer-preserved
 loop-answer-preserved c =

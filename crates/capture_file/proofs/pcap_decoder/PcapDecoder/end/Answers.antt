@@ -5,9 +5,9 @@ use Rattle.capture_file.proofs.PcapEnding.{end_told, end_sound}
 use Rattle.capture_file.proofs.pcap_decoder.PcapDecoder.end.Goals as goal
 
 pub returns-clause-end : goal.returns-clause-end
-returns-clause-end c cpu fed stands =
+returns-clause-end c cpu fed represents =
     let none = c.is_empty.ensures ∙ ap (λ (n : ℕ). eqb n 0) c.self.inside.kept.ok.0 in
-    c.end.ensures ∙ end_told cpu (pcap_value c.self.inside) c.args.self.now fed c.self.view_is stands c.self.inside.stage c.is_empty.result refl none
+    c.end.ensures ∙ end_told cpu (pcap_value c.self.inside) c.args.self.now fed c.self.view_is represents c.self.inside.stage c.is_empty.result refl none
 
 pub returns-clause-memory : goal.returns-clause-memory
 returns-clause-memory c m =

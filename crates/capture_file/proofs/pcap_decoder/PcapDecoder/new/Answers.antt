@@ -1,5 +1,5 @@
-use Rattle.capture_file.proofs.PcapEnding.{stands_new}
+use Rattle.capture_file.proofs.PcapEnding.{represents_new}
 use Rattle.capture_file.proofs.pcap_decoder.PcapDecoder.new.Goals as goal
 
 pub returns : goal.returns
-returns c = stands_new c.args.cpu _ c.new.ensures.items
+returns c = represents_new c.args.cpu _ c.new.ensures.items

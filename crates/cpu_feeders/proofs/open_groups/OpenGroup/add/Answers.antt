@@ -2,19 +2,19 @@ use Rattle.std.proofs.Common.{◌+◌, length, sym, ap, ◌∙◌, rules}
 use Rattle.turn_lock.proofs.SeatLists.{fresh_long}
 use Rattle.cpu_feeders.specs.inside.Openings.{IsOpened}
 use Rattle.cpu_feeders.proofs.OneMore.{grown_users, zip_more}
-use Rattle.cpu_feeders.proofs.StandLists.{users_long}
+use Rattle.cpu_feeders.proofs.MemberSeatLists.{users_long}
 use Rattle.cpu_feeders.proofs.open_groups.OpenGroup.add.Goals as goal
 
 pub add_to_each-requires : goal.add_to_each-requires
 add_to_each-requires c = record {
-  count = ap length c.in_ok-member.ensures.stands ∙ fresh_long c.in_ok-member.member 0 (c.args.cpus + 1)
+  count = ap length c.in_ok-member.ensures.member_seats ∙ fresh_long c.in_ok-member.member 0 (c.args.cpus + 1)
       ∙ sym (users_long c.args.self.now.members.items 0 (c.args.cpus + 1)) ∙ ap length (sym c.requires.users);
 }
 
 pub returns-clause-users : goal.returns-clause-users
 returns-clause-users c =
     let users = grown_users c.args.self.now.members.items c.push.new.self.items c.in_ok-member.member (c.args.cpus + 1) c.args.self.now.users.items
-    c.add_to_each.new.lists.items c.in_ok-member.stands.items c.requires.users c.in_ok-member.ensures.stands in
+    c.add_to_each.new.lists.items c.in_ok-member.member_seats.items c.requires.users c.in_ok-member.ensures.member_seats in
     search (rules, users, c.in_ok-push.ensures.items)
 
 pub returns-clause-opened : goal.returns-clause-opened

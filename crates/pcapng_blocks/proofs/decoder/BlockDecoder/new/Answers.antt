@@ -3,7 +3,7 @@ use Rattle.pcapng_blocks.specs.declared.byte_order.Order.TheVariants.{Little}
 use Rattle.pcapng_blocks.specs.declared.interfaces.Interface.{Interface}
 use Rattle.std.specs.Prelude.{List}
 use Rattle.pcapng_blocks.specs.Blocks.{Spot}
-use Rattle.pcapng_blocks.proofs.Ending.{sound_new, stands_new}
+use Rattle.pcapng_blocks.proofs.Ending.{sound_new, represents_new}
 use Rattle.pcapng_blocks.proofs.decoder.BlockDecoder.new.Goals as goal
 
 abbrev spot : List Interface → Spot
@@ -17,4 +17,4 @@ invariant_of-result c = record {
 }
 
 pub returns : goal.returns
-returns c = stands_new c.args.cpu c.new.result.items (spot c.new-2.result.items) c.new.ensures.items (ap spot c.new-2.ensures.items)
+returns c = represents_new c.args.cpu c.new.result.items (spot c.new-2.result.items) c.new.ensures.items (ap spot c.new-2.ensures.items)

@@ -11,7 +11,7 @@ fetch_add-ticket-requires g c =
     let idle = idle_of old.me.0.stage old.me.0.seen old.me.1 ok.holds (ap (λ s. s.turn) seen ∙ c.requires.outside) in (
       search rules,
       search rules,
-      draws g.V.Kept.stored g.V.Kept.base g.V.Kept.may_add _ _ _ _ _ old.me ok.stands_for ok.one idle.0
+      draws g.V.Kept.stored g.V.Kept.base g.V.Kept.may_add _ _ _ _ _ old.me ok.represented ok.one idle.0
           (subst (λ (z : ℕ). z < 2 ^ 32) (sym (ap (λ s. s.entered) seen) ∙ ap drawn_in ok.one) c.requires.few),
     )
 

@@ -1,7 +1,7 @@
 use Rattle.std.proofs.Common.{ap, subst, sym}
 use Rattle.ring_model.specs.declared.notes.Note.TheVariants.{Finished}
 use Rattle.slot_model.proofs.Runs.{slot_run_closed, slot_state_push}
-use Rattle.v2_ring.specs.SlotContents.{StandsForSlots}
+use Rattle.v2_ring.specs.SlotContents.{RepresentsSlots}
 use Rattle.v2_ring.specs.SlotProducing.{SlotProducing}
 use Rattle.v2_ring.proofs.producer.SlotProducer.finish.Goals as goal
 
@@ -16,5 +16,5 @@ returns-clause-texts g c =
     let machine = c.self.inside.machine in
     let shape = ap (λ (p : SlotProducing g.row.E.Denot). p.shape) c.self.view_is in
     let feed = g.E.FeederEnd.feed machine.end in
-    let texts = subst (λ s. StandsForSlots machine.shape s.done feed) (sym (slot_state_push c.self.inside.machine.notes.items Finished)) c.self.invariant.at.texts in
+    let texts = subst (λ s. RepresentsSlots machine.shape s.done feed) (sym (slot_state_push c.self.inside.machine.notes.items Finished)) c.self.invariant.at.texts in
     rw (← shape, c.from_vec.ensures, c.push_reserved.ensures.items) texts

@@ -14,7 +14,7 @@ invariant_of-self-2 g c =
     let new = c.take_stats-stats.new.self in
     let step : Stepped feed (slot_state_of notes) Counted machine new = record {
       at = subst (λ (items : List Note). IsSlotAt feed 0 (slot_after (slot_state_of items) Counted) new) c.reserve.ensures.items c.take_stats-stats.ensures.at;
-      stands = tt;
+      may_follow = tt;
       end = same_end (feed machine.end) (feed new.end) (ap feed c.take_stats-stats.ensures.end);
       shape = c.take_stats-stats.ensures.same.0;
     } in
@@ -31,7 +31,7 @@ returns-clause-taken g c =
     let new = c.take_stats-stats.new.self in
     let step : Stepped feed (slot_state_of notes) Counted machine new = record {
       at = subst (λ (items : List Note). IsSlotAt feed 0 (slot_after (slot_state_of items) Counted) new) c.reserve.ensures.items c.take_stats-stats.ensures.at;
-      stands = tt;
+      may_follow = tt;
       end = same_end (feed machine.end) (feed new.end) (ap feed c.take_stats-stats.ensures.end);
       shape = c.take_stats-stats.ensures.same.0;
     } in

@@ -50,7 +50,7 @@ invariant_of-self-2 g c =
     let count = ap (λ (p : SlotProducing g.row.E.Denot). length p.notes) c.self.view_is in
     let few : length notes < 2 ^ 39 = omega (arith, c.requires.few, count) in
     let from : Stepped feed (slot_state_of reserved.notes.items) note reserved new =
-    record { at = c.try_put-found.ensures.at; stands = c.try_put-found.ensures.stands; end = c.try_put-found.ensures.end; shape = c.try_put-found.ensures.same.0 } in
+    record { at = c.try_put-found.ensures.at; may_follow = c.try_put-found.ensures.may_follow; end = c.try_put-found.ensures.end; shape = c.try_put-found.ensures.same.0 } in
     let step = step_reserved feed machine reserved c.reserve.ensures.reserved note new from in
     kept_on feed machine new notes note _ c.self.invariant step c.push_reserved.new.self c.push_reserved.new.self.items _ (slot_goes_try c.args.offer found)
     (rw (c.push_reserved.ensures.items, c.try_put-found.ensures.same.1, c.reserve.ensures.reserved.items, c.noted_try-note.ensures.note) refl)
@@ -68,7 +68,7 @@ returns-clause-tried g c =
     let note = try_by c.args.offer found in
     let new = c.try_put-found.new.self in
     let from : Stepped feed (slot_state_of reserved.notes.items) note reserved new =
-    record { at = c.try_put-found.ensures.at; stands = c.try_put-found.ensures.stands; end = c.try_put-found.ensures.end; shape = c.try_put-found.ensures.same.0 } in
+    record { at = c.try_put-found.ensures.at; may_follow = c.try_put-found.ensures.may_follow; end = c.try_put-found.ensures.end; shape = c.try_put-found.ensures.same.0 } in
     let step = step_reserved feed machine reserved r note new from in
     let pushed : c.push_reserved.new.self.items ≡ notes ++ note ∷ [] =
     rw (c.push_reserved.ensures.items, c.try_put-found.ensures.same.1, r.items, c.noted_try-note.ensures.note) refl in

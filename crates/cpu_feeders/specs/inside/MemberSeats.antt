@@ -16,10 +16,10 @@ with_all lists [] = lists
 with_all lists (column ∷ columns) = with_all (with_each lists column) columns
 
 -- the fresh seats of a user at members with these locks
-abbrev pub fresh_stands : List Lock → ℕ → List Seat
-fresh_stands locks number = map (λ lock. fresh_seat lock number) locks
+abbrev pub fresh_member_seats : List Lock → ℕ → List Seat
+fresh_member_seats locks number = map (λ lock. fresh_seat lock number) locks
 
 -- those of n users, the first of this number
 abbrev pub fresh_users : List Lock → ℕ → ℕ → List (List Seat)
 fresh_users locks number zero = []
-fresh_users locks number (suc more) = fresh_stands locks number ∷ fresh_users locks (number + 1) more
+fresh_users locks number (suc more) = fresh_member_seats locks number ∷ fresh_users locks (number + 1) more

@@ -8,9 +8,9 @@ use lib.ListN.{get_elem?}
 use Rattle.std.proofs.Math.Seq.{take-append_seam}
 use Rattle.atomic_table.specs.Table.{State}
 use Rattle.atomic_table.proofs.Lists.{at_last}
-use Rattle.ring_words.specs.Sights.{IsLook, IsVisit, from_start}
+use Rattle.ring_words.specs.FoundWords.{IsLook, IsVisit, from_start}
 use Rattle.ring_words.specs.TableEnds.{even_count, odd_count}
-use Rattle.ring_words.specs.Tables.{IsRing, LooksStand, VisitsStand}
+use Rattle.ring_words.specs.Tables.{IsRing, LooksAreTrue, VisitsAreTrue}
 use Rattle.ring_words.specs.declared.known.Known.{Known}
 use Rattle.ring_words.proofs.EndMoves.{looks_hold}
 use Rattle.ring_words.proofs.Entries.{entry_at, within}
@@ -25,8 +25,8 @@ last_look P rank before after word is all =
 
 module _ {B : Type 0} (bytes kind_of : B → List ℕ) (ready : B → ℕ → ℕ → Type 0) (kind : List ℕ) where
   -- a look of the feeder
-  pub looks_stand : (s s' : State (Option B) Known) → IsRing bytes kind_of ready kind s → IsRing bytes kind_of ready kind s' → LooksStand s s'
-  looks_stand s s' r r' wide feeder walker fed fed' walked word at at' walker_at walker_at' feeds feeds' walks same more =
+  pub looks_are_true : (s s' : State (Option B) Known) → IsRing bytes kind_of ready kind s → IsRing bytes kind_of ready kind s' → LooksAreTrue s s'
+  looks_are_true s s' r r' wide feeder walker fed fed' walked word at at' walker_at walker_at' feeds feeds' walks same more =
       let n = length s.homes in
       let c = r.course in
       let o = r.owned in
@@ -49,12 +49,12 @@ module _ {B : Type 0} (bytes kind_of : B → List ℕ) (ready : B → ℕ → �
       let round = o.one_round in
       dite (ℕ_discrete (word % 2) 0)
       (λ even.
-      let stands = found.mark even in
-      let below = within (from_start n c.marks) fed.given word stands in
+      let at_place = found.mark even in
+      let below = within (from_start n c.marks) fed.given word at_place in
       let long = length-start n c.marks in
       let marks = r.seen.marks in
       let placed = o.placed fed.given (omega arith) (omega arith) in
-      some-injective word (slice_index s.words (fed.given % n)) (sym stands ∙ placed.stored (omega arith)))
+      some-injective word (slice_index s.words (fed.given % n)) (sym at_place ∙ placed.stored (omega arith)))
       (λ ne.
       let odd : word % 2 ≡ 1 = omega arith in
       let was = found.number odd in
@@ -72,8 +72,8 @@ module _ {B : Type 0} (bytes kind_of : B → List ℕ) (ready : B → ℕ → �
       absurd (omega arith)))
 
   -- a look of the reader
-  pub visits_stand : (s s' : State (Option B) Known) → IsRing bytes kind_of ready kind s → IsRing bytes kind_of ready kind s' → VisitsStand s s'
-  visits_stand s s' r r' wide feeder walker fed walked walked' word at at' walker_at walker_at' feeds walks walks' same more =
+  pub visits_are_true : (s s' : State (Option B) Known) → IsRing bytes kind_of ready kind s → IsRing bytes kind_of ready kind s' → VisitsAreTrue s s'
+  visits_are_true s s' r r' wide feeder walker fed walked walked' word at at' walker_at walker_at' feeds walks walks' same more =
       let n = length s.homes in
       let c = r.course in
       let o = r.owned in
@@ -97,15 +97,15 @@ module _ {B : Type 0} (bytes kind_of : B → List ℕ) (ready : B → ℕ → �
       let round = o.one_round in
       dite (ℕ_discrete (word % 2) 0)
       (λ even.
-      let stands = found.mark even in
-      let below = within (from_start n c.marks) k word stands in
+      let at_place = found.mark even in
+      let below = within (from_start n c.marks) k word at_place in
       let long = length-start n c.marks in
       let marks = r.seen.marks in
       let shown = r.seen.shown in
       dite (dec_le (length c.log) k)
       (λ all.
       let placed = o.placed k (omega arith) (omega arith) in
-      some-injective word (slice_index s.words (k % n)) (sym stands ∙ placed.stored all))
+      some-injective word (slice_index s.words (k % n)) (sym at_place ∙ placed.stored all))
       (λ there.
       let less : k < length c.log = lt_of_not-le there in
       let when = entry_at c.shown_at k (omega arith) in

@@ -21,16 +21,16 @@ use Rattle.slot_layout.specs.SlotLaws.{HaveOneSlotText, SlotSaid}
 use Rattle.slot_layout.specs.SlotTexts.{IsLawfulSlot, SlotBegins, SlotBeginsLawfully, slot_packet_at, slot_tag_at, slot_text}
 use Rattle.slot_layout.proofs.SlotNumbers.{filled_status, may_tpid, numbers, tag_back}
 
-pub record SlotStands (shape : RingRequest) (status : ℕ) (packet : Packet) (bytes : List ℕ) : Type 0 where
+pub record SlotPasses (shape : RingRequest) (status : ℕ) (packet : Packet) (bytes : List ℕ) : Type 0 where
   pub packet_is : slot_packet_at bytes ≡ packet
   pub status_is : number_at 4 0 bytes ≡ status
   pub snap_is : number_at 4 8 bytes ≡ length packet.bytes
   pub tests : slot_text_fault shape bytes ≡ None
 
-pub slot_stands : (shape : RingRequest) (status : ℕ) (packet : Packet) (bytes rest : List ℕ) → IsLawfulSlot shape status packet
-    → bytes ≡ slot_text status packet ++ rest → SlotStands shape status packet bytes
+pub slot_passes : (shape : RingRequest) (status : ℕ) (packet : Packet) (bytes rest : List ℕ) → IsLawfulSlot shape status packet
+    → bytes ≡ slot_text status packet ++ rest → SlotPasses shape status packet bytes
 unfolding slot_packet_at slot_text_fault slot_head_fault slot_vlan_fault address_tests
-slot_stands shape status packet bytes rest lawful e =
+slot_passes shape status packet bytes rest lawful e =
     let n = numbers shape status packet bytes rest lawful e in
     let sound = lawful.sound in
     let h = n.header in
@@ -81,23 +81,23 @@ slot_stands shape status packet bytes rest lawful e =
     }
 
 -- a slot that begins with a lawful text
-pub begins_stands : (shape : RingRequest) (status : ℕ) (packet : Packet) (bytes : List ℕ) → SlotBegins shape status packet bytes
-    → SlotStands shape status packet bytes
-begins_stands shape status packet bytes is =
+pub begins_passing : (shape : RingRequest) (status : ℕ) (packet : Packet) (bytes : List ℕ) → SlotBegins shape status packet bytes
+    → SlotPasses shape status packet bytes
+begins_passing shape status packet bytes is =
     let text = slot_text status packet in
-    slot_stands shape status packet bytes (drop (length text) bytes) is.lawful (split text bytes is.begins)
+    slot_passes shape status packet bytes (drop (length text) bytes) is.lawful (split text bytes is.begins)
 
 -- ---- a text has one meaning
 
-text_stands : (shape : RingRequest) (said : SlotSaid) → IsLawfulSlot shape said.status said.packet
-    → SlotStands shape said.status said.packet (slot_text said.status said.packet)
-text_stands shape said lawful =
-    slot_stands shape said.status said.packet (slot_text said.status said.packet) [] lawful (sym (append-nil (slot_text said.status said.packet)))
+text_passes : (shape : RingRequest) (said : SlotSaid) → IsLawfulSlot shape said.status said.packet
+    → SlotPasses shape said.status said.packet (slot_text said.status said.packet)
+text_passes shape said lawful =
+    slot_passes shape said.status said.packet (slot_text said.status said.packet) [] lawful (sym (append-nil (slot_text said.status said.packet)))
 
 pub one_slot_text : (shape : RingRequest) (first second : SlotSaid) → HaveOneSlotText shape first second → first ≡ second
 one_slot_text shape first second h =
-    let a = text_stands shape first h.lawful in
-    let b = subst (λ (text : List ℕ). SlotStands shape second.status second.packet text) (sym h.same) (text_stands shape second h.other) in
+    let a = text_passes shape first h.lawful in
+    let b = subst (λ (text : List ℕ). SlotPasses shape second.status second.packet text) (sym h.same) (text_passes shape second h.other) in
     let status : first.status ≡ second.status = sym a.status_is ∙ b.status_is in
     let packet : first.packet ≡ second.packet = sym a.packet_is ∙ b.packet_is in
     λ i. record { status = status i; packet = packet i }
@@ -105,7 +105,7 @@ one_slot_text shape first second h =
 -- a slot that is refused begins with no lawful text
 pub refused : (shape : RingRequest) (bytes : List ℕ) (fault : LayoutError) → Some fault ≡ slot_text_fault shape bytes
     → (status : ℕ) (packet : Packet) → SlotBegins shape status packet bytes → ⊥
-refused shape bytes fault e status packet begins = none-some fault (sym (e ∙ (begins_stands shape status packet bytes begins).tests))
+refused shape bytes fault e status packet begins = none-some fault (sym (e ∙ (begins_passing shape status packet bytes begins).tests))
 
 pub refused_lawful : (shape : RingRequest) (bytes : List ℕ) (fault : LayoutError) → Some fault ≡ slot_text_fault shape bytes
     → (status : ℕ) → SlotBeginsLawfully shape status bytes → ⊥

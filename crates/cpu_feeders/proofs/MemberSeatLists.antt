@@ -5,7 +5,7 @@ use Rattle.std.specs.List.{AllByRecursion}
 use Rattle.std.proofs.lemmas.List.{map-append}
 use Rattle.member_turns.specs.Seats.{Lock, Seat}
 use Rattle.turn_lock.specs.Seats.{fresh_seat, fresh_seats}
-use Rattle.cpu_feeders.specs.inside.Stands.{fresh_stands, fresh_users, with_all, with_each}
+use Rattle.cpu_feeders.specs.inside.MemberSeats.{fresh_member_seats, fresh_users, with_all, with_each}
 
 module _ {A : Type 0} where
   pub with_each_long : (lists : List (List A)) (items : List A) → length (with_each lists items) ≡ length lists
@@ -69,57 +69,57 @@ pub users_long : (locks : List Lock) (number count : ℕ) → length (fresh_user
 users_long locks number zero = refl
 users_long locks number (suc count) = ap suc (users_long locks (number + 1) count)
 
-pub no_stands : (number count : ℕ) → fresh_users [] number count ≡ replicate count []
-no_stands number zero = refl
-no_stands number (suc count) = ap (λ (ls : List (List Seat)). [] ∷ ls) (no_stands (number + 1) count)
+pub no_member_seats : (number count : ℕ) → fresh_users [] number count ≡ replicate count []
+no_member_seats number zero = refl
+no_member_seats number (suc count) = ap (λ (ls : List (List Seat)). [] ∷ ls) (no_member_seats (number + 1) count)
 
 -- one member more
 pub one_member : (locks : List Lock) (lock : Lock) (number count : ℕ)
     → with_each (fresh_users locks number count) (fresh_seats lock number count) ≡ fresh_users (locks ++ lock ∷ []) number count
 one_member locks lock number zero = refl
 one_member locks lock number (suc count) =
-    let stands : fresh_stands locks number ++ fresh_seat lock number ∷ [] ≡ fresh_stands (locks ++ lock ∷ []) number =
+    let member_seats : fresh_member_seats locks number ++ fresh_seat lock number ∷ [] ≡ fresh_member_seats (locks ++ lock ∷ []) number =
     sym (map-append (λ (l : Lock). fresh_seat l number) locks (lock ∷ [])) in
-    ap (λ (s : List Seat). s ∷ with_each (fresh_users locks (number + 1) count) (fresh_seats lock (number + 1) count)) stands
-    ∙ ap (λ (ls : List (List Seat)). fresh_stands (locks ++ lock ∷ []) number ∷ ls) (one_member locks lock (number + 1) count)
+    ap (λ (s : List Seat). s ∷ with_each (fresh_users locks (number + 1) count) (fresh_seats lock (number + 1) count)) member_seats
+    ∙ ap (λ (ls : List (List Seat)). fresh_member_seats (locks ++ lock ∷ []) number ∷ ls) (one_member locks lock (number + 1) count)
 
 last_next : (locks : List Lock) (number count : ℕ)
-    → fresh_users locks number (suc count) ≡ fresh_users locks number count ++ fresh_stands locks (number + count) ∷ []
-last_next locks number zero = ap (λ (n : ℕ). fresh_stands locks n ∷ []) (let g : number ≡ number + 0 = omega arith in g)
+    → fresh_users locks number (suc count) ≡ fresh_users locks number count ++ fresh_member_seats locks (number + count) ∷ []
+last_next locks number zero = ap (λ (n : ℕ). fresh_member_seats locks n ∷ []) (let g : number ≡ number + 0 = omega arith in g)
 last_next locks number (suc count) =
-    ap (λ (ls : List (List Seat)). fresh_stands locks number ∷ ls)
+    ap (λ (ls : List (List Seat)). fresh_member_seats locks number ∷ ls)
     (last_next locks (number + 1) count
-    ∙ ap (λ (n : ℕ). fresh_users locks (number + 1) count ++ fresh_stands locks n ∷ []) (let g : number + 1 + count ≡ number + suc count = omega arith in g))
+    ∙ ap (λ (n : ℕ). fresh_users locks (number + 1) count ++ fresh_member_seats locks n ∷ []) (let g : number + 1 + count ≡ number + suc count = omega arith in g))
 
 -- the last user's seats
-pub last_user : (locks : List Lock) (count : ℕ) → fresh_users locks 0 (count + 1) ≡ fresh_users locks 0 count ++ fresh_stands locks count ∷ []
+pub last_user : (locks : List Lock) (count : ℕ) → fresh_users locks 0 (count + 1) ≡ fresh_users locks 0 count ++ fresh_member_seats locks count ∷ []
 last_user locks count =
     ap (fresh_users locks 0) (let g : count + 1 ≡ suc count = omega arith in g) ∙ last_next locks 0 count
-    ∙ ap (λ (n : ℕ). fresh_users locks 0 count ++ fresh_stands locks n ∷ []) (let g : 0 + count ≡ count = omega arith in g)
+    ∙ ap (λ (n : ℕ). fresh_users locks 0 count ++ fresh_member_seats locks n ∷ []) (let g : 0 + count ≡ count = omega arith in g)
 
 -- ---- a loop over seats
 
-pub next_within : (all done rest after : List Seat) (stand : Seat) (first now : List (List Seat)) (at : ℕ) → all ≡ done ++ rest → rest ≡ stand ∷ after
+pub next_within : (all done rest after : List Seat) (member_seat : Seat) (first now : List (List Seat)) (at : ℕ) → all ≡ done ++ rest → rest ≡ member_seat ∷ after
     → length done ≡ at → now ≡ with_each first done → length all ≡ length first → at < length now
-next_within all done rest after stand first now at parts next count are same =
+next_within all done rest after member_seat first now at parts next count are same =
     let whole = ap length parts ∙ length-append done rest in
     let left = ap length next in
     let long = ap length are ∙ with_each_long first done in
     omega (arith, whole, left, long, count, same)
 
-pub next_stand : (all done rest after : List Seat) (stand : Seat) (first now : List (List Seat)) (here more : List Seat) (at : ℕ) → all ≡ done ++ rest
-    → rest ≡ stand ∷ after → length done ≡ at → now ≡ with_each first done → length all ≡ length first → here ≡ get_or now at here → more ≡ here ++ stand ∷ []
+pub next_member_seat : (all done rest after : List Seat) (member_seat : Seat) (first now : List (List Seat)) (here more : List Seat) (at : ℕ) → all ≡ done ++ rest
+    → rest ≡ member_seat ∷ after → length done ≡ at → now ≡ with_each first done → length all ≡ length first → here ≡ get_or now at here → more ≡ here ++ member_seat ∷ []
     → (front : List Seat) × (all ≡ front ++ after) × (length front ≡ at + 1) × (set now at more ≡ with_each first front)
-next_stand all done rest after stand first now here more at parts next count are same here_is more_is =
-    let within = next_within all done rest after stand first now at parts next count are same in
+next_member_seat all done rest after member_seat first now here more at parts next count are same here_is more_is =
+    let within = next_within all done rest after member_seat first now at parts next count are same in
     let inside : at < length first = let long = ap length are ∙ with_each_long first done in omega (arith, within, long) in
-    let grown : more ≡ get_or (with_each first done) at here ++ stand ∷ [] =
-    more_is ∙ ap (λ (list : List Seat). list ++ stand ∷ []) (here_is ∙ ap (λ (ls : List (List Seat)). get_or ls at here) are) in
-    let long = length-append done (stand ∷ []) in (
-      done ++ stand ∷ [],
-      parts ∙ ap (λ (ss : List Seat). done ++ ss) next ∙ sym (append_assoc done (stand ∷ []) after),
+    let grown : more ≡ get_or (with_each first done) at here ++ member_seat ∷ [] =
+    more_is ∙ ap (λ (list : List Seat). list ++ member_seat ∷ []) (here_is ∙ ap (λ (ls : List (List Seat)). get_or ls at here) are) in
+    let long = length-append done (member_seat ∷ []) in (
+      done ++ member_seat ∷ [],
+      parts ∙ ap (λ (ss : List Seat). done ++ ss) next ∙ sym (append_assoc done (member_seat ∷ []) after),
       omega (arith, long, count),
-      ap (λ (ls : List (List Seat)). set ls at more) are ∙ ap (set (with_each first done) at) grown ∙ with_next first done stand at here count inside,
+      ap (λ (ls : List (List Seat)). set ls at more) are ∙ ap (set (with_each first done) at) grown ∙ with_next first done member_seat at here count inside,
     )
 
 -- ---- the last of a list

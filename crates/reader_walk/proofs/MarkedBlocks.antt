@@ -10,7 +10,7 @@ use Rattle.tp_layout.specs.declared.requests.RingRequest.{RingRequest}
 use Rattle.reader_walk.specs.Readers.{kept_texts, texts_by, walked_of}
 use Rattle.reader_walk.specs.ReadersInside.{mark_of, packets_in, taken_by}
 use Rattle.reader_walk.specs.Texts.{kept_if}
-use Rattle.reader_walk.specs.declared.piles.Mark.{Mark}
+use Rattle.reader_walk.specs.declared.copies.Mark.{Mark}
 
 pub as_many : (marks : List Mark) (packets : List Packet) → length (taken_by marks packets) ≡ length marks
 unfolding taken_by

@@ -1,6 +1,6 @@
 use Rattle.tap_engine.specs.Commands.{rings_of}
 use Rattle.tap_engine.proofs.Ends.{report_once}
-use Rattle.tap_engine.proofs.laws.each_frame_of_a_run_stands_exactly_once.Goals as goal
+use Rattle.tap_engine.proofs.laws.each_frame_of_a_run_appears_exactly_once.Goals as goal
 
 pub returns : goal.returns
 returns c held named h =

@@ -2,7 +2,7 @@
 use Rattle.std.specs.Prelude.{ℕ, List}
 use Rattle.bpf_filter.specs.declared.packets.Seen.{Seen}
 
-pub record Sight : Type 0 where
+pub record PacketFacts : Type 0 where
   -- the captured bytes
   pub bytes : List ℕ
   -- the length on the wire
@@ -14,8 +14,8 @@ pub record Sight : Type 0 where
   pub cpu : ℕ
 
 -- what the code's packet shows
-abbrev pub sight_of : Seen → Sight
-sight_of seen = record {
+abbrev pub facts_of : Seen → PacketFacts
+facts_of seen = record {
   bytes = seen.bytes.now;
   wire = seen.wire;
   protocol = seen.protocol;

@@ -19,7 +19,7 @@ pub(crate) struct Mark {
 
 /// What was read.
 #[derive(Drop)]
-pub(crate) struct Pile {
+pub(crate) struct Copies {
     /// The blocks or slots, in order.
     pub(crate) marks: Vec<Mark>,
     /// Their packets, in order.
@@ -28,7 +28,7 @@ pub(crate) struct Pile {
     pub(crate) dump: Vec<u8>,
 }
 
-impl Pile {
+impl Copies {
     ghost use Rattle.reader_walk.specs.ReadersInside.{mark_of};
 
     /// Adds a block or a slot that may be retired, with copies of its packets, and with its text if
