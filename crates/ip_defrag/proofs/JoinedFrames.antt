@@ -1,12 +1,14 @@
 -- A frame that joins the group at a place.
-use Rattle.std.proofs.Common.{◌≡◌, ℕ, zero, suc, ◌+◌, ◌<◌, true, false, List, [], ◌∷◌, ◌++◌, length, length-append, set, get_or, Option, None, Some, is_some, refl, ap, ◌∙◌, sym}
+use Rattle.std.proofs.Common.{◌≡◌, ℕ, zero, suc, ◌+◌, ◌<◌, true, false, List, [], ◌∷◌, ◌++◌, length, length-append, set, get_or, Option, None, Some, is_some, refl, ap, ◌∙◌, sym, subst}
 use Rattle.std.specs.List.{remove}
-use Rattle.std.proofs.lemmas.List.{get_or_default, get_or-set_same}
+use Rattle.std.proofs.lemmas.List.{get_or_default, get_or-set_same, set-get_or}
 use Rattle.std.proofs.lemmas.Bool.{true≢false}
 use Rattle.frame_view.specs.declared.frames.Frame.{Frame}
 use Rattle.ip_defrag.specs.Datagrams.{completed}
-use Rattle.ip_defrag.specs.Grouped.{Group, Joined, held_by, joined_whole, with_frame, completed_with, IsHeld}
+use Rattle.ip_defrag.specs.Grouped.{Group, Joined, held_by, joined_whole, with_frame, completed_with, joined, joined_by, judgement, IsHeld, IsJoined}
 use Rattle.ip_defrag.specs.declared.passes.Answer.{Answer}
+use Rattle.ip_defrag.specs.declared.rules.Judgement.{Judgement}
+use Rattle.ip_defrag.specs.declared.rules.Judgement.TheVariants.{Fits}
 
 -- what was read at a place
 pub read_at : {X : Type 0} (xs : List X) (at : ℕ) (x d : X) → at < length xs → x ≡ get_or xs at x → x ≡ get_or xs at d
@@ -52,3 +54,20 @@ none_held frame group new some at whole h read p q none =
 pub some_held : (frame : Frame) (group new taken : Group) (some left : List Group) (at used : ℕ) (whole : Option Frame) → at < length some → group ≡ get_or some at group → new ≡ with_frame frame group → whole ≡ completed_with frame group.fragments → is_some whole ≡ true → left ≡ remove (set some at new) at → taken ≡ get_or (set some at new) at taken → used ≡ length taken.fragments → IsHeld frame at some left (record { whole = whole; used = used })
 some_held frame group new taken some left at used whole h read p q is l t u =
     parts frame at some left (record { whole = whole; used = used }) group (λ d. read_at some at group d h read) (holds_some frame group new taken some left at used whole h p q is l t u)
+
+-- a frame that fits joins a group that is as before
+pub fits_joined : (frame : Frame) (at : ℕ) (some left : List Group) (group same : Group) (answer : Answer) → at < length some → group ≡ get_or some at group → same ≡ group → judgement frame group.fragments ≡ Fits → IsHeld frame at (set some at same) left answer → IsJoined frame at some left answer
+unfolding joined
+fits_joined frame at some left group same answer h read unchanged fits held =
+    let whole : set some at same ≡ some = ap (λ (g : Group). set some at g) (unchanged ∙ read) ∙ set-get_or some at group in
+    let is = subst (λ (gs : List Group). IsHeld frame at gs left answer) whole held in
+    record {
+      left_is = λ d. is.left_is d ∙ ap (λ (j : Joined). j.left) (it d);
+      whole_is = λ d. is.whole_is d ∙ ap (λ (j : Joined). j.whole) (it d);
+      used_is = λ d. is.used_is d ∙ ap (λ (j : Joined). j.used) (it d);
+    }
+  where
+    it : (d : Group) → held_by frame (get_or some at d) some at ≡ joined frame (get_or some at d) some at
+    it d =
+        let here = read_at some at group d h read in
+        sym (ap (λ (j : Judgement). joined_by j frame (get_or some at d) some at) (ap (λ (g : Group). judgement frame g.fragments) (sym here) ∙ fits))

@@ -1,6 +1,6 @@
 -- What a new frame is to held ones: any one that it conflicts with tells it, and where it shares no place with any, its place and
 -- the end do.
-use Rattle.std.proofs.Common.{◌≡◌, ◌⊎◌, ℕ, zero, suc, ◌-◌, ◌*◌, ◌/◌, ◌<◌, ◌≤◌, max, Bool, true, false, ◌&&◌, ◌||◌, nat_lt, length, get_or, subst, inl, inr, List, [], ◌∷◌, Option, None, Some, option_map, is_some, find, cond, if◌then◌else◌, arith, refl, ap, ◌∙◌, sym}
+use Rattle.std.proofs.Common.{◌≡◌, ◌⊎◌, ℕ, zero, suc, ◌-◌, ◌*◌, ◌/◌, ◌<◌, ◌≤◌, max, Bool, true, false, ◌&&◌, ◌||◌, nat_lt, length, get_or, inl, inr, List, [], ◌∷◌, Option, None, Some, option_map, is_some, find, cond, if◌then◌else◌, arith, refl, ap, ◌∙◌, sym}
 use Rattle.std.specs.List.{list_any, AllByRecursion}
 use Rattle.std.proofs.lemmas.Bool.{cases_lt, lt-ltb, or_parts, or_from, both_ways}
 use Rattle.std.proofs.lemmas.Bool.Decides.{nat_tests}

@@ -1,18 +1,19 @@
 -- The marks of a datagram's units: what one says, and what is marked for one frame more.
-use Rattle.std.proofs.Common.{◌≡◌, ◌⊎◌, ℕ, zero, suc, ◌+◌, ◌-◌, ◌*◌, ◌/◌, ◌<◌, ◌≤◌, max, min, Bool, true, false, ◌||◌, List, [], ◌∷◌, ◌++◌, length, take, drop, replicate, get_or, find, nat_lt, cond, Option, None, Some, arith, refl, ap, sym, subst, ◌∙◌, inl, inr, length-append, length-drop}
-use Rattle.std.proofs.lemmas.Bool.{both_ways, cases_lt, or_parts, ltb-true, ltb-false}
+use Rattle.std.proofs.Common.{◌≡◌, ℕ, zero, suc, ◌+◌, ◌-◌, ◌*◌, ◌/◌, ◌<◌, ◌≤◌, max, min, Bool, true, false, ◌||◌, List, [], ◌∷◌, ◌++◌, length, take, drop, replicate, get_or, find, nat_lt, cond, None, Some, arith, refl, ap, sym, subst, ◌∙◌, inl, inr, length-append, length-drop}
+use Rattle.std.proofs.lemmas.Bool.{cases_lt, or_parts, ltb-true, ltb-false}
 use Rattle.std.proofs.lemmas.Bool.Decides.{nat_tests}
 use Rattle.std.proofs.Math.ListN.{drop_of_length-le}
 use Rattle.std.proofs.Math.Seq.{take-length}
-use Rattle.std.proofs.lemmas.List.{append-nil, get_or_append_left, get_or-append_right, get_or-drop, get_or-replicate, get_or-take, length-replicate, length-take, length-take-le}
+use Rattle.std.proofs.lemmas.List.{append-nil, get_or_append_left, get_or-append_right, get_or-drop, get_or-replicate, get_or-take, length-replicate, length-take, length-take-le, take_more}
 use Rattle.std.proofs.lemmas.Option.{same_Some, none-some}
 use Rattle.frame_view.specs.declared.frames.Frame.{Frame}
 use Rattle.ip_defrag.specs.Datagrams.{covers, is_covered}
 use Rattle.ip_defrag.specs.Extents.{reach_of}
 use Rattle.ip_defrag.specs.Fragments.{from_of, to_of}
 use Rattle.ip_defrag.specs.Held.{AreHeld}
-use Rattle.ip_defrag.specs.Marks.{AreMarks, holder, marked, own_marks, units_to}
-use Rattle.ip_defrag.proofs.Filled.{last_alone}
+use Rattle.ip_defrag.specs.Marks.{AreMarked, AreMarks, holder, marked, own_marks, units_to}
+use Rattle.ip_defrag.specs.declared.marks.Marks.{Marks}
+use Rattle.ip_defrag.proofs.Filled.{held_take, last_alone}
 
 -- a unit and its first place
 pub unit_of_from : (frame : Frame) → 8 * (from_of frame / 8) ≡ from_of frame
@@ -302,3 +303,40 @@ marks_after marks wide new_marks frames new from to last number len are held som
     let as_long : length new_marks ≡ len = ap length is ∙ length-marked wide (from / 8) last number order within ∙ same in
     subst (λ (ms : List ℕ). AreMarks ms (frames ++ new ∷ []))
     (ap (λ (n : ℕ). marked (from / 8) last n wide) (sym count) ∙ sym is ∙ sym (lent len new_marks wide as_long same)) after
+
+-- marks of no frame, of any frames
+pub marked_none : (marks : Marks) (frames : List Frame) → marks.units.items ≡ [] → marks.count ≡ 0 → AreMarked marks frames
+marked_none marks frames none few = record {
+  few = omega (arith, few);
+  are = rw (none, few) marks_none;
+}
+
+-- the same marks, of one frame more
+take_before : (count : ℕ) (frames : List Frame) (new : Frame) → count ≤ length frames → take count (frames ++ new ∷ []) ≡ take count frames
+take_before zero frames new few = refl
+take_before (suc count) [] new few = absurd (omega (arith, few))
+take_before (suc count) (frame ∷ frames) new few = ap (λ (fs : List Frame). frame ∷ fs) (take_before count frames new (omega (arith, few)))
+
+pub marked_more : (marks : Marks) (frames : List Frame) (new : Frame) → AreMarked marks frames → AreMarked marks (frames ++ new ∷ [])
+marked_more marks frames new are =
+    let few = are.few in
+    let all = length-append frames (new ∷ []) in
+    record {
+      few = omega (arith, few, all);
+      are = rw (take_before marks.count frames new few) are.are;
+    }
+
+-- the marks after the next frame was marked
+pub marked_next : (marks : Marks) (wide new_marks : List ℕ) (frames : List Frame) (new : Frame) (from to last len : ℕ) → AreMarked marks frames → AreHeld frames
+    → marks.count < length frames → new ≡ get_or frames marks.count new → from_of new < to_of new → from ≡ from_of new → to ≡ to_of new → last ≡ units_to to
+    → wide ≡ marks.units.items ++ replicate (last - length marks.units.items) 0 → length wide ≡ len → new_marks ≡ marked (from / 8) last (marks.count + 1) wide
+    → AreMarks (take len (new_marks ++ drop (length new_marks) wide)) (take (marks.count + 1) frames)
+marked_next marks wide new_marks frames new from to last len are held below is some begins ends all padded same made =
+    let before = take marks.count frames in
+    let few = are.few in
+    let as_many = length-take-le marks.count frames few in
+    let more : take (marks.count + 1) frames ≡ before ++ new ∷ [] =
+    take_more frames marks.count new below ∙ ap (λ (f : Frame). before ++ f ∷ []) (sym is) in
+    let these : AreHeld (before ++ new ∷ []) = subst AreHeld more (held_take frames (marks.count + 1) held) in
+    let number : marks.count + 1 ≡ length before + 1 = omega (arith, as_many) in
+    rw more (marks_after marks.units.items wide new_marks before new from to last (marks.count + 1) len are.are these some begins ends all number padded same made)

@@ -1,19 +1,21 @@
 //! The fragments of one datagram, as far as they were pushed.
-ghost use Rattle.std.specs.Prelude.{◌≡◌, ◌+◌, ◌≤◌, ◌++◌, ◌∷◌, [], IfErr, IfOk, OnErr, OnOk, true};
+ghost use Rattle.std.specs.Prelude.{◌≡◌, ◌≤◌, ◌<◌, ◌++◌, ◌∷◌, [], IfErr, IfOk, OnErr, OnOk, true};
 ghost use Rattle.std.specs.Prelude.{false, length};
-ghost use Rattle.ip_defrag.specs.Fragments.{takes_part};
-ghost use Rattle.ip_defrag.specs.Extents.{AreKept};
+ghost use Rattle.ip_defrag.specs.Fragments.{from_of, takes_part, to_of};
+ghost use Rattle.ip_defrag.specs.Extents.{AreKept, reach_of};
 ghost use Rattle.ip_defrag.specs.Grouped.{FitsIn, completed_with, is_fresh, is_live, judgement};
 ghost use Rattle.ip_defrag.specs.Grouped.{opened_by, with_frame};
+ghost use Rattle.ip_defrag.specs.Held.{AreHeld};
+ghost use Rattle.ip_defrag.specs.Marks.{AreMarks};
 
 use crate::NoPush;
 use crate::extents::Extent;
 use crate::fragments::Fragment;
-use crate::marks::{UNIT, mark, met, units_to, widen};
+use crate::marks::{Marks, met};
 use crate::names::Name;
 use crate::rules::{Judgement, apart, beside};
 use crate::wholes::completed;
-use frame_view::Frame;
+use frame_view::{Frame, Memory};
 use std::alloc::Global;
 use std::marker::Model;
 
@@ -29,8 +31,8 @@ pub(crate) struct Datagram {
     opened: u32,
     /// The fragments, in the order in which they were pushed.
     fragments: Vec<Fragment>,
-    /// Which of them has which unit of eight bytes: its number, from 1, and 0 where none has it.
-    marks: Vec<u16>,
+    /// Which of them has which unit of eight bytes, as far as they are marked.
+    marks: Marks,
     /// What they are in all.
     extent: Extent,
 }
@@ -41,7 +43,7 @@ impl Model for Datagram {
     ghost Value = { Group };
 
     ghost use Rattle.ip_defrag.specs.Extents.{AreKept};
-    ghost use Rattle.ip_defrag.specs.Marks.{AreMarks};
+    ghost use Rattle.ip_defrag.specs.Marks.{AreMarked};
 
     ghost view = { λ it. record {
       name = it.name;
@@ -50,7 +52,7 @@ impl Model for Datagram {
     } };
 
     ghost invariant = { λ it.
-        AreKept it.fragments.items it.extent × AreMarks it.marks.items it.fragments.items };
+        AreKept it.fragments.items it.extent × AreMarked it.marks it.fragments.items };
 }
 
 impl Datagram {
@@ -62,14 +64,6 @@ impl Datagram {
         let name = fragment.name();
         let opened = fragment.frame().sec;
         let extent = Extent::new().with(&fragment);
-        let (first, last) = (fragment.from() / UNIT, units_to(fragment.to()));
-        let mut marks = Vec::new(alloc);
-        if let Err(_) = widen(&mut marks, last) {
-            return Err(NoPush {
-                frame: fragment.into_frame(),
-            });
-        }
-        mark(&mut marks, first, last, 1);
         let mut fragments = Vec::new(alloc);
         if let Err(refused) = fragments.push(fragment) {
             return Err(NoPush {
@@ -80,7 +74,7 @@ impl Datagram {
             name,
             opened,
             fragments,
-            marks,
+            marks: Marks::new(alloc),
             extent,
         })
     }
@@ -108,19 +102,18 @@ impl Datagram {
         self.fragments.len() as u32
     }
 
-    /// What a new fragment is to its fragments. One that shares no place with any contradicts an
-    /// end where it lies after all of them and one is last, or before one of them and is last
-    /// itself.
-    pub(crate) fn judge(&self, new: &Fragment) -> Judgement
-        ensures { result ≡ judgement new.now self.now.fragments }
+    /// What a new fragment is to its fragments. One that shares no place with any contradicts an end
+    /// where it lies after all of them and one is last, or before one of them and is last itself.
+    /// Its fragments are marked where the new one begins before the end of one of them.
+    pub(crate) fn judge(&mut self, new: &Fragment) -> Result<Judgement, Memory>
+        ensures judged { IfOk result (λ is. is ≡ judgement new.now self.old.fragments) }
+        ensures same { self.new ≡ self.old }
     {
         if new.from() >= self.extent.reach {
-            return apart(self.extent.end.is_some());
+            return Ok(apart(self.extent.end.is_some()));
         }
-        match met(&self.marks, new) {
-            Some(number) => beside(new, &self.fragments[number as usize - 1]),
-            None => apart(new.is_last()),
-        }
+        self.marks.mark_all(&self.fragments)?;
+        Ok(judge_marked(&self.marks.units, &self.fragments, new))
     }
 
     /// Adds a fragment, and gives the datagram's frame where that completes it. After `NoPush`
@@ -133,18 +126,24 @@ impl Datagram {
         ensures unchanged { OnErr result (self.new ≡ self.old) }
         ensures handed_back { IfErr result (λ no. no.frame ≡ fragment) }
     {
-        let (first, last) = (fragment.from() / UNIT, units_to(fragment.to()));
-        if let Err(_) = widen(&mut self.marks, last) {
-            return Err(NoPush {
-                frame: fragment.into_frame(),
-            });
-        }
-        let number = (self.fragments.len() + 1) as u16;
         let extent = self.extent.with(&fragment);
         let whole = add_to(alloc, &mut self.fragments, extent, fragment)?;
-        mark(&mut self.marks, first, last, number);
         self.extent = extent;
         Ok(whole)
+    }
+}
+
+/// What a fragment is to others that are all marked, where it begins before the end of one of them.
+fn judge_marked(marks: &[u16], fragments: &[Fragment], new: &Fragment) -> Judgement
+    requires held { AreHeld fragments.now }
+    requires marked { AreMarks marks.now fragments.now }
+    requires early { from_of new.now < reach_of fragments.now }
+    requires some { from_of new.now < to_of new.now }
+    ensures { result ≡ judgement new.now fragments.now }
+{
+    match met(marks, new) {
+        Some(number) => beside(new, &fragments[number as usize - 1]),
+        None => apart(new.is_last()),
     }
 }
 

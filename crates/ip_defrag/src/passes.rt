@@ -106,7 +106,12 @@ fn join(
         whole: None,
         used: 0,
     };
-    match datagrams[at].judge(&fragment) {
+    let Ok(judgement) = datagrams[at].judge(&fragment) else {
+        return Err(NoPush {
+            frame: fragment.into_frame(),
+        });
+    };
+    match judgement {
         Judgement::Copy => Ok(nothing),
         Judgement::Conflict => {
             datagrams.remove(at);
