@@ -167,7 +167,9 @@ fn try_round<D: Desk>(
 {
     let mut member = home;
     let mut offer = offer;
-    for _turn in 0..members {
+    for turn in 0..members {
+        // Twice the room, but for no more tries than there may be.
+        tries.reserve_exact(turn.min(members + 1 - turn) as usize)?;
         match try_at(desk, member, offer, tries)? {
             None => return Ok(None),
             Some(back) => offer = back,

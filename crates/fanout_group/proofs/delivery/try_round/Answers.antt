@@ -12,18 +12,18 @@ try_at-requires-clause-takes g c =
 
 pub try_at-requires-clause-few : goal.try_at-requires-clause-few
 try_at-requires-clause-few g c =
-    omega (arith, ap length c.loop-turn.invariant.tried, length-refused_from c.args.members c.args.home c.loop-turn._turn, c.loop-turn-test.true, c.requires.few)
+    omega (arith, ap length c.loop-turn.invariant.tried, length-refused_from c.args.members c.args.home c.loop-turn.turn, c.loop-turn-test.true, c.requires.few)
 
 pub loop-turn-preserved : goal.loop-turn-preserved
 loop-turn-preserved g c =
     let inv = c.loop-turn.invariant in
     let done = c.in_ok-try_at.ensures in
-    let next = turned c.args.members c.args.home c.loop-turn._turn c.loop-turn.member c.in_ok-try_at.field-0 c.in-Some.back _ _ _ _ _
-    inv.tried inv.told inv.member c.in-Some.is done.tells in
+    let next = turned c.args.members c.args.home c.loop-turn.turn c.loop-turn.member c.in_ok-try_at.field-0 c.in-Some.back _ _ _ _ _
+    inv.tried (c.reserve_exact.ensures.items ∙ inv.told) inv.member c.in-Some.is done.tells in
     record {
       tried = next.tried;
       told = next.told;
-      member = ap (λ m. (m + 1) % c.args.members) inv.member ∙ sym (behind-add_1 c.args.members c.args.home c.loop-turn._turn);
+      member = ap (λ m. (m + 1) % c.args.members) inv.member ∙ sym (behind-add_1 c.args.members c.args.home c.loop-turn.turn);
       below = omega (arith, inv.below);
       offer = of_some (λ (o : Offer). o ≡ c.loop-turn.offer) c.in_ok-try_at.field-0 c.in-Some.back c.in-Some.is done.back ∙ inv.offer;
       same = takes-further _ _ _ inv.same done.same;
