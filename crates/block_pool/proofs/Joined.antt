@@ -5,14 +5,14 @@ use Rattle.std.specs.List.{AllByRecursion, AllZip}
 use Rattle.std.proofs.lemmas.List.{length-drop, length-map, length-take-le}
 use Rattle.block_pool.specs.Pieces.{IsPieceOf}
 use Rattle.block_pool.specs.inside.Reports.{AreOutputsOf}
-use Rattle.block_pool.specs.inside.Shelves.{AreFull, HasPlaceIn, counts_of, empty_shelf, put_each, read_of}
+use Rattle.block_pool.specs.inside.PieceTables.{AreFull, HasPlaceIn, counts_of, empty_table, put_each, read_of}
 use Rattle.block_pool.specs.Takers.{HandingValue, HasNumbered, first_takers, handing_base, handing_taken}
 use Rattle.block_pool.specs.Workers.{HasDecoded, IsFreshPassOf}
 use Rattle.block_pool.specs.declared.pieces.Piece.{Piece}
-use Rattle.block_pool.specs.declared.workers.Decoder.{Decoder}
-use Rattle.block_pool.proofs.Hired.{all_drop, all_take, fresh_ones, own_ones, passes_long}
+use Rattle.block_pool.specs.declared.workers.PoolWorker.{PoolWorker}
+use Rattle.block_pool.proofs.FreshThreads.{all_drop, all_take, fresh_ones, own_ones, passes_long}
 use Rattle.block_pool.proofs.Members.{AreMembers, handed_of, passes_of}
-use Rattle.block_pool.proofs.Pooled.{all_pieces, decoder_passes, decoders_own, empty_for, filled, members_are, outputs_are, pieces_fit, shelves_full, takers_many, takers_own}
+use Rattle.block_pool.proofs.Pooled.{all_pieces, worker_passes, workers_own, empty_for, filled, members_are, outputs_are, pieces_fit, tables_full, takers_many, takers_own}
 use Rattle.block_pool.proofs.Zips.{all_append, zip_long}
 use Rattle.cpu_feeders.specs.Runs.{AreTakersOf}
 use Rattle.reader_walk.specs.declared.outputs.Outputs.{Outputs}
@@ -51,70 +51,70 @@ module _ (queue : QueueValue) (members workers : ℕ) (passes : List PassValue) 
       omega (arith, long, some)
 
 -- as many workers as passes
-pub decoders_long : (decoders : List Decoder) (passes : List PassValue) → decoder_passes decoders ≡ passes → length decoders ≡ length passes
-decoders_long decoders passes is = sym (length-map decoders (λ (d : Decoder). d.pass)) ∙ ap (λ (ps : List PassValue). length ps) is
+pub workers_long : (pool_workers : List PoolWorker) (passes : List PassValue) → worker_passes pool_workers ≡ passes → length pool_workers ≡ length passes
+workers_long pool_workers passes is = sym (length-map pool_workers (λ (d : PoolWorker). d.pass)) ∙ ap (λ (ps : List PassValue). length ps) is
 
--- an empty shelf for each taker
-shelves_of : (takers : List HandingValue) → map (λ (taker : HandingValue). empty_shelf (length taker.pass.handed)) takers ≡ empty_for (handed_of takers)
-shelves_of [] = refl
-shelves_of (taker ∷ takers) = ap (λ (ss : List (List (Option Piece))). empty_shelf (length taker.pass.handed) ∷ ss) (shelves_of takers)
+-- an empty table for each taker
+tables_of : (takers : List HandingValue) → map (λ (taker : HandingValue). empty_table (length taker.pass.handed)) takers ≡ empty_for (handed_of takers)
+tables_of [] = refl
+tables_of (taker ∷ takers) = ap (λ (ss : List (List (Option Piece))). empty_table (length taker.pass.handed) ∷ ss) (tables_of takers)
 
 module _ (shape : RingRequest) (dumps : Bool) (queue : QueueValue) (members workers : ℕ) (passes front back : List PassValue)
     (count : queue.passes ≡ members + workers) (fresh : passes ≡ fresh_passes queue.id (members + workers) 0 (members + workers))
     (front_is : front ≡ take members passes) (back_is : back ≡ drop members passes)
-    (before after : List Decoder) (firsts takers : List HandingValue) (notes : List (List Note)) (firsts_are : firsts ≡ first_takers shape 0 front)
-    (before_are : decoder_passes before ≡ back) (decoded : AllZip (HasDecoded dumps queue) before after)
+    (before after : List PoolWorker) (firsts takers : List HandingValue) (notes : List (List Note)) (firsts_are : firsts ≡ first_takers shape 0 front)
+    (before_are : worker_passes before ≡ back) (decoded : AllZip (HasDecoded dumps queue) before after)
     (ran : AreTakersOf handing_base handing_taken shape notes firsts takers)
-    (joined closing : List PassValue) (joined_are : joined ≡ [] ++ passes_of takers) (closing_are : closing ≡ joined ++ decoder_passes after) where
+    (joined closing : List PassValue) (joined_are : joined ≡ [] ++ passes_of takers) (closing_are : closing ≡ joined ++ worker_passes after) where
   are : AreTakersOf handing_base handing_taken shape notes (first_takers shape 0 front) takers
   are = subst (λ (ts : List HandingValue). AreTakersOf handing_base handing_taken shape notes ts takers) firsts_are ran
 
-  both : closing ≡ passes_of takers ++ decoder_passes after
-  both = closing_are ∙ ap (λ (ps : List PassValue). ps ++ decoder_passes after) joined_are
+  both : closing ≡ passes_of takers ++ worker_passes after
+  both = closing_are ∙ ap (λ (ps : List PassValue). ps ++ worker_passes after) joined_are
 
   pub closes_all : length closing ≡ queue.passes
   closes_all =
-      let sum = ap (λ (ps : List PassValue). length ps) both ∙ length-append (passes_of takers) (decoder_passes after) in
+      let sum = ap (λ (ps : List PassValue). length ps) both ∙ length-append (passes_of takers) (worker_passes after) in
       let first = takers_many shape 0 notes front takers are ∙ front_long queue members workers passes count fresh front front_is in
-      let second = length-map after (λ (d : Decoder). d.pass) ∙ sym (zip_long (HasDecoded dumps queue) before after decoded)
-      ∙ decoders_long before back before_are ∙ back_long queue members workers passes count fresh back back_is in
+      let second = length-map after (λ (d : PoolWorker). d.pass) ∙ sym (zip_long (HasDecoded dumps queue) before after decoded)
+      ∙ workers_long before back before_are ∙ back_long queue members workers passes count fresh back back_is in
       let all = count in
       omega (arith, sum, first, second, all)
 
   pub closes_own : AllByRecursion (IsPassOf queue) closing
   closes_own = subst (λ (ps : List PassValue). AllByRecursion (IsPassOf queue) ps) (sym both)
-      (all_append (IsPassOf queue) (passes_of takers) (decoder_passes after)
+      (all_append (IsPassOf queue) (passes_of takers) (worker_passes after)
       (takers_own shape queue 0 notes front takers are (own_ones queue front (front_fresh queue members workers passes count fresh front front_is)))
-      (decoders_own dumps queue before after decoded))
+      (workers_own dumps queue before after decoded))
 
-  module _ (numbered : AllByRecursion HasNumbered takers) (full : AllByRecursion (λ (d : Decoder). d.full ≡ false) after) (left : List Work)
+  module _ (numbered : AllByRecursion HasNumbered takers) (full : AllByRecursion (λ (d : PoolWorker). d.full ≡ false) after) (left : List Work)
       (history : IsHistory closing left) (more : List Piece) (rest : AllZip (IsPieceOf dumps) left more) (kept pieces : List Piece)
-      (kept_are : kept ≡ all_pieces after) (pieces_are : pieces ≡ kept ++ more) (shelves : List (List (Option Piece)))
-      (shelves_are : shelves ≡ map (λ (taker : HandingValue). empty_shelf (length taker.pass.handed)) takers) where
+      (kept_are : kept ≡ all_pieces after) (pieces_are : pieces ≡ kept ++ more) (tables : List (List (Option Piece)))
+      (tables_are : tables ≡ map (λ (taker : HandingValue). empty_table (length taker.pass.handed)) takers) where
     in_order : AreMembers 0 shape takers
     in_order = members_are shape 0 notes front takers are numbered
 
-    whole : IsHistory (passes_of takers ++ decoder_passes after) left
+    whole : IsHistory (passes_of takers ++ worker_passes after) left
     whole = subst (λ (ps : List PassValue). IsHistory ps left) both history
 
     all_of : pieces ≡ all_pieces after ++ more
     all_of = pieces_are ∙ ap (λ (ps : List Piece). ps ++ more) kept_are
 
-    empty : shelves ≡ empty_for (handed_of takers)
-    empty = shelves_are ∙ shelves_of takers
+    empty : tables ≡ empty_for (handed_of takers)
+    empty = tables_are ∙ tables_of takers
 
-    pub fit : AllByRecursion (HasPlaceIn (counts_of shelves)) pieces
-    fit = subst (λ (ps : List Piece). AllByRecursion (HasPlaceIn (counts_of shelves)) ps) (sym all_of)
+    pub fit : AllByRecursion (HasPlaceIn (counts_of tables)) pieces
+    fit = subst (λ (ps : List Piece). AllByRecursion (HasPlaceIn (counts_of tables)) ps) (sym all_of)
         (subst (λ (ss : List (List (Option Piece))). AllByRecursion (HasPlaceIn (counts_of ss)) (all_pieces after ++ more)) (sym empty)
         (pieces_fit shape dumps queue takers before after left in_order decoded full whole more rest))
 
-    module _ (put : List (List (Option Piece))) (put_is : put ≡ put_each shelves pieces) where
+    module _ (put : List (List (Option Piece))) (put_is : put ≡ put_each tables pieces) where
       put_of : put ≡ put_each (empty_for (handed_of takers)) (all_pieces after ++ more)
       put_of = put_is ∙ ap (λ (ss : List (List (Option Piece))). put_each ss pieces) empty
           ∙ ap (λ (ps : List Piece). put_each (empty_for (handed_of takers)) ps) all_of
 
       pub all_full : AreFull put
-      all_full = subst AreFull (sym put_of) (shelves_full shape dumps queue takers before after left in_order decoded full whole more rest)
+      all_full = subst AreFull (sym put_of) (tables_full shape dumps queue takers before after left in_order decoded full whole more rest)
 
       pub outputs_read : (outputs : List Outputs) → outputs ≡ map read_of put → AllZip (AreOutputsOf shape dumps) notes outputs
       outputs_read outputs is = subst (λ (os : List Outputs). AllZip (AreOutputsOf shape dumps) notes os)

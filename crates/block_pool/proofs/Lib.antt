@@ -6,6 +6,6 @@ pub mod Reading
 pub mod Pooled
 pub mod Lists
 pub mod Decoded
-pub mod Hired
+pub mod FreshThreads
 pub mod Joined
 pub mod Crossing

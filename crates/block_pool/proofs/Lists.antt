@@ -1,15 +1,15 @@
--- Lists that loops of this crate make an item at a time.
+-- Lists that loops of this crate make one item at a time.
 use Rattle.std.proofs.Common.{◌≡◌, ℕ, zero, suc, ◌+◌, ◌-◌, List, [], ◌∷◌, ◌++◌, length, length-set, get_or, set, Option, Some, append_assoc, append-nil, length-append, refl, sym, ap, ◌∙◌, subst}
 use Rattle.std.specs.Prelude.{flat_map}
 use Rattle.std.specs.List.{AllByRecursion}
-use Rattle.block_pool.specs.inside.Shelves.{HasPlaceIn, counts_of, packets_at, put_each, put_one, texts_at}
+use Rattle.block_pool.specs.inside.PieceTables.{HasPlaceIn, counts_of, packets_at, put_each, put_one, texts_at}
 use Rattle.block_pool.specs.Takers.{HandingValue, first_takers, handing_value}
 use Rattle.block_pool.specs.declared.pieces.Piece.{Piece}
 use Rattle.frame_view.specs.declared.frames.Packet.{Packet}
 use Rattle.tp_layout.specs.declared.requests.RingRequest.{RingRequest}
 use Rattle.work_queue.specs.Passes.{PassValue}
 
--- one taker more
+-- one more taker
 pub next_taker : (shape : RingRequest) (made now all : List HandingValue) (rest after : List PassValue) (pass : PassValue) (member : ℕ)
     → rest ≡ pass ∷ after → member ≡ length made → now ≡ made ++ handing_value member shape pass ∷ []
     → made ++ first_takers shape (length made) rest ≡ all → now ++ first_takers shape (length now) after ≡ all
@@ -37,14 +37,14 @@ next_flat {A = A} {B = B} f done now all rest after x next now_is h =
 pub last_flat : {A B : Type 0} (f : A → List B) (done all : List B) (rest : List A) → rest ≡ [] → done ++ flat_map f rest ≡ all → done ≡ all
 last_flat {A = A} f done all rest none h = sym (append-nil done) ∙ ap (λ (xs : List A). done ++ flat_map f xs) (sym none) ∙ h
 
--- what is so of the rest is so of all
+-- what holds of the rest holds of all
 pub all_of_rest : {A : Type 0} (P : A → Type 0) (rest after : List A) (x : A) → rest ≡ x ∷ after → P x → AllByRecursion P after → AllByRecursion P rest
 all_of_rest {A = A} P rest after x next here all = subst (λ (xs : List A). AllByRecursion P xs) (sym next) (here, all)
 
 pub none_left : {A : Type 0} (P : A → Type 0) (rest : List A) → rest ≡ [] → AllByRecursion P rest
 none_left {A = A} P rest none = subst (λ (xs : List A). AllByRecursion P xs) (sym none) tt
 
--- ---- the packets and the texts of a shelf
+-- ---- the packets and the texts of a table
 
 pub next_packets : (done now all : List Packet) (rest after : List (Option Piece)) (place : Option Piece) (piece : Piece) → rest ≡ place ∷ after → place ≡ Some piece
     → now ≡ done ++ piece.packets → done ++ packets_at rest ≡ all → now ++ packets_at after ≡ all
@@ -68,22 +68,22 @@ last_texts done all rest none h = sym (append-nil done) ∙ ap (λ (ps : List (O
 
 -- ---- pieces that are put
 
-set_count : (shelves : List (List (Option Piece))) (index : ℕ) (shelf : List (Option Piece)) → length shelf ≡ length (get_or shelves index [])
-    → counts_of (set shelves index shelf) ≡ counts_of shelves
-set_count [] index shelf same = refl
-set_count (s ∷ shelves) zero shelf same = ap (λ (n : ℕ). n ∷ counts_of shelves) same
-set_count (s ∷ shelves) (suc index) shelf same = ap (λ (ns : List ℕ). length s ∷ ns) (set_count shelves index shelf same)
+set_count : (tables : List (List (Option Piece))) (index : ℕ) (table : List (Option Piece)) → length table ≡ length (get_or tables index [])
+    → counts_of (set tables index table) ≡ counts_of tables
+set_count [] index table same = refl
+set_count (s ∷ tables) zero table same = ap (λ (n : ℕ). n ∷ counts_of tables) same
+set_count (s ∷ tables) (suc index) table same = ap (λ (ns : List ℕ). length s ∷ ns) (set_count tables index table same)
 
--- no shelf gets longer or shorter
-pub put_counts : (shelves : List (List (Option Piece))) (piece : Piece) → counts_of (put_one shelves piece) ≡ counts_of shelves
-put_counts shelves piece = set_count shelves piece.member _ (length-set (get_or shelves piece.member []) (piece.number - 1) (Some piece))
+-- no table gets longer or shorter
+pub put_counts : (tables : List (List (Option Piece))) (piece : Piece) → counts_of (put_one tables piece) ≡ counts_of tables
+put_counts tables piece = set_count tables piece.member _ (length-set (get_or tables piece.member []) (piece.number - 1) (Some piece))
 
-pub next_put : (shelves now : List (List (Option Piece))) (rest after : List Piece) (piece : Piece) (all : List (List (Option Piece))) → rest ≡ piece ∷ after
-    → now ≡ put_one shelves piece → put_each shelves rest ≡ all → put_each now after ≡ all
-next_put shelves now rest after piece all next now_is h =
-    ap (λ (s : List (List (Option Piece))). put_each s after) now_is ∙ ap (λ (ps : List Piece). put_each shelves ps) (sym next) ∙ h
+pub next_put : (tables now : List (List (Option Piece))) (rest after : List Piece) (piece : Piece) (all : List (List (Option Piece))) → rest ≡ piece ∷ after
+    → now ≡ put_one tables piece → put_each tables rest ≡ all → put_each now after ≡ all
+next_put tables now rest after piece all next now_is h =
+    ap (λ (s : List (List (Option Piece))). put_each s after) now_is ∙ ap (λ (ps : List Piece). put_each tables ps) (sym next) ∙ h
 
-pub next_places : (shelves now : List (List (Option Piece))) (piece : Piece) (after : List Piece) → now ≡ put_one shelves piece
-    → AllByRecursion (HasPlaceIn (counts_of shelves)) after → AllByRecursion (HasPlaceIn (counts_of now)) after
-next_places shelves now piece after now_is all =
-    subst (λ (counts : List ℕ). AllByRecursion (HasPlaceIn counts) after) (sym (ap counts_of now_is ∙ put_counts shelves piece)) all
+pub next_places : (tables now : List (List (Option Piece))) (piece : Piece) (after : List Piece) → now ≡ put_one tables piece
+    → AllByRecursion (HasPlaceIn (counts_of tables)) after → AllByRecursion (HasPlaceIn (counts_of now)) after
+next_places tables now piece after now_is all =
+    subst (λ (counts : List ℕ). AllByRecursion (HasPlaceIn counts) after) (sym (ap counts_of now_is ∙ put_counts tables piece)) all

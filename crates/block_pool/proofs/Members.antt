@@ -23,26 +23,26 @@ AreMembers member shape (taker ∷ takers) =
     (AreNumbered member shape 1 taker.pass.handed × (taker.pass.fetched ≡ [])) × AreMembers (member + 1) shape takers
 
 -- the work is at the place of its number
-pub record StandsAt (works : List Work) (first : ℕ) (member : ℕ) (shape : RingRequest) (work : Work) : Type 0 where
+pub record IsWorkAt (works : List Work) (first : ℕ) (member : ℕ) (shape : RingRequest) (work : Work) : Type 0 where
   pub place : ℕ
   pub at : get_elem? works place ≡ some work
   pub is_of : IsWorkOf member shape (first + place) work
 
-among_stands : (member : ℕ) (shape : RingRequest) (first : ℕ) (works : List Work) (work : Work) → AreNumbered member shape first works → IsAmong work works
-    → StandsAt works first member shape work
-among_stands member shape first [] work numbered among = absurd among
-among_stands member shape first (w ∷ works) work numbered among = ⊎_elim
+among_works : (member : ℕ) (shape : RingRequest) (first : ℕ) (works : List Work) (work : Work) → AreNumbered member shape first works → IsAmong work works
+    → IsWorkAt works first member shape work
+among_works member shape first [] work numbered among = absurd among
+among_works member shape first (w ∷ works) work numbered among = ⊎_elim
     (λ same. record {
       place = 0;
       at = ap some same;
       is_of = subst (IsWorkOf member shape (first + 0)) same
           (let e : first ≡ first + 0 = omega arith in subst (λ (n : ℕ). IsWorkOf member shape n w) e numbered.0);
     })
-    (λ rest. let stands = among_stands member shape (first + 1) works work numbered.1 rest in record {
-      place = suc stands.place;
-      at = stands.at;
-      is_of = let e : first + 1 + stands.place ≡ first + suc stands.place = omega arith in
-          subst (λ (n : ℕ). IsWorkOf member shape n work) e stands.is_of;
+    (λ rest. let is_there = among_works member shape (first + 1) works work numbered.1 rest in record {
+      place = suc is_there.place;
+      at = is_there.at;
+      is_of = let e : first + 1 + is_there.place ≡ first + suc is_there.place = omega arith in
+          subst (λ (n : ℕ). IsWorkOf member shape n work) e is_there.is_of;
     })
     among
 
@@ -52,7 +52,7 @@ pub record IsPlaced (all : List (List Work)) (first : ℕ) (shape : RingRequest)
   pub works : List Work
   pub at : get_elem? all index ≡ some works
   pub place : ℕ
-  pub stands : get_elem? works place ≡ some work
+  pub is_there : get_elem? works place ≡ some work
   pub member_is : work.member ≡ first + index
   pub number_is : work.number ≡ place + 1
   pub shape_is : work.shape ≡ shape
@@ -69,23 +69,23 @@ placed member shape [] (pass ∷ others) work members none was = ⊎_elim
     was
 placed member shape (taker ∷ takers) others work members none was = ⊎_elim
     (λ among.
-    let stands = among_stands member shape 1 taker.pass.handed work members.0.0 among in
-    let number = stands.is_of.number_is in record {
+    let is_there = among_works member shape 1 taker.pass.handed work members.0.0 among in
+    let number = is_there.is_of.number_is in record {
       index = 0;
       works = taker.pass.handed;
       at = refl;
-      place = stands.place;
-      stands = stands.at;
-      member_is = let e : member ≡ member + 0 = omega arith in stands.is_of.member_is ∙ e;
+      place = is_there.place;
+      is_there = is_there.at;
+      member_is = let e : member ≡ member + 0 = omega arith in is_there.is_of.member_is ∙ e;
       number_is = omega (arith, number);
-      shape_is = stands.is_of.shape_is;
+      shape_is = is_there.is_of.shape_is;
     })
     (λ rest. let later = placed (member + 1) shape takers others work members.1 none rest in record {
       index = suc later.index;
       works = later.works;
       at = later.at;
       place = later.place;
-      stands = later.stands;
+      is_there = later.is_there;
       member_is = let e : member + 1 + later.index ≡ member + suc later.index = omega arith in later.member_is ∙ e;
       number_is = later.number_is;
       shape_is = later.shape_is;
@@ -101,32 +101,32 @@ at_among (w ∷ works) (suc place) work at = inr (at_among works place work at)
 
 pub was_handed : (takers : List HandingValue) (others : List PassValue) (index place : ℕ) (works : List Work) (work : Work)
     → get_elem? (handed_of takers) index ≡ some works → get_elem? works place ≡ some work → WasHanded work (passes_of takers ++ others)
-was_handed [] others index place works work at stands = absurd (some-ne-none works (sym at))
-was_handed (taker ∷ takers) others zero place works work at stands =
-    inl (subst (IsAmong work) (sym (some-injective taker.pass.handed works at)) (at_among works place work stands))
-was_handed (taker ∷ takers) others (suc index) place works work at stands = inr (was_handed takers others index place works work at stands)
+was_handed [] others index place works work at is_there = absurd (some-ne-none works (sym at))
+was_handed (taker ∷ takers) others zero place works work at is_there =
+    inl (subst (IsAmong work) (sym (some-injective taker.pass.handed works at)) (at_among works place work is_there))
+was_handed (taker ∷ takers) others (suc index) place works work at is_there = inr (was_handed takers others index place works work at is_there)
 
 -- its member's number and its own are those of the place
 pub number_at_place : (member : ℕ) (shape : RingRequest) (first place : ℕ) (works : List Work) (work : Work) → AreNumbered member shape first works
     → get_elem? works place ≡ some work → IsWorkOf member shape (first + place) work
-number_at_place member shape first place [] work numbered stands = absurd (some-ne-none work (sym stands))
-number_at_place member shape first zero (w ∷ works) work numbered stands =
+number_at_place member shape first place [] work numbered is_there = absurd (some-ne-none work (sym is_there))
+number_at_place member shape first zero (w ∷ works) work numbered is_there =
     let e : first ≡ first + 0 = omega arith in
-    subst (λ (n : ℕ). IsWorkOf member shape n work) e (subst (IsWorkOf member shape first) (some-injective w work stands) numbered.0)
-number_at_place member shape first (suc place) (w ∷ works) work numbered stands =
+    subst (λ (n : ℕ). IsWorkOf member shape n work) e (subst (IsWorkOf member shape first) (some-injective w work is_there) numbered.0)
+number_at_place member shape first (suc place) (w ∷ works) work numbered is_there =
     let e : first + 1 + place ≡ first + suc place = omega arith in
-    subst (λ (n : ℕ). IsWorkOf member shape n work) e (number_at_place member shape (first + 1) place works work numbered.1 stands)
+    subst (λ (n : ℕ). IsWorkOf member shape n work) e (number_at_place member shape (first + 1) place works work numbered.1 is_there)
 
 pub numbered_at : (member : ℕ) (shape : RingRequest) (takers : List HandingValue) (index place : ℕ) (works : List Work) (work : Work) → AreMembers member shape takers
     → get_elem? (handed_of takers) index ≡ some works → get_elem? works place ≡ some work → IsWorkOf (member + index) shape (1 + place) work
-numbered_at member shape [] index place works work members at stands = absurd (some-ne-none works (sym at))
-numbered_at member shape (taker ∷ takers) zero place works work members at stands =
+numbered_at member shape [] index place works work members at is_there = absurd (some-ne-none works (sym at))
+numbered_at member shape (taker ∷ takers) zero place works work members at is_there =
     let e : member ≡ member + 0 = omega arith in
     subst (λ (n : ℕ). IsWorkOf n shape (1 + place) work) e
-    (number_at_place member shape 1 place works work (subst (AreNumbered member shape 1) (some-injective taker.pass.handed works at) members.0.0) stands)
-numbered_at member shape (taker ∷ takers) (suc index) place works work members at stands =
+    (number_at_place member shape 1 place works work (subst (AreNumbered member shape 1) (some-injective taker.pass.handed works at) members.0.0) is_there)
+numbered_at member shape (taker ∷ takers) (suc index) place works work members at is_there =
     let e : member + 1 + index ≡ member + suc index = omega arith in
-    subst (λ (n : ℕ). IsWorkOf n shape (1 + place) work) e (numbered_at (member + 1) shape takers index place works work members.1 at stands)
+    subst (λ (n : ℕ). IsWorkOf n shape (1 + place) work) e (numbered_at (member + 1) shape takers index place works work members.1 at is_there)
 
 -- a work that was fetched was fetched by one of the others
 pub fetched_else : (member : ℕ) (shape : RingRequest) (takers : List HandingValue) (others : List PassValue) (work : Work) → AreMembers member shape takers
@@ -146,7 +146,7 @@ fetched_among (pass ∷ passes) work was = ⊎_elim
     (λ rest. let later = fetched_among passes work rest in (later.0, suc later.1, later.2, later.3, later.4))
     was
 
--- ---- one work more
+-- ---- one more work
 
 numbered_more : (member : ℕ) (shape : RingRequest) (first : ℕ) (works : List Work) (work : Work) → AreNumbered member shape first works
     → IsWorkOf member shape (first + length works) work → AreNumbered member shape first (works ++ work ∷ [])

@@ -5,11 +5,11 @@ use Rattle.std.specs.List.{AllByRecursion, AllZip}
 use mathlib.Core.Option.{some}
 use lib.ListN.{get_elem?}
 use Rattle.block_pool.specs.Pieces.{IsPieceOf}
-use Rattle.block_pool.specs.inside.Shelves.{AreFull, HasPlaceIn, counts_of, empty_shelf, put_each, read_of}
+use Rattle.block_pool.specs.inside.PieceTables.{AreFull, HasPlaceIn, counts_of, empty_table, put_each, read_of}
 use Rattle.block_pool.specs.Takers.{AreNumbered, HandingValue, HasNumbered, first_takers, handing_base, handing_taken, handing_value}
 use Rattle.block_pool.specs.Workers.{HasDecoded}
 use Rattle.block_pool.specs.declared.pieces.Piece.{Piece}
-use Rattle.block_pool.specs.declared.workers.Decoder.{Decoder}
+use Rattle.block_pool.specs.declared.workers.PoolWorker.{PoolWorker}
 use Rattle.block_pool.proofs.Members.{AreMembers, IsPlaced, fetched_else, handed_of, numbered_at, passes_of, placed, was_handed}
 use Rattle.block_pool.proofs.Placing.{IsThere, all_empty, all_fit, all_held, all_there}
 use Rattle.block_pool.proofs.Reading.{HasAt, IsFilled, blocks_row, dumped_row, filled_all, full_all, walked_row}
@@ -91,54 +91,54 @@ module _ (shape : RingRequest) where
   takers_many member (n ∷ notes) (pass ∷ passes) (taker ∷ takers) are =
       let rest = takers_many (member + 1) notes passes takers are.1 in omega (arith, rest)
 
-  -- what is read of the members' shelves is what their notes retired
-  pub outputs_are : (dumps : Bool) (member : ℕ) (notes : List (List Note)) (first takers : List HandingValue) (shelves : List (List (Option Piece)))
+  -- what is read from the members' tables is what their notes retired
+  pub outputs_are : (dumps : Bool) (member : ℕ) (notes : List (List Note)) (first takers : List HandingValue) (tables : List (List (Option Piece)))
       → AreTakersOf handing_base handing_taken shape notes first takers → AreMembers member shape takers
-      → AllZip (AllZip (IsFilled dumps)) (handed_of takers) shelves → AllZip (AreOutputsOf shape dumps) notes (map read_of shelves)
+      → AllZip (AllZip (IsFilled dumps)) (handed_of takers) tables → AllZip (AreOutputsOf shape dumps) notes (map read_of tables)
   outputs_are dumps member [] [] [] [] are members filled = tt
-  outputs_are dumps member [] [] [] (shelf ∷ shelves) are members filled = absurd filled
-  outputs_are dumps member [] [] (taker ∷ takers) shelves are members filled = absurd are
-  outputs_are dumps member [] (f ∷ first) takers shelves are members filled = absurd are
-  outputs_are dumps member (n ∷ notes) [] takers shelves are members filled = absurd are
-  outputs_are dumps member (n ∷ notes) (f ∷ first) [] shelves are members filled = absurd are
+  outputs_are dumps member [] [] [] (table ∷ tables) are members filled = absurd filled
+  outputs_are dumps member [] [] (taker ∷ takers) tables are members filled = absurd are
+  outputs_are dumps member [] (f ∷ first) takers tables are members filled = absurd are
+  outputs_are dumps member (n ∷ notes) [] takers tables are members filled = absurd are
+  outputs_are dumps member (n ∷ notes) (f ∷ first) [] tables are members filled = absurd are
   outputs_are dumps member (n ∷ notes) (f ∷ first) (taker ∷ takers) [] are members filled = absurd filled
-  outputs_are dumps member (n ∷ notes) (f ∷ first) (taker ∷ takers) (shelf ∷ shelves) are members filled =
+  outputs_are dumps member (n ∷ notes) (f ∷ first) (taker ∷ takers) (table ∷ tables) are members filled =
       let works = taker.pass.handed in
       let taken = are.0.taken_is in (
         record {
-          walked = walked_row dumps works shelf filled.0 ∙ ap walked_of taken;
-          dump_is = dumped_row dumps member shape works shelf members.0.0 filled.0 ∙ ap (dump_by dumps shape) taken;
-          blocks = blocks_row dumps works shelf filled.0 ∙ ap (λ (t : List Taken). length t) taken;
+          walked = walked_row dumps works table filled.0 ∙ ap walked_of taken;
+          dump_is = dumped_row dumps member shape works table members.0.0 filled.0 ∙ ap (dump_by dumps shape) taken;
+          blocks = blocks_row dumps works table filled.0 ∙ ap (λ (t : List Taken). length t) taken;
         },
-        outputs_are dumps (member + 1) notes first takers shelves are.1 members.1 filled.1,
+        outputs_are dumps (member + 1) notes first takers tables are.1 members.1 filled.1,
       )
 
 -- ---- the workers
 
-abbrev pub decoder_passes : List Decoder → List PassValue
-decoder_passes decoders = map (λ (decoder : Decoder). decoder.pass) decoders
+abbrev pub worker_passes : List PoolWorker → List PassValue
+worker_passes pool_workers = map (λ (pool_worker : PoolWorker). pool_worker.pass) pool_workers
 
-abbrev pub all_fetched : List Decoder → List Work
-all_fetched decoders = flat_map (λ (decoder : Decoder). decoder.pass.fetched) decoders
+abbrev pub all_fetched : List PoolWorker → List Work
+all_fetched pool_workers = flat_map (λ (pool_worker : PoolWorker). pool_worker.pass.fetched) pool_workers
 
-abbrev pub all_pieces : List Decoder → List Piece
-all_pieces decoders = flat_map (λ (decoder : Decoder). decoder.pieces.items) decoders
+abbrev pub all_pieces : List PoolWorker → List Piece
+all_pieces pool_workers = flat_map (λ (pool_worker : PoolWorker). pool_worker.pieces.items) pool_workers
 
 module _ (dumps : Bool) (queue : QueueValue) where
-  pub decoders_own : (before after : List Decoder) → AllZip (HasDecoded dumps queue) before after → AllByRecursion (IsPassOf queue) (decoder_passes after)
-  decoders_own [] [] are = tt
-  decoders_own [] (d ∷ after) are = absurd are
-  decoders_own (b ∷ before) [] are = absurd are
-  decoders_own (b ∷ before) (d ∷ after) are = (are.0.own, decoders_own before after are.1)
+  pub workers_own : (before after : List PoolWorker) → AllZip (HasDecoded dumps queue) before after → AllByRecursion (IsPassOf queue) (worker_passes after)
+  workers_own [] [] are = tt
+  workers_own [] (d ∷ after) are = absurd are
+  workers_own (b ∷ before) [] are = absurd are
+  workers_own (b ∷ before) (d ∷ after) are = (are.0.own, workers_own before after are.1)
 
-  pub none_handed : (before after : List Decoder) → AllZip (HasDecoded dumps queue) before after
-      → AllByRecursion (λ (pass : PassValue). pass.handed ≡ []) (decoder_passes after)
+  pub none_handed : (before after : List PoolWorker) → AllZip (HasDecoded dumps queue) before after
+      → AllByRecursion (λ (pass : PassValue). pass.handed ≡ []) (worker_passes after)
   none_handed [] [] are = tt
   none_handed [] (d ∷ after) are = absurd are
   none_handed (b ∷ before) [] are = absurd are
   none_handed (b ∷ before) (d ∷ after) are = (are.0.none_handed, none_handed before after are.1)
 
-  pub pieces_of_all : (before after : List Decoder) → AllZip (HasDecoded dumps queue) before after → AllByRecursion (λ (d : Decoder). d.full ≡ false) after
+  pub pieces_of_all : (before after : List PoolWorker) → AllZip (HasDecoded dumps queue) before after → AllByRecursion (λ (d : PoolWorker). d.full ≡ false) after
       → AllZip (IsPieceOf dumps) (all_fetched after) (all_pieces after)
   pieces_of_all [] [] are full = tt
   pieces_of_all [] (d ∷ after) are full = absurd are
@@ -172,18 +172,18 @@ among_both work (x ∷ xs) ys among = ⊎_elim
     (λ rest. ⊎_elim (λ h. inl (inr h)) (λ h. inr h) (among_both work xs ys rest))
     among
 
-fetched_of_among : (decoders : List Decoder) (work : Work) → IsAmong work (all_fetched decoders) → WasFetched work (decoder_passes decoders)
+fetched_of_among : (pool_workers : List PoolWorker) (work : Work) → IsAmong work (all_fetched pool_workers) → WasFetched work (worker_passes pool_workers)
 fetched_of_among [] work among = absurd among
-fetched_of_among (d ∷ decoders) work among = ⊎_elim
+fetched_of_among (d ∷ pool_workers) work among = ⊎_elim
     (λ here. inl here)
-    (λ rest. inr (fetched_of_among decoders work rest))
-    (among_both work d.pass.fetched (all_fetched decoders) among)
+    (λ rest. inr (fetched_of_among pool_workers work rest))
+    (among_both work d.pass.fetched (all_fetched pool_workers) among)
 
-among_of_fetched : (decoders : List Decoder) (work : Work) → WasFetched work (decoder_passes decoders) → IsAmong work (all_fetched decoders)
+among_of_fetched : (pool_workers : List PoolWorker) (work : Work) → WasFetched work (worker_passes pool_workers) → IsAmong work (all_fetched pool_workers)
 among_of_fetched [] work was = absurd was
-among_of_fetched (d ∷ decoders) work was = ⊎_elim
-    (λ here. among_left work d.pass.fetched (all_fetched decoders) here)
-    (λ rest. among_right work d.pass.fetched (all_fetched decoders) (among_of_fetched decoders work rest))
+among_of_fetched (d ∷ pool_workers) work was = ⊎_elim
+    (λ here. among_left work d.pass.fetched (all_fetched pool_workers) here)
+    (λ rest. among_right work d.pass.fetched (all_fetched pool_workers) (among_of_fetched pool_workers work rest))
     was
 
 fetched_with : (work : Work) (passes others : List PassValue) → WasFetched work others → WasFetched work (passes ++ others)
@@ -192,24 +192,24 @@ fetched_with work (pass ∷ passes) others was = inr (fetched_with work passes o
 
 -- ---- what is put together
 
--- the empty shelves of these works
+-- the empty tables of these works
 abbrev pub empty_for : List (List Work) → List (List (Option Piece))
-empty_for all = map (λ (ws : List Work). empty_shelf (length ws)) all
+empty_for all = map (λ (ws : List Work). empty_table (length ws)) all
 
-module _ (shape : RingRequest) (dumps : Bool) (queue : QueueValue) (takers : List HandingValue) (before after : List Decoder) (left : List Work)
-    (members : AreMembers 0 shape takers) (decoded : AllZip (HasDecoded dumps queue) before after) (full : AllByRecursion (λ (d : Decoder). d.full ≡ false) after)
-    (h : IsHistory (passes_of takers ++ decoder_passes after) left) (more : List Piece) (decoded_left : AllZip (IsPieceOf dumps) left more) where
+module _ (shape : RingRequest) (dumps : Bool) (queue : QueueValue) (takers : List HandingValue) (before after : List PoolWorker) (left : List Work)
+    (members : AreMembers 0 shape takers) (decoded : AllZip (HasDecoded dumps queue) before after) (full : AllByRecursion (λ (d : PoolWorker). d.full ≡ false) after)
+    (h : IsHistory (passes_of takers ++ worker_passes after) left) (more : List Piece) (decoded_left : AllZip (IsPieceOf dumps) left more) where
   of_works : AllZip (IsPieceOf dumps) (all_fetched after ++ left) (all_pieces after ++ more)
   of_works = zip_append (IsPieceOf dumps) (all_fetched after) left (all_pieces after) more (pieces_of_all dumps queue before after decoded full) decoded_left
 
   all_placed : AllByRecursion (IsPlaced (handed_of takers) 0 shape) (all_fetched after ++ left)
   all_placed = all_among (IsPlaced (handed_of takers) 0 shape) (all_fetched after ++ left) (λ work among.
-      let found : IsFound work (passes_of takers ++ decoder_passes after) left = ⊎_elim
-      (λ here. inl (fetched_with work (passes_of takers) (decoder_passes after) (fetched_of_among after work here)))
+      let found : IsFound work (passes_of takers ++ worker_passes after) left = ⊎_elim
+      (λ here. inl (fetched_with work (passes_of takers) (worker_passes after) (fetched_of_among after work here)))
       (λ there. inr there)
       (among_both work (all_fetched after) left among) in
-      placed 0 shape takers (decoder_passes after) work members (none_handed dumps queue before after decoded)
-      (handed_of_found (passes_of takers ++ decoder_passes after) left h work found))
+      placed 0 shape takers (worker_passes after) work members (none_handed dumps queue before after decoded)
+      (handed_of_found (passes_of takers ++ worker_passes after) left h work found))
 
   -- each piece has a place
   pub pieces_fit : AllByRecursion (HasPlaceIn (counts_of (empty_for (handed_of takers)))) (all_pieces after ++ more)
@@ -217,17 +217,17 @@ module _ (shape : RingRequest) (dumps : Bool) (queue : QueueValue) (takers : Lis
 
   has_at : (index : ℕ) (ws : List Work) (place : ℕ) (work : Work) → get_elem? (handed_of takers) index ≡ some ws → get_elem? ws place ≡ some work
       → HasAt (get_or (put_each (empty_for (handed_of takers)) (all_pieces after ++ more)) index []) place
-  has_at index ws place work at stands =
-      let found = found_of_handed (passes_of takers ++ decoder_passes after) left h work
-      (was_handed takers (decoder_passes after) index place ws work at stands) in
+  has_at index ws place work at is_there =
+      let found = found_of_handed (passes_of takers ++ worker_passes after) left h work
+      (was_handed takers (worker_passes after) index place ws work at is_there) in
       let among : IsAmong work (all_fetched after ++ left) = ⊎_elim
-      (λ was. among_left work (all_fetched after) left (among_of_fetched after work (fetched_else 0 shape takers (decoder_passes after) work members was)))
+      (λ was. among_left work (all_fetched after) left (among_of_fetched after work (fetched_else 0 shape takers (worker_passes after) work members was)))
       (λ there. among_right work (all_fetched after) left there)
       found in
       let there = one_among (IsThere (put_each (empty_for (handed_of takers)) (all_pieces after ++ more))) (all_fetched after ++ left) work
       (all_there dumps (handed_of takers) shape (all_fetched after ++ left) (all_pieces after ++ more) (empty_for (handed_of takers)) all_placed of_works (all_empty dumps (handed_of takers)))
       among in
-      let is_of = numbered_at 0 shape takers index place ws work members at stands in
+      let is_of = numbered_at 0 shape takers index place ws work members at is_there in
       let m : index ≡ work.member = let e = is_of.member_is in omega (arith, e) in
       let n : place ≡ work.number - 1 = let e = is_of.number_is in omega (arith, e) in (
         there.piece,
@@ -242,5 +242,5 @@ module _ (shape : RingRequest) (dumps : Bool) (queue : QueueValue) (takers : Lis
       (all_held dumps (handed_of takers) shape (all_fetched after ++ left) (all_pieces after ++ more) (empty_for (handed_of takers)) all_placed of_works (all_empty dumps (handed_of takers)))
       has_at
 
-  pub shelves_full : AreFull (put_each (empty_for (handed_of takers)) (all_pieces after ++ more))
-  shelves_full = full_all dumps (handed_of takers) (put_each (empty_for (handed_of takers)) (all_pieces after ++ more)) filled
+  pub tables_full : AreFull (put_each (empty_for (handed_of takers)) (all_pieces after ++ more))
+  tables_full = full_all dumps (handed_of takers) (put_each (empty_for (handed_of takers)) (all_pieces after ++ more)) filled

@@ -1,4 +1,4 @@
--- The text of a work says what the block says from which it was copied.
+-- The text of a work says what the block that it was copied from says.
 use Rattle.std.proofs.Common.{◌≡◌, ℕ, ◌≤◌, List, length, take, sym, ap, ◌∙◌, subst, arith}
 use mathlib.Core.Logic.{∥∥₁_prop}
 use Rattle.std.proofs.Math.Logic.{∥∥₁_elim}
@@ -13,7 +13,7 @@ use Rattle.tp_layout.specs.Reading.{IsTextOf}
 use Rattle.tp_layout.specs.declared.requests.RingRequest.{RingRequest}
 use Rattle.work_queue.specs.Works.{IsLawfulText, IsTextWith}
 
--- of a block that begins with a lawful text are read that text's number, status and packets
+-- a block that begins with a lawful text is read as that text's number, status and packets
 abbrev pub IsRead : Type 0
 IsRead = (shape : RingRequest) (number status : ℕ) (packets : List Packet) (bytes : List ℕ) → shape.block_size ≤ 1048576 → BeginsWith shape number status packets bytes
     → taken_in shape bytes ≡ record { number = number; status = status; packets = packets }
@@ -30,7 +30,7 @@ module _ (tells : IsRead) (shape : RingRequest) (text : List ℕ) (small : shape
       → taken_in shape text ≡ record { number = number; status = status; packets = packets }
   says_with number status packets is = tells shape number status packets text small (begins number status packets is)
 
-  -- it goes into a block
+  -- it fits into a block
   within_with : (number status : ℕ) (packets : List Packet) → IsTextWith shape number status packets text → length text ≤ shape.block_size
   within_with number status packets is =
       let long = ap length is.text_is ∙ length-block_text shape number status packets in
@@ -74,7 +74,7 @@ module _ (tells : IsRead) (shape : RingRequest) (bytes text : List ℕ) (small :
       says_with tells shape text small t.0 t.1 p.0 (copied_with t.0 t.1 p.0 p.1)
       ∙ sym (tells shape t.0 t.1 p.0 bytes small p.1))
 
--- the copy of a text that was lent, where the block has this shape
+-- the copy of a borrowed text, if the block has this shape
 pub copied_text : (shape other : RingRequest) (bytes text lent : List ℕ) → other ≡ shape → text ≡ lent
     → ((number status : ℕ) (packets : List Packet) → BeginsWith other number status packets bytes → lent ≡ block_text other number status packets)
     → (number status : ℕ) (packets : List Packet) → BeginsWith shape number status packets bytes → text ≡ block_text shape number status packets

@@ -1,4 +1,4 @@
--- Two lists beside each other, and changes at one place.
+-- Two lists side by side, and changes at one place.
 use Rattle.std.proofs.Common.{◌≡◌, ◌≢◌, ℕ, zero, suc, ◌<◌, List, [], ◌∷◌, ◌++◌, length, get_or, set, refl, sym, ap, subst, arith}
 use Rattle.std.specs.List.{AllByRecursion, AllZip}
 use mathlib.Core.Option.{some, some-injective, some-ne-none}

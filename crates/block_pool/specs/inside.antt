@@ -1,3 +1,3 @@
 -- What only this crate's own proofs and private functions cite.
 pub mod Reports
-pub mod Shelves
+pub mod PieceTables

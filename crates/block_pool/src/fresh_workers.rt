@@ -2,12 +2,12 @@
 ghost use Rattle.std.specs.Prelude.{◌≡◌, ◌≤◌, length, map, IfOk};
 ghost use Rattle.std.specs.List.{AllByRecursion};
 ghost use Rattle.block_pool.specs.Takers.{first_takers};
-ghost use Rattle.block_pool.specs.Workers.{IsFreshDecoder, IsFreshPassOf};
+ghost use Rattle.block_pool.specs.Workers.{IsFreshWorker, IsFreshPassOf};
 ghost use Rattle.ticket_dealer.specs.Seats.{DealerValue, IsFreshOf};
 ghost use Rattle.work_queue.specs.Passes.{QueueValue};
 
 use crate::takers::Handing;
-use crate::workers::Decoder;
+use crate::workers::PoolWorker;
 use fanout_group::DealerSeat;
 use frame_view::Memory;
 use std::alloc::Global;
@@ -44,27 +44,27 @@ pub(crate) fn takers_of<'a, R: Wait>(
 }
 
 /// A worker for each of these passes. Their seats are from the end of the list.
-pub(crate) fn decoders_of(
+pub(crate) fn pool_workers_of(
     alloc: Global,
     passes: Vec<WorkPass>,
     mut seats: Vec<DealerSeat>,
-) -> Result<Vec<Decoder>, Memory>
+) -> Result<Vec<PoolWorker>, Memory>
     requires few { length passes.items ≤ 8 }
     requires seats { length passes.items ≤ length seats.items }
-    ensures passes { IfOk result (λ decoders.
-        map (λ decoder. decoder.pass) decoders.items ≡ passes.items) }
-    ensures fresh { IfOk result (λ decoders. (queue : QueueValue) (dealer : DealerValue)
+    ensures passes { IfOk result (λ pool_workers.
+        map (λ pool_worker. pool_worker.pass) pool_workers.items ≡ passes.items) }
+    ensures fresh { IfOk result (λ pool_workers. (queue : QueueValue) (dealer : DealerValue)
         → AllByRecursion (IsFreshPassOf queue) passes.items
         → AllByRecursion (IsFreshOf dealer) seats.items
-        → AllByRecursion (IsFreshDecoder queue dealer) decoders.items) }
+        → AllByRecursion (IsFreshWorker queue dealer) pool_workers.items) }
 {
-    let mut decoders = Vec::with_capacity(alloc, passes.len())?;
+    let mut pool_workers = Vec::with_capacity(alloc, passes.len())?;
     for pass in passes {
         let Some(seat) = seats.pop() else {
             unreachable!()
         };
-        let index = decoders.len() as u32;
-        decoders.push(Decoder {
+        let index = pool_workers.len() as u32;
+        pool_workers.push(PoolWorker {
             index,
             pass,
             seat,
@@ -73,5 +73,5 @@ pub(crate) fn decoders_of(
             full: false,
         })?;
     }
-    Ok(decoders)
+    Ok(pool_workers)
 }

@@ -1,17 +1,17 @@
 //! A run on threads whose readers hand whole blocks to a pool of decoding workers.
 #![tactic(auto)]
 
-mod decoding;
+mod ended_takers;
 mod fresh_workers;
-mod gathering;
+mod member_reports;
 mod pieces;
 mod pool;
-mod reporting;
-mod serving;
-mod shelves;
+mod pool_threads;
+mod tables;
 mod takers;
+mod work_packets;
 mod workers;
 
-pub use decoding::decode;
 pub use pool::run_pool;
+pub use work_packets::decode;
 pub use work_queue::{Unhanded, Work, WorkPass, WorkQueue};

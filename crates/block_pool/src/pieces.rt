@@ -20,7 +20,7 @@ pub struct Piece {
     pub number: u64,
     /// The block's packets.
     pub packets: Packets,
-    /// The block's text, where texts are kept.
+    /// The block's text, if texts are kept.
     pub text: ByteList,
 }
 
@@ -38,7 +38,7 @@ fn kept_text(alloc: Global, work: Work, dumps: bool) -> ByteList
     }
 }
 
-/// Decodes a work, and keeps its text where it is asked to.
+/// Decodes a work, and keeps its text if it is asked to.
 pub(crate) fn piece_of(alloc: Global, work: Work, dumps: bool) -> Result<Piece, Memory>
     requires lawful { IsLawfulWork work }
     ensures { IfOk result (IsPieceOf dumps work) }

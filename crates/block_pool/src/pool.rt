@@ -8,10 +8,10 @@ ghost use Rattle.setup_text.specs.Sound.{AreMoments};
 ghost use Rattle.ticket_dealer.specs.Seats.{IsFreshOf};
 ghost use Rattle.work_queue.specs.Passes.{fresh_passes};
 
-use crate::fresh_workers::{decoders_of, takers_of};
-use crate::gathering::{part_all, put_together};
-use crate::reporting::report_run;
-use crate::serving::{Pool, run_both};
+use crate::ended_takers::{part_all, put_together};
+use crate::fresh_workers::{pool_workers_of, takers_of};
+use crate::member_reports::report_run;
+use crate::pool_threads::{Pool, run_both};
 use cpu_feeders::{Gate, Workers};
 use fanout_group::{Dealer, DealerSeat};
 use frame_view::{Memory, MomentList};
@@ -42,7 +42,7 @@ fn queue_for(
     Ok((queue, passes, others))
 }
 
-/// A dealer with one feeder's seat: the dealer, that seat, and the seats of others.
+/// A dealer with one feeder's seat: the dealer, that seat, and the other seats.
 fn deal_one(alloc: Global) -> Result<(Dealer, DealerSeat, Vec<DealerSeat>), Memory>
     ensures seat { IfOk result (λ dealt. IsFreshSeat dealt.0 dealt.1) }
     ensures others { IfOk result (λ dealt. AllByRecursion (IsFreshOf dealt.0) dealt.2.items) }
@@ -85,8 +85,8 @@ pub fn run_pool<S: Source + Send, G: Gate + Sync, R: Threads + Wait + Sync>(
     let members = job.setup.plan.members();
     let dumps = job.setup.dump;
     let (dealer, seat, others) = deal_one(alloc)?;
-    let (queue, takers_passes, decoders_passes) = queue_for(alloc, members, workers)?;
-    let decoders = decoders_of(alloc, decoders_passes, others)?;
+    let (queue, takers_passes, workers_passes) = queue_for(alloc, members, workers)?;
+    let pool_workers = pool_workers_of(alloc, workers_passes, others)?;
     let takers = takers_of(rt, alloc, &queue, &job.setup.shape, takers_passes)?;
     let pool = Pool {
         alloc,
@@ -95,7 +95,7 @@ pub fn run_pool<S: Source + Send, G: Gate + Sync, R: Threads + Wait + Sync>(
         gate,
         dumps,
     };
-    let (decoders, ran) = run_both(rt, &pool, job, sources, ticks, takers, decoders, seat);
+    let (pool_workers, ran) = run_both(rt, &pool, job, sources, ticks, takers, pool_workers, seat);
     let Workers {
         cpus,
         notes,
@@ -103,9 +103,9 @@ pub fn run_pool<S: Source + Send, G: Gate + Sync, R: Threads + Wait + Sync>(
         sources,
         rings,
     } = ran?;
-    let parted = part_all(alloc, takers, decoders)?;
+    let parted = part_all(alloc, takers, pool_workers)?;
     let left = queue.close(rt, alloc, parted.passes)?;
-    let (shelves, pieces) = (parted.shelves, parted.pieces);
-    let outputs = put_together(alloc, gate, dumps, workers, left, shelves, pieces)?;
+    let (tables, pieces) = (parted.tables, parted.pieces);
+    let outputs = put_together(alloc, gate, dumps, workers, left, tables, pieces)?;
     report_run(alloc, job, cpus, notes, rings, sources, outputs)
 }

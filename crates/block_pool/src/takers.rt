@@ -13,9 +13,9 @@ use work_queue::{Work, WorkPass, WorkQueue};
 /// A taker that copies the text of each block into a work, with its member and the next number.
 #[derive(Drop)]
 pub struct Handing<'a, R: Wait> {
-    /// Gives the memory for the copies.
+    /// Allocates the copies.
     pub(crate) alloc: Global,
-    /// Stands for the runtime.
+    /// Ties the type to that of the runtime.
     pub(crate) rt: &'a R,
     /// Takes the works.
     pub(crate) queue: &'a WorkQueue,

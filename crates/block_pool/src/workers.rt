@@ -2,7 +2,7 @@
 //! is left.
 ghost use Rattle.std.specs.Prelude.{◌≡◌, [], ◌∷◌, ◌++◌, OnOk};
 ghost use Rattle.block_pool.specs.Pieces.{IsPieceOf};
-ghost use Rattle.block_pool.specs.Workers.{HasDecoded, IsFreshDecoder};
+ghost use Rattle.block_pool.specs.Workers.{HasDecoded, IsFreshWorker};
 ghost use Rattle.work_queue.specs.Works.{IsLawfulWork};
 
 use crate::pieces::{Piece, piece_of};
@@ -18,12 +18,12 @@ const MOST_FETCHES: u64 = (1 << 40) - 1;
 
 /// A worker's thread.
 #[derive(Drop)]
-pub struct Decoder {
+pub struct PoolWorker {
     /// Its number among the workers, from 0.
     pub index: u32,
     /// Its pass of the queue.
     pub pass: WorkPass,
-    /// Its seat at the dealer, by which it knows whether the takers go on.
+    /// Its seat at the dealer, by which it knows whether the takers are still running.
     pub seat: DealerSeat,
     /// How often it has called `fetch`.
     pub fetches: u64,
@@ -55,35 +55,42 @@ pub(crate) fn keep<G: Gate>(
     Ok(())
 }
 
-/// Fetches works and decodes them. It ends where a look found no work after the takers had ended,
-/// where an allocation failed, and after as many looks as a pass may make.
+/// Fetches works and decodes them. It ends if a poll found no work after the takers had ended, if
+/// an allocation failed, and after as many polls as a pass may make.
 ///
-/// The takers are counted before each look, so that what they handed before they ended is seen.
-pub fn run_decoder<R: Wait, G: Gate>(
+/// The takers are counted before each poll, so that what they handed before they ended is seen.
+pub fn run_pool_worker<R: Wait, G: Gate>(
     rt: &R,
     alloc: Global,
     queue: &WorkQueue,
     dealer: &Dealer,
     gate: &G,
     dumps: bool,
-    decoder: &mut Decoder,
+    pool_worker: &mut PoolWorker,
 )
-    requires fresh { IsFreshDecoder queue.now dealer.now decoder.old }
-    ensures { HasDecoded dumps queue.now decoder.old decoder.new }
+    requires fresh { IsFreshWorker queue.now dealer.now pool_worker.old }
+    ensures { HasDecoded dumps queue.now pool_worker.old pool_worker.new }
 {
     let mut idler = Idler::new();
     for _ in rt.forever() {
-        if decoder.fetches >= MOST_FETCHES {
+        if pool_worker.fetches >= MOST_FETCHES {
             return;
         }
-        let live = dealer.live(&mut decoder.seat);
-        decoder.fetches += 1;
-        match queue.fetch(rt, &mut decoder.pass) {
+        let live = dealer.live(&mut pool_worker.seat);
+        pool_worker.fetches += 1;
+        match queue.fetch(rt, &mut pool_worker.pass) {
             Some(work) => {
                 idler.found();
-                let kept = keep(alloc, gate, dumps, decoder.index, &mut decoder.pieces, work);
+                let kept = keep(
+                    alloc,
+                    gate,
+                    dumps,
+                    pool_worker.index,
+                    &mut pool_worker.pieces,
+                    work,
+                );
                 if kept.is_err() {
-                    decoder.full = true;
+                    pool_worker.full = true;
                     return;
                 }
             }

@@ -156,7 +156,7 @@ module _ {T : Type 0} where
             takers_left reads locks rows before walkers all over.1 members.1 fresh.1 outs.1,
           )
 
-    -- ---- a loop that closes one after the other
+    -- ---- a loop that closes one after another
 
     pub closed_next : (locks lockss : List Lock) (rows rowss : List (List Seat)) (walkers rest : List (Walker T)) (lock : Lock) (row : List Seat)
         (walker : Walker T) (closed : Closed T) (more : List (Closed T)) → locks ≡ lock ∷ lockss → rows ≡ row ∷ rowss → walkers ≡ walker ∷ rest

@@ -1,4 +1,4 @@
--- What arrived at the frames that were fed, a frame at a time.
+-- What arrived with the frames that were fed, one frame at a time.
 use Rattle.std.proofs.Common.{◌≡◌, ℕ, zero, suc, Bool, List, [], ◌∷◌, ◌++◌, length, take, drop, append_assoc, append-nil, Option, None, Some, refl, sym, ap, ◌∙◌}
 use Rattle.std.proofs.lemmas.List.{append_cancel_right}
 use Rattle.std.specs.Prelude.{option_to_list}
@@ -13,7 +13,7 @@ use Rattle.fanout_group.specs.declared.logs.ArrivalLog.{ArrivalLog}
 use Rattle.frame_view.specs.declared.frames.Frame.{Frame}
 use Rattle.cpu_feeders.specs.inside.FeedSteps.{arrived_of}
 
--- what arrives at some frames and at the others
+-- what arrives with some frames and with the others
 split_from : (defrag : Bool) (held frames : List Frame) (n : ℕ)
     → somes (arrivals_from defrag held frames)
     ≡ somes (arrivals_from defrag held (take n frames))

@@ -19,7 +19,7 @@ use Rattle.tp_layout.specs.declared.requests.RingRequest.{RingRequest}
 use Rattle.cpu_feeders.specs.inside.FeedSteps.{AreMemberSeats, IsLogged}
 use Rattle.cpu_feeders.specs.Feeds.{AreMembersFor}
 
--- the members take the offer of which the desk is made
+-- the members take the offer for which the desk was made
 pub desk_takes : (desk : DeskValue) (offer : Offer) (locks : List Lock) (member_seats : List Seat) (member : ℕ) → desk ≡ fresh_desk offer locks member_seats
     → TakesAt offer locks member offer → TakesAt desk.offer desk.locks member offer
 desk_takes desk offer locks member_seats member is takes = subst (λ (d : DeskValue). TakesAt d.offer d.locks member offer) (sym is) takes

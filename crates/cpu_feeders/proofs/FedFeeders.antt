@@ -125,7 +125,7 @@ module _ {S : Type 0} where
         subst (λ (number : ℕ). HasFed job locks number left.feed left.member_seats left.seat) there
         (all_fed plan (at + 1) firsts before after rest outs.1 cpu none (omega (arith, within)))
 
--- ---- feeders that are made one after the other
+-- ---- feeders that are made one after another
 
 pub next_feed : {S X : Type 0} (seen : X → Option SourceSeen) (plan : Shape) (made now : List (Feeder S)) (rest after : List X) (all : List Feeding)
     (source : X) (feeder : Feeder S) → rest ≡ source ∷ after → now ≡ made ++ feeder ∷ [] → feeder.feed ≡ first_feed plan (length made) (seen source)

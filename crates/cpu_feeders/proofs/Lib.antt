@@ -8,13 +8,13 @@ pub mod NextFrames
 pub mod Desks
 pub mod Deliveries
 pub mod FirstFrames
-pub mod Hired
+pub mod FreshThreads
 pub mod AllClosed
-pub mod Dismissed
+pub mod ClosedThreads
 pub mod ReadOut
 pub mod OneMore
 pub mod Pendings
 pub mod Results
-pub mod WorkedCrew
+pub mod JoinedThreads
 pub mod Crossing
 mod Numbered

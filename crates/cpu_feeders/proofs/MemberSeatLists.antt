@@ -73,7 +73,7 @@ pub no_member_seats : (number count : ℕ) → fresh_users [] number count ≡ r
 no_member_seats number zero = refl
 no_member_seats number (suc count) = ap (λ (ls : List (List Seat)). [] ∷ ls) (no_member_seats (number + 1) count)
 
--- one member more
+-- one more member
 pub one_member : (locks : List Lock) (lock : Lock) (number count : ℕ)
     → with_each (fresh_users locks number count) (fresh_seats lock number count) ≡ fresh_users (locks ++ lock ∷ []) number count
 one_member locks lock number zero = refl

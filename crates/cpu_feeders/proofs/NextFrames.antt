@@ -1,4 +1,4 @@
--- A feeder with a frame more.
+-- A feeder with one more frame.
 use Rattle.std.proofs.Common.{◌≡◌, ◌≤◌, ◌*◌, ℕ, List, ◌++◌, length, take, append-nil, get_or, Option, None, Some, refl, sym, ap, ◌∙◌, subst, arith}
 use Rattle.std.proofs.lemmas.List.{take_all}
 use Rattle.std.specs.Prelude.{option_to_list}
@@ -61,7 +61,7 @@ module _ (job : Job) (locks : List Lock) (old new : Feeding) (member_seats : Lis
         fed_same job old.number new.number (arrived_of all old) arrivals old.path.log new.path.log locks member_seats same.number is log_is
         (goes.noted all (takes all whole).before)
 
-  -- nothing arrived at it
+  -- nothing arrived with it
   module _ (none : arrival ≡ None) where
     lawful_still : (all : List Frame) (whole : IsAllOfCpu all new) → IsPath (rules_of job) (take new.fed all) new.path
     lawful_still all whole = subst (λ (came : Option Frame). IsPathBehind (rules_of job) (take new.fed all) came new.path) none (behind all whole)
@@ -98,7 +98,7 @@ module _ (job : Job) (locks : List Lock) (old new : Feeding) (member_seats : Lis
           tickets = λ lb. tickets_are;
         }
 
-  -- this arrived at it
+  -- this arrived with it
   pub awaits_one : (frame : Frame) → arrival ≡ Some frame → frame.cpu ≡ old.number → FedOne old new → Awaits job locks frame new member_seats seat
   awaits_one frame is place fed = record {
     place = place ∙ sym same.number;

@@ -1,4 +1,4 @@
--- Lists that loops make an item at a time.
+-- Lists that loops make one item at a time.
 use Rattle.std.proofs.Common.{◌≡◌, ℕ, ◌+◌, ◌<◌, List, [], ◌∷◌, ◌++◌, length, length-append, append_assoc, append-nil, refl, sym, ap, ◌∙◌, subst, arith}
 use Rattle.std.specs.Prelude.{map}
 use Rattle.std.specs.List.{AllByRecursion, AllZip}
@@ -81,7 +81,7 @@ next_item {A = A} {B = B} f made now rest after all x y next now_is is h =
 pub made_all : {A B : Type 0} (f : A → B) (made : List A) (rest all : List B) → rest ≡ [] → map f made ++ rest ≡ all → map f made ≡ all
 made_all {B = B} f made rest all none h = sym (append-nil (map f made)) ∙ ap (λ (ys : List B). map f made ++ ys) (sym none) ∙ h
 
--- ---- how many items there are where one goes over
+-- ---- how many items there are when one moves to the other list
 
 module _ {A B : Type 0} where
   pub as_many : (count : ℕ) (done now : List B) (rest after : List A) (x : A) (y : B) → rest ≡ x ∷ after → now ≡ done ++ y ∷ []

@@ -1,4 +1,4 @@
--- The pending blocks of a ring, read one after the other.
+-- The pending blocks of a ring, read one after another.
 use Rattle.std.proofs.Common.{◌≡◌, ℕ, ◌+◌, ◌<◌, ◌≤◌, List, [], ◌∷◌, ◌++◌, length, take, get_or, append_assoc, Some, sym, ap, ◌∙◌, arith}
 use Rattle.std.specs.Prelude.{slice_get}
 use Rattle.std.proofs.lemmas.List.{length-append, length-map, length-take-le, map-append, take_more}
@@ -30,7 +30,7 @@ pending_length base first now blocks at within is =
     let all = length-append first (taken_of base (contents_of left)) in
     omega (arith, count, all, ap length is, length-take-le at blocks within)
 
--- one block more
+-- one more block
 pub pending_more : (base was : Base) (first before after : List Taken) (blocks : List (ShapedBytes × ℕ)) (at : ℕ) (block : ShapedBytes) (status : ℕ)
     → slice_get blocks at ≡ Some (block, status) → at < length blocks → was ≡ base
     → before ≡ first ++ taken_of base (contents_of (take at blocks)) → after ≡ before ++ taken_in was.shape block.bytes ∷ []

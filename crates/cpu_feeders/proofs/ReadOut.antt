@@ -74,7 +74,7 @@ rings_many shape [] (ring ∷ rings) are = absurd are
 rings_many shape (n ∷ notes) [] are = absurd are
 rings_many shape (n ∷ notes) (ring ∷ rings) are = ap suc (rings_many shape notes rings are.1)
 
--- ---- the reports of members, one after the other
+-- ---- the reports of members, one after another
 
 pub one_reported : (shape : RingRequest) (dump : Bool) (notes : List Note) (ring : Pends ShapedBytes) (reader : ReaderValue) (outputs : Outputs)
     → IsReaderOf shape dump notes reader → outputs ≡ outputs_of reader

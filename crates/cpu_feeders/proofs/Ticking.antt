@@ -1,4 +1,4 @@
--- A moment that the timer tells each member, one after the other.
+-- A moment that the timer reports to each member, one after another.
 use Rattle.std.proofs.Common.{◌≡◌, ◌<◌, ◌≤◌, ℕ, zero, suc, List, [], ◌∷◌, ◌++◌, length, take, refl, ap, ◌∙◌, subst, arith, get_or, length-append}
 use Rattle.capture_model.specs.Ticks.{ticks_of}
 use Rattle.member_turns.specs.Seats.{IsReady, Lock, Seat, moment_from, moment_of, own_of}
@@ -60,7 +60,7 @@ ticks_on (Ticked now seen ∷ notes) ms found = ap (λ (more : List ℕ). now �
 ticks_on (Counted ∷ notes) ms found = ticks_on notes ms found
 ticks_on (Finished ∷ notes) ms found = ticks_on notes ms found
 
--- one moment more
+-- one more moment
 pub timed_more : (moments : List ℕ) (ms : ℕ) (lock : Lock) (seat after : Seat) → IsTimed moments lock seat → IsTickTurn lock seat after ms
     → IsTimed (moments ++ ms ∷ []) lock after
 timed_more moments ms lock seat after timed turn =

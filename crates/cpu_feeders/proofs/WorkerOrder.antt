@@ -47,7 +47,7 @@ module _ {S T : Type 0} where
   ordered_feeders [] timer feeders = all_feeders T feeders
   ordered_feeders (walker ∷ walkers) timer feeders = ordered_feeders walkers timer feeders
 
-  -- ---- a worker more
+  -- ---- one more worker
 
   pub walkers_on : (worker : Worker S T) (workers : List (Worker S T)) → walkers_in (worker ∷ workers) ≡ walkers_in (worker ∷ []) ++ walkers_in workers
   walkers_on (Walks walker) workers = refl
@@ -64,7 +64,7 @@ module _ {S T : Type 0} where
   feeders_on (Ticks timer) workers = refl
   feeders_on (Feeds feeder) workers = refl
 
-  -- ---- a fact of all workers is one of each kind
+  -- ---- a fact about all workers holds for each kind
 
   pub free_walkers : (workers : List (Worker S T)) → AllByRecursion (λ (w : Worker S T). is_full w ≡ false) workers
       → AllByRecursion (λ (w : Walker T). w.full ≡ false) (walkers_in workers)
@@ -160,7 +160,7 @@ zipped R (x ∷ xs) [] same each = absurd (omega (arith, same))
 zipped R (x ∷ xs) (y ∷ ys) same each =
     (each zero x (omega arith), zipped R xs ys (omega (arith, same)) (λ i d below. each (suc i) d (omega (arith, below))))
 
--- ---- workers that are parted one after the other
+-- ---- workers that are split one after another
 
 module _ {S T A : Type 0} (kind : List (Worker S T) → List A) (kind_on : (w : Worker S T) (ws : List (Worker S T)) → kind (w ∷ ws) ≡ kind (w ∷ []) ++ kind ws)
     (kind_none : kind [] ≡ []) where
@@ -174,7 +174,7 @@ module _ {S T A : Type 0} (kind : List (Worker S T) → List A) (kind_on : (w : 
   last_kind rest done all none h =
       sym (append-nil done) ∙ ap (λ (xs : List A). done ++ xs) (sym kind_none) ∙ ap (λ (ws : List (Worker S T)). done ++ kind ws) (sym none) ∙ h
 
--- a list that each place of was changed, through a slice of its vector
+-- a list whose every place was changed, through a slice of its vector
 pub worked_through : {A : Type 0} (R : A → A → Type 0) (n : ℕ) (items old new : List A) → old ≡ items → length old ≡ n → length new ≡ length old
     → ((i : ℕ) (d : A) → i < length old → R (get_or old i d) (get_or new i d)) → AllZip R items (take n (new ++ drop (length new) items))
 worked_through {A = A} R n items old new same long count each =

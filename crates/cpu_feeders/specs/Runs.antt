@@ -1,4 +1,4 @@
--- What a run with threads gives back.
+-- What a run with threads returns.
 use Rattle.std.specs.Prelude.{◌≡◌, ℕ, List, [], ◌∷◌, ⊤, Option}
 use Rattle.capture_file.specs.declared.cpu_end.CpuEnd.{CpuEnd}
 use Rattle.capture_reading.specs.Sources.{AllGave}
@@ -27,7 +27,7 @@ module _ {T : Type 0} (base_of : T → Base) (taken_by : T → List Taken) where
     pub base_is : base_of after ≡ base_of before
     pub taken_is : taken_by after ≡ taken_of_notes shape notes
 
-  -- and so of each member
+  -- and the same of each member
   abbrev pub AreTakersOf : RingRequest → List (List Note) → List T → List T → Type 0
   AreTakersOf shape [] [] [] = ⊤
   AreTakersOf shape (notes ∷ all) (before ∷ old) (after ∷ new) =
@@ -45,8 +45,8 @@ module _ {T : Type 0} (base_of : T → Base) (taken_by : T → List Taken) where
     pub run : IsGroupRun job moments bytes ends logs notes rings
     pub takers : AreTakersOf job.setup.shape notes before after
 
--- a job ran on threads: its sources gave these bytes and ended so, and the report is that of a run
--- over them, with the moments told and the rings finished
+-- a job ran on threads: its sources gave these bytes and ended in this way, and the report is that
+-- of a run over them, with the moments reported and the rings finished
 pub record IsCaptureRun (job : Job) (moments : List ℕ) (old new : List (Option SourceSeen))
     (report : RunReport) : Type 0 where
   pub bytes : List (List ℕ)

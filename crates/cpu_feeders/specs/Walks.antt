@@ -11,16 +11,16 @@ use Rattle.tp_layout.specs.Requests.{numbers_of}
 abbrev pub taken_of : Base → List Entry → List Taken
 taken_of base entries = map (λ (entry : Entry). taken_in base.shape entry.0) entries
 
--- the reader took these further blocks, and gave back as many, each with the word of a free one,
--- which is 0
+-- the reader took these further blocks, and gave back the same number, each with the word of a free
+-- one, which is 0
 pub record FreedMore (before after : Walking) : Type 0 where
   pub more : List Entry
   pub taken : after.taken ≡ before.taken ++ more
   pub marks : after.marks ≡ before.marks ++ replicate (length more) 0
 
 module _ {T : Type 0} (base_of : T → Base) (taken_by : T → List Taken) where
-  -- a reader with no block in hand: unless a request for memory was refused its taker has read all
-  -- blocks that it took
+  -- a reader with no block in hand: unless an allocation failed its taker has read all blocks that
+  -- it took
   pub record Walks (base : Base) (walker : Walker T) : Type 0 where
     pub base_is : base_of walker.taker ≡ base
     pub kind : walker.end.kind ≡ numbers_of base.shape
@@ -35,7 +35,7 @@ module _ {T : Type 0} (base_of : T → Base) (taken_by : T → List Taken) where
     pub ring : after.end.id ≡ before.end.id
     pub freed : FreedMore before.end after.end
 
--- the last look found nothing
+-- the last poll found nothing
 pub record FoundNone (after : Walking) : Type 0 where
   pub before : Walking
   pub even : FoundEven before after

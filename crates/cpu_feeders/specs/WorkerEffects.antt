@@ -20,7 +20,7 @@ pub record IsWalkedOut {T : Type 0} (base_of : T → Base) (taken_by : T → Lis
   pub walked : HasWalked base_of taken_by (base_of old.taker) old new
   pub seat : IsFreshOf dealer new.seat
 
--- what a feeder leaves: it has fed its CPU, unless a request for memory was refused, and has ended
+-- what a feeder leaves: it has fed its CPU, unless an allocation failed, and has ended
 pub record IsFedOut {S : Type 0} (job : Job) (locks : List Lock) (dealer : DealerValue) (old new : Feeder S) : Type 0 where
   pub fed : new.full ≡ false → FeedsOut job locks old new
   pub ended : HasEnded dealer new.seat
@@ -32,7 +32,7 @@ module _ {S T : Type 0} (base_of : T → Base) (taken_by : T → List Taken) (jo
   IsReadyWorker (worker.Ticks timer) = AreTimed [] locks timer.member_seats.items
   IsReadyWorker (worker.Feeds feeder) = IsFreshFeeder job locks dealer feeder
 
-  -- what it leaves, where these are the moments
+  -- what it leaves, given the moments
   abbrev pub IsDoneWorker : List ℕ → Worker S T → Worker S T → Type 0
   IsDoneWorker moments (worker.Walks old) (worker.Walks new) = IsWalkedOut base_of taken_by dealer old new
   IsDoneWorker moments (worker.Ticks old) (worker.Ticks new) = TimesOut moments locks new

@@ -1,6 +1,6 @@
 -- What only this crate's own proofs and private functions cite.
 pub mod Closings
-pub mod Crews
+pub mod RunThreads
 pub mod FeedSteps
 pub mod FreshWorkers
 pub mod Openings

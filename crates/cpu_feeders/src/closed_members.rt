@@ -7,8 +7,8 @@ ghost use Rattle.member_turns.specs.Closings.{contents_of};
 ghost use Rattle.tp_layout.specs.Requests.{numbers_of};
 
 use crate::Walker;
+use crate::list_ends::first_of;
 use crate::member_seats::SeatList;
-use crate::taking::first_of;
 use fanout_group::DealerSeat;
 use frame_view::Memory;
 use member_turns::{Member, MemberSeat, close_member};

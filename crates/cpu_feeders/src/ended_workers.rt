@@ -24,11 +24,12 @@ pub(crate) struct Left<S: Source> {
 }
 
 impl<S: Source> Left<S> {
-    /// Nothing is left yet of any CPU or member. There is room for `cpus` CPUs.
+    /// What is left before any CPU or member was taken apart, with room for `cpus` CPUs.
     fn new(alloc: Global, cpus: usize, members: usize) -> Result<Left<S>, Memory>
         ensures cpus { IfOk result (λ left. left.cpus.items ≡ []) }
         ensures seats { IfOk result (λ left. left.seats.items ≡ []) }
-        ensures member_seats { IfOk result (λ left. left.member_seats.items ≡ replicate members []) }
+        ensures member_seats { IfOk result (λ left.
+            left.member_seats.items ≡ replicate members []) }
     {
         Ok(Left {
             cpus: Vec::with_capacity(alloc, cpus)?,
@@ -44,7 +45,8 @@ impl<S: Source> Left<S> {
         ensures seats { OnOk result
             (self.new.seats.items ≡ self.old.seats.items ++ feeder.seat ∷ []) }
         ensures member_seats { OnOk result
-            (self.new.member_seats.items ≡ with_each self.old.member_seats.items feeder.member_seats.items) }
+            (self.new.member_seats.items
+            ≡ with_each self.old.member_seats.items feeder.member_seats.items) }
     {
         self.cpus.push(feeder.feed)?;
         self.seats.push(feeder.seat)?;
@@ -54,8 +56,8 @@ impl<S: Source> Left<S> {
 
 /// Puts the seats of timers, which have one at each member, after these.
 fn add_timers(member_seats: &mut Vec<SeatList>, timers: Vec<Timer>) -> Result<(), Memory>
-    requires timers { AllByRecursion (λ it. length it.member_seats.items ≡ length member_seats.old.items)
-        timers.items }
+    requires timers { AllByRecursion
+        (λ it. length it.member_seats.items ≡ length member_seats.old.items) timers.items }
     ensures { OnOk result (member_seats.new.items
         ≡ with_all member_seats.old.items (map (λ timer. timer.member_seats.items) timers.items)) }
 {
@@ -78,7 +80,8 @@ pub(crate) fn gather<S: Source>(
         left.cpus.items ≡ map (λ feeder. feeder.feed) feeders.items) }
     ensures seats { IfOk result (λ left.
         left.seats.items ≡ map (λ feeder. feeder.seat) feeders.items) }
-    ensures member_seats { IfOk result (λ left. left.member_seats.items ≡ with_all (replicate members [])
+    ensures member_seats { IfOk result (λ left.
+        left.member_seats.items ≡ with_all (replicate members [])
         (map (λ feeder. feeder.member_seats.items) feeders.items
         ++ map (λ timer. timer.member_seats.items) timers.items)) }
 {

@@ -1,8 +1,8 @@
 //! The feeder of a CPU: it reads the CPU's capture a piece at a time, feeds each frame, and
 //! delivers what arrives to the members in turns.
 //!
-//! In mode `Lb` an arrival draws its ticket first, whatever becomes of it. Then its hash and
-//! verdict are found, and then its tries are made, each in a turn at its member.
+//! In mode `Lb` an arrival draws its ticket first, whatever its verdict. Then its hash and verdict
+//! are found, and then its tries are made, each in a turn at its member.
 ghost use Rattle.std.specs.Prelude.{◌≡◌, ◌<◌, ◌≤◌, ◌^◌, ℕ, [], Some, false, length, IfOk, IfSome};
 ghost use Rattle.std.specs.Prelude.{OnOk};
 ghost use Rattle.cpu_feeders.specs.inside.FeedSteps.{Awaits, FeedsOn, Goes, IsDrawing, IsLogged};
@@ -42,7 +42,7 @@ pub struct Feeder<S: Source> {
     pub full: bool,
 }
 
-/// Draws the ticket of an arrival, which has one in mode `Lb` alone.
+/// Draws the ticket of an arrival, which has one only in mode `Lb`.
 fn draw_in(mode: Mode, dealer: &Dealer, seat: &mut DealerSeat) -> Option<u64>
     requires own { IsSeatOf dealer.now seat.old }
     requires few { length seat.old.drawn < 2 ^ 32 }
@@ -71,7 +71,8 @@ fn deliver<S: Source, R: Wait>(
     requires takes { (member : ℕ) → member < feeder.old.feed.path.shape.members
         → TakesAt offer members.now member offer }
     ensures ok { OnOk result (IsLogged queue members.now entry (Some offer)
-        feeder.old.feed feeder.new.feed feeder.old.member_seats.items feeder.new.member_seats.items) }
+        feeder.old.feed feeder.new.feed
+        feeder.old.member_seats.items feeder.new.member_seats.items) }
     ensures seat { feeder.new.seat ≡ feeder.old.seat }
 {
     let member_seats = mem::replace(&mut feeder.member_seats, Vec::new(alloc));
@@ -81,7 +82,7 @@ fn deliver<S: Source, R: Wait>(
     delivered
 }
 
-/// Logs an arrival, with its tries where it makes an offer. The gate is called outside any turn.
+/// Logs an arrival, with its tries if it makes an offer. The gate is called outside any turn.
 fn log<S: Source, R: Wait, G: Gate>(
     rt: &R,
     alloc: Global,
@@ -100,7 +101,8 @@ fn log<S: Source, R: Wait, G: Gate>(
         (member : ℕ) → member < feeder.old.feed.path.shape.members
         → TakesAt offer members.now member offer) }
     ensures ok { OnOk result (IsLogged queue members.now entry offer
-        feeder.old.feed feeder.new.feed feeder.old.member_seats.items feeder.new.member_seats.items) }
+        feeder.old.feed feeder.new.feed
+        feeder.old.member_seats.items feeder.new.member_seats.items) }
     ensures seat { feeder.new.seat ≡ feeder.old.seat }
 {
     match offer {
@@ -115,7 +117,7 @@ fn log<S: Source, R: Wait, G: Gate>(
     }
 }
 
-/// An arrival: it draws its ticket, is looked at, and is logged with its tries.
+/// Handles an arrival: it draws its ticket, is judged, and is logged with its tries.
 fn arrive<S: Source, R: Wait, G: Gate>(
     rt: &R,
     alloc: Global,
@@ -153,7 +155,7 @@ fn arrive<S: Source, R: Wait, G: Gate>(
     )
 }
 
-/// Feeds the next frame and delivers what arrives at it; gives whether there was one.
+/// Feeds the next frame and delivers what arrives with it; returns whether there was one.
 fn feed_next<S: Source, R: Wait, G: Gate>(
     rt: &R,
     alloc: Global,
@@ -200,7 +202,7 @@ fn feed_all<S: Source, R: Wait, G: Gate>(
     Ok(())
 }
 
-/// Feeds all frames and delivers what arrives, or notes that a request for memory was refused.
+/// Feeds all frames and delivers what arrives, or notes that an allocation failed.
 fn feed_or_fill<S: Source, R: Wait, G: Gate>(
     rt: &R,
     alloc: Global,
@@ -220,8 +222,8 @@ fn feed_or_fill<S: Source, R: Wait, G: Gate>(
     }
 }
 
-/// Feeds all frames of its CPU's capture and delivers what arrives to the members, or stops where a
-/// request for memory is refused. Either way the dealer then has one live feeder less.
+/// Feeds all frames of its CPU's capture and delivers what arrives to the members, or stops if an
+/// allocation fails. Either way the dealer then has one live feeder less.
 pub fn run_feeder<S: Source, R: Wait, G: Gate>(
     rt: &R,
     alloc: Global,

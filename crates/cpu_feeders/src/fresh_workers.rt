@@ -9,8 +9,8 @@ ghost use Rattle.cpu_feeders.specs.declared.worker.Worker.TheVariants as worker;
 ghost use Rattle.ticket_dealer.specs.Seats.{DealerValue, IsFreshOf};
 
 use crate::feeder::Feeder;
+use crate::list_ends::{first_of, last_of};
 use crate::member_seats::SeatList;
-use crate::taking::{first_of, last_of};
 use crate::worker::Worker;
 use crate::{Timer, Walker};
 use capture_reading::Buffer;

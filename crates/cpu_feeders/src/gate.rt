@@ -8,7 +8,7 @@ pub enum Point {
         cpu: u32,
         index: u32,
     },
-    /// The members are told this moment next, in milliseconds.
+    /// This moment is reported to the members next, in milliseconds.
     Ticking {
         ms: u64,
     },
@@ -18,7 +18,7 @@ pub enum Point {
         blocks: u64,
     },
     /// A worker of a pool decodes the block of this number of a member next. No feeder, timer or
-    /// reader comes here.
+    /// reader reaches this point.
     Decoding {
         worker: u32,
         member: u32,
@@ -26,7 +26,7 @@ pub enum Point {
     },
 }
 
-/// What the threads of a run call at each point. It changes nothing that a result shows.
+/// What the threads of a run call at each point. It changes no result.
 pub trait Gate {
     /// The thread that calls this is at the point.
     fn at(&self, point: Point);

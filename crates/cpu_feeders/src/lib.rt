@@ -2,16 +2,16 @@
 #![tactic(auto)]
 
 mod closed_members;
-mod crews;
 mod ended_workers;
 mod feeder;
 mod fresh_workers;
 mod gate;
+mod idler;
+mod list_ends;
 mod member_seats;
 mod open_groups;
-mod pausing;
+mod run_threads;
 mod takers;
-mod taking;
 mod timer;
 mod walker;
 mod worker;
@@ -20,7 +20,7 @@ mod workers;
 
 pub use feeder::{Feeder, run_feeder};
 pub use gate::{Gate, NoGate, Point};
-pub use pausing::Idler;
+pub use idler::Idler;
 pub use takers::{Workers, run_takers};
 pub use timer::{Timer, run_timer};
 pub use walker::{Walker, run_walker};

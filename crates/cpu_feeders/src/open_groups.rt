@@ -23,7 +23,7 @@ pub(crate) struct OpenGroup {
 }
 
 impl OpenGroup {
-    /// Opens one member more.
+    /// Opens one more member.
     fn add(&mut self, alloc: Global, shape: &Shape, cpus: u32) -> Result<(), Memory>
         requires few { cpus ≤ 8 }
         requires users { self.old.users.items ≡ fresh_users self.old.members.items 0 (cpus + 1) }

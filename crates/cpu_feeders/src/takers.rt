@@ -1,8 +1,8 @@
-//! A run on threads with takers of the caller's.
+//! A run on threads, with the caller's takers.
 ghost use Rattle.std.specs.Prelude.{◌≡◌, ◌++◌, ◌∷◌, [], ℕ, List, Option, length, map, option_map};
 ghost use Rattle.std.specs.Prelude.{IfOk, OnOk};
 ghost use Rattle.std.specs.List.{AllByRecursion};
-ghost use Rattle.cpu_feeders.specs.inside.Crews.{HaveWorked};
+ghost use Rattle.cpu_feeders.specs.inside.RunThreads.{HaveWorked};
 ghost use Rattle.cpu_feeders.specs.Runs.{IsFreshTaker, IsTakerRun};
 ghost use Rattle.setup_text.specs.Runnable.{IsRunnable};
 ghost use Rattle.setup_text.specs.Sound.{AreMoments};
@@ -10,8 +10,8 @@ ghost use Rattle.tap_outside.specs.Seen.{SourceSeen};
 
 use crate::Gate;
 use crate::closed_members::{Closed, close_group};
-use crate::crews::{Crew, hire};
 use crate::ended_workers::gather;
+use crate::run_threads::{RunThreads, new_threads};
 use crate::worker::{Shared, run_all};
 use crate::worker_kinds::part;
 use capture_reports::{
@@ -117,20 +117,20 @@ fn assemble<S: Source, T: Taker + Drop>(
     Ok(workers)
 }
 
-/// Takes a crew apart, and closes what it used.
-fn dismiss<S: Source, T: Taker + Drop>(
+/// Takes the threads of a run apart after they were joined, and closes what they used.
+fn close_threads<S: Source, T: Taker + Drop>(
     alloc: Global,
     job: &Job,
-    crew: Crew<S, T>,
+    threads: RunThreads<S, T>,
 ) -> Result<Workers<S, T>, Memory>
     requires setup { IsRunnable job.now.setup }
     requires worked { (moments : List ℕ) × (firsts : List (Option SourceSeen)) × (takers : List _)
         × HaveWorked T.base T.taken job.now moments firsts takers
-        crew.members.items crew.dealer crew.spare.items crew.workers.items }
+        threads.members.items threads.dealer threads.spare.items threads.workers.items }
     ensures { IfOk result (λ workers.
         (moments : List ℕ) (firsts : List (Option SourceSeen)) (takers : List _)
         → HaveWorked T.base T.taken job.now moments firsts takers
-        crew.members.items crew.dealer crew.spare.items crew.workers.items
+        threads.members.items threads.dealer threads.spare.items threads.workers.items
         → IsTakerRun T.base T.taken job.now moments firsts takers
         (map (option_map S.seen) workers.sources.items) workers.takers.items
         workers.cpus workers.notes.items workers.rings.items) }
@@ -138,22 +138,22 @@ fn dismiss<S: Source, T: Taker + Drop>(
     threads_leave_a_group();
     threads_leave_what_sources_gave();
     blocks_are_read_as_they_were_noted();
-    let parted = part(alloc, crew.workers)?;
+    let parted = part(alloc, threads.workers)?;
     let members = job.setup.plan.members() as usize;
     let left = gather(alloc, members, parted.feeders, parted.timers)?;
-    let closed = close_group(alloc, crew.members, left.member_seats, parted.walkers)?;
+    let closed = close_group(alloc, threads.members, left.member_seats, parted.walkers)?;
     let cpus = close_cpus(alloc, left.cpus)?;
     let mut seats = left.seats;
     let workers = assemble(alloc, cpus, closed, &mut seats)?;
-    let mut spare = crew.spare;
+    let mut spare = threads.spare;
     seats.append(&mut spare)?;
-    crew.dealer.close(seats);
+    threads.dealer.close(seats);
     Ok(workers)
 }
 
-/// Runs a job on threads, with a taker of the caller's for each member: a reader for each of them,
-/// a timer that reports the moments, and a feeder for each CPU. Each reader hands the blocks of its
-/// member to the member's taker, in order.
+/// Runs a job on threads, with one of the caller's takers for each member: a reader for each of
+/// them, a timer that reports the moments, and a feeder for each CPU. Each reader hands the blocks
+/// of its member to the member's taker, in order.
 ///
 /// The sources are one for each CPU, and come back less the bytes that they gave; a CPU without one
 /// ends with a fault. The only error is that an allocation fails, here or in a taker; the sources
@@ -182,15 +182,15 @@ pub fn run_takers<
         (map (option_map S.seen) workers.sources.items) workers.takers.items
         workers.cpus workers.notes.items workers.rings.items) }
 {
-    let mut crew = hire(alloc, job, sources, takers)?;
+    let mut threads = new_threads(alloc, job, sources, takers)?;
     let shared = Shared {
         alloc,
         job,
         moments: ticks.as_slice(),
-        members: &crew.members[..],
-        dealer: &crew.dealer,
+        members: &threads.members[..],
+        dealer: &threads.dealer,
         gate,
     };
-    run_all(rt, &shared, &mut crew.workers[..]);
-    dismiss(alloc, job, crew)
+    run_all(rt, &shared, &mut threads.workers[..]);
+    close_threads(alloc, job, threads)
 }

@@ -19,7 +19,7 @@ pub struct Timer {
     pub full: bool,
 }
 
-/// Tells a moment to each member, from member 0 up.
+/// Reports a moment to each member, from member 0 up.
 fn tick_members<R: Wait>(
     rt: &R,
     members: &[Member],
@@ -29,11 +29,13 @@ fn tick_members<R: Wait>(
     requires timers { AreTimers members.now member_seats.old.items }
     requires few { (member : ℕ) (seat : Seat) → member < length member_seats.old.items →
         (slice_index_or member_seats.old.items member seat).entered < 2 ^ 32 }
-    requires later { (member : ℕ) (lock : Lock) (seat : Seat) → member < length member_seats.old.items →
+    requires later { (member : ℕ) (lock : Lock) (seat : Seat) →
+        member < length member_seats.old.items →
         moment_of (own_of (slice_index_or members.now member lock)
         (slice_index_or member_seats.old.items member seat)) ≤ ms }
     requires small { ms ≤ 2 ^ 63 }
-    ensures { OnOk result (HaveTicked ms members.now member_seats.old.items member_seats.new.items) }
+    ensures { OnOk result
+        (HaveTicked ms members.now member_seats.old.items member_seats.new.items) }
 {
     for at in 0..members.len() {
         tick_turn(rt, &members[at], &mut member_seats[at], ms)?;
@@ -41,7 +43,7 @@ fn tick_members<R: Wait>(
     Ok(())
 }
 
-/// Tells each of the moments to each member.
+/// Reports each of the moments to each member.
 fn tick_all<R: Wait, G: Gate>(
     rt: &R,
     members: &[Member],
@@ -60,8 +62,7 @@ fn tick_all<R: Wait, G: Gate>(
     Ok(())
 }
 
-/// Tells each of the moments to each member, from member 0 up, or stops where a request for memory
-/// is refused.
+/// Reports each of the moments to each member, from member 0 up, or stops if an allocation fails.
 pub fn run_timer<R: Wait, G: Gate>(
     rt: &R,
     members: &[Member],

@@ -27,17 +27,17 @@ pub struct Walker<T: Taker + Drop> {
     pub end: TableWalker<Block>,
     /// What reads each block.
     pub taker: T,
-    /// Its seat at the dealer, by which it knows how many feeders go on.
+    /// Its seat at the dealer, by which it knows how many feeders are live.
     pub seat: DealerSeat,
     /// How many blocks it has released.
     pub released: u64,
-    /// Whether a request for memory was refused: its taker reads no more, and it releases what it
+    /// Whether an allocation failed: its taker then reads no more, and it only releases what it
     /// takes.
     pub full: bool,
 }
 
-/// Hands a block to a taker, unless a request for memory was refused before; gives whether one was
-/// refused by now.
+/// Hands a block to a taker, unless an allocation failed before; returns whether one has failed by
+/// now.
 fn read_block<T: Taker>(taker: &mut T, block: &Block, full: bool) -> bool
     requires readable { IsReadable (T.base taker.old).shape block.now }
     requires few { full ≡ false → length (T.taken taker.old) < 2 ^ 40 }
@@ -55,8 +55,8 @@ fn read_block<T: Taker>(taker: &mut T, block: &Block, full: bool) -> bool
     }
 }
 
-/// Takes the next retired block, if there is one, hands it to the taker and releases it. Where a
-/// request for memory was refused it is released all the same.
+/// Takes the next retired block, if there is one, hands it to the taker and releases it. It is
+/// released even if an allocation failed.
 fn take_next<T: Taker + Drop, G: Gate>(gate: &G, walker: &mut Walker<T>) -> bool
     requires { Walks T.base T.taken (T.base walker.old.taker) walker.old }
     ensures walked { HasWalked T.base T.taken (T.base walker.old.taker) walker.old walker.new }
@@ -76,9 +76,9 @@ fn take_next<T: Taker + Drop, G: Gate>(gate: &G, walker: &mut Walker<T>) -> bool
     true
 }
 
-/// Reads blocks until no feeder goes on and none waits, and gives each back as a free one. Feeders
-/// are counted before each look, so that what they retired is seen. While none waits the reader
-/// yields, and then sleeps between its looks.
+/// Reads blocks until no feeder is live and no block waits, and gives each back as a free one.
+/// Feeders are counted before each poll, so that what they retired is seen. While no block waits
+/// the reader yields, and later sleeps, between its polls.
 pub fn run_walker<T: Taker + Drop, R: Wait, G: Gate>(
     rt: &R,
     dealer: &Dealer,
@@ -90,7 +90,7 @@ pub fn run_walker<T: Taker + Drop, R: Wait, G: Gate>(
     ensures walked { HasWalked T.base T.taken (T.base walker.old.taker) walker.old walker.new }
     ensures seat { IsFreshOf dealer.now walker.new.seat }
 
-    // The feeders that it saw last were none, and its last look found nothing.
+    // It last saw no live feeder, and its last poll found nothing.
     ensures ended { walker.new.seat.live ≡ 0 }
     ensures none { FoundNone walker.new.end }
 {

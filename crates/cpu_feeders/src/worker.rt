@@ -29,15 +29,15 @@ pub(crate) enum Worker<S: Source, T: Taker + Drop> {
 /// What all threads of a run share.
 #[derive(Drop)]
 pub(crate) struct Shared<'a, G> {
-    /// Gives the memory for what the feeders make.
+    /// Allocates what the feeders make.
     pub(crate) alloc: Global,
-    /// What is run.
+    /// The job that is run.
     pub(crate) job: &'a Job,
     /// The moments, in milliseconds.
     pub(crate) moments: &'a [u64],
     /// The members, from 0 up.
     pub(crate) members: &'a [Member],
-    /// Deals tickets, and knows how many feeders go on.
+    /// Deals tickets, and counts the live feeders.
     pub(crate) dealer: &'a Dealer,
     /// Where a test may hold a thread.
     pub(crate) gate: &'a G,
@@ -73,11 +73,11 @@ fn work<S: Source, T: Taker + Drop, G: Gate, R: Wait>(
     }
 }
 
-/// Runs all workers, each on a thread of its own where one can be made, and joins them.
+/// Runs all workers, each on a thread of its own if one can be made, and joins them.
 ///
-/// Where no thread can be made, the list is run from its end. So the readers come first in it and
-/// the feeders last: a feeder waits for nobody that has to end before it, and a reader waits until
-/// the feeders have ended.
+/// If no thread can be made, the list is run from its end. So the readers come first in it and the
+/// feeders last: a feeder waits for nobody that has to end before it, and a reader waits until the
+/// feeders have ended.
 pub(crate) fn run_all<
     S: Source + Send,
     T: Taker + Drop + Send,

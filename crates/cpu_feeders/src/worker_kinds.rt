@@ -23,7 +23,7 @@ pub(crate) struct Parted<S: Source, T: Taker + Drop> {
 }
 
 impl<S: Source, T: Taker + Drop> Parted<S, T> {
-    /// Puts a worker after those of its kind. The error is also that it ran out of memory.
+    /// Puts a worker after those of its kind. The error may also be that it ran out of memory.
     fn add(&mut self, worker: Worker<S, T>) -> Result<(), Memory>
         ensures full { OnOk result (is_full worker ≡ false) }
         ensures walkers { OnOk result (self.new.walkers.items
@@ -80,7 +80,7 @@ fn add_feeder<S: Source>(feeders: &mut Vec<Feeder<S>>, feeder: Feeder<S>) -> Res
     Ok(())
 }
 
-/// Parts workers by their kinds. The error is also that one of them ran out of memory.
+/// Splits workers by their kinds. The error may also be that one of them ran out of memory.
 pub(crate) fn part<S: Source, T: Taker + Drop>(
     alloc: Global,
     workers: Vec<Worker<S, T>>,

@@ -9,7 +9,7 @@ ghost use Rattle.setup_text.specs.Runnable.{IsRunnable};
 ghost use Rattle.setup_text.specs.Sound.{AreMoments};
 ghost use Rattle.tp_layout.specs.declared.requests.RingRequest.{RingRequest};
 
-use crate::taking::first_of;
+use crate::list_ends::first_of;
 use crate::{Gate, Workers, run_takers};
 use capture_reports::{threads_report_a_capture, threads_report_a_run};
 use frame_view::{Memory, MomentList};
@@ -22,7 +22,7 @@ use std::thread::Threads;
 use tap_outside::Source;
 use tp_layout::Shape;
 
-/// A reader for each member, which keeps the texts of its blocks where it is asked to.
+/// A reader for each member, which keeps the texts of its blocks if it is asked to.
 fn readers_of(alloc: Global, members: u32, shape: &Shape, dump: bool) -> Result<Vec<Reader>, Memory>
     ensures { IfOk result (λ readers.
         readers.items ≡ replicate members (new_reader shape.now dump)) }

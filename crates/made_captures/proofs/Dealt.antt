@@ -1,4 +1,4 @@
--- Frames, dealt out to CPUs one after the other.
+-- Frames, dealt out to CPUs one after another.
 use Rattle.std.proofs.Common.{◌≡◌, ◌≢◌, ℕ, zero, suc, ◌+◌, ◌%◌, ◌<◌, ◌≤◌, List, [], ◌∷◌, ◌++◌, length, get_or, set, refl, sym, ap, subst, ◌∙◌, inl, inr, arith, append_assoc}
 use Rattle.std.specs.Prelude.{All, map, replicate}
 use Rattle.std.specs.List.{AllByRecursion, range_with_len}
@@ -23,7 +23,7 @@ pub given-past : (cpus cpu i : ℕ) (frame : Frame) (frames : List Frame) → i 
 unfolding given_from
 given-past cpus cpu i frame frames past = rw (ne_eqb (i % cpus) cpu past) refl
 
--- what holds of all frames holds of those
+-- what holds of all frames holds of these
 pub all-given : (P : Frame → Type 0) (cpus cpu i : ℕ) (frames : List Frame) → AllByRecursion P frames
     → AllByRecursion P (given_from cpus cpu i frames)
 unfolding given_from
@@ -33,7 +33,7 @@ all-given P cpus cpu i (frame ∷ frames) all = elim (cases_eq (i % cpus) cpu) [
   | inr past ↦ rw (ne_eqb (i % cpus) cpu past) (all-given P cpus cpu (i + 1) frames all.1)
 ]
 
--- and an output file can be written of them
+-- and an output file can be written from them
 abbrev IsShort : Packet → Type 0
 IsShort packet = length packet.bytes ≤ 4294967291
 

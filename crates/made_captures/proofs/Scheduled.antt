@@ -15,7 +15,7 @@ range-more : (from n last : ℕ) → from + n ≡ last → range_with_len from (
 range-more from zero last e = let same : from ≡ last = omega (arith, e) in ap (λ (k : ℕ). k ∷ []) same
 range-more from (suc n) last e = ap (λ (xs : List ℕ). from ∷ xs) (range-more (from + 1) n last (omega (arith, e)))
 
--- what a list of numbers is mapped to, with one number more
+-- what a list of numbers is mapped to, with one more number
 one_more : (f : ℕ → List Line) (n : ℕ) → flat_map f (range_with_len 0 (n + 1)) ≡ flat_map f (range_with_len 0 n) ++ f n
 one_more f n =
     let next : n + 1 ≡ suc n = omega arith in

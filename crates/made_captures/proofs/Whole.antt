@@ -116,7 +116,7 @@ module _ (seed count cpus cpu : ℕ) (few : count ≤ 20000) where
   capture-frames number =
       output_frames (packets_for cpus (made seed count) cpu) packets-writable capture-short number ∙ back number 0 given given-made
 
--- so it is of all CPUs
+-- and the same for all CPUs
 all_end : (seed count cpus from n : ℕ) → count ≤ 20000 → All (λ text. end_of text ≡ None) (map (capture_for seed count cpus) (range_with_len from n))
 all_end seed count cpus from zero few = All-nil (λ (text : List ℕ). end_of text ≡ None)
 all_end seed count cpus from (suc n) few =

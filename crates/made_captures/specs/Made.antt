@@ -10,15 +10,15 @@ use Rattle.frame_view.specs.declared.frames.Packet.{Packet}
 use Rattle.schedule_lines.specs.declared.lines.Line.{Line}
 use Rattle.schedule_lines.specs.declared.lines.Line.TheVariants.{Feed, Read}
 
--- of frames, the first of which has number i, those that a CPU gets: their numbers modulo the CPUs
--- are its own
+-- those of frames, the first of which has number i, that a CPU gets: those whose number modulo the
+-- number of CPUs is its own
 unfoldable pub given_from : ℕ → ℕ → ℕ → List Frame → List Frame
 given_from cpus cpu i [] = []
 given_from cpus cpu i (frame ∷ frames) =
     if i % cpus == cpu then frame ∷ given_from cpus cpu (i + 1) frames
     else given_from cpus cpu (i + 1) frames
 
--- of all frames, numbered from 0, those that a CPU gets
+-- those of all frames, numbered from 0, that a CPU gets
 abbrev pub given_to : ℕ → ℕ → List Frame → List Frame
 given_to cpus cpu frames = given_from cpus cpu 0 frames
 
@@ -58,6 +58,6 @@ feed_lines cpus members i = Feed (i % cpus) ∷ (if (i + 1) % 64 == 0 then read_
 unfoldable pub made_lines : ℕ → ℕ → ℕ → List Line
 made_lines count cpus members = flat_map (feed_lines cpus members) (range_with_len 0 count)
 
--- packets that an output file can be written of
+-- packets that an output file can be written from
 abbrev pub AreShort : List Packet → Type 0
 AreShort packets = All (λ packet. length packet.bytes ≤ 4294967291) packets

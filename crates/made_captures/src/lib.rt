@@ -2,13 +2,13 @@
 //! schedule that replays them.
 #![tactic(auto)]
 
-mod capturing;
-mod dealing;
+mod captures;
+mod dealt_frames;
 mod laws;
-mod scheduling;
+mod schedules;
 
-pub use capturing::made_sources;
+pub use captures::made_sources;
 pub use laws::{
     a_made_capture_is_whole, a_made_schedule_has_few_lines, a_made_schedule_has_no_ticks,
 };
-pub use scheduling::made_schedule;
+pub use schedules::made_schedule;

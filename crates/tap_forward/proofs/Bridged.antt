@@ -107,7 +107,7 @@ skipped_is shape tx dump notes forwarder forwarded is out =
     ap (λ (f : Forwarded). f.skipped) out ∙ ap (λ (t : RingRequest). skipped_of (room_of t) (walked_of forwarder.taken)) is.tx_is
     ∙ ap (λ (f : Forwarded). skipped_of (room_of tx) f.outputs.walked) (sym out)
 
--- one item more on each of two lists, of which the second is made of the first
+-- one more item on each of two lists, the second of which is made from the first
 pub mapped_more : {A B : Type 0} (f : A → B) (xs now : List A) (ys later : List B) (x : A) (y : B) → now ≡ xs ++ x ∷ [] → later ≡ ys ++ y ∷ []
     → y ≡ f x → ys ≡ map f xs → later ≡ map f now
 mapped_more {A = A} {B = B} f xs now ys later x y now_is later_is y_is ys_is =

@@ -18,7 +18,7 @@ use Rattle.tap_forward.specs.Forwarding.{as_sent, is_sendable, sent_of, skipped_
 use Rattle.tap_forward.specs.Sending.{IsGoing, WasGiven}
 use Rattle.tap_forward.specs.declared.sender.Sender.{Sender}
 
--- ---- one packet more
+-- ---- one more packet
 
 sent_yes : (room : ℕ) (packet : Packet) → is_sendable room packet ≡ true → sent_of room (packet ∷ []) ≡ as_sent packet ∷ []
 unfolding sent_of
@@ -65,7 +65,7 @@ is_long room packet long = rw (lt-leb (length (frame_of packet)) room long) (and
 pub fits : (room : ℕ) (packet : Packet) → 14 ≤ length (frame_of packet) → length (frame_of packet) ≤ room → is_sendable room packet ≡ true
 fits room packet whole short = rw (le-leb 14 (length (frame_of packet)) whole, le-leb (length (frame_of packet)) room short) refl
 
--- its request is good, and gives what is sent of it
+-- its request is good, and yields what is sent of it
 pub good_request : (room : ℕ) (bytes : List ℕ) → 14 ≤ length bytes → length bytes ≤ room → is_good room (whole_request bytes) ≡ true
 good_request room bytes whole short = rw (le-leb 14 (length bytes) whole, le-leb (length bytes) room short) refl
 
@@ -78,7 +78,7 @@ grows : {A : Type 0} (P : A → Type 0) (xs : List A) (x : A) → AllByRecursion
 grows P [] x all one = (one, tt)
 grows P (y ∷ xs) x all one = (all.0, grows P xs x all.1 one)
 
--- a ring with one good request more
+-- a ring with one more good request
 pub goes_on : (ring new : TxState) (bytes : List ℕ) → IsGoing ring → 14 ≤ length bytes → length bytes ≤ room_of ring.shape
     → new ≡ with_request ring (whole_request bytes) → IsGoing new
 goes_on ring new bytes going whole short is =

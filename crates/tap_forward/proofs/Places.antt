@@ -78,7 +78,7 @@ pub never_stopped : (ring : TxState) (bytes : List ℕ) (slot : ℕ) → ring.st
 never_stopped ring bytes slot going err =
     no_stop (nat_lt (room_of ring.shape) (length bytes)) (length ring.requests == ring.shape.frame_nr) slot (sym (is_by ring bytes going) ∙ err)
 
--- a frame that fits is placed where no slot is requested
+-- a frame that fits is placed if no slot is requested
 pub free_ok : (ring : TxState) (bytes : List ℕ) → ring.stopped ≡ None → length bytes ≤ room_of ring.shape → ring.requests ≡ [] → 0 < ring.shape.frame_nr
     → place_answer ring bytes ≡ Ok tt
 unfolding by

@@ -65,7 +65,7 @@ sends old new given going ring sent skipped was =
       few = rw empty was.few;
     }
 
--- ---- a send that was broken off
+-- ---- a send that was interrupted
 
 dropped : {A : Type 0} (P : A → Type 0) (count : ℕ) (xs : List A) → AllByRecursion P xs → AllByRecursion P (drop count xs)
 dropped P zero xs all = all

@@ -35,8 +35,8 @@ base_of forwarder = record {
   further = number_of_flag forwarder.dumps ∷ numbers_of forwarder.tx;
 }
 
--- what a forwarder leaves: what a reader of its blocks gives, and what is sent and skipped of their
--- packets
+-- what a forwarder leaves: what a reader of its blocks returns, and what is sent and skipped of
+-- their packets
 abbrev pub forwarded_of : ForwarderValue → Forwarded
 forwarded_of forwarder = record {
   outputs = outputs_of (record {

@@ -13,7 +13,7 @@ forwarder_value forwarder = record {
   taken = forwarder.reader.taken;
 }
 
--- what the fields keep. A block has fewer than 2^14 packets, so no count of packets passes its end.
+-- what the fields keep. A block has fewer than 2^14 packets, so no count of packets overflows.
 pub record IsSound (forwarder : Inside) : Type 0 where
   pub free : forwarder.reader.held ≡ None
   pub going : IsGoing forwarder.sender.ring

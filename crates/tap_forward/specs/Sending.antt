@@ -7,7 +7,7 @@ use Rattle.tx_ring.specs.Sending.{is_good, packets_of}
 use Rattle.tap_forward.specs.Forwarding.{sent_of, skipped_of}
 use Rattle.tap_forward.specs.declared.sender.Sender.{Sender}
 
--- a ring with slots that hasn't stopped, and that has nothing to stop at: all its requests are good
+-- a ring with slots that hasn't stopped and won't stop: all its requests are good
 pub record IsGoing (ring : TxState) : Type 0 where
   pub some : 0 < ring.shape.frame_nr
   pub strict : ring.skip_bad ≡ false

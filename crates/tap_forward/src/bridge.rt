@@ -23,7 +23,7 @@ use std::thread::Threads;
 use tap_outside::Source;
 use tp_layout::{RingRequest, Shape};
 
-/// What a run whose readers send gives back.
+/// What a run whose readers send returns.
 #[derive(Drop)]
 pub struct ForwardRan<S: Drop> {
     /// What it reports, as a run whose readers keep their packets.
@@ -32,13 +32,13 @@ pub struct ForwardRan<S: Drop> {
     pub sent: Vec<Packets>,
     /// The number of packets that were skipped of each member, from 0 up.
     pub skipped: Vec<u64>,
-    /// The source of each CPU, from 0 up, less the bytes that it gave; nothing where none was
-    /// handed in.
+    /// The source of each CPU, from 0 up, less the bytes that it gave; nothing if none was handed
+    /// in.
     pub sources: Vec<Option<S>>,
 }
 
 /// The shape of the transmit ring beside a receive ring: that of the same request without a
-/// time-out, a private area and features, which a transmit ring has not.
+/// time-out, a private area and features, which a transmit ring doesn't have.
 fn tx_shape(request: &RingRequest) -> Shape
     requires { receive_fault request.now ≡ None }
     ensures shape { result ≡ tx_request request.now }
@@ -132,8 +132,8 @@ fn report<S: Source>(alloc: Global, workers: Workers<S, Forwarder>) -> Result<Fo
 ///
 /// Of each packet the frame is sent, with its tag put back. A packet whose frame has fewer than 14
 /// bytes, or more than fit after the header of a slot (`frame_size - 48`), is skipped. No slot is
-/// refused. The only error is that an allocation fails, and the sources are dropped then. That
-/// anything is sent before the run ends is not promised.
+/// refused. The only error is that an allocation fails, and the sources are dropped then. It isn't
+/// promised that anything is sent before the run ends.
 pub fn forward_workers<S: Source + Send, G: Gate + Sync, R: Threads + Wait + Sync>(
     rt: &R,
     alloc: Global,

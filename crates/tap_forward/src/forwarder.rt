@@ -1,9 +1,9 @@
 //! What receives on one ring and transmits on another.
 //!
 //! A forwarder reads each block as a reader does, and gives the packets that were read to a sender.
-//! So they go out while the run goes on, whenever all slots of the transmit ring are requested, and
-//! what is then left goes out at the end. Where memory runs out, the sender was given a part of the
-//! packets, and the next call goes on with the rest: none is lost, and none is sent twice.
+//! So they go out during the run, whenever all slots of the transmit ring are requested, and the
+//! rest goes out at the end. If memory runs out, the sender was given a part of the packets, and
+//! the next call goes on with the rest: none is lost, and none is sent twice.
 ghost use Rattle.std.specs.Prelude.{◌≡◌, ◌^◌, ◌<◌, ◌≤◌, length, None, IfOk, OnErr, OnOk};
 ghost use Rattle.reader_walk.specs.Takers.{IsReadable};
 ghost use Rattle.tp_layout.specs.Requests.{transmit_fault};
@@ -18,7 +18,7 @@ use tp_layout::{Block, Shape};
 /// What a forwarder leaves.
 #[derive(Debug, Drop)]
 pub struct Forwarded {
-    /// What a reader of the same blocks gives.
+    /// What a reader of the same blocks returns.
     pub outputs: Outputs,
     /// The packets that were sent, in order. Each is the frame of a packet that was read, its tag
     /// put back, with time 0 and its own length as the length on the wire.
@@ -36,7 +36,7 @@ pub struct Forwarder {
     reader: Reader,
     /// What it sends with.
     sender: Sender,
-    /// How many of the packets that were received the sender was given.
+    /// How many of the received packets the sender was given.
     given: usize,
 }
 
@@ -57,7 +57,7 @@ impl Forwarder {
     ghost use Rattle.tap_forward.specs.Forwarders.{new_forwarder};
 
     /// A forwarder that has read nothing: it reads blocks of the shape `shape`, keeps their texts
-    /// where it is asked to, and sends through a ring of the shape `tx`, which is that of a request
+    /// if it is asked to, and sends through a ring of the shape `tx`, which is that of a request
     /// that passed `RingRequest::check_tx`.
     pub fn new(alloc: Global, shape: Shape, tx: Shape, dump: bool) -> Result<Forwarder, Memory>
         requires { transmit_fault tx ≡ None }
@@ -70,7 +70,7 @@ impl Forwarder {
         })
     }
 
-    /// Sends what is still requested, and gives all that was read, sent and skipped. No slot is
+    /// Sends what is still requested, and returns all that was read, sent and skipped. No slot is
     /// ever refused.
     pub fn end(self) -> Result<Forwarded, Memory>
         ensures { IfOk result (λ forwarded. forwarded ≡ forwarded_of self) }
@@ -110,7 +110,7 @@ impl Taker for Forwarder {
     ghost taken = { λ forwarder. forwarder.taken };
 
     /// Reads a block, and queues the frame of each of its packets that has from 14 bytes to as many
-    /// as fit after the header of a slot; where all slots are requested it sends first. Every other
+    /// as fit after the header of a slot; if all slots are requested it sends first. Every other
     /// packet is skipped.
     fn block(&mut self, block: &Block) -> Result<(), Memory> {
         self.forward(block)

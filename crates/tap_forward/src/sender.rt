@@ -15,12 +15,12 @@ use tx_ring::{SendError, TxError, TxRing};
 /// The fewest bytes of a frame that is sent: an Ethernet header.
 const LEAST: usize = 14;
 
-/// A transmit ring, and what became of the packets that it was given.
+/// A transmit ring, and the result for the packets that it was given.
 #[derive(Drop)]
 pub(crate) struct Sender {
-    /// Gives the memory for the frames.
+    /// Allocates the frames.
     pub(crate) alloc: Global,
-    /// The ring. It never stops, since nothing but good frames is queued.
+    /// The ring. It never stops, since only good frames are queued.
     pub(crate) ring: TxRing,
     /// The packets that were sent so far.
     pub(crate) sent: Packets,
@@ -86,8 +86,8 @@ impl Sender {
         }
     }
 
-    /// Gives it a packet: its frame is queued, or skipped where it is no frame of 14 bytes to as
-    /// many as fit. After `Memory` it was not given the packet.
+    /// Gives it a packet: its frame is queued, or skipped unless it has from 14 bytes to as many as
+    /// fit. After `Memory` it was not given the packet.
     fn give(&mut self, packet: &Packet) -> Result<(), Memory>
         requires going { IsGoing self.old.ring }
         requires few { self.old.ring.placed < 2 ^ 54 }
@@ -131,8 +131,8 @@ impl Sender {
         self.queue_whole(frame)
     }
 
-    /// Queues a frame that is no runt; where all slots are requested it sends first. A frame that
-    /// is longer than what fits into a slot is skipped. After `Memory` the frame was not queued.
+    /// Queues a frame that isn't a runt; if all slots are requested it sends first. A frame that is
+    /// longer than what fits into a slot is skipped. After `Memory` the frame was not queued.
     fn queue_whole(&mut self, frame: &[u8]) -> Result<(), Memory>
         requires going { IsGoing self.old.ring }
         requires few { self.old.ring.placed < 2 ^ 54 }
@@ -163,7 +163,7 @@ impl Sender {
         }
     }
 
-    /// Queues a frame that fits into a slot, where one is free.
+    /// Queues a frame that fits into a slot, if one is free.
     fn queue_free(&mut self, frame: &[u8])
         requires going { IsGoing self.old.ring }
         requires few { self.old.ring.placed < 2 ^ 54 }

@@ -1,4 +1,4 @@
--- Which files are missed after two savings.
+-- Which files are missed after two saves.
 use Rattle.std.proofs.Common.{◌≡◌, ◌≢◌, ◌<◌, ◌≤◌, ◌+◌, ℕ, Bool, true, false, List, [], ◌∷◌, ◌++◌, refl, sym, ap, ◌∙◌, subst, arith, length, take, drop, add-one, get_or, append_assoc, length-append, drop-cons}
 use Rattle.std.proofs.Common.{inl, inr}
 use Rattle.std.proofs.Math.Seq.{take-suc}
@@ -66,7 +66,7 @@ all_apart P (file ∷ files) names fact apart =
 
 -- ---- what a name holds
 
--- a file stays as it is where other names are changed
+-- a file stays as it is when other names are changed
 stays : (a b c : Option Contents) (names more : List (List ℕ))
     → KeepsAllBut a b names → KeepsAllBut b c more → (file : File) → IsApart file.name more
     → HoldsNow a b file → HoldsNow a c file
@@ -75,21 +75,21 @@ stays (Some a) None c names more h k file apart holds = absurd h
 stays (Some a) (Some b) None names more h k file apart holds = absurd k
 stays (Some a) (Some b) (Some c) names more h k file apart holds = k file.name apart ∙ holds
 
--- a store that reported before what it holds reports it after a saving too
+-- a store that reported its content before a save reports it afterwards too
 later : (a b c : Option Contents) (names : List (List ℕ)) → KeepsAllBut a b names
     → (file : File) → HoldsNow b c file → HoldsNow a c file
 later None b c names h file holds = tt
 later (Some a) None c names h file holds = absurd h
 later (Some a) (Some b) c names h file holds = holds
 
--- what holds its bytes holds the old or the new ones
+-- a name that holds its file's bytes holds the old or the new ones
 now_new : (a b : Option Contents) (names : List (List ℕ)) → KeepsAllBut a b names
     → (file : File) → HoldsNow a b file → HoldsOldOrNew a b file
 now_new None b names h file holds = tt
 now_new (Some a) None names h file holds = absurd h
 now_new (Some a) (Some b) names h file holds = inr holds
 
--- so does a name that isn't touched
+-- and so does a name that isn't touched
 untouched : (a b : Option Contents) (names : List (List ℕ)) → KeepsAllBut a b names
     → (file : File) → IsApart file.name names → HoldsOldOrNew a b file
 untouched None b names h file apart = tt
@@ -145,7 +145,7 @@ rose_none files a b h = subst (λ n. RoseBy n a b) (sym (none_marked files)) (om
 
 -- ---- faults
 
--- where both were saved no save failed
+-- if both were saved no save failed
 faultless_both : (a b c : StoreSeen) (s t : Bool) → b.exact ≡ a.exact
     → MatchBool s (NoSaveFailed a b) ⊤ → MatchBool t (NoSaveFailed b c) ⊤
     → MatchBool (s && t) (NoSaveFailed a c) ⊤
@@ -217,7 +217,7 @@ pub failed_by : (e : OutError) (P : Type 0) → e ≡ Failed → IfFailed e P �
 failed_by Failed P e h = h
 failed_by Memory P e h = cc
 
--- ---- where saving ended early
+-- ---- when saving ended early
 
 -- what was saved holds the old or the new bytes
 some_of : (a b : StoreSeen) (files : List File) (all : Bool) (names : List (List ℕ))
@@ -229,7 +229,7 @@ some_of a b files all names t h = record {
   rose = h.rose;
 }
 
--- files of which none is touched
+-- files none of which is touched
 some_untouched : (a b : StoreSeen) (files : List File) (names : List (List ℕ))
     → Touches a b names → AreApart files names → SavedSome a b files
 some_untouched a b files names t apart = record {
@@ -280,7 +280,7 @@ member_saved a b c packets blocks dump saved dumped result asked is first h seco
     (blocks.name ∷ [])
     first h second k ((differ, tt), tt)))
 
--- its packets, where memory ran out before the blocks
+-- its packets, if memory ran out before the blocks
 pub packets_alone : (a b c : StoreSeen) (packets blocks : File) (dump saved : Bool)
     → dump ≡ true → Touches a b (packets.name ∷ []) → Saved a b (packets ∷ []) saved → c ≡ b
     → packets.name ≢ blocks.name
@@ -298,7 +298,7 @@ packets_alone a b c packets blocks dump saved asked first h same differ =
     other : blocks.name ≢ packets.name
     other e = differ (sym e)
 
--- none of them, where it ran out before the packets
+-- none of them, if it ran out before the packets
 pub none_saved : (a b : StoreSeen) (files : List File) → b ≡ a → SavedSome a b files
 none_saved a b files same =
     subst (λ (s : StoreSeen). SavedSome a s files) (sym same)
@@ -329,7 +329,7 @@ both_saved setup a b c member report packets saved sent result small is first h 
     saved sent (output_names setup member) (forward_name setup member ∷ []) first h second k
     (sent_apart setup member report small))
 
--- what it read, where memory ran out before what it sent
+-- what it read, if memory ran out before what it sent
 pub outputs_early : (setup : Setup) (a b : StoreSeen) (member : ℕ) (report : MemberReport)
     (sent : Option (List Packet)) → member < 10
     → Touches a b (output_names setup member) → SavedSome a b (output_files setup member report)
@@ -352,7 +352,7 @@ outputs_alone setup a b c member report packets saved small t h same =
     (outputs_early setup a b member report (Some packets) small t
     (some_of a b (output_files setup member report) saved (output_names setup member) t h))
 
--- the names of a member that sent something or nothing are among those of its number
+-- the names of a member, whether it sent or not, are among those of its number
 pub touches_sent : (setup : Setup) (b c : StoreSeen) (at : ℕ) (forwards : Option Forwards)
     (sent : Option (List Packet)) → sent ≡ sent_by forwards at
     → Touches b c (names_at setup (is_some sent) at)
@@ -385,7 +385,7 @@ touches_all setup sends a b few many less t =
 zero_and : (x y : ℕ) → x ≡ y → 0 + x ≡ y
 zero_and x y e = omega (arith, e)
 
--- one member more
+-- one more member
 pub goes_on : (setup : Setup) (sends : Bool) (forwards : Option Forwards) (a b c : StoreSeen) (reports : List MemberReport)
     (report : MemberReport)
     (at : ℕ) (all saved : Bool)
@@ -408,7 +408,7 @@ goes_on setup sends forwards a b c reports report at all saved long more few t s
     before : (k : ℕ) → k < 0 + length (take at reports) → k ≢ at
     before k most = omega (arith, most, long)
 
--- all of them, where memory ran out at one
+-- all of them, if memory ran out at one
 pub ends_early : (setup : Setup) (sends : Bool) (forwards : Option Forwards) (a b c : StoreSeen) (reports rest : List MemberReport)
     (report : MemberReport) (at : ℕ) (all : Bool)
     → length (take at reports) ≡ at → reports ≡ take at reports ++ report ∷ rest

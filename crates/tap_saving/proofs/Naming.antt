@@ -59,7 +59,7 @@ packets_and_blocks_differ prefix member small =
       other : ◌≢◌ {A = ℕ} 112 98
       other e = omega (arith, e)
 
--- that of what a member sent is none of its other names
+-- the name of what a member sent isn't one of its other names
 packets_and_sent_differ : (prefix : List ℕ) (member : ℕ) → member < 10
     → file_name prefix member (codes ".pcap") ≢ file_name prefix member (codes ".tx.pcap")
 packets_and_sent_differ prefix member small =
@@ -76,7 +76,7 @@ blocks_and_sent_differ prefix member small =
 
 -- ---- names that are apart
 
--- each of these files has another name than all of these
+-- each of these files has a name other than all of these
 abbrev pub AreApart : List File → List (List ℕ) → Type 0
 AreApart [] names = Unit {0}
 AreApart (file ∷ files) names = IsApart file.name names × AreApart files names
@@ -102,7 +102,7 @@ are_apart_both [] xs ys a b = tt
 are_apart_both (file ∷ files) xs ys a b =
     (apart_both file.name xs ys a.0 b.0, are_apart_both files xs ys a.1 b.1)
 
--- a name of one member is none of another's
+-- a name of one member isn't one of another's
 apart_outputs : (setup : Setup) (a b : ℕ) (x : List ℕ) (dump : Bool) → a ≢ b → a < 10 → b < 10
     → IsApart (file_name setup.prefix a x)
     (file_name setup.prefix b (codes ".pcap")
@@ -138,7 +138,7 @@ files_apart_at setup sends a b output dumped true differ small_a small_b = (
 files_apart_at setup sends a b output dumped false differ small_a small_b =
     (apart_at setup sends a b (codes ".pcap") differ small_a small_b, tt)
 
--- the files of a member have other names than those of another
+-- the files of two members have different names
 pub member_apart : (setup : Setup) (sends : Bool) (a b : ℕ) (report : MemberReport)
     (sent : Option (List Packet)) → a ≢ b → a < 10 → b < 10
     → AreApart (files_at setup a report sent) (names_at setup sends b)
@@ -187,7 +187,7 @@ pub name_apart : (setup : Setup) (member : ℕ) → member < 10
     → IsApart (forward_name setup member) (output_names setup member)
 name_apart setup member small = name_apart_in setup member setup.dump small
 
--- so have those of several members
+-- and so have those of several members
 pub files_apart : (setup : Setup) (sends : Bool) (forwards : Option Forwards) (member other : ℕ) (reports : List MemberReport)
     → ((k : ℕ) → member ≤ k → k < member + length reports → k ≢ other)
     → member + length reports ≤ 10 → other < 10
@@ -241,7 +241,7 @@ append_nil_files : (xs : List File) → xs ++ [] ≡ xs
 append_nil_files [] = refl
 append_nil_files (x ∷ xs) = ap (λ (ys : List File). x ∷ ys) (append_nil_files xs)
 
--- one member more
+-- one more member
 pub files_more : (setup : Setup) (forwards : Option Forwards) (member : ℕ) (reports : List MemberReport) (report : MemberReport)
     → files_from setup forwards member (reports ++ report ∷ [])
     ≡ files_from setup forwards member reports
@@ -268,7 +268,7 @@ nat_cases (suc a) (suc b) h = by (nat_cases a b (omega (arith, h))) where
   by (inl same) = inl (ap suc same)
   by (inr less) = inr (omega (arith, less))
 
--- what is none of all names is none of a member's
+-- a name that isn't among all names isn't among a member's
 pub apart_of : (setup : Setup) (sends : Bool) (name : List ℕ) (member first count : ℕ) → first ≤ member
     → member < first + count → IsApart name (names_from setup sends first count)
     → IsApart name (names_at setup sends member)
@@ -285,7 +285,7 @@ apart_of setup sends name member first (suc count) least most a =
           (apart_front name (names_at setup sends first) (names_from setup sends (first + 1) count) a)
       by (inr later) rest = rest later
 
--- and none of those of fewer members
+-- and isn't among those of fewer members
 pub apart_fewer : (setup : Setup) (sends : Bool) (name : List ℕ) (few many : ℕ) → few ≤ many
     → IsApart name (names_from setup sends 0 many) → IsApart name (names_from setup sends 0 few)
 apart_fewer setup sends name few many less a =
@@ -319,7 +319,7 @@ names_of_one setup sends P member first (suc count) least most a =
           (all_front P (names_at setup sends first) (names_from setup sends (first + 1) count) a)
       by (inr later) rest = rest later
 
--- so a member's names are meant, also where another store means the same
+-- so a member's names are meant, and also in another store that means the same
 pub meant_at : (setup : Setup) (sends : Bool) (meant now : List ℕ → Bool) (member count : ℕ) → now ≡ meant
     → member < count → AllByRecursion (λ name. IsTrue (meant name)) (names_from setup sends 0 count)
     → AllByRecursion (λ name. IsTrue (now name)) (names_at setup sends member)
@@ -329,7 +329,7 @@ meant_at setup sends meant now member count same less all =
     (names_of_one setup sends (λ name. IsTrue (meant name)) member 0 count (omega arith)
     (omega (arith, less)) all)
 
--- ---- a member that sent something, or nothing
+-- ---- a member, whether it sent or not
 
 names_of_sender : (setup : Setup) (member : ℕ) (name : List ℕ) (sent : Option (List Packet))
     → IsApart name (names_at setup true member) → IsApart name (names_at setup (is_some sent) member)

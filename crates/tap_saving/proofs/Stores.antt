@@ -1,4 +1,4 @@
--- What savings one after the other do to a store.
+-- The effect of saves, one after another, on a store.
 use Rattle.std.proofs.Common.{◌≡◌, ℕ, List, [], ◌∷◌, refl, ap, ◌∙◌, arith}
 use Rattle.std.specs.Prelude.{Option, None, Some}
 use Rattle.tap_outside.specs.Contents.{Contents, KeepsOthers}
@@ -53,7 +53,7 @@ exact_touched t = ap (λ (s : StoreSeen). s.exact) t.same
 
 -- ---- what is touched
 
--- one saving touches its name
+-- one save touches its name
 pub touches_one : (old new : StoreSeen) (name : List ℕ)
     → OnlySaves old new name → Touches old new (name ∷ [])
 touches_one old new name only = record {

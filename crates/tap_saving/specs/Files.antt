@@ -1,5 +1,5 @@
--- The files of a run: for each member from 0 up its packets, its blocks where they are asked for,
--- and what it sent where members send. The file of what `send` sent.
+-- The files of a run: for each member from 0 up its packets, its blocks if they are asked for, and
+-- what it sent if members send. The file of what `send` sent.
 use Rattle.std.specs.Prelude.{ℕ, zero, suc, ◌+◌, ◌≤◌, Bool, true, false, List, [], ◌∷◌, ◌++◌, All}
 use Rattle.std.specs.Prelude.{length, codes, if◌then◌else◌, slice_get, Option, None, Some}
 use Rattle.std.specs.Fmt.{decimal}
@@ -9,7 +9,7 @@ use Rattle.setup_text.specs.declared.reports.Forwards.{Forwards}
 use Rattle.setup_text.specs.declared.reports.MemberReport.{MemberReport}
 use Rattle.setup_text.specs.declared.setups.Setup.{Setup}
 
--- a file: what its name shall hold
+-- a file: what its name has to hold
 pub record File : Type 0 where
   pub name : List ℕ
   pub bytes : List ℕ
@@ -30,7 +30,7 @@ output_names setup member =
 abbrev pub forward_name : Setup → ℕ → List ℕ
 forward_name setup member = file_name setup.prefix member (codes ".tx.pcap")
 
--- the names of a member's files, where members send or don't
+-- the names of a member's files, whether members send or not
 abbrev pub names_at : Setup → Bool → ℕ → List (List ℕ)
 names_at setup false member = output_names setup member
 names_at setup true member = output_names setup member ++ forward_name setup member ∷ []
@@ -51,7 +51,7 @@ sent_name setup = setup.prefix ++ codes ".tx.pcap"
 abbrev pub sent_file : Setup → List Packet → File
 sent_file setup packets = record { name = sent_name setup; bytes = output_of packets }
 
--- packets of which an output file can be made: with a tag put back a length has 32 bits
+-- packets that an output file can be made from: with a tag put back a length has 32 bits
 abbrev pub CanBeOutput : List Packet → Type 0
 CanBeOutput packets = All (λ packet. length packet.bytes ≤ 4294967291) packets
 
@@ -76,7 +76,7 @@ abbrev pub forward_file : Setup → ℕ → List Packet → File
 forward_file setup member packets =
     record { name = forward_name setup member; bytes = output_of packets }
 
--- what a member sent, where members send
+-- what a member sent, if members send
 abbrev pub sent_by : Option Forwards → ℕ → Option (List Packet)
 sent_by None member = None
 sent_by (Some forwards) member = slice_get forwards.sent member

@@ -1,4 +1,4 @@
--- What saving does to a store.
+-- The effect of saving on a store.
 use Rattle.std.specs.Prelude.{◌≡◌, ◌≢◌, ◌≤◌, ℕ, ◌+◌, Bool, true, false, IsTrue, MatchBool, List, []}
 use Rattle.std.specs.Prelude.{◌∷◌, ⊤, Option, None, Some, ◌⊎◌}
 use Rattle.tap_outside.specs.Contents.{Contents, HoldsFile}
@@ -8,12 +8,12 @@ use Rattle.tap_saving.specs.Files.{File}
 
 -- ---- what a name holds
 
--- it holds its file's bytes, where the store reported before what it holds
+-- the name holds its file's bytes, if the store reported its content before
 abbrev pub HoldsNow : Option Contents → Option Contents → File → Type 0
 HoldsNow None after file = ⊤
 HoldsNow (Some before) after file = HoldsFile after file.name file.bytes
 
--- it holds what it held, or its file's bytes
+-- the name holds what it held, or its file's bytes
 abbrev pub HoldsOldOrNew : Option Contents → Option Contents → File → Type 0
 HoldsOldOrNew None after file = ⊤
 HoldsOldOrNew (Some before) None file = ⊥
@@ -22,14 +22,14 @@ HoldsOldOrNew (Some before) (Some after) file =
 
 -- ---- files of which some are missed
 
--- the fact holds of each file, but for those that are marked as missed
+-- the fact holds of each file, except those that are marked as missed
 abbrev pub AllUnless : (File → Type 0) → List Bool → List File → Type 0
 AllUnless fact [] [] = ⊤
 AllUnless fact (true ∷ missed) (file ∷ files) = AllUnless fact missed files
 AllUnless fact (false ∷ missed) (file ∷ files) = fact file × AllUnless fact missed files
 AllUnless fact missed files = ⊥
 
--- each file holds its bytes, but for those that are marked
+-- each file holds its bytes, except those that are marked
 abbrev pub HoldUnless : List Bool → Option Contents → Option Contents → List File → Type 0
 HoldUnless missed before after files = AllUnless (HoldsNow before after) missed files
 
@@ -51,7 +51,7 @@ abbrev pub IsApart : List ℕ → List (List ℕ) → Type 0
 IsApart name [] = ⊤
 IsApart name (other ∷ names) = (name ≢ other) × IsApart name names
 
--- every name but these holds what it held
+-- every name except these holds what it held
 abbrev pub KeepsAllBut : Option Contents → Option Contents → List (List ℕ) → Type 0
 KeepsAllBut None new names = ⊤
 KeepsAllBut (Some old) None names = ⊥
@@ -60,7 +60,7 @@ KeepsAllBut (Some old) (Some new) names =
 
 -- ---- what a call does
 
--- nothing changes but what these names hold, and the count of faults of saving, which may rise
+-- nothing changes except what these names hold, and the count of failed saves, which may rise
 pub record Touches (old new : StoreSeen) (names : List (List ℕ)) : Type 0 where
   pub same : new ≡ record old { held = new.held; save_faults = new.save_faults }
   pub others : KeepsAllBut old.held new.held names
@@ -70,18 +70,18 @@ pub record Touches (old new : StoreSeen) (names : List (List ℕ)) : Type 0 wher
 abbrev pub NoSaveFailed : StoreSeen → StoreSeen → Type 0
 NoSaveFailed old new = IsTrue old.exact → new.save_faults ≡ old.save_faults
 
--- the files were saved, or not all of them; a file is missed only where the count of faults rose
--- for it
+-- the files were saved, or not all of them; a file is missed only if the count of faults rose for
+-- it
 pub record Saved (old new : StoreSeen) (files : List File) (all : Bool) : Type 0 where
   pub missed : List Bool
   pub hold : HoldUnless missed old.held new.held files
   pub rose : RoseBy (marked missed) old.save_faults new.save_faults
   pub none_or_some : MatchBool all (marked missed ≡ 0) (1 ≤ marked missed)
-  -- where all were saved no save failed
+  -- if all were saved no save failed
   pub faultless : MatchBool all (NoSaveFailed old new) ⊤
 
 -- saving ended early: each name holds what it held or its file's bytes; a name is missed, and may
--- hold anything, only where the count of faults rose for it
+-- hold anything, only if the count of faults rose for it
 pub record SavedSome (old new : StoreSeen) (files : List File) : Type 0 where
   pub missed : List Bool
   pub hold : AllUnless (HoldsOldOrNew old.held new.held) missed files

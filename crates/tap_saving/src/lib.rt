@@ -4,7 +4,7 @@
 mod members;
 mod names;
 mod saves;
-mod sent;
+mod sent_file;
 
 pub use members::save_members;
-pub use sent::save_sent;
+pub use sent_file::save_sent;

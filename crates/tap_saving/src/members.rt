@@ -17,10 +17,10 @@ use std::alloc::Global;
 use tap_outside::Store;
 
 /// Saves the files of members, those of member 0 first: the packets that were read, as a capture
-/// file; where the setup asks for them, the bytes of the blocks; and, where members send, the
-/// packets that were sent, as a capture file with the ending `.tx.pcap`. Every file is tried, even
-/// where one failed. It returns whether all were saved. The error is out of memory: then each name
-/// holds what it held or its file's bytes, but for as many as saving failed.
+/// file; if the setup asks for them, the bytes of the blocks; and, if members send, the packets
+/// that were sent, as a capture file with the ending `.tx.pcap`. Every file is tried, even if one
+/// failed. It returns whether all were saved. The error is out of memory: then each name holds what
+/// it held before or its file's bytes, except for the saves that failed.
 pub fn save_members<S: Store>(
     alloc: Global,
     setup: &Setup,
@@ -49,7 +49,7 @@ pub fn save_members<S: Store>(
     Ok(all)
 }
 
-/// What a member sent, where members send.
+/// What a member sent, if members send.
 fn sent_by(forwards: Option<&Forwards>, member: usize) -> Option<&Packets>
     ensures { option_copied result ≡ sent_by (option_copied forwards.entry) member }
 {

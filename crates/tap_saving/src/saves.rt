@@ -9,7 +9,7 @@ use frame_view::{Memory, Packets};
 use std::alloc::Global;
 use tap_outside::{OutError, Store};
 
-/// Saves a file, and returns whether that succeeded. Where memory runs out the store is as before.
+/// Saves a file, and returns whether that succeeded. If memory runs out the store is as before.
 pub(crate) fn save_file<S: Store>(store: &mut S, name: &[u8], bytes: &[u8]) -> Result<bool, Memory>
     requires { IsTrue ((S.seen store.old).to_save name.now) }
     ensures touches { Touches (S.seen store.old) (S.seen store.new) (name.now ∷ []) }
@@ -24,7 +24,7 @@ pub(crate) fn save_file<S: Store>(store: &mut S, name: &[u8], bytes: &[u8]) -> R
     }
 }
 
-/// Saves packets as a capture file, and returns whether that succeeded. Where memory runs out the
+/// Saves packets as a capture file, and returns whether that succeeded. If memory runs out the
 /// store is as before.
 pub(crate) fn save_capture<S: Store>(
     alloc: Global,

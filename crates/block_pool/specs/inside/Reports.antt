@@ -23,7 +23,7 @@ pub record HaveRun (job : Job) (moments : List ℕ) (old new : List (Option Sour
   pub gave : AllGave old new bytes ends
   pub run : IsGroupRun job moments bytes ends logs notes rings
 
--- what is given of all blocks that a member's notes retired: their packets, their texts where
+-- what is returned of all blocks that a member's notes retired: their packets, their texts if
 -- asked, their number
 pub record AreOutputsOf (shape : RingRequest) (dump : Bool) (notes : List Note) (outputs : Outputs)
     : Type 0 where

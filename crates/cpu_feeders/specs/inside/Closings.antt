@@ -32,7 +32,7 @@ module _ {T : Type 0} (base_of : T → Base) (taken_by : T → List Taken) where
     pub read : taken_by closed.taker ≡ taken_of (base_of walker.taker) closed.ring.retired
     pub seat : closed.seat ≡ walker.seat
 
-  -- and so of each member
+  -- and the same of each member
   abbrev pub AllAtEnd : List Lock → List (List Seat) → List (Walker T) → Type 0
   AllAtEnd [] [] [] = ⊤
   AllAtEnd (lock ∷ locks) (member_seats ∷ rows) (walker ∷ walkers) =

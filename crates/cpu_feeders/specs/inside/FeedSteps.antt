@@ -1,4 +1,4 @@
--- A feeder on its way.
+-- A feeder while it runs.
 use Rattle.std.specs.Prelude.{◌≡◌, ℕ, ◌+◌, ◌*◌, ◌<◌, ◌≤◌, ◌++◌, ◌∷◌, [], Bool, List, MatchBool, Option, None, Some, length, option_to_list, slice_index_or, take}
 use Rattle.cpu_feed.specs.Feeding.{Feeding, IsAllOfCpu}
 use Rattle.cpu_feed.specs.Lawful.{IsLawful, LogsLawfully}
@@ -47,13 +47,13 @@ AreFedAt job cpu arrivals log locks member_seats =
     IsFedAt job cpu member arrivals log (slice_index_or locks member lock)
     (slice_index_or member_seats member member_seat)
 
--- what arrived at the frames that were fed, where these are all frames of the source
+-- what arrived with the frames that were fed, given all frames of the source
 abbrev pub arrived_of : List Frame → Feeding → List Frame
 arrived_of all feed = arrivals_of (has_defrag feed.path.shape.flags) (take feed.fed all)
 
 -- ---- between two frames
 
--- what arrived at the frames so far is logged, and was delivered
+-- what arrived with the frames so far is logged, and was delivered
 pub record Goes (job : Job) (locks : List Lock) (feed : Feeding) (member_seats : List Seat)
     (seat : SeatValue) : Type 0 where
   pub shape : feed.path.shape ≡ job.setup.plan
@@ -92,7 +92,7 @@ pub record Awaits (job : Job) (locks : List Lock) (arrival : Frame) (feed : Feed
 
 -- ---- a delivery
 
--- what an arrival does to a seat: its tries there are made, or none where it offers nothing
+-- what an arrival does to a seat: its tries there are made, or none if it offers nothing
 abbrev pub IsTriedAs : Option Offer → List Fate → Lock → Seat → Seat → Type 0
 IsTriedAs None came lock before after = (came ≡ []) × (after ≡ before)
 IsTriedAs (Some offer) came lock before after = Tried offer came lock before after
@@ -114,7 +114,7 @@ pub record IsLogged (queue : ℕ) (locks : List Lock) (entry : ArrivalLog) (made
 
 -- ---- a frame
 
--- a frame more was fed and delivered, or none was left
+-- one more frame was fed and delivered, or none was left
 abbrev pub FeedsOn : Bool → Job → List Lock → Feeding → Feeding → List Seat → SeatValue → Type 0
 FeedsOn more job locks old new member_seats seat =
     MatchBool more ((new.fed ≡ old.fed + 1) × Goes job locks new member_seats seat)

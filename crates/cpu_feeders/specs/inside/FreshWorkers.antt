@@ -33,7 +33,7 @@ first_feed plan number first = record {
   path = first_path plan;
 }
 
--- those of sources, with the numbers from this one up
+-- those of the sources, numbered from this number
 abbrev pub first_feeds : Shape → ℕ → List (Option SourceSeen) → List Feeding
 first_feeds plan number [] = []
 first_feeds plan number (first ∷ firsts) =
@@ -74,9 +74,10 @@ pub record IsDealt (feeders : ℕ) (dealer : DealerValue) (seats spare : List Se
   pub spare_count : length spare ≡ 9
   pub spare_are : AllByRecursion (IsFreshOf dealer) spare
 
--- The workers of a job: a reader for each member, with its taker; a timer that has told nothing; a
--- feeder for each CPU, with its source. The dealer's seats that none of them has are spare.
-pub record AreHired {S T : Type 0} (base_of : T → Base) (taken_by : T → List Taken) (job : Job)
+-- The workers of a job: a reader for each member, with its taker; a timer that has reported
+-- nothing; a feeder for each CPU, with its source. The dealer's seats that none of them has are
+-- spare.
+pub record AreFreshThreads {S T : Type 0} (base_of : T → Base) (taken_by : T → List Taken) (job : Job)
     (firsts : List (Option SourceSeen)) (takers : List T) (locks : List Lock) (dealer : DealerValue)
     (spare : List SeatValue) (workers : List (Worker S T)) : Type 0 where
   pub walkers : List (Walker T)

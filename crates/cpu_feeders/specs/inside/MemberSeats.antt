@@ -4,13 +4,13 @@ use Rattle.std.specs.Prelude.{ℕ, zero, suc, ◌+◌, List, [], ◌∷◌, ◌+
 use Rattle.member_turns.specs.Seats.{Lock, Seat}
 use Rattle.turn_lock.specs.Seats.{fresh_seat}
 
--- each list with one item more at its end, as far as there are items
+-- each list with one more item at its end, as far as there are items
 abbrev pub with_each : {A : Type 0} → List (List A) → List A → List (List A)
 with_each [] items = []
 with_each (list ∷ lists) [] = list ∷ lists
 with_each (list ∷ lists) (item ∷ items) = (list ++ item ∷ []) ∷ with_each lists items
 
--- and so for one column of items after the other
+-- and the same for one column of items after another
 abbrev pub with_all : {A : Type 0} → List (List A) → List (List A) → List (List A)
 with_all lists [] = lists
 with_all lists (column ∷ columns) = with_all (with_each lists column) columns
@@ -19,7 +19,7 @@ with_all lists (column ∷ columns) = with_all (with_each lists column) columns
 abbrev pub fresh_member_seats : List Lock → ℕ → List Seat
 fresh_member_seats locks number = map (λ lock. fresh_seat lock number) locks
 
--- those of n users, the first of this number
+-- those of n users, numbered from this number
 abbrev pub fresh_users : List Lock → ℕ → ℕ → List (List Seat)
 fresh_users locks number zero = []
 fresh_users locks number (suc more) = fresh_member_seats locks number ∷ fresh_users locks (number + 1) more

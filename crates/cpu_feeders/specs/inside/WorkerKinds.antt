@@ -25,7 +25,7 @@ module _ {S T : Type 0} where
   feeders_in (worker.Feeds feeder ∷ workers) = feeder ∷ feeders_in workers
   feeders_in (other ∷ workers) = feeders_in workers
 
-  -- a request of a worker for memory was refused
+  -- an allocation of a worker failed
   abbrev pub is_full : Worker S T → Bool
   is_full (worker.Walks walker) = walker.full
   is_full (worker.Ticks timer) = timer.full

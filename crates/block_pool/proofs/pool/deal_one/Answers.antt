@@ -1,4 +1,4 @@
-use Rattle.cpu_feeders.proofs.Hired.{seats_of_others}
+use Rattle.cpu_feeders.proofs.FreshThreads.{seats_of_others}
 use Rattle.block_pool.proofs.pool.deal_one.Goals as goal
 
 pub returns-clause-others : goal.returns-clause-others

@@ -1,5 +1,5 @@
 use Rattle.std.proofs.Common.{◌+◌, List, length, ap, ◌∙◌, take, drop, arith}
-use Rattle.block_pool.proofs.Hired.{passes_long}
+use Rattle.block_pool.proofs.FreshThreads.{passes_long}
 use Rattle.work_queue.specs.Passes.{PassValue}
 use Rattle.block_pool.proofs.pool.queue_for.Goals as goal
 

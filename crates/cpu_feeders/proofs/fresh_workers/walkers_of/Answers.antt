@@ -3,7 +3,7 @@ use Rattle.std.specs.List.{AllByRecursion}
 use Rattle.ticket_dealer.specs.Seats.{IsFreshOf, SeatValue}
 use Rattle.turn_lock.proofs.SeatLists.{all_but}
 use Rattle.cpu_feeders.specs.declared.walker.Walker.{Walker}
-use Rattle.cpu_feeders.proofs.Hired.{end_in, taker_in}
+use Rattle.cpu_feeders.proofs.FreshThreads.{end_in, taker_in}
 use Rattle.cpu_feeders.proofs.Numbered.{numbered_more}
 use Rattle.cpu_feeders.proofs.OneMore.{all_more, as_many, as_many_at_end, both_shorter, empty, made_all, next_item, some_left}
 use Rattle.cpu_feeders.proofs.fresh_workers.walkers_of.Goals as goal

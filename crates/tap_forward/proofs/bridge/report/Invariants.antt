@@ -8,7 +8,7 @@ use Rattle.tx_ring.specs.Rings.{room_of}
 use Rattle.tap_forward.specs.Bridges.{IsForwarderOf, sent_for, skipped_for}
 use Rattle.tap_forward.proofs.bridge.report.Given as goal
 
--- of the members so far all is reported; there is a forwarder and a ring for each of the others
+-- the members so far are reported; there is a forwarder and a ring for each of the others
 abbrev pub invariant-loop-notes : goal.invariant-loop-notes
 invariant-loop-notes g l = record {
   many : length l.forwarders.items ≡ length l.notes-iterator.rest.items;

@@ -1,0 +1,53 @@
+//! What a polling thread does while it finds nothing.
+
+use std::sync::Wait;
+use std::thread;
+use std::thread::Parker;
+use std::time::Duration;
+
+/// The number of unsuccessful polls in a row that are each followed by a yield; those after them
+/// are followed by a sleep.
+const YIELDS: u32 = 100;
+
+/// How long a sleep is, in microseconds.
+const SLEEP: u64 = 50;
+
+/// How a thread that polls for work waits between unsuccessful polls, so that other threads can
+/// run.
+///
+/// It yields after each of the first 100 such polls in a row, and sleeps 50 microseconds after each
+/// later one. Both numbers are this project's own choice: a ring of a few small blocks is read
+/// without a sleep, and a thread that finds nothing for longer takes no processor from those that
+/// have work. No clause says how long it waits, or that it waits at all.
+#[derive(Drop)]
+pub struct Idler {
+    /// How many polls in a row were unsuccessful.
+    empty_looks: u32,
+    /// What it sleeps on. Nobody else has it, so nobody wakes the thread.
+    sleeper: Parker,
+}
+
+impl Idler {
+    /// The idler of a thread that hasn't polled yet.
+    pub fn new() -> Idler {
+        Idler {
+            empty_looks: 0,
+            sleeper: Parker::new(),
+        }
+    }
+
+    /// Records a successful poll: the next unsuccessful one is the first in a row.
+    pub fn found(&mut self) {
+        self.empty_looks = 0;
+    }
+
+    /// Lets other threads run, after an unsuccessful poll.
+    pub fn wait<R: Wait>(&mut self, rt: &R) {
+        self.empty_looks = self.empty_looks.saturating_add(1);
+        if self.empty_looks > YIELDS {
+            self.sleeper.park_timeout(rt, Duration::from_micros(SLEEP));
+        } else {
+            thread::yield_now();
+        }
+    }
+}
