@@ -1,4 +1,4 @@
--- What the tries of an arrival add to the notes of the members: each its note, at its member.
+-- What the tries of an arrival add to the notes of the members: each adds its note, at its member.
 use Rattle.std.proofs.Common.{◌≡◌, ◌≢◌, ℕ, ◌<◌, true, false, cond, eqb, List, [], ◌∷◌, ◌++◌, length, get_or, refl, sym, ap, ◌∙◌, arith, append_assoc}
 use Rattle.std.specs.Prelude.{Option}
 use Rattle.std.proofs.lemmas.Bool.{eq-eqb, ne_eqb}
@@ -44,8 +44,7 @@ notes-append room own [] b (note ∷ x) y h k = absurd h
 notes-append room own (attempt ∷ a) b [] y h k = absurd h
 notes-append room own (attempt ∷ a) b (note ∷ x) y h k = (h.0, notes-append room own a b x y h.1 k)
 
--- a frame with the entry that the log will have of it, at rings of this room and a station of this
--- address
+-- a frame with its future entry in the log, for rings of this room and a station of this address
 pub record Arrival : Type 0 where
   pub room : ℕ
   pub own : Option (List ℕ)
@@ -64,7 +63,7 @@ pub record Adds (P : ℕ → Ring → Type 0) (a : Arrival) (member : ℕ) (trie
   pub others : (cpu : ℕ) → cpu ≢ a.frame.cpu → frame_notes cpu notes ≡ []
   pub opens : (clock : ℕ) → P clock old → P clock new
 
--- the same of all rings
+-- the same for all rings
 pub record Spread (P : ℕ → Ring → Type 0) (a : Arrival) (tries : List Try) (old new : List Ring) : Type 0 where
   pub count : length new ≡ length old
   pub each : (member : ℕ) → member < length old → Adds P a member tries (get_or old member no_ring) (get_or new member no_ring)

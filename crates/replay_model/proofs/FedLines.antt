@@ -20,7 +20,7 @@ use Rattle.replay_model.proofs.KeptArrivals.{arrived_goes, arrived_is}
 use Rattle.replay_model.proofs.ReplayStates.{Waiting, Goes, Joins, Logs, count_goes, read_goes, tick_goes}
 use Rattle.replay_model.proofs.Places.{set_everywhere}
 
--- a CPU whose next frame is no arrival
+-- a CPU whose next frame isn't an arrival
 module _ (P : ℕ → Ring → Type 0) (rules : Rules) (steps : RingSteps) (arriving : List Waiting) (clock cpu : ℕ) (waiting : Waiting) (replay : Replay)
     (inside : cpu < length replay.cpus) (next_frame : (cpu_at replay cpu).waiting ≡ None ∷ waiting)
     (h : Goes P rules steps arriving clock replay) where

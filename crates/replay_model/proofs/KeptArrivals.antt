@@ -1,4 +1,4 @@
--- An arrival keeps what holds of a replay.
+-- An arrival preserves what holds of a replay.
 use Rattle.std.proofs.Common.{◌≡◌, ℕ, ◌+◌, ◌<◌, eqb, ltb, List, [], ◌∷◌, ◌++◌, length, get_or, refl, sym, ap, subst, ◌∙◌, arith, append_assoc}
 use Rattle.std.specs.Prelude.{Some, slice_set}
 use Rattle.std.proofs.lemmas.List.{get_or-set_same, length-set, set-set}
@@ -32,7 +32,7 @@ has_ticket ByCpu ticket = refl
 has_ticket Rollover ticket = refl
 has_ticket Qm ticket = refl
 
--- the log of the CPU that the frame arrives at
+-- the log of the CPU at which the frame arrives
 log_more : (rules : Rules) (number : ℕ) (arrivals : List Frame) (old : Cpu) (frame : Frame) (waiting : Waiting) (entry : ArrivalLog)
     → 0 < rules.members → Logs rules number arrivals (record old { waiting = Some frame ∷ waiting }) → IsEntry rules old.present frame entry
     → Logs rules number arrivals (record { waiting = waiting; present = present_after rules.mode old.present entry.tries; log = old.log ++ entry ∷ [] })
@@ -68,7 +68,7 @@ logged rules old waiting entry = record {
 module _ (P : ℕ → Ring → Type 0) (rules : Rules) (steps : RingSteps) (arriving : List Waiting) (clock cpu : ℕ) (frame : Frame) (waiting : Waiting) (replay : Replay)
     (some : 0 < rules.members) (inside : cpu < length replay.cpus) (next_frame : (cpu_at replay cpu).waiting ≡ Some frame ∷ waiting)
     (h : Goes P rules steps arriving clock replay) where
-  -- as if the frame had been looked at
+  -- as if the frame had been judged
   logs_at : Logs rules cpu (somes (get_or arriving cpu [])) (record (cpu_at replay cpu) { waiting = Some frame ∷ waiting })
   logs_at =
       subst (λ (ws : Waiting). Logs rules cpu (somes (get_or arriving cpu [])) (record (cpu_at replay cpu) { waiting = ws })) next_frame (h.logs cpu)
@@ -131,7 +131,7 @@ module _ (P : ℕ → Ring → Type 0) (rules : Rules) (steps : RingSteps) (arri
           tickets = tickets_at;
         }
 
--- an arrival of a CPU that is this
+-- an arrival of a CPU in this state
 abbrev tried_with : Rules → RingSteps → Frame → Cpu → Replay → Tried
 tried_with rules steps frame of replay =
     tries_of rules steps (home_of rules of.present (ticket_of rules.mode replay.ticket) frame)

@@ -6,7 +6,7 @@ use Rattle.ring_model.specs.declared.notes.Note.TheVariants.{Counted}
 use Rattle.ring_model.specs.declared.notes.Offer.{Offer}
 use Rattle.replay_model.specs.RingSteps.{RingSteps, put_note, read_by, ticked, try_note}
 
--- what is kept is said of a ring whose clock isn't past a moment
+-- what is preserved is about a ring whose clock isn't past a moment
 pub record KeepOpen (steps : RingSteps) (P : ℕ → Ring → Type 0) : Type 0 where
   pub first : P 0 (fresh steps.size)
   pub put : (clock : ℕ) (ring : Ring) (offer : Offer) → P clock ring → P clock (noted ring (put_note steps ring offer))

@@ -1,4 +1,4 @@
--- The tickets of logs, one of which has an entry more.
+-- The tickets of logs, one of which has one more entry.
 use Rattle.std.proofs.Common.{◌≡◌, ℕ, ◌+◌, ◌<◌, ◌≤◌, eqb, ltb, List, [], ◌∷◌, ◌++◌, length, get_or, refl, ap, ◌∙◌, arith}
 use Rattle.std.specs.Prelude.{Option, None, Some, sum_by, count_by, slice_set}
 use Rattle.std.specs.List.{cons_option}
@@ -18,7 +18,7 @@ tickets-append : (a b : List ArrivalLog) → tickets_of (a ++ b) ≡ tickets_of 
 tickets-append [] b = refl
 tickets-append (entry ∷ a) b = ap (cons_option entry.ticket) (tickets-append a b) ∙ front-append entry.ticket (tickets_of a) (tickets_of b)
 
--- the tickets of a log with an entry more
+-- the tickets of a log with one more entry
 pub tickets_more : (log : List ArrivalLog) (entry : ArrivalLog) (ticket : ℕ) → entry.ticket ≡ Some ticket
     → tickets_of (log ++ entry ∷ []) ≡ tickets_of log ++ ticket ∷ []
 tickets_more log entry ticket e =

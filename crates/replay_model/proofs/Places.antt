@@ -18,7 +18,7 @@ module _ {X : Type 0} (P : ℕ → X → Type 0) (xs : List X) (at : ℕ) (new d
     | inr other ↦ elsewhere k (λ e. other (sym e)) (others k (λ e. other (sym e)))
   ]
 
-  -- within the list, where the element that is set may be past its end
+  -- within the list, while the element that is set may be past its end
   pub set_within : (at < length xs → P at new) → ((k : ℕ) → k < length xs → k ≢ at → P k (get_or xs k d))
       → (k : ℕ) → k < length xs → P k (get_or (set xs at new) k d)
   set_within p others k below = elim (cases_eq at k) [

@@ -1,4 +1,4 @@
--- How a replay begins and ends: what holds at each moment gives the report of a group.
+-- How a replay begins and ends: what holds at each moment yields the report of a group.
 use Rattle.std.proofs.Common.{◌≡◌, ℕ, zero, suc, ◌+◌, ◌<◌, eqb, ltb, List, [], ◌∷◌, ◌++◌, length, get_or, inl, inr, refl, sym, ap, subst, ◌∙◌, arith}
 use Rattle.std.specs.Prelude.{map, replicate, sum_by, count_by, All}
 use Rattle.std.proofs.lemmas.Bool.{cases_lt, le-ltb}

@@ -22,7 +22,7 @@ use Rattle.replay_model.specs.RingSteps.{RingSteps, read_by, ticked, ticked_by}
 use Rattle.replay_model.proofs.KeptOpen.{KeepOpen, read_notes}
 use Rattle.replay_model.proofs.AddedNotes.{frame_notes-append}
 
--- what arrives at each frame that isn't fed yet
+-- what arrives with each frame that isn't fed yet
 abbrev pub Waiting : Type 0
 Waiting = List (Option Frame)
 
@@ -33,8 +33,8 @@ pub record Logs (rules : Rules) (number : ℕ) (arrivals : List Frame) (cpu : Cp
   pub of : AreOf number least (somes cpu.waiting)
   pub lawful : (more : List ArrivalLog) → IsLawfulFrom rules cpu.present (somes cpu.waiting) more → IsLawful rules arrivals (cpu.log ++ more)
 
--- The log of a CPU and the notes of a member are joined so far: what is joined of what waits
--- completes them.
+-- The log of a CPU and the notes of a member are joined so far: what is joined for the waiting
+-- frames completes them.
 pub record Joins (room : ℕ) (own : Option (List ℕ)) (number member : ℕ) (arrivals : List Frame) (cpu : Cpu) (notes : List Note) : Type 0 where
   pub joined : (log : List ArrivalLog) (more : List Note)
       → AreNotesOf room own (attempts_at member (somes cpu.waiting) log) (frame_notes number more)
@@ -88,7 +88,7 @@ quiet_goes P rules steps arriving clock now replay rings h count quiet = record 
   tickets = λ e. let t = h.tickets e in record { rising = t.rising; once = t.once; total = t.total };
 }
 
--- a tick, of which a ring without a timer notes nothing
+-- a tick, which a ring without a timer doesn't note
 tick_quiet : (P : ℕ → Ring → Type 0) (ms : ℕ) (found : Option Found) (old : Ring) → P ms (ticked_by found ms old) → Quiet P ms old (ticked_by found ms old)
 tick_quiet P ms None old opens = record { opens = opens; notes = []; new_is = sym (append-nil old.notes); silent = λ cpu. refl }
 tick_quiet P ms (Some found) old opens = record { opens = opens; notes = notes.Ticked ms found ∷ []; new_is = refl; silent = λ cpu. refl }
@@ -103,7 +103,7 @@ tick_goes P rules steps keep arriving clock ms replay later h =
     (tick_quiet P ms (steps.ticks (get_or replay.members member no_ring) ms) (get_or replay.members member no_ring)
     (keep.tick clock ms _ later (h.opens member below))))
 
--- one ring changes, if it is there
+-- one ring changes, if it exists
 one_quiet : (P : ℕ → Ring → Type 0) (clock at : ℕ) (rings : List Ring) (new : Ring)
     → ((member : ℕ) → member < length rings → P clock (get_or rings member no_ring))
     → (at < length rings → Quiet P clock (get_or rings at no_ring) new)

@@ -26,7 +26,7 @@ pub record IsOpen (size : Size) (clock : ℕ) (ring : Ring) : Type 0 where
   pub releases : List ℕ
   pub unreleased : AreReleases 0 ring.released releases ring.notes
 
--- one note more, and blocks released more
+-- one more note, and more released blocks
 pub releases_more : (low last : ℕ) (counts : List ℕ) (notes : List Note) (note : Note) → AreReleases low last counts notes → IsUnreleased last note
     → AreReleases low last (counts ++ last ∷ []) (notes ++ note ∷ [])
 releases_more low last [] [] note h new = (h, new, omega arith)
@@ -41,7 +41,7 @@ releases_later low last later [] (note ∷ notes) more h = absurd h
 releases_later low last later (count ∷ counts) [] more h = absurd h
 releases_later low last later (count ∷ counts) (note ∷ notes) more h = (h.0, h.1, releases_later count last later counts notes more h.2)
 
--- a note more, which isn't the last
+-- one more note, which isn't the last
 pub noted_open : (size : Size) (clock now : ℕ) (ring : Ring) (note : Note) → IsOpen size clock ring → MayFollow ring.size (state ring) note
     → ((more : List Note) → EndsThere note more) → IsUnreleased ring.released note → (after ring.size (state ring) note).clock ≤ now
     → IsOpen size now (noted ring note)

@@ -34,7 +34,7 @@ record Routed (P : ℕ → Ring → Type 0) (a : Arrival) (rolls : Bool) (member
   spread : Spread P a tried.tries old tried.members
   route : IsRoute rolls members home tried.tries
 
--- the same, where the verdict may have ended the arrival
+-- the same, if the verdict may have refused the arrival
 pub record Made (P : ℕ → Ring → Type 0) (a : Arrival) (rolls ended : Bool) (members home : ℕ) (old : List Ring) (tried : Tried) : Type 0 where
   pub spread : Spread P a tried.tries old tried.members
   pub tries : MatchBool ended (tried.tries ≡ []) (IsRoute rolls members home tried.tries)

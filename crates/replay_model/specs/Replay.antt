@@ -1,5 +1,5 @@
--- The replay report: what a schedule makes of the frames of several CPUs and the rings of a group,
--- by the steps of these rings. CPUs and members count from 0.
+-- The replay report: the result of a schedule for the frames of several CPUs and the rings of a
+-- group, by the steps of these rings. CPUs and members count from 0.
 use Rattle.std.specs.Prelude.{ℕ, zero, suc, ◌+◌, ◌%◌, Bool, true, false, List, [], ◌∷◌, ◌++◌}
 use Rattle.std.specs.Prelude.{length, map, replicate, slice_index_or, slice_set, ◌==◌}
 use Rattle.std.specs.Prelude.{if◌then◌else◌, Option, None, Some}
@@ -21,7 +21,7 @@ use Rattle.replay_model.specs.RingSteps.{RingSteps, put_note, read_by, ticked, t
 use Rattle.schedule_lines.specs.declared.lines.Line.{Line}
 use Rattle.schedule_lines.specs.declared.lines.Line.TheVariants.{Feed, Read, Tick, Stats}
 
--- a CPU: what arrives at each frame that isn't fed yet, its present member and its log
+-- a CPU: what arrives with each frame that isn't fed yet, its present member and its log
 pub record Cpu : Type 0 where
   pub waiting : List (Option Frame)
   pub present : ℕ
@@ -42,7 +42,7 @@ no_ring = fresh (record { room = 0; blocks = 0; tov = 0 })
 abbrev pub cpu_at : Replay → ℕ → Cpu
 cpu_at replay cpu = slice_index_or replay.cpus cpu no_cpu
 
--- a note more at a member
+-- one more note at a member
 abbrev pub noted_at : ℕ → Note → List Ring → List Ring
 noted_at member note members =
     slice_set members member (noted (slice_index_or members member no_ring) note)
@@ -59,7 +59,7 @@ pub record Tried : Type 0 where
   pub kept : Bool
   pub members : List Ring
 
--- one try, of a packet that comes back where it isn't kept, and then the tries that follow
+-- one try, of a packet that comes back if it isn't kept, and then the tries that follow
 abbrev pub and_then : ℕ → Note → List Ring → Tried → Tried
 and_then member (notes.Refused cpu index need number) members rest =
     record rest { tries = a_try member Refused ∷ rest.tries }
@@ -97,7 +97,7 @@ routed rules steps home offer members =
     then or_put_at steps home offer (try_round steps rules.members rules.members home offer members)
     else put_at steps home offer members
 
--- what a verdict leaves of the tries: 0 ends the arrival
+-- the tries that a verdict leaves: 0 refuses the arrival
 abbrev pub tries_of : Rules → RingSteps → ℕ → Offer → ℕ → List Ring → Tried
 tries_of rules steps home offer verdict members =
     if verdict == 0 then record { tries = []; kept = false; members = members }
@@ -137,7 +137,7 @@ arrived rules steps cpu frame replay =
       ticket = next_ticket rules.mode replay.ticket;
     }
 
--- what is fed: nothing, a frame at which nothing arrives, or one at which a frame arrives
+-- what is fed: nothing, a frame with which nothing arrives, or one with which a frame arrives
 abbrev pub fed_by : Rules → RingSteps → ℕ → List (Option Frame) → Replay → Replay
 fed_by rules steps cpu [] replay = replay
 fed_by rules steps cpu (None ∷ waiting) replay =

@@ -1,4 +1,4 @@
--- What a replay report is worth: it is one of a group, and each ring's notes are a whole run.
+-- What a replay report guarantees: it is one of a group, and each ring's notes are a whole run.
 use Rattle.std.specs.Prelude.{◌≡◌, ℕ, ◌≤◌, List, [], ◌∷◌, length, map, slice_index_or, Option, All}
 use Rattle.frame_view.specs.declared.frames.Frame.{Frame}
 use Rattle.ring_model.specs.Ring.{Size, IsWholeRun}
@@ -11,7 +11,7 @@ use Rattle.fanout_group.specs.Once.{AreOf, IsGroupReport}
 use Rattle.fanout_group.specs.Rules.{Rules}
 use Rattle.replay_model.specs.Replay.{Cpu, Replay}
 
--- what arrives at each CPU has its number, and indexes that rise
+-- what arrives at each CPU has its number and rising indexes
 abbrev pub AreArrivals : List (List (Option Frame)) → Type 0
 AreArrivals arriving = (cpu : ℕ) → AreOf cpu 0 (somes (slice_index_or arriving cpu []))
 
@@ -26,8 +26,8 @@ abbrev pub notes_of : List Ring → List (List Note)
 notes_of members = map (λ ring. ring.notes) members
 
 -- How many blocks were released when each note was made: the counts never fall, from `low` on up to
--- `last`, and where a note says that a block was still the reader's, that block's number is above
--- the count.
+-- `last`, and if a note says that a block was still the reader's, that block's number is above the
+-- count.
 abbrev pub AreReleases : ℕ → ℕ → List ℕ → List Note → Type 0
 AreReleases low last [] [] = low ≤ last
 AreReleases low last (count ∷ counts) (note ∷ notes) =

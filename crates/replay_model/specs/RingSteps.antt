@@ -1,5 +1,5 @@
 -- What the rings of a replay do at each step, where every look at a status word has the answer that
--- the released blocks give. In a ring of slots a slot has the block's place.
+-- follows from the released blocks. In a ring of slots a slot has the block's place.
 use Rattle.std.specs.Prelude.{ℕ, ◌+◌, length, nat_lt, if◌then◌else◌, Option, None, Some}
 use Rattle.ring_model.specs.Asking.{found_for, put_by, try_by}
 use Rattle.ring_model.specs.Ring.{Size}
@@ -12,7 +12,7 @@ use Rattle.ring_model.specs.declared.notes.Note.TheVariants.{Ticked}
 use Rattle.ring_model.specs.declared.notes.Offer.{Offer}
 
 pub record RingSteps : Type 0 where
-  -- what each ring is made of
+  -- the size of each ring
   pub size : Size
   -- what an offer finds
   pub finds : Ring → Offer → Found

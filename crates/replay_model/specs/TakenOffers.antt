@@ -8,13 +8,13 @@ use Rattle.ring_model.specs.declared.notes.Offer.{Offer}
 use Rattle.schedule_lines.specs.declared.lines.Line.{Line}
 use Rattle.schedule_lines.specs.declared.lines.Line.TheVariants.{Feed, Read, Tick, Stats}
 
--- the offer is sound for the ring's blocks, and goes into an empty one
+-- the offer is sound for the ring's blocks, and fits into an empty one
 pub record Takes (offer : Offer) (ring : Ring) : Type 0 where
   pub sound : IsSound ring.size.room offer
   pub fits : need_of offer.snap ≤ ring.size.room
 
--- a tick isn't before a ring's last one, and a schedule can name its moment; every other line may
--- come
+-- a tick isn't before a ring's last one, and a schedule can name its moment; every other line is
+-- allowed
 abbrev pub MayCome : Line → List Ring → Type 0
 MayCome (Tick ms) rings = (ms ≤ 4294967295) × All (λ ring. last_moment 0 ring.notes ≤ ms) rings
 MayCome (Feed cpu) rings = Unit {0}

@@ -1,6 +1,6 @@
-//! The replay report: what a schedule makes of the arrivals of several CPUs and the rings of a
-//! group, and what such a report is worth. There are definitions and laws here alone; a crate above
-//! computes the report.
+//! The replay report: the result of a schedule for the arrivals of several CPUs and the rings of a
+//! group, and what such a report guarantees. There are only definitions and laws here; a crate
+//! above computes the report.
 #![tactic(auto)]
 
 mod laws;

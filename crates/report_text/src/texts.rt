@@ -5,7 +5,7 @@ use ring_model::{Found, Note};
 use setup_text::{MemberReport, RunReport};
 use std::alloc::Global;
 
-/// Appends a letter, and the number of the block that was still the reader's where it isn't 1.
+/// Appends a letter, and the number of the block that was still the reader's if it isn't 1.
 fn push_held(text: &mut String, letter: &str, number: u64) -> Result<(), Memory> {
     text.push_str(letter)?;
     if number != 1 {
@@ -26,10 +26,10 @@ fn push_found(text: &mut String, letters: [&str; 3], found: Found) -> Result<(),
     Ok(())
 }
 
-/// Appends the letters of a note: `k` for a packet kept where the next block wasn't looked at, `n`
-/// for one that opened it, `r` for one refused and `d` for one dropped; for a tick `t` where the
-/// next block wasn't looked at, `T` where it was free and `H` where it was still the reader's; `c`
-/// where statistics were taken, and a point at the end.
+/// Appends the letters of a note: `k` for a packet kept without looking at the next block, `n` for
+/// one that opened it, `r` for one refused and `d` for one dropped; for a tick `t` if the next
+/// block wasn't looked at, `T` if it was free and `H` if it was still the reader's; `c` if
+/// statistics were taken, and a point at the end.
 fn push_note(text: &mut String, note: &Note) -> Result<(), Memory> {
     match note {
         Note::Kept { found, .. } => push_found(text, ["k", "n", "?"], *found)?,
@@ -52,7 +52,7 @@ fn push_member(text: &mut String, member: &MemberReport) -> Result<(), Memory> {
     Ok(())
 }
 
-/// Appends the letter of what came of a try, and its member.
+/// Appends the letter of a try's result, and its member.
 fn push_try(text: &mut String, tried: Try) -> Result<(), Memory> {
     let letter = match tried.fate {
         Fate::Kept => "k",
@@ -63,8 +63,8 @@ fn push_try(text: &mut String, tried: Try) -> Result<(), Memory> {
     Ok(())
 }
 
-/// Appends an arrival: its index where that isn't the one that was due, its ticket if it has one,
-/// its tries, and a point.
+/// Appends an arrival: its index if that isn't the expected one, its ticket if it has one, its
+/// tries, and a point.
 fn push_arrival(text: &mut String, arrival: &ArrivalLog, due: usize) -> Result<(), Memory> {
     if arrival.index as usize != due {
         write!(text, "@{} ", arrival.index)?;
@@ -88,10 +88,10 @@ fn push_cpu(text: &mut String, log: &CpuLog) -> Result<(), Memory> {
 }
 
 /// The text of a report: a line for each CPU and then one for each member. A CPU's line is its
-/// arrivals, each with its index where that isn't the one that was due, its ticket if it has one,
-/// and its tries with what came of each and the member; and how many bytes its capture gave. A
-/// member's is the letters of its notes, and the numbers of the packets and of the blocks that its
-/// reader walked.
+/// arrivals, each with its index if that isn't the expected one, its ticket if it has one, and its
+/// tries with the result and the member of each; and how many bytes its capture gave. A member's is
+/// the letters of its notes, and the numbers of the packets and of the blocks that its reader
+/// walked.
 pub fn report_text(alloc: Global, report: &RunReport) -> Result<String, Memory> {
     let mut text = String::new(alloc);
     for log in report.cpus.as_slice() {

@@ -1,4 +1,4 @@
--- The arrivals of each CPU have its number, and indexes that rise.
+-- The arrivals of each CPU have its number and rising indexes.
 use Rattle.std.proofs.Common.{◌≡◌, ℕ, zero, suc, ◌+◌, ◌<◌, Bool, List, [], ◌∷◌, length, get_or, refl, ◌∙◌, subst, arith}
 use Rattle.std.specs.Prelude.{IfSome, map, slice_get}
 use Rattle.capture_file.specs.Capture.{frames_of}

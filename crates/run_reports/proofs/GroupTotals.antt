@@ -1,6 +1,6 @@
--- The arrivals of a run are those that the filter ended, and those that its members' notes keep or
--- drop: of a group, whatever its rings, and of a report whose statistics count what notes keep and
--- drop.
+-- The arrivals of a run are those that the filter refused, and those that its members' notes keep
+-- or drop: for a group, whatever its rings, and for a report whose statistics count what notes keep
+-- and drop.
 use Rattle.std.proofs.Common.{◌≡◌, ℕ, zero, suc, ◌+◌, ◌-◌, ◌<◌, ◌≤◌, Bool, true, false, cond, not, ◌&&◌, eqb, ltb, List, [], ◌∷◌, ◌++◌, length, get_or, inl, inr, refl, sym, ap, subst, ◌∙◌, arith}
 use Rattle.std.specs.Prelude.{Option, count_by, sum_by}
 use Rattle.std.proofs.lemmas.Bool.{cases_lt, eq-eqb, lt-ltb}
@@ -147,7 +147,7 @@ no_notes : (room : ℕ) (own : Option (List ℕ)) (notes : List Note) → AreNot
 no_notes room own [] h = refl
 no_notes room own (note ∷ notes) h = absurd h
 
--- ---- the tries of an entry keep or drop its packet once, unless the filter ended it
+-- ---- the tries of an entry keep or drop its packet once, unless the filter refused it
 
 abbrev attempt_of : Frame → ArrivalLog → Try → Attempt
 attempt_of frame entry t = record { frame = frame; hash = entry.hash; verdict = entry.verdict; fate = t.fate }
@@ -205,7 +205,7 @@ log_settles rules present (frame ∷ frames) (entry ∷ log) some at lawful =
     (λ k below. sum_by-append attempt_settles (attempts_in k frame entry entry.tries) (attempts_at k frames log)) in
     omega (arith, split, sum_below-add here later rules.members, first, once, rest, sum_by-cons passed entry log)
 
--- ---- a log has the entries that the filter ended and those that it passed
+-- ---- a log has the entries that the filter refused and those that it passed
 
 abbrev is_ended : ArrivalLog → Bool
 is_ended entry = eqb entry.verdict 0
@@ -275,7 +275,7 @@ module _ (rules : Rules) (room : ℕ) (cpus : List Logged) (members : List (List
       ≡ sum_by (λ logged. count_by (λ entry. eqb entry.verdict 0) logged.log) cpus + sum_by (λ notes. sum_by settled notes) members
   adds_up = logs_count cpus ∙ ap (λ n. sum_by (λ (l : Logged). count_by is_ended l.log) cpus + n) (sym all_settled)
 
--- ---- the logs beside their arrivals, and alone
+-- ---- the logs with their arrivals, and without them
 
 same_logs : (f : List ArrivalLog → ℕ) (arriving : List (List (Option Frame))) (cpus : List CpuLog)
     → length cpus ≡ length arriving

@@ -9,7 +9,7 @@ use Rattle.ring_model.specs.declared.notes.Found.TheVariants.{NotAsked, Free, He
 use Rattle.ring_model.specs.declared.notes.Note.{Note}
 use Rattle.ring_model.specs.declared.notes.Note.TheVariants.{Kept, Refused, Dropped, Ticked, Counted, Finished}
 
--- one block more, or none
+-- one more block, or none
 pub record Grows (before now : List (List Offer × ℕ)) : Type 0 where
   pub more : List (List Offer × ℕ)
   pub is : now ≡ before ++ more
@@ -71,7 +71,7 @@ few_from size s (note ∷ notes) =
 pub few_done : (size : Size) (notes : List Note) → length (state_of size notes).done ≤ length notes
 few_done size notes = let few = few_from size (first_state size) notes in omega (arith, few)
 
--- those at the start stay
+-- the blocks at the start stay
 pub front_stays : (count : ℕ) (before now : List (List Offer × ℕ)) → Grows before now → count ≤ length before → take count now ≡ take count before
 front_stays count before now g h = ap (λ done. take count done) g.is ∙ take-append-le count before g.more h
 
@@ -79,6 +79,6 @@ pub state_after : (size : Size) (s : State) (notes : List Note) (note : Note) �
 state_after size s [] note = refl
 state_after size s (first ∷ notes) note = state_after size (after size s first) notes note
 
--- after a note more
+-- after one more note
 pub grows_noted : (size : Size) (notes : List Note) (note : Note) → Grows (state_of size notes).done (state_of size (notes ++ note ∷ [])).done
 grows_noted size notes note = rw (state_after size (first_state size) notes note) (grows size (state_of size notes) note)

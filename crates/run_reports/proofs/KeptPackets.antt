@@ -109,7 +109,7 @@ kept_in_blocks size notes run =
     ∙ ap (λ (now : Option (List Offer)). all_of (state_of size notes).done now) (sym none)
     ∙ kept_from size (first_state size) notes run.run
 
--- the packets that are read of blocks
+-- the packets that are read from blocks
 pub walked_are : (shape : RingRequest) (number : ℕ) (done : List (List Offer × ℕ))
     → walked_of (taken_from shape number done) ≡ map (packet_of (fills_hash shape)) (offers_in done)
 unfolding walked_of

@@ -1,4 +1,4 @@
--- The arrivals of a run over rings of blocks are those that the filter ended, those that members
+-- The arrivals of a run over rings of blocks are those that the filter refused, those that members
 -- kept and those that they dropped.
 use Rattle.std.proofs.Common.{◌≡◌, ℕ, ◌+◌, List, length, arith}
 use Rattle.capture_file.specs.declared.cpu_end.CpuEnd.{CpuEnd}

@@ -5,12 +5,12 @@ use Rattle.ring_model.specs.declared.notes.Offer.{Offer}
 use Rattle.tp_layout.specs.Dump.{packets_of_offers}
 use Rattle.tp_layout.specs.declared.requests.RingRequest.{RingRequest}
 
--- what is read of a retired block of this number
+-- what is read from a retired block of this number
 abbrev pub read_of : RingRequest → ℕ → List Offer × ℕ → Taken
 read_of shape number block =
     record { number = number; status = block.1; packets = packets_of_offers shape block.0 }
 
--- what is read of retired blocks, of which the first has this number
+-- what is read from retired blocks, the first of which has this number
 abbrev pub taken_from : RingRequest → ℕ → List (List Offer × ℕ) → List Taken
 taken_from shape number [] = []
 taken_from shape number (block ∷ done) =

@@ -1,4 +1,4 @@
--- What the log of a CPU says of its capture.
+-- What the log of a CPU says about its capture.
 use Rattle.std.specs.Prelude.{◌≡◌, ℕ, ◌+◌, List, [], ◌∷◌, length, ⊤}
 use Rattle.capture_file.specs.Capture.{frames_of}
 use Rattle.capture_file.specs.declared.cpu_end.CpuEnd.{CpuEnd}
@@ -11,7 +11,7 @@ pub record IsLogOf (cpu : ℕ) (bytes : List ℕ) (end : CpuEnd) (log : CpuLog) 
   pub given : log.given ≡ length bytes
   pub end_is : log.end ≡ end
 
--- the logs of CPUs with the numbers from this one up: one for each source, and no other
+-- the logs of CPUs with the numbers from this one up: exactly one for each source
 abbrev pub AreLogsFrom : ℕ → List (List ℕ) → List CpuEnd → List CpuLog → Type 0
 AreLogsFrom cpu [] [] [] = ⊤
 AreLogsFrom cpu (bytes ∷ all) (end ∷ ends) (log ∷ logs) =

@@ -1,4 +1,4 @@
--- What the report of a member is worth.
+-- What the report of a member guarantees.
 use Rattle.std.specs.Prelude.{◌≡◌, ℕ, ◌<◌, ◌≤◌, Bool, List, [], length, map, if◌then◌else◌, All}
 use Rattle.ring_model.specs.Fates.{drops_of, kept_of}
 use Rattle.ring_model.specs.Offers.{packet_of}
@@ -9,12 +9,12 @@ use Rattle.tp_layout.specs.Dump.{dump_of}
 use Rattle.tp_layout.specs.Requests.{fills_hash, size_of}
 use Rattle.tp_layout.specs.declared.requests.RingRequest.{RingRequest}
 
--- the dump of notes, where it is asked for
+-- the dump of notes, if it is asked for
 abbrev pub dump_where : Bool → RingRequest → List Note → List ℕ
 dump_where asked shape notes = if asked then dump_of shape notes else []
 
 -- a member's notes are a run of its ring from its opening to its close; its report has the packets
--- of the offers that were kept, the texts of the retired blocks where they are asked for, and the
+-- of the offers that were kept, the texts of the retired blocks if they are asked for, and the
 -- number of these blocks
 pub record IsMember (shape : RingRequest) (asked : Bool) (member : MemberReport) : Type 0 where
   pub run : IsWholeRun (size_of shape) member.notes

@@ -1,4 +1,4 @@
--- The words "exactly once", said of the arrivals of a run.
+-- The words "exactly once", for the arrivals of a run.
 use Rattle.std.specs.Prelude.{◌≡◌, ℕ, ◌<◌, Bool, ◌&&◌, not, List, [], length, sum_by, ◌==◌}
 use Rattle.std.specs.Prelude.{if◌then◌else◌, slice_index_or}
 use Rattle.std.specs.List.{list_any}

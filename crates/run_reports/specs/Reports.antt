@@ -1,4 +1,4 @@
--- What the report of a run is worth, whatever its command.
+-- What the report of a run guarantees, whatever its command.
 use Rattle.std.specs.Prelude.{ℕ, Bool, List, [], ◌∷◌, map, Option, All}
 use Rattle.fanout_group.specs.Arrivals.{somes}
 use Rattle.fanout_group.specs.Joined.{Logged}
@@ -18,7 +18,7 @@ use Rattle.run_reports.specs.Logs.{AreLogsFrom}
 use Rattle.run_reports.specs.Members.{AreShort, IsMember}
 use Rattle.run_reports.specs.Once.{EachArrivalAppearsOnce}
 
--- the arrivals of each CPU beside its log
+-- the arrivals of each CPU and its log
 abbrev pub logged : List (List (Option Frame)) → List CpuLog → List Logged
 logged (arriving ∷ all) (log ∷ logs) =
     record { arrivals = somes arriving; log = log.arrivals } ∷ logged all logs

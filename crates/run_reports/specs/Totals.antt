@@ -10,7 +10,7 @@ use Rattle.setup_text.specs.declared.reports.RunReport.{RunReport}
 abbrev pub arrivals_in : List CpuLog → ℕ
 arrivals_in logs = sum_by (λ log. length log.arrivals) logs
 
--- the number of those that the filter ended: their verdict is 0
+-- the number of those that the filter refused: their verdict is 0
 abbrev pub filtered_in : List CpuLog → ℕ
 filtered_in logs = sum_by (λ log. count_by (λ entry. entry.verdict == 0) log.arrivals) logs
 
@@ -23,7 +23,7 @@ kept_in totals reports =
 abbrev pub drops_in : (List Note → Stats) → List MemberReport → ℕ
 drops_in totals reports = sum_by (λ report. (totals report.notes).drops) reports
 
--- the arrivals are those that the filter ended, those that were kept and those that were dropped
+-- the arrivals are those that the filter refused, those that were kept and those that were dropped
 abbrev pub TotalsAddUp : (List Note → Stats) → RunReport → Type 0
 TotalsAddUp totals report =
     arrivals_in report.cpus

@@ -39,7 +39,7 @@ pub fn each_arrival_appears_exactly_once()
     each_frame_appears_exactly_once();
 }
 
-/// A report is that of a run where its logs are those of the bytes, logs and notes are joined, and
+/// A report is that of a run if its logs are those of the bytes, logs and notes are joined, and
 /// each member's notes are a whole run: the rest follows.
 pub fn a_group_s_report_is_that_of_a_run()
     ensures { (job : Job) (bytes : List (List ℕ)) (ends : List CpuEnd) (report : RunReport)
@@ -52,8 +52,8 @@ pub fn a_group_s_report_is_that_of_a_run()
     a_group_s_packets_are_short();
 }
 
-/// In the report of a run the arrivals are those that the filter ended, those that members kept and
-/// those that they dropped.
+/// In the report of a run the arrivals are those that the filter refused, those that members kept
+/// and those that they dropped.
 pub fn the_totals_add_up()
     ensures { (job : Job) (bytes : List (List ℕ)) (ends : List CpuEnd) (report : RunReport)
         → IsRunReport job bytes ends report

@@ -1,5 +1,5 @@
-//! What the report of a run is worth, whatever its command: the logs of its CPUs, the notes of its
-//! members, and what the members' readers read.
+//! What the report of a run guarantees, whatever its command: the logs of its CPUs, the notes of
+//! its members, and what the members' readers read.
 #![tactic(auto)]
 
 mod laws;

@@ -1,4 +1,4 @@
--- What a line of a setup does: it changes one part of what is said, or nothing, or it is never
+-- What a line of a setup does: it changes one part of the draft, or nothing, or it is never
 -- accepted.
 use Rattle.std.proofs.Common.{◌≡◌, ℕ, Bool, true, false, List, [], ◌∷◌, ◌++◌, length, refl, subst, Option, Some, None, Ok, Err}
 use Rattle.std.specs.Prelude.{Result, bytes_eq, codes, is_some, nat_lt, if◌then◌else◌}
@@ -135,7 +135,7 @@ values_act word (value ∷ []) = value_acts word value
 values_act word (value ∷ second ∷ []) = pair_acts word value second
 values_act word (value ∷ second ∷ third ∷ more) = never (λ draft next h. cc)
 
--- a line that isn't a cpu line may be taken for one
+-- a line that isn't a cpu line may be treated as one
 as_cpu : {step : Draft → Result Draft SetupKind} (cpu other : Bool) → (cpu ≡ true → other ≡ true) → Acts cpu step → Acts other step
 as_cpu cpu other h (never n) = never n
 as_cpu cpu other h (nothing n) = nothing n
@@ -177,7 +177,7 @@ over_acts : (over plain : Bool) (words : List (List ℕ))
 over_acts true plain words = nothing (λ draft. refl)
 over_acts false plain words = plain_acts plain words
 
--- what a line leads to, where a line that is skipped changes nothing
+-- what a line leads to; one that is skipped changes nothing
 unfoldable pub step_of : List ℕ → Draft → Result Draft SetupKind
 step_of line draft = if is_passed_over (words_of line) then Ok draft else line_after draft line
 

@@ -19,7 +19,7 @@ use Rattle.setup_text.specs.declared.text_error.TextKind.{TextKind}
 use Rattle.setup_text.proofs.Passing.{ok_same, passed, spared}
 use Rattle.setup_text.proofs.Items.{items_sound}
 
--- a line doesn't put the clock back, and goes on to a number of 32 bits
+-- a line never puts the clock back, and leads to a number of 32 bits
 abbrev pub Follows : ℕ → Line → Type 0
 Follows clock (line.Tick ms) = (clock ≤ ms) × (ms ≤ 4294967295)
 Follows clock (line.Feed cpu) = Unit {0}

@@ -23,7 +23,7 @@ not_decoded : (given : Result (List ℕ) FromHexError) → (IsOk given → ⊥) 
 not_decoded (Ok bytes) h = absurd (h (search rules))
 not_decoded (Err error) h = refl
 
--- a key is refused where its text isn't 80 digits, unless memory was wanted
+-- a key is refused if its text isn't 80 digits, unless memory ran out
 pub key_refused : (word : List ℕ) (answer : Result (List ℕ) KeyError) (error : KeyError) → answer ≡ Err error
     → (answer ≡ Err NotHex → IsHex word → ⊥)
     → (answer ≡ Err WrongLength → IsHex word × (length word ≢ 80))

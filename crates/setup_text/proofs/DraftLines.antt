@@ -1,4 +1,4 @@
--- What holds of the lines of a setup, one after the other.
+-- What holds of the lines of a setup, one after another.
 use Rattle.std.proofs.Common.{◌≡◌, ℕ, zero, suc, ◌<◌, ◌≤◌, Bool, true, false, List, [], ◌∷◌, ◌++◌, length, refl, subst, arith, Some, None, Option, Ok, Err, length-append}
 use Rattle.std.specs.Prelude.{Result, All, nat_lt, nat_le, ◌==◌, bytes_eq, codes, if◌then◌else◌}
 use Rattle.std.proofs.lemmas.Bool.{leb-true, ltb-false}
@@ -24,12 +24,12 @@ abbrev pub AreFrames : Option MadeFrames → Type 0
 AreFrames None = Unit {0}
 AreFrames (Some made) = (1 ≤ made.count) × (made.count ≤ 20000)
 
--- a time-out, where there is one, is at most a minute
+-- a time-out, if there is one, is at most a minute
 abbrev pub IsTimeOut : Option ℕ → Type 0
 IsTimeOut None = Unit {0}
 IsTimeOut (Some tov) = tov ≤ 60000
 
--- workers, where their number is said, are at most eight
+-- the number of workers, if given, is at most eight
 abbrev pub AreWorkers : Option ℕ → Type 0
 AreWorkers None = Unit {0}
 AreWorkers (Some workers) = workers ≤ 8

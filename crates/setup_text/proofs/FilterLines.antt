@@ -1,4 +1,4 @@
--- Where the faults of a filter are, where memory wasn't wanted.
+-- Where the faults of a filter are, if memory didn't run out.
 use Rattle.std.proofs.Common.{◌≡◌, ℕ, ◌≤◌, true, false, List, length, refl, arith, Err}
 use Rattle.std.specs.Prelude.{Result}
 use Rattle.bpf_filter.specs.Listings.{instructions_of}
@@ -26,7 +26,7 @@ text_place NoReturn h = refl
 text_place (BadAncillary at) h = cc
 text_place Memory h = refl
 
--- a fault is reported where memory didn't run out
+-- a fault is reported if memory didn't run out
 pub refused_place : (fault : FilterError) (text : List ℕ) → Refuses fault (instructions_of text) → place_of fault ≡ 0
 refused_place Memory text h = refl
 refused_place (BadLine line) text h = refl
@@ -51,7 +51,7 @@ refused_program (BadConstant at) program h = program_of-place program (BadConsta
 refused_program (BadMemory at) program h = program_of-place program (BadMemory at) h
 refused_program (BadAncillary at) program h = program_of-place program (BadAncillary at) h
 
--- what the fault of a filter is, where memory wasn't wanted
+-- what the fault of a filter is, if memory didn't run out
 pub refused_text : (fault : FilterError) (right : Result (List Insn) FilterError) (n : ℕ) → Refuses fault right
     → is_text_want (filter_fault n fault) ≡ false → right ≡ Err fault
 refused_text Memory right n h want = cc

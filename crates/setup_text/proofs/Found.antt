@@ -1,4 +1,4 @@
--- The setup words, gone through for the first one that is written so.
+-- The setup words, searched for the first one with this spelling.
 use Rattle.std.proofs.Common.{add-one, ◌≡◌, ℕ, suc, ◌+◌, ◌<◌, ◌≤◌, true, false, cond, List, length, drop, drop-cons, get_or, refl, ap, sym, ◌∙◌, Some, None, Option}
 use Rattle.std.proofs.lemmas.List.{drop_all}
 use Rattle.std.specs.Prelude.{bytes_eq}

@@ -22,7 +22,8 @@ placed_ok : {A : Type 0} (which : Which) (given : Result A (ℕ × TextKind)) (i
 placed_ok which (Ok made) items h = ap Ok (ok_same made items h)
 placed_ok which (Err fault) items h = cc
 
--- the items of a text: what each one keeps holds of them, and they are no more than there are bytes
+-- the items of a text: what each one preserves holds of them, and they are at most as many as there
+-- are bytes
 pub items_sound : {A : Type 0} (which : Which) (item_in : List A → List ℕ → Result A TextKind) (P : List A → Type 0) (text : List ℕ) (items : List A)
     → ((before : List A) (line : List ℕ) (item : A) → item_in before line ≡ Ok item → P before → P (before ++ item ∷ []))
     → P [] → items_of which item_in text ≡ Ok items → P items × (length items ≤ 1048576)

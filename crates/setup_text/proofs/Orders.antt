@@ -1,4 +1,4 @@
--- Lines of a setup change places.
+-- Lines of a setup are swapped.
 use Rattle.std.proofs.Common.{◌≡◌, ℕ, ◌+◌, ◌≤◌, Bool, true, false, List, [], ◌∷◌, ◌++◌, length, refl, ap, sym, subst, ◌∙◌, ⊎_elim, Ok, Err}
 use Rattle.std.specs.Prelude.{Result, ◌&&◌, nat_lt, if◌then◌else◌}
 use Rattle.text_lines.specs.Lines.{lines_of}
@@ -25,7 +25,7 @@ record Swaps (x y : Draft → Result Draft SetupKind) (start last : Draft) : Typ
   first : y start ≡ Ok middle
   second : x middle ≡ Ok last
 
--- a change that went well
+-- a change that succeeded
 record Changed (part : Part) (change : Held part → Result (Held part) SetupKind) (draft next : Draft) : Type 0 where
   value : Held part
   is : change (get part draft) ≡ Ok value
@@ -49,7 +49,7 @@ both_cpu true true p q h = cc
 both_cpu true false p q h = cc
 both_cpu false b p q h = cc
 
--- a part isn't filled twice, but by two cpu lines
+-- a part isn't filled twice, except by two cpu lines
 clash : (part : Part) (a b : Bool) (before between after : Held part) → (a && b) ≡ false → Fills part a before between → Fills part b between after → ⊥
 clash Cpus a b before between after free f g = both_cpu a b f g free
 clash part a b before between after free f g = cc (f.1, g.0)

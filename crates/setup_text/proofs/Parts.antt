@@ -123,7 +123,7 @@ is_full Dump value = value
 is_full SkipBad value = value
 is_full Cpus value = true
 
--- a line changes a part: that of the CPUs, as a cpu line, or one that wasn't said before
+-- a line changes a part: that of the CPUs, as a cpu line, or one that wasn't given before
 abbrev pub Fills : (part : Part) → Bool → Held part → Held part → Type 0
 Fills Cpus cpu before after = cpu ≡ true
 Fills part cpu before after = (is_full part before ≡ false) × (is_full part after ≡ true)

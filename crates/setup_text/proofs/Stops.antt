@@ -22,7 +22,7 @@ second : {A : Type 0} (test : Bool) (x y : A) → test ≡ false → (if test th
 second true x y h = cc
 second false x y h = refl
 
--- what is known where the reading of a line and those after it ends with a fault
+-- what is known if the reading of a line and those after it ends with a fault
 stop_chosen : {S K : Type 0} (Q : Type 0) (over : Bool) (number : ℕ) (given : Result S K) (more : S → Result S (ℕ × K)) (left : Result S (ℕ × K)) (n : ℕ) (kind : K)
     → (over ≡ true → left ≡ Err (n, kind) → Q) → ((next : S) → over ≡ false → given ≡ Ok next → more next ≡ Err (n, kind) → Q)
     → ((fault : K) → over ≡ false → given ≡ Err fault → ◌≡◌ {A = Result S (ℕ × K)} (Err (number, fault)) (Err (n, kind)) → Q)
@@ -37,7 +37,7 @@ err_pair a b h = cc
 not_err : {S K : Type 0} (Q : Type 0) (state : S) (fault : ℕ × K) → ◌≡◌ {A = Result S (ℕ × K)} (Ok state) (Err fault) → Q
 not_err Q state fault h = cc
 
--- the same of lines the first of which has any number
+-- the same for lines the first of which has any number
 pub record Stops {S K : Type 0} (step : S → List ℕ → Result S K) (start : S) (lines : List (List ℕ)) (number n : ℕ) (kind : K) : Type 0 where
   pub before : List (List ℕ)
   pub line : List ℕ

@@ -7,7 +7,7 @@ use Rattle.setup_text.specs.Filters.{filter_fault}
 use Rattle.setup_text.specs.declared.setup_error.SetupKind.{SetupKind}
 use Rattle.setup_text.specs.declared.setup_error.SetupKind.TheVariants as setup
 
--- of a setup one kind says it
+-- for a setup one kind says it
 pub want_is : (kind : SetupKind) → is_want kind ≡ true → kind ≡ setup.Memory
 want_is setup.BadLine h = cc
 want_is setup.UnknownWord h = cc
@@ -21,7 +21,7 @@ want_is setup.Memory h = refl
 
 pub ruleset wants = want_is
 
--- of a filter one fault says it, whatever its text has
+-- for a filter one fault says it, whatever its text has
 pub filter_want : (instructions : ℕ) (fault : FilterError) → is_text_want (filter_fault instructions fault) ≡ true
     → filter_fault instructions fault ≡ filter_memory
 filter_want n (filter.BadLine line) h = cc

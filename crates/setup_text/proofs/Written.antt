@@ -19,7 +19,7 @@ use Rattle.setup_text.proofs.Texts.{when_small}
 use Rattle.setup_text.proofs.WrittenLines.{Leads, all_few, leads_append, leads_none, written_read, written_short}
 use Rattle.setup_text.proofs.WrittenValues.{cpu_lines_few, hexed_few, leads_block_size, leads_block_nr, leads_frame_size, leads_frame_nr, leads_tov, leads_sizeof_priv, leads_features, leads_cpus, leads_members, leads_mode, leads_rollover, leads_defrag, leads_key, leads_mac, leads_filter, leads_ticks, leads_out, leads_dump, leads_skip_bad, leads_made, leads_workers, made_few, made_for, named_few, noted_few}
 
--- what the lines say of a setup
+-- what the lines say about a setup
 abbrev pub draft_for : Setup → Draft
 draft_for setup = record {
   block_size = Some setup.request.block_size;

@@ -1,4 +1,4 @@
--- What is read of lines of words.
+-- What is read from lines of words.
 use Rattle.std.proofs.Common.{◌≡◌, ℕ, ◌+◌, ◌*◌, ◌<◌, ◌≤◌, Bool, true, false, List, [], ◌∷◌, ◌++◌, length, refl, ap, ◌∙◌, arith, Ok, Err, length-append}
 use Rattle.std.specs.Prelude.{Result, All, ◌&&◌, ◌==◌, map, nat_le, if◌then◌else◌}
 use Rattle.std.specs.List.{filter, list_all, onto_first, slice_split}

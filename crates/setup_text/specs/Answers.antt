@@ -30,7 +30,7 @@ abbrev pub IsRight : {A E : Type 0} → (E → Bool) → Result A E → Result A
 IsRight want (Ok value) right = right ≡ Ok value
 IsRight want (Err fault) right = want fault ≡ false → right ≡ Err fault
 
--- what each reader answers where an allocation fails: its own text, and no line of it
+-- what each reader answers if an allocation fails: its own text, and no line
 abbrev pub setup_memory : SetupError
 setup_memory = record { line = 0; kind = setup.Memory }
 

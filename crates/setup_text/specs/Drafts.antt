@@ -1,4 +1,4 @@
--- What the lines of a setup say, one after the other.
+-- What the lines of a setup say, one after another.
 use Rattle.std.specs.Prelude.{ℕ, Bool, List, [], ◌∷◌, ◌++◌, length, codes, bytes_eq, nat_lt, true}
 use Rattle.std.specs.Prelude.{false, if◌then◌else◌, Option, None, Some, Result, Ok, Err}
 use Rattle.text_lines.specs.Words.{is_plain, words_of}
@@ -60,7 +60,7 @@ abbrev pub yes_once : Bool → List ℕ → Result Bool SetupKind
 yes_once true word = Err Twice
 yes_once false word = if bytes_eq word (codes "yes") then Ok true else Err UnknownWord
 
--- the queue of the CPU of that number
+-- the queue of the CPU with this number
 abbrev pub queue_in : ℕ → Option (List ℕ) → Result ℕ SetupKind
 queue_in number None = Ok number
 queue_in number (Some word) = number_to 65535 word
@@ -75,13 +75,13 @@ abbrev pub with_file :
 with_file draft (Ok file) queue = with_queue draft file queue
 with_file draft (Err fault) queue = Err fault
 
--- one CPU more, of which there are at most eight
+-- one more CPU, of at most eight
 unfoldable pub cpu_after : Draft → List ℕ → Option (List ℕ) → Result Draft SetupKind
 cpu_after draft file queue =
     if nat_lt 7 (length draft.cpus) then Err BadLine
     else with_file draft (name_in file) (queue_in (length draft.cpus) queue)
 
--- one flag more
+-- one more flag
 unfoldable pub flag_after : Draft → List ℕ → Result Draft SetupKind
 flag_after draft word =
     if bytes_eq word (codes "rollover")
@@ -130,7 +130,7 @@ value_after draft word.Make value = Err BadLine
 value_after draft word.Workers value =
     once draft.workers (number_to 8 value) (λ n. record draft { workers = n })
 
--- a setup word with two values, which only a CPU and made frames have
+-- a setup word with two values: only a CPU and made frames have two
 abbrev pub pair_after : Draft → SetupWord → List ℕ → List ℕ → Result Draft SetupKind
 pair_after draft word.Cpu file queue = cpu_after draft file (Some queue)
 pair_after draft word.Make seed count =

@@ -1,4 +1,4 @@
--- The words for faults, as a program prints them.
+-- The words for faults, as the program prints them.
 use Rattle.std.specs.Prelude.{ℕ, List, codes}
 use Rattle.bpf_filter.specs.Words.{word_of}
 use Rattle.setup_text.specs.SetupWords.{name_of}
@@ -12,7 +12,7 @@ use Rattle.setup_text.specs.declared.text_error.TextKind.TheVariants as text
 use Rattle.setup_text.specs.declared.text_error.Which.{Which}
 use Rattle.setup_text.specs.declared.text_error.Which.TheVariants as which
 
--- a fault of a setup; after `missing`, `request` and `group` a program prints what is missing or
+-- a fault of a setup; after `missing`, `request` and `group` the program prints what is missing or
 -- why
 abbrev pub kind_word : SetupKind → List ℕ
 kind_word setup.BadLine = codes "bad_line"
@@ -40,7 +40,7 @@ which_word which.Filter = codes "filter"
 which_word which.Ticks = codes "ticks"
 which_word which.Schedule = codes "schedule"
 
--- a fault of a text; of a filter the filter's own word
+-- a fault of a text; for a filter the filter's own word
 abbrev pub text_word : TextKind → List ℕ
 text_word text.BadLine = codes "bad_line"
 text_word text.UnknownWord = codes "unknown_word"

@@ -37,7 +37,7 @@ items_of which item_in text =
     if nat_lt 1048576 (length text) then Err (record { which = which; line = 0; kind = TooLarge })
     else placed which (read_lines (added item_in) 1 [] (lines_of text))
 
--- the last of some moments; 0 where there is none
+-- the last of some moments; 0 if there is none
 abbrev pub latest : List ℕ → ℕ
 latest moments = unwrap_or (slice_get moments (length moments - 1)) 0
 
@@ -55,7 +55,7 @@ abbrev pub moment_of : ℕ → Option (List ℕ) → Result ℕ TextKind
 moment_of before None = Err BadLine
 moment_of before (Some word) = moment_from before (number_of word)
 
--- the moment of a line, which has one word, where the moment before is known
+-- the moment of a line, which has one word, given the moment before
 unfoldable pub moment_in : ℕ → List ℕ → Result ℕ TextKind
 moment_in before line =
     if is_plain line then moment_of before (only_of (words_of line)) else Err BadLine

@@ -10,8 +10,8 @@ begins_with_cpu (first ∷ values) = bytes_eq (codes "cpu") first
 abbrev pub is_cpu_line : List ℕ → Bool
 is_cpu_line line = begins_with_cpu (words_of line)
 
--- two neighbouring lines that aren't both cpu lines change places; comments and empty lines are
--- lines too
+-- two neighbouring lines that aren't both cpu lines are swapped; comments and empty lines are lines
+-- too
 pub record ChangePlaces (lines next : List (List ℕ)) : Type 0 where
   pub before : List (List ℕ)
   pub first : List ℕ
@@ -21,7 +21,7 @@ pub record ChangePlaces (lines next : List (List ℕ)) : Type 0 where
   pub next_are : next ≡ before ++ second ∷ first ∷ after
   pub free : (is_cpu_line first && is_cpu_line second) ≡ false
 
--- such changes, one after the other, lead from these lines to those
+-- such swaps, one after another, lead from these lines to those
 abbrev pub AreReordered : List (List ℕ) → List (List (List ℕ)) → List (List ℕ) → Type 0
 AreReordered lines [] last = lines ≡ last
 AreReordered lines (next ∷ more) last = ChangePlaces lines next × AreReordered next more last

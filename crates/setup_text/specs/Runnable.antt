@@ -1,9 +1,9 @@
--- What a run asks of its setup.
+-- What a run needs of its setup.
 use Rattle.std.specs.Prelude.{◌<◌, ◌≤◌, length}
 use Rattle.setup_text.specs.declared.setups.Setup.{Setup}
 use Rattle.tp_layout.specs.Requests.{IsShape}
 
--- a run asks for 1 to 8 CPUs. The rest holds of every setup, as its shape and its plan were made by
+-- a run needs 1 to 8 CPUs. The rest holds of every setup, because its shape and its plan passed
 -- their tests
 pub record IsRunnable (setup : Setup) : Type 0 where
   -- the number of CPUs

@@ -61,7 +61,7 @@ abbrev pub worded : ℕ → ℕ → ℕ → List (List ℕ) → Result Line Text
 worded cpus members clock [] = Err BadLine
 worded cpus members clock (first ∷ values) = named cpus members clock (verb_named first) values
 
--- what a line says, where the clock before it is known
+-- what a line says, given the clock before it
 unfoldable pub line_in : ℕ → ℕ → ℕ → List ℕ → Result Line TextKind
 line_in cpus members clock text =
     if is_plain text then worded cpus members clock (words_of text) else Err BadLine

@@ -10,7 +10,7 @@ use Rattle.setup_text.specs.declared.setup_words.SetupWord.TheVariants.{Mac, Fil
 use Rattle.setup_text.specs.declared.setup_words.SetupWord.TheVariants.{Dump, SkipBad, Make}
 use Rattle.setup_text.specs.declared.setup_words.SetupWord.TheVariants.{Workers}
 
--- how a setup writes each of them
+-- how a setup spells each of them
 abbrev pub name_of : SetupWord → List ℕ
 name_of BlockSize = codes "block_size"
 name_of BlockNr = codes "block_nr"
@@ -40,6 +40,6 @@ all_words =
     ∷ Key ∷ Mac ∷ Filter
     ∷ Ticks ∷ Out ∷ Dump ∷ SkipBad ∷ Make ∷ Workers ∷ []
 
--- the setup word that is written so
+-- the setup word with this spelling
 unfoldable pub word_named : List ℕ → Option SetupWord
 word_named name = find (λ word. bytes_eq (name_of word) name) all_words

@@ -71,7 +71,7 @@ request_fault given request = receive_fault request
 abbrev pub flags_of : Draft → ℕ
 flags_of draft = (if draft.rollover then 0x1000 else 0) + (if draft.defrag then 0x8000 else 0)
 
--- the group: one member that an arrival's CPU chooses, where nothing else is said
+-- the group: one member, chosen by an arrival's CPU, if nothing else is given
 abbrev pub members_of : Draft → ℕ
 members_of draft = unwrap_or draft.members 1
 
@@ -99,7 +99,8 @@ seed_of draft = seed_in draft.made
 abbrev pub count_of : Draft → ℕ
 count_of draft = count_in draft.made
 
--- the first fault of lines that have none each: what is missing, then the ring, then the group
+-- the first fault of all lines together, if no single one has one: what is missing, then the ring,
+-- then the group
 abbrev pub fault_after : Command → Draft → Option SetupKind
 fault_after command draft =
     option_or (option_map Missing (missing command draft))
@@ -129,13 +130,13 @@ abbrev pub answer : {A : Type 0} → Option SetupKind → A → Result A SetupKi
 answer None value = Ok value
 answer (Some fault) value = Err fault
 
--- what lines say together that have no fault each
+-- what lines without a fault in any of them say together
 unfoldable pub setup_after : Command → Draft → Result Setup SetupKind
 setup_after command draft = answer (fault_after command draft) (setup_from draft)
 
 -- ---- the whole text
 
--- a fault of a line, or of none, which is line 0
+-- a fault of a line; line 0 means no single line
 abbrev pub at_line : {A : Type 0} → Result A (ℕ × SetupKind) → Result A SetupError
 at_line (Ok value) = Ok value
 at_line (Err fault) = Err (record { line = fault.0; kind = fault.1 })

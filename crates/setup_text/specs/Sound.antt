@@ -15,7 +15,7 @@ pub record IsCpu (cpu : CpuSetup) : Type 0 where
   pub name : length cpu.file ≤ 255
   pub queue : cpu.queue ≤ 65535
 
--- a name, where there is one, has 1 to 255 bytes
+-- a name, if there is one, has 1 to 255 bytes
 abbrev pub IsName : Option (List ℕ) → Type 0
 IsName None = Unit {0}
 IsName (Some name) = (0 < length name) × (length name ≤ 255)
@@ -48,7 +48,7 @@ pub record AreMoments (moments : List ℕ) : Type 0 where
   pub rising : AreRising 0 moments
   pub few : length moments ≤ 1048576
 
--- a line names a CPU or a member that there is
+-- a line names an existing CPU or member
 abbrev pub NamesOne : ℕ → ℕ → Line → Type 0
 NamesOne cpus members (line.Feed cpu) = cpu < cpus
 NamesOne cpus members (line.Read member) = member < members

@@ -14,7 +14,7 @@ abbrev pub number_within : ℕ → Option ℕ → Result ℕ SetupKind
 number_within most None = Err BadNumber
 number_within most (Some number) = if nat_le number most then Ok number else Err BadNumber
 
--- a number of at most so much
+-- a number of at most this bound
 unfoldable pub number_to : ℕ → List ℕ → Result ℕ SetupKind
 number_to most word = number_within most (number_of word)
 
@@ -26,7 +26,7 @@ abbrev pub not_zero : Result ℕ SetupKind → Result ℕ SetupKind
 not_zero (Ok number) = if number == 0 then Err BadNumber else Ok number
 not_zero (Err fault) = Err fault
 
--- a number of at least 1 and at most so much
+-- a number from 1 to this bound
 unfoldable pub count_to : ℕ → List ℕ → Result ℕ SetupKind
 count_to most word = not_zero (number_to most word)
 

@@ -28,7 +28,7 @@ unfoldable pub written : List (List (List ℕ)) → List ℕ
 written [] = []
 written (words ∷ more) = joined words ++ 10 ∷ written more
 
--- lists one after the other
+-- lists one after another
 abbrev pub all_of : {A : Type 0} → List (List A) → List A
 all_of [] = []
 all_of (items ∷ more) = items ++ all_of more
@@ -41,12 +41,12 @@ valued word value = (name_of word ∷ value ∷ []) ∷ []
 abbrev pub counted : SetupWord → ℕ → List (List (List ℕ))
 counted word number = valued word (decimal number)
 
--- a name, where there is one
+-- a name, if there is one
 abbrev pub named : SetupWord → Option (List ℕ) → List (List (List ℕ))
 named word None = []
 named word (Some name) = valued word name
 
--- bytes as hexadecimal digits, where there are any
+-- bytes as hexadecimal digits, if there are any
 abbrev pub hexed : SetupWord → Option (List ℕ) → List (List (List ℕ))
 hexed word None = []
 hexed word (Some bytes) = valued word (encode_lower bytes)
@@ -67,7 +67,7 @@ abbrev pub cpu_lines : List CpuSetup → List (List (List ℕ))
 cpu_lines [] = []
 cpu_lines (cpu ∷ cpus) = (name_of word.Cpu ∷ cpu.file ∷ decimal cpu.queue ∷ []) ∷ cpu_lines cpus
 
--- the frames that are made, where there are any
+-- the frames that are made, if there are any
 abbrev pub made_lines : Bool → ℕ → ℕ → List (List (List ℕ))
 made_lines true seed count = []
 made_lines false seed count = (name_of word.Make ∷ decimal seed ∷ decimal count ∷ []) ∷ []
@@ -102,9 +102,9 @@ lines_for setup =
 unfoldable pub text_of : Setup → List ℕ
 text_of setup = written (lines_for setup)
 
--- ---- what a text can write
+-- ---- what a text can express
 
--- the bytes of a word: printable ASCII but the space
+-- the bytes of a word: printable ASCII except the space
 abbrev pub is_graphic : ℕ → Bool
 is_graphic b = nat_le 33 b && nat_le b 126
 
@@ -124,15 +124,15 @@ pub record HasSmallRing (request : RingRequest) : Type 0 where
   pub sizeof_priv : request.sizeof_priv ≤ 4294967295
   pub features : request.features ≤ 4294967295
 
--- the flags are the two that there are
+-- the flags are the two existing ones
 abbrev pub HasTwoFlags : Shape → Type 0
 HasTwoFlags plan =
     ((if has_backup plan.flags then 0x1000 else 0) + (if has_defrag plan.flags then 0x8000 else 0))
     ≡ plan.flags
 
--- a setup that may be accepted and that a text can write: its numbers have 32 bits, its names no
--- blank and no byte but printable ASCII, its key 40 bytes and its address 6, and where it makes no
--- frames it has no number for them
+-- a setup that may be accepted and that a text can express: its numbers have 32 bits, its names
+-- only printable ASCII and no blank, its key 40 bytes and its address 6, and if it makes no frames
+-- it has no number for them
 pub record CanBeWritten (setup : Setup) : Type 0 where
   pub sound : IsSetup setup
   pub ring : HasSmallRing setup.request

@@ -2,7 +2,7 @@
 use frame_view::ItemList;
 use text_lines::Word;
 
-/// What a setup says of a CPU.
+/// What a setup says about a CPU.
 #[derive(Debug, Drop)]
 pub struct CpuSetup {
     /// The name of its capture file.

@@ -18,7 +18,7 @@ use text_lines::{Word, is_plain, next_word};
 /// The most CPUs, by this project's own choice.
 const MOST_CPUS: usize = 8;
 
-/// The largest number of a receive queue.
+/// The greatest number of a receive queue.
 const LARGEST_QUEUE: u32 = 65_535;
 
 /// The longest time-out of a block in milliseconds, by this project's own choice.
@@ -27,7 +27,7 @@ const LONGEST_TIME_OUT: u32 = 60_000;
 /// The most workers of a pool, by this project's own choice.
 const MOST_WORKERS: u32 = 8;
 
-/// What the lines of a setup say so far; `None` and `false` where no line says it.
+/// What the lines of a setup say so far; `None` and `false` if no line says it.
 #[derive(Drop)]
 pub(crate) struct Draft {
     /// The size of a block in bytes.
@@ -52,7 +52,7 @@ pub(crate) struct Draft {
     pub(crate) mode: Option<Mode>,
     /// Whether other members are tried if the home has no room.
     pub(crate) rollover: bool,
-    /// Whether fragments are put together.
+    /// Whether fragments are reassembled.
     pub(crate) defrag: bool,
     /// The key of the flow hash.
     pub(crate) key: Option<Key>,
@@ -66,7 +66,7 @@ pub(crate) struct Draft {
     pub(crate) out: Option<Word>,
     /// Whether the retired blocks are written too.
     pub(crate) dump: bool,
-    /// Whether a frame that is longer than a slot holds is skipped.
+    /// Whether a frame too long for a slot is skipped.
     pub(crate) skip_bad: bool,
     /// The frames that are made.
     pub(crate) made: Option<MadeFrames>,
@@ -186,7 +186,7 @@ impl Draft {
         }
     }
 
-    /// Adds a CPU, whose queue is its own number where none is said.
+    /// Adds a CPU, whose queue is its own number if none is given.
     #[tactic(auto, unfolding(crate::specs::Drafts::cpu_after))]
     fn add_cpu(&mut self, alloc: Global, file: &[u8], queue: Option<&[u8]>) -> Result<(), SetupKind>
         ensures { IsRight is_want (leaves self.new result)
@@ -228,7 +228,7 @@ fn once<T: Drop>(field: &mut Option<T>, value: Result<T, SetupKind>) -> Result<(
     Ok(())
 }
 
-/// Sets what is set once.
+/// Sets a value that may be set only once.
 fn set(field: &mut bool) -> Result<(), SetupKind>
     ensures { leaves field.new result ≡ set_once field.old }
 {
@@ -239,7 +239,7 @@ fn set(field: &mut bool) -> Result<(), SetupKind>
     Ok(())
 }
 
-/// Sets what the word `yes` sets, once.
+/// Sets what the word `yes` sets; it may be set only once.
 fn yes(field: &mut bool, word: &[u8]) -> Result<(), SetupKind>
     ensures { leaves field.new result ≡ yes_once field.old word.now }
 {

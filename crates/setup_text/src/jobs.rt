@@ -7,6 +7,6 @@ use bpf_filter::Program;
 pub struct Job {
     /// The setup.
     pub setup: Setup,
-    /// The program of the setup's filter, where it names one.
+    /// The program of the setup's filter, if it names one.
     pub program: Option<Program>,
 }

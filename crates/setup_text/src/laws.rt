@@ -27,8 +27,9 @@ pub fn the_first_fault_answers()
         → (kind ≡ TooLarge) ⊎ HaveNoFault line_after nothing_said (lines_of text) }
 {}
 
-/// The lines of a setup may change places, the cpu lines among themselves excepted: where a text is
-/// accepted, one of at most 1,048,576 bytes with its lines in such an order is the same setup.
+/// The order of a setup's lines doesn't matter, except that of the cpu lines among themselves: if a
+/// text is accepted, one of at most 1,048,576 bytes with its lines in another such order is the
+/// same setup.
 pub fn lines_may_change_places()
     ensures { (text other : List ℕ) (steps : List (List (List ℕ))) (command : Command)
         (setup : Setup) → AreReordered (lines_of text) steps (lines_of other)
@@ -37,15 +38,15 @@ pub fn lines_may_change_places()
 {}
 
 /// A text that is written from a setup, with one line for each value, is read back as that setup,
-/// where the command may have its ring and its frames.
+/// if the command accepts its ring and its frames.
 pub fn a_written_setup_is_read_back()
     ensures { (setup : Setup) (command : Command) → CanBeWritten setup
         → request_fault command setup.request ≡ None → (command ≡ Make → 1 ≤ setup.count)
         → setup_of (text_of setup) command ≡ Ok setup }
 {}
 
-/// A setup with 1 to 8 CPUs can be run: its ring's shape and its group are valid, as they were
-/// made.
+/// A setup with 1 to 8 CPUs can be run: its ring's shape and its group passed their tests when they
+/// were made.
 pub fn a_setup_with_cpus_can_be_run(setup: &Setup)
     requires some { 0 < length setup.now.cpus }
     requires few { length setup.now.cpus ≤ 8 }

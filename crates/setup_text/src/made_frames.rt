@@ -8,7 +8,7 @@ use crate::values::{any_number, count_to};
 /// The most frames that are made, by this project's own choice.
 const MOST_MADE: u32 = 20_000;
 
-/// What a setup says of the frames that are made.
+/// What a setup says about the frames that are made.
 #[derive(Clone, Copy)]
 pub(crate) struct MadeFrames {
     /// The number that they are made from.
@@ -18,7 +18,7 @@ pub(crate) struct MadeFrames {
 }
 
 impl MadeFrames {
-    /// What two words say of the frames.
+    /// What two words say about the frames.
     pub(crate) fn read(seed: &[u8], count: &[u8]) -> Result<MadeFrames, SetupKind>
         ensures { result ≡ made_in seed.now count.now }
     {

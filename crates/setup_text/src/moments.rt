@@ -1,4 +1,4 @@
-//! The moments at which the members are ticked.
+//! The moments of the ticks, which every member gets.
 ghost use Rattle.std.specs.Prelude.{◌≡◌, false, option_copied, IfOk};
 ghost use Rattle.text_lines.specs.Words.{words_of};
 ghost use Rattle.setup_text.specs.Answers.{IsOnlyWant, IsRight, is_kind_want, is_text_want, leaves};
@@ -14,9 +14,9 @@ use text_lines::{LARGEST_TEXT, is_passed_over, is_plain, next_line, next_word, n
 /// Reads moments in milliseconds, one a line, each at most 4,294,967,295 and none less than the one
 /// before.
 ///
-/// `TooLarge` comes for more than 1,048,576 bytes, with line 0. Then the first line with a fault
-/// answers, with its number from 1: `BadLine` for a byte that is neither printable ASCII nor space
-/// nor tab and for more words than one, `BadNumber` for a word that is no number, and
+/// Returns `TooLarge` for more than 1,048,576 bytes, with line 0. Then the first line with a fault
+/// is reported, with its number from 1: `BadLine` for a byte that is neither printable ASCII nor
+/// space nor tab and for more than one word, `BadNumber` for a word that isn't a number, and
 /// `NotAscending`. `Memory`, an allocation that failed, has line 0.
 pub fn read_ticks(alloc: Global, text: &[u8]) -> Result<MomentList, TextError>
     ensures right { IsRight is_text_want result (moments_of text.now) }
@@ -41,7 +41,7 @@ pub fn read_ticks(alloc: Global, text: &[u8]) -> Result<MomentList, TextError>
     Ok(moments)
 }
 
-/// A fault of the moments. An allocation that failed is no line's fault.
+/// A fault of the moments. A failed allocation isn't a fault of any line.
 fn fault(line: u32, kind: TextKind) -> TextError
     ensures fault { is_kind_want kind ≡ false
         → result ≡ record { which = Which.Ticks; line = line; kind = kind } }
@@ -71,7 +71,7 @@ fn add_moment(moments: &mut MomentList, line: &[u8]) -> Result<(), TextKind>
     Ok(())
 }
 
-/// The moment of a line, where the one before is known.
+/// The moment of a line, given the one before.
 #[tactic(auto, unfolding(crate::specs::Moments::moment_in))]
 fn moment(before: u64, line: &[u8]) -> Result<u64, TextKind>
     ensures moment { result ≡ moment_in before line.now }

@@ -21,12 +21,12 @@ pub struct MemberReport {
     pub notes: Notes,
     /// The packets that its reader took out of retired blocks.
     pub walked: Packets,
-    /// The retired blocks as bytes, where they were asked for.
+    /// The retired blocks as bytes, if they were asked for.
     pub dump: ByteList,
     /// The number of blocks that its reader walked.
     pub blocks: u64,
-    /// What its ring held when it was finished, where feeders and readers had threads of their own;
-    /// `None` where one thread ran the whole.
+    /// What its ring held when it was finished, if feeders and readers had threads of their own;
+    /// `None` if everything ran on one thread.
     pub ring: Option<Pending<Block>>,
 }
 
@@ -38,16 +38,17 @@ pub type MemberList = ItemList<MemberReport>;
 pub struct Forwards {
     /// What each member sent, from member 0 up.
     pub sent: ItemList<Packets>,
-    /// How many packets each member skipped, since no slot of its transmit ring holds them.
+    /// How many packets each member skipped because they are too long for a slot of its transmit
+    /// ring.
     pub skipped: ItemList<u64>,
 }
 
-/// What a run gives back.
+/// What a run returns.
 #[derive(Drop)]
 pub struct Ran<S: Drop> {
     /// What it reports.
     pub report: RunReport,
-    /// The source of each CPU, from 0 up, less the bytes that it gave; nothing where none was
-    /// handed in.
+    /// The source of each CPU, from 0 up, less the bytes that it gave; nothing if none was handed
+    /// in.
     pub sources: Vec<Option<S>>,
 }

@@ -17,12 +17,12 @@ use text_lines::{LARGEST_TEXT, is_passed_over, is_plain, next_line, next_word, n
 /// Reads a schedule for these numbers of CPUs and members. Its lines are `feed C`, `read M`, `tick
 /// MS` and `stats M`.
 ///
-/// `TooLarge` comes for more than 1,048,576 bytes, with line 0. Then the first line with a fault
-/// answers, with its number from 1. Within a line the first of these comes: `BadLine` for a byte
-/// that is neither printable ASCII nor space nor tab, `UnknownWord` for its first word, `BadLine`
-/// for none or more values than one, `BadNumber` for a value that is no number, `NoSuchCpu` and
-/// `NoSuchMember` for a number that isn't below the counts, and `NotAscending` for a moment less
-/// than the one before. `Memory`, an allocation that failed, has line 0.
+/// Returns `TooLarge` for more than 1,048,576 bytes, with line 0. Then the first line with a fault
+/// is reported, with its number from 1. Within a line it is the first of these: `BadLine` for a
+/// byte that is neither printable ASCII nor space nor tab, `UnknownWord` for its first word,
+/// `BadLine` for no value or more than one, `BadNumber` for a value that isn't a number,
+/// `NoSuchCpu` and `NoSuchMember` for a number that isn't below the counts, and `NotAscending` for
+/// a moment less than the one before. `Memory`, an allocation that failed, has line 0.
 pub fn read_schedule(
     alloc: Global,
     text: &[u8],
@@ -53,7 +53,7 @@ pub fn read_schedule(
     Ok(lines)
 }
 
-/// A fault of the schedule. An allocation that failed is no line's fault.
+/// A fault of the schedule. A failed allocation isn't a fault of any line.
 fn fault(line: u32, kind: TextKind) -> TextError
     ensures fault { is_kind_want kind ≡ false
         → result ≡ record { which = Which.Schedule; line = line; kind = kind } }
@@ -71,7 +71,7 @@ fn fault(line: u32, kind: TextKind) -> TextError
     }
 }
 
-/// Adds what a line says, and gives the clock after it.
+/// Adds what a line says, and returns the clock after it.
 fn add_line(
     lines: &mut Schedule,
     clock: u64,
@@ -93,7 +93,7 @@ fn add_line(
     }
 }
 
-/// What a line says, where the clock before it is known.
+/// What a line says, given the clock before it.
 #[tactic(auto, unfolding(crate::specs::Schedules::line_in))]
 fn line_of(clock: u64, text: &[u8], cpus: u32, members: u32) -> Result<Line, TextKind>
     ensures line { result ≡ line_in cpus members clock text.now }
@@ -131,7 +131,7 @@ enum Verb {
 }
 
 impl Verb {
-    /// The word that is written so.
+    /// The word with this spelling.
     #[tactic(auto, unfolding(crate::specs::Schedules::verb_named))]
     fn named(word: &[u8]) -> Option<Verb>
         ensures { result ≡ verb_named word.now }
@@ -149,7 +149,7 @@ impl Verb {
         }
     }
 
-    /// What is done with a number, which is below the count of what it names, or not before the
+    /// The step for a number, which has to be below the count of what it names, or not before the
     /// clock.
     #[tactic(auto, unfolding(crate::specs::Schedules::line_with))]
     fn with(self, number: u32, cpus: u32, members: u32, clock: u64) -> Result<Line, TextKind>

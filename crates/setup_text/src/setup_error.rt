@@ -13,30 +13,31 @@ use tp_layout::RequestError;
 /// The first fault of a setup.
 #[derive(Clone, Copy, Debug, PartialEq, Eq)]
 pub struct SetupError {
-    /// The line, from 1; 0 where no line of its own is at fault.
+    /// The line, from 1; 0 if no single line is at fault.
     pub line: u32,
     /// What is wrong.
     pub kind: SetupKind,
 }
 
-/// What is wrong with a setup. All of a line's faults come before those that the lines have
-/// together.
+/// What is wrong with a setup. The faults of single lines come before those of all lines together.
 #[derive(Clone, Copy, Debug, PartialEq, Eq)]
 pub enum SetupKind {
     /// A byte that is neither printable ASCII nor space nor tab, a wrong number of values, or a
     /// ninth CPU.
     BadLine,
-    /// A line that begins with no setup word, or a value that is none of the words allowed there.
+    /// A line that doesn't begin with a setup word, or a value that isn't one of the words allowed
+    /// there.
     UnknownWord,
     /// A setup word or a flag that appeared before.
     Twice,
-    /// No number, a number out of its range, a name of more than 255 bytes, or no key or address.
+    /// A value that isn't a number, a number out of its range, a name of more than 255 bytes, or a
+    /// value that isn't a key or an address.
     BadNumber,
-    /// A line that is needed isn't there.
+    /// A required line is missing.
     Missing(Needed),
     /// The ring that is asked for is invalid.
     Request(RequestError),
-    /// There is no such group.
+    /// The group is invalid.
     Group(PlanError),
     /// A text of more than 1,048,576 bytes.
     TooLarge,
@@ -44,7 +45,7 @@ pub enum SetupKind {
     Memory,
 }
 
-/// A line that a setup has, in the order in which they are missed.
+/// A line that a setup requires, in the order in which they are tested.
 #[derive(Clone, Copy, Debug, PartialEq, Eq)]
 pub enum Needed {
     /// The size of a block.
@@ -57,7 +58,7 @@ pub enum Needed {
     FrameNr,
     /// A CPU with its capture.
     Cpu,
-    /// How frames are made, which the command `make` alone needs.
+    /// How frames are made; only the command `make` needs it.
     Make,
 }
 

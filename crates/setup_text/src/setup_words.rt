@@ -2,7 +2,7 @@
 ghost use Rattle.std.specs.Prelude.{◌≡◌};
 ghost use Rattle.setup_text.specs.SetupWords.{name_of, word_named};
 
-/// A word with which a line of a setup begins. What it is worth is said at the field of `Setup`.
+/// A word with which a line of a setup begins. Its value is described at the field of `Setup`.
 #[derive(Clone, Copy)]
 pub(crate) enum SetupWord {
     /// The size of a block.
@@ -19,7 +19,7 @@ pub(crate) enum SetupWord {
     Priv,
     /// The features of the ring.
     Features,
-    /// A CPU: the name of its capture file, and maybe its receive queue, 0 to 65,535.
+    /// A CPU: the name of its capture file, and optionally its receive queue, 0 to 65,535.
     Cpu,
     /// The number of members.
     Members,
@@ -39,7 +39,7 @@ pub(crate) enum SetupWord {
     Out,
     /// That the retired blocks are written too.
     Dump,
-    /// That a frame which a slot of a transmit ring can't hold is skipped.
+    /// That a frame too long for a slot of the transmit ring is skipped.
     SkipBad,
     /// The number that frames are made from, and how many are made, 1 to 20,000.
     Make,
@@ -72,7 +72,7 @@ const ALL: [SetupWord; 20] = [
 ];
 
 impl SetupWord {
-    /// The word as a setup writes it.
+    /// The word as a setup spells it.
     pub(crate) fn name(self) -> &'static str
         ensures { result.now ≡ name_of self }
     {
@@ -100,7 +100,7 @@ impl SetupWord {
         }
     }
 
-    /// The setup word that is written so.
+    /// The setup word with this spelling.
     pub(crate) fn named(name: &[u8]) -> Option<SetupWord>
         ensures { result ≡ word_named name.now }
     {

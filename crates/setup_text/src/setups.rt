@@ -44,12 +44,12 @@ pub struct Setup {
     pub prefix: Word,
     /// Whether the retired blocks are written too.
     pub dump: bool,
-    /// Whether a frame that is longer than a slot of a transmit ring holds is skipped, in place of
-    /// stopping the ring.
+    /// Whether a frame too long for a slot of the transmit ring is skipped instead of stopping the
+    /// ring.
     pub skip_bad: bool,
-    /// The number that `make`'s frames are made from; 0 where no line says it.
+    /// The number that `make`'s frames are made from; 0 if no line says it.
     pub seed: u64,
-    /// How many frames `make` makes, at most 20,000; 0 where no line says it.
+    /// How many frames `make` makes, at most 20,000; 0 if no line says it.
     pub count: u32,
     /// How many workers decode the blocks of `capture`, at most 8; with 0 the readers decode them.
     pub workers: u32,
@@ -57,12 +57,12 @@ pub struct Setup {
 
 /// Reads a setup for a command. docs/reference.md says what its lines are.
 ///
-/// `TooLarge` comes for more than 1,048,576 bytes, with line 0. Then the first line with a fault
-/// answers, with its number from 1. Where no line has one, `Missing` comes for the first line that
-/// isn't there, of which `Make` alone needs the line `make`. Then `Request` comes for a ring that
-/// is invalid, which is a transmit ring for `Send`, a ring of TPACKET_V2 for `Replay2` and a ring
-/// of blocks for every other command, and then `Group` for a group that there isn't. Each has line
-/// 0. `Memory`, an allocation that failed, has line 0 too.
+/// Returns `TooLarge` for more than 1,048,576 bytes, with line 0. Then the first line with a fault
+/// is reported, with its number from 1. If no line has one, `Missing` for the first required line
+/// that is missing; only `Make` requires the line `make`. Then `Request` for an invalid ring, which
+/// is a transmit ring for `Send`, a ring of TPACKET_V2 for `Replay2` and a ring of blocks for every
+/// other command, and then `Group` for an invalid group. Each has line 0. `Memory`, an allocation
+/// that failed, has line 0 too.
 pub fn read_setup(alloc: Global, text: &[u8], command: Command) -> Result<Setup, SetupError>
     ensures right { IsRight is_setup_want result (setup_of text.now command) }
     ensures memory { IsOnlyWant is_setup_want setup_memory result }
@@ -104,7 +104,7 @@ fn draft_of(alloc: Global, text: &[u8]) -> Result<Draft, SetupError>
     Ok(draft)
 }
 
-/// A fault of a line. An allocation that failed is no line's fault.
+/// A fault of a line. A failed allocation isn't a fault of any line.
 #[tactic(auto, using(crate::proofs::Wants::wants))]
 fn at_line(number: u32, kind: SetupKind) -> SetupError
     ensures fault { is_want kind ≡ false → result ≡ record { line = number; kind = kind } }
@@ -117,7 +117,7 @@ fn at_line(number: u32, kind: SetupKind) -> SetupError
     }
 }
 
-/// The setup that lines without a fault each say, or what is wrong with them together.
+/// The setup of lines without a fault in any of them, or what is wrong with them together.
 #[tactic(auto, unfolding(crate::specs::Setups::setup_after))]
 fn complete(alloc: Global, draft: Draft, command: Command) -> Result<Setup, SetupKind>
     ensures { IsRight is_want result (setup_after command draft) }
@@ -169,7 +169,7 @@ fn setup_from(alloc: Global, draft: Draft, shape: Shape, plan: Plan) -> Result<S
     })
 }
 
-/// What the names of the written files begin with: `out` where no line says it.
+/// What the names of the written files begin with: `out` if no line says it.
 fn prefix_of(alloc: Global, out: Option<Word>) -> Result<Word, Memory>
     ensures { IfOk result (λ prefix. prefix ≡ unwrap_or out (codes "out")) }
 {

@@ -10,7 +10,7 @@ use bpf_filter::FilterError;
 pub struct TextError {
     /// The text.
     pub which: Which,
-    /// The line, from 1; 0 where no line of its own is at fault.
+    /// The line, from 1; 0 if no single line is at fault.
     pub line: u32,
     /// What is wrong.
     pub kind: TextKind,
@@ -21,7 +21,7 @@ pub struct TextError {
 pub enum Which {
     /// The filter, as `tcpdump -ddd` writes it.
     Filter,
-    /// The moments at which the members are ticked.
+    /// The moments of the ticks, which every member gets.
     Ticks,
     /// What is done in a replay, line by line.
     Schedule,
@@ -32,9 +32,9 @@ pub enum Which {
 pub enum TextKind {
     /// A byte that is neither printable ASCII nor space nor tab, or a wrong number of values.
     BadLine,
-    /// A line of a schedule that begins with no word of schedules.
+    /// A line of a schedule that doesn't begin with a word of schedules.
     UnknownWord,
-    /// No number.
+    /// A value that isn't a number.
     BadNumber,
     /// A moment less than the one before.
     NotAscending,
@@ -51,7 +51,7 @@ pub enum TextKind {
 }
 
 impl Which {
-    /// The word for the text, as a program prints it.
+    /// The word for the text, as the program prints it.
     pub fn word(&self) -> &'static str
         ensures { result.now ≡ which_word self.now }
     {
@@ -64,7 +64,7 @@ impl Which {
 }
 
 impl TextKind {
-    /// The word for the fault, as a program prints it; of a filter the filter's own word.
+    /// The word for the fault, as the program prints it; for a filter it is the filter's own word.
     pub fn word(&self) -> &'static str
         ensures { result.now ≡ text_word self.now }
     {

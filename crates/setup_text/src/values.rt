@@ -14,7 +14,7 @@ use text_lines::Word;
 /// The most bytes that the name of a file may have, by this project's own choice.
 const LONGEST_NAME: usize = 255;
 
-/// A number of at most so much.
+/// A number of at most `most`.
 #[tactic(auto, unfolding(crate::specs::Values::number_to))]
 pub(crate) fn number_to(most: u32, word: &[u8]) -> Result<u32, SetupKind>
     ensures { result ≡ number_to most word.now }
@@ -32,7 +32,7 @@ pub(crate) fn any_number(word: &[u8]) -> Result<u32, SetupKind>
     number_to(u32::MAX, word)
 }
 
-/// A number of at least 1 and at most so much.
+/// A number from 1 to `most`.
 #[tactic(auto, unfolding(crate::specs::Values::count_to))]
 pub(crate) fn count_to(most: u32, word: &[u8]) -> Result<u32, SetupKind>
     ensures { result ≡ count_to most word.now }

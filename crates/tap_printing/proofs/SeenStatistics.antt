@@ -1,4 +1,4 @@
--- The statistics of a ring, from those that a ring of blocks has of the same notes.
+-- The statistics of a ring, from those that a ring of blocks with the same notes has.
 use Rattle.std.proofs.Common.{◌≡◌, ℕ, List, refl, sym, ap, ◌∙◌}
 use Rattle.std.specs.List.{flat_map}
 use Rattle.std.proofs.lemmas.List.Folds.{flat_map-map}
@@ -22,7 +22,7 @@ totals_seen Slots size notes =
     (record { kept = refl; dropped = refl }))
     ∙ sums_alike (stretches_from size (first_state size) notes))
 
--- and what is made of each of those that were taken
+-- and the same for each of those that were taken
 pub counts_seen : (kind : RingKind) (size : Size) (notes : List Note) (line : Stats → List ℕ)
     → flat_map (λ stats. line (seen_by kind stats)) (counts_of size notes)
     ≡ flat_map line (counts_by kind size notes)

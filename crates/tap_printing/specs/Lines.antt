@@ -22,8 +22,8 @@ pub use Rattle.run_reports.specs.Totals.{arrivals_in, drops_in, filtered_in, kep
 use Rattle.tap_printing.specs.Statistics.{counts_by, totals_by}
 use Rattle.tap_printing.specs.declared.ring_kind.RingKind.{RingKind}
 
--- what is wrong with a capture, and the place of it in bytes; of a capture that is too large, the
--- most that it may have
+-- what is wrong with a capture, and its place in bytes; for a capture that is too large, the most
+-- that it may have
 unfoldable pub damage_text : CaptureError → List ℕ
 damage_text BadMagic = codes "bad_magic 0"
 damage_text BadVersion = codes "bad_version 0"
@@ -87,7 +87,7 @@ abbrev pub forward_by : ℕ → Option (List Packet) → Option ℕ → List ℕ
 forward_by member (Some sent) (Some skipped) = forward_line member (length sent) skipped
 forward_by member sent skipped = []
 
--- that line, where members send
+-- that line, if members send
 unfoldable pub forward_text : Option Forwards → ℕ → List ℕ
 forward_text None member = []
 forward_text (Some forwards) member =
@@ -112,7 +112,7 @@ total_line arrivals filtered kept drops =
     ++ (codes " kept " ++ (decimal kept ++ (codes " drops " ++ (decimal drops ++ codes "\n")))))))
 
 -- the lines of a run: the CPUs', the members' and the sums; after a member's lines that of what it
--- sent, where members send
+-- sent, if members send
 unfoldable pub summary_of : RingKind → Size → Option Forwards → RunReport → List ℕ
 summary_of kind size forwards report =
     cpu_lines 0 report.cpus ++ (member_lines kind size forwards 0 report.members
@@ -129,7 +129,7 @@ unfoldable pub sent_cpu_line : ℕ → CpuEnd → List ℕ
 sent_cpu_line frames end =
     codes "cpu 0 frames " ++ (decimal frames ++ (codes " end " ++ (end_text end ++ codes "\n")))
 
--- the line of what became of its frames
+-- the line of the result for its frames
 unfoldable pub sent_line : Transmitted → List ℕ
 sent_line told =
     codes "send sent " ++ (decimal told.sent ++ (codes " skipped " ++ (decimal told.skipped

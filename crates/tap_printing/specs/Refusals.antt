@@ -1,4 +1,4 @@
--- The lines that are printed where a text is refused, as bytes.
+-- The lines that are printed if a text is refused, as bytes.
 use Rattle.std.specs.Prelude.{ℕ, List, ◌++◌, codes, decimal}
 use Rattle.fanout_group.specs.PlanWords as plan
 use Rattle.setup_text.specs.KindWords.{kind_word, needed_word, text_word, which_word}
@@ -8,8 +8,8 @@ use Rattle.setup_text.specs.declared.setup_error.SetupKind.TheVariants.{Group, M
 use Rattle.setup_text.specs.declared.text_error.TextError.{TextError}
 use Rattle.tp_layout.specs.RequestWords as request
 
--- what is wrong with a setup: what is missing, why the ring is invalid, or why there is no such
--- group, after its word
+-- what is wrong with a setup: what is missing, why the ring is invalid, or why the group is, after
+-- its word
 unfoldable pub setup_kind_text : SetupKind → List ℕ
 setup_kind_text (Missing needed) = codes "missing " ++ needed_word needed
 setup_kind_text (Request error) = codes "request " ++ request.word_of error

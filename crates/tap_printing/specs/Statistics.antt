@@ -18,7 +18,7 @@ unfoldable pub totals_by : RingKind → Size → List Note → Stats
 totals_by Blocks size notes = totals_of size notes
 totals_by Slots size notes = slot_totals_of notes
 
--- those of a ring of this kind, from those that a ring of blocks has of the same notes
+-- those of a ring of this kind, from those that a ring of blocks with the same notes has
 abbrev pub seen_by : RingKind → Stats → Stats
 seen_by Blocks stats = stats
 seen_by Slots stats = without_freezes stats

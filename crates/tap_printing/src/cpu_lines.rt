@@ -71,7 +71,7 @@ pub(crate) fn arrivals_in(logs: &[CpuLog]) -> u128
     arrivals
 }
 
-/// The number of arrivals that the filter ended.
+/// The number of arrivals that the filter refused.
 pub(crate) fn filtered_in(logs: &[CpuLog]) -> u128
     ensures { result ≡ filtered_in logs.now }
 {

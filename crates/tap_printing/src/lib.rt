@@ -1,5 +1,5 @@
-//! The lines that a program prints: those of a run, those of what was sent, and those that say why
-//! a text is refused.
+//! The lines that the program prints: those of a run, those of what was sent, and those that say
+//! why a text is refused.
 #![tactic(auto)]
 
 mod cpu_lines;

@@ -22,7 +22,7 @@ pub(crate) struct Passed {
 }
 
 impl Passed {
-    /// Counts the packets of a member too.
+    /// Adds the packets of a member.
     fn add(&mut self, stats: Stats)
         requires fewer { stats.drops ≤ stats.packets }
         requires small_kept { self.old.kept < 2 ^ 127 }
@@ -35,7 +35,7 @@ impl Passed {
     }
 }
 
-/// Appends the lines of members, from 0 up, and says how many packets they kept and dropped. Where
+/// Appends the lines of members, from 0 up, and returns how many packets they kept and dropped. If
 /// members send, the line of what a member sent comes after its own.
 pub(crate) fn push_members(
     alloc: Global,
@@ -63,8 +63,8 @@ pub(crate) fn push_members(
     Ok(passed)
 }
 
-/// Appends the lines of a member and that of what it sent, and gives its statistics over the whole
-/// run.
+/// Appends the lines of a member and that of what it sent, and returns its statistics over the
+/// whole run.
 #[tactic(auto, unfolding(crate::specs::Lines::lines_at))]
 fn push_lines(
     alloc: Global,
@@ -86,7 +86,7 @@ fn push_lines(
     Ok(stats)
 }
 
-/// Appends the lines of a member, and gives its statistics over the whole run.
+/// Appends the lines of a member, and returns its statistics over the whole run.
 #[tactic(auto, unfolding(crate::specs::Lines::member_text))]
 fn push_member(
     alloc: Global,
@@ -109,7 +109,7 @@ fn push_member(
     Ok(totals)
 }
 
-/// Appends the line of what a member sent, where members send.
+/// Appends the line of what a member sent, if members send.
 #[tactic(auto, unfolding(crate::specs::Lines::forward_text))]
 fn push_forward(
     alloc: Global,

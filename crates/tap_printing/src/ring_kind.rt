@@ -1,4 +1,4 @@
-//! What the rings of a run are made of, as far as their statistics hang on it.
+//! What the rings of a run are made of, as far as their statistics depend on it.
 ghost use Rattle.std.specs.Prelude.{◌≡◌};
 ghost use Rattle.tap_printing.specs.Statistics.{seen_by};
 
@@ -14,7 +14,7 @@ pub enum RingKind {
 }
 
 impl RingKind {
-    /// The statistics of a ring of this kind, from those that a ring of blocks has of its notes.
+    /// The statistics of a ring of this kind, from those that a ring of blocks with its notes has.
     pub(crate) fn seen(self, stats: Stats) -> Stats
         ensures { result ≡ seen_by self stats }
     {

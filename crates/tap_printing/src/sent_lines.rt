@@ -9,8 +9,8 @@ use std::alloc::Global;
 use tx_ring::Transmitted;
 
 /// The lines of a capture of `frames` frames that was sent, with its end, each ended by a line
-/// feed: that of the capture, and that of what became of its frames. The lines are this project's
-/// own choice.
+/// feed: that of the capture, and that of its frames' result. The lines are this project's own
+/// choice.
 #[tactic(auto, unfolding(crate::specs::Lines::send_lines))]
 pub fn send_lines(
     alloc: Global,
@@ -34,7 +34,7 @@ fn sent_cpu_line(alloc: Global, frames: usize, end: CpuEnd) -> Result<String, Me
     Ok(format!(in alloc; "cpu 0 frames {frames} end {end}\n")?)
 }
 
-/// The line of what became of the frames of a capture.
+/// The line of the result for a capture's frames.
 #[tactic(auto, unfolding(crate::specs::Lines::sent_line))]
 fn sent_line(alloc: Global, told: &Transmitted) -> Result<String, Memory>
     ensures { IfOk result (λ line. string_bytes line ≡ sent_line told.now) }

@@ -12,9 +12,9 @@ use setup_text::{Forwards, RunReport};
 use std::alloc::Global;
 
 /// The lines of a run, each ended by a line feed: those of the CPUs from 0 up, those of the
-/// members, each with what it sent where members send, and the sums. `kind` is what the rings are
-/// made of, and `tov` their time-out in milliseconds, which rings of slots don't have. The lines
-/// are this project's own choice. They depend neither on the size of a block nor on the number of
+/// members, each with what it sent if members send, and the sums. `kind` is what the rings are made
+/// of, and `tov` their time-out in milliseconds, which rings of slots don't have. The lines are
+/// this project's own choice. They depend neither on the size of a block nor on the number of
 /// blocks.
 #[tactic(auto, unfolding(crate::specs::Lines::summary_of))]
 pub fn summary(
