@@ -21,7 +21,7 @@ const MAGIC_SIZE: usize = 4;
 /// have 262,144.
 #[derive(Debug, Drop)]
 pub struct Decoder {
-    /// Gives the memory for the frames.
+    /// Allocates the frames.
     alloc: Global,
     /// The CPU number that its frames carry.
     cpu: u32,

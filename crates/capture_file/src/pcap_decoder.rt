@@ -19,7 +19,7 @@ const LARGEST_CAPTURE: usize = 33_554_432;
 /// are this project's own choice: the first 33,554,432 bytes count, and a record may have 262,144.
 #[derive(Debug, Drop)]
 pub(crate) struct PcapDecoder {
-    /// Gives the memory for the frames.
+    /// Allocates the frames.
     alloc: Global,
     /// The CPU number that its frames carry.
     cpu: u32,

@@ -72,7 +72,7 @@ pub rings_are : (job : Job) (moments : List ℕ) (members : List MemberLeft) →
 rings_are job moments [] all = tt
 rings_are job moments (member ∷ members) all = (all.0.ring, rings_are job moments members all.1)
 
--- a fact of each element, by its place
+-- a fact about each element, by its place
 pub by_place : {A : Type 0} (P : A → Type 0) (xs : List A) → ((i : ℕ) (none : A) → i < length xs → P (get_or xs i none)) → AllByRecursion P xs
 by_place P [] each = tt
 by_place P (x ∷ xs) each = (each zero x (omega arith), by_place P xs (λ i none within. each (suc i) none (omega (arith, within))))

@@ -33,7 +33,7 @@ use Rattle.capture_reports.specs.Left.{CpuLeft, feeds_of, seats_of, member_seats
 abbrev pub Fed : Job → List Lock → ℕ → CpuLeft → Type 0
 Fed job locks cpu left = HasFed job locks cpu left.feed left.member_seats left.seat
 
--- and so CPUs with the numbers from this one up
+-- and the same for CPUs with the numbers from this one up
 abbrev pub AllFed : Job → List Lock → ℕ → List CpuLeft → Type 0
 AllFed job locks at [] = ⊤
 AllFed job locks at (left ∷ cpus) = Fed job locks at left × AllFed job locks (at + 1) cpus
@@ -69,7 +69,7 @@ logs_are job locks at (left ∷ cpus) (now ∷ nows) [] fed close = absurd close
 logs_are job locks at (left ∷ cpus) (now ∷ nows) (log ∷ logs) fed close =
     (log_of at left.feed now log fed.0.number close.0, logs_are job locks (at + 1) cpus nows logs fed.1 close.1)
 
--- the arrivals of a CPU beside its log
+-- the arrivals of a CPU and its log
 abbrev pub logged_of : CpuLeft → Logged
 logged_of left = record { arrivals = arrivals_in left.feed; log = left.feed.path.log }
 
@@ -115,7 +115,7 @@ drawn_are job locks at (left ∷ cpus) fed lb =
     ap (λ (tickets : List ℕ). tickets ∷ map (λ (logged : Logged). tickets_of logged.log) (map logged_of cpus)) (sym (fed.0.tickets lb))
     ∙ ap (λ (more : List (List ℕ)). left.seat.drawn ∷ more) (drawn_are job locks (at + 1) cpus fed.1 lb)
 
--- of a member's notes those that a CPU's seat may add are the notes of its log's tries there
+-- the notes of a member that a CPU's seat may add are those of its log's tries there
 own_here : (job : Job) (locks : List Lock) (at member : ℕ) (left : CpuLeft) (lock : Lock) (member_seat : Seat) (notes : List Note)
     → Fed job locks at left → member < length locks → HasOwn (get_or locks member lock) notes (get_or left.member_seats member member_seat)
     → AreNotesOf (room_of job.setup.shape) job.setup.mac (attempts_at member (arrivals_in left.feed) left.feed.path.log)

@@ -155,7 +155,7 @@ module _ (numbered : AreNumbered) (ticks : Ticks) (counts : Counts) (joins : Joi
   group = subst (λ (all : List Logged). IsGroupReport (rules_of job) (room_of job.setup.shape) all (notes_of_members members)) (sym logged_is)
       (joins (rules_of job) (room_of job.setup.shape) (map logged_of cpus) seats number (notes_of_members members) threads)
 
-  -- a fact of each member's notes
+  -- a fact about each member's notes
   each_notes : (P : List Note → Type 0) (all : List MemberLeft) → ((member : MemberLeft) → IsMemberLeft job moments member → P member.notes)
       → AllByRecursion (IsMemberLeft job moments) all → All P (notes_of_members all)
   each_notes P [] has each = All-nil P

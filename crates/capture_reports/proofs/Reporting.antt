@@ -33,7 +33,7 @@ Tells = (shape : RingRequest) (number status : ℕ) (packets : List Packet) (byt
     → BeginsWith shape number status packets bytes
     → taken_in shape bytes ≡ record { number = number; status = status; packets = packets }
 
--- of texts of blocks these blocks are read
+-- texts of blocks are read as these blocks
 pub read_all : (tells : Tells) (shape : RingRequest) (number : ℕ) (retired : List Entry) (done : List (List Offer × ℕ)) → shape.block_size ≤ 1048576
     → AreTexts shape number retired done → map (λ (entry : Entry). taken_in shape entry.0) retired ≡ taken_from shape number done
 read_all tells shape number [] [] small texts = refl
@@ -70,7 +70,7 @@ ring_is shape asked notes ring member of is = (ring, is.ring_is, subst (λ (ns :
 
 -- ---- all members
 
--- a fact of each, which follows from one of its notes
+-- a fact about each, which follows from one about its notes
 module _ (shape : RingRequest) (asked : Bool) (P : List Note → Type 0) (Q : MemberReport → Type 0)
     (has : (notes : List Note) (ring : Pends ShapedBytes) (member : MemberReport) → P notes → IsReported shape asked notes ring member → Q member) where
   pub each_reported : (all : List (List Note)) (rings : List (Pends ShapedBytes)) (members : List MemberReport) → All P all

@@ -28,7 +28,7 @@ pub record IsRingOf (shape : RingRequest) (notes : List Note) (ring : Pends Shap
   pub holds : held_count notes ≤ ring.holds
   pub found : ring.found ≡ held_numbers notes
 
--- and so of each member
+-- and the same of each member
 abbrev pub AreRingsOf : RingRequest → List (List Note) → List (Pends ShapedBytes) → Type 0
 AreRingsOf shape [] [] = ⊤
 AreRingsOf shape [] (ring ∷ rings) = ⊥

@@ -22,7 +22,7 @@ pub record IsFedAt (job : Job) (cpu member : ℕ) (arrivals : List Frame) (log :
   pub own : AreNotesOf (room_of job.setup.shape) job.setup.mac
       (attempts_at member arrivals log) (own_of lock member_seat)
 
--- what arrives at the frames of a CPU's capture, so far as it was read
+-- what arrives with the frames of a CPU's capture, as far as it was read
 abbrev pub arrivals_in : Feeding → List Frame
 arrivals_in feed = arrivals_of (has_defrag feed.path.shape.flags) (frames_in feed)
 

@@ -22,8 +22,8 @@ use Rattle.capture_reports.specs.Closed.{AreRingsOf, IsRingOf}
 use Rattle.capture_reports.specs.Timing.{IsTicked}
 
 -- A run with threads, whatever the takers of its blocks do: the logs are those of sources that gave
--- these bytes and ended so, logs and notes are joined, the notes of each member are a whole run of
--- its ring, its ticks are the moments, and its ring was finished.
+-- these bytes and ended in this way, logs and notes are joined, the notes of each member are a
+-- whole run of its ring, its ticks are the moments, and its ring was finished.
 pub record IsGroupRun (job : Job) (moments : List ℕ) (bytes : List (List ℕ)) (ends : List CpuEnd)
     (logs : List CpuLog) (notes : List (List Note)) (rings : List (Pends ShapedBytes))
     : Type 0 where
@@ -38,7 +38,7 @@ pub record IsGroupRun (job : Job) (moments : List ℕ) (bytes : List (List ℕ))
 abbrev pub taken_of_notes : RingRequest → List Note → List Taken
 taken_of_notes shape notes = taken_from shape 1 (state_of (size_of shape) notes).done
 
--- a member's report has these notes and this ring, and what a reader returns that read all blocks
+-- a member's report has these notes and this ring, and what a reader of all blocks returns
 pub record IsReported (shape : RingRequest) (asked : Bool) (notes : List Note)
     (ring : Pends ShapedBytes) (member : MemberReport) : Type 0 where
   pub notes_are : member.notes ≡ notes
@@ -47,7 +47,7 @@ pub record IsReported (shape : RingRequest) (asked : Bool) (notes : List Note)
   pub dump : member.dump ≡ dump_by asked shape (taken_of_notes shape notes)
   pub blocks : member.blocks ≡ length (taken_of_notes shape notes)
 
--- and so of each member
+-- and the same of each member
 abbrev pub AreReported : RingRequest → Bool → List (List Note) → List (Pends ShapedBytes)
     → List MemberReport → Type 0
 AreReported shape asked [] [] [] = ⊤

@@ -27,9 +27,9 @@ use capture_model::{the_timer_s_ticks_are_all, threads_report_a_group};
 use reader_walk::a_text_is_read_as_it_was_written;
 use run_reports::a_group_s_report_is_that_of_a_run;
 
-/// What threads leave is a group's run, whatever was read of its blocks: its logs are those of the
-/// bytes that the CPUs' sources gave, logs and notes are joined, the ticks of each member are the
-/// moments, and the rings are those of the notes.
+/// What threads leave is a group's run, whatever was read from its blocks: its logs are those of
+/// the bytes that the CPUs' sources gave, logs and notes are joined, the ticks of each member are
+/// the moments, and the rings are those of the notes.
 pub fn threads_leave_a_group()
     ensures { (job : Job) (moments : List ℕ) (cpus : List CpuLeft) (members : List MemberLeft)
         (timer : List Seat) (seats : List SeatValue) (number : ℕ)
@@ -44,8 +44,8 @@ pub fn threads_leave_a_group()
     threads_report_a_group();
 }
 
-/// Sources that come back where their CPUs were closed gave the bytes that the CPUs have, and ended
-/// as the logs say.
+/// Sources that are returned when their CPUs are closed gave the bytes that the CPUs have, and
+/// ended as the logs say.
 pub fn threads_leave_what_sources_gave()
     ensures { (cpus : List Feeding) (nows : List (Option SourceSeen)) (logs : List CpuLog)
         → AllClose cpus nows logs → AllGave (firsts_of cpus) nows (bytes_of cpus) (ends_of logs) }

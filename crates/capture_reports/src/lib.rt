@@ -1,5 +1,5 @@
 //! What the threads of a run leave, as lists, and how the run's report follows from it. There is no
-//! code here but laws.
+//! code here, only laws.
 #![tactic(auto)]
 
 mod laws;

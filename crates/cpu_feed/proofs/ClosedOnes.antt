@@ -26,7 +26,7 @@ all_gave (c ∷ cpus) [] logs k = absurd k
 all_gave (c ∷ cpus) (now ∷ nows) [] k = absurd k
 all_gave (c ∷ cpus) (now ∷ nows) (log ∷ logs) k = let one : Closes c now log = k.0 in (one.gave, all_gave cpus nows logs k.1)
 
--- one CPU more
+-- one more CPU
 pub close_none : {X : Type 0} (f : X → Option SourceSeen) (xs : List X) (logs : List CpuLog) → xs ≡ [] → logs ≡ [] → AllClose [] (map f xs) logs
 close_none {X = X} f xs logs e k =
     subst (λ (ys : List X). AllClose [] (map f ys) logs) (sym e) (subst (λ (ls : List CpuLog). AllClose [] [] ls) (sym k) tt)

@@ -86,7 +86,7 @@ ends_here many number first now old new bytes piece ended fed given decoder wait
     let g : IsFed number first (Some old) bytes None fed given decoder waiting = subst (λ (e : Option CpuEnd). P (Some old) e) unended (subst (λ (n : Option SourceSeen). P n ended) there h) in
     at_end many number first old new bytes piece fed given decoder waiting end g gave empty is
 
--- ---- a piece more
+-- ---- one more piece
 
 drop_front : {X : Type 0} (n : ℕ) (xs ys : List X) → length xs ≡ n → drop n (xs ++ ys) ≡ ys
 drop_front zero [] ys e = refl
@@ -174,7 +174,7 @@ reads_on first old new h k = record {
   all = λ all is. h.all all (k.all all is);
 }
 
--- a piece was read by a CPU that is this
+-- a piece was read by a CPU in this state
 pub read_more : (cpu now : Feeding) (grown : List ℕ) (after : Option CpuEnd) (more : List Frame) → cpu ≡ now → cpu.ended ≡ None
     → frames_of cpu.number grown ≡ frames_in cpu ++ more → HasRead now (record cpu { bytes = grown; ended = after })
 read_more cpu now grown after more is unended frames =

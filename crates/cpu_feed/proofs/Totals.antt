@@ -1,4 +1,4 @@
--- A CPU whose source is read a piece at a time takes one frame after the other of all its frames.
+-- A CPU whose source is read a piece at a time takes all its frames, one after another.
 use Rattle.std.proofs.Common.{◌≡◌, ℕ, ◌+◌, ◌<◌, ◌≤◌, zero, suc, List, [], ◌∷◌, ◌++◌, length, drop, append-nil, Option, None, Some, refl, sym, ap, ◌∙◌, subst, arith}
 use Rattle.std.specs.Prelude.{◌≢◌, IsSome, OnErr, Result, Ok, Err, slice_get}
 use Rattle.std.proofs.lemmas.List.{drop_all}
@@ -134,7 +134,7 @@ still_reads old mid popped new frame came failed pops came_is stays = λ before 
     let within = got_within mid.fed (frames_in mid) frame (sym came_is ∙ pops.frame_is) in
     omega (arith, most, within)
 
--- what holds anyway holds where there is an error
+-- what always holds also holds after an error
 pub on_err : {T E P : Type 0} (answer : Result T E) → P → OnErr answer P
 on_err (Ok x) p = tt
 on_err (Err e) p = p

@@ -1,4 +1,4 @@
--- What feeding a CPU brought.
+-- The result of feeding a CPU.
 use Rattle.std.specs.Prelude.{◌≡◌, ◌+◌, ◌≤◌, length, Option, None, Some, IsSome}
 use Rattle.frame_view.specs.declared.frames.Frame.{Frame}
 use Rattle.cpu_feed.specs.Feeding.{Feeding, frames_in}
@@ -10,12 +10,12 @@ arrival_of (Arrival frame) = Some frame
 arrival_of Nothing = None
 arrival_of End = None
 
--- one frame more was fed, of the few that a capture has
+-- one more frame was fed, of the few that a capture has
 pub record FedOne (old new : Feeding) : Type 0 where
   pub one : new.fed ≡ old.fed + 1
   pub few : new.fed ≤ 2097150
 
--- or none, since the source has ended and all its frames are fed
+-- or none was, since the source has ended and all its frames are fed
 pub record IsAtItsEnd (cpu : Feeding) : Type 0 where
   pub ended : IsSome cpu.ended
   pub all : length (frames_in cpu) ≤ cpu.fed

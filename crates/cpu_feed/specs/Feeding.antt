@@ -1,4 +1,4 @@
--- A CPU whose source is read a piece at a time, and what arrives at the frames that it hasn't fed
+-- A CPU whose source is read a piece at a time, and what arrives with the frames that it hasn't fed
 -- yet.
 use Rattle.std.specs.Prelude.{◌≡◌, ◌≢◌, ℕ, Bool, true, false, ◌+◌, ◌-◌, ◌<◌, ◌≤◌, List, [], ◌∷◌}
 use Rattle.std.specs.Prelude.{◌++◌, length, drop, slice_get, is_some, if◌then◌else◌, Option, None}
@@ -39,7 +39,7 @@ IsAllOf all frames ended = (rest : List Frame) × (all ≡ frames ++ rest) × (I
 abbrev pub IsAllOfCpu : List Frame → Feeding → Type 0
 IsAllOfCpu all cpu = IsAllOf all (frames_in cpu) cpu.ended
 
--- what arrives at each frame that isn't fed yet, where these are all frames
+-- what arrives with each frame that isn't fed yet, given all frames
 abbrev pub waiting_of : List Frame → Feeding → List (Option Frame)
 waiting_of all cpu =
     arrivals_from (has_defrag cpu.path.shape.flags) cpu.path.held (drop cpu.fed all)
@@ -63,8 +63,8 @@ HasNoFault None None = Unit {0}
 HasNoFault (Some first) (Some now) = now.faults ≡ first.faults
 HasNoFault first now = ⊥
 
--- the frames of a piece were lost, since there was no memory for them: the source hadn't ended, and
--- no read had failed
+-- the frames of a piece were lost, because memory ran out: the source hadn't ended, and no read had
+-- failed
 pub record IsStuck (first now : Option SourceSeen) (ended : Option CpuEnd) : Type 0 where
   pub unended : ended ≡ None
   pub faultless : HasNoFault first now
@@ -78,7 +78,7 @@ pub record IsKnown (stuck : Bool) (number : ℕ) (first now : Option SourceSeen)
 
 -- ---- the steps
 
--- more was read: nothing was fed, and what all frames are by now they were before
+-- more was read: nothing was fed, and all frames as known now are those known before
 pub record HasRead (old new : Feeding) : Type 0 where
   pub rest_is : new ≡ record old { bytes = new.bytes; ended = new.ended }
   pub all : (all : List Frame) → IsAllOfCpu all new → IsAllOfCpu all old
@@ -91,7 +91,7 @@ Waits cpu = cpu.fed < length (frames_in cpu)
 abbrev pub IsReady : Feeding → Type 0
 IsReady cpu = cpu.ended ≡ None → Waits cpu
 
--- nothing was read where a frame waited
+-- if a frame waited nothing was read
 abbrev pub ReadsWhereNoneWaits : Feeding → Feeding → Type 0
 ReadsWhereNoneWaits old new = Waits old → new.bytes ≡ old.bytes
 
@@ -104,7 +104,7 @@ behind (Some frame) cpu = record cpu { fed = cpu.fed + 1 }
 abbrev pub HasNotFailed : Feeding → Feeding → Type 0
 HasNotFailed old new = old.ended ≢ Some Fault → new.ended ≢ Some Fault
 
--- where a read has failed, all frames were fed before it
+-- if a read has failed, all frames before it were fed
 abbrev pub FailsFed : Feeding → Type 0
 FailsFed cpu = cpu.ended ≡ Some Fault → length (frames_in cpu) ≤ cpu.fed
 
@@ -119,12 +119,12 @@ pub record IsSameCpu (old new : Feeding) : Type 0 where
   pub first : new.first ≡ old.first
   pub shape : new.path.shape ≡ old.path.shape
 
--- what arrives at the next frame
+-- what arrives with the next frame
 abbrev pub next_of : List (Option Frame) → Option Frame
 next_of [] = None
 next_of (arrival ∷ waiting) = arrival
 
--- of all frames the next one is taken, and this arrives at it
+-- the next of all frames is taken, and this arrives with it
 pub record Takes (all : List Frame) (old : Feeding) (arrival : Option Frame)
     (new : Feeding) : Type 0 where
   pub before : IsAllOfCpu all old
@@ -132,7 +132,7 @@ pub record Takes (all : List Frame) (old : Feeding) (arrival : Option Frame)
   pub path_is : new.path ≡ record old.path { held = new.path.held }
   pub arrival_is : arrival ≡ next_of (waiting_of all old)
 
--- how many bytes may still be read, counted so that it falls with each read
+-- a bound on the bytes still to be read, which falls with each read
 abbrev pub unread : Feeding → ℕ
 unread cpu = if is_some cpu.ended then 0 else 33554433 - length cpu.bytes
 

@@ -13,14 +13,14 @@ use Rattle.cpu_feed.specs.Feeding.{Feeding, IsAllOfCpu}
 abbrev pub IsLawful : Rules → List Frame → Feeding → Type 0
 IsLawful rules all cpu = IsPath rules (take cpu.fed all) cpu.path
 
--- a frame more was fed: the log is lawful over it too, or this arrival is still to be logged
+-- one more frame was fed: the log is lawful over it too, or this arrival is still to be logged
 abbrev pub FeedsLawfully : Feeding → Option Frame → Feeding → Type 0
 FeedsLawfully old arrival new =
     (rules : Rules) (all : List Frame) → IsAllOfCpu all new → IsLawful rules all old
     → IsPathBehind rules (take new.fed all) arrival new.path
 
--- the arrival that was still to be logged is logged, with what it offers or with nothing, where it
--- meets a condition
+-- the arrival that was still to be logged is logged, with its offer or without one, if it meets a
+-- condition
 abbrev pub LogsLawfully : Lens → ℕ → (Frame → Type 0) → Feeding → ArrivalLog → Option Offer
     → Feeding → Type 0
 LogsLawfully group room Asked old entry made new =

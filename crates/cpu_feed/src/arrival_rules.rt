@@ -1,4 +1,4 @@
-//! What the arrivals of a CPU are looked at with.
+//! The rules by which the arrivals of a CPU are judged.
 ghost use Rattle.std.specs.Prelude.{◌≡◌, ◌%◌, ◌<◌};
 ghost use Rattle.fanout_group.specs.Judgements.{AgreesAt};
 ghost use Rattle.fanout_group.specs.Lenses.{lens_of};
@@ -9,8 +9,8 @@ use fanout_group::ArrivalRules;
 use setup_text::Job;
 use tp_layout::a_shape_is_sound;
 
-/// What the arrivals of a CPU are looked at with: the job's key, filter and address, the CPU's
-/// receive queue, and the room of a block.
+/// The rules by which the arrivals of a CPU are judged: the job's key, filter and address, the
+/// CPU's receive queue, and the room of a block.
 pub fn rules_at(job: &Job, cpu: usize) -> ArrivalRules
     ensures agrees { AgreesAt cpu (lens_of_job job.now) (lens_of result) }
     ensures queue { result.queue ≡ (lens_of_job job.now).queue cpu }

@@ -1,13 +1,13 @@
-//! What feeding a CPU brought.
+//! The result of feeding a CPU.
 use frame_view::Frame;
 
-/// What came of asking a CPU for its next frame.
+/// The result of asking a CPU for its next frame.
 #[derive(Drop)]
 pub enum Fed {
-    /// This arrived.
+    /// A frame was fed, and this arrived with it.
     Arrival(Frame),
-    /// A frame was fed at which nothing arrived.
+    /// A frame was fed, and nothing arrived with it.
     Nothing,
-    /// The CPU has no frame any more.
+    /// The CPU has no more frames.
     End,
 }

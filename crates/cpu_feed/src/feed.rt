@@ -1,10 +1,9 @@
 //! A CPU of a replay: its source, which is read a piece at a time, the frames of the last piece
 //! that still wait, and its receive path.
 //!
-//! A piece is read only where no frame waits, so that memory for input doesn't grow with the
-//! capture. A frame that is fed moves out of the queue into the receive path. The source has ended
-//! once a read gave no byte or failed, or the bytes showed damage; the frames before that are still
-//! fed.
+//! A piece is read only if no frame waits, so that memory for input doesn't grow with the capture.
+//! A frame that is fed moves out of the queue into the receive path. The source has ended once a
+//! read gave no byte or failed, or the bytes showed damage; the frames before that are still fed.
 ghost use Rattle.std.specs.Prelude.{◌≡◌, ◌≢◌, ◌+◌, ◌<◌, ◌≤◌, ℕ, List, None, Some, false, true, []};
 ghost use Rattle.std.specs.Prelude.{◌∷◌, ◌++◌, length, option_map, unwrap_or, IfOk, IfSome, IsSome};
 ghost use Rattle.std.specs.Prelude.{OnErr, OnOk};
@@ -64,7 +63,7 @@ pub struct CpuFeed<S: Source> {
     stuck: bool,
     /// The source as it was handed in. It takes no memory: only contracts read it.
     first: Snapshot<Option<S>>,
-    /// The bytes that the source gave. They take no room: only contracts read them.
+    /// The bytes that the source gave. They take no memory: only contracts read them.
     trace: Trace,
 }
 
@@ -203,7 +202,7 @@ impl<S: Source> CpuFeed<S> {
         }
     }
 
-    /// Passes a frame through the receive path, and gives what arrives at it.
+    /// Passes a frame through the receive path, and returns what arrives with it.
     fn arrive(&mut self, frame: Frame) -> Result<Option<Frame>, Memory>
         requires bare { frame.tag ≡ None }
         requires captured { IsCaptured frame }
@@ -224,9 +223,9 @@ impl<S: Source> CpuFeed<S> {
         self.path.arrive(frame)
     }
 
-    /// Feeds the next frame, if there is one, and gives what arrives at it. Reads on where no frame
-    /// waits. The only error is that an allocation fails, and never that a read failed; a CPU that
-    /// answered it is to be dropped.
+    /// Feeds the next frame, if there is one, and returns what arrives with it. Reads on if no
+    /// frame waits. The only error is that an allocation fails, never that a read failed; a CPU
+    /// that returned it has to be dropped.
     pub fn next(&mut self, alloc: Global, buffer: &mut Buffer) -> Result<Fed, Memory>
         ensures same { OnOk result (IsSameCpu self.old self.new) }
         ensures takes { IfOk result (λ fed. (all : List Frame)

@@ -17,14 +17,14 @@ impl Model for Trace {
 }
 
 impl Trace {
-    /// That of no byte.
+    /// The trace of no byte.
     pub(crate) fn new() -> Trace
         ensures { result.bytes ≡ [] }
     {
         Trace {}
     }
 
-    /// That with the piece of a buffer after its bytes.
+    /// The trace with the piece of a buffer after its bytes.
     pub(crate) fn after(&self, _buffer: &Buffer) -> Trace
         ensures { result.bytes ≡ self.now.bytes ++ _buffer.now }
     {

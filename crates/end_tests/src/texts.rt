@@ -39,8 +39,8 @@ fn one_slot(alloc: Global, shape: &Shape) -> Result<Slot, Memory>
     }
 }
 
-/// The bytes that a slot with that frame begins with, with this status and, if it has a tag, VLAN
-/// 100.
+/// The bytes that a slot with that frame begins with, with this status and, if it has a tag,
+/// VLAN 100.
 fn expected(alloc: Global, status: u8, tagged: bool) -> Result<Vec<u8>, Memory> {
     let mut bytes = HEADER.to_vec(alloc)?;
     bytes.extend_from_slice(&FRAME)?;

@@ -168,7 +168,7 @@ fn try_round<D: Desk>(
     let mut member = home;
     let mut offer = offer;
     for turn in 0..members {
-        // Twice the room, but for no more tries than there may be.
+        // Twice the room, but not for more tries than an arrival can have.
         tries.reserve_exact(turn.min(members + 1 - turn) as usize)?;
         match try_at(desk, member, offer, tries)? {
             None => return Ok(None),

@@ -10,7 +10,7 @@ use Rattle.ip_defrag.specs.Held.{AreHeld, filled}
 use Rattle.ip_defrag.specs.declared.extents.Extent.{Extent}
 use Rattle.ip_defrag.proofs.Covers.{covers_all_is, last_within}
 
--- what comes out where the bytes of data are so many
+-- what comes out for this number of bytes of data
 abbrev pub by_count : ℕ → ℕ → List Frame → Frame → Option Frame
 by_count count end frames newest =
     cond (nat_eq count end) (option_map (λ (first : Frame). datagram_from first end frames newest) (find is_first frames)) None
@@ -27,7 +27,7 @@ not_completed frames newest last held is fewer =
     by_last frames newest last held is
     ∙ ap (λ (b : Bool). cond b (option_map (λ (first : Frame). datagram_from first (to_of last) frames newest) (find is_first frames)) None) fewer
 
--- the last frame, where an end is kept
+-- the last frame, if an end is kept
 last_of : (o : Option Frame) (end : ℕ) → option_map to_of o ≡ Some end → (last : Frame) × (o ≡ Some last) × (to_of last ≡ end)
 last_of None end e = absurd (none-some end e)
 last_of (Some last) end e = (last, refl, same_Some _ _ e)
@@ -40,7 +40,7 @@ kept_filled : (frames : List Frame) (extent : Extent) → AreKept frames extent 
 unfolding extent_of
 kept_filled frames extent kept = sym (ap (λ (e : Extent). e.filled) kept.counted)
 
--- where an end is kept, the count decides
+-- if an end is kept, the count decides
 pub counted : (frames : List Frame) (newest : Frame) (extent : Extent) (end : ℕ) → AreKept frames extent → extent.end ≡ Some end → completed frames newest ≡ by_count extent.filled end frames newest
 counted frames newest extent end kept is =
     let l = kept_last frames extent end kept is in
@@ -53,7 +53,7 @@ kept_within frames extent end kept is =
     let l = kept_last frames extent end kept is in
     subst (λ (e : ℕ). AllByRecursion (λ (frame : Frame). to_of frame ≤ e) frames) l.2 (last_within frames l.0 kept.held l.1)
 
--- where none is kept, no frame is last
+-- if none is kept, no frame is last
 pub unended : (frames : List Frame) (newest : Frame) (extent : Extent) → AreKept frames extent → extent.end ≡ None → completed frames newest ≡ None
 unfolding completed extent_of
 unended frames newest extent kept is =

@@ -1,4 +1,5 @@
--- Frames that don't conflict share no place, so what they cover is what they are long in all.
+-- Frames that don't conflict share no place, so they cover as many places as they have bytes in
+-- all.
 use Rattle.std.proofs.Common.{◌≡◌, ℕ, zero, suc, ◌+◌, ◌-◌, ◌<◌, ◌≤◌, min, max, Bool, true, false, ◌&&◌, ◌||◌, nat_lt, nat_le, nat_eq, List, [], ◌∷◌, ◌++◌, length, cond, arith, refl, ap, ◌∙◌, sym, subst, Some}
 use Rattle.std.specs.List.{list_any, list_all, count_by, AllByRecursion, find}
 use Rattle.std.proofs.lemmas.Option.{same_Some, none-some}
@@ -20,7 +21,7 @@ has_data frame taken =
     let r = read_of frame taken in
     (omega (arith, r.begins, r.ends, r.some), omega (arith, r.ends, r.most))
 
--- one frame more, which conflicts with none of those
+-- one more frame, which conflicts with none of those
 pub held_push : (frames : List Frame) (new : Frame) → AreHeld frames → takes_part new ≡ true → list_any (conflicts new) frames ≡ false → AreHeld (frames ++ new ∷ [])
 held_push [] new held taken none = (taken, refl, tt)
 held_push (frame ∷ frames) new held taken none =
@@ -31,7 +32,7 @@ conflict_parts : (frame other : Frame) → conflicts frame other ≡ false → (
 unfolding conflicts
 conflict_parts frame other e = or_parts _ _ e
 
--- where two frames don't share a place
+-- if two frames don't share a place
 apart : (frame other : Frame) (place : ℕ) → takes_part frame ≡ true → takes_part other ≡ true → shares other frame ≡ false → covers frame place ≡ true → covers other place ≡ false
 apart frame other place taken taken_other e here =
     let a = has_data frame taken in
@@ -95,7 +96,7 @@ pub length-places : (from count : ℕ) → length (places from count) ≡ count
 length-places from zero = refl
 length-places from (suc count) = ap suc (length-places (from + 1) count)
 
--- all pass where as many pass as there are
+-- all pass if the number that pass is the number there are
 all_count : {X : Type 0} (p : X → Bool) (xs : List X) → list_all p xs ≡ nat_eq (count_by p xs) (length xs)
 all_count p [] = refl
 all_count p (x ∷ xs) =
@@ -124,11 +125,11 @@ filled_within frames end held within =
     let long = length-places 0 end in
     omega arith
 
--- a datagram has at most that much
+-- a datagram has at most that many bytes
 pub filled-most : (frames : List Frame) → AreHeld frames → filled frames ≤ 65475
 filled-most frames held = filled_within frames 65475 held (all_within frames held)
 
--- and so at most so many frames
+-- and so at most this many frames
 pub length-filled : (frames : List Frame) → AreHeld frames → length frames ≤ filled frames
 length-filled [] held = omega arith
 length-filled (frame ∷ frames) held =
@@ -172,7 +173,7 @@ all_past last (frame ∷ frames) none is =
     let parts = or_parts (conflicts frame last) (list_any (λ later. conflicts later last) frames) none in
     (past_no_end frame last parts.0 is, all_past last frames parts.1 is)
 
--- where one is last, none reaches past it
+-- if one is last, none reaches past it
 pub last_within : (frames : List Frame) (last : Frame) → AreHeld frames → find is_last frames ≡ Some last → AllByRecursion (λ frame. to_of frame ≤ to_of last) frames
 last_within [] last held e = absurd (none-some last e)
 last_within (frame ∷ frames) last held e = by_test (last_within frames last held.2) (is_last frame) refl e

@@ -1,4 +1,4 @@
--- Data written to its places, one fragment after the other.
+-- Data written to its places, one fragment after another.
 use Rattle.std.proofs.Common.{◌≡◌, ℕ, zero, suc, ◌+◌, ◌-◌, ◌<◌, ◌≤◌, Bool, true, false, ◌||◌, List, [], ◌∷◌, ◌++◌, length, map, take, drop, replicate, get_or, slice_index, cond, arith, refl, ap, ◌∙◌, sym, subst, length-append, length-take, length-drop, inl, inr}
 use Rattle.std.specs.List.{list_any}
 use Rattle.std.proofs.lemmas.List.{take_more, get_or_append_left, get_or-append_right, get_or-take, get_or-drop}

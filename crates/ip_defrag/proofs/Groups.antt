@@ -1,4 +1,4 @@
--- The flat list and its groups: what takes frames away, or adds one, does the same to both.
+-- The flat list and its groups: taking frames away, or adding one, does the same to both.
 use Rattle.std.proofs.Common.{◌≡◌, ℕ, Bool, true, false, not, List, [], ◌∷◌, map, filter, cond, arith, refl, ap, ◌∙◌, sym}
 use Rattle.std.proofs.lemmas.Bool.{both_ways}
 use Rattle.std.proofs.lemmas.Bool.Decides.{nat_tests}
@@ -39,7 +39,7 @@ filter_twice {X} p q (x ∷ xs) = by_test (p x) refl (q x) refl (filter_twice p 
     by_test false pa true qb rest = simp (pa, qb) rest
     by_test false pa false qb rest = simp (pa, qb) rest
 
--- of two tests the one that passes less
+-- the stricter of two tests
 pub filter_within : {X : Type 0} (p q : X → Bool) → ((x : X) → p x ≡ true → q x ≡ true) → (xs : List X) → filter p (filter q xs) ≡ filter p xs
 filter_within p q less [] = refl
 filter_within {X} p q less (x ∷ xs) = by_test (p x) refl (q x) refl (filter_within p q less xs)
@@ -54,7 +54,7 @@ filter_within {X} p q less (x ∷ xs) = by_test (p x) refl (q x) refl (filter_wi
 abbrev pub differs : Name → Name → Bool
 differs other name = not (same_name name other)
 
--- where a name is lost, one that is kept differs from it
+-- if a name is lost, one that is kept differs from it
 kept_differs : (keep : Name → Bool) (other name : Name) → keep other ≡ false → keep name ≡ true → differs other name ≡ true
 kept_differs keep other name lost is = by_same (same_name name other) refl
   where

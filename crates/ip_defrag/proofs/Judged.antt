@@ -1,5 +1,5 @@
--- What a new frame is to held ones: any one that it conflicts with tells it, and where it shares no place with any, its place and
--- the end do.
+-- How a new frame relates to held ones: any one that it conflicts with decides it, and if it shares
+-- no place with any, its place and the end do.
 use Rattle.std.proofs.Common.{◌≡◌, ◌⊎◌, ℕ, zero, suc, ◌-◌, ◌*◌, ◌/◌, ◌<◌, ◌≤◌, max, Bool, true, false, ◌&&◌, ◌||◌, nat_lt, length, get_or, inl, inr, List, [], ◌∷◌, Option, None, Some, option_map, is_some, find, cond, if◌then◌else◌, arith, refl, ap, ◌∙◌, sym}
 use Rattle.std.specs.List.{list_any, AllByRecursion}
 use Rattle.std.proofs.lemmas.Bool.{cases_lt, lt-ltb, or_parts, or_from, both_ways}
@@ -19,7 +19,7 @@ use Rattle.ip_defrag.proofs.Covers.{all_past, before_no_end, has_data}
 use Rattle.ip_defrag.proofs.Places.{shares_is}
 use Rattle.ip_defrag.proofs.Marked.{none_met, one_met, unit_of_from}
 
--- a copy has the places of the other, and is last where that is
+-- a copy has the places of the other, and is last if that is
 record AreAlike (frame other : Frame) : Type 0 where
   from : from_of frame ≡ from_of other
   to : to_of frame ≡ to_of other
@@ -51,7 +51,7 @@ no_copy new held (frame ∷ frames) none is =
     by_test false e apart = e
     by_test true e apart = absurd (both_ways _ apart (sym (alike_conflicts new frame held (alike new frame e)) ∙ is))
 
--- what a frame is by the first that it conflicts with
+-- how a frame relates, by the first that it conflicts with
 abbrev pub by_first : Frame → Option Frame → Judgement
 by_first new None = Fits
 by_first new (Some held) = if is_copy new held then Copy else Conflict
@@ -98,7 +98,7 @@ after_all new frames extent kept some after =
     by_end None = refl
     by_end (Some last) = refl
 
--- a frame that shares no place with another one: after it, where that isn't last, and before it
+-- a frame that shares no place with another one: after it, if that isn't last, and before it
 apart_after : (new frame : Frame) → takes_part frame ≡ true → from_of new < to_of new → to_of frame ≤ from_of new → is_last frame ≡ false
     → (is_copy new frame ≡ false) × (conflicts new frame ≡ (is_last new && nat_lt (to_of new) (to_of frame)))
 unfolding is_copy conflicts contradicts
@@ -115,7 +115,7 @@ apart_before new frame taken some before =
     let d = (has_data frame taken).0 in
     (grind (arith, nat_tests), grind (arith, nat_tests))
 
--- where a frame is last, a new one begins before its end
+-- if a frame is last, a new one begins before its end
 abbrev IsEarly : Frame → Frame → Type 0
 IsEarly new frame = is_last frame ≡ true → from_of new < to_of frame
 
@@ -291,7 +291,7 @@ sharing new frame some taken ends begins =
     let s = shares_is new frame some (has_data frame taken).0 in
     grind (arith, nat_tests)
 
--- a frame of which a unit is marked
+-- a frame with a marked unit
 pub met_one : (new : Frame) (frames : List Frame) (marks : List ℕ) (mark : ℕ) → AreHeld frames → AreMarks marks frames → from_of new < to_of new
     → find (λ mark. nat_lt 0 mark) (own_marks new marks) ≡ Some mark
     → (0 < mark) × (mark - 1 < length frames) × ((d : Frame) → judgement new frames ≡ (if is_copy new (get_or frames (mark - 1) d) then Copy else Conflict))

@@ -44,7 +44,7 @@ kept_most frames extent kept =
     let counted : extent.filled ≡ filled frames = ap (λ (e : Extent). e.filled) kept.counted in
     omega (arith, counted, filled-most frames kept.held)
 
--- a frame more, which conflicts with none
+-- one more frame, which conflicts with none
 pub kept_push : (frames : List Frame) (new : Frame) (extent : Extent) → AreKept frames extent → takes_part new ≡ true → list_any (conflicts new) frames ≡ false → AreKept (frames ++ new ∷ []) (extended new extent)
 kept_push frames new extent kept taken none = record {
   held = held_push frames new kept.held taken none;

@@ -1,4 +1,4 @@
--- The marks of a datagram's units: what one says, and what is marked for one frame more.
+-- The marks of a datagram's units: what one says, and what is marked for one more frame.
 use Rattle.std.proofs.Common.{◌≡◌, ℕ, zero, suc, ◌+◌, ◌-◌, ◌*◌, ◌/◌, ◌<◌, ◌≤◌, max, min, Bool, true, false, ◌||◌, List, [], ◌∷◌, ◌++◌, length, take, drop, replicate, get_or, find, nat_lt, cond, None, Some, arith, refl, ap, sym, subst, ◌∙◌, inl, inr, length-append, length-drop}
 use Rattle.std.proofs.lemmas.Bool.{cases_lt, or_parts, ltb-true, ltb-false}
 use Rattle.std.proofs.lemmas.Bool.Decides.{nat_tests}
@@ -64,7 +64,7 @@ holds before (frame ∷ frames) place mark is some = by_test (covers frame place
         let next : mark - 1 - before ≡ suc (mark - 1 - (before + 1)) = omega (arith, after) in
         record { after = omega (arith, after); within = omega (arith, next, within); covers_it = λ d. rw next (h.covers_it d) }
 
--- one frame more
+-- one more frame
 holder_other : (before : ℕ) (frames : List Frame) (new : Frame) (place : ℕ) → covers new place ≡ false → holder before (frames ++ new ∷ []) place ≡ holder before frames place
 holder_other before [] new place there = rw there refl
 holder_other before (frame ∷ frames) new place there = ap (cond (covers frame place) (before + 1)) (holder_other (before + 1) frames new place there)
@@ -99,7 +99,7 @@ wider marks frames more are =
 pub marks_none : AreMarks [] []
 marks_none = record { each = λ unit within. absurd (omega (arith, within)); all = omega arith }
 
--- a number at each unit in which a frame more has places
+-- a number at each unit in which one more frame has places
 pub length-marked : (marks : List ℕ) (first last number : ℕ) → first ≤ last → last ≤ length marks → length (marked first last number marks) ≡ length marks
 length-marked marks first last number order within =
     let front = length-take-le first marks (omega (arith, order, within)) in
@@ -217,7 +217,7 @@ length-own marks frame unit h =
     let rest = length-drop (from_of frame / 8) marks in
     (omega (arith, cut, rest, h), omega (arith, cut, rest, h))
 
--- where no unit of a frame is marked, none of its places is held at a unit's first place
+-- if no unit of a frame is marked, none of its places is held at a unit's first place
 pub none_met : (marks : List ℕ) (frames : List Frame) (new : Frame) (unit : ℕ) → AreMarks marks frames → find (λ mark. nat_lt 0 mark) (own_marks new marks) ≡ None
     → from_of new ≤ 8 * unit → 8 * unit < to_of new → is_covered frames (8 * unit) ≡ false
 none_met marks frames new unit are none low high =
@@ -278,7 +278,7 @@ own_read marks rest own frame from to units count begins ends all behind fewer f
     front ∙ ap (λ (n : ℕ). take n rest) fewer ∙ take_min (units - from / 8) rest
     ∙ cc (begins, ends, all, behind)
 
--- the marks after a frame more was marked, where they were made wide enough
+-- the marks after one more frame was marked, if they were made wide enough
 lent : (count : ℕ) (new old : List ℕ) → length new ≡ count → length old ≡ count → take count (new ++ drop (length new) old) ≡ new
 lent count new old whole same =
     let none : drop (length new) old ≡ [] = drop_of_length-le old (omega arith) in
@@ -311,7 +311,7 @@ marked_none marks frames none few = record {
   are = rw (none, few) marks_none;
 }
 
--- the same marks, of one frame more
+-- the same marks, of one more frame
 take_before : (count : ℕ) (frames : List Frame) (new : Frame) → count ≤ length frames → take count (frames ++ new ∷ []) ≡ take count frames
 take_before zero frames new few = refl
 take_before (suc count) [] new few = absurd (omega (arith, few))

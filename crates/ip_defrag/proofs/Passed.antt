@@ -1,4 +1,4 @@
--- What a fragment's pass does to the groups is what it does to the flat list.
+-- A fragment's pass does to the groups what it does to the flat list.
 use Rattle.std.proofs.Common.{◌≡◌, ℕ, zero, suc, ◌+◌, ◌-◌, ◌<◌, ◌≤◌, Bool, true, false, not, ◌&&◌, ◌||◌, nat_eq, List, [], ◌∷◌, ◌++◌, length, length-append, map, filter, set, get_or, Option, None, Some, cond, if◌then◌else◌, arith, refl, ap, ◌∙◌, sym, subst}
 use Rattle.std.specs.List.{list_any, remove, position_from}
 use Rattle.std.proofs.lemmas.List.{length-map, append-nil, length-set}
@@ -54,7 +54,7 @@ live_fresh : (name : Name) (now : ℕ) (held : List Frame) → list_any (is_live
 live_fresh name now held =
     sym (any_filter (has_name name) (is_fresh now) (groups held)) ∙ ap (list_any (has_name name)) (sym (groups_fresh now held)) ∙ any_groups name (fresh now held)
 
--- a fragment alone is no datagram
+-- a fragment alone isn't a datagram
 alone : (frame : Frame) → takes_part frame ≡ true → completed (frame ∷ []) frame ≡ None
 unfolding completed
 alone frame taken = by_test (is_last frame) refl
@@ -86,7 +86,7 @@ length_groups : (held : List Frame) → length (groups held) ≡ length (names_o
 unfolding groups
 length_groups held = length-map (names_of held) (group_of held)
 
--- the groups where the name is a new one: as many as may be, or one less
+-- the groups if the name is a new one: as many as are allowed, or one fewer
 groups_without_first : (held : List Frame) → length (groups held) ≡ most_names → groups (without_first held) ≡ remove (groups held) 0
 groups_without_first [] many = absurd (omega (arith, length_groups []))
 groups_without_first (frame ∷ held) many =
@@ -278,7 +278,7 @@ module _ (held : List Frame) (frame : Frame) (at : ℕ) (d : Group) (taken : tak
   pub joins : Agrees (pass held frame) (length held) (filter (is_fresh frame.sec) (joined frame group (groups held) at).left) (joined frame group (groups held) at).whole (joined frame group (groups held) at).used
   joins = subst (λ (p : Passed). Agrees p (length held) (filter (is_fresh frame.sec) (joined frame group (groups held) at).left) (joined frame group (groups held) at).whole (joined frame group (groups held) at).used) (sym pass_is) (by_judgement _ _ refl refl)
 
--- where the first that passes stands
+-- the place of the first that passes
 pub record FoundAt {X : Type 0} (p : X → Bool) (xs : List X) (at : ℕ) : Type 0 where
   pub below : at < length xs
   pub passes : (d : X) → p (get_or xs at d) ≡ true
@@ -308,7 +308,7 @@ none_found {X} p from (x ∷ xs) e = by_test (none_found p (from + 1) xs) (p x) 
     by_test rest true e = absurd (none-some from (sym e))
     by_test rest false e = rest e
 
--- there are as few groups as before, or as may be
+-- the number of groups is within the bound, as before
 length_remove : {X : Type 0} (xs : List X) (at : ℕ) → length (remove xs at) ≤ length xs
 length_remove [] zero = omega arith
 length_remove [] (suc at) = omega arith
@@ -352,12 +352,12 @@ few_joined frame group some at few =
     let rest = length_joined frame group some at in
     omega arith
 
--- where the name was looked up
+-- when the name was looked up
 pub placed : (name name' : Name) (now now' : ℕ) (some some' : List Group) (place : Option ℕ) → name ≡ name' → now ≡ now' → some ≡ some' → place ≡ position_from (is_live name now) 0 some → position_from (is_live name' now') 0 some' ≡ place
 placed name name' now now' some some' place p q r h =
     sym (h ∙ ap (λ (n : Name). position_from (is_live n now) 0 some) p ∙ ap (λ (t : ℕ). position_from (is_live name' t) 0 some) q ∙ ap (λ (gs : List Group). position_from (is_live name' now') 0 gs) r)
 
--- the two ways of a pass, where the groups are those of a flat list
+-- the two ways of a pass, if the groups are those of a flat list
 pub opens_by : (held : List Frame) (frame : Frame) (some left : List Group) → takes_part frame ≡ true → some ≡ groups held → position_from (is_live (name_of frame) frame.sec) 0 some ≡ None → left ≡ after_opening frame some → Agrees (pass held frame) (length held) left None 0
 opens_by held frame some left taken is place l =
     let none : list_any (is_live (name_of frame) frame.sec) (groups held) ≡ false = subst (λ (gs : List Group). list_any (is_live (name_of frame) frame.sec) gs ≡ false) is (none_found (is_live (name_of frame) frame.sec) 0 some place) in
@@ -377,7 +377,7 @@ pub pass_other : (held : List Frame) (frame : Frame) → takes_part frame ≡ fa
 unfolding pass
 pass_other held frame other = simp other
 
--- where nothing comes out, no frame is in it
+-- if nothing comes out, no frame is in it
 used_none : (frame : Frame) (group : Group) (some : List Group) (at : ℕ) → (joined frame group some at).whole ≡ None → (joined frame group some at).used ≡ 0
 unfolding joined held_by
 used_none frame group some at e = by_judgement (judgement frame group.fragments) e

@@ -1,4 +1,4 @@
--- Places one after the other, and the places that two fragments share.
+-- Places one after another, and the places that two fragments share.
 use Rattle.std.proofs.Common.{◌≡◌, ℕ, zero, suc, ◌+◌, ◌-◌, ◌<◌, min, max, Bool, ◌&&◌, ◌||◌, nat_lt, nat_le, arith, ap, ◌∙◌}
 use Rattle.std.specs.List.{list_any}
 use Rattle.std.proofs.lemmas.Bool.Decides.{nat_tests}
@@ -16,7 +16,7 @@ one_within from (suc count) low high =
     here : ((nat_le low from && nat_lt from high) || nat_lt (max (from + 1) low) (min (from + 1 + count) high)) ≡ nat_lt (max from low) (min (from + suc count) high)
     here = grind (arith, nat_tests)
 
--- two fragments with data share a place where each begins before the other ends
+-- two fragments with data share a place if each begins before the other ends
 pub shares_is : (frame other : Frame) → from_of frame < to_of frame → from_of other < to_of other → shares frame other ≡ (nat_lt (from_of frame) (to_of other) && nat_lt (from_of other) (to_of frame))
 unfolding shares
 shares_is frame other some some_other =

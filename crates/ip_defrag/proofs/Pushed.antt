@@ -39,7 +39,7 @@ all_kept {X} test (x ∷ xs) none =
     let parts = or_parts (test x) (list_any test xs) none in
     simp parts.0 (ap (λ (ys : List X). x ∷ ys) (all_kept test xs parts.1))
 
--- the names of a list with a frame more
+-- the names of a list with one more frame
 pub names_push : (held : List Frame) (new : Frame) → names_of (held ++ new ∷ []) ≡ cond (list_any (is_named (name_of new)) held) (names_of held) (names_of held ++ name_of new ∷ [])
 names_push [] new = refl
 names_push (frame ∷ held) new = by_test (names_push held new) (same_name (name_of frame) (name_of new)) refl (list_any (is_named (name_of new)) held) refl
@@ -68,7 +68,7 @@ opened_push name (frame ∷ held) new = by_test (opened_push name held new) (sam
     by_test rest true e = simp e
     by_test rest false e = simp e rest
 
--- a name is among the groups where it is among the frames
+-- a name is among the groups if it is among the frames
 any_names : (name : Name) (held : List Frame) → list_any (λ other. same_name other name) (names_of held) ≡ list_any (is_named name) held
 any_names name [] = refl
 any_names name (frame ∷ held) = by_test (any_names name held) (same_name (name_of frame) name) refl
@@ -199,7 +199,7 @@ pub groups_distinct : (held : List Frame) → AreDistinct (groups held)
 unfolding groups
 groups_distinct held = names_distinct held held
 
--- a group of a name stands somewhere
+-- a group of a name has some place
 at_not_first : (group : Group) (some : List Group) (at : ℕ) → list_any (has_name group.name) some ≡ false → at < length some → same_name (get_or some at group).name group.name ≡ false
 at_not_first group some at none h = by_test (same_name (get_or some at group).name group.name) refl
   where
@@ -224,7 +224,7 @@ remove_is (group ∷ some) (suc at) d distinct h =
     subst (λ (g : Group). differs g.name group.name ≡ true) (get_or_default some at group d below) (differs_from group some at distinct.0 below) in
     ap (λ (gs : List Group). group ∷ gs) (remove_is some at d distinct.1 below) ∙ sym (simp other)
 
--- the group at a place with a frame more
+-- the group at a place with one more frame
 pub set_is : (some : List Group) (at : ℕ) (d : Group) (new : Frame) → AreDistinct some → at < length some → same_name (get_or some at d).name (name_of new) ≡ true → set some at (with_frame new (get_or some at d)) ≡ map (updated new) some
 set_is [] at d new distinct h named = absurd (omega arith)
 set_is (group ∷ some) zero d new distinct h named =

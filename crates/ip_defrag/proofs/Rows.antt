@@ -1,4 +1,5 @@
--- The definitions at worked fragments, in whole: from 10.0.0.1 to 10.0.0.2, protocol 17, identification 0x1234.
+-- The definitions at worked fragments, in whole: from 10.0.0.1 to 10.0.0.2, protocol 17,
+-- identification 0x1234.
 use Rattle.std.proofs.Common.{◌≡◌, List, [], ◌∷◌, ◌++◌, length, ℕ, ◌+◌, refl, None}
 use Rattle.frame_view.specs.InternetChecksum.{checksum_of}
 use Rattle.frame_view.specs.declared.frames.Frame.{Frame}

@@ -12,7 +12,7 @@ use Rattle.frame_view.specs.declared.ip_reading.V6Part.{V6Part}
 use Rattle.ip_defrag.specs.Fragments.{takes_part, takes_part_by, is_fragment, from_of, to_of, is_last, data_of, headers_length}
 use Rattle.ip_defrag.specs.Held.{IsRead}
 
--- an IPv4 header that was read: what it says of lengths and places
+-- an IPv4 header that was read: what it says about lengths and places
 pub record IsHeader (bytes : List ℕ) (ip : V4Part) : Type 0 where
   pub is : ip ≡ v4_of bytes
   pub long : 20 ≤ ip.header
@@ -56,7 +56,7 @@ taken_by false true v6 link ip ip6 captured e = (refl, e)
 taken_by false false true link ip ip6 captured e = cc
 taken_by false false false link ip ip6 captured e = cc
 
--- both, of a frame that takes part
+-- both, for a frame that takes part
 pub record Known (frame : Frame) : Type 0 where
   pub header : IsHeader frame.bytes (v4_of frame.bytes)
   pub taken : IsTaken (length frame.bytes) (v4_of frame.bytes)

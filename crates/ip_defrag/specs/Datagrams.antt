@@ -10,16 +10,16 @@ use Rattle.frame_view.specs.InternetChecksum.{checksum_of}
 use Rattle.frame_view.specs.declared.frames.Frame.{Frame}
 use Rattle.ip_defrag.specs.Fragments.{from_of, to_of, is_last, data_of, headers_length}
 
--- some places, one after the other
+-- some places, one after another
 abbrev pub places : ℕ → ℕ → List ℕ
 places from zero = []
 places from (suc count) = from ∷ places (from + 1) count
 
--- whether a place lies in a frame's data
+-- whether a place is in a frame's data
 abbrev pub covers : Frame → ℕ → Bool
 covers frame place = nat_le (from_of frame) place && nat_lt place (to_of frame)
 
--- whether a place lies in one of some frames
+-- whether a place is in one of some frames
 abbrev pub is_covered : List Frame → ℕ → Bool
 is_covered frames place = list_any (λ frame. covers frame place) frames
 
@@ -79,7 +79,7 @@ datagram_from first end frames newest = framed newest first (bytes_from first en
 abbrev pub is_first : Frame → Bool
 is_first frame = from_of frame == 0
 
--- whether every place below an end lies in one of the frames
+-- whether every place below an end is in one of the frames
 unfoldable pub covers_all : List Frame → ℕ → Bool
 covers_all frames end = list_all (is_covered frames) (places 0 end)
 
@@ -91,7 +91,6 @@ completed_at (Some last) frames newest =
     then option_map (λ first. datagram_from first (to_of last) frames newest) (find is_first frames)
     else None
 
--- the datagram of a name's frames, where one is last and every place below its end lies in one of
--- them
+-- the datagram of a name's frames, if one is last and every place below its end is in one of them
 unfoldable pub completed : List Frame → Frame → Option Frame
 completed frames newest = completed_at (find is_last frames) frames newest

@@ -1,4 +1,4 @@
--- What the code keeps of a datagram's fragments in all, so that a push needn't look at each. In
+-- What the code keeps of all of a datagram's fragments, so that a push needn't look at each. In
 -- bytes, from 0.
 use Rattle.std.specs.Prelude.{◌≡◌, ℕ, ◌+◌, ◌-◌, max, List, [], ◌∷◌, find, Option, None, Some}
 use Rattle.std.specs.Prelude.{option_map, if◌then◌else◌}
@@ -24,12 +24,12 @@ extent_of frames = record {
   end = end_of frames;
 }
 
--- the end of a datagram with a frame more
+-- the end of a datagram with one more frame
 abbrev pub end_with : Frame → Option ℕ → Option ℕ
 end_with new None = if is_last new then Some (to_of new) else None
 end_with new (Some end) = Some end
 
--- an extent with a frame more
+-- an extent with one more frame
 abbrev pub extended : Frame → Extent → Extent
 extended new extent = record {
   filled = extent.filled + (to_of new - from_of new);

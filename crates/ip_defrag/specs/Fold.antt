@@ -50,8 +50,8 @@ is_stale now held name = nat_le (opened_at name held + 30) now
 abbrev pub fresh : ℕ → List Frame → List Frame
 fresh now held = filter (λ frame. not (is_stale now held (name_of frame))) held
 
--- rule 2: where the name is a new one and 64 are held, the one whose first frame stands first loses
--- all its frames
+-- rule 2: if the name is a new one and 64 are held, the one whose first frame comes first loses all
+-- its frames
 abbrev pub without_first : List Frame → List Frame
 without_first [] = []
 without_first (frame ∷ held) = without (name_of frame) (frame ∷ held)
@@ -90,7 +90,7 @@ pub record Passed : Type 0 where
   pub whole : Option Frame
   pub discarded : ℕ
 
--- rule 5: the frame is held; where that completes its datagram, this comes out and its frames leave
+-- rule 5: the frame is held; if that completes its datagram, this comes out and its frames leave
 abbrev pub join_by : Option Frame → Frame → List Frame → ℕ → Passed
 join_by None frame held gone = record { held = held; whole = None; discarded = gone }
 join_by (Some whole) frame held gone =
@@ -99,7 +99,7 @@ join_by (Some whole) frame held gone =
 abbrev pub join : Frame → List Frame → ℕ → Passed
 join frame held gone = join_by (completed (of_name (name_of frame) held) frame) frame held gone
 
--- rules 3 to 5, where rules 1 and 2 have taken some frames away
+-- rules 3 to 5, after rules 1 and 2 have taken some frames away
 abbrev pub judge : Frame → List Frame → ℕ → Passed
 judge frame held gone =
     if list_any (is_copy frame) (of_name (name_of frame) held)
@@ -119,7 +119,7 @@ pass held frame =
     then judge frame (kept_for frame held) (length held - length (kept_for frame held))
     else record { held = held; whole = Some frame; discarded = 0 }
 
--- what comes out of some frames, one after the other
+-- what comes out of some frames, one after another
 abbrev pub passed : List Frame → List Frame → List Frame
 passed held [] = []
 passed held (frame ∷ frames) =

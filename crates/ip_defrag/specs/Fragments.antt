@@ -1,5 +1,5 @@
--- Which frames take part in reassembly, and where their data stands. Places and lengths are in
--- bytes, from 0.
+-- Which frames take part in reassembly, and where their data is. Places and lengths are in bytes,
+-- from 0.
 use Rattle.std.specs.Prelude.{ℕ, ◌+◌, ◌-◌, ◌*◌, ◌%◌, Bool, false, not, ◌&&◌, ◌||◌, List, length}
 use Rattle.std.specs.Prelude.{take, drop, nat_lt, nat_le, ◌==◌}
 use Rattle.frame_view.specs.Headers.{view_of, v4_of}
@@ -18,8 +18,8 @@ most_data = 65475
 abbrev pub data_length : V4Part → ℕ
 data_length ip = ip.total - ip.header
 
--- the header is a fragment's, all of its data was captured, some is there, and it lies where data
--- may lie
+-- the header is a fragment's, all of its data was captured, there is some, and it is where data may
+-- be
 abbrev pub is_fragment : V4Part → ℕ → Bool
 is_fragment ip captured =
     (ip.more || nat_lt 0 ip.offset)

@@ -42,7 +42,7 @@ is_fresh now group = not (nat_le (group.opened + 30) now)
 abbrev pub opened_by : Frame → Group
 opened_by frame = record { name = name_of frame; opened = frame.sec; fragments = frame ∷ [] }
 
--- a group with a frame more
+-- a group with one more frame
 abbrev pub with_frame : Frame → Group → Group
 with_frame frame group = record group { fragments = group.fragments ++ frame ∷ [] }
 
@@ -54,7 +54,7 @@ total some = sum_by (λ group. length group.fragments) some
 abbrev pub updated : Frame → Group → Group
 updated frame group = if has_name (name_of frame) group then with_frame frame group else group
 
--- what a new frame is to held ones
+-- how a new frame relates to held ones
 abbrev pub judgement : Frame → List Frame → Judgement
 judgement new held =
     if list_any (is_copy new) held then Copy
@@ -73,7 +73,7 @@ FitsIn frame group = list_any (conflicts frame) group.fragments ≡ false
 abbrev pub completed_with : Frame → List Frame → Option Frame
 completed_with frame frames = completed (frames ++ frame ∷ []) frame
 
--- some groups without the first, where there are as many as may be
+-- some groups without the first, if there are as many as are allowed
 abbrev pub with_place : List Group → List Group
 with_place some = if length some == most_names then remove some 0 else some
 
@@ -113,7 +113,7 @@ pub record Agrees (passed : Passed) (before : ℕ) (left : List Group) (whole : 
   pub whole_is : whole ≡ passed.whole
   pub counted : passed.discarded + length passed.held + used ≡ before + 1
 
--- what was answered and left is what comes of a frame at a place
+-- what was returned and left is the result of a frame at a place
 pub record IsJoined (frame : Frame) (at : ℕ) (some left : List Group) (answer : Answer)
     : Type 0 where
   pub left_is : (d : Group) → left ≡ (joined frame (slice_index_or some at d) some at).left
@@ -121,18 +121,18 @@ pub record IsJoined (frame : Frame) (at : ℕ) (some left : List Group) (answer 
       (d : Group) → answer.whole ≡ (joined frame (slice_index_or some at d) some at).whole
   pub used_is : (d : Group) → answer.used ≡ (joined frame (slice_index_or some at d) some at).used
 
--- the same of a frame that fits there
+-- the same for a frame that fits there
 pub record IsHeld (frame : Frame) (at : ℕ) (some left : List Group) (answer : Answer) : Type 0 where
   pub left_is : (d : Group) → left ≡ (held_by frame (slice_index_or some at d) some at).left
   pub whole_is :
       (d : Group) → answer.whole ≡ (held_by frame (slice_index_or some at d) some at).whole
   pub used_is : (d : Group) → answer.used ≡ (held_by frame (slice_index_or some at d) some at).used
 
--- what was answered and left agrees with a frame's pass over a flat list
+-- what was returned and left agrees with a frame's pass over a flat list
 abbrev pub Passes : List Frame → Frame → List Group → Answer → Type 0
 Passes held frame left answer = Agrees (pass held frame) (length held) left answer.whole answer.used
 
--- how many frames are held, and that many at most can be
+-- how many frames are held, and the most that can be
 pub record IsCount (count : ℕ) (held : List Frame) : Type 0 where
   pub counted : count ≡ length held
   pub most : count ≤ 4190400

@@ -1,4 +1,4 @@
--- What the code's types stand for.
+-- What the code's types represent.
 use Rattle.std.specs.Prelude.{◌≡◌, ℕ, ◌+◌, ◌-◌, ◌*◌, ◌%◌, ◌<◌, ◌≤◌, true, false, not, List, [], ◌∷◌}
 use Rattle.std.specs.Prelude.{◌++◌, length, take, drop, sum_by}
 use Rattle.std.specs.List.{list_any}

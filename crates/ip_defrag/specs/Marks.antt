@@ -1,5 +1,5 @@
--- Which of a datagram's frames has which unit of eight bytes. Units are counted from 0, frames from
--- 1.
+-- Which of a datagram's frames has which unit of eight bytes. Units are counted from 0, frames
+-- from 1.
 use Rattle.std.specs.Prelude.{◌≡◌, ℕ, ◌+◌, ◌-◌, ◌*◌, ◌/◌, ◌<◌, ◌≤◌, List, [], ◌∷◌, ◌++◌, length}
 use Rattle.std.specs.Prelude.{take, drop, replicate, slice_index_or, if◌then◌else◌}
 use Rattle.frame_view.specs.declared.frames.Frame.{Frame}
@@ -12,7 +12,7 @@ use Rattle.ip_defrag.specs.declared.marks.Marks.{Marks}
 abbrev pub units_to : ℕ → ℕ
 units_to place = (place + 7) / 8
 
--- the number of the first frame that has a place, where so many frames stand before these; 0 where
+-- the number of the first frame that has a place, given how many frames come before these; 0 if
 -- none has it
 abbrev pub holder : ℕ → List Frame → ℕ → ℕ
 holder before [] place = 0

@@ -1,4 +1,4 @@
-//! The fragments of one datagram, as far as they were pushed.
+//! The fragments of one datagram that were pushed so far.
 ghost use Rattle.std.specs.Prelude.{◌≡◌, ◌≤◌, ◌<◌, ◌++◌, ◌∷◌, [], IfErr, IfOk, OnErr, OnOk, true};
 ghost use Rattle.std.specs.Prelude.{false, length};
 ghost use Rattle.ip_defrag.specs.Fragments.{from_of, takes_part, to_of};
@@ -31,9 +31,9 @@ pub(crate) struct Datagram {
     opened: u32,
     /// The fragments, in the order in which they were pushed.
     fragments: Vec<Fragment>,
-    /// Which of them has which unit of eight bytes, as far as they are marked.
+    /// Which of the marked ones has which unit of eight bytes.
     marks: Marks,
-    /// What they are in all.
+    /// Their extent.
     extent: Extent,
 }
 
@@ -102,9 +102,9 @@ impl Datagram {
         self.fragments.len() as u32
     }
 
-    /// What a new fragment is to its fragments. One that shares no place with any contradicts an end
-    /// where it lies after all of them and one is last, or before one of them and is last itself.
-    /// Its fragments are marked where the new one begins before the end of one of them.
+    /// How a new fragment relates to its fragments. One that shares no place with any contradicts
+    /// an end where it lies after all of them and one is last, or before one of them and is last
+    /// itself. Its fragments are marked where the new one begins before the end of one of them.
     pub(crate) fn judge(&mut self, new: &Fragment) -> Result<Judgement, Memory>
         ensures judged { IfOk result (λ is. is ≡ judgement new.now self.old.fragments) }
         ensures same { self.new ≡ self.old }
@@ -116,7 +116,7 @@ impl Datagram {
         Ok(judge_marked(&self.marks.units, &self.fragments, new))
     }
 
-    /// Adds a fragment, and gives the datagram's frame where that completes it. After `NoPush`
+    /// Adds a fragment, and returns the datagram's frame if that completes it. After `NoPush`
     /// nothing has changed, and the fragment's frame is handed back.
     pub(crate) fn add(&mut self, alloc: Global, fragment: Fragment) -> Result<Option<Frame>, NoPush>
         requires taken { takes_part fragment ≡ true }
@@ -133,7 +133,8 @@ impl Datagram {
     }
 }
 
-/// What a fragment is to others that are all marked, where it begins before the end of one of them.
+/// How a fragment relates to others that are all marked, if it begins before the end of one of
+/// them.
 fn judge_marked(marks: &[u16], fragments: &[Fragment], new: &Fragment) -> Judgement
     requires held { AreHeld fragments.now }
     requires marked { AreMarks marks.now fragments.now }
@@ -147,7 +148,7 @@ fn judge_marked(marks: &[u16], fragments: &[Fragment], new: &Fragment) -> Judgem
     }
 }
 
-/// Adds a fragment after others, and gives their datagram's frame where that completes it. The
+/// Adds a fragment after others, and returns their datagram's frame if that completes it. The
 /// extent is that of all of them. After `NoPush` nothing has changed, and the fragment's frame is
 /// handed back.
 fn add_to(

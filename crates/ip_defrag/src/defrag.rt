@@ -12,13 +12,13 @@ use frame_view::Frame;
 use std::alloc::Global;
 use std::marker::Model;
 
-/// Puts fragments of IPv4 datagrams (RFC 791) together. Contracts see it as the list of the frames
+/// Reassembles IPv4 datagrams (RFC 791) from fragments. Contracts see it as the list of the frames
 /// that it holds, in the order in which they were pushed.
 #[derive(Drop)]
 pub struct Defrag {
-    /// Where memory comes from.
+    /// The allocator.
     alloc: Global,
-    /// The datagrams of which fragments are held, in the order in which they were opened.
+    /// The datagrams with held fragments, in the order in which they were opened.
     datagrams: Vec<Datagram>,
     /// The number of those fragments.
     pending: u32,

@@ -1,10 +1,10 @@
-//! What the fragments of a datagram are in all, kept so that a push needn't look at each.
+//! The extent of a datagram's fragments, kept so that a push needn't look at each of them.
 ghost use Rattle.std.specs.Prelude.{◌≡◌, ◌≤◌, []};
 ghost use Rattle.ip_defrag.specs.Extents.{extended, extent_of};
 
 use crate::fragments::Fragment;
 
-/// What the held fragments of a datagram are in all.
+/// The extent of a datagram's held fragments.
 #[derive(Clone, Copy)]
 pub(crate) struct Extent {
     /// The number of bytes of data that they have.
@@ -16,7 +16,7 @@ pub(crate) struct Extent {
 }
 
 impl Extent {
-    /// That of no fragment.
+    /// The extent of no fragment.
     #[tactic(auto, unfolding(crate::specs::Extents::extent_of))]
     pub(crate) fn new() -> Extent
         ensures { result ≡ extent_of [] }
@@ -28,7 +28,7 @@ impl Extent {
         }
     }
 
-    /// That with one fragment more.
+    /// The extent with one more fragment.
     pub(crate) fn with(self, new: &Fragment) -> Extent
         requires { self.filled ≤ 65475 }
         ensures { result ≡ extended new.now self }

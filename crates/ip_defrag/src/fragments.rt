@@ -52,7 +52,7 @@ impl Fragment {
         &self.frame
     }
 
-    /// Gives the frame back.
+    /// Returns the frame.
     pub(crate) fn into_frame(self) -> Frame
         ensures { result ≡ self }
     {

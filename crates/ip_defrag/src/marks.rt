@@ -1,5 +1,5 @@
-//! Which held fragment has which part of a datagram, so that a new one is compared with one of them
-//! at most. Each fragment begins at a multiple of eight bytes, so the datagram is marked in units
+//! Which held fragment has which part of a datagram, so that a new one is compared with at most one
+//! of them. Each fragment begins at a multiple of eight bytes, so the datagram is marked in units
 //! of eight.
 ghost use Rattle.std.specs.Prelude.{◌≡◌, ◌+◌, ◌-◌, ◌/◌, ◌<◌, ◌≤◌, ◌++◌, [], OnErr, OnOk, drop, find};
 ghost use Rattle.std.specs.Prelude.{length, nat_lt, option_copied, replicate, take};
@@ -25,7 +25,7 @@ pub(crate) struct Marks {
 }
 
 impl Marks {
-    /// Those of no fragment.
+    /// The marks of no fragment.
     pub(crate) fn new(alloc: Global) -> Marks
         ensures units { result.units.items ≡ [] }
         ensures count { result.count ≡ 0 }
@@ -74,7 +74,7 @@ fn units_to(place: usize) -> usize
     (place + UNIT - 1) / UNIT
 }
 
-/// Marks some more units as nobody's, up to `units` of them, where fewer have a mark.
+/// Marks some more units as nobody's, up to `units` of them, if fewer have a mark.
 fn widen(marks: &mut Vec<u16>, units: usize) -> Result<(), Memory>
     ensures wide { OnOk result (marks.new.items
         ≡ marks.old.items ++ replicate (units - length marks.old.items) 0) }

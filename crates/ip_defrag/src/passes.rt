@@ -1,7 +1,6 @@
-//! A fragment's pass over the datagrams that are held, which stand in the order in which they were
-//! opened.
+//! A fragment's pass over the held datagrams, which are in the order in which they were opened.
 //!
-//! What allocates is done first, so that nothing has changed where it is refused.
+//! Memory is allocated first, so that nothing has changed if that fails.
 ghost use Rattle.std.specs.Prelude.{◌≡◌, ◌≤◌, ◌<◌, IfErr, IfOk, HoldsAt, OnErr, OnOk, true, filter};
 ghost use Rattle.std.specs.Prelude.{length, vec_capacity, vec_len};
 ghost use Rattle.std.specs.List.{position_from};
@@ -22,10 +21,10 @@ use std::alloc::Global;
 /// The most datagrams that are held.
 const MOST_NAMES: usize = 64;
 
-/// What came of a fragment.
+/// The result for a fragment.
 #[derive(Drop)]
 struct Answer {
-    /// The datagram's frame, where the fragment completed it.
+    /// The datagram's frame, if the fragment completed it.
     whole: Option<Frame>,
     /// The number of fragments that are in that frame.
     used: u32,
@@ -45,7 +44,7 @@ fn pending(datagrams: &[Datagram]) -> u32
     count
 }
 
-/// The place of a name's datagram, where one is held that isn't stale.
+/// The place of a name's datagram, if one is held that isn't stale.
 fn place_of(datagrams: &[Datagram], name: Name, now: u32) -> Option<usize>
     ensures { result ≡ position_from (is_live name now) 0 datagrams.now }
 {
@@ -63,8 +62,8 @@ fn drop_stale(datagrams: &mut Vec<Datagram>, now: u32)
     datagrams.retain(|datagram| datagram.is_fresh(now));
 }
 
-/// Opens a datagram with its first fragment. The stale ones are given up, and where then as many
-/// are held as may be, the one that was opened first.
+/// Opens a datagram with its first fragment. The stale ones are given up, and if the maximum is
+/// then still held, also the one that was opened first.
 #[tactic(auto, unfolding(crate::specs::Grouped::after_opening))]
 fn open(alloc: Global, datagrams: &mut Vec<Datagram>, fragment: Fragment) -> Result<(), NoPush>
     ensures left { OnOk result (datagrams.new.items ≡ after_opening fragment datagrams.old.items) }
@@ -86,8 +85,8 @@ fn open(alloc: Global, datagrams: &mut Vec<Datagram>, fragment: Fragment) -> Res
     Ok(())
 }
 
-/// Joins a fragment to the datagram at a place. That leaves where the two conflict, or where it is
-/// completed.
+/// Joins a fragment to the datagram at a place. The datagram leaves if the two conflict, or if it
+/// is completed.
 #[tactic(auto, unfolding(crate::specs::Grouped::joined))]
 fn join(
     alloc: Global,
@@ -121,7 +120,7 @@ fn join(
     }
 }
 
-/// Adds a fragment that fits to the datagram at a place, which leaves where that completes it.
+/// Adds a fragment that fits to the datagram at a place, which leaves if that completes it.
 fn hold(
     alloc: Global,
     datagrams: &mut Vec<Datagram>,
@@ -144,7 +143,7 @@ fn hold(
 }
 
 /// Passes a fragment over the datagrams, and counts what they hold anew. The trace reports which
-/// frames that are. After `NoPush` nothing has changed, and the fragment's frame is handed back.
+/// frames these are. After `NoPush` nothing has changed, and the fragment's frame is handed back.
 pub(crate) fn pass(
     alloc: Global,
     trace: &Trace,

@@ -7,9 +7,9 @@ use frame_view::{Frames, Memory};
 use std::alloc::Global;
 use std::collections::VecDeque;
 
-/// Passes frames through reassembly, in their order, and gives what comes out: each frame that
-/// doesn't take part, and each datagram where its last missing fragment stood. What is pending at
-/// the end is dropped.
+/// Passes frames through reassembly, in their order, and returns what comes out: each frame that
+/// doesn't take part, and each datagram in the place of its last missing fragment. What is pending
+/// at the end is dropped.
 pub fn reassemble(alloc: Global, frames: Frames) -> Result<Frames, Memory>
     ensures { IfOk result (λ out. out ≡ passed [] frames) }
 {

@@ -1,11 +1,11 @@
-//! What a new fragment is to those that are held of its datagram.
+//! How a new fragment relates to the held ones of its datagram.
 ghost use Rattle.std.specs.Prelude.{◌≡◌, if◌then◌else◌};
 ghost use Rattle.ip_defrag.specs.Fold.{is_copy};
 ghost use Rattle.ip_defrag.specs.declared.rules.Judgement.TheVariants.{Conflict, Copy, Fits};
 
 use crate::fragments::Fragment;
 
-/// What a new fragment is to those that are held of its datagram.
+/// How a new fragment relates to the held ones of its datagram.
 #[derive(Clone, Copy)]
 pub(crate) enum Judgement {
     /// It is a copy of one of them.
@@ -27,8 +27,8 @@ fn is_copy(new: &Fragment, held: &Fragment) -> bool
         && new.data() == held.data()
 }
 
-/// What a new fragment is that conflicts with a held one. A copy conflicts with the one that it is
-/// a copy of, and with no other.
+/// How a new fragment that conflicts with a held one relates to it. A copy conflicts only with the
+/// one that it is a copy of.
 pub(crate) fn beside(new: &Fragment, held: &Fragment) -> Judgement
     ensures { result ≡ (if is_copy new.now held.now then Copy else Conflict) }
 {
@@ -39,8 +39,8 @@ pub(crate) fn beside(new: &Fragment, held: &Fragment) -> Judgement
     }
 }
 
-/// What a new fragment is that shares no byte place with a held one, by whether one contradicts the
-/// other's end.
+/// How a new fragment that shares no byte place with the held ones relates to them, by whether one
+/// contradicts another's end.
 pub(crate) fn apart(contradicts: bool) -> Judgement
     ensures { result ≡ (if contradicts then Conflict else Fits) }
 {

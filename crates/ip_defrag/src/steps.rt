@@ -1,17 +1,16 @@
-//! What a frame's push gives.
+//! The result of pushing a frame.
 use frame_view::{Frame, Memory};
 
-/// What came of a frame that was pushed.
+/// The result for a frame that was pushed.
 #[derive(Debug, Drop)]
 pub struct Step {
-    /// The frame itself where it doesn't take part in reassembly, or the datagram that it
-    /// completed.
+    /// The frame itself if it doesn't take part in reassembly, or the datagram that it completed.
     pub whole: Option<Frame>,
-    /// How many fragments were given up, the frame itself among them where that is its lot.
+    /// How many fragments were given up, the frame itself included if it was.
     pub discarded: u32,
 }
 
-/// Memory was wanted. Nothing has changed, and the frame is handed back.
+/// Memory ran out. Nothing has changed, and the frame is handed back.
 #[derive(Debug, Drop)]
 pub struct NoPush {
     /// The frame that was to be pushed.

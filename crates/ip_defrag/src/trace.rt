@@ -19,14 +19,14 @@ impl Model for Trace {
 }
 
 impl Trace {
-    /// That of no frame.
+    /// The trace of no frame.
     pub(crate) fn new() -> Trace
         ensures { result.held ≡ [] }
     {
         Trace {}
     }
 
-    /// That which a frame's pass leaves.
+    /// The trace after a frame's pass.
     pub(crate) fn after(&self, _frame: &Frame) -> Trace
         ensures { result.held ≡ (pass self.now.held _frame.now).held }
     {

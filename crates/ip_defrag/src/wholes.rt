@@ -1,4 +1,4 @@
-//! The datagram that its fragments make.
+//! The datagram that its fragments make up.
 ghost use Rattle.std.specs.Prelude.{◌≡◌, ◌+◌, ◌-◌, ◌%◌, ◌≤◌, length, find, option_copied, IfOk};
 ghost use Rattle.std.specs.Prelude.{replicate};
 ghost use Rattle.std.specs.List.{AllByRecursion};
@@ -50,9 +50,9 @@ fn fill(fragments: &[Fragment], into: &mut [u8])
     }
 }
 
-/// Makes the headers of a fragment those of its datagram, which has so many bytes of data: the
-/// total length is set, the more bit and the offset are cleared, the other flag bits stay, and the
-/// checksum is computed anew.
+/// Makes the headers of a fragment those of its datagram, which has this number of bytes of data:
+/// the total length is set, the more bit and the offset are cleared, the other flag bits stay, and
+/// the checksum is computed anew.
 fn make_whole(headers: &mut [u8], len: usize)
     requires long { 34 ≤ length headers.old }
     requires short { length headers.old ≤ 74 }
@@ -92,9 +92,9 @@ fn whole_bytes(
     Ok(ByteList::from_vec(bytes))
 }
 
-/// The frame of a datagram, where some of its fragments, whose extent is given, are all of them:
-/// one is last, and every place below its end lies in one of them. It has the CPU, the index and
-/// the time of the newest.
+/// The frame of a datagram, if these fragments, whose extent is given, are all of them: one is
+/// last, and every place below its end is in one of them. It has the CPU, the index and the time of
+/// the newest.
 #[tactic(auto, unfolding(crate::specs::Datagrams::completed, crate::specs::Datagrams::datagram_from))]
 pub(crate) fn completed(
     alloc: Global,

@@ -21,7 +21,7 @@ const LARGEST_CAPTURE: usize = 33_554_432;
 /// a packet may have 262,144 and a block that is read 524,288.
 #[derive(Debug, Drop)]
 pub struct BlockDecoder {
-    /// Gives the memory for the frames.
+    /// Allocates the frames.
     alloc: Global,
     /// The CPU number that its frames carry.
     cpu: u32,

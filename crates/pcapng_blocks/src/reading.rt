@@ -74,7 +74,7 @@ pub(crate) struct Split<'a> {
 /// What blocks are read with.
 #[derive(Clone, Copy)]
 pub(crate) struct Reader {
-    /// Gives the memory for a frame's bytes.
+    /// Allocates a frame's bytes.
     pub alloc: Global,
     /// The CPU number that its frames carry.
     pub cpu: u32,

@@ -26,7 +26,7 @@ const FREE: u32 = 0;
 /// it holds.
 #[derive(Drop)]
 pub struct RingReader<B: Layout> {
-    /// Gives the memory for the copies.
+    /// Allocates the copies.
     alloc: Global,
     /// The shape of the ring.
     shape: Shape,

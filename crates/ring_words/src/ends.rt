@@ -135,8 +135,8 @@ pub trait WalkerEnd<B: Content> {
         ensures exact_none { (blocks : ℕ) → (walk self.old).waiting ≡ Some blocks →
             IfNone result (blocks ≡ 0) };
 
-    /// Gives the block in hand back to the feeder's side, with this word, which is even and below
-    /// 256.
+    /// Gives the block in hand back to the feeder's side, with this word, which is even and
+    /// below 256.
     fn release(&mut self, block: B, mark: u32)
         requires hand { (walk self.old).in_hand ≡ true }
         requires mark { IsMark mark }

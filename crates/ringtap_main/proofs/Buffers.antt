@@ -31,7 +31,7 @@ word_bounded word bytes given many room size less is same fits most =
     let bound = buffer_bounded size less in
     let taken = length-take given bytes in omega (arith, bound, taken, less, is, same, fits, most)
 
--- one word more
+-- one more word
 pub one_more : (P : List ℕ → Type 0) (words more : List (List ℕ)) (found : Option (List ℕ))
     (word : List ℕ) → more ≡ words ++ word ∷ [] → found ≡ Some word → IfSome found P → All P words
     → All P more

@@ -14,7 +14,7 @@ const FIRST_SIZE: u32 = 8;
 const LAST_SIZE: u32 = 25;
 
 /// The arguments after the program's name, in order. One that isn't UTF-8, or has more than 32 MiB,
-/// is the empty word, which is no command and the name of no file, and so is one without a byte.
+/// is the empty word, which is neither a command nor the name of a file; so is an empty argument.
 pub(crate) fn words<R: Env>(rt: &R, alloc: Global) -> Result<Vec<Word>, Memory>
     ensures utf8 { IfOk result (λ words. All IsUtf8 words.items) }
     ensures size { IfOk result (λ words. All (λ word. length word ≤ 33554432) words.items) }
@@ -46,7 +46,7 @@ fn word_at<R: Env>(rt: &R, alloc: Global, index: usize) -> Result<Option<Word>, 
     Ok(Some(word_of(alloc, &[])?))
 }
 
-/// The word of an argument's bytes: these bytes where they are UTF-8, and else none.
+/// The word of an argument's bytes: these bytes if they are UTF-8, otherwise none.
 fn word_of(alloc: Global, bytes: &[u8]) -> Result<Word, Memory>
     ensures text { IsUtf8 bytes.now → IfOk result (λ word. word ≡ bytes.now) }
     ensures other { ¬ (IsUtf8 bytes.now) → IfOk result (λ word. word ≡ []) }

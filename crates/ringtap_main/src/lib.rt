@@ -14,9 +14,8 @@ use std::thread::Threads;
 use tap_engine::{Status, run};
 use tap_outside::{DiskStore, StdSink, write_whole};
 
-/// Carries out the command that the program's arguments say, over real files and standard output,
-/// and returns the status with which the program ends. A `capture` starts threads and may wait for
-/// them.
+/// Carries out the command given by the program's arguments, over real files and standard output,
+/// and returns the program's exit status. A `capture` starts threads and may wait for them.
 pub fn run_program<R>(rt: &R) -> ExitCode
 where
     R: Env + Files + Print + AllocGlobal + Threads + Wait + Sync,
@@ -33,7 +32,7 @@ where
     let outcome = run(rt, rt.alloc(), words.as_slice(), store, out, &NoGate);
     let code = ExitCode::from(outcome.status.number());
     // The process ends here, and its memory with it: freeing each frame of the report first would
-    // serve nobody.
+    // be of no use.
     mem::forget(outcome);
     code
 }

@@ -6,7 +6,7 @@ use std::alloc::Global;
 use tap_printing::setup_refusal;
 use text_lines::Word;
 
-/// Appends words, each with a number behind it.
+/// Appends words, each followed by a number.
 fn push_numbers(text: &mut String, parts: &[(&str, u64)]) -> Result<(), Memory> {
     for (word, number) in parts {
         write!(text, "{word}{number}")?;
@@ -107,7 +107,7 @@ fn push_address(text: &mut String, setup: &Setup) -> Result<(), Memory> {
     Ok(())
 }
 
-/// Appends what is chosen besides: a key, an address, a dump, frames that are skipped and made, and
+/// Appends what else is chosen: a key, an address, a dump, frames that are skipped and made, and
 /// workers.
 fn push_choices(text: &mut String, setup: &Setup) -> Result<(), Memory> {
     push_answer(text, "\nkey ", setup.key.is_some())?;
@@ -150,7 +150,7 @@ fn shown(alloc: Global, setup: &str, command: Command) -> Result<String, Memory>
     }
 }
 
-/// What is read of the lines that each setup needs.
+/// What is read from the lines that each setup needs.
 const OF_NEEDED: &str = "blocks 2 of 4096
 frames 4 of 2048
 first 48 room 4048
@@ -203,7 +203,7 @@ workers 8
 skip_bad yes
 dump yes";
 
-/// What is read of it.
+/// What is read from it.
 const OF_EVERY_WORD: &str = "blocks 64 of 65536
 frames 2048 of 2048
 first 64 room 65472

@@ -112,7 +112,7 @@ static ADDED: [Row; 85] = [
     ("workers 9\n", "setup line 6: bad_number\n"),
     ("workers two\n", "setup line 6: bad_number\n"),
     ("workers 8\nworkers 9\n", "setup line 7: twice\n"),
-    // of two faulty lines the first answers, and before what the lines say together
+    // of two faulty lines the first is reported, and before the faults of all lines together
     ("blok 3\ntov x\n", "setup line 6: unknown_word\n"),
     ("members 0\ntov x\n", "setup line 7: bad_number\n"),
 ];

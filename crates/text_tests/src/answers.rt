@@ -1,4 +1,4 @@
-//! What a reader answers, as the line that a program prints of it.
+//! What a reader answers, as the line that the program prints for it.
 use frame_view::Memory;
 use setup_text::{Command, TextError, Which, read_filter, read_schedule, read_setup, read_ticks};
 use std::alloc::Global;
@@ -9,14 +9,14 @@ use tap_printing::{setup_refusal, text_refusal};
 pub(crate) const NEEDED: &str =
     "block_size 4096\nblock_nr 2\nframe_size 2048\nframe_nr 4\ncpu a.pcap\n";
 
-/// Two texts, one after the other.
+/// Two texts, one after another.
 pub(crate) fn joined(alloc: Global, first: &str, second: &str) -> Result<Vec<u8>, Memory> {
     let mut text = first.as_bytes().to_vec(alloc)?;
     text.extend_from_slice(second.as_bytes())?;
     Ok(text)
 }
 
-/// The line that refuses a setup for a command; empty where it is accepted.
+/// The line that refuses a setup for a command; empty if it is accepted.
 pub(crate) fn setup_answer(alloc: Global, text: &[u8], command: Command) -> Result<String, Memory> {
     match read_setup(alloc, text, command) {
         Ok(_) => Ok(String::new(alloc)),
@@ -39,7 +39,7 @@ fn text_fault(alloc: Global, which: Which, text: &[u8]) -> Option<TextError> {
     }
 }
 
-/// The line that refuses such a text; empty where it is accepted.
+/// The line that refuses such a text; empty if it is accepted.
 fn text_answer(alloc: Global, which: Which, text: &[u8]) -> Result<String, Memory> {
     match text_fault(alloc, which, text) {
         None => Ok(String::new(alloc)),
@@ -58,10 +58,10 @@ pub(crate) enum Reading {
     Side(Which),
 }
 
-/// A text, and the line that refuses it; empty where it is accepted.
+/// A text, and the line that refuses it; empty if it is accepted.
 pub(crate) type Row = (&'static str, &'static str);
 
-/// The line that refuses a text; empty where it is accepted.
+/// The line that refuses a text; empty if it is accepted.
 fn answer(alloc: Global, reading: Reading, text: &str) -> Result<String, Memory> {
     match reading {
         Reading::Setup(command) => setup_answer(alloc, text.as_bytes(), command),
@@ -70,7 +70,7 @@ fn answer(alloc: Global, reading: Reading, text: &str) -> Result<String, Memory>
     }
 }
 
-/// Holds what each text is answered to its row.
+/// Compares the answer to each text with its row.
 pub(crate) fn check_rows(
     rt: &impl Abort,
     alloc: Global,

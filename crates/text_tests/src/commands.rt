@@ -3,7 +3,7 @@ use crate::answers::{Reading, Row, check_rows};
 use frame_view::Memory;
 use setup_text::Command;
 
-/// Lines after the five that are needed, and what each command finds of the lines together.
+/// Lines after the five that are needed, and each command's fault for all lines together.
 static TOGETHER: [(Command, &[Row]); 7] = [
     (
         Command::Check,
@@ -100,7 +100,7 @@ fn misses_a_cpu_for_each_command(rt: HostRuntime) -> Result<(), Memory> {
     Ok(())
 }
 
-/// A ring of 65,536 slots, and one of more.
+/// A ring of 65,536 slots, and one with more.
 const MOST: &str = "block_size 1048576\nblock_nr 64\nframe_size 1024\nframe_nr 65536\ncpu a.pcap\n";
 
 const MORE: &str = "block_size 1048576\nblock_nr 64\nframe_size 80\nframe_nr 838848\ncpu a.pcap\n";

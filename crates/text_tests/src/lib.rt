@@ -1,6 +1,6 @@
-//! Tests of the texts of a run: setups, moments, schedules and filters, and the lines and words of
-//! which they are made; and of the lines that a program prints, worked out by hand from the events
-//! of rings.
+//! Tests of the texts of a run: setups, moments, schedules and filters, and the lines and words
+//! that they consist of. Tests of the lines that the program prints, worked out by hand from the
+//! events of rings.
 #![tactic(auto)]
 
 #[cfg(test)]

@@ -3,7 +3,7 @@ use crate::reports::{Cpu, Member, printed, printed_forward, printed_slots};
 use capture_file::CpuEnd;
 use frame_view::Memory;
 
-/// No filter keeps a frame from passing whole.
+/// Without a filter every frame passes whole.
 const PASS: u32 = 4_294_967_295;
 
 /// A name, the time-out, the CPUs, the members, and the lines.

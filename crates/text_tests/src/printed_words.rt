@@ -10,7 +10,7 @@ use tap_printing::{send_lines, setup_refusal, text_refusal};
 use tp_layout::RequestError;
 use tx_ring::Transmitted;
 
-/// An end, and the lines of a CPU whose two frames ended so and found no member.
+/// An end, and the lines of a CPU with this end whose two frames found no member.
 static ENDS: [(CpuEnd, &str); 9] = [
     (CpuEnd::Whole, "ok"),
     (CpuEnd::Fault, "fault"),
@@ -35,7 +35,7 @@ static ENDS: [(CpuEnd, &str); 9] = [
     ),
 ];
 
-/// The lines of a run in which a CPU has two arrivals that no filter ends, and no member is there.
+/// The lines of a run in which a CPU has two arrivals that no filter refuses, without a member.
 fn lines_with(alloc: Global, end: &str) -> Result<String, Memory> {
     let mut lines = String::from_str(alloc, "cpu 0 frames 2 arrivals 2 end ")?;
     lines.push_str(end)?;

@@ -1,4 +1,4 @@
-//! Reports of runs, made from letters, and the lines that are printed of them.
+//! Reports of runs, made from letters, and the lines that are printed for them.
 use capture_file::CpuEnd;
 use fanout_group::{ArrivalList, ArrivalLog, CpuLog, CpuLogList, TryList};
 use frame_view::{ByteList, Frame, ItemList, Memory, Packet, Packets};
@@ -14,8 +14,8 @@ pub(crate) type Cpu<'a> = (u32, &'a [u32], CpuEnd);
 /// ticks, and the number of blocks that were walked.
 ///
 /// `k` keeps a packet in the open block and `n` in the next one; `r` refuses one and `d` drops one;
-/// at a tick the next block isn't asked for with `t`, is free with `T` and is held with `H`; `c`
-/// takes the statistics, and a point closes the ring.
+/// for a tick `t` says that the next block wasn't asked for, `T` that it was free and `H` that it
+/// was held; `c` takes the statistics, and a point closes the ring.
 pub(crate) type Member<'a> = (&'a str, &'a [u64], u64);
 
 /// An arrival with a verdict.
@@ -43,7 +43,7 @@ fn log_of(alloc: Global, cpu: Cpu<'_>) -> Result<CpuLog, Memory> {
     })
 }
 
-/// A frame of 60 bytes, of which none was captured.
+/// A frame of 60 bytes, none of which was captured.
 fn frame(alloc: Global) -> Frame {
     Frame {
         cpu: 0,
@@ -105,7 +105,7 @@ fn ticked(ms: u64, found: Found) -> Note {
     Note::Ticked { ms, found }
 }
 
-/// The moment of a letter that is a tick, 0 of another one, and the moments that are left.
+/// The moment of a letter that is a tick, 0 for another one, and the moments that are left.
 fn moment(letter: u8, moments: &[u64]) -> (u64, &[u64]) {
     match moments {
         [ms, rest @ ..] if matches!(letter, b't' | b'T' | b'H') => (*ms, rest),
@@ -169,7 +169,7 @@ pub(crate) fn printed(
     summary(alloc, RingKind::Blocks, tov, &report, None)
 }
 
-/// The lines of a run over rings of slots. A slot that is filled was free, which is the letter `n`.
+/// The lines of a run over rings of slots. A slot that is filled was free, so its letter is `n`.
 pub(crate) fn printed_slots(
     alloc: Global,
     cpus: &[Cpu<'_>],

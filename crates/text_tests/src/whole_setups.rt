@@ -1,4 +1,4 @@
-//! Setups without some line that is needed, and texts and names at their greatest length.
+//! Setups without a required line, and texts and names at their greatest length.
 use crate::answers::{NEEDED, Reading, Row, check_rows, joined, setup_answer};
 use frame_view::Memory;
 use setup_text::Command;

@@ -1,4 +1,4 @@
--- The data of the fragments so far stands at its places, and zeros elsewhere.
+-- The data of the fragments so far is at its places, and zeros elsewhere.
 use Rattle.std.proofs.Common.{◌≡◌, length, take, map}
 use Rattle.ip_defrag.specs.Datagrams.{byte_at, places}
 use Rattle.ip_defrag.proofs.wholes.fill.Given as goal

@@ -6,7 +6,7 @@ use Rattle.ip_defrag.specs.Datagrams.{headers_from, data_from, summed, unsummed}
 use Rattle.ip_defrag.specs.Fragments.{headers_length}
 use Rattle.ip_defrag.proofs.wholes.whole_bytes.Goals as goal
 
--- what follows some of only zeros
+-- what follows some zeros
 behind_zeros : (front back : List ℕ) (n : ℕ) → front ++ back ≡ replicate n 0 → back ≡ replicate (length back) 0
 behind_zeros front back n e =
     let long = ap length e in

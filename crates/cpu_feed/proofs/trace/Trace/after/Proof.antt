@@ -1,4 +1,4 @@
--- `after` picks the bytes with the piece after them. Assumes `Logic`.
+-- `after` chooses the bytes followed by the piece. Assumes `Logic`.
 use Rattle.std.proofs.Common.{List, [], ◌∷◌, ◌++◌, refl}
 use seplogic.Ra.Ura.{Ura}
 use mir.Syntax.{Fn}

@@ -1,4 +1,4 @@
--- `new` picks no byte. Assumes `Logic`.
+-- `new` chooses the empty list. Assumes `Logic`.
 use Rattle.std.proofs.Common.{[], ◌∷◌, refl}
 use seplogic.Ra.Ura.{Ura}
 use mir.Syntax.{Fn}

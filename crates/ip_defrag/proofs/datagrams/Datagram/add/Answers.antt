@@ -1,4 +1,4 @@
--- One fragment more, which conflicts with none.
+-- One more fragment, which conflicts with none.
 use Rattle.std.proofs.Common.{◌≡◌, ◌∙◌, ap, false}
 use Rattle.std.specs.List.{list_any}
 use Rattle.ip_defrag.specs.Fold.{conflicts}

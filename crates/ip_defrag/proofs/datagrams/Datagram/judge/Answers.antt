@@ -1,4 +1,4 @@
--- After all held fragments by the end, and else by the one that is met.
+-- After all held fragments by the end, and otherwise by the one that is met.
 use Rattle.std.proofs.Common.{◌∙◌, ◌<◌, ◌≤◌, ap, sym, arith, Bool, cond}
 use Rattle.ip_defrag.specs.Extents.{reach_of}
 use Rattle.ip_defrag.specs.Fragments.{from_of, to_of}

@@ -1,4 +1,4 @@
--- Each fragment has a byte at least, and all together have at most those of a datagram.
+-- Each fragment has at least one byte, and all together have at most those of a datagram.
 use Rattle.std.proofs.Common.{arith}
 use Rattle.ip_defrag.proofs.Covers.{length-filled, filled-most}
 use Rattle.ip_defrag.proofs.datagrams.Datagram.len.Goals as goal

@@ -1,4 +1,5 @@
--- One fragment more is marked; each has a byte at least, and all together have at most those of a datagram.
+-- One more fragment is marked; each has at least one byte, and all together have at most those of a
+-- datagram.
 use Rattle.std.proofs.Common.{◌<◌, ◌+◌, ◌/◌, ◌∙◌, ap, sym, arith, length}
 use Rattle.ip_defrag.specs.Fragments.{from_of, to_of}
 use Rattle.ip_defrag.specs.Marks.{marked}

@@ -1,4 +1,4 @@
--- `after` picks the frames that the pass leaves. Assumes `Logic`.
+-- `after` chooses the frames that the pass leaves. Assumes `Logic`.
 use Rattle.std.proofs.Common.{List, [], ◌∷◌, ◌++◌, refl}
 use seplogic.Ra.Ura.{Ura}
 use mir.Syntax.{Fn}
