@@ -1,4 +1,4 @@
--- A change to each element of a list, one after the other.
+-- A change to each element of a list, one after another.
 use Rattle.std.proofs.Common.{◌≡◌, ℕ, zero, suc, ◌+◌, ◌<◌, List, [], ◌∷◌, ◌++◌, length, refl, ap, ◌∙◌, arith, get_or, take, drop}
 use Rattle.std.specs.Prelude.{map, slice_set}
 

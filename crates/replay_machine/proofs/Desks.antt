@@ -1,5 +1,5 @@
 -- A desk after a try.
-use Rattle.std.proofs.Common.{◌≡◌, ℕ, ◌+◌, ◌^◌, ◌<◌, ◌≤◌, List, [], ◌∷◌, ◌++◌, length, get_or, refl, sym, ap, ◌∙◌, subst, arith, length-append}
+use Rattle.std.proofs.Common.{◌≡◌, ℕ, zero, suc, ◌+◌, ◌^◌, ◌<◌, ◌≤◌, List, [], ◌∷◌, ◌++◌, length, get_or, refl, sym, ap, ◌∙◌, subst, arith, length-append, length-set}
 use Rattle.std.specs.Prelude.{All, slice_index_or, slice_set}
 use Rattle.std.proofs.lemmas.List.{get_or_default}
 use Rattle.std.proofs.lemmas.List.Elements.{All-set}
@@ -7,14 +7,18 @@ use Rattle.fanout_group.specs.Desks.{fate_of_put, fate_of_try}
 use Rattle.fanout_group.specs.declared.logs.Try.{Try}
 use Rattle.replay_model.specs.Replay.{fate_of, no_ring, noted_at}
 use Rattle.replay_model.specs.RingSteps.{RingSteps}
+use Rattle.replay_model.specs.TakenOffers.{Takes}
 use Rattle.ring_model.specs.Asking.{put_by, try_by}
+use Rattle.ring_model.specs.Offers.{IsSound}
+use Rattle.ring_model.specs.Ring.{Size}
 use Rattle.ring_model.specs.Rings.{Ring, noted}
+use Rattle.ring_model.specs.Sizes.{need_of}
 use Rattle.ring_model.specs.Told.{put_told, try_told}
 use Rattle.ring_model.specs.declared.notes.Found.{Found}
 use Rattle.ring_model.specs.declared.notes.Found.TheVariants.{Free, Held, NotAsked}
 use Rattle.ring_model.specs.declared.notes.Note.{Note}
 use Rattle.ring_model.specs.declared.notes.Offer.{Offer}
-use Rattle.replay_machine.specs.Deliveries.{AreTried, DeskValue, Follows, HasRoomFor, IsNoteOf, desk_with}
+use Rattle.replay_machine.specs.Deliveries.{AreTried, DeskValue, Follows, HasRoomFor, IsNoteOf, TakesAt, desk_with}
 use Rattle.replay_machine.specs.DeskLaws.{follows_itself}
 use Rattle.replay_machine.proofs.Whole.{set_same}
 
@@ -43,7 +47,7 @@ room_left members tries now t at was x note room within here noted_is more =
     let one_more = length-append was.notes (note ∷ []) in
     All-set P members at x (omega (arith, old, at_was, notes, one_more, count, sum)) wide
 
--- one try was made, and the desk with it follows the one before
+-- one try was made, and the desk with it continues the one before
 pub desk_goes_on : (steps : RingSteps) (now : DeskValue) (offer : Offer) (members : List Ring) (tries more : List Try) (t : Try) (was x : Ring) (note : Note)
     → desk_with offer members tries ≡ now → t.member < length now.members → was ≡ get_or members t.member was
     → IsNoteOf steps offer was note → t.fate ≡ fate_of note → x ≡ noted was note → more ≡ tries ++ t ∷ []
@@ -66,7 +70,46 @@ desk_goes_on steps now offer members tries more t was x note view within here no
     record { offer_is = refl; more = t ∷ []; tries_are = tries_are; made = made } in
     subst (λ (desk : DeskValue). Follows steps desk (desk_with offer (slice_set members t.member x) more)) view follows
 
--- a try tells the fate that its note has
+-- ---- what a desk takes
+
+same_size : (members : List Ring) (at member : ℕ) (was x d : Ring) → was ≡ get_or members at was → x.size ≡ was.size
+    → (slice_index_or (slice_set members at x) member d).size ≡ (slice_index_or members member d).size
+same_size [] zero member was x d here same = refl
+same_size [] (suc at) member was x d here same = refl
+same_size (ring ∷ members) zero zero was x d here same = same ∙ ap (λ (r : Ring). r.size) here
+same_size (ring ∷ members) zero (suc member) was x d here same = refl
+same_size (ring ∷ members) (suc at) zero was x d here same = refl
+same_size (ring ∷ members) (suc at) (suc member) was x d here same = same_size members at member was x d here same
+
+takes_as : (offer : Offer) (a b : Ring) → a.size ≡ b.size → Takes offer a → Takes offer b
+takes_as offer a b same takes = record {
+  sound = subst (λ (s : Size). IsSound s.room offer) same takes.sound;
+  fits = subst (λ (s : Size). need_of offer.snap ≤ s.room) same takes.fits;
+}
+
+-- a note changes nothing of it
+pub takes_the_same : (now : DeskValue) (made : Offer) (members : List Ring) (tries : List Try) (at : ℕ) (was x : Ring) (note : Note)
+    → desk_with made members tries ≡ now → was ≡ get_or members at was → x ≡ noted was note → (member : ℕ) (offer : Offer)
+    → (TakesAt now.offer now.members member offer → TakesAt made (slice_set members at x) member offer)
+    × (TakesAt made (slice_set members at x) member offer → TakesAt now.offer now.members member offer)
+takes_the_same now made members tries at was x note view here noted_is member offer =
+    let size = same_size members at member was x no_ring here (ap (λ (r : Ring). r.size) noted_is) in
+    let count = length-set members at x in
+    subst (λ (d : DeskValue). (TakesAt d.offer d.members member offer → TakesAt made (slice_set members at x) member offer)
+    × (TakesAt made (slice_set members at x) member offer → TakesAt d.offer d.members member offer)) view (
+      λ h. let within = h.within in record {
+        same = h.same;
+        within = omega (arith, within, count);
+        takes = takes_as offer (slice_index_or members member no_ring) (slice_index_or (slice_set members at x) member no_ring) (sym size) h.takes;
+      },
+      λ h. let within = h.within in record {
+        same = h.same;
+        within = omega (arith, within, count);
+        takes = takes_as offer (slice_index_or (slice_set members at x) member no_ring) (slice_index_or members member no_ring) size h.takes;
+      },
+    )
+
+-- a try reports the fate of its note
 pub try_tells : (offer : Offer) (found : Found) → fate_of_try (try_told offer (try_by offer found)) ≡ fate_of (try_by offer found)
 try_tells offer NotAsked = refl
 try_tells offer Free = refl

@@ -1,5 +1,5 @@
 -- The report of a replay is one of its group.
-use Rattle.std.proofs.Common.{◌≡◌, ℕ, ◌+◌, List, [], ◌∷◌, length, get_or, Option, refl, sym, ap, subst, ◌∙◌, arith}
+use Rattle.std.proofs.Common.{◌≡◌, ℕ, suc, ◌+◌, List, [], ◌∷◌, length, get_or, Option, refl, sym, ap, subst, ◌∙◌, arith}
 use Rattle.std.specs.Prelude.{All, map}
 use Rattle.std.proofs.lemmas.List.{length-map}
 use Rattle.std.proofs.lemmas.List.Elements.{All-map}
@@ -77,3 +77,20 @@ module _ (steps : RingSteps) (reported : Ring → MemberReport) (IsRing : Ring �
 
   pub logs_are : AreLogsFrom 0 all ends (report_with reported all ends replay).cpus
   logs_are = logs_of 0 all ends replay.cpus count many
+
+-- ---- another way to report of a closed ring
+
+map_same : (f g : Ring → MemberReport) (P : Ring → Type 0) (rings : List Ring) → All P rings → ((ring : Ring) → P ring → f ring ≡ g ring)
+    → map f rings ≡ map g rings
+map_same f g P [] all same = refl
+map_same f g P (ring ∷ rings) all same =
+    ap (λ (one : MemberReport). one ∷ map f rings) (same ring (all 0 ring (omega arith)))
+    ∙ ap (λ (rest : List MemberReport). g ring ∷ rest) (map_same f g P rings (λ k d l. all (suc k) d (omega (arith, l))) same)
+
+-- where both say the same of each ring of a replay, the reports are the same
+pub same_reports : (reported other : Ring → MemberReport) (IsRing : Ring → Type 0) (all : List (List ℕ)) (ends : List CpuEnd) (replay : Replay)
+    → All IsRing replay.members → ((ring : Ring) → IsRing ring → reported ring ≡ other ring)
+    → report_with reported all ends replay ≡ report_with other all ends replay
+same_reports reported other IsRing all ends replay rings same =
+    ap (λ (members : List MemberReport). record { cpus = logs_from 0 all ends replay.cpus; members = members })
+    (map_same reported other IsRing replay.members rings same)

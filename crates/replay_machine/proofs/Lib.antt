@@ -10,5 +10,6 @@ pub mod RunSteps
 pub mod Lines
 pub mod WholeRuns
 pub mod GroupReports
-pub mod MemberFacts
+pub mod Reading
+pub mod MemberSteps
 pub mod OneMore

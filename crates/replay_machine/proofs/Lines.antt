@@ -90,7 +90,7 @@ tick_done (Ok a) steps job line ms old new h is new_is =
     } in
     subst (λ (l : Line). LineDone steps job l old new) (sym is) (subst (λ (run : RunValue). LineDone steps job (Tick ms) old run) (sym new_is) done)
 
--- ---- a CPU that isn't there
+-- ---- a CPU that doesn't exist
 
 pub no_such_cpu : (steps : RingSteps) (job : Job) (cpu : ℕ) (run : RunValue) → IsRun steps job run → length run.cpus ≤ cpu → LineDone steps job (Feed cpu) run run
 no_such_cpu steps job cpu run h past = record {
@@ -178,7 +178,7 @@ more_by rules steps cpu (next ∷ rest) replay e =
     ap (λ (ws : List (Option Frame)). feed_times rules steps cpu (length ws) (fed_by rules steps cpu (next ∷ rest) replay)) (waiting_fed rules steps cpu next rest replay within)
     ∙ ap (λ (ws : List (Option Frame)). feed_times rules steps cpu (length rest) (fed_by rules steps cpu ws replay)) (sym e)
 
--- one frame fewer waits, and all else is still to come
+-- one fewer frame waits, and all else is still to come
 pub fed_more : (steps : RingSteps) (job : Job) (cpu : ℕ) (replay : Replay)
     → fed_whole steps job cpu (feed (rules_of job) steps cpu replay) ≡ fed_whole steps job cpu replay
 fed_more steps job cpu replay = more_by (rules_of job) steps cpu (cpu_at replay cpu).waiting replay refl

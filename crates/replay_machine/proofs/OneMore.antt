@@ -1,4 +1,4 @@
--- Lists that loops make an item at a time.
+-- Lists that loops make one item at a time.
 use Rattle.std.proofs.Common.{◌≡◌, ℕ, ◌+◌, ◌≤◌, List, [], ◌∷◌, ◌++◌, length, append_assoc, length-append, sym, ap, ◌∙◌, arith}
 use Rattle.std.specs.Prelude.{map, Option}
 use Rattle.cpu_feed.specs.Feeding.{Feeding}
@@ -18,7 +18,7 @@ next_feeding {A = A} seen plan done now all rest after x y next now_is made befo
     ∙ ap (λ (z : Feeding). done ++ z ∷ tail) made
     ∙ ap (λ (xs : List A). done ++ starting_from plan (length done) (map seen xs)) (sym next) ∙ before
 
--- one item goes over, and both lists together stay as long
+-- one item moves over, and both lists together keep their length
 pub as_many : {A B : Type 0} (most : ℕ) (done now : List B) (rest after : List A) (x : A) (y : B) → rest ≡ x ∷ after → now ≡ done ++ y ∷ []
     → length done + length rest ≤ most → length now + length after ≤ most
 as_many {A = A} {B = B} most done now rest after x y next now_is few =

@@ -25,7 +25,7 @@ use Rattle.replay_machine.specs.RunStates.{AreAllOf, IsLogged, IsTriedAs, RunVal
 use Rattle.replay_machine.proofs.RunRoutes.{IsAsTried, routed_is}
 use Rattle.replay_machine.proofs.Whole.{all-back, all-set, cpus-at, cpus-set}
 
--- ---- tries keep what rings are made of
+-- ---- tries keep the sizes of rings
 
 pub tried_count : (steps : RingSteps) (offer : Offer) (tries : List Try) (old new : List Ring) → AreTried steps offer tries old new → length new ≡ length old
 tried_count steps offer [] old new h = ap (λ (rs : List Ring). length rs) h
@@ -91,7 +91,8 @@ arrival_with rules steps cpu frame replay of =
       ticket = next_ticket rules.mode replay.ticket;
     }
 
--- what the code has of an arrival: it was looked at, logged with its tries, and the next ticket is this
+-- what the code has of an arrival: it was judged, logged with its tries, and this is the next
+-- ticket
 pub record Looked (plan : Shape) (lens : Lens) (steps : RingSteps) (cpu : ℕ) (frame : Frame) (entry : ArrivalLog) (made : Option Offer) (queue : ℕ) (old mid new : RunValue) : Type 0 where
   pub shape_is : (cpu_in old cpu).path.shape ≡ plan
   pub entry_is : entry ≡ first_entry lens frame (ticket_of plan.mode old.ticket)
@@ -163,7 +164,7 @@ module _ (plan : Shape) (lens : Lens) (steps : RingSteps) (cpu : ℕ) (frame : F
             ∙ ap (λ (of : Cpu). arrival_with (rules_by plan lens) steps cpu frame (whole all old) of) (sym was),
       )
 
--- ---- what a sound offer asks of rings
+-- ---- what a sound offer needs of rings
 
 takes_one : (room : ℕ) (offer : Offer) (ring : Ring) → IsSound room offer → room % 8 ≡ 0 → ring.size.room ≡ room → Takes offer ring
 takes_one room offer ring sound even is =

@@ -143,7 +143,7 @@ drawn_most Qm ticket = omega arith
 
 -- ---- a frame is fed
 
--- a frame more was fed than arrived
+-- one more frame was fed than arrived
 pub record IsFedOneMore (lines : ℕ) (run : RunValue) : Type 0 where
   pub few : length run.cpus ≤ 8
   pub fed : AllByRecursion few_frames run.cpus
@@ -205,7 +205,7 @@ module _ (lines cpu : ℕ) (fed : Fed) (old mid : RunValue) (within : cpu < leng
             (subst (λ (rs : List Ring). HaveAtMost (9 * fed_of old.cpus + lines) rs) (sym members_are) h.notes);
       }
 
--- nothing arrived at it
+-- nothing arrived with it
 pub nothing_arrived : (lines : ℕ) (run : RunValue) → IsFedOneMore lines run → IsCounted lines run
 nothing_arrived lines run h =
     let tickets = h.tickets in
@@ -217,7 +217,7 @@ nothing_arrived lines run h =
       notes = wider h.notes.0 (9 * fed_of run.cpus + lines) run.members (omega (arith, le)) h.notes.2;
     }
 
--- what arrives at it has room
+-- there is room for what arrives with it
 pub room_for_one : (lines : ℕ) (run : RunValue) → lines < 2 ^ 32 → IsFedOneMore lines run → HasRoom run
 room_for_one lines run less h =
     let few = h.few in
@@ -282,7 +282,7 @@ more_lines lines next run le h = record {
   notes = wider (9 * fed_of run.cpus + lines) (9 * fed_of run.cpus + next) run.members (omega (arith, le)) h.notes;
 }
 
--- the rings alone changed
+-- only the rings changed
 rings_changed : (lines next : ℕ) (old new : RunValue) (members : List Ring) → new ≡ record old { members = members } → IsCounted lines old
     → HaveAtMost (9 * fed_of old.cpus + next) members → IsCounted next new
 rings_changed lines next old new members is h most =

@@ -39,7 +39,7 @@ refusal_is : (steps : RingSteps) (offer : Offer) (ring : Ring) (note : Note) →
 refusal_is steps offer ring note (inl e) f = e
 refusal_is steps offer ring note (inr e) f = put_refuses (note ≡ try_note steps ring offer) offer (steps.finds ring offer) (f ∙ ap (λ (n : Note). fate_of n) e)
 
--- of a packet that is kept a try and a put have one note
+-- a try and a put of a packet that is kept have one note
 kept_is : (steps : RingSteps) (offer : Offer) (ring : Ring) (note : Note) → IsNoteOf steps offer ring note → fates.Kept ≡ fate_of note → note ≡ try_note steps ring offer
 kept_is steps offer ring note (inl e) f = e
 kept_is steps offer ring note (inr e) f = e ∙ put_keeps offer (steps.finds ring offer) (f ∙ ap (λ (n : Note). fate_of n) e)

@@ -147,7 +147,7 @@ module _ (steps : RingSteps) (job : Job) (cpu : ℕ) (old mid : RunValue) (h : I
       let set = length-set old.cpus cpu (cpu_in mid cpu) in
       omega (arith, same, set, within)
 
-  -- where nothing arrives
+  -- if nothing arrives
   does_nothing : (fed : Fed) → Nexts cpu fed old mid → arrival_of fed ≡ None
       → Does (λ replay. feed (rules_of job) steps cpu replay) old mid
   does_nothing fed n none = λ all a.
@@ -205,7 +205,7 @@ module _ (steps : RingSteps) (job : Job) (cpu : ℕ) (old mid : RunValue) (h : I
         counted = λ lines h. has_arrived steps job lines cpu frame mid new (many_cpus fed n) a (one_fed lines cpu fed old mid within n h goes);
       }
 
--- what arrives at it has room
+-- there is room for what arrives with it
 pub room_for_arrival : (cpu : ℕ) (fed : Fed) (frame : Frame) (old mid : RunValue) → cpu < length old.cpus → HasCount old → fed ≡ Arrival frame
     → Nexts cpu fed old mid → HasRoom mid
 room_for_arrival cpu fed frame old mid within h is n =

@@ -58,7 +58,7 @@ may-next at lines none rings h timed =
     may_come rings (get_or lines at none) (drop (suc at) lines)
     (subst (λ (ls : List Line). IsTimed rings ls) (drop-cons lines at none h) timed)
 
--- ---- a note more
+-- ---- one more note
 
 last_moment-push : (before : ℕ) (notes : List Note) (note : Note) → last_moment before (notes ++ note ∷ []) ≡ last_moment (last_moment before notes) (note ∷ [])
 last_moment-push before [] note = refl
@@ -100,7 +100,7 @@ read_early steps clock ring h = subst (λ (notes : List Note). last_moment 0 not
 
 -- ---- a line is done
 
--- one ring changes, if it is there
+-- one ring changes, if it exists
 pub set_one : (P : Ring → Type 0) (rings : List Ring) (at : ℕ) (ring : Ring) → All P rings → (P (get_or rings at no_ring) → P ring) → All P (slice_set rings at ring)
 set_one P rings at ring all stays = elim (cases_lt at (length rings)) [
   | inl h ↦ All-set P rings at ring (stays (All-get_or P rings at no_ring h all)) all

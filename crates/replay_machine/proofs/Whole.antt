@@ -12,7 +12,7 @@ use Rattle.cpu_feed.specs.Feeding.{Feeding, IsAllOfCpu, next_of, Takes, waiting_
 use Rattle.replay_machine.specs.RunStates.{AreAllOf, AreCpus, Nexts, RunValue, cpu_in, cpus_of, no_feeding, whole, cpu_of}
 use Rattle.cpu_feed.specs.declared.fed.Fed.{Fed}
 
--- a CPU has a frame less that waits
+-- a CPU has one fewer waiting frame
 abbrev pub with_rest : ℕ → List (Option Frame) → Replay → Replay
 with_rest cpu rest replay = record replay { cpus = slice_set replay.cpus cpu (record (cpu_at replay cpu) { waiting = rest }) }
 
@@ -70,7 +70,7 @@ as-many (a ∷ all) (d ∷ cpus) h = let rest = as-many all cpus h.1 in omega (a
 
 -- ---- the next frame of a CPU
 
--- of the CPU of a replay of all frames the next one is taken
+-- the next frame of the CPU of a replay of all frames is taken
 taken_cpu : (all : List Frame) (old new : Feeding) (arrival : Option Frame) → Takes all old arrival new
     → cpu_of all new ≡ record (cpu_of all old) { waiting = drop 1 (cpu_of all old).waiting }
 taken_cpu all old new arrival t =
@@ -106,7 +106,7 @@ set_same [] at d = refl
 set_same (x ∷ xs) zero d = refl
 set_same (x ∷ xs) (suc at) d = ap (λ ys. x ∷ ys) (set_same xs at d)
 
--- what is fed, where nothing arrives, and where a frame does
+-- what is fed, if nothing arrives, and where a frame does
 nothing_fed : (rules : Rules) (steps : RingSteps) (cpu : ℕ) (waiting : List (Option Frame)) (replay : Replay) → waiting ≡ (cpu_at replay cpu).waiting → None ≡ next_of waiting
     → with_rest cpu (drop 1 waiting) replay ≡ fed_by rules steps cpu waiting replay
 nothing_fed rules steps cpu [] replay is e =

@@ -89,7 +89,7 @@ starts_whole steps job firsts run all s h =
 
 -- ---- the lines
 
--- one line of a schedule more
+-- one more line of a schedule
 lines-more : (rules : Rules) (steps : RingSteps) (at : ℕ) (lines : List Line) (none : Line) (old new : Replay) → at < length lines
     → new ≡ done_line rules steps (get_or lines at none) old
     → done_lines rules steps (drop (at + 1) lines) new ≡ done_lines rules steps (drop at lines) old

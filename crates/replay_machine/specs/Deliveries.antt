@@ -1,5 +1,6 @@
--- What the tries of one offer leave of the rings of a group.
-use Rattle.std.specs.Prelude.{◌≡◌, ◌⊎◌, ℕ, ◌+◌, ◌^◌, ◌<◌, ◌≤◌, List, [], ◌∷◌, ◌++◌, length, slice_index_or, All}
+-- How the tries of one offer change the rings of a group.
+use Rattle.std.specs.Prelude.{◌≡◌, ◌⊎◌, ℕ, ◌+◌, ◌^◌, ◌<◌, ◌≤◌, List, [], ◌∷◌, ◌++◌, length}
+use Rattle.std.specs.Prelude.{slice_index_or, All}
 use Rattle.fanout_group.specs.declared.logs.Try.{Try}
 use Rattle.replay_model.specs.Replay.{fate_of, no_ring, noted_at}
 use Rattle.replay_model.specs.RingSteps.{RingSteps, put_note, try_note}
@@ -22,13 +23,13 @@ pub record IsTried (steps : RingSteps) (offer : Offer) (t : Try) (old new : List
   pub fate_is : t.fate ≡ fate_of note
   pub rings_are : new ≡ noted_at t.member note old
 
--- tries, one after the other
+-- tries, one after another
 abbrev pub AreTried : RingSteps → Offer → List Try → List Ring → List Ring → Type 0
 AreTried steps offer [] old new = new ≡ old
 AreTried steps offer (t ∷ tries) old new =
     (next : List Ring) × IsTried steps offer t old next × AreTried steps offer tries next new
 
--- the rings changed by tries alone, of one offer or of none
+-- the rings changed only by tries, of one offer or of none
 abbrev pub ChangedByTries : RingSteps → List Ring → List Ring → Type 0
 ChangedByTries steps old new =
     (new ≡ old) ⊎ ((offer : Offer) × (tries : List Try) × AreTried steps offer tries old new)
@@ -49,11 +50,11 @@ pub record DeskValue : Type 0 where
 abbrev pub desk_with : Offer → List Ring → List Try → DeskValue
 desk_with offer members tries = record { offer = offer; members = members; tries = tries }
 
--- each ring has room for the notes of a delivery's 9 tries, of which these are made
+-- each ring has room for the notes of a delivery's 9 tries, these included
 abbrev pub HasRoomFor : List Try → List Ring → Type 0
 HasRoomFor tries members = All (λ ring. length ring.notes + 9 ≤ 2 ^ 39 + length tries) members
 
--- the same desk after some tries more
+-- the same desk after some more tries
 pub record Follows (steps : RingSteps) (old new : DeskValue) : Type 0 where
   pub offer_is : new.offer ≡ old.offer
   pub more : List Try

@@ -3,3 +3,4 @@ pub mod DeskLaws
 pub mod RunStates
 pub mod Runs
 pub mod inside
+pub mod Reported

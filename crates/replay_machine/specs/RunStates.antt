@@ -1,6 +1,8 @@
--- A replay on its way whose sources are read a piece at a time, and the replay of all their frames
--- that it stands for.
-use Rattle.std.specs.Prelude.{◌≡◌, ℕ, ◌+◌, ◌*◌, ◌%◌, ◌^◌, ◌<◌, ◌≤◌, Bool, List, [], ◌∷◌, length, slice_index_or, slice_set, map, ⊤, Option, None, Some, All, MatchBool, unwrap_or}
+-- A running replay whose sources are read a piece at a time, and the replay of all their frames
+-- that it represents.
+use Rattle.std.specs.Prelude.{◌≡◌, ℕ, ◌+◌, ◌*◌, ◌^◌, ◌<◌, ◌≤◌, Bool, List, [], ◌∷◌, length}
+use Rattle.std.specs.Prelude.{slice_index_or, slice_set, map, ⊤, Option, None, Some, All, MatchBool}
+use Rattle.std.specs.Prelude.{unwrap_or}
 use Rattle.std.specs.List.{AllByRecursion}
 use Rattle.fanout_group.specs.Paths.{Path, first_path, logged}
 use Rattle.fanout_group.specs.Plans.{Shape, rolls_over}
@@ -28,7 +30,7 @@ pub record RunValue : Type 0 where
   pub members : List Ring
   pub ticket : ℕ
 
--- a CPU that isn't there
+-- a CPU that doesn't exist
 abbrev pub no_feeding : Feeding
 no_feeding = record {
   number = 0;
@@ -94,7 +96,7 @@ abbrev pub HaveAtMost : ℕ → List Ring → Type 0
 HaveAtMost most members = All (λ ring. length ring.notes ≤ most) members
 
 -- `lines` lines were done: each frame that was fed drew at most one ticket and made at most 9 notes
--- at a ring, each line at most one note more; a capture has at most 2,097,150 frames
+-- at a ring, each line at most one more note; a capture has at most 2,097,150 frames
 pub record IsCounted (lines : ℕ) (run : RunValue) : Type 0 where
   pub few : length run.cpus ≤ 8
   pub fed : AllByRecursion (λ cpu. cpu.fed ≤ 2097150) run.cpus
@@ -168,9 +170,3 @@ pub record Feeds (steps : RingSteps) (job : Job) (cpu : ℕ) (more : Bool) (old 
   pub firsts : firsts_of new ≡ firsts_of old
   pub changed : ChangedByTries steps old.members new.members
   pub counted : (lines : ℕ) → IsCounted lines old → IsCounted lines new
-
--- the bytes by which offers are cut: those of a block that are for packets
-pub record IsRoomOf (steps : RingSteps) (room : ℕ) : Type 0 where
-  pub room_is : room ≡ steps.size.room
-  pub some : 82 < room
-  pub even : room % 8 ≡ 0

@@ -33,8 +33,8 @@ logs_from cpu (bytes ∷ all) (end ∷ ends) (of ∷ cpus) =
     log_of cpu bytes end of ∷ logs_from (cpu + 1) all ends cpus
 logs_from cpu all ends cpus = []
 
--- the report of a replay of sources that gave these bytes and ended so, where this is reported of
--- each closed ring
+-- the report of a replay of sources that gave these bytes and ended in this way, given what is
+-- reported of each closed ring
 abbrev pub report_with :
     (Ring → MemberReport) → List (List ℕ) → List CpuEnd → Replay → RunReport
 report_with reported all ends replay = record {
@@ -42,8 +42,8 @@ report_with reported all ends replay = record {
   members = map reported replay.members;
 }
 
--- the job was replayed by these lines: its sources gave these bytes and ended so, and the report is
--- the replay report
+-- the job was replayed by these lines: its sources gave these bytes and ended in this way, and the
+-- report is the replay report
 pub record IsReplayedOver (steps : RingSteps) (reported : Ring → MemberReport) (job : Job)
     (lines : List Line) (old new : List (Option SourceSeen)) (report : RunReport) : Type 0 where
   pub bytes : List (List ℕ)

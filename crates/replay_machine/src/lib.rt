@@ -1,5 +1,5 @@
 //! The machine of a replay: it reads the captures of several CPUs by a schedule, and gives what
-//! arrives to the rings of a group, of whatever kind they are.
+//! arrives to the rings of a group, whatever their kind.
 #![tactic(auto)]
 
 mod closed_replays;
@@ -12,6 +12,5 @@ mod runs;
 mod settings;
 mod tickets;
 
-pub use member::{Member, RingMember};
 pub use runs::replay_over;
 pub use settings::Setting;

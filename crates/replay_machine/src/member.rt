@@ -1,135 +1,117 @@
-//! A member of a group as a replay meets it: a ring with its reader, of whatever kind.
+//! A member of a group as a replay meets it: a receive ring, and the reader that takes its frames
+//! out.
+//!
+//! A read takes the oldest block or slot that was handed over, copies its packets and gives it
+//! back. The close reads until none waits.
 ghost use Rattle.std.specs.Prelude.{◌≡◌, ◌^◌, ◌<◌, ◌≤◌, length, IfErr, IfOk, OnErr, OnOk};
+ghost use Rattle.replay_machine.specs.Reported.{reported_by};
 ghost use Rattle.replay_model.specs.Replay.{finished_ring};
-ghost use Rattle.replay_model.specs.RingSteps.{RingSteps, put_note, read_by, ticked, try_note};
+ghost use Rattle.replay_model.specs.RingSteps.{put_note, read_by, ticked, try_note};
 ghost use Rattle.replay_model.specs.TakenOffers.{Takes};
-ghost use Rattle.ring_model.specs.Rings.{Ring, noted};
+ghost use Rattle.ring_model.specs.Rings.{fresh, noted};
 ghost use Rattle.ring_model.specs.Told.{put_told, try_told};
 ghost use Rattle.ring_model.specs.Unreleased.{last_moment};
 ghost use Rattle.ring_model.specs.declared.notes.Note.TheVariants.{Counted};
-ghost use Rattle.setup_text.specs.declared.reports.MemberReport.{MemberReport};
 
+use crate::Setting;
 use frame_view::Memory;
+use reader_walk::RingReader;
+use receive_ring::ReceiveRing;
 use ring_model::{Offer, Put, Tried, Unput};
 use setup_text::MemberReport;
 use std::alloc::Global;
-use std::marker::Model;
+use std::marker::{Model, PhantomData};
+use tp_layout::Shape;
 
-/// A ring with its reader. Contracts see the ring: its size, its notes, and how many blocks its
-/// reader has released.
-pub trait RingMember: Drop {
-    // The ring.
-    ghost ring: { Self → Ring };
-
-    // What the rings of a run's members do.
-    ghost steps: { RingSteps };
-
-    // What is reported of a closed ring.
-    ghost reported: { Ring → MemberReport };
-
-    /// Keeps a packet, or drops it where it finds no room. After `Unput` the ring is as before, and
-    /// the offer comes back.
-    fn put(&mut self, offer: Offer) -> Result<Put, Unput>
-        requires takes { Takes offer (ring self.old) }
-        requires few { length (ring self.old).notes < 2 ^ 39 }
-        ensures ok { OnOk result (ring self.new
-            ≡ noted (ring self.old) (put_note steps (ring self.old) offer)) }
-        ensures put { IfOk result (λ put. put ≡ put_told (put_note steps (ring self.old) offer)) }
-        ensures unput { IfErr result (λ unput. unput.offer ≡ offer) }
-        ensures err { OnErr result (ring self.new ≡ ring self.old) };
-
-    /// Keeps a packet, or hands it back where it finds no room. After `Unput` the ring is as
-    /// before, and the offer comes back.
-    fn try_put(&mut self, offer: Offer) -> Result<Tried, Unput>
-        requires takes { Takes offer (ring self.old) }
-        requires few { length (ring self.old).notes < 2 ^ 39 }
-        ensures ok { OnOk result (ring self.new
-            ≡ noted (ring self.old) (try_note steps (ring self.old) offer)) }
-        ensures tried { IfOk result (λ tried.
-            tried ≡ try_told offer (try_note steps (ring self.old) offer)) }
-        ensures unput { IfErr result (λ unput. unput.offer ≡ offer) }
-        ensures err { OnErr result (ring self.new ≡ ring self.old) };
-
-    /// The clock goes on to a moment, in milliseconds.
-    fn tick(&mut self, ms: u64) -> Result<(), Memory>
-        requires later { last_moment 0 (ring self.old).notes ≤ ms }
-        requires small { ms ≤ 2 ^ 63 }
-        requires few { length (ring self.old).notes < 2 ^ 39 }
-        ensures { OnOk result (ring self.new ≡ ticked steps ms (ring self.old)) };
-
-    /// Takes the statistics, which start anew.
-    fn take_stats(&mut self) -> Result<(), Memory>
-        requires few { length (ring self.old).notes < 2 ^ 39 }
-        ensures { OnOk result (ring self.new ≡ noted (ring self.old) Counted) };
-
-    /// The reader reads a block, if one is retired and not yet released.
-    fn read(&mut self) -> Result<(), Memory>
-        ensures { OnOk result (ring self.new ≡ read_by steps (ring self.old)) };
-
-    /// Closes the ring, and reads all blocks that still wait.
-    fn close(self, alloc: Global) -> Result<MemberReport, Memory>
-        ensures { IfOk result (λ report. report ≡ reported (finished_ring (ring self))) };
-}
-
-/// A member of a group. Contracts see its ring.
+/// A receive ring with its reader. Contracts see the ring: its size, its notes, and how many blocks
+/// its reader has released.
 #[derive(Drop)]
-pub struct Member<M: RingMember> {
-    /// The ring with its reader.
-    ring: M,
+pub(crate) struct Member<R: ReceiveRing, K: Setting> {
+    /// The ring that frames go into.
+    ring: R,
+    /// Its reader.
+    reader: RingReader<R::Unit>,
+    /// Whether a read ran out of memory: the reader then holds a block, and nothing more is read.
+    stuck: bool,
+    /// The shape of the blocks, and whether their texts are kept, are in the type.
+    of: PhantomData<K>,
 }
 
-impl<M: RingMember> Model for Member<M> {
+impl<R: ReceiveRing, K: Setting> Model for Member<R, K> {
     ghost use Rattle.ring_model.specs.Rings.{Ring};
 
     ghost Value = { Ring };
 
-    ghost view = { λ member. M.ring member.ring };
+    ghost use Rattle.receive_ring.specs.Receiving.{ring_by};
+    ghost use Rattle.replay_machine.specs.inside.Members.{IsMember};
+
+    ghost view = { λ member. ring_by (R.steps K.shape) (R.seen member.ring) };
+
+    ghost invariant = { λ member.
+        IsMember R.may R.Unit.taken_in R.reads K.shape K.dumps (record {
+          ring = R.seen member.ring;
+          reader = member.reader;
+          stuck = member.stuck;
+        }) };
 }
 
-impl<M: RingMember> Member<M> {
-    /// The member that has this ring.
-    pub fn new(ring: M) -> Member<M>
-        ensures { result ≡ M.ring ring }
+impl<R: ReceiveRing, K: Setting> Member<R, K> {
+    /// A member with a new ring.
+    pub(crate) fn new(alloc: Global, shape: &Shape, dump: bool) -> Result<Member<R, K>, Memory>
+        requires shape { shape.now ≡ K.shape }
+        requires dump { dump ≡ K.dumps }
+        requires may { R.may shape.now }
+        ensures { IfOk result (λ member. member ≡ fresh (R.steps K.shape).size) }
     {
-        Member { ring }
+        Ok(Member {
+            ring: R::open(alloc, shape)?,
+            reader: RingReader::new(alloc, *shape, dump),
+            stuck: false,
+            of: PhantomData,
+        })
     }
 
-    /// As the ring's `put`.
+    /// Keeps a packet, or drops it if there is no room. After `Unput` the ring is as before, and
+    /// the offer comes back.
     pub(crate) fn put(&mut self, offer: Offer) -> Result<Put, Unput>
         requires takes { Takes offer self.old }
         requires few { length self.old.notes < 2 ^ 39 }
-        ensures ok { OnOk result (self.new ≡ noted self.old (put_note M.steps self.old offer)) }
-        ensures put { IfOk result (λ put. put ≡ put_told (put_note M.steps self.old offer)) }
+        ensures ok { OnOk result (self.new
+            ≡ noted self.old (put_note (R.steps K.shape) self.old offer)) }
+        ensures put { IfOk result (λ put.
+            put ≡ put_told (put_note (R.steps K.shape) self.old offer)) }
         ensures unput { IfErr result (λ unput. unput.offer ≡ offer) }
         ensures err { OnErr result (self.new ≡ self.old) }
     {
         self.ring.put(offer)
     }
 
-    /// As the ring's `try_put`.
+    /// Keeps a packet, or hands it back if there is no room. After `Unput` the ring is as before,
+    /// and the offer comes back.
     pub(crate) fn try_put(&mut self, offer: Offer) -> Result<Tried, Unput>
         requires takes { Takes offer self.old }
         requires few { length self.old.notes < 2 ^ 39 }
-        ensures ok { OnOk result (self.new ≡ noted self.old (try_note M.steps self.old offer)) }
+        ensures ok { OnOk result (self.new
+            ≡ noted self.old (try_note (R.steps K.shape) self.old offer)) }
         ensures tried { IfOk result (λ tried.
-            tried ≡ try_told offer (try_note M.steps self.old offer)) }
+            tried ≡ try_told offer (try_note (R.steps K.shape) self.old offer)) }
         ensures unput { IfErr result (λ unput. unput.offer ≡ offer) }
         ensures err { OnErr result (self.new ≡ self.old) }
     {
         self.ring.try_put(offer)
     }
 
-    /// As the ring's `tick`.
+    /// The clock goes on to a moment, in milliseconds.
     pub(crate) fn tick(&mut self, ms: u64) -> Result<(), Memory>
         requires later { last_moment 0 self.old.notes ≤ ms }
         requires small { ms ≤ 2 ^ 63 }
         requires few { length self.old.notes < 2 ^ 39 }
-        ensures { OnOk result (self.new ≡ ticked M.steps ms self.old) }
+        ensures { OnOk result (self.new ≡ ticked (R.steps K.shape) ms self.old) }
     {
         self.ring.tick(ms)
     }
 
-    /// As the ring's `take_stats`.
+    /// Takes the statistics, which start anew.
     pub(crate) fn take_stats(&mut self) -> Result<(), Memory>
         requires few { length self.old.notes < 2 ^ 39 }
         ensures { OnOk result (self.new ≡ noted self.old Counted) }
@@ -137,17 +119,41 @@ impl<M: RingMember> Member<M> {
         self.ring.take_stats()
     }
 
-    /// As the ring's `read`.
+    /// The reader reads a block or slot, if one was handed over and not yet released.
     pub(crate) fn read(&mut self) -> Result<(), Memory>
-        ensures { OnOk result (self.new ≡ read_by M.steps self.old) }
+        ensures { OnOk result (self.new ≡ read_by (R.steps K.shape) self.old) }
     {
-        self.ring.read()
+        if self.stuck {
+            return Err(Memory);
+        }
+        match self.reader.step(&mut self.ring) {
+            Ok(_) => Ok(()),
+            Err(Memory) => {
+                self.stuck = true;
+                Err(Memory)
+            }
+        }
     }
 
-    /// As the ring's `close`.
+    /// Closes the ring, and reads all that still waits. Each block or slot is dropped once it is
+    /// read.
     pub(crate) fn close(self, alloc: Global) -> Result<MemberReport, Memory>
-        ensures { IfOk result (λ report. report ≡ M.reported (finished_ring self)) }
+        ensures { IfOk result (λ report. report
+            ≡ reported_by R.Unit.text_of R.reads K.shape K.dumps (finished_ring self)) }
     {
-        self.ring.close(alloc)
+        if self.stuck {
+            return Err(Memory);
+        }
+        let (mut waiting, notes) = self.ring.close(alloc)?;
+        let mut reader = self.reader;
+        'waiting: while reader.step(&mut waiting)? {}
+        let outputs = reader.outputs();
+        Ok(MemberReport {
+            notes,
+            walked: outputs.walked,
+            dump: outputs.dump,
+            blocks: outputs.blocks,
+            ring: None,
+        })
     }
 }

@@ -3,36 +3,57 @@ ghost use Rattle.std.specs.Prelude.{◌≡◌, ◌≤◌, length, map, option_ma
 ghost use Rattle.ring_model.specs.Rings.{fresh};
 ghost use Rattle.replay_machine.specs.inside.RunEffects.{Starts, starting_from};
 
-use crate::member::{Member, RingMember};
+use crate::Setting;
+use crate::member::Member;
 use crate::replay_run::ReplayRun;
 use capture_reading::Buffer;
 use cpu_feed::CpuFeed;
 use fanout_group::Plan;
 use frame_view::Memory;
+use receive_ring::ReceiveRing;
 use setup_text::Job;
 use std::alloc::Global;
 use tap_outside::Source;
 
-/// A replay of a job over these new rings, one for each member from 0 up, and these sources, one
-/// for each CPU from 0 up.
-pub(crate) fn start<S: Source, M: RingMember>(
+/// A replay of a job over new rings, one for each member from 0 up, and these sources, one for each
+/// CPU from 0 up.
+pub(crate) fn start<S: Source, R: ReceiveRing, K: Setting>(
     alloc: Global,
     job: &Job,
-    members: Vec<Member<M>>,
     sources: Vec<Option<S>>,
-) -> Result<ReplayRun<S, M>, Memory>
-    requires members { members.items
-        ≡ replicate job.now.setup.plan.members (fresh M.steps.size) }
+) -> Result<ReplayRun<S, R, K>, Memory>
+    requires shape { job.now.setup.shape ≡ K.shape }
+    requires dump { job.now.setup.dump ≡ K.dumps }
+    requires may { R.may job.now.setup.shape }
     requires few { length sources.items ≤ 8 }
-    ensures { IfOk result (λ run. Starts M.steps job.now
+    ensures { IfOk result (λ run. Starts (R.steps K.shape) job.now
         (map (option_map S.seen) sources.items) run) }
 {
     Ok(ReplayRun {
+        members: members_of(alloc, job)?,
         cpus: feeds_of(alloc, job.setup.plan, sources)?,
-        members,
         ticket: 0,
         buffer: Buffer::new(alloc)?,
     })
+}
+
+/// A member for each number below that of the job's members, with a new ring.
+fn members_of<R: ReceiveRing, K: Setting>(
+    alloc: Global,
+    job: &Job,
+) -> Result<Vec<Member<R, K>>, Memory>
+    requires shape { job.now.setup.shape ≡ K.shape }
+    requires dump { job.now.setup.dump ≡ K.dumps }
+    requires may { R.may job.now.setup.shape }
+    ensures { IfOk result (λ all. all.items
+        ≡ replicate job.now.setup.plan.members (fresh (R.steps K.shape).size)) }
+{
+    let members = job.setup.plan.members();
+    let mut all = Vec::with_capacity(alloc, members as usize)?;
+    for _member in 0..members {
+        all.push(Member::new(alloc, &job.setup.shape, job.setup.dump)?)?;
+    }
+    Ok(all)
 }
 
 /// A CPU for each source.

@@ -1,4 +1,5 @@
-//! What the arrivals of a CPU are looked at with, for rings whose offers are cut by a given room.
+//! The rules by which the arrivals of a CPU are judged, for rings whose offers are cut to a given
+//! room.
 ghost use Rattle.std.specs.Prelude.{◌≡◌};
 ghost use Rattle.fanout_group.specs.Judgements.{AgreesAt};
 ghost use Rattle.fanout_group.specs.Lenses.{lens_of};
@@ -8,7 +9,7 @@ use cpu_feed::rules_at;
 use fanout_group::ArrivalRules;
 use setup_text::Job;
 
-/// What the arrivals of a CPU of a job are looked at with, for this room.
+/// The rules by which the arrivals of a CPU of a job are judged, for this room.
 pub(crate) fn rules_with(job: &Job, cpu: usize, room: u32) -> ArrivalRules
     ensures agrees { AgreesAt cpu (lens_of_job job.now) (lens_of result) }
     ensures queue { result.queue ≡ (lens_of_job job.now).queue cpu }

@@ -1,46 +1,69 @@
 //! The replay of a job over the rings of its members: its sources are read as its schedule asks for
 //! their frames.
-ghost use Rattle.std.specs.Prelude.{◌≡◌, ◌^◌, ◌<◌, length, map, option_map, replicate, IfOk};
-ghost use Rattle.ring_model.specs.Rings.{fresh};
+ghost use Rattle.std.specs.Prelude.{◌≡◌, ◌^◌, ◌<◌, length, map, option_map, IfOk};
 ghost use Rattle.schedule_lines.specs.Ascending.{IsSchedule};
 ghost use Rattle.setup_text.specs.Runnable.{IsRunnable};
-ghost use Rattle.replay_machine.specs.RunStates.{IsRoomOf};
+ghost use Rattle.replay_machine.specs.Reported.{reported_by};
 ghost use Rattle.replay_machine.specs.Runs.{IsReplayedOver};
 
+use crate::Setting;
 use crate::closed_replays::finish;
-use crate::member::{Member, RingMember};
 use crate::new_replays::start;
 use frame_view::Memory;
+use receive_ring::ReceiveRing;
 use schedule_lines::Schedule;
 use setup_text::{Job, Ran};
 use std::alloc::Global;
+use std::marker::Brand;
 use tap_outside::Source;
 
 /// Replays a job over new rings, one for each member of its group: the lines of the schedule in
-/// order, and then each CPU from 0 up to its end. Offers are cut by the room, in bytes. The sources
-/// are one for each CPU, and come back less the bytes that they gave; a CPU without one ends with a
-/// fault. The only error is that an allocation fails, and the sources are dropped then.
-pub fn replay_over<S: Source, M: RingMember>(
+/// order, and then each CPU from 0 up to its end. The sources are one for each CPU, and come back
+/// less the bytes that they gave; a CPU without one ends with a fault. The only error is that an
+/// allocation fails, and the sources are dropped then.
+pub fn replay_over<S: Source, R: ReceiveRing>(
     alloc: Global,
     job: &Job,
-    room: u32,
-    members: Vec<Member<M>>,
     sources: Vec<Option<S>>,
     schedule: &Schedule,
 ) -> Result<Ran<S>, Memory>
+    requires may { R.may job.now.setup.shape }
     requires setup { IsRunnable job.now.setup }
-    requires bytes { IsRoomOf M.steps room }
-    requires members { members.items
-        ≡ replicate job.now.setup.plan.members (fresh M.steps.size) }
     requires sources { length sources.items ≡ length job.now.setup.cpus }
     requires schedule { IsSchedule schedule.now }
     requires few { length schedule.now < 2 ^ 32 }
-    ensures ran { IfOk result (λ ran. IsReplayedOver M.steps M.reported job.now schedule.now
+    ensures ran { IfOk result (λ ran. IsReplayedOver (R.steps job.now.setup.shape)
+        (reported_by R.Unit.text_of R.reads job.now.setup.shape job.now.setup.dump)
+        job.now schedule.now
         (map (option_map S.seen) sources.items)
         (map (option_map S.seen) ran.sources.items)
         ran.report) }
 {
-    let mut run = start::<S, M>(alloc, job, members, sources)?;
+    replay_as::<S, R, Brand>(alloc, job, sources, schedule)
+}
+
+/// The replay over members that have a shape and a flag in common.
+fn replay_as<S: Source, R: ReceiveRing, K: Setting>(
+    alloc: Global,
+    job: &Job,
+    sources: Vec<Option<S>>,
+    schedule: &Schedule,
+) -> Result<Ran<S>, Memory>
+    requires shape { job.now.setup.shape ≡ K.shape }
+    requires dump { job.now.setup.dump ≡ K.dumps }
+    requires may { R.may job.now.setup.shape }
+    requires setup { IsRunnable job.now.setup }
+    requires sources { length sources.items ≡ length job.now.setup.cpus }
+    requires schedule { IsSchedule schedule.now }
+    requires few { length schedule.now < 2 ^ 32 }
+    ensures ran { IfOk result (λ ran. IsReplayedOver (R.steps K.shape)
+        (reported_by R.Unit.text_of R.reads K.shape K.dumps) job.now schedule.now
+        (map (option_map S.seen) sources.items)
+        (map (option_map S.seen) ran.sources.items)
+        ran.report) }
+{
+    let room = R::room(&job.setup.shape);
+    let mut run = start::<S, R, K>(alloc, job, sources)?;
     for line in schedule.as_slice() {
         run.line(alloc, job, room, *line)?;
     }

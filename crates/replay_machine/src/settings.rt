@@ -1,4 +1,4 @@
-//! What the members of a run have in common, where that is known only at run time.
+//! What the members of a run have in common, known only at run time.
 ghost use Rattle.std.specs.Prelude.{Bool, false};
 ghost use Rattle.tp_layout.specs.declared.requests.RingRequest.{RingRequest};
 

@@ -1,11 +1,11 @@
-//! Tickets: in mode `Lb` each arrival draws one, whatever becomes of it.
+//! Tickets: in mode `Lb` each arrival draws one, whatever its verdict.
 ghost use Rattle.std.specs.Prelude.{◌≡◌, ◌+◌, ◌^◌, ◌<◌};
 ghost use Rattle.fanout_group.specs.Rules.{HasTicket};
 ghost use Rattle.replay_model.specs.Replay.{next_ticket, ticket_of};
 
 use fanout_group::Mode;
 
-/// The number that an arrival draws, where this one is next.
+/// The number that an arrival draws, given the next one.
 pub(crate) fn ticket_of(mode: Mode, next: u64) -> Option<u64>
     ensures ticket { result ≡ ticket_of mode next }
     ensures drawn { HasTicket mode result }

@@ -1,5 +1,5 @@
 -- The report of a replay over rings of blocks is one of its group.
-use Rattle.std.proofs.Common.{◌≡◌, ℕ, ◌<◌, Bool, List, length, Option, refl, ap}
+use Rattle.std.proofs.Common.{◌≡◌, ℕ, ◌<◌, Bool, List, length, All, Option, refl, ap}
 use Rattle.capture_file.specs.declared.cpu_end.CpuEnd.{CpuEnd}
 use Rattle.frame_view.specs.declared.frames.Frame.{Frame}
 use Rattle.fanout_group.specs.Rules.{Rules}
@@ -56,3 +56,6 @@ module _ (law : AreNumbered) (reports : ReportsGroup) (job : Job) (lines : List 
   pub logs_are : AreLogsFrom 0 all ends (report_of job lines all ends).cpus
   unfolding report_of
   logs_are = logs_of_replay steps (member_of job.setup.shape job.setup.dump) (IsRingReport (size_of job.setup.shape)) job lines all ends report many
+
+  pub rings_are : All (IsRingReport (size_of job.setup.shape)) (replay_of job lines all).members
+  rings_are = report.rings

@@ -1,5 +1,3 @@
-mod ReadBlocks
-mod MemberFields
-mod LastReads
 mod GroupLaw
+mod ReadBack
 mod Replayed

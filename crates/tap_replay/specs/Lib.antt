@@ -1,4 +1,2 @@
 pub mod Reported
-pub mod Blocks
-pub mod Members
 pub mod Runs

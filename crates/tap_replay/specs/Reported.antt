@@ -9,7 +9,7 @@ use Rattle.tp_layout.specs.declared.requests.RingRequest.{RingRequest}
 use Rattle.setup_text.specs.declared.reports.MemberReport.{MemberReport}
 
 -- what is reported of a closed ring of blocks of this shape: the packets of the offers that it
--- kept, its dump where that is asked for, and the number of retired blocks; one thread ran it
+-- kept, its dump if that is asked for, and the number of retired blocks; one thread ran it
 abbrev pub member_of : RingRequest → Bool → Ring → MemberReport
 member_of shape asked ring = record {
   notes = ring.notes;

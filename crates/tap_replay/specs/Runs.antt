@@ -17,13 +17,13 @@ use Rattle.tap_replay.specs.Reported.{member_of}
 abbrev pub replay_of : Job → List Line → List (List ℕ) → Replay
 replay_of job lines all = replay_over (block_steps (size_of job.setup.shape)) job lines all
 
--- the report of a replay of sources that gave these bytes and ended so
+-- the report of a replay of sources that gave these bytes and ended in this way
 unfoldable pub report_of : Job → List Line → List (List ℕ) → List CpuEnd → RunReport
 report_of job lines all ends =
     report_with (member_of job.setup.shape job.setup.dump) all ends (replay_of job lines all)
 
--- the job was replayed by these lines: its sources gave these bytes and ended so, the report is
--- that of a run over them, and it is the replay report
+-- the job was replayed by these lines: its sources gave these bytes and ended in this way, the
+-- report is that of a run over them, and it is the replay report
 pub record IsReplayed (job : Job) (lines : List Line) (old new : List (Option SourceSeen))
     (report : RunReport) : Type 0 where
   pub bytes : List (List ℕ)

@@ -6,24 +6,22 @@ ghost use Rattle.schedule_lines.specs.Ascending.{IsSchedule};
 ghost use Rattle.run_reports.specs.Reports.{IsRunReport};
 ghost use Rattle.setup_text.specs.Runnable.{IsRunnable};
 ghost use Rattle.setup_text.specs.declared.jobs.Job.{Job};
-ghost use Rattle.replay_machine.specs.RunStates.{IsRoomOf};
-ghost use Rattle.replay_model.specs.RingSteps.{block_steps};
+ghost use Rattle.replay_model.specs.Reports.{IsRingReport};
 ghost use Rattle.tp_layout.specs.Requests.{size_of};
-ghost use Rattle.tap_replay.specs.Runs.{IsReplayed, report_of};
+ghost use Rattle.tap_replay.specs.Runs.{IsReplayed, replay_of, report_of};
 
-use crate::member::BlockMember;
-use crate::new_members::open_members;
+use block_ring::Producer;
 use capture_file::frames_are_numbered;
 use frame_view::Memory;
-use replay_machine::{Setting, replay_over};
+use replay_machine::replay_over;
 use replay_model::a_replay_reports_a_group;
+use ring_words::PlainRing;
 use run_reports::a_group_s_report_is_that_of_a_run;
 use schedule_lines::Schedule;
 use setup_text::{Job, Ran};
 use std::alloc::Global;
-use std::marker::Brand;
 use tap_outside::Source;
-use tp_layout::{Shape, a_shape_is_sound};
+use tp_layout::{Block, a_shape_is_sound};
 
 /// Replays a job over rings of blocks: the lines of the schedule in order, and then each CPU from 0
 /// up to its end. The sources are one for each CPU, and come back less the bytes that they gave; a
@@ -44,50 +42,23 @@ pub fn replay<S: Source>(
         (map (option_map S.seen) ran.sources.items)
         ran.report) }
 {
-    replay_as::<S, Brand>(alloc, job, sources, schedule)
-}
-
-/// The replay over members that have a shape and a flag in common.
-fn replay_as<S: Source, K: Setting>(
-    alloc: Global,
-    job: &Job,
-    sources: Vec<Option<S>>,
-    schedule: &Schedule,
-) -> Result<Ran<S>, Memory>
-    requires shape { job.now.setup.shape ≡ K.shape }
-    requires dump { job.now.setup.dump ≡ K.dumps }
-    requires setup { IsRunnable job.now.setup }
-    requires sources { length sources.items ≡ length job.now.setup.cpus }
-    requires schedule { IsSchedule schedule.now }
-    requires few { length schedule.now < 2 ^ 32 }
-    ensures ran { IfOk result (λ ran. IsReplayed job.now schedule.now
-        (map (option_map S.seen) sources.items)
-        (map (option_map S.seen) ran.sources.items)
-        ran.report) }
-{
     a_job_reports_a_group();
-    let shape = &job.setup.shape;
-    let members = open_members::<K>(alloc, job.setup.plan.members(), shape, job.setup.dump)?;
-    let room = room_of_blocks(shape);
-    replay_over::<S, BlockMember<K>>(alloc, job, room, members, sources, schedule)
-}
-
-/// The bytes of a block that are for packets.
-fn room_of_blocks(shape: &Shape) -> u32
-    ensures { IsRoomOf (block_steps (size_of shape.now)) result }
-{
-    a_shape_is_sound(shape);
-    shape.room()
+    a_shape_is_sound(&job.setup.shape);
+    replay_over::<S, Producer<PlainRing<Block>>>(alloc, job, sources, schedule)
 }
 
 /// The report of a replay is that of a run, whatever the schedule: its logs are lawful over the
-/// arrivals of what the sources gave, logs and notes are joined, each arrival that passes stands
+/// arrivals of what the sources gave, logs and notes are joined, each arrival that passes appears
 /// exactly once, each member's notes are a run of its ring from its opening to its close, and what
-/// a member's reader read is what was kept.
+/// a member's reader read is what was kept. A note that says that a block was still the reader's
+/// names one that wasn't released.
 pub fn a_job_reports_a_group()
     ensures run { (job : Job) (lines : List Line) (all : List (List ℕ)) (ends : List CpuEnd)
         → IsRunnable job.setup → IsSchedule lines → length ends ≡ length all
         → IsRunReport job all ends (report_of job lines all ends) }
+    ensures rings { (job : Job) (lines : List Line) (all : List (List ℕ)) (ends : List CpuEnd)
+        → IsRunnable job.setup → IsSchedule lines → length ends ≡ length all
+        → All (IsRingReport (size_of job.setup.shape)) (replay_of job lines all).members }
 {
     frames_are_numbered();
     a_replay_reports_a_group();

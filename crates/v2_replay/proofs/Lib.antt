@@ -1,7 +1,5 @@
 mod SlotRings
 mod SlotGroup
+mod SlotsReadBack
 mod SlotReplayed
-mod ReadSlots
-mod MemberFields
-mod LastReads
 mod SlotTotals

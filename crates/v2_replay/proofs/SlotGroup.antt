@@ -25,7 +25,8 @@ use Rattle.setup_text.specs.declared.reports.RunReport.{RunReport}
 use Rattle.slot_layout.proofs.SlotBounds.{slot_bounds}
 use Rattle.slot_layout.specs.SlotShapes.{IsSlotShape, slot_size_of}
 use Rattle.tp_layout.specs.declared.requests.RingRequest.{RingRequest}
-use Rattle.v2_replay.specs.SlotReplays.{slot_member_of, slot_steps}
+use Rattle.receive_ring.specs.SlotRings.{slot_steps}
+use Rattle.v2_replay.specs.SlotReplays.{slot_member_of}
 use Rattle.v2_replay.specs.SlotReports.{IsSlotMember, IsSlotRingReport, IsSlotRunReport}
 use Rattle.v2_replay.specs.SlotRuns.{slot_replay_of, slot_report_of}
 use Rattle.v2_replay.proofs.SlotRings.{IsOpenSlots, closed_slots, slots_keep}

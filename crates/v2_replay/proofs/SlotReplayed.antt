@@ -1,30 +1,40 @@
 -- A replay over rings of slots is the replay of its job.
-use Rattle.std.proofs.Common.{◌≡◌, ℕ, Bool, List, length, Option, sym, ap, ◌∙◌, subst}
+use Rattle.std.proofs.Common.{◌≡◌, ℕ, List, length, All, Option, sym, ◌∙◌, subst}
 use Rattle.std.specs.Prelude.{IfOk, Result, Ok, Err}
 use Rattle.capture_file.specs.declared.cpu_end.CpuEnd.{CpuEnd}
-use Rattle.replay_machine.specs.Runs.{IsReplayedOver, replay_over, report_with}
+use Rattle.receive_ring.specs.SlotRings.{slot_reads, steps_of_slots}
+use Rattle.replay_machine.proofs.GroupReports.{same_reports}
+use Rattle.replay_machine.specs.Reported.{reported_by}
+use Rattle.replay_machine.specs.Runs.{IsReplayedOver}
+use Rattle.ring_model.specs.Rings.{Ring}
 use Rattle.schedule_lines.specs.declared.lines.Line.{Line}
 use Rattle.setup_text.specs.declared.jobs.Job.{Job}
+use Rattle.setup_text.specs.declared.reports.MemberReport.{MemberReport}
 use Rattle.setup_text.specs.declared.reports.RunReport.{RunReport}
+use Rattle.slot_layout.specs.SlotLayouts.{text_of_slot}
 use Rattle.slot_layout.specs.SlotShapes.{slot_size_of}
 use Rattle.tap_outside.specs.Seen.{SourceSeen}
-use Rattle.tp_layout.specs.declared.requests.RingRequest.{RingRequest}
-use Rattle.v2_replay.specs.SlotReplays.{slot_member_of, slot_steps}
-use Rattle.v2_replay.specs.SlotReports.{IsSlotRunReport}
-use Rattle.v2_replay.specs.SlotRuns.{IsSlotReplayed, slot_report_of}
+use Rattle.v2_replay.proofs.SlotsReadBack.{read_back}
+use Rattle.v2_replay.specs.SlotReplays.{slot_member_of}
+use Rattle.v2_replay.specs.SlotReports.{IsSlotRingReport, IsSlotRunReport}
+use Rattle.v2_replay.specs.SlotRuns.{IsSlotReplayed, slot_replay_of, slot_report_of}
 
-module _ (job : Job) (lines : List Line) (old : List (Option SourceSeen)) (shape : RingRequest) (asked : Bool)
-    (shape_is : job.setup.shape ≡ shape) (asked_is : job.setup.dump ≡ asked)
-    (reports : (all : List (List ℕ)) (ends : List CpuEnd) → length ends ≡ length all → IsSlotRunReport job all ends (slot_report_of job lines all ends)) where
+module _ (job : Job) (lines : List Line) (old : List (Option SourceSeen))
+    (reports : (all : List (List ℕ)) (ends : List CpuEnd) → length ends ≡ length all → IsSlotRunReport job all ends (slot_report_of job lines all ends))
+    (rings : (all : List (List ℕ)) (ends : List CpuEnd) → length ends ≡ length all
+    → All (IsSlotRingReport (slot_size_of job.setup.shape)) (slot_replay_of job lines all).members) where
+  abbrev reported : Ring → MemberReport
+  reported = reported_by (λ shape slot. text_of_slot shape slot) slot_reads job.setup.shape job.setup.dump
+
   abbrev IsOver : List (Option SourceSeen) → RunReport → Type 0
-  IsOver new report = IsReplayedOver (slot_steps (slot_size_of shape)) (slot_member_of asked) job lines old new report
+  IsOver new report = IsReplayedOver (steps_of_slots job.setup.shape) reported job lines old new report
 
   as_report : (new : List (Option SourceSeen)) (report : RunReport) → (h : IsOver new report) → report ≡ slot_report_of job lines h.bytes h.ends
   unfolding slot_report_of
   as_report new report h =
       h.report_is
-      ∙ ap (λ (s : RingRequest). report_with (slot_member_of asked) h.bytes h.ends (replay_over (slot_steps (slot_size_of s)) job lines h.bytes)) (sym shape_is)
-      ∙ ap (λ (b : Bool). report_with (slot_member_of b) h.bytes h.ends (replay_over (slot_steps (slot_size_of job.setup.shape)) job lines h.bytes)) (sym asked_is)
+      ∙ same_reports reported (slot_member_of job.setup.dump) (IsSlotRingReport (slot_size_of job.setup.shape)) h.bytes h.ends
+      (slot_replay_of job lines h.bytes) (rings h.bytes h.ends h.many) (λ ring closed. read_back job.setup.shape job.setup.dump ring)
 
   is_replayed : (new : List (Option SourceSeen)) (report : RunReport) → IsOver new report → IsSlotReplayed job lines old new report
   is_replayed new report h = record {
@@ -36,7 +46,6 @@ module _ (job : Job) (lines : List Line) (old : List (Option SourceSeen)) (shape
   }
 
   pub told : {A E : Type 0} (result : Result A E) (new : A → List (Option SourceSeen)) (report : A → RunReport)
-      → IfOk result (λ ran. IsReplayedOver (slot_steps (slot_size_of shape)) (slot_member_of asked) job lines old (new ran) (report ran))
-      → IfOk result (λ ran. IsSlotReplayed job lines old (new ran) (report ran))
+      → IfOk result (λ ran. IsOver (new ran) (report ran)) → IfOk result (λ ran. IsSlotReplayed job lines old (new ran) (report ran))
   told (Ok ran) new report h = is_replayed (new ran) (report ran) h
   told (Err error) new report h = tt

@@ -15,7 +15,7 @@ use Rattle.slot_model.proofs.Looks.{slot_put_may_follow, slot_put_unreleased, sl
 use Rattle.slot_model.proofs.Runs.{slot_goes_put, slot_goes_try, slot_run_closed, slot_run_push}
 use Rattle.slot_model.specs.SlotRings.{slot_state}
 use Rattle.slot_model.specs.SlotSteps.{IsOpenSlotRun, IsWholeSlotRun, SlotGoesOn, SlotMayFollow, first_slot_state}
-use Rattle.v2_replay.specs.SlotReplays.{slot_steps}
+use Rattle.receive_ring.specs.SlotRings.{slot_steps}
 use Rattle.v2_replay.specs.SlotReports.{IsSlotRingReport}
 
 -- a ring of this size that isn't closed; it has no clock
@@ -25,7 +25,7 @@ pub record IsOpenSlots (size : Size) (clock : ℕ) (ring : Ring) : Type 0 where
   pub releases : List ℕ
   pub unreleased : AreReleases 0 ring.released releases ring.notes
 
--- a note more
+-- one more note
 noted_open : (size : Size) (clock : ℕ) (ring : Ring) (note : Note) → IsOpenSlots size clock ring → SlotMayFollow ring.size.blocks (slot_state ring) note
     → SlotGoesOn note → IsUnreleased ring.released note → IsOpenSlots size clock (noted ring note)
 noted_open size clock ring note h may goes found = record {

@@ -1,4 +1,4 @@
--- The arrivals of a run over rings of slots are those that the filter ended, those that members
+-- The arrivals of a run over rings of slots are those that the filter refused, those that members
 -- kept and those that they dropped.
 use Rattle.std.proofs.Common.{◌≡◌, ℕ, List, ap, arith}
 use Rattle.capture_file.specs.declared.cpu_end.CpuEnd.{CpuEnd}
@@ -20,7 +20,7 @@ abbrev pub CountsAsBlocks : Type 0
 CountsAsBlocks = (size : Size) (notes : List Note)
     → slot_totals_of notes ≡ without_freezes (totals_of size notes)
 
--- a ring of blocks of any size serves
+-- a ring of blocks of any size will do
 abbrev any_size : Size
 any_size = record { room = 0; blocks = 0; tov = 0 }
 

@@ -1,5 +1,3 @@
 pub mod SlotReplays
 pub mod SlotReports
 pub mod SlotRuns
-pub mod SlotsRead
-pub mod SlotMembers

@@ -1,30 +1,18 @@
--- The replay over rings of slots: its steps, and what is reported of such a ring.
+-- What is reported of a ring of slots.
 use Rattle.std.specs.Prelude.{ℕ, Bool, List, [], length, map, if◌then◌else◌, None}
-use Rattle.replay_model.specs.RingSteps.{RingSteps}
 use Rattle.ring_model.specs.Fates.{kept_of}
-use Rattle.ring_model.specs.Ring.{Size}
 use Rattle.ring_model.specs.Rings.{Ring}
 use Rattle.ring_model.specs.declared.notes.Note.{Note}
 use Rattle.setup_text.specs.declared.reports.MemberReport.{MemberReport}
 use Rattle.slot_layout.specs.SlotDump.{slot_dump_of, slot_packet_of}
-use Rattle.slot_model.specs.SlotAsking.{slot_look}
 use Rattle.slot_model.specs.SlotRings.{slot_state}
 
--- what rings of slots of this size do: a ring of slots has no timer
-abbrev pub slot_steps : Size → RingSteps
-slot_steps size = record {
-  size = size;
-  finds = λ ring offer. slot_look ring.size.blocks ring.released (slot_state ring);
-  ticks = λ ring ms. None;
-  retired = λ ring. length (slot_state ring).done;
-}
-
--- the dump of notes, where it is asked for
+-- the dump of notes, if it is asked for
 abbrev pub slot_dump_where : Bool → List Note → List ℕ
 slot_dump_where asked notes = if asked then slot_dump_of notes else []
 
--- what is reported of a closed ring of slots: the packets of the offers that it kept, its dump
--- where that is asked for, and the number of filled slots; one thread ran it
+-- what is reported of a closed ring of slots: the packets of the offers that it kept, its dump if
+-- that is asked for, and the number of filled slots; one thread ran it
 abbrev pub slot_member_of : Bool → Ring → MemberReport
 slot_member_of asked ring = record {
   notes = ring.notes;

@@ -1,4 +1,4 @@
--- What the report of a run over rings of slots is worth.
+-- What the report of a run over rings of slots guarantees.
 use Rattle.std.specs.Prelude.{◌≡◌, ℕ, Bool, List, length, map, All}
 use Rattle.capture_file.specs.declared.cpu_end.CpuEnd.{CpuEnd}
 use Rattle.fanout_group.specs.Once.{IsGroupReport}
@@ -29,7 +29,7 @@ pub record IsSlotRingReport (size : Size) (ring : Ring) : Type 0 where
   pub unreleased : AreReleases 0 ring.released releases ring.notes
 
 -- a member's notes are a run of its ring of slots from its opening to its close; its report has the
--- packets of the offers that were kept, the texts of the filled slots where they are asked for, and
+-- packets of the offers that were kept, the texts of the filled slots if they are asked for, and
 -- the number of these slots
 pub record IsSlotMember (shape : RingRequest) (asked : Bool) (member : MemberReport) : Type 0 where
   pub run : IsWholeSlotRun shape.frame_nr member.notes
@@ -49,8 +49,8 @@ pub record IsSlotRunReport (job : Job) (bytes : List (List ℕ)) (ends : List Cp
   -- the notes of each member are a whole run of its ring; `walked`, `dump` and `blocks` are those
   -- of the notes
   pub members : All (IsSlotMember job.setup.shape job.setup.dump) report.members
-  -- each arrival whose verdict isn't 0 stands once among all Kept and Dropped notes, and nothing
-  -- else stands there
+  -- each arrival whose verdict isn't 0 appears once among all Kept and Dropped notes, and nothing
+  -- else appears there
   pub once : EachArrivalAppearsOnce (rules_of job) (logged (arriving_of job bytes) report.cpus)
       (notes_of report.members)
   -- each packet is short enough for an output file

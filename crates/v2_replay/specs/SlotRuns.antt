@@ -9,7 +9,8 @@ use Rattle.setup_text.specs.declared.jobs.Job.{Job}
 use Rattle.setup_text.specs.declared.reports.RunReport.{RunReport}
 use Rattle.slot_layout.specs.SlotShapes.{slot_size_of}
 use Rattle.tap_outside.specs.Seen.{SourceSeen}
-use Rattle.v2_replay.specs.SlotReplays.{slot_member_of, slot_steps}
+use Rattle.receive_ring.specs.SlotRings.{slot_steps}
+use Rattle.v2_replay.specs.SlotReplays.{slot_member_of}
 use Rattle.v2_replay.specs.SlotReports.{IsSlotRunReport}
 
 -- the replay of a job over rings of slots
@@ -23,7 +24,7 @@ slot_report_of job lines all ends =
     report_with (slot_member_of job.setup.dump) all ends (slot_replay_of job lines all)
 
 -- the job was replayed by these lines over rings of slots: its sources gave these bytes and ended
--- so, the report is that of a run over them, and it is the report of the replay
+-- in this way, the report is that of a run over them, and it is the report of the replay
 pub record IsSlotReplayed (job : Job) (lines : List Line) (old new : List (Option SourceSeen))
     (report : RunReport) : Type 0 where
   pub bytes : List (List ℕ)

@@ -11,7 +11,7 @@ ghost use Rattle.v2_replay.specs.SlotReports.{IsSlotRunReport};
 use ring_model::statistics_count_each_packet;
 use slot_model::{a_ring_with_slots_left_drops_nothing, a_slot_ring_counts_as_a_ring_of_blocks};
 
-/// In the report of a run over rings of slots the arrivals are those that the filter ended, those
+/// In the report of a run over rings of slots the arrivals are those that the filter refused, those
 /// that members kept and those that they dropped.
 pub fn the_totals_over_slots_add_up()
     ensures { (job : Job) (bytes : List (List ℕ)) (ends : List CpuEnd) (report : RunReport)

@@ -1,10 +1,8 @@
 //! The replay over rings of slots (TPACKET_V2): each frame travels as bytes in a slot of its own,
-//! and its reader reads it out of there.
+//! from which its reader reads it.
 #![tactic(auto)]
 
 mod laws;
-mod member;
-mod new_members;
 mod runs;
 
 pub use laws::{a_member_with_slots_left_dropped_nothing, the_totals_over_slots_add_up};

@@ -1,9 +1,11 @@
 -- A run from its first line to its close.
-use Rattle.std.specs.Prelude.{◌≡◌, ℕ, ◌+◌, List, [], ◌∷◌, length, map, replicate, slice_index_or, slice_set, Option, None, IsSome}
+use Rattle.std.specs.Prelude.{◌≡◌, ℕ, ◌+◌, List, [], ◌∷◌, length, map, replicate, slice_index_or}
+use Rattle.std.specs.Prelude.{slice_set, Option, None, IsSome}
 use Rattle.std.specs.List.{AllByRecursion}
 use Rattle.fanout_group.specs.Paths.{first_path}
 use Rattle.fanout_group.specs.Plans.{Shape}
-use Rattle.replay_model.specs.Replay.{Replay, cpu_at, done_line, feed_from, feed_times, no_ring, noted_at}
+use Rattle.replay_model.specs.Replay.{Replay, cpu_at, done_line, feed_from, feed_times, no_ring}
+use Rattle.replay_model.specs.Replay.{noted_at}
 use Rattle.schedule_lines.specs.declared.lines.Line.{Line}
 use Rattle.schedule_lines.specs.declared.lines.Line.TheVariants as line
 use Rattle.replay_model.specs.RingSteps.{RingSteps, read_by, ticked}
@@ -33,7 +35,7 @@ first_feeding plan number first =
       path = first_path plan;
     }
 
--- those of sources, with the numbers from this one up
+-- those of the sources, numbered from this number
 abbrev pub starting_from : Shape → ℕ → List (Option SourceSeen) → List Feeding
 starting_from plan number [] = []
 starting_from plan number (first ∷ firsts) =

@@ -1,18 +1,4 @@
-use Rattle.std.proofs.Common.{◌≡◌, List, drop}
-use Rattle.frame_view.specs.declared.frames.Frame.{Frame}
-use Rattle.replay_model.specs.Replay.{done_lines}
-use Rattle.replay_machine.proofs.Timed.{IsTimed}
-use Rattle.replay_machine.specs.RunStates.{AreAllOf, IsCounted, IsRun, firsts_of, whole}
-use Rattle.run_reports.specs.Jobs.{rules_of}
 use Rattle.replay_machine.proofs.runs.replay_over.Given as goal
 
-abbrev pub invariant-loop-line : goal.invariant-loop-line
-invariant-loop-line g l = record {
-  run : IsRun g.M.RingMember.steps l.job l.run;
-  timed : IsTimed l.run.members (drop l.line-index l.schedule);
-  does : (all : List (List Frame)) → AreAllOf all l.run.cpus → AreAllOf all l.initial.run.cpus
-      × (done_lines (rules_of l.job) g.M.RingMember.steps (drop l.line-index l.schedule) (whole all l.run)
-      ≡ done_lines (rules_of l.job) g.M.RingMember.steps l.schedule (whole all l.initial.run));
-  firsts : firsts_of l.run ≡ firsts_of l.initial.run;
-  counted : IsCounted l.line-index l.run;
-}
+abbrev pub ghosts-replay_as : goal.ghosts-replay_as
+ghosts-replay_as g a = record { shape = a.job.now.setup.shape; dumps = a.job.now.setup.dump }

@@ -21,10 +21,10 @@ deliver-delivered-requires-clause-takes g c = λ member h.
 pub returns : goal.returns
 returns g c =
     let rings : c.deliver-delivered.new.desk.members ≡ c.desk.inside.members.items = sym (ap (λ (desk : DeskValue). desk.members) c.desk.view_is) in
-    subst (λ (members : List Ring). OnOk c.deliver-delivered.result (IsLogged g.M.RingMember.steps c.args.queue c.args.cpu c.args.entry (Some c.args.offer) c.args.self.now
+    subst (λ (members : List Ring). OnOk c.deliver-delivered.result (IsLogged (g.R.ReceiveRing.steps g.K.Setting.shape) c.args.queue c.args.cpu c.args.entry (Some c.args.offer) c.args.self.now
     (run_with (slice_set c.self.inside.cpus.items c.args.cpu c.deliver-delivered.new.self) members c.self.inside.ticket))) rings
     (delivered_told c.args.cpu c.self.inside.cpus.items c.self.inside.members.items c.self.inside.ticket c.index_mut.result.now c.deliver-delivered.new.self c.args.self.now
-    (search rules) c.index_mut.ensures.value c.self.view_is g.M.RingMember.steps c.deliver-delivered.result c.args.queue c.args.entry c.args.offer _ _
+    (search rules) c.index_mut.ensures.value c.self.view_is (g.R.ReceiveRing.steps g.K.Setting.shape) c.deliver-delivered.result c.args.queue c.args.entry c.args.offer _ _
     (ap (λ (desk : DeskValue). desk.offer) c.new-desk.ensures)
     (ap (λ (desk : DeskValue). desk.members) c.new-desk.ensures ∙ ap (λ vec. vec.items) c.replace-members.ensures.value)
     (ap (λ (desk : DeskValue). desk.tries) c.new-desk.ensures)

@@ -10,7 +10,7 @@ use Rattle.replay_machine.proofs.replay_run.ReplayRun.tick.Goals as goal
 
 pub loop-member-preserved : goal.loop-member-preserved
 loop-member-preserved g c =
-    let f : Ring → Ring = ticked_ring g.M.RingMember.steps c.args.ms in
+    let f : Ring → Ring = ticked_ring (g.R.ReceiveRing.steps g.K.Setting.shape) c.args.ms in
     let first = c.self.inside.members.items in
     let now = c.loop-member.self-inside.members.items in
     let within : c.loop-member.member < length first = search rules in
@@ -25,7 +25,7 @@ loop-member-preserved g c =
 
 pub tick-requires-clause-later : goal.tick-requires-clause-later
 tick-requires-clause-later g c =
-    let f : Ring → Ring = ticked_ring g.M.RingMember.steps c.args.ms in
+    let f : Ring → Ring = ticked_ring (g.R.ReceiveRing.steps g.K.Setting.shape) c.args.ms in
     let P : Ring → Type 0 = λ ring. last_moment 0 ring.notes ≤ c.args.ms in
     let first = c.self.inside.members.items in
     let at = c.loop-member.member in
@@ -38,7 +38,7 @@ tick-requires-clause-later g c =
 
 pub returns : goal.returns
 returns g c =
-    let f : Ring → Ring = ticked_ring g.M.RingMember.steps c.args.ms in
+    let f : Ring → Ring = ticked_ring (g.R.ReceiveRing.steps g.K.Setting.shape) c.args.ms in
     let past : length c.self.inside.members.items ≤ c.loop-member.member = search rules in
     ticked f c.self.inside.cpus.items c.loop-member.self-inside.cpus.items c.self.inside.members.items c.loop-member.self-inside.members.items
     c.self.inside.ticket c.loop-member.self-inside.ticket c.args.self.now (ap (λ vec. vec.items) c.loop-member.invariant.cpus) c.loop-member.invariant.ticket

@@ -11,5 +11,5 @@ invariant-loop-member g l =
       ticket : l.self-inside.ticket ≡ l.initial.self-inside.ticket;
       buffer : l.self-inside.buffer ≡ l.initial.self-inside.buffer;
       count : length l.self-inside.members.items ≡ length l.initial.self-inside.members.items;
-      rings : l.self-inside.members.items ≡ map (ticked g.M.RingMember.steps l.ms) (take l.member rings) ++ drop l.member rings;
+      rings : l.self-inside.members.items ≡ map (ticked (g.R.ReceiveRing.steps g.K.Setting.shape) l.ms) (take l.member rings) ++ drop l.member rings;
     }

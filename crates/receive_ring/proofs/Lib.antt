@@ -1,0 +1,3 @@
+mod Waiting
+mod BlockReceiving
+mod SlotReceiving

@@ -1,0 +1,65 @@
+-- What the notes of a ring of blocks hand over.
+use Rattle.std.proofs.Common.{◌≡◌, ℕ, ◌+◌, ◌≤◌, List, [], ◌∷◌, ◌++◌, length, sym, ap, ◌∙◌}
+use Rattle.std.proofs.Common.{arith}
+use Rattle.block_ring.specs.Producing.{Producing}
+use Rattle.block_ring.specs.Walking.{StaysBy, TookBy}
+use Rattle.receive_ring.specs.BlockRings.{block_reads, seen_blocks}
+use Rattle.receive_ring.specs.Receiving.{Grows, StaysThere, TookOne}
+use Rattle.ring_model.specs.Ring.{Size, state_of}
+use Rattle.ring_model.specs.Rings.{Ring}
+use Rattle.ring_model.specs.declared.notes.Note.{Note}
+use Rattle.ring_model.specs.declared.notes.Offer.{Offer}
+use Rattle.ring_words.specs.PlainRings as plain
+use Rattle.ring_words.specs.PlainRings.{PlainState, Took}
+use Rattle.run_reports.specs.Blocks.{read_of, taken_from}
+use Rattle.run_reports.proofs.GrownBlocks.{few_done, grows_noted}
+use Rattle.run_reports.proofs.KeptPackets.{as_many}
+use Rattle.tp_layout.specs.Layouts.{Taken}
+use Rattle.tp_layout.specs.Requests.{size_of}
+use Rattle.tp_layout.specs.declared.requests.RingRequest.{RingRequest}
+
+pub took_block : (before after : Producing PlainState) (content : List ℕ)
+    → TookBy Took before after content → TookOne (seen_blocks before) (seen_blocks after) content
+took_block before after content took = record { end = took.end; rest = ap seen_blocks took.rest }
+
+pub stays_blocks : (before after : Producing PlainState) → StaysBy plain.Stays before after
+    → StaysThere (seen_blocks before) (seen_blocks after)
+stays_blocks before after stays = record { end = stays.end; rest = ap seen_blocks stays.rest }
+
+-- blocks that follow others
+taken_after : (shape : RingRequest) (number : ℕ) (done more : List (List Offer × ℕ))
+    → taken_from shape number (done ++ more)
+    ≡ taken_from shape number done ++ taken_from shape (number + length done) more
+taken_after shape number [] more =
+    let first : number ≡ number + 0 = omega arith in
+    ap (λ n. taken_from shape n more) first
+taken_after shape number (block ∷ done) more =
+    let later : number + 1 + length done ≡ number + length (block ∷ done) = omega arith in
+    ap (λ (taken : List Taken). read_of shape number block ∷ taken)
+    (taken_after shape (number + 1) done more
+    ∙ ap (λ n. taken_from shape (number + 1) done ++ taken_from shape n more) later)
+
+pub blocks_grow : (shape : RingRequest) (notes : List Note) (note : Note)
+    → Grows (block_reads shape notes) (block_reads shape (notes ++ note ∷ []))
+blocks_grow shape notes note =
+    let grown = grows_noted (size_of shape) notes note in
+    let done = (state_of (size_of shape) notes).done in
+    record {
+      more = taken_from shape (1 + length done) grown.more;
+      is = ap (λ (d : List (List Offer × ℕ)). taken_from shape 1 d) grown.is
+          ∙ taken_after shape 1 done grown.more;
+    }
+
+pub few_blocks : (shape : RingRequest) (notes : List Note)
+    → length (block_reads shape notes) ≤ length notes
+few_blocks shape notes =
+    let done = (state_of (size_of shape) notes).done in
+    let count = as_many shape 1 done in
+    let few = few_done (size_of shape) notes in
+    omega (arith, count, few)
+
+pub all_blocks : (shape : RingRequest) (ring : Ring) → ring.size ≡ size_of shape
+    → length (state_of ring.size ring.notes).done ≡ length (block_reads shape ring.notes)
+all_blocks shape ring same =
+    ap (λ (size : Size). length (state_of size ring.notes).done) same
+    ∙ sym (as_many shape 1 (state_of (size_of shape) ring.notes).done)

@@ -1,0 +1,5 @@
+pub mod Receiving
+pub mod BlockRings
+pub mod BlockLaws
+pub mod SlotRings
+pub mod SlotLaws

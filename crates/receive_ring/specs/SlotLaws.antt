@@ -1,0 +1,63 @@
+-- What the notes of a ring of slots hand over.
+use Rattle.std.proofs.Common.{◌≡◌, ℕ, ◌≤◌, List, [], ◌∷◌, ◌++◌, length, sym, ap, arith}
+use Rattle.std.proofs.lemmas.List.{append-nil, length-map, map-append}
+use Rattle.receive_ring.specs.Receiving.{Grows, StaysThere, TookOne}
+use Rattle.receive_ring.specs.SlotRings.{seen_slots, slot_reads, slots_taken}
+use Rattle.ring_model.specs.Rings.{Ring}
+use Rattle.ring_model.specs.declared.notes.Note.{Note}
+use Rattle.ring_model.specs.declared.notes.Note.TheVariants.{Kept, Refused, Dropped, Ticked}
+use Rattle.ring_model.specs.declared.notes.Note.TheVariants.{Counted, Finished}
+use Rattle.ring_model.specs.declared.notes.Offer.{Offer}
+use Rattle.ring_words.specs.PlainRings as plain
+use Rattle.ring_words.specs.PlainRings.{PlainState, Took}
+use Rattle.slot_layout.specs.SlotDump.{slot_packet_of}
+use Rattle.slot_layout.specs.SlotLayouts.{slot_taken}
+use Rattle.slot_layout.specs.SlotShapes.{slot_size_of}
+use Rattle.slot_model.proofs.Runs.{slot_counted, slot_state_push}
+use Rattle.slot_model.specs.SlotSteps.{SlotState, slot_after, slot_state_of, slot_status}
+use Rattle.tp_layout.specs.declared.requests.RingRequest.{RingRequest}
+use Rattle.v2_ring.specs.SlotProducing.{SlotProducing}
+use Rattle.v2_ring.specs.SlotWalking.{SlotStaysBy, SlotTookBy}
+
+pub took_slot : (before after : SlotProducing PlainState) (content : List ℕ)
+    → SlotTookBy Took before after content → TookOne (seen_slots before) (seen_slots after) content
+took_slot before after content took = record { end = took.end; rest = ap seen_slots took.rest }
+
+pub stays_slots : (before after : SlotProducing PlainState)
+    → SlotStaysBy plain.Stays before after → StaysThere (seen_slots before) (seen_slots after)
+stays_slots before after stays = record { end = stays.end; rest = ap seen_slots stays.rest }
+
+-- the slots after a note are those before it, and some more or none
+same : (done : List (Offer × ℕ)) → Grows (slots_taken done) (slots_taken done)
+same done = record { more = []; is = sym (append-nil (slots_taken done)) }
+
+grows : (s : SlotState) (note : Note)
+    → Grows (slots_taken s.done) (slots_taken (slot_after s note).done)
+grows s (Kept offer found) = record {
+  more = slots_taken ((offer, slot_status s offer) ∷ []);
+  is = map-append (λ slot. slot_taken slot.1 (slot_packet_of slot.0)) s.done
+      ((offer, slot_status s offer) ∷ []);
+}
+grows s (Refused cpu index need number) = same s.done
+grows s (Dropped cpu index need number) = same s.done
+grows s (Ticked ms found) = same s.done
+grows s Counted = same s.done
+grows s Finished = same s.done
+
+pub slots_grow : (shape : RingRequest) (notes : List Note) (note : Note)
+    → Grows (slot_reads shape notes) (slot_reads shape (notes ++ note ∷ []))
+slots_grow shape notes note = rw (slot_state_push notes note) (grows (slot_state_of notes) note)
+
+as_many : (done : List (Offer × ℕ)) → length (slots_taken done) ≡ length done
+as_many done = length-map done (λ slot. slot_taken slot.1 (slot_packet_of slot.0))
+
+pub few_slots : (shape : RingRequest) (notes : List Note)
+    → length (slot_reads shape notes) ≤ length notes
+few_slots shape notes =
+    let count = as_many (slot_state_of notes).done in
+    let few = (slot_counted notes).slots in
+    omega (arith, count, few)
+
+pub all_slots : (shape : RingRequest) (ring : Ring) → ring.size ≡ slot_size_of shape
+    → length (slot_state_of ring.notes).done ≡ length (slot_reads shape ring.notes)
+all_slots shape ring size = sym (as_many (slot_state_of ring.notes).done)

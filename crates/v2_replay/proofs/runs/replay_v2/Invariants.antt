@@ -1,4 +1,0 @@
-use Rattle.v2_replay.proofs.runs.replay_v2.Given as goal
-
-abbrev pub ghosts-replay_as : goal.ghosts-replay_as
-ghosts-replay_as g a = record { shape = a.job.now.setup.shape; dumps = a.job.now.setup.dump }
