@@ -1,4 +1,4 @@
-"""Reads the scenarios of crates/scenario_runs/data, whose form crates/scenario_runs/README.md says, apart from that crate's code.
+"""Reads the scenarios of crates/scenario_runs/data, whose form crates/scenario_runs/FORM.md says, apart from that crate's code.
 
 A `Scenario` gives what stands in its files before the command, and what comes of the command: lines, files, tries and notes.
 """
@@ -65,12 +65,12 @@ class Scenario:
         self.name, self.layers = name, layers
 
     def values(self, word: str) -> Lines:
-        """What is said of a word, line by line: by its own lines, or else by those of the one that it is like. A line with the
+        """What is said of a word, between bars: by its own lines, or else by those of the one that it is like. A line with the
         word alone says that there is nothing."""
         for lines in self.layers:
-            found = [line.strip().partition(" ")[2].strip() for line in lines if line.split()[0] == word]
+            found = [line.strip().partition(" ")[2] for line in lines if line.split()[0] == word]
             if found:
-                return [value for value in found if value]
+                return [part.strip() for value in found for part in value.split(" | ") if part.strip()]
         return []
 
     def value(self, word: str, default: str = "") -> str:
@@ -81,9 +81,8 @@ class Scenario:
         return {value.split()[0]: value.partition(" ")[2].strip() for value in self.values(word)}
 
     def text(self, *words: str) -> str:
-        """A text of the lines between bars."""
-        parts = (part.strip() for word in words for value in self.values(word) for part in value.split("|"))
-        return "".join(repeated_line(part) for part in parts if part)
+        """A text of the lines that are said."""
+        return "".join(repeated_line(value) for word in words for value in self.values(word))
 
     def command(self) -> Lines:
         return ["" if word == "''" else word for word in self.value("run").split()]
@@ -144,7 +143,7 @@ class Scenario:
         return int(self.value("status", "0").split()[0])
 
     def lines(self) -> str:
-        return "".join(line + "\n" for line in self.values(">"))
+        return self.text(">")
 
     def printed(self) -> str:
         """The lines as far as they were taken, and one more where memory was refused."""

@@ -5,39 +5,34 @@ use ring_model::{Found, Note};
 use setup_text::{MemberReport, RunReport};
 use std::alloc::Global;
 
-/// Appends a letter, and the number of the block that was still the reader's if it isn't 1.
-fn push_held(text: &mut String, letter: &str, number: u64) -> Result<(), Memory> {
+/// One of the letters for what was found of the next block: it wasn't looked at, it was free, or it
+/// was still the reader's; and the number of the block that was the reader's, else 1.
+fn found_letter(letters: [&'static str; 3], found: Found) -> (&'static str, u64) {
+    let [unasked, free, held] = letters;
+    match found {
+        Found::NotAsked => (unasked, 1),
+        Found::Free => (free, 1),
+        Found::Held(number) => (held, number),
+    }
+}
+
+/// Appends the letter of a note: `k` for a packet kept without looking at the next block, `n` for
+/// one that opened it, `r` for one refused and `d` for one dropped; for a tick `t` if the next
+/// block wasn't looked at, `T` if it was free and `H` if it was still the reader's; `c` if
+/// statistics were taken, and a point at the end. After `r`, `d` and `H` comes the number of the
+/// block that was still the reader's, if it isn't 1.
+fn push_note(text: &mut String, note: &Note) -> Result<(), Memory> {
+    let (letter, number) = match note {
+        Note::Kept { found, .. } => found_letter(["k", "n", "?"], *found),
+        Note::Refused { number, .. } => ("r", *number),
+        Note::Dropped { number, .. } => ("d", *number),
+        Note::Ticked { found, .. } => found_letter(["t", "T", "H"], *found),
+        Note::Counted => ("c", 1),
+        Note::Finished => (".", 1),
+    };
     text.push_str(letter)?;
     if number != 1 {
         write!(text, "{number}")?;
-    }
-    Ok(())
-}
-
-/// Appends a letter for what was found of the next block: it wasn't looked at, it was free, or it
-/// was still the reader's.
-fn push_found(text: &mut String, letters: [&str; 3], found: Found) -> Result<(), Memory> {
-    let [unasked, free, held] = letters;
-    match found {
-        Found::NotAsked => text.push_str(unasked)?,
-        Found::Free => text.push_str(free)?,
-        Found::Held(number) => push_held(text, held, number)?,
-    }
-    Ok(())
-}
-
-/// Appends the letters of a note: `k` for a packet kept without looking at the next block, `n` for
-/// one that opened it, `r` for one refused and `d` for one dropped; for a tick `t` if the next
-/// block wasn't looked at, `T` if it was free and `H` if it was still the reader's; `c` if
-/// statistics were taken, and a point at the end.
-fn push_note(text: &mut String, note: &Note) -> Result<(), Memory> {
-    match note {
-        Note::Kept { found, .. } => push_found(text, ["k", "n", "?"], *found)?,
-        Note::Refused { number, .. } => push_held(text, "r", *number)?,
-        Note::Dropped { number, .. } => push_held(text, "d", *number)?,
-        Note::Ticked { found, .. } => push_found(text, ["t", "T", "H"], *found)?,
-        Note::Counted => text.push_str("c")?,
-        Note::Finished => text.push_str(".")?,
     }
     Ok(())
 }

@@ -2,8 +2,7 @@
 use Rattle.std.specs.Prelude.{ℕ, ◌≤◌, length}
 use Rattle.work_queue.specs.Passes.{IsPassOf, PassValue, QueueValue}
 
--- a pass of this queue that handed at most so many works, and with which `fetch` was called at most
--- so often
+-- a pass of this queue with these bounds on the works that it handed and on the calls of `fetch`
 pub record HasDoneFew (most : ℕ) (queue : QueueValue) (pass : PassValue) : Type 0 where
   pub own : IsPassOf queue pass
   pub few_handed : length pass.handed ≤ most

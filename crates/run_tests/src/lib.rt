@@ -1,32 +1,20 @@
-//! Tests of runs that no text of a scenario can say: captures cut at each place, a source that
-//! waits, twenty thousand made frames, each ticket; and of threads below a whole command: a bridge,
-//! with what is sent and skipped of frames for each member, a queue of works, and runs whose blocks
-//! a pool decodes.
+//! Tests of runs that no scenario can describe: each point of the gate, a source that waits, each
+//! ticket, and twenty thousand made frames; and of the queue of works below a run.
 #![tactic(auto)]
 
 #[cfg(test)]
-mod bridged;
-#[cfg(test)]
-mod bridges;
-#[cfg(test)]
-mod cuts;
-#[cfg(test)]
-mod each_worker;
-#[cfg(test)]
-mod early;
+mod gate_log;
 #[cfg(test)]
 mod made;
 #[cfg(test)]
-mod numbers;
-#[cfg(test)]
 mod points;
-#[cfg(test)]
-mod pools;
 #[cfg(test)]
 mod queues;
 #[cfg(test)]
-mod spread;
+mod runs;
 #[cfg(test)]
 mod tickets;
+#[cfg(test)]
+mod waiting_store;
 #[cfg(test)]
 mod works;

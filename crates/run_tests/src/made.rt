@@ -1,22 +1,22 @@
-//! Twenty thousand made frames, written to two captures, for four members, with a pool and without.
-ghost use Rattle.std.specs.Prelude.{◌≡◌, ◌<◌, ◌≤◌, length, refl, None};
-ghost use Rattle.tap_outside.specs.Seen.{meant_store};
-
-use crate::numbers::number_after;
-use cpu_feeders::NoGate;
-use frame_view::{ByteList, Memory, MomentList};
+//! Twenty thousand made frames for four members: replayed by `make`, and captured on threads
+//! without a pool and with one.
+use crate::gate_log::GateLog;
+use crate::runs::{no_files, put_file, run_command};
+use crate::waiting_store::WaitingStore;
+use frame_view::Memory;
 use made_captures::made_sources;
 use ring_model::{Note, Notes, Offer};
-use scenarios::{outcome_on_threads, push_fields};
+use scenarios::push_fields;
+use setup_text::MemberReport;
 use std::alloc::Global;
 use std::process::Abort;
-use std::str;
 use std::sync::Wait;
 use std::test::Fail;
 use std::thread::Threads;
 use tap_engine::Outcome;
-use tap_outside::{MemSink, OutError, Sink, Store, SureSource};
+use tap_outside::{MemStore, Source, SureSource};
 
+/// Four members by hash, two CPUs, fragments put together.
 const SETUP: &str = "block_size 65536\nblock_nr 64\nframe_size 2048\nframe_nr 2048\npriv 16\n\
     cpu a.pcap\ncpu b.pcap\nmembers 4\nmode hash\n\
     key 6d5a56da255b0ec24167253d43a38fb0d0ca2bcbae7b30b477cb2da38030f20c6a42b73bbeac01fa\n\
@@ -28,92 +28,52 @@ const FIRST: &str =
 
 const TOTAL: &str = "\ntotal arrivals 20000 filtered 0 kept ";
 
-/// A store with a setup and the captures of made frames, of which the last is fetched first. It
-/// keeps what is saved, in order.
-#[derive(Drop)]
-struct MadeStore {
-    /// What gives memory for the sources.
-    alloc: Global,
-    /// How many workers the setup has.
-    workers: u32,
-    /// The captures that weren't fetched yet.
-    sources: Vec<Option<SureSource>>,
-    /// The files that were saved.
-    saved: Vec<Vec<u8>>,
+/// Where nothing is dropped: the last line, and how a member's line ends before its blocks.
+const ALL: &str = "\ntotal arrivals 20000 filtered 0 kept 20000 drops 0\n";
+
+const NONE_DROPPED: &str = " drops 0 freezes 0 blocks ";
+
+/// Reads into a buffer: how many bytes the source gave.
+fn read_some(source: &mut SureSource, into: &mut [u8]) -> usize {
+    if into.is_empty() {
+        return 0;
+    }
+    source.read(into).unwrap_or(0)
 }
 
-/// A source of these bytes.
-fn source_of(bytes: Vec<u8>) -> SureSource {
-    SureSource::new(ByteList::from_vec(bytes))
-}
-
-/// The setup with so many workers.
-fn setup_with(alloc: Global, workers: u32) -> Result<Vec<u8>, Memory> {
-    let text = format!(in alloc; "{SETUP}workers {workers}\n")?;
-    Ok(text.as_bytes().to_vec(alloc)?)
-}
-
-impl Store for MadeStore {
-    type Input = SureSource;
-
-    ghost seen = { λ _. meant_store None 0 0 };
-
-    fn fetch(&mut self, name: &[u8]) -> Result<SureSource, OutError> {
-        if name == b"conf".as_slice() {
-            return Ok(source_of(setup_with(self.alloc, self.workers)?));
+/// The bytes that a source gives, by reads of so many at most.
+fn bytes_of(alloc: Global, mut source: SureSource, most: usize) -> Result<Vec<u8>, Memory> {
+    let mut bytes = Vec::new(alloc);
+    let mut piece = vec![in alloc; 0u8; most]?;
+    for _ in 0..1_000 {
+        let count = read_some(&mut source, piece.as_mut_slice());
+        if count == 0 {
+            return Ok(bytes);
         }
-        match self.sources.pop() {
-            Some(Some(source)) => Ok(source),
-            _ => Ok(source_of(Vec::new(self.alloc))),
+        bytes.extend_from_slice(piece.as_slice().get(..count).unwrap_or(&[]))?;
+    }
+    Ok(bytes)
+}
+
+/// Puts the captures of the made frames into a store.
+fn put_captures(alloc: Global, files: &mut MemStore) -> Result<(), Memory> {
+    let mut sources = made_sources(alloc, 1, 20_000, 2)?;
+    for name in ["b.pcap", "a.pcap"] {
+        if let Some(Some(source)) = sources.pop() {
+            let bytes = bytes_of(alloc, source, 65_536)?;
+            put_file(alloc, files, name, bytes.as_slice(), 65_536)?;
         }
     }
-
-    fn close(&mut self, _input: SureSource) {}
-
-    fn save(&mut self, _name: &[u8], bytes: &[u8]) -> Result<(), OutError> {
-        let bytes = match bytes.to_vec(self.alloc) {
-            Ok(bytes) => bytes,
-            Err(_) => return Err(OutError::Memory),
-        };
-        match self.saved.push(bytes) {
-            Ok(()) => Ok(()),
-            Err(_) => Err(OutError::Memory),
-        }
-    }
-
-    ghost untold_reads = { λ store name untold. refl };
-
-    ghost untold_saves = { λ store name untold. refl };
+    Ok(())
 }
 
-/// What a capture of the made frames answers, prints and saves.
-#[derive(Drop)]
-struct Captured {
-    outcome: Outcome,
-    out: MemSink,
-    files: MadeStore,
-}
-
-/// The capture of the made frames with so many workers.
-fn capture_made<R: Threads + Wait + Sync>(
-    rt: &R,
-    alloc: Global,
-    workers: u32,
-) -> Result<Captured, Memory> {
-    let mut files = MadeStore {
-        alloc,
-        workers,
-        sources: made_sources(alloc, 1, 20_000, 2)?,
-        saved: Vec::new(alloc),
-    };
-    let mut out = MemSink::new(alloc, MomentList::new(alloc));
-    let words = ["capture", "conf"];
-    let outcome = outcome_on_threads(rt, alloc, &words, &mut files, &mut out, &NoGate)?;
-    Ok(Captured {
-        outcome,
-        out,
-        files,
-    })
+/// A store with the captures, and a setup that ends with a line.
+fn made_files(alloc: Global, more: &str) -> Result<MemStore, Memory> {
+    let mut files = no_files(alloc);
+    let setup = format!(in alloc; "{SETUP}{more}")?;
+    put_file(alloc, &mut files, "conf", setup.as_bytes(), 65_536)?;
+    put_captures(alloc, &mut files)?;
+    Ok(files)
 }
 
 /// Appends the record of an untagged offer that was kept.
@@ -139,29 +99,48 @@ fn output_of(alloc: Global, notes: &Notes) -> Result<(Vec<u8>, usize), Memory> {
     Ok((bytes, kept))
 }
 
-/// How many packets a member's notes keep; none where its file isn't that of its notes.
-fn kept_of(alloc: Global, notes: &Notes, saved: &[u8]) -> Result<Option<usize>, Memory> {
-    let (output, kept) = output_of(alloc, notes)?;
-    if output.as_slice() == saved {
-        Ok(Some(kept))
+/// How many packets a member's notes keep; none where its file isn't that of its notes, or its
+/// reader didn't walk so many.
+fn kept_of(
+    alloc: Global,
+    files: &MemStore,
+    number: usize,
+    member: &MemberReport,
+) -> Result<Option<usize>, Memory> {
+    let (output, kept) = output_of(alloc, &member.notes)?;
+    let name = format!(in alloc; "out.{number}.pcap")?;
+    let is_saved = files.file(name.as_bytes()) == Some(output.as_slice());
+    Ok(if is_saved && member.walked.len() == kept {
+        Some(kept)
     } else {
-        Ok(None)
-    }
+        None
+    })
 }
 
-/// How many packets the members' notes keep; none where a member's file isn't that of its notes.
-fn kept_and_saved(alloc: Global, captured: &Captured) -> Result<Option<usize>, Memory> {
-    let Some(report) = &captured.outcome.report else {
-        return Ok(None);
+/// How many members there are whose files are those of their notes, and how many packets they keep.
+fn kept_and_saved(
+    alloc: Global,
+    outcome: &Outcome,
+    files: &MemStore,
+) -> Result<(usize, usize), Memory> {
+    let (mut members, mut sum): (usize, usize) = (0, 0);
+    let Some(report) = &outcome.report else {
+        return Ok((0, 0));
     };
-    let mut sum: usize = 0;
-    for (member, saved) in report.members.as_slice().iter().zip(&captured.files.saved) {
-        let Some(kept) = kept_of(alloc, &member.notes, saved.as_slice())? else {
-            return Ok(None);
-        };
-        sum = sum.saturating_add(kept);
+    for (number, member) in report.members.as_slice().iter().enumerate() {
+        if let Some(kept) = kept_of(alloc, files, number, member)? {
+            members = members.saturating_add(1);
+            sum = sum.saturating_add(kept);
+        }
     }
-    Ok(Some(sum))
+    Ok((members, sum))
+}
+
+/// The number after a word of a line; 0 if the line doesn't have the word.
+fn number_after(line: &str, word: &str) -> usize {
+    let (_, rest) = line.split_once(word).unwrap_or(("", ""));
+    let number = rest.split(' ').next().unwrap_or("");
+    number.parse::<usize>().unwrap_or(0)
 }
 
 /// The sum of the numbers after a word, over the lines of the members.
@@ -175,54 +154,77 @@ fn sum_of(printed: &str, word: &str) -> usize {
     sum
 }
 
-/// Whether the lines begin and end as they must, and the members' packets and drops are all frames.
-fn is_told(printed: &str, kept: usize, drops: usize) -> bool {
+/// Whether the lines begin and end as they must, and the members' packets are all frames and their
+/// drops these; and of `make`, that nothing is dropped.
+fn is_told(command: &str, printed: &str, drops: usize) -> bool {
     let is_whole = printed.starts_with(FIRST) && printed.contains(TOTAL);
-    let all = sum_of(printed, " packets ") == kept.saturating_add(drops);
-    is_whole && all && sum_of(printed, " drops ") == drops
+    let all = sum_of(printed, " packets ") == 20_000 && sum_of(printed, " drops ") == drops;
+    let lossless = printed.ends_with(ALL) && printed.matches(NONE_DROPPED).count() == 4;
+    is_whole && all && (lossless || command != "make")
 }
 
-/// What is compared of a capture: whether its lines are as they must be, how many frames were kept
-/// or dropped, how many files were saved, and whether they hold what the notes keep.
-type Seen = (bool, usize, usize, bool);
+/// What is compared of a run: its status, whether its lines are as they must be, how many frames
+/// were kept or dropped, of how many members the file is that of their notes, and whether these
+/// keep what the last line says.
+type Seen = (u8, bool, usize, usize, bool);
 
-/// What is seen of a capture.
-fn seen_of(alloc: Global, captured: &Captured) -> Result<Seen, Memory> {
-    let printed = str::from_utf8(captured.out.written()).unwrap_or("no text");
+/// What is seen of a run.
+fn seen_of(
+    alloc: Global,
+    command: &str,
+    (outcome, printed): (&Outcome, &str),
+    files: &MemStore,
+) -> Result<Seen, Memory> {
     let last = printed.lines().last().unwrap_or("");
     let (kept, drops) = (number_after(last, " kept "), number_after(last, " drops "));
-    let saved = kept_and_saved(alloc, captured)?;
+    let (members, sum) = kept_and_saved(alloc, outcome, files)?;
     Ok((
-        is_told(printed, kept, drops),
+        outcome.status.number(),
+        is_told(command, printed, drops),
         kept.saturating_add(drops),
-        captured.files.saved.len(),
-        saved == Some(kept),
+        members,
+        sum == kept,
     ))
 }
 
-/// Captures the made frames with so many workers.
-fn run_made<R: Threads + Wait + Sync>(rt: &R, alloc: Global, workers: u32) -> Result<Seen, Memory> {
-    let captured = capture_made(rt, alloc, workers)?;
-    seen_of(alloc, &captured)
+/// Carries out a command over the made frames.
+fn run_made<R: Threads + Wait + Sync>(
+    rt: &R,
+    alloc: Global,
+    command: &str,
+    more: &str,
+) -> Result<Seen, Memory> {
+    let mut store = WaitingStore {
+        files: made_files(alloc, more)?,
+        gate: None,
+    };
+    let (outcome, printed) = run_command(rt, alloc, command, &mut store, &GateLog::new(0))?;
+    seen_of(alloc, command, (&outcome, printed.as_str()), &store.files)
 }
 
-/// A capture of the made frames with so many workers is as it must be.
+/// A command over the made frames comes to what it must.
 fn check_made<R: Threads + Wait + Abort + Sync>(
     rt: &R,
     alloc: Global,
-    workers: u32,
+    command: &str,
+    more: &str,
 ) -> Result<(), Fail> {
-    let seen = run_made(rt, alloc, workers)?;
-    assert_eq!(rt; seen, (true, 20_000, 4, true));
+    let seen = run_made(rt, alloc, command, more)?;
+    assert_eq!(rt; seen, (0, true, 20_000, 4, true));
     Ok(())
 }
 
 #[test]
+fn made_frames_are_spread_and_none_is_dropped(rt: HostRuntime) -> Result<(), Fail> {
+    check_made(&rt, rt.alloc(), "make", "make 1 20000\n")
+}
+
+#[test]
 fn readers_save_what_was_kept(rt: HostRuntime) -> Result<(), Fail> {
-    check_made(&rt, rt.alloc(), 0)
+    check_made(&rt, rt.alloc(), "capture", "")
 }
 
 #[test]
 fn a_pool_saves_what_was_kept(rt: HostRuntime) -> Result<(), Fail> {
-    check_made(&rt, rt.alloc(), 8)
+    check_made(&rt, rt.alloc(), "capture", "workers 8\n")
 }

@@ -1,138 +1,146 @@
-//! Every point that the threads of a run come to: which, how often, and with which numbers.
-use cpu_feeders::{Gate, Point};
+//! Every point that the threads of a run reach: which, how often, and with which numbers.
+use crate::gate_log::{GateLog, Points};
+use crate::runs::{Case, run_case};
 use frame_view::Memory;
-use scenarios::{Scenario, answered, differences_at};
+use scenarios::Answer;
 use std::alloc::Global;
+use std::process::Abort;
 use std::sync::Wait;
-use std::sync::atomic::{AtomicU64, Ordering};
 use std::test::Fail;
 use std::thread::Threads;
 
-/// Puts a digit after those of a word. One thread alone does so for a word.
-fn put_digit(word: &AtomicU64, digit: u64) {
-    let digits = word.load(Ordering::SeqCst);
-    word.store(
-        digits.saturating_mul(10).saturating_add(digit),
-        Ordering::SeqCst,
-    );
+/// A run, and what comes of it.
+struct Row {
+    name: &'static str,
+    case: Case,
+    /// The last line of the setup.
+    more: &'static str,
+    /// The sum of the bits of the workers that are waited for.
+    all: u64,
+    /// The status, the report without the letters of moments, which may stand anywhere, and the
+    /// lines.
+    told: &'static str,
+    /// How many letters of moments the report has.
+    moments: usize,
+    points: Points,
 }
 
-/// A gate that records each point of a run over two CPUs and two members, by the thread that comes
-/// to it: one decimal digit for each, in order. It holds nobody.
-#[derive(Drop)]
-struct PointLog {
-    /// The frames of each CPU that were to be delivered, from 1.
-    delivered: [AtomicU64; 2],
-    /// The moments that were to be told.
-    told: AtomicU64,
-    /// How many blocks each member had released, at each release.
-    released: [AtomicU64; 2],
-    /// How many other points there were.
-    others: AtomicU64,
-}
-
-/// The digits of each CPU, of the timer and of each member, and the number of other points.
-type Points = ([u64; 2], u64, [u64; 2], u64);
-
-/// What two words hold.
-fn digits_of([first, second]: &[AtomicU64; 2]) -> [u64; 2] {
-    [first.load(Ordering::SeqCst), second.load(Ordering::SeqCst)]
-}
-
-impl PointLog {
-    /// A gate that nobody has come to.
-    fn new() -> PointLog {
-        PointLog {
-            delivered: [AtomicU64::new(0), AtomicU64::new(0)],
-            told: AtomicU64::new(0),
-            released: [AtomicU64::new(0), AtomicU64::new(0)],
-            others: AtomicU64::new(0),
-        }
-    }
-
-    /// What was recorded.
-    fn points(&self) -> Points {
-        (
-            digits_of(&self.delivered),
-            self.told.load(Ordering::SeqCst),
-            digits_of(&self.released),
-            self.others.load(Ordering::SeqCst),
-        )
-    }
-
-    /// Records the digit of a thread, if it is one of the two.
-    fn put(&self, words: &[AtomicU64; 2], thread: u32, digit: u64) {
-        match words.get(thread as usize) {
-            Some(word) => put_digit(word, digit),
-            None => self.put_other(),
-        }
-    }
-
-    /// Records another point.
-    fn put_other(&self) {
-        self.others.fetch_add(1, Ordering::SeqCst);
-    }
-}
-
-impl Gate for PointLog {
-    fn at(&self, point: Point) {
-        match point {
-            Point::Deliver { cpu, index } => self.put(&self.delivered, cpu, u64::from(index) + 1),
-            Point::Ticking { ms } => put_digit(&self.told, ms),
-            Point::Released { member, blocks } => self.put(&self.released, member, blocks),
-            Point::Decoding { .. } => self.put_other(),
-        }
-    }
-}
+/// Three frames: a capture of 252 bytes, of which the third read waits. Each frame is delivered
+/// once, and no block but the last one is released.
+static EARLY: [Row; 1] = [Row {
+    name: "a source that waits",
+    case: Case {
+        setup: "block_size 4096\nblock_nr 2\nframe_size 2048\nframe_nr 4\ncpu a.pcap\n",
+        frames: [3, 0],
+        length: 60,
+        waits: true,
+    },
+    more: "",
+    all: 0,
+    told: "0 Fine\nk0.k0.k0. 252\nkkk. 3 1\n\
+        cpu 0 frames 3 arrivals 3 end ok\n\
+        member 0 packets 3 drops 0 freezes 0 blocks 1\n\
+        total arrivals 3 filtered 0 kept 3 drops 0\n",
+    moments: 0,
+    points: ([123, 0], 0, [0, 0], [0, 0], 0, 0, 0),
+}];
 
 /// Two CPUs with frames that fill a block, each with a member that has a block for each of them,
 /// and three moments before the time-out of 8 milliseconds.
-const TWO_CPUS: &str = "four frames and three, for two members
-  run    capture conf
-  conf   block_size 4096 | block_nr 4 | frame_size 2048 | frame_nr 8 | cpu a.pcap
-  with   cpu b.pcap | members 2 | ticks t.txt
-  ticks  1 | 3 | 6
-  pcap   a.pcap 3966x4
-  pcap   b.pcap 3966x3
-  > cpu 0 frames 4 arrivals 4 end ok
-  > cpu 1 frames 3 arrivals 3 end ok
-  > member 0 packets 4 drops 0 freezes 0 blocks 4
-  > member 1 packets 3 drops 0 freezes 0 blocks 3
-  > total arrivals 7 filtered 0 kept 7 drops 0
-  cpu    0 k0.k0.k0.k0.
-  cpu    1 k1.k1.k1.
-  member 0 knnn. kept 0-3 blocks 1:4096x4
-  member 1 knn. kept 1.0-2 blocks 1:4096x3
-";
+const TWO_CPUS: Case = Case {
+    setup: "block_size 4096\nblock_nr 4\nframe_size 2048\nframe_nr 8\ncpu a.pcap\ncpu b.pcap\n\
+        members 2\nticks t.txt\n",
+    frames: [4, 3],
+    length: 3_966,
+    waits: false,
+};
 
-/// Four frames of CPU 0 and three of CPU 1, in order; the three moments; the blocks that were
-/// released while threads ran, which are all but a member's last; and no other point.
-const WANTED: Points = ([1234, 123], 136, [123, 12], 0);
+/// What comes of it.
+const TOLD: &str = "0 Fine\nk0.k0.k0.k0. 15952\nk1.k1.k1. 11970\nknnn. 4 4\nknn. 3 3\n\
+    cpu 0 frames 4 arrivals 4 end ok\n\
+    cpu 1 frames 3 arrivals 3 end ok\n\
+    member 0 packets 4 drops 0 freezes 0 blocks 4\n\
+    member 1 packets 3 drops 0 freezes 0 blocks 3\n\
+    total arrivals 7 filtered 0 kept 7 drops 0\n";
 
-/// What differs of the run, and its points.
-fn points_of<R: Threads + Wait + Sync>(rt: &R, alloc: Global) -> Result<(String, Points), Memory> {
-    let gate = PointLog::new();
-    let wrong = differences_at(rt, alloc, &Scenario::new(TWO_CPUS, TWO_CPUS), &gate)?;
-    Ok((wrong, gate.points()))
+/// Four frames of CPU 0 and three of CPU 1, in order; the three moments, each of which is told to
+/// two members; the blocks that were released while threads ran, which are all but a member's last;
+/// each block that a pool decodes, once; each worker of the pool; no other point, and no thread
+/// that gave up.
+static POOLS: [Row; 3] = [
+    Row {
+        name: "no pool",
+        case: TWO_CPUS,
+        more: "",
+        all: 0,
+        told: TOLD,
+        moments: 6,
+        points: ([1_234, 123], 136, [123, 12], [0, 0], 0, 0, 0),
+    },
+    Row {
+        name: "a pool of one worker",
+        case: TWO_CPUS,
+        more: "workers 1\n",
+        all: 1,
+        told: TOLD,
+        moments: 6,
+        points: ([1_234, 123], 136, [123, 12], [1_111, 111], 1, 0, 0),
+    },
+    Row {
+        name: "a pool of two workers",
+        case: TWO_CPUS,
+        more: "workers 2\n",
+        all: 3,
+        told: TOLD,
+        moments: 6,
+        points: ([1_234, 123], 136, [123, 12], [1_111, 111], 3, 0, 0),
+    },
+];
+
+/// The status, the report without the letters of moments, and the lines; and how many such letters
+/// the report has.
+fn told(alloc: Global, answer: &Answer, printed: &str) -> Result<(String, usize), Memory> {
+    let report = answer.report.as_str();
+    let plain = report.replace(alloc, "t", "")?;
+    let status = answer.status.as_str();
+    let told = format!(in alloc; "{status}\n{}{printed}", plain.as_str())?;
+    Ok((told, report.matches("t").count()))
+}
+
+/// Carries out a row's run: what comes of it.
+fn run_row<R: Threads + Wait + Sync>(
+    rt: &R,
+    alloc: Global,
+    row: &Row,
+) -> Result<(String, usize, Points), Memory> {
+    let gate = GateLog::new(row.all);
+    let (answer, printed) = run_case(rt, alloc, &row.case, row.more, &gate)?;
+    let (told, moments) = told(alloc, &answer, printed.as_str())?;
+    Ok((told, moments, gate.points()))
+}
+
+/// Holds each row's run to the row.
+fn check_rows<R: Threads + Wait + Abort + Sync>(
+    rt: &R,
+    alloc: Global,
+    rows: &[Row],
+) -> Result<(), Fail> {
+    for row in rows {
+        let (told, moments, points) = run_row(rt, alloc, row)?;
+        assert_eq!(rt;
+            (row.name, told.as_str(), moments, points),
+            (row.name, row.told, row.moments, row.points)
+        );
+    }
+    Ok(())
+}
+
+#[test]
+fn a_frame_is_delivered_before_the_end(rt: HostRuntime) -> Result<(), Fail> {
+    check_rows(&rt, rt.alloc(), &EARLY)
 }
 
 #[test]
 fn each_point_comes_once_with_its_numbers(rt: HostRuntime) -> Result<(), Fail> {
-    let (wrong, points) = points_of(&rt, rt.alloc())?;
-    assert_eq!(rt; (wrong.as_str(), points), ("", WANTED));
-    Ok(())
-}
-
-/// How often the report of the run has the letter of a moment.
-fn moments_told<R: Threads + Wait + Sync>(rt: &R, alloc: Global) -> Result<usize, Memory> {
-    let (answer, _) = answered(rt, alloc, &Scenario::new(TWO_CPUS, TWO_CPUS))?;
-    Ok(answer.report.as_str().matches("t").count())
-}
-
-/// Three moments are told to two members.
-#[test]
-fn each_moment_is_told_once(rt: HostRuntime) -> Result<(), Fail> {
-    let told = moments_told(&rt, rt.alloc())?;
-    assert_eq!(rt; told, 6);
-    Ok(())
+    check_rows(&rt, rt.alloc(), &POOLS)
 }

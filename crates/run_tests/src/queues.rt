@@ -1,5 +1,5 @@
 //! What passes hand, what they fetch, and what is left.
-ghost use Rattle.std.specs.Prelude.{◌≡◌, ◌<◌, ◌^◌, IfOk};
+ghost use Rattle.std.specs.Prelude.{◌≡◌, IfOk};
 ghost use Rattle.run_tests.specs.Passes.{HasDoneFew};
 ghost use Rattle.work_queue.specs.Passes.{IsPassOf};
 
@@ -24,6 +24,9 @@ struct Opened {
     third: WorkPass,
 }
 
+/// The members and the numbers of works.
+type Names = Vec<(u32, u64)>;
+
 /// An empty queue with three passes that have done nothing.
 fn open(alloc: Global) -> Result<Opened, Memory>
     ensures passes { IfOk result (λ opened. opened.queue.passes ≡ 3) }
@@ -43,21 +46,20 @@ fn open(alloc: Global) -> Result<Opened, Memory>
     })
 }
 
-/// Hands so many works of a member in, with the numbers from 1.
+/// Hands in this number of works of a member, numbered from 1.
 fn hand_all<R: Wait>(
     rt: &R,
     alloc: Global,
     queue: &WorkQueue,
     pass: &mut WorkPass,
     member: u32,
-    works: u64,
+    works: u32,
 ) -> Result<(), Fail>
     requires fresh { HasDoneFew 0 queue.now pass.old }
-    requires few { works < 2 ^ 32 }
     ensures own { IsPassOf queue.now pass.new }
 {
     for number in 0..works {
-        let work = work(alloc, member, number + 1)?;
+        let work = work(alloc, member, u64::from(number) + 1)?;
         if queue.hand(rt, pass, work).is_err() {
             return Err(Memory.into());
         }
@@ -65,128 +67,109 @@ fn hand_all<R: Wait>(
     Ok(())
 }
 
-/// The member and the number of a work.
-fn name_of(work: &Work) -> (u32, u64) {
-    (work.member, work.number)
+/// Appends the member and the number of a work.
+fn push_name(names: &mut Names, work: &Work) -> Result<(), Memory> {
+    Ok(names.push((work.member, work.number))?)
 }
 
-/// Fetches at most so many works: their members and numbers.
+/// Fetches at most so many works, and appends their names.
 fn fetch_some<R: Wait>(
     rt: &R,
-    alloc: Global,
     queue: &WorkQueue,
     pass: &mut WorkPass,
-    most: u64,
-) -> Result<Vec<(u32, u64)>, Memory>
+    most: u32,
+    names: &mut Names,
+) -> Result<(), Memory>
     requires fresh { HasDoneFew 0 queue.now pass.old }
-    requires few { most < 2 ^ 32 }
     ensures own { IsPassOf queue.now pass.new }
 {
-    let mut names = Vec::new(alloc);
     for _ in 0..most {
         let Some(work) = queue.fetch(rt, pass) else {
-            return Ok(names);
+            return Ok(());
         };
-        names.push(name_of(&work))?;
+        push_name(names, &work)?;
     }
-    Ok(names)
+    Ok(())
 }
 
-/// The members and the numbers of works.
-fn names_of(alloc: Global, works: Vec<Work>) -> Result<Vec<(u32, u64)>, Memory> {
-    let mut names = Vec::new(alloc);
-    for work in &works {
-        names.push(name_of(work))?;
-    }
-    Ok(names)
-}
-
-/// Closes a queue: the members and the numbers of the works that are left.
-fn close<R: Wait>(rt: &R, alloc: Global, opened: Opened) -> Result<Vec<(u32, u64)>, Memory>
+/// Closes a queue, and appends the names of the works that are left.
+fn close<R: Wait>(rt: &R, alloc: Global, opened: Opened, names: &mut Names) -> Result<(), Memory>
     requires passes { opened.queue.passes ≡ 3 }
     requires first { IsPassOf opened.queue opened.first }
     requires second { IsPassOf opened.queue opened.second }
     requires third { IsPassOf opened.queue opened.third }
 {
-    let Opened {
-        queue,
-        first,
-        second,
-        third,
-    } = opened;
-    let passes = vec![in alloc; first, second, third]?;
-    names_of(alloc, queue.close(rt, alloc, passes)?)
+    let passes = vec![in alloc; opened.first, opened.second, opened.third]?;
+    for work in &opened.queue.close(rt, alloc, passes)? {
+        push_name(names, work)?;
+    }
+    Ok(())
 }
 
-/// Hands so many works of two members in, one member after the other, and fetches at most so many:
-/// what was fetched, and what was left.
+/// Hands so many works of each of two members in, one member after the other, and fetches at most
+/// so many: how many were fetched, and the names of these and then of those that were left.
 fn hand_and_fetch<R: Wait>(
     rt: &R,
     alloc: Global,
-    works: (u64, u64),
-    most: u64,
-) -> Result<(Vec<(u32, u64)>, Vec<(u32, u64)>), Fail>
-    requires first { works.0 < 2 ^ 32 }
-    requires second { works.1 < 2 ^ 32 }
-    requires most { most < 2 ^ 32 }
-{
+    (first, second): (u32, u32),
+    most: u32,
+) -> Result<(usize, Names), Fail> {
+    let mut names = Vec::new(alloc);
     let mut opened = open(alloc)?;
-    hand_all(rt, alloc, &opened.queue, &mut opened.first, 0, works.0)?;
-    hand_all(rt, alloc, &opened.queue, &mut opened.second, 1, works.1)?;
-    let fetched = fetch_some(rt, alloc, &opened.queue, &mut opened.third, most)?;
-    let left = close(rt, alloc, opened)?;
-    Ok((fetched, left))
+    hand_all(rt, alloc, &opened.queue, &mut opened.first, 0, first)?;
+    hand_all(rt, alloc, &opened.queue, &mut opened.second, 1, second)?;
+    fetch_some(rt, &opened.queue, &mut opened.third, most, &mut names)?;
+    let fetched = names.len();
+    close(rt, alloc, opened, &mut names)?;
+    Ok((fetched, names))
 }
 
-#[test]
-fn works_are_fetched_in_order(rt: HostRuntime) -> Result<(), Fail> {
-    let (fetched, left) = hand_and_fetch(&rt, rt.alloc(), (2, 1), 4)?;
-    assert_eq!(rt;
-        (fetched.as_slice(), left.len()),
-        ([(0, 1), (0, 2), (1, 1)].as_slice(), 0)
-    );
+/// Appends the names of so many works of a member, in order.
+fn push_names(names: &mut Names, member: u32, works: u32) -> Result<(), Memory> {
+    for number in 0..works {
+        names.push((member, u64::from(number) + 1))?;
+    }
     Ok(())
 }
 
-/// The names of so many works of the first member, in order.
-fn names(alloc: Global, works: u64) -> Result<Vec<(u32, u64)>, Memory> {
+/// The names of so many works of each of two members, in order.
+fn names_of(alloc: Global, (first, second): (u32, u32)) -> Result<Names, Memory> {
     let mut names = Vec::new(alloc);
-    for number in 1..=works {
-        names.push((0, number))?;
-    }
+    push_names(&mut names, 0, first)?;
+    push_names(&mut names, 1, second)?;
     Ok(names)
 }
 
-/// Of so many works at most so many are fetched, and the others are left, in order.
-fn check_left<R: Wait + Abort>(rt: &R, alloc: Global, works: u32, most: u32) -> Result<(), Fail> {
-    let (works, most) = (u64::from(works), u64::from(most));
-    let (mut all, left) = hand_and_fetch(rt, alloc, (works, 0), most)?;
-    let fetched = all.len() as u64;
-    all.extend_from_slice(left.as_slice())?;
-    let names = names(alloc, works)?;
-    assert_eq!(rt;
-        (works, fetched, all.as_slice()),
-        (works, most.min(works), names.as_slice())
-    );
+/// How many works of each member there are, how many are fetched at most, and how many are. A
+/// segment of the queue has room for 31 works.
+type Row = ((u32, u32), u32, usize);
+
+static ROWS: [Row; 9] = [
+    ((2, 1), 4, 3),
+    ((0, 0), 1, 0),
+    ((1, 0), 0, 0),
+    ((31, 0), 30, 30),
+    ((32, 0), 31, 31),
+    ((33, 0), 32, 32),
+    ((100, 0), 40, 40),
+    ((100, 0), 100, 100),
+    ((40, 60), 70, 70),
+];
+
+/// Works are fetched and left in the order of a row.
+fn check_rows<R: Wait + Abort>(rt: &R, alloc: Global, rows: &[Row]) -> Result<(), Fail> {
+    for (works, most, wanted) in rows {
+        let (fetched, names) = hand_and_fetch(rt, alloc, *works, *most)?;
+        let all = names_of(alloc, *works)?;
+        assert_eq!(rt;
+            (*works, *most, fetched, names.as_slice()),
+            (*works, *most, *wanted, all.as_slice())
+        );
+    }
     Ok(())
 }
 
-/// How many works there are, and how many are fetched at most. A segment of the queue has room for
-/// 31 works.
-static LEFT: [(u32, u32); 7] = [
-    (0, 1),
-    (1, 0),
-    (31, 30),
-    (32, 31),
-    (33, 32),
-    (100, 40),
-    (100, 100),
-];
-
 #[test]
-fn what_nobody_fetched_is_left(rt: HostRuntime) -> Result<(), Fail> {
-    for (works, most) in &LEFT {
-        check_left(&rt, rt.alloc(), *works, *most)?;
-    }
-    Ok(())
+fn works_are_fetched_and_left_in_order(rt: HostRuntime) -> Result<(), Fail> {
+    check_rows(&rt, rt.alloc(), &ROWS)
 }

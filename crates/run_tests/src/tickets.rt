@@ -1,27 +1,28 @@
 //! Eight CPUs, each with five frames that are dealt out to eight members by turns.
+use crate::gate_log::GateLog;
+use crate::runs::{Case, run_case};
 use frame_view::Memory;
-use scenarios::{Answer, Scenario, answered};
 use std::alloc::Global;
 use std::sync::Wait;
 use std::test::Fail;
 use std::thread::Threads;
 
 /// Five frames of each CPU, dealt out by turns: 40 tickets, of which a member has every eighth.
-const DEALT: &str = "every ticket
-  run    capture conf
-  conf   block_size 4096 | block_nr 2 | frame_size 2048 | frame_nr 4 | members 8 | cpu a.pcap x8
-  with   mode lb
-  pcap   a.pcap 60x5
-";
+const DEALT: Case = Case {
+    setup: "block_size 4096\nblock_nr 2\nframe_size 2048\nframe_nr 4\nmembers 8\nmode lb\n\
+        cpu a.pcap\ncpu a.pcap\ncpu a.pcap\ncpu a.pcap\n\
+        cpu a.pcap\ncpu a.pcap\ncpu a.pcap\ncpu a.pcap\n",
+    frames: [5, 0],
+    length: 60,
+    waits: false,
+};
 
 /// How often a report has an arrival of these words.
 fn count_of(report: &str, arrival: &str) -> usize {
     let mut count: usize = 0;
-    for line in report.lines() {
-        for part in line.split('.') {
-            if part == arrival {
-                count = count.saturating_add(1);
-            }
+    for part in report.split(['.', '\n']) {
+        if part == arrival {
+            count = count.saturating_add(1);
         }
     }
     count
@@ -43,18 +44,14 @@ fn drawn_once(alloc: Global, report: &str) -> Result<usize, Memory> {
 /// and whether the last line has all frames.
 type Seen = (usize, usize, bool);
 
-/// What is seen of a run.
-fn seen_of(alloc: Global, answer: &Answer, lines: &str) -> Result<Seen, Memory> {
+/// Deals the frames out.
+fn dealt<R: Threads + Wait + Sync>(rt: &R, alloc: Global) -> Result<Seen, Memory> {
+    let (answer, printed) = run_case(rt, alloc, &DEALT, "", &GateLog::new(0))?;
     let five = " packets 5 drops 0 freezes 0 blocks 1\n";
     let last = "\ntotal arrivals 40 filtered 0 kept 40 drops 0\n";
     let once = drawn_once(alloc, answer.report.as_str())?;
+    let lines = printed.as_str();
     Ok((once, lines.matches(five).count(), lines.ends_with(last)))
-}
-
-/// Deals the frames out.
-fn dealt<R: Threads + Wait + Sync>(rt: &R, alloc: Global) -> Result<Seen, Memory> {
-    let (answer, printed) = answered(rt, alloc, &Scenario::new(DEALT, DEALT))?;
-    seen_of(alloc, &answer, printed.as_str())
 }
 
 #[test]

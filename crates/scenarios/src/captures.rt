@@ -1,41 +1,46 @@
-//! The captures and the other files that a scenario gives, and files that are made of their frames.
-use crate::lines::{Scenario, named_value, number, said_of};
+//! The captures and the other files that a scenario gives, and files made from their frames.
+use crate::cases::Case;
+use crate::lines::{number, parted};
 use frame_view::Memory;
 use std::alloc::Global;
 
 /// The most that a word is repeated.
 const MOST: usize = 2_000_000;
 
-/// A word that may end with `xN`: what comes before, and how often it stands.
-pub(crate) fn repeated(word: &str) -> (&str, usize) {
+/// A word that may end with `xN`: what comes before, and how often it is repeated.
+fn repeated(word: &str) -> (&str, usize) {
     match word.split_once('x') {
         Some((front, times)) => (front, number(times).min(MOST)),
         None => (word, 1),
     }
 }
 
-/// The bytes of hexadecimal digits; none where they aren't such.
-fn decoded(alloc: Global, digits: &str) -> Result<Vec<u8>, Memory> {
-    match hex::decode(alloc, digits) {
-        Ok(bytes) => Ok(bytes),
-        Err(_) => Ok(Vec::new(alloc)),
-    }
+/// How many words there are, each as often as it stands.
+pub(crate) fn count_of(words: &str) -> usize {
+    let times = words.split_whitespace().map(|word| repeated(word).1);
+    times.fold(0, |sum: usize, more| sum.saturating_add(more))
 }
 
-/// Appends the bytes of digits that may be repeated.
+/// The word of an index, each counted as often as it stands; empty where there aren't so many.
+pub(crate) fn word_at(words: &str, index: usize) -> &str {
+    let mut left = index;
+    for word in words.split_whitespace() {
+        let (front, times) = repeated(word);
+        if left < times {
+            return front;
+        }
+        left -= times;
+    }
+    ""
+}
+
+/// Appends the bytes of digits that may be repeated; none where they aren't hexadecimal.
 fn push_digits(alloc: Global, bytes: &mut Vec<u8>, word: &str) -> Result<(), Memory> {
     let (digits, times) = repeated(word);
-    let part = decoded(alloc, digits)?;
-    for _ in 0..times {
-        bytes.extend_from_slice(part.as_slice())?;
-    }
-    Ok(())
-}
-
-/// Appends the bytes of words of digits.
-pub(crate) fn push_bytes(alloc: Global, bytes: &mut Vec<u8>, words: &str) -> Result<(), Memory> {
-    for word in words.split_whitespace() {
-        push_digits(alloc, bytes, word)?;
+    if let Ok(part) = hex::decode(alloc, digits) {
+        for _ in 0..times {
+            bytes.extend_from_slice(part.as_slice())?;
+        }
     }
     Ok(())
 }
@@ -43,7 +48,9 @@ pub(crate) fn push_bytes(alloc: Global, bytes: &mut Vec<u8>, words: &str) -> Res
 /// The bytes of words of digits.
 pub(crate) fn bytes_of(alloc: Global, words: &str) -> Result<Vec<u8>, Memory> {
     let mut bytes = Vec::new(alloc);
-    push_bytes(alloc, &mut bytes, words)?;
+    for word in words.split_whitespace() {
+        push_digits(alloc, &mut bytes, word)?;
+    }
     Ok(bytes)
 }
 
@@ -55,157 +62,8 @@ pub fn push_fields(bytes: &mut Vec<u8>, fields: &[u32]) -> Result<(), Memory> {
     Ok(())
 }
 
-/// The frame of a number and of a word: its length, after the name of its first bytes if they have
-/// one. Each byte after the first ones is the frame's number.
-fn frame_of(
-    alloc: Global,
-    scenario: &Scenario<'_>,
-    index: usize,
-    word: &str,
-) -> Result<Vec<u8>, Memory> {
-    let (name, length) = word.split_once(':').unwrap_or(("", word));
-    let mut bytes = bytes_of(alloc, scenario.value_named("bytes", name))?;
-    let rest = number(length).min(262_144).saturating_sub(bytes.len());
-    let filler = vec![in alloc; u8::try_from(index).unwrap_or(0); rest]?;
-    bytes.extend_from_slice(filler.as_slice())?;
-    Ok(bytes)
-}
-
-/// Appends a frame with the header of its record.
-fn push_record(bytes: &mut Vec<u8>, time: [u32; 2], frame: &[u8], wire: u32) -> Result<(), Memory> {
-    let [sec, part] = time;
-    let captured = u32::try_from(frame.len()).unwrap_or(0);
-    push_fields(bytes, &[sec, part, captured, wire])?;
-    Ok(bytes.extend_from_slice(frame)?)
-}
-
-/// Appends the frames of a word, from an index on; gives the index after them.
-fn push_frames(
-    alloc: Global,
-    scenario: &Scenario<'_>,
-    bytes: &mut Vec<u8>,
-    start: usize,
-    word: &str,
-) -> Result<usize, Memory> {
-    let (word, times) = repeated(word);
-    let mut index = start;
-    for _ in 0..times {
-        let frame = frame_of(alloc, scenario, index, word)?;
-        let wire = u32::try_from(frame.len()).unwrap_or(0);
-        push_record(bytes, [1, 2], frame.as_slice(), wire)?;
-        index = index.saturating_add(1);
-    }
-    Ok(index)
-}
-
-/// Appends all frames of a capture's words.
-fn push_all_frames(
-    alloc: Global,
-    scenario: &Scenario<'_>,
-    bytes: &mut Vec<u8>,
-    words: &str,
-) -> Result<(), Memory> {
-    let mut index: usize = 0;
-    for word in words.split_whitespace() {
-        index = push_frames(alloc, scenario, bytes, index, word)?;
-    }
-    Ok(())
-}
-
-/// As many bytes of a file as the scenario says.
-fn cut(scenario: &Scenario<'_>, name: &str, bytes: &mut Vec<u8>) {
-    bytes.truncate(number(scenario.value_named("cut", name)));
-}
-
-/// The bytes of the capture of a name and its frames, in microseconds and little-endian order, with
-/// its tail and its cut.
-pub(crate) fn capture(
-    alloc: Global,
-    scenario: &Scenario<'_>,
-    value: &str,
-) -> Result<Vec<u8>, Memory> {
-    let (name, words) = value.split_once(' ').unwrap_or((value, ""));
-    let mut bytes = Vec::new(alloc);
-    push_fields(&mut bytes, &[0xa1b2_c3d4, 0x0004_0002, 0, 0, 0xffff, 1])?;
-    push_all_frames(alloc, scenario, &mut bytes, words)?;
-    push_bytes(alloc, &mut bytes, scenario.value_named("tail", name))?;
-    cut(scenario, name, &mut bytes);
-    Ok(bytes)
-}
-
-/// The bytes of the file of a name that the scenario gives by its bytes, with its cut.
-pub(crate) fn raw_file(
-    alloc: Global,
-    scenario: &Scenario<'_>,
-    name: &str,
-) -> Result<Vec<u8>, Memory> {
-    let mut bytes = Vec::new(alloc);
-    for line in scenario.lines("raw").lines() {
-        let words = named_value(line, "raw", name).unwrap_or("");
-        push_bytes(alloc, &mut bytes, words)?;
-    }
-    cut(scenario, name, &mut bytes);
-    Ok(bytes)
-}
-
-/// The word of the frame of an index in a capture's words; empty where it hasn't so many.
-fn word_at(words: &str, index: usize) -> &str {
-    let mut left = index;
-    for word in words.split_whitespace() {
-        let (frame, times) = repeated(word);
-        if left < times {
-            return frame;
-        }
-        left -= times;
-    }
-    ""
-}
-
-/// The name and the words of the capture of a number, in the order of a scenario.
-pub(crate) fn nth_capture<'a>(scenario: &Scenario<'a>, capture: usize) -> &'a str {
-    let mut left = capture;
-    for line in scenario.lines("pcap").lines() {
-        if let Some(value) = said_of(line, "pcap") {
-            if left == 0 {
-                return value;
-            }
-            left -= 1;
-        }
-    }
-    ""
-}
-
-/// The words of the frames that a saved frame is one of: those of the capture of a number, or where
-/// none is said those that the scenario says, or else those of the first capture.
-fn words_of<'a>(scenario: &Scenario<'a>, capture: &str) -> &'a str {
-    let frames = scenario.value("frames");
-    if capture.is_empty() && !frames.is_empty() {
-        return frames;
-    }
-    let number = capture.parse::<usize>().unwrap_or(0);
-    let (_, words) = nth_capture(scenario, number)
-        .split_once(' ')
-        .unwrap_or(("", ""));
-    words
-}
-
-/// Appends the record of a frame of these words that was kept: at an index, and so many of its
-/// bytes.
-fn push_kept(
-    alloc: Global,
-    scenario: &Scenario<'_>,
-    bytes: &mut Vec<u8>,
-    (words, index, most): (&str, usize, usize),
-    time: [u32; 2],
-) -> Result<(), Memory> {
-    let frame = frame_of(alloc, scenario, index, word_at(words, index))?;
-    let wire = u32::try_from(frame.len()).unwrap_or(0);
-    let front = frame.as_slice().get(..most).unwrap_or(frame.as_slice());
-    push_record(bytes, time, front, wire)
-}
-
-/// The capture, the first and the last index, and the most bytes of a word as `1.3-5/96`; no
-/// capture where none is said.
+/// The capture, the first and the last index, and the most bytes of a word such as `1.3-5/96`; no
+/// capture if none is given.
 pub(crate) fn kept_of(word: &str) -> (&str, usize, usize, usize) {
     let (frames, most) = word.split_once('/').unwrap_or((word, ""));
     let (capture, indices) = frames.split_once('.').unwrap_or(("", frames));
@@ -213,33 +71,103 @@ pub(crate) fn kept_of(word: &str) -> (&str, usize, usize, usize) {
     (capture, number(first), number(last), number(most))
 }
 
-/// Appends the records of the frames that a word says.
-fn push_word(
-    alloc: Global,
-    scenario: &Scenario<'_>,
-    bytes: &mut Vec<u8>,
-    word: &str,
-    time: [u32; 2],
-) -> Result<(), Memory> {
-    let (capture, first, last, most) = kept_of(word);
-    let words = words_of(scenario, capture);
-    for index in first..last.min(MOST).saturating_add(1) {
-        push_kept(alloc, scenario, bytes, (words, index, most), time)?;
+impl<'a> Case<'a> {
+    /// The frame of an index in a capture's words: its length, after the name of its first bytes if
+    /// they have one. Each byte after the first ones is the frame's index.
+    fn frame_at(&self, words: &str, index: usize) -> Result<Vec<u8>, Memory> {
+        let word = word_at(words, index);
+        let (name, length) = word.split_once(':').unwrap_or(("", word));
+        let mut bytes = bytes_of(self.alloc, self.scenario.value_named("bytes", name))?;
+        let rest = number(length).min(262_144).saturating_sub(bytes.len());
+        let filler = vec![in self.alloc; u8::try_from(index).unwrap_or(0); rest]?;
+        bytes.extend_from_slice(filler.as_slice())?;
+        Ok(bytes)
     }
-    Ok(())
-}
 
-/// The file of the frames of these words, each at this second and nanosecond.
-pub(crate) fn output(
-    alloc: Global,
-    scenario: &Scenario<'_>,
-    words: &str,
-    time: [u32; 2],
-) -> Result<Vec<u8>, Memory> {
-    let mut bytes = Vec::new(alloc);
-    push_fields(&mut bytes, &[0xa1b2_3c4d, 0x0004_0002, 0, 0, 262_144, 1])?;
-    for word in words.split_whitespace() {
-        push_word(alloc, scenario, &mut bytes, word, time)?;
+    /// Appends the record of a frame, in which at most so many of its bytes stand.
+    fn push_frame(
+        &self,
+        bytes: &mut Vec<u8>,
+        (words, index): (&str, usize),
+        most: usize,
+        time: [u32; 2],
+    ) -> Result<(), Memory> {
+        let frame = self.frame_at(words, index)?;
+        let front = frame.as_slice().get(..most).unwrap_or(frame.as_slice());
+        let captured = u32::try_from(front.len()).unwrap_or(0);
+        let wire = u32::try_from(frame.len()).unwrap_or(0);
+        push_fields(bytes, &[time[0], time[1], captured, wire])?;
+        Ok(bytes.extend_from_slice(front)?)
     }
-    Ok(bytes)
+
+    /// Appends the bytes of a capture of frames, in microseconds and little-endian order, and its
+    /// tail.
+    fn push_capture(&self, bytes: &mut Vec<u8>, name: &str) -> Result<(), Memory> {
+        let words = self.scenario.value_named("pcap", name);
+        push_fields(bytes, &[0xa1b2_c3d4, 0x0004_0002, 0, 0, 0xffff, 1])?;
+        for index in 0..count_of(words) {
+            self.push_frame(bytes, (words, index), usize::MAX, [1, 2])?;
+        }
+        let tail = bytes_of(self.alloc, self.scenario.value_named("tail", name))?;
+        Ok(bytes.extend_from_slice(tail.as_slice())?)
+    }
+
+    /// Appends the bytes that the scenario says of a file.
+    fn push_raw(&self, bytes: &mut Vec<u8>, name: &str) -> Result<(), Memory> {
+        for value in self.scenario.values(self.alloc, "raw")?.as_slice() {
+            let (first, words) = parted(value);
+            if first == name {
+                bytes.extend_from_slice(bytes_of(self.alloc, words)?.as_slice())?;
+            }
+        }
+        Ok(())
+    }
+
+    /// The bytes of a file that is a capture of frames unless its bytes are said, with its cut.
+    pub(crate) fn capture(&self, name: &str) -> Result<Vec<u8>, Memory> {
+        let mut bytes = Vec::new(self.alloc);
+        if self.scenario.names("raw", name) {
+            self.push_raw(&mut bytes, name)?;
+        } else {
+            self.push_capture(&mut bytes, name)?;
+        }
+        bytes.truncate(number(self.scenario.value_named("cut", name)));
+        Ok(bytes)
+    }
+
+    /// The name and the words of the capture of a number, in the order of the scenario.
+    pub(crate) fn nth_capture(&self, capture: usize) -> Result<(&'a str, &'a str), Memory> {
+        let captures = self.scenario.values(self.alloc, "pcap")?;
+        Ok(parted(captures.as_slice().get(capture).copied().unwrap_or("")))
+    }
+
+    /// The words of the frames that a saved frame may be: those of the capture of a number, or if
+    /// none is given those that the scenario names, or otherwise those of the first capture.
+    fn words_of(&self, capture: &str) -> Result<&'a str, Memory> {
+        let frames = self.scenario.value("frames");
+        if capture.is_empty() && !frames.is_empty() {
+            return Ok(frames);
+        }
+        Ok(self.nth_capture(capture.parse::<usize>().unwrap_or(0))?.1)
+    }
+
+    /// Appends the records of the frames that a word says.
+    fn push_kept(&self, bytes: &mut Vec<u8>, word: &str, time: [u32; 2]) -> Result<(), Memory> {
+        let (capture, first, last, most) = kept_of(word);
+        let words = self.words_of(capture)?;
+        for index in first..last.min(MOST).saturating_add(1) {
+            self.push_frame(bytes, (words, index), most, time)?;
+        }
+        Ok(())
+    }
+
+    /// The file of the frames of these words, each at this second and nanosecond.
+    pub(crate) fn output(&self, words: &str, time: [u32; 2]) -> Result<Vec<u8>, Memory> {
+        let mut bytes = Vec::new(self.alloc);
+        push_fields(&mut bytes, &[0xa1b2_3c4d, 0x0004_0002, 0, 0, 262_144, 1])?;
+        for word in words.split_whitespace() {
+            self.push_kept(&mut bytes, word, time)?;
+        }
+        Ok(bytes)
+    }
 }

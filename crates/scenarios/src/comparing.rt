@@ -1,19 +1,16 @@
-//! What a scenario's run differs in from what it says.
-use crate::expected::{is_out_of_memory, report, status, taken};
-use crate::faults::is_dumped_too;
-use crate::lines::Scenario;
-use crate::running::{Ran, is_on_threads, run, run_at};
-use crate::saved::{After, wrong_files};
-use crate::texts::setup;
-use cpu_feeders::Gate;
+//! How a scenario's run differs from what the scenario says.
+use crate::cases::{Case, is_dumped_too};
+use crate::gates::ScriptGate;
+use crate::lines::{Scenario, number};
+use crate::running::{Answer, Ran, is_on_threads};
+use crate::saved::After;
 use frame_view::Memory;
 use std::alloc::Global;
 use std::sync::Wait;
 use std::thread::Threads;
-use tap_outside::MemStore;
 
-/// What is wanted of a report.
-#[derive(Clone, Copy, PartialEq, Eq)]
+/// What is expected of a report.
+#[derive(Clone, Copy)]
 pub(crate) enum Reported {
     /// What the scenario says.
     Said,
@@ -23,69 +20,30 @@ pub(crate) enum Reported {
     Absent,
 }
 
-/// What a run has to come to.
-#[derive(Drop)]
+/// The expected result of a run.
+#[derive(Clone, Copy)]
 pub(crate) struct Wanted<'a> {
     /// How the status begins.
     pub(crate) status: &'a str,
-    /// What is printed.
-    pub(crate) printed: String,
-    /// What is wanted of the report.
+    /// The lines of which these bytes are printed; where memory runs out one more line follows.
+    pub(crate) lines: &'a str,
+    /// How many of their bytes are printed at most.
+    pub(crate) taken: usize,
+    /// What is expected of the report.
     pub(crate) reported: Reported,
-    /// Names of files that aren't there, beside those that the scenario says.
-    pub(crate) absent: String,
+    /// Names of files that don't exist, besides those that the scenario says.
+    pub(crate) absent: &'a str,
     /// Whether blocks were dumped.
     pub(crate) dump: bool,
+    /// Whether a capture can't be read to its end, so that the counts of the lines and the files
+    /// are others than the scenario says.
+    pub(crate) is_cut: bool,
 }
 
-/// Appends lines, each after four blanks.
-fn push_lines(text: &mut String, lines: &str) -> Result<(), Memory> {
-    for line in lines.lines() {
-        write!(text, "    {line}\n")?;
-    }
-    Ok(())
-}
-
-/// Appends what was wanted and found of a part of a run, where they differ.
-pub(crate) fn push_difference(
-    text: &mut String,
-    part: &str,
-    wanted: &str,
-    found: &str,
-    same: bool,
-) -> Result<(), Memory> {
-    if same {
-        return Ok(());
-    }
-    write!(text, "  {part}, wanted:\n")?;
-    push_lines(text, wanted)?;
-    text.push_str("  found:\n")?;
-    push_lines(text, found)
-}
-
-/// A report's text without the letters of ticks that found nothing to do: between a member's other
-/// notes they may stand anywhere on threads.
-fn without_ticks(alloc: Global, report: &str) -> Result<String, Memory> {
-    let mut text = String::new(alloc);
-    for piece in report.split('t') {
-        text.push_str(piece)?;
-    }
-    Ok(text)
-}
-
-/// A report's text as it is compared.
-fn compared(alloc: Global, scenario: &Scenario<'_>, report: &str) -> Result<String, Memory> {
-    if is_on_threads(scenario) {
-        without_ticks(alloc, report)
-    } else {
-        Ok(String::from_str(alloc, report)?)
-    }
-}
-
-/// Whether a line has these words, of which a star is any one.
-fn has_words(line: &str, words: &str) -> bool {
-    let mut found = line.split(' ');
-    for word in words.split(' ') {
+/// Whether lines have these words, of which a star is any one.
+fn are_words(lines: &str, words: &str) -> bool {
+    let mut found = lines.split_whitespace();
+    for word in words.split_whitespace() {
         match found.next() {
             Some(other) if word == "*" || word == other => {}
             _ => return false,
@@ -94,175 +52,158 @@ fn has_words(line: &str, words: &str) -> bool {
     found.next().is_none()
 }
 
-/// Whether lines are these, in which a star as a word is any one.
-fn are_lines(printed: &str, wanted: &str) -> bool {
-    let mut found = printed.lines();
-    for words in wanted.lines() {
-        match found.next() {
-            Some(line) if has_words(line, words) => {}
-            _ => return false,
-        }
-    }
-    found.next().is_none()
+/// The number after a word of a line; 0 if the line doesn't have the word.
+fn number_after(line: &str, word: &str) -> u64 {
+    let (_, rest) = line.split_once(word).unwrap_or(("", ""));
+    let number = rest.split(' ').next().unwrap_or("");
+    number.parse::<u64>().unwrap_or(0)
 }
 
-/// Whether what was printed is what was wanted.
-fn is_printed(printed: &str, wanted: &str) -> bool {
-    printed == wanted || wanted.contains('*') && are_lines(printed, wanted)
+/// Whether lines are those of a run in which a capture can't be read to its end: the frames that
+/// arrived were filtered, kept or dropped.
+fn are_cut(lines: &str) -> bool {
+    let last = lines.lines().last().unwrap_or("");
+    let passed = number_after(last, " kept ").saturating_add(number_after(last, " drops "));
+    let arrived = number_after(last, " filtered ").saturating_add(passed);
+    lines.contains(" end fault\n") && number_after(last, " arrivals ") == arrived
 }
 
-/// What is wanted of a report: where memory runs out there is none, and a scenario may say that it
-/// is any.
-fn report_wanted(scenario: &Scenario<'_>, wanted: &Wanted<'_>) -> Reported {
-    if is_out_of_memory(wanted.status) {
-        Reported::Absent
-    } else if wanted.reported == Reported::Said && scenario.value("report") == "any" {
-        Reported::Any
+/// What was printed, or the lines that are wanted where it counts as these: with any word for a
+/// star, and other counts where a capture can't be read to its end.
+fn counted_as<'a>(printed: &'a str, wanted: &Wanted<'a>) -> &'a str {
+    let is_any = wanted.lines.contains('*') && are_words(printed, wanted.lines);
+    let is_such = is_any || wanted.is_cut && are_cut(printed);
+    if is_such && printed.lines().count() == wanted.lines.lines().count() {
+        wanted.lines
     } else {
-        wanted.reported
+        printed
     }
 }
 
-/// Appends what differs of a report from what a scenario says of it.
-fn push_other_report(
-    alloc: Global,
-    text: &mut String,
-    scenario: &Scenario<'_>,
-    found: &str,
-) -> Result<(), Memory> {
-    let said = report(alloc, scenario)?;
-    let seen = compared(alloc, scenario, found)?;
-    let same = said.as_str() == seen.as_str();
-    push_difference(text, "report", said.as_str(), seen.as_str(), same)
-}
+impl<'a> Case<'a> {
+    /// What the scenario says that the run comes to, whose lines these are.
+    pub(crate) fn wanted(&self, lines: &'a str) -> Result<Wanted<'a>, Memory> {
+        let status = self.scenario.value("status");
+        Ok(Wanted {
+            status: if status.is_empty() { "0 Fine" } else { status },
+            lines,
+            taken: number(self.scenario.value("taken")),
+            reported: match self.scenario.value("report") {
+                "any" => Reported::Any,
+                _ if status.starts_with('7') => Reported::Absent,
+                _ => Reported::Said,
+            },
+            absent: "",
+            dump: self.is_dumped()?,
+            is_cut: false,
+        })
+    }
 
-/// Appends what differs of a report.
-fn push_wrong_report(
-    alloc: Global,
-    text: &mut String,
-    scenario: &Scenario<'_>,
-    reported: Reported,
-    found: &str,
-) -> Result<(), Memory> {
-    match reported {
-        Reported::Said => push_other_report(alloc, text, scenario, found),
-        Reported::Any => push_difference(text, "report", "one", "none", !found.is_empty()),
-        Reported::Absent => push_difference(text, "report", "none", found, found.is_empty()),
+    /// What the run has to come to, as one text.
+    fn wanted_text(&self, wanted: &Wanted<'_>) -> Result<String, Memory> {
+        let front = wanted.lines.get(..wanted.taken).unwrap_or(wanted.lines);
+        let mut text = format!(in self.alloc; "{}\n{front}", wanted.status)?;
+        if wanted.status.starts_with('7') {
+            text.push_str("out of memory\n")?;
+        }
+        match wanted.reported {
+            Reported::Said => text.push_str(self.report()?.as_str())?,
+            Reported::Any => text.push_str("any\n")?,
+            Reported::Absent => {}
+        }
+        Ok(text)
+    }
+
+    /// What the run came to, in the same form: of the status so much as is said; on threads without
+    /// the letters of ticks that found nothing to do, as between other notes they may stand
+    /// anywhere.
+    fn found_text(
+        &self,
+        wanted: &Wanted<'_>,
+        answer: &Answer,
+        printed: &str,
+    ) -> Result<String, Memory> {
+        let status = answer.status.as_str();
+        let status = status.get(..wanted.status.len()).unwrap_or(status);
+        let lines = counted_as(printed, wanted);
+        let mut text = format!(in self.alloc; "{status}\n{lines}")?;
+        let report = match wanted.reported {
+            Reported::Any if !answer.report.is_empty() => "any\n",
+            _ => answer.report.as_str(),
+        };
+        let is_left_out = is_on_threads(&self.scenario);
+        for piece in report.split(if is_left_out { 't' } else { '\0' }) {
+            text.push_str(piece)?;
+        }
+        Ok(text)
+    }
+
+    /// Appends what differs of an answer, and of what was printed.
+    pub(crate) fn push_wrong_answer(
+        &self,
+        text: &mut String,
+        wanted: &Wanted<'_>,
+        (answer, printed): (&Answer, &str),
+    ) -> Result<(), Memory> {
+        let wanted_text = self.wanted_text(wanted)?;
+        let found = self.found_text(wanted, answer, printed)?;
+        if wanted_text.as_str() != found.as_str() {
+            write!(text, "wanted:\n{wanted_text}\nfound:\n{found}\n")?;
+        }
+        Ok(())
+    }
+
+    /// Appends what differs of a run.
+    pub(crate) fn push_wrong(
+        &self,
+        text: &mut String,
+        wanted: &Wanted<'_>,
+        ran: &Ran,
+    ) -> Result<(), Memory> {
+        self.push_wrong_answer(text, wanted, (&ran.answer, ran.printed.as_str()))?;
+        if wanted.is_cut {
+            return Ok(());
+        }
+        let after = After {
+            case: *self,
+            wanted: *wanted,
+            files: &ran.files,
+        };
+        after.push_wrong(text)
+    }
+
+    /// Carries the scenario out with its gate, and appends how the run differs from it.
+    fn push_run<R>(&self, rt: &R, text: &mut String, gate: &ScriptGate) -> Result<(), Memory>
+    where
+        R: Threads + Wait + Sync,
+    {
+        let lines = self.text(">")?;
+        let ran = self.run(rt, gate)?;
+        self.push_wrong(text, &self.wanted(lines.as_str())?, &ran)
     }
 }
 
-/// Appends what differs of an answer.
-pub(crate) fn push_wrong_answer(
-    alloc: Global,
-    text: &mut String,
-    scenario: &Scenario<'_>,
-    wanted: &Wanted<'_>,
-    ran: &Ran,
-) -> Result<(), Memory> {
-    let status = ran.answer.status.as_str();
-    let same = status.starts_with(wanted.status);
-    push_difference(text, "status", wanted.status, status, same)?;
-    let (said, printed) = (wanted.printed.as_str(), ran.printed.as_str());
-    push_difference(text, "printed", said, printed, is_printed(printed, said))?;
-    let reported = report_wanted(scenario, wanted);
-    push_wrong_report(alloc, text, scenario, reported, ran.answer.report.as_str())?;
-    let patient = ran.given_up == 0;
-    push_difference(
-        text,
-        "gate",
-        "one that opens",
-        "a thread waited in vain",
-        patient,
-    )
-}
-
-/// Appends what differs of an answer and of the files.
-pub(crate) fn push_wrong(
-    alloc: Global,
-    text: &mut String,
-    scenario: &Scenario<'_>,
-    wanted: &Wanted<'_>,
-    (ran, files): (&Ran, &MemStore),
-) -> Result<(), Memory> {
-    push_wrong_answer(alloc, text, scenario, wanted, ran)?;
-    let after = After {
-        files,
-        dump: wanted.dump,
-        absent: wanted.absent.as_str(),
-    };
-    let wrong = wrong_files(alloc, scenario, &after)?;
-    push_difference(text, "files", wrong.as_str(), "others", wrong.is_empty())
-}
-
-/// What a scenario says that its run comes to.
-pub(crate) fn said<'a>(
-    alloc: Global,
-    scenario: &Scenario<'a>,
-    dump: bool,
-) -> Result<Wanted<'a>, Memory> {
-    let setup = setup(alloc, scenario, dump)?;
-    Ok(Wanted {
-        status: status(scenario),
-        printed: taken(alloc, scenario)?,
-        reported: Reported::Said,
-        absent: String::new(alloc),
-        dump: setup.contains("dump yes"),
-    })
-}
-
-/// Carries out a scenario, with its blocks dumped or as it is, and appends what differs from it.
-fn push_run<R: Threads + Wait + Sync>(
-    rt: &R,
-    alloc: Global,
-    text: &mut String,
-    scenario: &Scenario<'_>,
-    dump: bool,
-) -> Result<(), Memory> {
-    let wanted = said(alloc, scenario, dump)?;
-    let (ran, files) = run(rt, alloc, scenario, dump)?;
-    push_wrong(alloc, text, scenario, &wanted, (&ran, &files))
-}
-
-/// Whether a scenario's blocks are dumped where it is carried out a second time.
-fn is_twice(alloc: Global, scenario: &Scenario<'_>) -> Result<bool, Memory> {
-    let setup = setup(alloc, scenario, false)?;
-    Ok(is_dumped_too(scenario) && !setup.contains("dump yes"))
-}
-
-/// Carries out a scenario as it is, and with its blocks dumped: what differs from it; empty where
-/// nothing does.
+/// Carries out a scenario as it is, and with its blocks dumped: how the run differs from it; empty
+/// if it doesn't.
 pub fn differences<R: Threads + Wait + Sync>(
     rt: &R,
     alloc: Global,
     scenario: &Scenario<'_>,
 ) -> Result<String, Memory> {
     let mut text = String::new(alloc);
+    let mut case = Case::new(alloc, scenario);
     let line = scenario.unread();
-    push_difference(
-        &mut text,
-        "line",
-        "one that is known",
-        line,
-        line.is_empty(),
-    )?;
-    push_run(rt, alloc, &mut text, scenario, false)?;
-    if is_twice(alloc, scenario)? {
-        push_run(rt, alloc, &mut text, scenario, true)?;
+    if !line.is_empty() {
+        write!(text, "the line can't be read: {line}\n")?;
     }
-    Ok(text)
-}
-
-/// Carries out a scenario on threads with another gate than its own: what differs from it; empty
-/// where nothing does.
-pub fn differences_at<G: Gate + Sync, R: Threads + Wait + Sync>(
-    rt: &R,
-    alloc: Global,
-    scenario: &Scenario<'_>,
-    gate: &G,
-) -> Result<String, Memory> {
-    let mut text = String::new(alloc);
-    let wanted = said(alloc, scenario, false)?;
-    let (ran, files) = run_at(rt, alloc, scenario, gate)?;
-    push_wrong(alloc, &mut text, scenario, &wanted, (&ran, &files))?;
+    let is_twice = is_dumped_too(scenario) && !case.is_dumped()?;
+    for _ in 0..if is_twice { 2 } else { 1 } {
+        let gate = ScriptGate::new(&case)?;
+        case.push_run(rt, &mut text, &gate)?;
+        if gate.given_up() > 0 {
+            text.push_str("the gate gave up: a turn never came\n")?;
+        }
+        case.dump = true;
+    }
     Ok(text)
 }

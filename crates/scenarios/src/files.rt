@@ -1,158 +1,107 @@
-//! The stores that a scenario asks for.
-use crate::captures::{capture, raw_file};
-use crate::faults::{numbers, piece};
-use crate::lines::{Scenario, said_of};
-use crate::texts::{setup, text};
-use frame_view::{Memory, MomentList};
-use std::alloc::Global;
+//! The files that a scenario gives, and the stores that have them.
+use crate::cases::Case;
+use crate::lines::parted;
+use frame_view::Memory;
 use tap_outside::{MemStore, SureStore};
 
-/// What takes the files of a scenario.
-trait Files {
-    /// Puts a file in.
-    fn take(&mut self, scenario: &Scenario<'_>, name: &str, bytes: &[u8]) -> Result<(), Memory>;
-}
-
-/// A store in memory whose calls fail as a scenario says.
-#[derive(Drop)]
-struct Failing {
-    /// What gives memory for the lists.
-    alloc: Global,
-    /// The store.
-    store: MemStore,
-}
-
-impl Files for Failing {
-    fn take(&mut self, scenario: &Scenario<'_>, name: &str, bytes: &[u8]) -> Result<(), Memory> {
-        let reads = MomentList::from_vec(numbers(self.alloc, scenario, name)?);
-        let piece = piece(scenario, name);
-        self.store.put(name.as_bytes(), bytes, piece.max(1), reads)
+/// A line, and how often it is repeated: as often as its last word says, if that is `xN`.
+fn repeated_line(line: &str) -> (&str, usize) {
+    let (front, last) = line.rsplit_once(' ').unwrap_or(("", line));
+    match last.strip_prefix("x").unwrap_or("").parse::<usize>() {
+        Ok(times) => (front.trim(), times.min(4096)),
+        Err(_) => (line, 1),
     }
 }
 
-impl Files for SureStore {
-    fn take(&mut self, _scenario: &Scenario<'_>, name: &str, bytes: &[u8]) -> Result<(), Memory> {
-        self.put(name.as_bytes(), bytes)
-    }
+/// Appends a line with its end.
+pub(crate) fn push_line(text: &mut String, line: &str) -> Result<(), Memory> {
+    text.push_str(line)?;
+    Ok(text.push_str("\n")?)
 }
 
-/// Puts the text of a word into a store.
-fn put_text<F: Files>(
-    alloc: Global,
-    files: &mut F,
-    scenario: &Scenario<'_>,
-    word: &str,
-    name: &str,
-) -> Result<(), Memory> {
-    let text = text(alloc, scenario, word)?;
-    files.take(scenario, name, text.as_bytes())
-}
-
-/// Puts the texts of a scenario into a store; the moments only where there are any.
-fn put_texts<F: Files>(
-    alloc: Global,
-    files: &mut F,
-    scenario: &Scenario<'_>,
-    dump: bool,
-) -> Result<(), Memory> {
-    let setup = setup(alloc, scenario, dump)?;
-    files.take(scenario, "conf", setup.as_bytes())?;
-    put_text(alloc, files, scenario, "filter", "f.ddd")?;
-    put_text(alloc, files, scenario, "sched", "sched")?;
-    if scenario.value("ticks").is_empty() {
-        return Ok(());
-    }
-    put_text(alloc, files, scenario, "ticks", "t.txt")
-}
-
-/// Puts the capture of a line into a store.
-fn put_capture<F: Files>(
-    alloc: Global,
-    files: &mut F,
-    scenario: &Scenario<'_>,
-    value: &str,
-) -> Result<(), Memory> {
-    let (name, _) = value.split_once(' ').unwrap_or((value, ""));
-    let bytes = capture(alloc, scenario, value)?;
-    files.take(scenario, name, bytes.as_slice())
-}
-
-/// Puts the captures of a scenario into a store.
-fn put_captures<F: Files>(
-    alloc: Global,
-    files: &mut F,
-    scenario: &Scenario<'_>,
-) -> Result<(), Memory> {
-    for line in scenario.lines("pcap").lines() {
-        if let Some(value) = said_of(line, "pcap") {
-            put_capture(alloc, files, scenario, value)?;
-        }
+/// Appends a line as often as its last word says, if that is `xN`.
+fn push_repeated(text: &mut String, line: &str) -> Result<(), Memory> {
+    let (front, times) = repeated_line(line);
+    for _ in 0..times {
+        push_line(text, front)?;
     }
     Ok(())
 }
 
-/// Puts the files into a store that a scenario gives by their bytes.
-fn put_raws<F: Files>(alloc: Global, files: &mut F, scenario: &Scenario<'_>) -> Result<(), Memory> {
-    for line in scenario.lines("raw").lines() {
-        if let Some(value) = said_of(line, "raw") {
-            let (name, _) = value.split_once(' ').unwrap_or((value, ""));
-            let bytes = raw_file(alloc, scenario, name)?;
-            files.take(scenario, name, bytes.as_slice())?;
+impl<'a> Case<'a> {
+    /// The lines that the scenario says by a word.
+    pub(crate) fn text(&self, word: &str) -> Result<String, Memory> {
+        let mut text = String::new(self.alloc);
+        for value in self.scenario.values(self.alloc, word)?.as_slice() {
+            push_repeated(&mut text, value)?;
         }
+        Ok(text)
     }
-    Ok(())
-}
 
-/// Puts all files of a scenario into a store.
-fn put_all<F: Files>(
-    alloc: Global,
-    files: &mut F,
-    scenario: &Scenario<'_>,
-    dump: bool,
-) -> Result<(), Memory> {
-    put_texts(alloc, files, scenario, dump)?;
-    put_captures(alloc, files, scenario)?;
-    put_raws(alloc, files, scenario)
-}
+    /// The text of the setup.
+    fn setup(&self) -> Result<String, Memory> {
+        let mut text = self.text("conf")?;
+        text.push_str(self.text("with")?.as_str())?;
+        text.push_str(if self.dump { "dump yes\n" } else { "" })?;
+        Ok(text)
+    }
 
-/// A store in memory without a file, whose calls fail as a scenario says.
-fn failing_store(alloc: Global, scenario: &Scenario<'_>) -> Result<Failing, Memory> {
-    let fetches = MomentList::from_vec(numbers(alloc, scenario, "fetch")?);
-    let saves = MomentList::from_vec(numbers(alloc, scenario, "save")?);
-    Ok(Failing {
-        alloc,
-        store: MemStore::new(alloc, fetches, saves),
-    })
-}
+    /// Whether the blocks are dumped.
+    pub(crate) fn is_dumped(&self) -> Result<bool, Memory> {
+        Ok(self.setup()?.contains("dump yes"))
+    }
 
-/// The store of a scenario, whose calls fail as it says.
-pub(crate) fn store(
-    alloc: Global,
-    scenario: &Scenario<'_>,
-    dump: bool,
-) -> Result<MemStore, Memory> {
-    let mut files = failing_store(alloc, scenario)?;
-    put_all(alloc, &mut files, scenario, dump)?;
-    Ok(files.store)
-}
+    /// The bytes of the file of a name.
+    pub(crate) fn file_bytes(&self, name: &str) -> Result<Vec<u8>, Memory> {
+        let text = match name {
+            "conf" => self.setup()?,
+            "f.ddd" => self.text("filter")?,
+            "sched" => self.text("sched")?,
+            "t.txt" => self.text("ticks")?,
+            _ => return self.capture(name),
+        };
+        Ok(text.into_bytes())
+    }
 
-/// The files of a scenario in a store in memory in which nothing fails.
-pub(crate) fn sound_store(
-    alloc: Global,
-    scenario: &Scenario<'_>,
-    dump: bool,
-) -> Result<MemStore, Memory> {
-    let mut files = Failing {
-        alloc,
-        store: MemStore::new(alloc, MomentList::new(alloc), MomentList::new(alloc)),
-    };
-    put_all(alloc, &mut files, scenario, dump)?;
-    Ok(files.store)
-}
+    /// The names of the files that are there before the command; the moments only where there are
+    /// any.
+    fn names(&self) -> Result<Vec<&'a str>, Memory> {
+        let mut names = Vec::new(self.alloc);
+        names.extend_from_slice(&["conf", "f.ddd", "sched"])?;
+        if self.scenario.says("ticks") {
+            names.push("t.txt")?;
+        }
+        self.push_names(&mut names, "pcap")?;
+        self.push_names(&mut names, "raw")?;
+        Ok(names)
+    }
 
-/// The files of a scenario in a store that has no fault.
-pub(crate) fn sure_store(alloc: Global, scenario: &Scenario<'_>) -> Result<SureStore, Memory> {
-    let mut files = SureStore::new(alloc);
-    put_all(alloc, &mut files, scenario, false)?;
-    Ok(files)
+    /// Appends the name that each line of a word says.
+    fn push_names(&self, names: &mut Vec<&'a str>, word: &str) -> Result<(), Memory> {
+        for value in self.scenario.values(self.alloc, word)?.as_slice() {
+            names.push(parted(value).0)?;
+        }
+        Ok(())
+    }
+
+    /// The files in a store in memory, whose calls fail as the scenario says.
+    pub(crate) fn memory_store(&self) -> Result<MemStore, Memory> {
+        let fetches = self.failing("fetch")?;
+        let mut store = MemStore::new(self.alloc, fetches, self.failing("save")?);
+        for name in self.names()?.as_slice() {
+            let bytes = self.file_bytes(name)?;
+            let (piece, failing) = (self.piece(name).max(1), self.failing(name)?);
+            store.put(name.as_bytes(), bytes.as_slice(), piece, failing)?;
+        }
+        Ok(store)
+    }
+
+    /// The files in a store that has no fault.
+    pub(crate) fn sure_store(&self) -> Result<SureStore, Memory> {
+        let mut store = SureStore::new(self.alloc);
+        for name in self.names()?.as_slice() {
+            store.put(name.as_bytes(), self.file_bytes(name)?.as_slice())?;
+        }
+        Ok(store)
+    }
 }

@@ -1,6 +1,9 @@
-//! The lines of a scenario, and those of the one that it is like.
+//! The lines of a scenario, and those of the one that it is based on.
+use frame_view::Memory;
+use std::alloc::Global;
 
-/// A scenario of a text. Scenarios stand between empty lines; the first line of each is its name.
+/// A scenario of a text. Scenarios are separated by empty lines; the first line of each is its
+/// name.
 #[derive(Clone, Copy)]
 pub struct Scenario<'a> {
     /// Its name.
@@ -10,60 +13,39 @@ pub struct Scenario<'a> {
     layers: [&'a str; 3],
 }
 
-/// What a line says of a word, if the word is its first.
-pub(crate) fn value_of<'a>(line: &'a str, word: &str) -> Option<&'a str> {
-    let line = line.trim();
-    let (first, rest) = line.split_once(' ').unwrap_or((line, ""));
-    if first == word {
-        Some(rest.trim())
-    } else {
-        None
-    }
+/// The first of some words, and the others.
+pub(crate) fn parted(words: &str) -> (&str, &str) {
+    let (first, rest) = words.split_once(' ').unwrap_or((words, ""));
+    (first, rest.trim())
 }
 
-/// What a line says of a word, if the word is its first and isn't alone.
-pub(crate) fn said_of<'a>(line: &'a str, word: &str) -> Option<&'a str> {
-    match value_of(line, word) {
-        Some("") => None,
-        said => said,
-    }
-}
-
-/// What a line says of a name after a word, if the two are its first words.
-pub(crate) fn named_value<'a>(line: &'a str, word: &str, name: &str) -> Option<&'a str> {
-    match value_of(line, word) {
-        Some(value) => value_of(value, name),
-        None => None,
-    }
-}
-
-/// What the first line with a word says of it; empty where there is none.
-fn first_value<'a>(lines: &'a str, word: &str) -> &'a str {
-    for line in lines.lines() {
-        if let Some(value) = value_of(line, word) {
-            return value;
+/// What follows a word in the first of these parts that begins with it, if one does.
+fn first_value<'a>(parts: &'a str, separator: &str, word: &str) -> Option<&'a str> {
+    for part in parts.split(separator) {
+        let (first, value) = parted(part.trim());
+        if first == word {
+            return Some(value);
         }
     }
-    ""
+    None
 }
 
-/// Whether a line has this word.
-fn has_word(lines: &str, word: &str) -> bool {
-    for line in lines.lines() {
-        if value_of(line, word).is_some() {
-            return true;
+/// Appends the values that stand between bars.
+fn push_parts<'a>(parts: &mut Vec<&'a str>, values: &'a str) -> Result<(), Memory> {
+    for value in values.split(" | ") {
+        if !value.trim().is_empty() {
+            parts.push(value.trim())?;
         }
     }
-    false
+    Ok(())
 }
 
-/// The lines of the scenario of a name; none where there is no such scenario.
+/// The lines of the scenario of a name; none if there is no such scenario.
 fn lines_named<'a>(text: &'a str, name: &str) -> &'a str {
     for part in text.split("\n\n") {
-        if let Some((first, lines)) = part.trim_start().split_once('\n') {
-            if first == name {
-                return lines;
-            }
+        let (first, lines) = part.trim_start().split_once('\n').unwrap_or(("", ""));
+        if first == name {
+            return lines;
         }
     }
     ""
@@ -71,11 +53,21 @@ fn lines_named<'a>(text: &'a str, name: &str) -> &'a str {
 
 /// The lines of the scenario that these lines are like.
 fn base_of<'a>(text: &'a str, lines: &str) -> &'a str {
-    match first_value(lines, "like") {
-        "" => "",
-        name => lines_named(text, name),
+    match first_value(lines, "\n", "like") {
+        Some(name) => lines_named(text, name),
+        None => "",
     }
 }
+
+/// Whether a word is one of these.
+pub(crate) fn is_among(words: &str, word: &str) -> bool {
+    words.split_whitespace().any(|other| other == word)
+}
+
+/// The words with which a line may begin.
+const KNOWN: &str =
+    "like base run plain conf with sched filter ticks pcap tail raw bytes cut pieces \
+    endless fail half faults poor hold status > taken cpu member frames report sent file part absent";
 
 impl<'a> Scenario<'a> {
     /// The scenario of a part of a text.
@@ -89,81 +81,84 @@ impl<'a> Scenario<'a> {
         }
     }
 
-    /// The lines in which the scenario says something of a word: its own, where one of them has the
-    /// word, and else those of the scenario that it is like.
-    pub(crate) fn lines(&self, word: &str) -> &'a str {
+    /// Whether the scenario is one that is carried out, and not only a base for others.
+    pub fn is_run(&self) -> bool {
+        let is_base = first_value(self.layers[0], "\n", "base").is_some();
+        !self.name.starts_with('#') && !self.name.is_empty() && !is_base
+    }
+
+    /// The first of its own lines that can't be read: it begins with an unknown word, or names no
+    /// scenario; empty if there is none.
+    pub(crate) fn unread(&self) -> &'a str {
+        let [own, base, _] = self.layers;
+        for line in own.lines() {
+            let (first, _) = parted(line.trim());
+            if !is_among(KNOWN, first) || first == "like" && base.is_empty() {
+                return line;
+            }
+        }
+        ""
+    }
+
+    /// The lines of the scenario that begin with a word: its own, if one of them does, otherwise
+    /// those of the scenario that it is like.
+    fn lines(&self, word: &str) -> &'a str {
         let [own, base, last] = self.layers;
-        if has_word(own, word) {
+        if first_value(own, "\n", word).is_some() {
             own
-        } else if has_word(base, word) {
+        } else if first_value(base, "\n", word).is_some() {
             base
         } else {
             last
         }
     }
 
-    /// What the scenario says of a word first; empty where it says nothing.
+    /// What the scenario's first line with a word says; empty if there is none.
     pub(crate) fn value(&self, word: &str) -> &'a str {
-        first_value(self.lines(word), word)
+        first_value(self.lines(word), "\n", word).unwrap_or("")
     }
 
-    /// What the scenario says of a name after a word; empty where it says nothing.
+    /// Whether the scenario says something of a word.
+    pub(crate) fn says(&self, word: &str) -> bool {
+        !self.value(word).is_empty()
+    }
+
+    /// What the lines of a word say, between bars.
+    pub(crate) fn values(&self, alloc: Global, word: &str) -> Result<Vec<&'a str>, Memory> {
+        let mut values = Vec::new(alloc);
+        for line in self.lines(word).lines() {
+            let (first, value) = parted(line.trim());
+            if first == word {
+                push_parts(&mut values, value)?;
+            }
+        }
+        Ok(values)
+    }
+
+    /// What the scenario says after a word and a name; empty if it says nothing.
     pub(crate) fn value_named(&self, word: &str, name: &str) -> &'a str {
         for line in self.lines(word).lines() {
-            if let Some(value) = named_value(line, word, name) {
-                return value;
+            let (first, value) = parted(line.trim());
+            match first_value(value, " | ", name) {
+                Some(rest) if first == word => return rest,
+                _ => {}
             }
         }
         ""
     }
 
-    /// Whether the scenario is one that is carried out: it says more than what others are like.
-    pub fn is_run(&self) -> bool {
-        !self.name.starts_with('#') && !self.name.is_empty() && !has_word(self.layers[0], "base")
+    /// Whether the scenario says something of a name after a word.
+    pub(crate) fn names(&self, word: &str, name: &str) -> bool {
+        !self.value_named(word, name).is_empty()
     }
 }
 
-/// The words with which a line may begin.
-const KNOWN: &str =
-    "like base run plain conf with sched filter ticks pcap tail raw bytes cut pieces \
-    endless fail half faults poor hold status > taken cpu member frames report sent file part absent";
-
-/// Whether a line may begin with a word.
-fn is_known(word: &str) -> bool {
-    for known in KNOWN.split_whitespace() {
-        if known == word {
-            return true;
-        }
-    }
-    false
-}
-
-/// The first word of a line.
-fn first_word(line: &str) -> &str {
-    line.split_whitespace().next().unwrap_or("")
-}
-
-impl<'a> Scenario<'a> {
-    /// The first of its own lines that can't be read: it begins with no word that is known, or
-    /// names no scenario; empty where there is none.
-    pub(crate) fn unread(&self) -> &'a str {
-        let [own, base, _] = self.layers;
-        for line in own.lines() {
-            let first = first_word(line);
-            if !is_known(first) || first == "like" && base.is_empty() {
-                return line;
-            }
-        }
-        ""
-    }
-}
-
-/// A number; the greatest where a word is none.
+/// A number; the greatest if a word isn't one.
 pub(crate) fn number(word: &str) -> usize {
     word.parse::<usize>().unwrap_or(usize::MAX)
 }
 
-/// A number of a call; 0 where a word is none.
+/// A number of a call; 0 if a word isn't one.
 pub(crate) fn call_number(word: &str) -> u64 {
     word.parse::<u64>().unwrap_or(0)
 }

@@ -1,23 +1,24 @@
 //! Whether the files after a command are as a scenario says.
-use crate::captures::{bytes_of, output, repeated};
+use crate::captures::{bytes_of, count_of, word_at};
+use crate::cases::Case;
+use crate::comparing::Wanted;
 use crate::expected::member_of;
-use crate::lines::{Scenario, number, said_of};
+use crate::lines::{is_among, number, parted};
 use frame_view::Memory;
-use std::alloc::Global;
 use tap_outside::MemStore;
 
-/// The files after a command, and what is said of them beside a scenario.
-#[derive(Drop)]
+/// The files after a command, and what is said of them.
+#[derive(Clone, Copy)]
 pub(crate) struct After<'a> {
+    /// The run.
+    pub(crate) case: Case<'a>,
+    /// What it has to come to.
+    pub(crate) wanted: Wanted<'a>,
     /// The files.
     pub(crate) files: &'a MemStore,
-    /// Whether blocks were dumped.
-    pub(crate) dump: bool,
-    /// Names of files that aren't there beside those that the scenario says.
-    pub(crate) absent: &'a str,
 }
 
-/// Whether these bytes stand at a place.
+/// Whether these bytes are at a place.
 fn has_at(bytes: &[u8], at: usize, part: &[u8]) -> bool {
     match bytes.split_at_checked(at) {
         Some((_, rest)) => rest.starts_with(part),
@@ -25,43 +26,36 @@ fn has_at(bytes: &[u8], at: usize, part: &[u8]) -> bool {
     }
 }
 
-/// What a dump is made of: where a part has its status and its length, and how many bytes of it the
-/// length leaves out.
-type Parts = (usize, usize, u32);
+/// What a dump is made of: where a part has its status and its length, and how many of its bytes
+/// the length leaves out.
+type Parts = (usize, usize, usize);
 
-/// Blocks of TPACKET_V3, or slots of TPACKET_V2, each up to the end of its packet.
-fn parts_of(scenario: &Scenario<'_>) -> Parts {
-    if scenario.value("run").starts_with("replay2") {
-        (0, 8, 66)
-    } else {
-        (8, 20, 0)
-    }
+/// The slots of TPACKET_V2, each up to the end of its packet.
+const SLOTS: Parts = (0, 8, 66);
+
+/// The blocks of TPACKET_V3.
+const BLOCKS: Parts = (8, 20, 0);
+
+/// A number of 32 bits as it stands in a dump.
+fn field(value: usize) -> [u8; 4] {
+    u32::try_from(value).unwrap_or(0).to_le_bytes()
 }
 
-/// The bytes after the parts that a word says, each with this status and length; `None` where they
-/// aren't there.
-fn after_parts<'a>(bytes: &'a [u8], parts: Parts, word: &str) -> Option<&'a [u8]> {
-    let (word, times) = repeated(word);
-    let (status, length) = word.split_once(':').unwrap_or(("", ""));
-    let size = u32::try_from(number(length)).unwrap_or(0);
-    let status = u32::try_from(number(status)).unwrap_or(0).to_le_bytes();
-    let said = size.saturating_sub(parts.2).to_le_bytes();
-    let mut rest = bytes;
-    for _ in 0..times {
-        let (part, tail) = rest.split_at_checked(size as usize)?;
-        if !has_at(part, parts.0, &status) || !has_at(part, parts.1, &said) {
-            return None;
-        }
-        rest = tail;
-    }
-    Some(rest)
+/// The bytes after a part of the status and length that a word says; `None` where it isn't there.
+fn after_part<'a>(bytes: &'a [u8], parts: Parts, word: &str) -> Option<&'a [u8]> {
+    let (status, length) = word.split_once(':')?;
+    let size = number(length);
+    let (part, rest) = bytes.split_at_checked(size)?;
+    let said = field(size.saturating_sub(parts.2));
+    let is_so = has_at(part, parts.0, &field(number(status))) && has_at(part, parts.1, &said);
+    if is_so { Some(rest) } else { None }
 }
 
-/// Whether a dump is made of the parts of these words.
+/// Whether a dump consists of the parts of these words.
 fn is_dump_of(dump: &[u8], parts: Parts, words: &str) -> bool {
     let mut rest = dump;
-    for word in words.split_whitespace() {
-        match after_parts(rest, parts, word) {
+    for index in 0..count_of(words) {
+        match after_part(rest, parts, word_at(words, index)) {
             Some(tail) => rest = tail,
             None => return false,
         }
@@ -69,161 +63,102 @@ fn is_dump_of(dump: &[u8], parts: Parts, words: &str) -> bool {
     rest.is_empty()
 }
 
-/// Whether a name is one of these words.
-fn is_word(words: &str, name: &str) -> bool {
-    for word in words.split_whitespace() {
-        if word == name {
-            return true;
+impl<'a> After<'a> {
+    /// Whether a file isn't to be there, or need not be.
+    fn is_absent(&self, name: &str) -> bool {
+        is_among(self.case.scenario.value("absent"), name) || is_among(self.wanted.absent, name)
+    }
+
+    /// The most bytes of a file.
+    fn part(&self, name: &str) -> usize {
+        number(self.case.scenario.value_named("part", name))
+    }
+
+    /// Whether a file has these bytes, or as many of them as the scenario says; one that isn't to
+    /// be there isn't compared.
+    fn holds(&self, name: &str, bytes: &[u8]) -> bool {
+        let front = bytes.get(..self.part(name)).unwrap_or(bytes);
+        self.is_absent(name) || self.files.file(name.as_bytes()) == Some(front)
+    }
+
+    /// Whether a member's dump is there exactly where it is asked for, and is made of its blocks,
+    /// or has as many bytes as the scenario says.
+    fn holds_dump(&self, name: &str, blocks: &str) -> bool {
+        let Some(dump) = self.files.file(name.as_bytes()) else {
+            return !self.wanted.dump || self.is_absent(name);
+        };
+        let is_slots = self.case.scenario.value("run").starts_with("replay2");
+        let parts = if is_slots { SLOTS } else { BLOCKS };
+        let is_so = match self.part(name) {
+            usize::MAX => is_dump_of(dump, parts, blocks),
+            length => dump.len() == length,
+        };
+        self.is_absent(name) || self.wanted.dump && is_so
+    }
+
+    /// Whether the files of a member are as its line says.
+    fn holds_member(&self, index: &str, value: &str) -> Result<bool, Memory> {
+        let (_, kept, blocks) = member_of(value);
+        let dumped = format!(in self.case.alloc; "out.{index}.blk")?;
+        let is_dumped = self.holds_dump(dumped.as_str(), blocks);
+        let saved = format!(in self.case.alloc; "out.{index}.pcap")?;
+        Ok(is_dumped && self.holds_frames(saved.as_str(), kept, [1, 2_000])?)
+    }
+
+    /// Whether a file has the frames of these words, each of this time.
+    fn holds_frames(&self, name: &str, words: &str, time: [u32; 2]) -> Result<bool, Memory> {
+        let bytes = self.case.output(words, time)?;
+        Ok(self.holds(name, bytes.as_slice()))
+    }
+
+    /// Whether a file has the bytes that a line says at a place. A file of blocks is compared if
+    /// they are dumped.
+    fn has_bytes(&self, name: &str, value: &str) -> Result<bool, Memory> {
+        let (at, digits) = parted(value);
+        let bytes = bytes_of(self.case.alloc, digits)?;
+        let found = self.files.file(name.as_bytes()).unwrap_or(&[]);
+        let is_compared = self.wanted.dump || !name.ends_with(".blk");
+        let is_so = has_at(found, number(at), bytes.as_slice());
+        Ok(!is_compared || is_among(self.wanted.absent, name) || is_so)
+    }
+
+    /// Whether no file of these names is there.
+    fn has_none(&self, names: &str) -> bool {
+        let files = self.files;
+        !names
+            .split_whitespace()
+            .any(|name| files.file(name.as_bytes()).is_some())
+    }
+
+    /// Whether it is so what a line says of files.
+    fn is_so(&self, word: &str, value: &str) -> Result<bool, Memory> {
+        let (name, rest) = parted(value);
+        match word {
+            "member" => self.holds_member(name, rest),
+            "sent" => self.holds_frames(name, rest, [0, 0]),
+            "file" => self.has_bytes(name, rest),
+            _ => Ok(self.has_none(value)),
         }
     }
-    false
-}
 
-/// Whether a file isn't to be there.
-fn is_absent(scenario: &Scenario<'_>, after: &After<'_>, name: &str) -> bool {
-    is_word(scenario.value("absent"), name) || is_word(after.absent, name)
-}
-
-/// How many bytes of a file are there at most.
-fn part(scenario: &Scenario<'_>, name: &str) -> usize {
-    number(scenario.value_named("part", name))
-}
-
-/// Whether a file has these bytes, or as many of them as the scenario says; where it isn't to be
-/// there nothing is compared.
-fn holds(scenario: &Scenario<'_>, after: &After<'_>, name: &str, bytes: &[u8]) -> bool {
-    let front = bytes.get(..part(scenario, name)).unwrap_or(bytes);
-    match after.files.file(name.as_bytes()) {
-        Some(found) => is_absent(scenario, after, name) || found == front,
-        None => is_absent(scenario, after, name),
-    }
-}
-
-/// Whether a dump is made of the parts of these words, or has as many bytes as the scenario says.
-fn is_dump(scenario: &Scenario<'_>, name: &str, dump: &[u8], blocks: &str) -> bool {
-    match part(scenario, name) {
-        usize::MAX => is_dump_of(dump, parts_of(scenario), blocks),
-        length => dump.len() == length,
-    }
-}
-
-/// Whether a member's dump is there exactly where it is asked for, and is made of its blocks.
-fn holds_dump(scenario: &Scenario<'_>, after: &After<'_>, name: &str, blocks: &str) -> bool {
-    match after.files.file(name.as_bytes()) {
-        Some(found) => {
-            is_absent(scenario, after, name) || after.dump && is_dump(scenario, name, found, blocks)
-        }
-        None => !after.dump || is_absent(scenario, after, name),
-    }
-}
-
-/// Whether the files of a member are as its line says.
-fn holds_member(
-    alloc: Global,
-    scenario: &Scenario<'_>,
-    after: &After<'_>,
-    value: &str,
-) -> Result<bool, Memory> {
-    let (index, _, kept, blocks) = member_of(value);
-    let saved = format!(in alloc; "out.{index}.pcap")?;
-    let dumped = format!(in alloc; "out.{index}.blk")?;
-    let bytes = output(alloc, scenario, kept, [1, 2_000])?;
-    let is_saved = holds(scenario, after, saved.as_str(), bytes.as_slice());
-    Ok(is_saved && holds_dump(scenario, after, dumped.as_str(), blocks))
-}
-
-/// Whether the file of what was sent is the one of a line.
-fn holds_sent(
-    alloc: Global,
-    scenario: &Scenario<'_>,
-    after: &After<'_>,
-    value: &str,
-) -> Result<bool, Memory> {
-    let (name, words) = value.split_once(' ').unwrap_or((value, ""));
-    let bytes = output(alloc, scenario, words, [0, 0])?;
-    Ok(holds(scenario, after, name, bytes.as_slice()))
-}
-
-/// Whether a file has the bytes that a line says at a place. One of blocks is compared where they
-/// are dumped.
-fn has_bytes(alloc: Global, after: &After<'_>, value: &str) -> Result<bool, Memory> {
-    let (name, rest) = value.split_once(' ').unwrap_or((value, ""));
-    let (at, digits) = rest.trim().split_once(' ').unwrap_or((rest, ""));
-    let bytes = bytes_of(alloc, digits)?;
-    let found = after.files.file(name.as_bytes()).unwrap_or(&[]);
-    let is_compared = after.dump || !name.ends_with(".blk");
-    Ok(!is_compared || is_word(after.absent, name) || has_at(found, number(at), bytes.as_slice()))
-}
-
-/// The first line of a member whose files aren't as it says; empty where there is none.
-fn wrong_member<'a>(
-    alloc: Global,
-    scenario: &Scenario<'a>,
-    after: &After<'_>,
-) -> Result<&'a str, Memory> {
-    for line in scenario.lines("member").lines() {
-        if let Some(value) = said_of(line, "member") {
-            if !holds_member(alloc, scenario, after, value)? {
-                return Ok(line);
+    /// Appends the lines of a word that aren't so.
+    fn push_wrong_lines(&self, text: &mut String, word: &str) -> Result<(), Memory> {
+        for value in self.case.scenario.values(self.case.alloc, word)?.as_slice() {
+            if !self.is_so(word, value)? {
+                write!(text, "wrong: {word} {value}\n")?;
             }
         }
+        Ok(())
     }
-    Ok("")
-}
 
-/// The first line of bytes at a place that isn't so; empty where there is none.
-fn wrong_bytes<'a>(
-    alloc: Global,
-    scenario: &Scenario<'a>,
-    after: &After<'_>,
-) -> Result<&'a str, Memory> {
-    for line in scenario.lines("file").lines() {
-        if let Some(value) = said_of(line, "file") {
-            if !has_bytes(alloc, after, value)? {
-                return Ok(line);
-            }
+    /// Appends what is said of the files and isn't so.
+    pub(crate) fn push_wrong(&self, text: &mut String) -> Result<(), Memory> {
+        for word in ["member", "sent", "file", "absent"] {
+            self.push_wrong_lines(text, word)?;
         }
-    }
-    Ok("")
-}
-
-/// The first line of a sent file that isn't so; empty where there is none.
-fn wrong_sent<'a>(
-    alloc: Global,
-    scenario: &Scenario<'a>,
-    after: &After<'_>,
-) -> Result<&'a str, Memory> {
-    for line in scenario.lines("sent").lines() {
-        if let Some(value) = said_of(line, "sent") {
-            if !holds_sent(alloc, scenario, after, value)? {
-                return Ok(line);
-            }
+        if !self.has_none(self.wanted.absent) {
+            write!(text, "wrong: absent {}\n", self.wanted.absent)?;
         }
+        Ok(())
     }
-    Ok("")
-}
-
-/// The first of these names whose file is there; empty where there is none.
-fn present<'a>(names: &'a str, files: &MemStore) -> &'a str {
-    for name in names.split_whitespace() {
-        if files.file(name.as_bytes()).is_some() {
-            return name;
-        }
-    }
-    ""
-}
-
-/// The lines and names of a scenario that say something of a file that isn't so, one after the
-/// other; empty where there is none.
-pub(crate) fn wrong_files(
-    alloc: Global,
-    scenario: &Scenario<'_>,
-    after: &After<'_>,
-) -> Result<String, Memory> {
-    let member = wrong_member(alloc, scenario, after)?;
-    let bytes = wrong_bytes(alloc, scenario, after)?;
-    let sent = wrong_sent(alloc, scenario, after)?;
-    let found = present(scenario.value("absent"), after.files);
-    let more = present(after.absent, after.files);
-    Ok(format!(in alloc; "{member}{bytes}{sent}{found}{more}")?)
 }

@@ -1,67 +1,69 @@
-//! The texts that a scenario gives: its setup, schedule, filter and moments.
-use crate::lines::{Scenario, number, said_of};
+//! All scenarios of a text, one after another.
+use crate::cases::Case;
+use crate::comparing::differences;
+use crate::lines::Scenario;
+use crate::sweeps::sweep_all;
 use frame_view::Memory;
 use std::alloc::Global;
+use std::sync::Wait;
+use std::thread::Threads;
 
-/// A line, and how often it stands: as often as its last word says, if that is `xN`.
-fn repeated_line(line: &str) -> (&str, usize) {
-    let (front, last) = line.rsplit_once(' ').unwrap_or(("", line));
-    match last.strip_prefix("x") {
-        Some(times) => match times.parse::<usize>() {
-            Ok(times) => (front.trim(), times.min(4096)),
-            Err(_) => (line, 1),
-        },
-        None => (line, 1),
+/// The result of a text's scenarios.
+#[derive(Drop)]
+pub struct Counted {
+    /// How many scenarios there are.
+    pub scenarios: u64,
+    /// How often they were carried out, each once as it is or by sweeps.
+    pub runs: u64,
+    /// How many of these runs differ.
+    pub differ: u64,
+    /// What differs: after the name of the scenario and what failed beside.
+    pub found: String,
+}
+
+impl Counted {
+    /// Counts a run, and what differs of it.
+    pub(crate) fn push(&mut self, case: &Case<'_>, wrong: &str) -> Result<(), Memory> {
+        self.runs = self.runs.saturating_add(1);
+        if !wrong.is_empty() {
+            let (name, fault) = (case.scenario.name, case.fault);
+            self.differ = self.differ.saturating_add(1);
+            write!(self.found, "differs: {name}\n")?;
+            write!(
+                self.found,
+                "{} {} {}\n{wrong}",
+                fault.word, fault.what, fault.number
+            )?;
+        }
+        Ok(())
     }
 }
 
-/// Appends a line with its end.
-fn push_once(text: &mut String, line: &str) -> Result<(), Memory> {
-    text.push_str(line)?;
-    Ok(text.push_str("\n")?)
-}
-
-/// Appends a line as often as its last word says, if that is `xN`.
-fn push_line(text: &mut String, line: &str) -> Result<(), Memory> {
-    let (front, times) = repeated_line(line);
-    for _ in 0..times {
-        push_once(text, front)?;
-    }
-    Ok(())
-}
-
-/// Appends the lines that stand between bars.
-fn push_parts(text: &mut String, value: &str) -> Result<(), Memory> {
-    for part in value.split('|') {
-        if !part.trim().is_empty() {
-            push_line(text, part.trim())?;
+/// Carries out the scenarios of a text as they are, or by all sweeps.
+pub fn carry_out_text<R: Threads + Wait + Sync>(
+    rt: &R,
+    alloc: Global,
+    text: &str,
+    is_swept: bool,
+) -> Result<Counted, Memory> {
+    let mut counted = Counted {
+        scenarios: 0,
+        runs: 0,
+        differ: 0,
+        found: String::new(alloc),
+    };
+    for part in text.split("\n\n") {
+        let scenario = Scenario::new(text, part);
+        if !scenario.is_run() {
+            continue;
+        }
+        counted.scenarios = counted.scenarios.saturating_add(1);
+        let case = Case::new(alloc, &scenario);
+        if is_swept {
+            sweep_all(rt, &mut counted, case)?;
+        } else {
+            counted.push(&case, differences(rt, alloc, &scenario)?.as_str())?;
         }
     }
-    Ok(())
-}
-
-/// Appends the lines of a text that a scenario gives by a word.
-fn push_text(text: &mut String, scenario: &Scenario<'_>, word: &str) -> Result<(), Memory> {
-    for line in scenario.lines(word).lines() {
-        push_parts(text, said_of(line, word).unwrap_or(""))?;
-    }
-    Ok(())
-}
-
-/// The text that a scenario gives by a word.
-pub(crate) fn text(alloc: Global, scenario: &Scenario<'_>, word: &str) -> Result<String, Memory> {
-    let mut text = String::new(alloc);
-    push_text(&mut text, scenario, word)?;
-    Ok(text)
-}
-
-/// The text of a scenario's setup, with its blocks dumped or as it is.
-pub(crate) fn setup(alloc: Global, scenario: &Scenario<'_>, dump: bool) -> Result<String, Memory> {
-    let mut text = String::new(alloc);
-    push_text(&mut text, scenario, "conf")?;
-    push_text(&mut text, scenario, "with")?;
-    if dump {
-        text.push_str("dump yes\n")?;
-    }
-    Ok(text)
+    Ok(counted)
 }
