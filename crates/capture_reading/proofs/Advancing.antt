@@ -27,7 +27,7 @@ nothing_yet cpu source so_far represents empty sound frames given ended = record
       (gave_nothing (Some source) sound);
 }
 
--- what was given where it hasn't ended
+-- what was given if it hasn't ended
 still_gives : (first old : SourceSeen) (bytes : List ℕ) (ended : Option CpuEnd)
     → GaveBy first old bytes ended → ended ≡ None → GaveBy first old bytes None
 still_gives first old bytes ended gave none =
@@ -69,7 +69,7 @@ read_to_end cpu first old new so_far piece end none few gave empty is h =
     (end_gives (Some first) old new h.bytes piece end (few_read so_far.given h.bytes h.given_is few)
     (still_gives first old h.bytes so_far.ended h.gave none) gave empty (is cpu h.bytes h.represents))
 
--- a piece more
+-- one more piece
 pub read_piece : (cpu : ℕ) (first old new : SourceSeen) (so_far next : SoFar) (piece : List ℕ)
     (damage : Option CaptureError) → IsTheEnd → IsUncut
     → so_far.ended ≡ None → so_far.given ≤ 33554432 → length piece ≤ 65536 → GavePiece old new piece
@@ -93,7 +93,7 @@ read_piece cpu first old new so_far next piece damage end uncut none few small g
           (still_gives first old h.bytes so_far.ended h.gave none) gave one.decodes.damage_is);
     }
 
--- what hasn't ended isn't larger than captures may be
+-- what hasn't ended isn't larger than a capture may be
 pub few_given : (cpu : ℕ) (first now : SourceSeen) (so_far : SoFar)
     → ((fed : List ℕ) → 33554432 < length fed → IsSome (damage_of fed))
     → IsSoFar cpu first now so_far → so_far.ended ≡ None → so_far.given ≤ 33554432

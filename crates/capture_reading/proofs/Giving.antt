@@ -1,8 +1,8 @@
 -- What holds of what a source gave, from one piece to the next.
-use Rattle.std.proofs.Common.{◌≡◌, ◌≢◌, ℕ, false, append-nil, subst, inl, inr, ◌≤◌, ◌+◌, List, [], ◌++◌, length, Option, None, Some, refl, sym, ap, ◌∙◌, arith, length-append}
+use Rattle.std.proofs.Common.{◌≡◌, ◌≢◌, ℕ, false, append-nil, append_assoc, subst, inl, inr, ◌≤◌, List, [], ◌++◌, length, Option, None, Some, refl, sym, ap, ◌∙◌, arith, length-append}
 use Rattle.std.specs.Prelude.{Err, IsSome, ◌<◌}
 use Rattle.std.proofs.lemmas.Bool.{cases_lt}
-use Rattle.std.specs.Io.KnownBytes.{Consumes, IsAtEnd}
+use Rattle.std.specs.Io.KnownBytes.{Consumes}
 use Rattle.capture_file.specs.Capture.{damage_of, end_of}
 use Rattle.capture_file.specs.Decoding.{UnlessMemory}
 use Rattle.capture_file.specs.declared.error.CaptureError.{CaptureError}
@@ -64,13 +64,13 @@ told_end : (P : Type 0) (end : CpuEnd) (damage : Option CaptureError) → end �
     → WhereFault end P
 told_end P end damage e = subst (λ (x : CpuEnd). WhereFault x P) (sym e) (no_fault P damage)
 
--- a count that stood still, and then rose
+-- a count that stayed the same, and then rose
 rose_then : (a b c : ℕ) → b ≡ a → Rose b c → Rose a c
 rose_then a b c h rose = omega (arith, h, rose)
 
 -- ---- bytes without damage
 
--- bytes without damage end before any damage, with a last piece of no byte
+-- bytes without damage end before any damage, with a last piece without a byte
 sound_ends : (bytes : List ℕ) → damage_of bytes ≡ None → EndsAtDamage bytes
 sound_ends bytes sound = record {
   before = bytes;
@@ -80,7 +80,7 @@ sound_ends bytes sound = record {
   small = omega arith;
 }
 
--- what is sound isn't larger than captures may be
+-- what is sound isn't larger than a capture may be
 pub is_small : (bytes : List ℕ) → damage_of bytes ≡ None
     → (33554432 < length bytes → IsSome (damage_of bytes)) → length bytes ≤ 33554432
 is_small bytes sound h =
@@ -96,7 +96,12 @@ is_small bytes sound h =
 pub gave_nothing : (first : Option SourceSeen) → damage_of [] ≡ None → Giving first first [] None
 gave_nothing None sound = refl
 gave_nothing (Some seen) sound =
-    record { taken = Consumes-none seen.left; faultless = refl; sound = sound }
+    record {
+      taken = Consumes-none seen.left;
+      given_is = sym (append-nil seen.given);
+      faultless = refl;
+      sound = sound;
+    }
 
 -- ---- the source ends
 
@@ -111,6 +116,20 @@ on_and_on first before now bytes h k =
     subst (λ b. Consumes first now b) (append-nil bytes)
     (Consumes-more first before now bytes [] h k)
 
+-- some bytes were given, and then a piece
+more_given : (first before now bytes piece : List ℕ)
+    → before ≡ first ++ bytes → now ≡ before ++ piece → now ≡ first ++ (bytes ++ piece)
+more_given first before now bytes piece one two =
+    two ∙ ap (λ (t : List ℕ). t ++ piece) one ∙ append_assoc first bytes piece
+
+-- and then none
+none_more : (first before now bytes piece : List ℕ)
+    → before ≡ first ++ bytes → now ≡ before ++ piece → piece ≡ [] → now ≡ first ++ bytes
+none_more first before now bytes piece one two none =
+    more_given first before now bytes piece one two
+    ∙ ap (λ (t : List ℕ). first ++ (bytes ++ t)) none
+    ∙ ap (λ (t : List ℕ). first ++ t) (append-nil bytes)
+
 -- a read fails
 pub fault_gives : (first : Option SourceSeen) (old new : SourceSeen) (bytes : List ℕ)
     → length bytes ≤ 33554432 → Giving first (Some old) bytes None → FailedToGive old new
@@ -121,6 +140,7 @@ fault_gives (Some seen) old new bytes few h failed =
     let later = failed.later in
     record {
       taken = on_and_on seen.left old.left new.left bytes h.taken failed.taken;
+      given_is = failed.given_is ∙ h.given_is;
       last = sound_ends bytes h.sound;
       few = omega (arith, few);
       later = omega (arith, same, later);
@@ -143,6 +163,7 @@ end_gives (Some seen) old new bytes piece end few h gave empty is =
     let nothing = subst (λ (p : List ℕ). Consumes old.left new.left p) empty gave.taken in
     record {
       taken = on_and_on seen.left old.left new.left bytes h.taken nothing;
+      given_is = none_more seen.given old.given new.given bytes piece h.given_is gave.given_is empty;
       last = sound_ends bytes h.sound;
       few = omega (arith, few);
       later = omega (arith, same, still);
@@ -153,7 +174,7 @@ end_gives (Some seen) old new bytes piece end few h gave empty is =
       all = where_ended _ end (gave.end empty);
     }
 
--- ---- a piece more
+-- ---- one more piece
 
 abbrev pub IsTheEnd : Type 0
 IsTheEnd = (bytes : List ℕ) (d : CaptureError) → damage_of bytes ≡ Some d → end_of bytes ≡ Some d
@@ -171,6 +192,7 @@ pub piece_gives : (first : Option SourceSeen) (old new : SourceSeen) (bytes piec
 piece_gives None old new bytes piece damage the_end uncut few small h gave is = absurd h
 piece_gives (Some seen) old new bytes piece None the_end uncut few small h gave is = record {
   taken = Consumes-more seen.left old.left new.left bytes piece h.taken gave.taken;
+  given_is = more_given seen.given old.given new.given bytes piece h.given_is gave.given_is;
   faultless = gave.faultless ∙ h.faultless;
   sound = sym is;
 }
@@ -179,6 +201,7 @@ piece_gives (Some seen) old new bytes piece (Some damage) the_end uncut few smal
     let still = gave.faultless in
     record {
       taken = Consumes-more seen.left old.left new.left bytes piece h.taken gave.taken;
+      given_is = more_given seen.given old.given new.given bytes piece h.given_is gave.given_is;
       last = record { before = bytes; piece = piece; parts = refl; sound = h.sound; small = small };
       few = omega (arith, few, small, length-append bytes piece);
       later = omega (arith, same, still);

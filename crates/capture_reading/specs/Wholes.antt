@@ -1,5 +1,6 @@
 -- What was read of a capture.
-use Rattle.std.specs.Prelude.{◌≡◌, ℕ, ◌-◌, List, length, is_some, if◌then◌else◌, ⊤, Option, None, Some}
+use Rattle.std.specs.Prelude.{◌≡◌, ℕ, ◌-◌, List, length, is_some, if◌then◌else◌, ⊤, Option, None}
+use Rattle.std.specs.Prelude.{Some}
 use Rattle.capture_file.specs.Capture.{frames_of}
 use Rattle.capture_file.specs.Decoding.{Represents}
 use Rattle.tap_outside.specs.Seen.{SourceSeen}
@@ -15,15 +16,15 @@ pub record IsReading (cpu : ℕ) (old new : Option SourceSeen) (reading : Readin
   pub frames : reading.frames ≡ frames_of cpu bytes
   pub given : reading.given ≡ length bytes
 
--- a source is still there where one was, and no read of it failed
+-- a source is still there if one was, and no read of it failed
 abbrev pub IsStillThere : Option SourceSeen → Option SourceSeen → Type 0
 IsStillThere None None = ⊤
 IsStillThere (Some old) (Some new) = new.faults ≡ old.faults
 IsStillThere old new = ⊥
 
--- ---- on the way
+-- ---- while it is read
 
--- of a source some bytes were read: the decoder stands for them, and these are their frames and
+-- some bytes of a source were read: the decoder represents them, and these are their frames and
 -- their number
 pub record IsSoFar (cpu : ℕ) (old new : SourceSeen) (so_far : SoFar) : Type 0 where
   pub bytes : List ℕ
@@ -32,6 +33,6 @@ pub record IsSoFar (cpu : ℕ) (old new : SourceSeen) (so_far : SoFar) : Type 0 
   pub given_is : so_far.given ≡ length bytes
   pub gave : GaveBy old new bytes so_far.ended
 
--- how many bytes may still be read, counted so that it falls with each read
+-- a bound on the bytes still to be read, which falls with each read
 abbrev pub unread : SoFar → ℕ
 unread so_far = if is_some so_far.ended then 0 else 33554433 - so_far.given

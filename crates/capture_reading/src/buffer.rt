@@ -10,8 +10,8 @@ use tap_outside::{Failed, Source};
 /// The most bytes of a piece: this project's own choice.
 const PIECE: usize = 65_536;
 
-/// A buffer that holds a piece of a source. One serves any number of sources, one after the other.
-/// Contracts see it as the bytes of the piece, of which there are at most 65,536.
+/// A buffer that holds a piece of a source. One serves any number of sources, one after another.
+/// Contracts see it as the bytes of the piece, at most 65,536.
 #[derive(Debug, Drop)]
 pub struct Buffer {
     /// 65,536 bytes: first the piece, then what earlier reads left there.
@@ -32,7 +32,7 @@ impl Model for Buffer {
 }
 
 impl Buffer {
-    /// A buffer without a piece. The error comes where its bytes can't be allocated.
+    /// A buffer without a piece. The error is that its bytes can't be allocated.
     pub fn new(alloc: Global) -> Result<Buffer, Memory>
         ensures { IfOk result (λ buffer. buffer ≡ []) }
     {

@@ -9,7 +9,7 @@ use capture_file::{CaptureError, CpuEnd, Decoder};
 use frame_view::{Frames, Memory};
 use std::alloc::Global;
 
-/// What is decoded of a piece.
+/// What is decoded from a piece.
 #[derive(Debug, Drop)]
 pub struct Decoded {
     /// The frames that are whole now and weren't before, in order.
@@ -18,7 +18,7 @@ pub struct Decoded {
     pub damage: Option<CaptureError>,
 }
 
-/// How the source of a capture ended that shows this damage: not yet, where it shows none.
+/// How the source of a capture with this damage ended: not yet, if there is none.
 pub fn ended_by(damage: Option<CaptureError>) -> Option<CpuEnd>
     ensures { result ≡ ended_by damage }
 {
@@ -29,14 +29,15 @@ pub fn ended_by(damage: Option<CaptureError>) -> Option<CpuEnd>
 }
 
 /// Feeds a piece to a decoder, appends the frames that are whole now, and returns the damage that
-/// the capture shows by now. The error is out of memory: the decoder and the frames are as before
-/// then.
+/// the capture shows by now. The error is out of memory: the decoder and the frames are then as
+/// before.
 pub(crate) fn feed(
     decoder: &mut Decoder,
     piece: &[u8],
     into: &mut Frames,
 ) -> Result<Option<CaptureError>, Memory>
-    ensures appends { IfOk result (λ damage. (cpu : ℕ) (fed : List ℕ) → Represents cpu decoder.old fed
+    ensures appends { IfOk result (λ damage. (cpu : ℕ) (fed : List ℕ)
+        → Represents cpu decoder.old fed
         → Appends cpu fed piece.now decoder.new into.old into.new damage) }
     ensures decoder { OnErr result (decoder.new ≡ decoder.old) }
     ensures into { OnErr result (into.new ≡ into.old) }
@@ -53,10 +54,11 @@ pub(crate) fn feed(
 }
 
 /// Feeds a piece to a decoder: the frames that are whole now, and the damage that the capture shows
-/// by now. The error is out of memory: the decoder is as before then, so that the piece may be fed
+/// by now. The error is out of memory: the decoder is then as before, so the piece may be fed
 /// again.
 pub fn decode(alloc: Global, decoder: &mut Decoder, piece: &[u8]) -> Result<Decoded, Memory>
-    ensures decodes { IfOk result (λ decoded. (cpu : ℕ) (fed : List ℕ) → Represents cpu decoder.old fed
+    ensures decodes { IfOk result (λ decoded. (cpu : ℕ) (fed : List ℕ)
+        → Represents cpu decoder.old fed
         → Decodes cpu fed piece.now decoder.new decoded.frames decoded.damage) }
     ensures same { OnErr result (decoder.new ≡ decoder.old) }
 {
@@ -65,17 +67,18 @@ pub fn decode(alloc: Global, decoder: &mut Decoder, piece: &[u8]) -> Result<Deco
     Ok(Decoded { frames, damage })
 }
 
-/// Whether an answer says nothing of the capture.
+/// Whether an answer says nothing about the capture.
 fn is_want(error: &CaptureError) -> bool
     ensures { result ≡ is_want error.now }
 {
     matches!(error, CaptureError::Memory)
 }
 
-/// How a capture ends whose source was read to its end: whole, or damaged, a cut among that. It
+/// How a capture whose source was read to its end ends: whole or damaged (a cut is damage). It
 /// takes no memory.
 pub fn end_at(decoder: &Decoder) -> CpuEnd
-    ensures { (cpu : ℕ) (fed : List ℕ) → Represents cpu decoder.now fed → result ≡ end_by (end_of fed) }
+    ensures { (cpu : ℕ) (fed : List ℕ)
+        → Represents cpu decoder.now fed → result ≡ end_by (end_of fed) }
 {
     match decoder.end() {
         Ok(()) => CpuEnd::Whole,

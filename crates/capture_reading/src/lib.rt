@@ -1,4 +1,4 @@
-//! Captures that are read out of sources, piece by piece: the buffer, the decoding of a piece, and
+//! Captures that are read from sources, piece by piece: the buffer, the decoding of a piece, and
 //! whole captures.
 #![tactic(auto)]
 

@@ -38,7 +38,7 @@ impl SoFar {
         }
     }
 
-    /// Reads the next piece of the source, which ends where it gives no byte or fails, or the bytes
+    /// Reads the next piece of the source, which ends if it gives no byte or fails, or the bytes
     /// show damage.
     pub(crate) fn read_piece<S: Source>(
         &mut self,

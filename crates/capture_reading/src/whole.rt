@@ -22,8 +22,8 @@ pub struct Reading {
 
 /// Reads the capture of a CPU to its end, a piece of at most 65,536 bytes at a time: until the
 /// source ends or fails, or the bytes show damage, as more than 33,554,432 bytes do. Nothing is
-/// read after damage. Without a source, as where a file can't be opened, nothing is read and the
-/// end is a fault. The error is out of memory: then some bytes are lost, but a source that was
+/// read after damage. Without a source, such as when a file can't be opened, nothing is read and
+/// the end is a fault. The error is out of memory: then some bytes are lost, but a source that was
 /// handed in is still there, and no read of it failed.
 pub fn read_capture<S: Source>(
     alloc: Global,
@@ -46,7 +46,7 @@ pub fn read_capture<S: Source>(
     read_source(alloc, cpu, source)
 }
 
-/// Reads the capture of a CPU out of a source that is there.
+/// Reads the capture of a CPU from a source that was handed in.
 fn read_source<S: Source>(alloc: Global, cpu: u32, source: &mut S) -> Result<Reading, Memory>
     ensures read { IfOk result
         (IsReading cpu (Some (S.seen source.old)) (Some (S.seen source.new))) }

@@ -34,7 +34,10 @@ pub record IsFreshFeeder {S : Type 0} (job : Job) (locks : List Lock) (dealer : 
   pub path : feeder.feed.path ≡ first_path job.setup.plan
   pub members : AreMembersFor job feeder.feed.number locks
   pub count : length feeder.member_seats.items ≡ length locks
-  pub each : (member : ℕ) (lock : Lock) (member_seat : Seat) → member < length feeder.member_seats.items →
+  pub each :
+      (member : ℕ) (lock : Lock) (member_seat : Seat)
+      → member < length feeder.member_seats.items
+      →
       IsFreshMemberSeat feeder.feed.number (slice_index_or locks member lock)
       (slice_index_or feeder.member_seats.items member member_seat)
   pub seat : IsFreshSeat dealer feeder.seat

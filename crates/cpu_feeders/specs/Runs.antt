@@ -36,9 +36,9 @@ module _ {T : Type 0} (base_of : T → Base) (taken_by : T → List Taken) where
 
   -- A job ran on threads, with these takers: its sources gave some bytes and ended, the logs, notes
   -- and rings are those of a group's run over them, and each member's taker has read all blocks.
-  pub record IsTakerRun (job : Job) (moments : List ℕ) (old : List (Option SourceSeen)) (before : List T)
-      (new : List (Option SourceSeen)) (after : List T) (logs : List CpuLog) (notes : List (List Note))
-      (rings : List (Pends ShapedBytes)) : Type 0 where
+  pub record IsTakerRun (job : Job) (moments : List ℕ) (old : List (Option SourceSeen))
+      (before : List T) (new : List (Option SourceSeen)) (after : List T) (logs : List CpuLog)
+      (notes : List (List Note)) (rings : List (Pends ShapedBytes)) : Type 0 where
     pub bytes : List (List ℕ)
     pub ends : List CpuEnd
     pub gave : AllGave old new bytes ends

@@ -15,26 +15,30 @@ use Rattle.setup_text.specs.declared.jobs.Job.{Job}
 use Rattle.ticket_dealer.specs.Seats.{DealerValue, IsFreshOf}
 
 -- what a reader leaves: it has walked, and has drawn no ticket
-pub record IsWalkedOut {T : Type 0} (base_of : T → Base) (taken_by : T → List Taken) (dealer : DealerValue)
-    (old new : Walker T) : Type 0 where
+pub record IsWalkedOut {T : Type 0} (base_of : T → Base) (taken_by : T → List Taken)
+    (dealer : DealerValue) (old new : Walker T) : Type 0 where
   pub walked : HasWalked base_of taken_by (base_of old.taker) old new
   pub seat : IsFreshOf dealer new.seat
 
 -- what a feeder leaves: it has fed its CPU, unless an allocation failed, and has ended
-pub record IsFedOut {S : Type 0} (job : Job) (locks : List Lock) (dealer : DealerValue) (old new : Feeder S) : Type 0 where
+pub record IsFedOut {S : Type 0} (job : Job) (locks : List Lock) (dealer : DealerValue)
+    (old new : Feeder S) : Type 0 where
   pub fed : new.full ≡ false → FeedsOut job locks old new
   pub ended : HasEnded dealer new.seat
 
-module _ {S T : Type 0} (base_of : T → Base) (taken_by : T → List Taken) (job : Job) (locks : List Lock) (dealer : DealerValue) where
+module _ {S T : Type 0} (base_of : T → Base) (taken_by : T → List Taken) (job : Job)
+    (locks : List Lock) (dealer : DealerValue) where
   -- a worker that has done nothing
   abbrev pub IsReadyWorker : Worker S T → Type 0
-  IsReadyWorker (worker.Walks walker) = Walks base_of taken_by (base_of walker.taker) walker × IsFreshOf dealer walker.seat
+  IsReadyWorker (worker.Walks walker) =
+      Walks base_of taken_by (base_of walker.taker) walker × IsFreshOf dealer walker.seat
   IsReadyWorker (worker.Ticks timer) = AreTimed [] locks timer.member_seats.items
   IsReadyWorker (worker.Feeds feeder) = IsFreshFeeder job locks dealer feeder
 
   -- what it leaves, given the moments
   abbrev pub IsDoneWorker : List ℕ → Worker S T → Worker S T → Type 0
-  IsDoneWorker moments (worker.Walks old) (worker.Walks new) = IsWalkedOut base_of taken_by dealer old new
+  IsDoneWorker moments (worker.Walks old) (worker.Walks new) =
+      IsWalkedOut base_of taken_by dealer old new
   IsDoneWorker moments (worker.Ticks old) (worker.Ticks new) = TimesOut moments locks new
   IsDoneWorker moments (worker.Feeds old) (worker.Feeds new) = IsFedOut job locks dealer old new
   IsDoneWorker moments old new = ⊥

@@ -1,6 +1,7 @@
 //! The captures of a seed, as sources in memory.
 ghost use Rattle.std.specs.Prelude.{◌≡◌, ◌<◌, ◌≤◌, Some, length, map, All, IfOk};
 ghost use Rattle.capture_file.specs.Output.{output_of};
+ghost use Rattle.tap_outside.specs.Sources.{unread_sure_source};
 ghost use Rattle.made_captures.specs.Made.{made_captures, AreShort};
 
 use crate::dealt_frames::deal;
@@ -26,7 +27,8 @@ pub fn made_sources(
     requires cpus { 0 < cpus }
     ensures len { IfOk result (λ sources. length sources.items ≡ cpus) }
     ensures sources { IfOk result (λ sources.
-        sources.items ≡ map Some (made_captures seed count cpus)) }
+        sources.items ≡ map (λ text. Some (unread_sure_source text))
+        (made_captures seed count cpus)) }
 {
     let frames = make(alloc, seed, count)?;
     let lists = deal(alloc, frames, cpus)?;
@@ -36,8 +38,8 @@ pub fn made_sources(
 /// A source for each list of packets: its output file.
 fn sources_of(alloc: Global, lists: Vec<Packets>) -> Result<Vec<Option<SureSource>>, Memory>
     requires { All AreShort lists.items }
-    ensures { IfOk result (λ sources.
-        sources.items ≡ map (λ packets. Some (output_of packets)) lists.items) }
+    ensures { IfOk result (λ sources. sources.items
+        ≡ map (λ packets. Some (unread_sure_source (output_of packets))) lists.items) }
 {
     let mut sources = Vec::with_capacity(alloc, lists.len())?;
     for packets in lists {

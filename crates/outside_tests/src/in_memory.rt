@@ -1,5 +1,5 @@
 //! Words, and sources, sinks and stores in memory: each call once with ample memory.
-ghost use Rattle.std.specs.Prelude.{IsTrue};
+ghost use Rattle.std.specs.Prelude.{◌≡◌, ◌++◌, ◌∷◌, [], IfOk, IsTrue};
 
 use frame_view::{ByteList, MomentList};
 use std::alloc::{AllocError, Global};
@@ -30,6 +30,38 @@ pub(crate) fn fetched<S: Store>(
         let given = input.read(&mut piece)?;
         bytes.extend_from_slice(&piece[..given])?;
     }
+    store.close(input);
+    Ok(bytes)
+}
+
+/// What a source gives before it ends or a read fails, up to 36 bytes, read by four bytes.
+fn given_by<I: Source>(alloc: Global, input: &mut I) -> Result<Vec<u8>, AllocError>
+    requires { (I.seen input.old).given ≡ [] }
+    ensures { IfOk result (λ bytes. (I.seen input.new).given ≡ bytes.items) }
+{
+    let mut bytes = Vec::new(alloc);
+    'reading: for _ in 0..9 {
+        let mut piece = [0; 4];
+        let Ok(count) = input.read(&mut piece) else {
+            return Ok(bytes);
+        };
+        bytes.extend_from_slice(&piece[..count])?;
+    }
+    Ok(bytes)
+}
+
+/// What a store records of a name whose source is read until it ends or a read fails.
+pub(crate) fn recorded<S: Store>(
+    alloc: Global,
+    store: &mut S,
+    name: &[u8],
+) -> Result<Vec<u8>, OutError>
+    requires { IsTrue ((S.seen store.old).to_read name.now) }
+    ensures { IfOk result (λ bytes.
+        (S.seen store.new).closed ≡ (S.seen store.old).closed ++ bytes.items ∷ []) }
+{
+    let mut input = store.fetch(name)?;
+    let bytes = given_by(alloc, &mut input)?;
     store.close(input);
     Ok(bytes)
 }
@@ -125,6 +157,38 @@ fn a_store_in_memory_fails_where_told(rt: HostRuntime) -> Result<(), Fail> {
     let saves = [store.save(b"a", b"second"), store.save(b"b", b"third")];
     assert_eq!(rt; saves, [Err(OutError::Failed), Ok(())]);
     check_files(&rt, &store);
+    Ok(())
+}
+
+/// The most bytes that one read gives, the reads that fail, and what is recorded of the letters
+/// from a to h.
+static RECORDS: [(usize, &[u64], &str); 6] = [
+    (9, &[], "abcdefgh"),
+    (3, &[], "abcdefgh"),
+    (3, &[1], ""),
+    (3, &[2], "abc"),
+    (3, &[3, 2], "abc"),
+    (9, &[3], "abcdefgh"),
+];
+
+/// A store in memory records what a source gave before a read of it failed.
+fn check_record(
+    rt: &impl Abort,
+    alloc: Global,
+    (piece, failing, held): &(usize, &[u64], &str),
+) -> Result<(), Fail> {
+    let mut store = MemStore::new(alloc, MomentList::new(alloc), MomentList::new(alloc));
+    store.put(b"a", b"abcdefgh", (*piece).max(1), numbers(alloc, failing)?)?;
+    let bytes = recorded(alloc, &mut store, b"a")?;
+    assert_eq!(rt; (*failing, bytes.as_slice()), (*failing, held.as_bytes()));
+    Ok(())
+}
+
+#[test]
+fn a_store_records_what_was_given_before_a_failed_read(rt: HostRuntime) -> Result<(), Fail> {
+    for row in &RECORDS {
+        check_record(&rt, rt.alloc(), row)?;
+    }
     Ok(())
 }
 

@@ -5,6 +5,8 @@
 #[cfg(test)]
 mod captures;
 #[cfg(test)]
+mod failing_files;
+#[cfg(test)]
 mod in_memory;
 #[cfg(test)]
 mod made;

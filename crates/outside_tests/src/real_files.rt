@@ -1,5 +1,6 @@
 //! Real files.
-use crate::in_memory::fetched;
+use crate::failing_files::FailingFiles;
+use crate::in_memory::{fetched, recorded};
 use std::fs;
 use std::test::Fail;
 use tap_outside::{DiskStore, OutError, Store};
@@ -28,8 +29,23 @@ fn what_is_saved_is_read_back(rt: HostRuntime) -> Result<(), Fail> {
         assert_eq!(rt; (bytes, saved), (bytes, Ok(())));
         let read = fetched(rt.alloc(), &mut store, b"tap_outside.saved")?;
         assert_eq!(rt; read.as_slice(), bytes.as_bytes());
+        let kept = recorded(rt.alloc(), &mut store, b"tap_outside.saved")?;
+        assert_eq!(rt; kept.as_slice(), bytes.as_bytes());
     }
     fs::remove_file(&rt, "tap_outside.saved")?;
     assert_eq!(rt; (store.read_faults(), store.save_faults()), (0, 0));
+    Ok(())
+}
+
+#[test]
+fn what_was_read_before_a_failed_read_is_recorded(rt: HostRuntime) -> Result<(), Fail> {
+    let files = (FailingFiles { rt: &rt }, rt.alloc());
+    let mut store = DiskStore::new(&files);
+    let saved = store.save(b"tap_outside.failing", b"abcdefgh");
+    assert_eq!(rt; saved, Ok(()));
+    let kept = recorded(rt.alloc(), &mut store, b"tap_outside.failing")?;
+    assert_eq!(rt; kept.as_slice(), b"abcd".as_slice());
+    fs::remove_file(&rt, "tap_outside.failing")?;
+    assert_eq!(rt; (store.read_faults(), store.save_faults()), (1, 0));
     Ok(())
 }

@@ -1,5 +1,6 @@
 -- A reader, by the blocks or slots that it has read.
-use Rattle.std.specs.Prelude.{◌≡◌, ℕ, Bool, true, false, is_some, List, [], ◌∷◌, ◌++◌, length, flat_map, if◌then◌else◌, Option, None, Some}
+use Rattle.std.specs.Prelude.{◌≡◌, ℕ, Bool, true, false, is_some, List, [], ◌∷◌, ◌++◌, length}
+use Rattle.std.specs.Prelude.{flat_map, if◌then◌else◌, Option, None, Some}
 use Rattle.frame_view.specs.declared.frames.Packet.{Packet}
 use Rattle.tp_layout.specs.Layouts.{Taken, text_of_taken}
 use Rattle.tp_layout.specs.declared.requests.RingRequest.{RingRequest}
@@ -64,7 +65,8 @@ ComesFrom None took content = took content
 ComesFrom (Some bytes) took content = content ≡ bytes
 
 -- a step reads one block or slot
-pub record Reads (taken_in : RingRequest → List ℕ → Taken) (took : List ℕ → Type 0) (before after : ReaderValue) : Type 0 where
+pub record Reads (taken_in : RingRequest → List ℕ → Taken) (took : List ℕ → Type 0)
+    (before after : ReaderValue) : Type 0 where
   pub content : List ℕ
   pub comes : ComesFrom before.held took content
   pub read : after ≡ has_read taken_in content before
@@ -81,7 +83,10 @@ abbrev pub GivesBack : {W : Type 0} → (W → W → List ℕ → Type 0) → (W
     → Option (List ℕ) → W → W → Type 0
 GivesBack took gave_back (Some bytes) before after = gave_back before after bytes 0
 GivesBack took gave_back None before after =
-    (between : _) × (content : List ℕ) × took before between content × gave_back between after content 0
+    (between : _)
+    × (content : List ℕ)
+    × took before between content
+    × gave_back between after content 0
 
 -- what no block changes of a reader: its shape, whether it keeps texts, and whether it holds a
 -- block

@@ -9,7 +9,11 @@ use Rattle.reader_walk.specs.declared.copies.Copies.{Copies}
 
 -- what is kept of a block or a slot beside its packets
 abbrev pub mark_of : Taken → Mark
-mark_of taken = record { number = taken.number; status = taken.status; packets = length taken.packets }
+mark_of taken = record {
+  number = taken.number;
+  status = taken.status;
+  packets = length taken.packets;
+}
 
 -- the blocks of some marks, whose packets follow one another
 unfoldable pub taken_by : List Mark → List Packet → List Taken
@@ -23,7 +27,12 @@ abbrev pub blocks_of : Copies → List Taken
 blocks_of copies = taken_by copies.marks.items copies.walked.items
 
 abbrev pub reader_value : RingRequest → Bool → Copies → Option (List ℕ) → ReaderValue
-reader_value shape dumps copies held = record { shape = shape; dumps = dumps; taken = blocks_of copies; held = held }
+reader_value shape dumps copies held = record {
+  shape = shape;
+  dumps = dumps;
+  taken = blocks_of copies;
+  held = held;
+}
 
 -- how many packets the blocks of some marks have
 abbrev pub packets_in : List Mark → ℕ
@@ -31,6 +40,7 @@ packets_in [] = 0
 packets_in (mark ∷ marks) = mark.packets + packets_in marks
 
 -- what the fields keep of what was read, given the text of one block or slot
-pub record IsSound (text : RingRequest → Taken → List ℕ) (shape : RingRequest) (dumps : Bool) (copies : Copies) : Type 0 where
+pub record IsSound (text : RingRequest → Taken → List ℕ) (shape : RingRequest) (dumps : Bool)
+    (copies : Copies) : Type 0 where
   pub counted : packets_in copies.marks.items ≡ length copies.walked.items
   pub dump : copies.dump.items ≡ kept_texts text dumps shape (blocks_of copies)

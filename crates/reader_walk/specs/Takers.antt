@@ -15,12 +15,13 @@ abbrev pub IsRetired : RingRequest → List ℕ → Type 0
 IsRetired shape bytes = (number : ℕ) × (status : ℕ) × BeginsLawfully shape number status bytes
 
 -- a block or a slot that a reader of a ring of this shape reads: it may be retired
-pub record IsRetiredUnit {B : Type 0} (shape_of : B → RingRequest) (ready : B → ℕ → ℕ → Type 0) (shape : RingRequest) (unit : B)
-    : Type 0 where
+pub record IsRetiredUnit {B : Type 0} (shape_of : B → RingRequest) (ready : B → ℕ → ℕ → Type 0)
+    (shape : RingRequest) (unit : B) : Type 0 where
   pub shape_is : shape_of unit ≡ shape
   pub text : (number : ℕ) × (status : ℕ) × ready unit number status
 
 -- a block that a taker of blocks of this shape reads
 abbrev pub IsReadable : RingRequest → ShapedBytes → Type 0
 IsReadable shape block =
-    IsRetiredUnit (λ (b : ShapedBytes). b.shape) (λ b number status. BeginsLawfully b.shape number status b.bytes) shape block
+    IsRetiredUnit (λ (b : ShapedBytes). b.shape)
+    (λ b number status. BeginsLawfully b.shape number status b.bytes) shape block

@@ -1,5 +1,5 @@
 //! A store and a sink whose calls fail as a script says, and that record which calls there were.
-ghost use Rattle.std.specs.Prelude.{◌≡◌, ◌≤◌, ◌<◌, [], length, refl, None, false, true, IfOk};
+ghost use Rattle.std.specs.Prelude.{◌≡◌, ◌≤◌, ◌<◌, [], length, map, refl, None, false, true, IfOk};
 
 use crate::cases::{Case, has_number};
 use crate::files::push_line;
@@ -7,7 +7,7 @@ use crate::lines::{call_number, number};
 use frame_view::{Memory, MomentList};
 use std::alloc::Global;
 use std::str;
-use tap_outside::{Failed, MemStore, OutError, Sink, Source, Store};
+use tap_outside::{Failed, History, MemStore, OutError, Sink, Source, Store};
 
 /// A source of a store's file.
 #[derive(Drop)]
@@ -29,12 +29,18 @@ pub(crate) struct ScriptSource<'a> {
     again: usize,
     /// How many reads there were.
     reads: u64,
-    /// How many of them failed; it stands still at the greatest u64.
+    /// How many of them failed; it stays at the greatest u64.
     faults: u64,
+    /// The bytes that the others gave.
+    given: History<u8>,
 }
 
 impl<'a> Source for ScriptSource<'a> {
-    ghost seen = { λ source. record { left = None; faults = source.faults } };
+    ghost seen = { λ source. record {
+      left = None;
+      given = source.given.items;
+      faults = source.faults;
+    } };
 
     fn read(&mut self, into: &mut [u8]) -> Result<usize, Failed> {
         self.reads = self.reads.saturating_add(1);
@@ -50,6 +56,7 @@ impl<'a> Source for ScriptSource<'a> {
         let given = into.len().min(left.len()).min(self.piece);
         let (front, _) = left.split_at(given);
         into[..given].copy_from_slice(front);
+        self.given.extend(front);
         self.at = self.at.saturating_add(given);
         Ok(given)
     }
@@ -66,20 +73,21 @@ pub(crate) struct Calls {
     pub(crate) saved: String,
 }
 
-/// A store in memory that follows a script. It doesn't tell what it holds, and counts a fault at
-/// each fetch and each save that succeeds too.
+/// A store in memory that follows a script. It doesn't report what it holds, and counts a fault
+/// also at each fetch and each save that succeeds.
 #[derive(Drop)]
 pub(crate) struct ScriptStore<'a> {
     /// The run, which says what fails.
     case: Case<'a>,
     /// The files.
     pub(crate) files: MemStore,
-    /// The fetches and saves that there were, but for one that is out of memory.
+    /// The fetches and saves so far, except one that is out of memory.
     pub(crate) calls: Calls,
-    /// How many fetches, and sources with a fault, were counted; it stands still at the greatest
-    /// u64.
+    /// How many fetches, and sources with a fault, were counted; it stays at the greatest u64.
     read_faults: u64,
-    /// How many saves were counted; it stands still at the greatest u64.
+    /// What each source gave that was closed, and nothing for each fetch that failed.
+    closed: History<History<u8>>,
+    /// How many saves were counted; it stays at the greatest u64.
     save_faults: u64,
 }
 
@@ -122,6 +130,7 @@ impl<'a> ScriptStore<'a> {
             files,
             calls: Calls::none(case.alloc),
             read_faults: 0,
+            closed: History::new(),
             save_faults: call_number(case.scenario.value_named("faults", "save")),
         }
     }
@@ -136,6 +145,7 @@ impl<'a> ScriptStore<'a> {
     /// A source of a file that nobody has read, at the fetch before which there were so many.
     fn open(&self, name: &str, fetch: usize) -> Result<ScriptSource<'a>, Memory>
         ensures fresh { IfOk result (λ source. source.faults ≡ 0) }
+        ensures unread { IfOk result (λ source. source.given.items ≡ []) }
     {
         let case = self.case;
         let is_fault = case.fault.word == "fail" && case.fault.what == name;
@@ -150,6 +160,7 @@ impl<'a> ScriptStore<'a> {
             again: number(case.scenario.value_named("endless", name)),
             reads: 0,
             faults: 0,
+            given: History::new(),
         })
     }
 
@@ -158,6 +169,7 @@ impl<'a> ScriptStore<'a> {
     fn put(&mut self, name: &[u8], bytes: &[u8], save: u64) -> Result<bool, Memory>
         ensures reads { self.new.read_faults ≡ self.old.read_faults }
         ensures saves { self.new.save_faults ≡ self.old.save_faults }
+        ensures closed { self.new.closed ≡ self.old.closed }
     {
         let left = self.case.half(save);
         let is_failing = self.case.has("fail", "save", save);
@@ -178,6 +190,7 @@ impl<'a> Store for ScriptStore<'a> {
       to_read = λ _. true;
       to_save = λ _. true;
       read_faults = store.read_faults;
+      closed = map (λ given. given.items) store.closed.items;
       save_faults = store.save_faults;
       exact = false;
     } };
@@ -193,6 +206,7 @@ impl<'a> Store for ScriptStore<'a> {
         let number = (fetch as u64).saturating_add(1);
         if self.case.has("fail", "fetch", number) || self.files.file(name).is_none() {
             self.read_faults = self.read_faults.saturating_add(1);
+            self.closed.push(&History::new());
             return Err(OutError::Failed);
         }
         let source = self.open(text, fetch)?;
@@ -207,6 +221,7 @@ impl<'a> Store for ScriptStore<'a> {
         if input.faults > 0 {
             self.read_faults = self.read_faults.saturating_add(1);
         }
+        self.closed.push(&input.given);
     }
 
     fn save(&mut self, name: &[u8], bytes: &[u8]) -> Result<(), OutError> {
@@ -242,12 +257,12 @@ pub(crate) struct ScriptSink<'a> {
     case: Case<'a>,
     /// How many writes there were.
     writes: u64,
-    /// How many of them failed; it stands still at the greatest u64.
+    /// How many of them failed; it stays at the greatest u64.
     faults: u64,
 }
 
 impl<'a> ScriptSink<'a> {
-    /// A sink without a byte.
+    /// An empty sink.
     pub(crate) fn new(case: Case<'a>) -> ScriptSink<'a> {
         ScriptSink {
             case,

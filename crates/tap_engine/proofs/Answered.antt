@@ -1,4 +1,4 @@
--- All that an answer is worth, by what was found or where memory ran out.
+-- Everything that an answer guarantees, by what was found or when memory ran out.
 use Rattle.std.proofs.Common.{◌≡◌, Option, None, inr, subst, sym}
 use Rattle.std.specs.Prelude.{IfSome}
 use Rattle.std.specs.List.{AllByRecursion}
@@ -37,7 +37,7 @@ pub gave_up : (command : Option Named) (outcome : Outcome) (old new : StoreSeen)
     → AppendsFront between.written after.written memory_line
     → IsAnswer command outcome old new before after
 gave_up command outcome old new before between after memory none cut front = record {
-  headline = subst (λ (r : Option RunReport). IsWorth command old.held r) (sym none) tt;
+  headline = subst (λ (r : Option RunReport). IsWorth command old new r) (sym none) tt;
   told = λ other. absurd (other memory);
   gave_up = λ same. record { report = none; told = between; stopped = cut; line = front };
   no_memory = record {

@@ -1,4 +1,4 @@
--- A report is worth the headline, and where nothing fails it is fine.
+-- A report fulfils the headline, and if nothing fails the status is fine.
 use Rattle.std.proofs.Common.{◌≡◌, ◌≢◌, ℕ, ◌+◌, ◌<◌, ◌≤◌, Bool, true, false, List, [], ◌∷◌, ◌++◌}
 use Rattle.std.proofs.Common.{length, inl, inr, Option, None, Some, refl, sym, ap, subst, ◌∙◌}
 use Rattle.std.proofs.Common.{arith}
@@ -33,7 +33,8 @@ use Rattle.tap_engine.specs.Complete.{IsSoundFilter, IsSoundSchedule, NothingFai
 use Rattle.tap_engine.specs.Conclusions.{IsDone, IsFailed, IsPrinted, Tells}
 use Rattle.tap_engine.specs.Findings.{IsFound, fault_at, faults_in, lines_of, report_in}
 use Rattle.tap_engine.specs.Findings.{status_by_end, status_of, status_of_logs}
-use Rattle.tap_engine.specs.Headline.{AreCaptures, CapturesFor, IsHeadline, IsWorth}
+use Rattle.tap_engine.specs.Headline.{AreCaptures, CapturesFor, GivenFor, IsCapture, IsHeadline}
+use Rattle.tap_engine.specs.Headline.{IsWorth}
 use Rattle.tap_engine.specs.Jobs.{HasBadFilter, HasBadSchedule, HasBadText, HasBadTicks, HasSetup}
 use Rattle.tap_engine.specs.Jobs.{lines_for}
 use Rattle.tap_engine.specs.Names.{filter_for, first_file, ticks_for}
@@ -45,13 +46,14 @@ use Rattle.tap_engine.specs.declared.outcomes.Status.{Status}
 use Rattle.tap_engine.specs.declared.outcomes.Status.TheVariants as statuses
 use Rattle.tap_engine.specs.declared.sending.Sending.{Sending}
 use Rattle.tap_engine.proofs.Ends.{AreEnds, report_ends}
-use Rattle.tap_engine.proofs.Fetched.{rose_less, saves_same}
+use Rattle.tap_engine.proofs.Fetched.{held_same, rose_less, saves_same}
+use Rattle.tap_engine.proofs.Found.{unread_rose}
 use Rattle.tap_engine.proofs.Texts.{filters, moments, not_both, same_value, says_held, schedules}
 use Rattle.tap_engine.proofs.Texts.{setups}
 
 worth_in : (old new : StoreSeen) (command : Option Named) (found : Finding)
     → IsFound command old new found
-    → IsWorth command old.held (report_in found)
+    → IsWorth command old new (report_in found)
 worth_in old new None finding.NoCommand h = tt
 worth_in old new None finding.Unread h = absurd h
 worth_in old new None (finding.BadSetup error) h = absurd h
@@ -67,12 +69,37 @@ worth_in old new (Some named) finding.Checked h = tt
 worth_in old new (Some named) (finding.Ran rings setup report forwards) h = (named, refl, h.0.headline)
 worth_in old new (Some named) (finding.Sent setup sending) h = tt
 
+-- what was saved since has changed nothing of the record
+headline_later : (old mid new : StoreSeen) (named : Named) (report : RunReport)
+    → new.closed ≡ mid.closed → IsHeadline old mid named report → IsHeadline old new named report
+headline_later old mid new named report same h = record {
+  job = h.job;
+  job_is = h.job_is;
+  read = h.read;
+  texts = h.texts;
+  bytes = h.bytes;
+  ends = h.ends;
+  captures = h.captures;
+  given = subst (λ (closed : List (List ℕ)). GivenFor named.command h.read.closed closed h.bytes)
+      (sym same) h.given;
+  report_is = h.report_is;
+  run = h.run;
+}
+
+worth_later : (command : Option Named) (old mid new : StoreSeen) (report : Option RunReport)
+    → new.closed ≡ mid.closed → IsWorth command old mid report → IsWorth command old new report
+worth_later command old mid new None same h = tt
+worth_later command old mid new (Some report) same h =
+    (h.0, h.1, headline_later old mid new h.0 report same h.2)
+
 pub worth_of : (command : Option Named) (outcome : Outcome) (old new : StoreSeen)
     (before after : SinkSeen)
-    → Tells command outcome old new before after → IsWorth command old.held outcome.report
+    → Tells command outcome old new before after → IsWorth command old new outcome.report
 worth_of command outcome old new before after t =
-    subst (λ (r : Option RunReport). IsWorth command old.held r) (sym t.concludes.report)
-    (worth_in old t.read command t.finding t.found)
+    subst (λ (r : Option RunReport). IsWorth command old new r) (sym t.concludes.report)
+    (worth_later command old t.read new (report_in t.finding)
+    (ap (λ (s : StoreSeen). s.closed) t.concludes.touches.same)
+    (worth_in old t.read command t.finding t.found))
 
 none_some : {A : Type 0} (o : Option A) (value : A) → o ≡ None → o ≡ Some value → ⊥
 none_some None value e f = cc
@@ -210,7 +237,7 @@ damage_end : (bytes : List ℕ) (damage : CaptureError) → damage_of bytes ≡ 
 unfolding end_of
 damage_end bytes damage e = ap (λ d. option_or d (cut_of bytes)) e
 
--- a prefix of a whole capture that ends otherwise than whole is not all that was read
+-- a prefix of a whole capture that doesn't end whole isn't all of it
 pub whole_end : (content bytes rest : List ℕ) (end : CpuEnd) → content ≡ bytes ++ rest
     → end_of content ≡ None
     → UnlessFault end (end ≡ end_by (end_of bytes)) → WhereEnded end (bytes ≡ content) → end ≢ Fault
@@ -236,7 +263,7 @@ whole_end content bytes rest (Damaged damage) parts none is all sane = by (end_o
     by None e is = is
     by (Some found) e is = absurd (wrong found e (damage_is damage found is))
 
--- the ends of whole captures, where none ended with a fault
+-- the ends of whole captures, if none ended with a fault
 none_faults : (end : CpuEnd) → fault_at end ≡ 0 → end ≢ Fault
 none_faults Whole none e = cc
 none_faults Fault none e = omega (arith, none)
@@ -304,15 +331,17 @@ fine_captures files named setup bytes ends logs Forward sound is has captures ar
 fine_captures files named setup bytes ends logs Send sound is has captures are none = absurd
     captures
 
-fine_report : (files : Contents) (named : Named) (report : RunReport) → IsSound files named
-    → IsHeadline (Some files) named report
+fine_report : (files : Contents) (old new : StoreSeen) (named : Named) (report : RunReport)
+    → old.held ≡ Some files → IsSound files named → IsHeadline old new named report
     → faults_in report.cpus ≡ 0 → status_of_logs 0 report.cpus ≡ statuses.Fine
-fine_report files named report sound h none =
+fine_report files old new named report held sound h none =
     fine_captures files named h.job.setup h.bytes h.ends report.cpus named.command sound refl
-    h.job_is.setup h.captures
+    (subst (λ (o : Option Contents). HasSetup o named h.job.setup) held h.job_is.setup)
+    (subst (λ (o : Option Contents). CapturesFor named.command o h.job.setup h.bytes h.ends) held
+    h.captures)
     (report_ends (rings_of named.command) h.job h.bytes h.ends report h.report_is) none
 
--- the first capture is whole, where it is sent
+-- the first capture is whole, if it is sent
 first_whole : (files : Contents) (named : Named) (setup : Setup) (job : Job) → IsSound files named
     → named.command ≡ Send
     → HasSetup (Some files) named job.setup → job.setup ≡ setup
@@ -321,15 +350,20 @@ first_whole files named setup job sound is has same =
     subst (λ (s : Setup). end_of (text_in files (first_file s.cpus)) ≡ None) same
     (last_of files named sound Send job.setup is has)
 
-fine_sending : (files : Contents) (named : Named) (setup : Setup) (sending : Sending)
-    → IsSound files named → IsSent (Some files) named setup sending
+fine_sending : (files : Contents) (old new : StoreSeen) (named : Named) (setup : Setup)
+    (sending : Sending) → old.held ≡ Some files → IsSound files named
+    → IsSent old new named setup sending
     → fault_at sending.end ≡ 0 → status_by_end 0 sending.end statuses.Fine ≡ statuses.Fine
-fine_sending files named setup sending sound h none =
-    let capture = h.sending_is.capture in
+fine_sending files old new named setup sending held sound h none =
+    let capture : IsCapture (Some files) (first_file setup.cpus) h.sending_is.bytes sending.end =
+    subst (λ (o : Option Contents). IsCapture o (first_file setup.cpus) h.sending_is.bytes
+    sending.end) (held_same old h.read h.texts.unfailed.only ∙ held) h.sending_is.capture in
     behind_whole 0 sending.end statuses.Fine
     (whole_end (text_in files (first_file setup.cpus)) h.sending_is.bytes capture.front.rest
     sending.end capture.front.parts
-    (first_whole files named setup h.job sound h.command h.job_is.setup h.setup_is) capture.damage
+    (first_whole files named setup h.job sound h.command
+    (subst (λ (o : Option Contents). HasSetup o named h.job.setup) held h.job_is.setup) h.setup_is)
+    capture.damage
     capture.all (none_faults sending.end none))
     refl
 
@@ -345,7 +379,8 @@ fine_found : (files : Contents) (named : Named) (old new : StoreSeen) (found : F
     → (RoseBy 1 old.read_faults new.read_faults → ⊥) → IsFound (Some named) old new found
     → status_of found ≡ statuses.Fine
 fine_found files named old new finding.NoCommand is sound sane h = absurd h
-fine_found files named old new finding.Unread is sound sane h = absurd (sane h)
+fine_found files named old new finding.Unread is sound sane h =
+    absurd (sane (unread_rose old new named h))
 fine_found files named old new (finding.BadSetup error) is sound sane h =
     absurd (not_both (setup_for named.command) files named.setup sound.setup error
     (setups named.command) sound.setup_is
@@ -355,12 +390,10 @@ fine_found files named old new (finding.BadText error) is sound sane h =
     absurd (no_text files old new named error is sound h)
 fine_found files named old new finding.Checked is sound sane h = refl
 fine_found files named old new (finding.Ran rings setup report forwards) is sound sane h =
-    fine_report files named report sound (subst (λ (o : Option Contents). IsHeadline o named report)
-    is h.0.headline)
+    fine_report files old new named report is sound h.0.headline
     (none_rose (faults_in report.cpus) old.read_faults new.read_faults sane h.1.rose)
 fine_found files named old new (finding.Sent setup sending) is sound sane h =
-    fine_sending files named setup sending sound (subst (λ (o : Option Contents). IsSent o named
-    setup sending) is h.0)
+    fine_sending files old new named setup sending is sound h.0
     (none_rose (fault_at sending.end) old.read_faults new.read_faults sane h.1.rose)
 
 unprinted : (before after : SinkSeen) (lines : List ℕ) (printed : Bool) → printed ≡ false

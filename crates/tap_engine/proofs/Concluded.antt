@@ -1,4 +1,4 @@
--- What follows from savings and a print, each of which may fail.
+-- What follows from saves and a print, each of which may fail.
 use Rattle.std.proofs.Common.{◌≡◌, ◌≢◌, ℕ, ◌+◌, Bool, true, false, List, [], ◌∷◌, inl}
 use Rattle.std.proofs.Common.{inr, refl, sym, ◌∙◌, subst, arith, Option, None, Some}
 use Rattle.std.specs.Prelude.{◌⊎◌, ◌&&◌, if◌then◌else◌}
@@ -19,7 +19,7 @@ use Rattle.tap_engine.specs.declared.outcomes.Outcome.{Outcome}
 use Rattle.tap_engine.specs.declared.outcomes.Status.{Status}
 use Rattle.tap_engine.specs.declared.outcomes.Status.TheVariants as statuses
 
--- where none is missed all files hold their bytes
+-- if none is missed all files hold their bytes
 hold_all : (missed : List Bool) (before after : Option Contents) (files : List File)
     → marked missed ≡ 0
     → HoldUnless missed before after files → HoldAll before after files
@@ -78,7 +78,7 @@ ended_by found old new before after saved printed status s p is =
     subst (λ (x : Status). IsDone found x old new before after ⊎ IsFailed found x old new before after)
     (sym is) (ended found old new before after saved printed s p)
 
--- ---- where memory ran out after all files were tried
+-- ---- when memory ran out after all files were tried
 
 one_early : (before after : Option Contents) (names : List (List ℕ)) (file : File)
     → KeepsAllBut before after names

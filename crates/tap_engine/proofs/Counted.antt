@@ -1,4 +1,5 @@
--- The faults of reading that a store counted: of one reading, of several, and of a run.
+-- The faults of reading that a store counted: for one read text or capture, for several, and for a
+-- run.
 use Rattle.std.proofs.Common.{◌≡◌, ℕ, ◌+◌, ◌<◌, ◌≤◌, Bool, true, false, List, [], ◌∷◌, ◌++◌}
 use Rattle.std.proofs.Common.{length, take, get_or, Option, None, Some, refl, sym, ap, ◌∙◌, subst}
 use Rattle.std.proofs.Common.{arith}
@@ -19,7 +20,7 @@ use Rattle.tap_engine.proofs.Ends.{AreEnds}
 use Rattle.tap_engine.proofs.Fetched.{faults_are, fetched_more, map_more, missing_more, one_more}
 use Rattle.tap_engine.proofs.Fetched.{rose_earlier, rose_less, rose_then, unfailed_then}
 
--- ---- a store of which nothing was read
+-- ---- a store from which nothing was read
 
 reads_none : (a : StoreSeen) → OnlyReads a a
 reads_none a = record { same = refl; later = omega arith }
@@ -30,10 +31,14 @@ unfailed_none a = record { only = reads_none a; exact = λ is. refl }
 pub unfailed_same : (a b : StoreSeen) → b ≡ a → NoReadFailed a b
 unfailed_same a b same = subst (λ (s : StoreSeen). NoReadFailed a s) (sym same) (unfailed_none a)
 
+unfailed_by : (faults : ℕ) (a b : StoreSeen) → OnlyReads a b
+    → (faults ≡ 0 → b.read_faults ≡ a.read_faults) → faults ≡ 0 → NoReadFailed a b
+unfailed_by faults a b only kept none = record { only = only; exact = λ is. kept none }
+
 pub counts_none : (n : ℕ) (a : StoreSeen) → n ≡ 0 → IsCounted a a n
 counts_none n a none = record { rose = omega (arith, none); faultless = λ zero. unfailed_none a }
 
--- ---- one reading after the other
+-- ---- one after another
 
 no_sum : (x y : ℕ) → x + y ≡ 0 → (x ≡ 0) × (y ≡ 0)
 no_sum x y none = (omega (arith, none), omega (arith, none))
@@ -46,7 +51,7 @@ counts_then x y a b c h k = record {
       unfailed_then a b c (h.faultless both.0) (k.faultless both.1);
 }
 
--- fewer faults, but none only where there was none
+-- fewer faults, but none only if there was none
 pub counts_less : (x y : ℕ) (a b : StoreSeen) → x ≤ y → (x ≡ 0 → y ≡ 0) → IsCounted a b y
     → IsCounted a b x
 counts_less x y a b less none h = record {
@@ -54,7 +59,7 @@ counts_less x y a b less none h = record {
   faultless = λ zero. h.faultless (none zero);
 }
 
--- where no read had failed before
+-- if no read had failed before
 pub counts_later : (n : ℕ) (a b c : StoreSeen) → NoReadFailed a b → IsCounted b c n
     → IsCounted a c n
 counts_later n a b c before h = record {
@@ -75,16 +80,18 @@ counts_missing a b rose =
     record { rose = rose; faultless = λ zero. absurd (omega (arith, zero)) }
 
 closed_by : (faults : ℕ) (b : Bool) (old new : StoreSeen) → (faults == 0) ≡ b → OnlyReads old new
-    → (faults ≡ 0 → new ≡ old) → (0 < faults → Rose old.read_faults new.read_faults)
+    → (faults ≡ 0 → new.read_faults ≡ old.read_faults)
+    → (0 < faults → Rose old.read_faults new.read_faults)
     → IsCounted old new ((if b then 0 else 1) + 0)
 closed_by faults true old new is only kept rose =
-    counts_fetched old new (unfailed_same old new (kept (eqb-true faults 0 is)))
+    counts_fetched old new (unfailed_by faults old new only kept (eqb-true faults 0 is))
 closed_by faults false old new is only kept rose =
     let some = eqb-false faults 0 is in
     counts_missing old new (rose (omega (arith, some)))
 
 pub counts_closed : (source : SourceSeen) (a b : StoreSeen) → OnlyReads a b
-    → (source.faults ≡ 0 → b ≡ a) → (0 < source.faults → Rose a.read_faults b.read_faults)
+    → (source.faults ≡ 0 → b.read_faults ≡ a.read_faults)
+    → (0 < source.faults → Rose a.read_faults b.read_faults)
     → IsCounted a b (faulty_in (Some source ∷ []))
 counts_closed source a b only kept rose =
     closed_by source.faults (source.faults == 0) a b refl only kept rose
@@ -141,7 +148,7 @@ closes_one seen all left rest source n a b c counted is h k =
 
 -- ---- a run's CPUs
 
--- where no CPU ended with a fault each capture was fetched, and no read of it failed
+-- if no CPU ended with a fault each capture was fetched, and no read of it failed
 fault_is : (end : CpuEnd) → end ≡ Fault → fault_at end ≡ 1
 fault_is end is = ap fault_at is
 

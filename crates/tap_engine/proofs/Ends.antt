@@ -16,7 +16,7 @@ use Rattle.tap_printing.specs.declared.ring_kind.RingKind.{RingKind}
 use Rattle.tap_printing.specs.declared.ring_kind.RingKind.TheVariants.{Blocks, Slots}
 use Rattle.tap_engine.specs.Headline.{IsReportBy, places_by}
 
--- each log ended so
+-- each log ended in this way
 abbrev pub AreEnds : List CpuLog → List CpuEnd → Type 0
 AreEnds [] [] = Unit {0}
 AreEnds (log ∷ logs) (end ∷ ends) = (log.end ≡ end) × AreEnds logs ends
@@ -50,7 +50,7 @@ report_members Blocks job bytes ends report is =
 report_members Slots job bytes ends report is =
     sym (length-map report.members (λ (member : MemberReport). member.notes)) ∙ is.group.count
 
--- each arrival that passes stands once
+-- each arrival that passes appears once
 pub report_once : (rings : RingKind) (job : Job) (bytes : List (List ℕ)) (ends : List CpuEnd)
     (report : RunReport) → IsReportBy rings job bytes ends report
     → EachArrivalAppearsOnce (rules_of job) (logged (arriving_of job bytes) report.cpus)
@@ -58,7 +58,8 @@ pub report_once : (rings : RingKind) (job : Job) (bytes : List (List ℕ)) (ends
 report_once Blocks job bytes ends report is = is.once
 report_once Slots job bytes ends report is = is.once
 
--- a member that has filled fewer places than its ring has dropped nothing, by the laws on both kinds of ring
+-- a member that has filled fewer places than its ring has dropped nothing, by the laws on both
+-- kinds of ring
 pub report_drops : ((job : Job) (bytes : List (List ℕ)) (ends : List CpuEnd) (report : RunReport) → IsReportBy Blocks job bytes ends report
     → All (DropsNoneBelow (places_by Blocks job.setup.shape)) report.members)
     → ((job : Job) (bytes : List (List ℕ)) (ends : List CpuEnd) (report : RunReport) → IsReportBy Slots job bytes ends report

@@ -1,4 +1,4 @@
--- Where a fault was counted the status says so.
+-- If a fault was counted the status says so.
 use Rattle.std.proofs.Common.{◌≡◌, ◌≢◌, ℕ, ◌+◌, List, [], ◌∷◌, refl, ap, ◌∙◌, arith, inl, inr}
 use Rattle.std.proofs.Common.{Option, None, Some}
 use Rattle.std.specs.Prelude.{◌⊎◌}
@@ -36,7 +36,7 @@ no_fault_at cpu Whole rest other = refl
 no_fault_at cpu Fault rest other = absurd (other refl)
 no_fault_at cpu (Damaged damage) rest other = refl
 
--- any other status comes only where no CPU ended with a fault
+-- any other status comes only if no CPU ended with a fault
 no_faults_in : (cpu : ℕ) (logs : List CpuLog) → status_of_logs cpu logs ≢ statuses.ReadFault
     → faults_in logs ≡ 0
 no_faults_in cpu [] other = refl
@@ -90,8 +90,7 @@ faultless_of command outcome old new before after t = λ read write other. by re
           let unfailed = no_read_failed old t.read command t.finding t.found
           (λ is. read (d.status_is ∙ is)) in
           record {
-            reads = λ exact. read_faults_touched t.concludes.touches
-                ∙ ap (λ (s : StoreSeen). s.read_faults) (unfailed.exact exact);
+            reads = λ exact. read_faults_touched t.concludes.touches ∙ unfailed.exact exact;
             saves = λ exact. d.saves (exact_same old t.read t.reads ∙ exact)
                 ∙ saves_same old t.read t.reads;
             prints = d.prints;

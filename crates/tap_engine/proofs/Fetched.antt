@@ -188,7 +188,7 @@ bytes_as_many (o ∷ old) (n ∷ new) (b ∷ bytes) [] gave = absurd gave
 bytes_as_many (o ∷ old) (n ∷ new) (b ∷ bytes) (end ∷ ends) gave =
     let rest = bytes_as_many old new bytes ends gave.1 in (ap suc rest.0, ap suc rest.1)
 
--- ---- no more captures end with a fault than couldn't be had or had one
+-- ---- no more captures end with a fault than couldn't be fetched or had one
 
 one_at_most : (end : CpuEnd) → fault_at end ≤ 1
 one_at_most Whole = omega arith
@@ -257,7 +257,8 @@ map_more f (y ∷ xs) x = ap (λ rest. f y ∷ rest) (map_more f xs x)
 
 pub reads_then : (a b c : StoreSeen) → OnlyReads a b → OnlyReads b c → OnlyReads a c
 reads_then a b c h k = record {
-  same = k.same ∙ ap (λ (s : StoreSeen). record s { read_faults = c.read_faults }) h.same;
+  same = k.same
+      ∙ ap (λ (s : StoreSeen). record s { read_faults = c.read_faults; closed = c.closed }) h.same;
   later = let x = h.later in let y = k.later in omega (arith, x, y);
 }
 

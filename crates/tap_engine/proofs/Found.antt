@@ -1,10 +1,10 @@
--- What is found, and what a text that stops a command comes to, also where more was read before.
+-- What is found, and the outcome of a text that stops a command, also if more was read before.
 use Rattle.std.proofs.Common.{◌≡◌, ℕ, Bool, false, true, List, length, inl, inr}
 use Rattle.std.proofs.Common.{refl, sym, ap, ◌∙◌, Option, None, Some, subst}
 use Rattle.std.specs.Prelude.{◌⊎◌, is_some, IfOk, IfErr, OnErr, Result, Ok, Err}
 use Rattle.capture_file.specs.declared.cpu_end.CpuEnd.{CpuEnd}
 use Rattle.frame_view.specs.declared.want.Memory.{Memory}
-use Rattle.setup_text.specs.Answers.{is_setup_want, is_text_want}
+use Rattle.setup_text.specs.Answers.{is_text_want}
 use Rattle.setup_text.specs.Filters.{filter_of}
 use Rattle.setup_text.specs.Moments.{moments_of}
 use Rattle.setup_text.specs.declared.commands.Command.{Command}
@@ -16,26 +16,27 @@ use Rattle.setup_text.specs.declared.setups.Setup.{Setup}
 use Rattle.setup_text.specs.declared.text_error.TextError.{TextError}
 use Rattle.tap_outside.specs.Contents.{Contents}
 use Rattle.tap_outside.specs.Seen.{NoReadFailed, OnlyReads, StoreSeen}
-use Rattle.tap_reading.specs.Readers.{Refuses, Says, StopsAtSetup, StopsAtText, setup_for}
+use Rattle.tap_outside.specs.Counts.{RoseBy}
+use Rattle.tap_reading.specs.Fronts.{CantRead}
+use Rattle.tap_reading.specs.Readers.{Refuses, Says, StopsAtSetup, StopsAtText}
 use Rattle.tap_reading.specs.declared.stops.Stop.{Stop}
 use Rattle.tap_reading.specs.declared.stops.Stop.TheVariants as stops
 use Rattle.tap_saving.specs.Files.{names_from}
 use Rattle.tap_engine.specs.Commands.{Named, has_schedule, rings_of, sends}
-use Rattle.tap_engine.specs.Findings.{IsFound, IsReady, IsReported, IsSentBy, fault_at, faults_in}
-use Rattle.tap_engine.specs.Findings.{finding_of, names_of}
+use Rattle.tap_engine.specs.Findings.{IsFound, IsReady, IsReported, IsSentBy, finding_of, names_of}
 use Rattle.tap_engine.specs.Headline.{CapturesFor, IsHeadline}
-use Rattle.tap_engine.specs.Jobs.{HasBadText, HasJob, HasSetup, IsAsked, IsChecked, Stops}
+use Rattle.tap_engine.specs.Given.{ReadTexts, first_texts}
+use Rattle.tap_engine.specs.Jobs.{CantReadNext, CantReadText, HasSetup, IsAsked, IsLoaded, Stops}
 use Rattle.tap_engine.specs.Jobs.{lines_for}
 use Rattle.tap_engine.specs.Conclusions.{IsCut, IsSearched}
-use Rattle.tap_engine.specs.Sendings.{IsSent}
 use Rattle.tap_engine.specs.declared.findings.Finding.{Finding}
 use Rattle.tap_engine.specs.declared.findings.Finding.TheVariants as finding
 use Rattle.tap_engine.specs.Names.{AreMeant, AreMeantToRead, AreMeantToSave, filter_for}
 use Rattle.tap_engine.specs.Names.{names_to_read, saved_for, ticks_for}
-use Rattle.tap_engine.proofs.Counted.{counts_later}
 use Rattle.tap_engine.proofs.Ends.{report_members}
 use Rattle.tap_engine.proofs.Fetched.{held_same, rose_earlier, to_read_same, to_save_same}
 use Rattle.tap_engine.proofs.Fetched.{unfailed_then}
+use Rattle.tap_engine.proofs.Given.{read_none}
 use Rattle.tap_engine.proofs.Meant.{AllMeant, Untold, outputs_meant}
 
 pub if_ok : {A E : Type 0} (P Q : A → Type 0) (result : Result A E) → ((x : A) → P x → Q x)
@@ -66,48 +67,7 @@ pub of_ok : {A E : Type 0} (P : A → Type 0) (result : Result A E) (x : A) → 
     → IfOk result P → P x
 of_ok {A} {E} P result x is p = subst (λ (r : Result A E). IfOk r P) is p
 
--- ---- why a text stops a command
-
-pub at_setup : (old new : StoreSeen) (named : Named) (stop : Stop)
-    → StopsAtSetup named.command old new named.setup stop → Stops old new named stop
-at_setup old new named stops.Unread h = h
-at_setup old new named (stops.Setup error) h = h
-at_setup old new named (stops.Text error) h = absurd h
-at_setup old new named stops.Memory h = inl h
-
-pub at_filter : (old new : StoreSeen) (name : List ℕ) (stop : Stop)
-    → StopsAtText filter_of old new name stop
-    → (named : Named) (setup : Setup) → HasSetup old.held named setup
-    → filter_for named.command setup ≡ Some name
-    → Stops old new named stop
-at_filter old new name stops.Unread h named setup has is = h
-at_filter old new name (stops.Setup error) h named setup has is = absurd h
-at_filter old new name (stops.Text error) h named setup has is =
-    inl (record { setup = setup; has = has; name = name; names = is; refused = h })
-at_filter old new name stops.Memory h named setup has is = inl h
-
-pub at_ticks : (old new : StoreSeen) (name : List ℕ) (stop : Stop)
-    → StopsAtText moments_of old new name stop
-    → (named : Named) (job : Job) → HasJob old.held named job
-    → ticks_for named.command job.setup ≡ Some name
-    → Stops old new named stop
-at_ticks old new name stops.Unread h named job has is = h
-at_ticks old new name (stops.Setup error) h named job has is = absurd h
-at_ticks old new name (stops.Text error) h named job has is =
-    inr (inl (record { job = job; has = has; name = name; names = is; refused = h }))
-at_ticks old new name stops.Memory h named job has is = inl h
-
-pub at_schedule : (old new : StoreSeen) (named : Named) (job : Job) (stop : Stop)
-    → StopsAtText (lines_for job) old new named.schedule stop → HasJob old.held named job
-    → has_schedule named.command ≡ true
-    → Stops old new named stop
-at_schedule old new named job stops.Unread h has command = h
-at_schedule old new named job (stops.Setup error) h has command = absurd h
-at_schedule old new named job (stops.Text error) h has command =
-    inr (inr (record { command = command; job = job; has = has; refused = h }))
-at_schedule old new named job stops.Memory h has command = inl h
-
--- ---- where the store was read before, and no read failed
+-- ---- why a text stops a command, from its start
 
 refuses_earlier : {A E : Type 0} (reader : List ℕ → Result A E) (wanted : E → Bool)
     (old mid new : StoreSeen) (name : List ℕ) (error : E) → NoReadFailed old mid
@@ -119,46 +79,94 @@ refuses_earlier reader wanted old mid new name error before h = record {
   not_memory = h.not_memory;
 }
 
-bad_text_earlier : (old mid new : StoreSeen) (named : Named) (error : TextError)
-    → NoReadFailed old mid → HasBadText mid new named error → HasBadText old new named error
-bad_text_earlier old mid new named error before (inl h) = inl (record {
-  setup = h.setup;
-  has = subst (λ (held : Option Contents). HasSetup held named h.setup)
-      (held_same old mid before.only) h.has;
-  name = h.name;
-  names = h.names;
-  refused = refuses_earlier filter_of is_text_want old mid new h.name error before h.refused;
-})
-bad_text_earlier old mid new named error before (inr (inl h)) = inr (inl (record {
-  job = h.job;
-  has = subst (λ (held : Option Contents). HasJob held named h.job)
-      (held_same old mid before.only) h.has;
-  name = h.name;
-  names = h.names;
-  refused = refuses_earlier moments_of is_text_want old mid new h.name error before h.refused;
-}))
-bad_text_earlier old mid new named error before (inr (inr h)) = inr (inr (record {
-  command = h.command;
-  job = h.job;
-  has = subst (λ (held : Option Contents). HasJob held named h.job)
-      (held_same old mid before.only) h.has;
-  refused = refuses_earlier (lines_for h.job) is_text_want old mid new named.schedule error before
-      h.refused;
-}))
+unread_next : (start old new : StoreSeen) (many : ℕ) (name : List ℕ) → ReadTexts start old many
+    → CantRead old new name → CantReadNext start new many name
+unread_next start old new many name texts unread =
+    record { before = old; texts = texts; unread = unread }
 
--- what stops a command then stops it from the start
-pub stops_earlier : (old mid new : StoreSeen) (named : Named) (stop : Stop) → NoReadFailed old mid
-    → Stops mid new named stop → Stops old new named stop
-stops_earlier old mid new named stops.Unread before h = rose_earlier 1 old mid new before.only h
-stops_earlier old mid new named (stops.Setup error) before h =
-    refuses_earlier (setup_for named.command) is_setup_want old mid new named.setup error before h
-stops_earlier old mid new named (stops.Text error) before h =
-    bad_text_earlier old mid new named error before h
-stops_earlier old mid new named stops.Memory before (inl unfailed) =
-    inl (unfailed_then old mid new before unfailed)
-stops_earlier old mid new named stops.Memory before (inr asked) =
-    inr (subst (λ (held : Option Contents). IsAsked held named) (held_same old mid before.only)
-    asked)
+pub at_setup : (old new : StoreSeen) (named : Named) (stop : Stop)
+    → StopsAtSetup named.command old new named.setup stop → Stops old new named stop
+at_setup old new named stops.Unread h =
+    inl (unread_next old old new 0 named.setup (read_none old) h)
+at_setup old new named (stops.Setup error) h = h
+at_setup old new named (stops.Text error) h = absurd h
+at_setup old new named stops.Memory h = inl h
+
+pub at_filter : (old new : StoreSeen) (name : List ℕ) (stop : Stop)
+    → StopsAtText filter_of old new name stop
+    → (start : StoreSeen) (named : Named) (setup : Setup) → ReadTexts start old 1
+    → HasSetup start.held named setup → filter_for named.command setup ≡ Some name
+    → Stops start new named stop
+at_filter old new name stops.Unread h start named setup texts has is =
+    inr (inl (record {
+      setup = setup;
+      has = has;
+      name = name;
+      names = is;
+      unread = unread_next start old new 1 name texts h;
+    }))
+at_filter old new name (stops.Setup error) h start named setup texts has is = absurd h
+at_filter old new name (stops.Text error) h start named setup texts has is =
+    inl (record {
+      setup = setup;
+      has = has;
+      name = name;
+      names = is;
+      refused = refuses_earlier filter_of is_text_want start old new name error texts.unfailed h;
+    })
+at_filter old new name stops.Memory h start named setup texts has is =
+    inl (unfailed_then start old new texts.unfailed h)
+
+pub at_ticks : (old new : StoreSeen) (name : List ℕ) (stop : Stop)
+    → StopsAtText moments_of old new name stop
+    → (start : StoreSeen) (named : Named) (job : Job) → IsLoaded start old named job
+    → ticks_for named.command job.setup ≡ Some name → Stops start new named stop
+at_ticks old new name stops.Unread h start named job loaded is =
+    inr (inr (inl (record {
+      job = job;
+      has = loaded.job_is;
+      name = name;
+      names = is;
+      unread = unread_next start old new (first_texts named.command job.setup) name loaded.texts h;
+    })))
+at_ticks old new name (stops.Setup error) h start named job loaded is = absurd h
+at_ticks old new name (stops.Text error) h start named job loaded is =
+    inr (inl (record {
+      job = job;
+      has = loaded.job_is;
+      name = name;
+      names = is;
+      refused = refuses_earlier moments_of is_text_want start old new name error
+          loaded.texts.unfailed h;
+    }))
+at_ticks old new name stops.Memory h start named job loaded is =
+    inl (unfailed_then start old new loaded.texts.unfailed h)
+
+pub at_schedule : (old new : StoreSeen) (name : List ℕ) (job : Job) (stop : Stop)
+    → StopsAtText (lines_for job) old new name stop
+    → (start : StoreSeen) (named : Named) → has_schedule named.command ≡ true
+    → named.schedule ≡ name → IsLoaded start old named job → Stops start new named stop
+at_schedule old new name job stops.Unread h start named command called loaded =
+    inr (inr (inr (record {
+      command = command;
+      job = job;
+      has = loaded.job_is;
+      unread = unread_next start old new (first_texts named.command job.setup) named.schedule
+          loaded.texts (subst (λ (n : List ℕ). CantRead old new n) (sym called) h);
+    })))
+at_schedule old new name job (stops.Setup error) h start named command called loaded = absurd h
+at_schedule old new name job (stops.Text error) h start named command called loaded =
+    inr (inr (record {
+      command = command;
+      job = job;
+      has = loaded.job_is;
+      refused = refuses_earlier (lines_for job) is_text_want start old new named.schedule error
+          loaded.texts.unfailed
+          (subst (λ (n : List ℕ). Refuses (lines_for job) is_text_want old new n error)
+          (sym called) h);
+    }))
+at_schedule old new name job stops.Memory h start named command called loaded =
+    inl (unfailed_then start old new loaded.texts.unfailed h)
 
 -- what is meant for reading is meant then
 pub meant_later : (old new : StoreSeen) (command : Option Named) → OnlyReads old new
@@ -169,33 +177,24 @@ meant_later old new command reads all =
     (subst (λ (meant : List ℕ → Bool). AreMeant names_to_read command old.held meant)
     (sym (to_read_same old new reads)) all)
 
--- and what is found then is found from the start
-pub found_earlier : (old mid new : StoreSeen) (named : Named) (found : Finding)
-    → NoReadFailed old mid → IsFound (Some named) mid new found → IsFound (Some named) old new found
-found_earlier old mid new named finding.NoCommand before h = absurd h
-found_earlier old mid new named finding.Unread before h = rose_earlier 1 old mid new before.only h
-found_earlier old mid new named (finding.BadSetup error) before h =
-    refuses_earlier (setup_for named.command) is_setup_want old mid new named.setup error before h
-found_earlier old mid new named (finding.BadText error) before h =
-    bad_text_earlier old mid new named error before h
-found_earlier old mid new named finding.Checked before h = (
-  subst (λ (held : Option Contents). IsChecked held named) (held_same old mid before.only) h.0,
-  unfailed_then old mid new before h.1,
-)
-found_earlier old mid new named (finding.Ran rings setup report forwards) before h = (
-  subst (λ (held : Option Contents). IsReported held named setup report)
-      (held_same old mid before.only) h.0,
-  counts_later (faults_in report.cpus) old mid new before h.1,
-  h.2,
-  h.3,
-)
-found_earlier old mid new named (finding.Sent setup sending) before h = (
-  subst (λ (held : Option Contents). IsSent held named setup sending)
-      (held_same old mid before.only) h.0,
-  counts_later (fault_at sending.end) old mid new before h.1,
-)
+-- ---- a text that can't be read
 
--- what is found where a text stops the command
+-- comes only where reading failed
+next_rose : (old new : StoreSeen) (many : ℕ) (name : List ℕ) → CantReadNext old new many name
+    → RoseBy 1 old.read_faults new.read_faults
+next_rose old new many name h =
+    rose_earlier 1 old h.before new h.texts.unfailed.only h.unread.rose
+
+pub unread_rose : (old new : StoreSeen) (named : Named) → CantReadText old new named
+    → RoseBy 1 old.read_faults new.read_faults
+unread_rose old new named (inl setup) = next_rose old new 0 named.setup setup
+unread_rose old new named (inr (inl filter)) = next_rose old new 1 filter.name filter.unread
+unread_rose old new named (inr (inr (inl ticks))) =
+    next_rose old new (first_texts named.command ticks.job.setup) ticks.name ticks.unread
+unread_rose old new named (inr (inr (inr schedule))) =
+    next_rose old new (first_texts named.command schedule.job.setup) named.schedule schedule.unread
+
+-- what is found if a text stops the command
 pub found_of : (old new : StoreSeen) (named : Named) (answer : Result Finding Stop)
     → IfOk answer (IsFound (Some named) old new) → IfErr answer (Stops old new named)
     → IfOk (finding_of answer) (IsFound (Some named) old new)
@@ -230,10 +229,10 @@ ready_of (Err stops.Memory) h = tt
 
 -- ---- what is saved of it is what the command saves
 
-members_count : (held : Option Contents) (named : Named) (report : RunReport)
-    (h : IsHeadline held named report)
+members_count : (old new : StoreSeen) (named : Named) (report : RunReport)
+    (h : IsHeadline old new named report)
     → length report.members ≡ h.job.setup.plan.members
-members_count held named report h =
+members_count old new named report h =
     report_members (rings_of named.command) h.job h.bytes h.ends report h.report_is
 
 run_saves : (command : Command) (held : Option Contents) (setup : Setup) (bytes : List (List ℕ))
@@ -248,7 +247,7 @@ run_saves Capture held setup bytes ends h = refl
 run_saves Forward held setup bytes ends h = refl
 run_saves Send held setup bytes ends h = absurd h
 
--- something was sent where the command sends
+-- something was sent if the command sends
 sent_where : (sent : Bool) (setup : Setup) (report : RunReport) (forwards : Option Forwards)
     → IsSentBy sent setup report forwards → sent ≡ is_some forwards
 sent_where true setup report None h = absurd h
@@ -256,16 +255,16 @@ sent_where true setup report (Some forwards) h = refl
 sent_where false setup report None h = refl
 sent_where false setup report (Some forwards) h = absurd h
 
-report_names : (held : Option Contents) (named : Named) (setup : Setup) (report : RunReport)
-    (forwards : Option Forwards) → (h : IsReported held named setup report)
+report_names : (old new : StoreSeen) (named : Named) (setup : Setup) (report : RunReport)
+    (forwards : Option Forwards) → (h : IsReported old new named setup report)
     → IsSentBy (sends named.command) setup report forwards
     → saved_for named.command h.headline.job.setup
     ≡ names_from setup (is_some forwards) 0 (length report.members)
-report_names held named setup report forwards h sent =
+report_names old new named setup report forwards h sent =
     let head = h.headline in
-    run_saves named.command held head.job.setup head.bytes head.ends head.captures
+    run_saves named.command old.held head.job.setup head.bytes head.ends head.captures
     ∙ ap (λ count. names_from head.job.setup (sends named.command) 0 count)
-    (sym (members_count held named report head))
+    (sym (members_count old new named report head))
     ∙ ap (λ (s : Setup). names_from s (sends named.command) 0 (length report.members)) h.setup_is
     ∙ ap (λ (sent : Bool). names_from setup sent 0 (length report.members))
     (sent_where (sends named.command) setup report forwards sent)
@@ -289,7 +288,7 @@ saves_meant old new (Some named) finding.Checked untold all h = tt
 saves_meant old new (Some named) (finding.Ran rings setup report forwards) untold all h =
     let head = h.0.headline in
     subst (λ (names : List (List ℕ)). AllMeant old.to_save names)
-    (report_names old.held named setup report forwards h.0 h.2)
+    (report_names old new named setup report forwards h.0 h.2)
     (outputs_meant old.held old.to_save named head.job.setup untold all head.job_is.setup)
 saves_meant old new (Some named) (finding.Sent setup sending) untold all h =
     let sent = h.0 in
@@ -297,7 +296,7 @@ saves_meant old new (Some named) (finding.Sent setup sending) untold all h =
     (subst (λ (c : Command). AllMeant old.to_save (saved_for c sent.job.setup)) sent.command
     (outputs_meant old.held old.to_save named sent.job.setup untold all sent.job_is.setup))
 
--- ---- where it was searched for
+-- ---- when it was searched for
 
 -- what stopped a command or was found is what the search found
 pub searched : (command : Option Named) (old new : StoreSeen) (named : Named)

@@ -80,11 +80,11 @@ run_ends Forward held setup bytes ends logs captures are = ends_of held setup.cp
     captures are
 run_ends Send held setup bytes ends logs captures are = absurd captures
 
-report_of_texts : (held : Option Contents) (named : Named) (report : RunReport)
-    → IsHeadline held named report
+report_of_texts : (old new : StoreSeen) (named : Named) (report : RunReport)
+    → IsHeadline old new named report
     → AllByRecursion (λ log. IsOfCapture log.end) report.cpus
-report_of_texts held named report h =
-    run_ends named.command held h.job.setup h.bytes h.ends report.cpus h.captures
+report_of_texts old new named report h =
+    run_ends named.command old.held h.job.setup h.bytes h.ends report.cpus h.captures
     (report_ends (rings_of named.command) h.job h.bytes h.ends report h.report_is)
 
 -- ---- the status
@@ -127,7 +127,7 @@ found_of_texts old new (Some named) (finding.BadText error) (inr (inr schedule))
     schedule.refused.not_memory
 found_of_texts old new (Some named) finding.Checked h = tt
 found_of_texts old new (Some named) (finding.Ran rings setup report forwards) h =
-    by_logs 0 report.cpus (report_of_texts old.held named report h.0.headline)
+    by_logs 0 report.cpus (report_of_texts old new named report h.0.headline)
 found_of_texts old new (Some named) (finding.Sent setup sending) h =
     by_end 0 sending.end statuses.Fine (end_of_capture h.0.sending_is.bytes sending.end
     h.0.sending_is.capture.damage) tt
@@ -147,8 +147,8 @@ found_ends old new (Some named) finding.Unread h = tt
 found_ends old new (Some named) (finding.BadSetup error) h = tt
 found_ends old new (Some named) (finding.BadText error) h = tt
 found_ends old new (Some named) finding.Checked h = tt
-found_ends old new (Some named) (finding.Ran rings setup report forwards) h = report_of_texts old.held named report
-    h.0.headline
+found_ends old new (Some named) (finding.Ran rings setup report forwards) h =
+    report_of_texts old new named report h.0.headline
 found_ends old new (Some named) (finding.Sent setup sending) h = tt
 
 pub told_of_texts : (command : Option Named) (outcome : Outcome) (old new : StoreSeen)

@@ -2,6 +2,7 @@ pub mod Texts
 pub mod Ends
 pub mod Fetched
 pub mod Counted
+pub mod Given
 pub mod Meant
 pub mod Concluded
 pub mod Found

@@ -1,5 +1,5 @@
--- A job that was replayed: what its report is worth.
-use Rattle.std.proofs.Common.{◌≡◌, ℕ, ◌≤◌, Bool, true, false, List, length, refl, sym, ap}
+-- A job that was replayed: what its report guarantees.
+use Rattle.std.proofs.Common.{◌≡◌, ℕ, ◌≤◌, Bool, true, false, List, ◌++◌, length, refl, sym, ap}
 use Rattle.std.proofs.Common.{subst, ◌∙◌, arith, Option, None, Some}
 use Rattle.std.specs.Prelude.{if◌then◌else◌, nat_lt}
 use Rattle.std.proofs.lemmas.Bool.{ltb-false}
@@ -12,6 +12,7 @@ use Rattle.schedule_lines.specs.declared.lines.Line.{Line}
 use Rattle.setup_text.specs.Sound.{IsSetup}
 use Rattle.setup_text.specs.declared.commands.Command.{Command}
 use Rattle.setup_text.specs.declared.commands.Command.TheVariants.{Capture, Check, Forward, Make, Replay, Replay2, Send}
+use Rattle.setup_text.specs.declared.cpu_setups.CpuSetup.{CpuSetup}
 use Rattle.setup_text.specs.declared.jobs.Job.{Job}
 use Rattle.setup_text.specs.declared.reports.RunReport.{RunReport}
 use Rattle.setup_text.specs.declared.setups.Setup.{Setup}
@@ -22,14 +23,16 @@ use Rattle.tap_printing.specs.declared.ring_kind.RingKind.TheVariants.{Blocks}
 use Rattle.tap_engine.specs.Commands.{Named, has_schedule, is_threaded, rings_of}
 use Rattle.tap_engine.specs.Faults.{IsCounted}
 use Rattle.tap_engine.specs.Findings.{IsReported, IsSmall, faults_in}
-use Rattle.tap_engine.specs.Headline.{AreCaptures, CapturesFor, IsCaptureOf, IsReplayOf}
+use Rattle.tap_engine.specs.Given.{AreGiven, given_entries, missing_entries}
+use Rattle.tap_engine.specs.Headline.{AreCaptures, CapturesFor, GivenFor, IsCaptureOf, IsReplayOf}
 use Rattle.tap_engine.specs.Headline.{IsReportBy, IsRunOf, replay_by}
-use Rattle.tap_engine.specs.Jobs.{HasJob, HasLines, HasTicks}
+use Rattle.tap_engine.specs.Jobs.{HasLines, HasTicks, IsRead}
 use Rattle.tap_engine.specs.inside.Replays.{IsReplayedBy}
-use Rattle.tap_engine.specs.inside.Sources.{AreFetched, faulty_in, missing_in}
+use Rattle.tap_engine.specs.inside.Sources.{AreFetched, faulty_in, givens, missing_in}
 use Rattle.tap_engine.proofs.Ends.{as_many_logs, report_ends, report_members, report_short}
 use Rattle.tap_engine.proofs.Counted.{counts_run}
-use Rattle.tap_engine.proofs.Fetched.{bytes_as_many, captures_are}
+use Rattle.tap_engine.proofs.Fetched.{bytes_as_many, captures_are, held_same}
+use Rattle.tap_engine.proofs.Given.{run_given}
 
 -- what holds of the report of a job that was replayed over these sources
 pub record Replays (rings : RingKind) (job : Job) (lines : List Line)
@@ -84,24 +87,43 @@ faults_counted held rings job old new bytes ends report a b c fetched gave run =
     counts_run held job.setup.cpus old new bytes ends report.cpus a b c fetched gave
     (report_ends rings job bytes ends report run)
 
-reported : (held : Option Contents) (named : Named) (job : Job) (bytes : List (List ℕ))
+reported : (old mid new : StoreSeen) (named : Named) (job : Job) (bytes : List (List ℕ))
     (ends : List CpuEnd) (report : RunReport)
     → IsReportBy (rings_of named.command) job bytes ends report
-    → HasJob held named job → CapturesFor named.command held job.setup bytes ends
-    → IsRunOf named.command held named job bytes ends report
-    → IsReported held named job.setup report
-reported held named job bytes ends report run has captures adds = record {
+    → IsRead old mid named job → CapturesFor named.command old.held job.setup bytes ends
+    → GivenFor named.command mid.closed new.closed bytes
+    → IsRunOf named.command old.held named job bytes ends report
+    → IsReported old new named job.setup report
+reported old mid new named job bytes ends report run read captures given adds = record {
   headline = record {
     job = job;
-    job_is = has;
+    job_is = read.job_is;
+    read = mid;
+    texts = read.texts;
     bytes = bytes;
     ends = ends;
     captures = captures;
+    given = given;
     report_is = run;
     run = adds;
   };
   setup_is = refl;
 }
+
+-- the sources of a run, fetched when all texts were read
+abbrev pub FetchedBy : StoreSeen → StoreSeen → StoreSeen → List CpuSetup
+    → List (Option SourceSeen) → List (Option SourceSeen) → Type 0
+FetchedBy before fetched after cpus old new =
+    AreFetched before.held cpus old
+    × (fetched.closed ≡ before.closed ++ missing_entries old)
+    × (after.closed ≡ fetched.closed ++ given_entries (givens new))
+
+fetched_since : (start old : StoreSeen) (named : Named) (job : Job)
+    (sources : List (Option SourceSeen)) → IsRead start old named job
+    → AreFetched old.held job.setup.cpus sources → AreFetched start.held job.setup.cpus sources
+fetched_since start old named job sources read fetched =
+    subst (λ (held : Option Contents). AreFetched held job.setup.cpus sources)
+    (held_same start old read.texts.unfailed.only) fetched
 
 -- the run of a command that has a schedule
 scheduled_captures : (held : Option Contents) (setup : Setup) (bytes : List (List ℕ))
@@ -126,32 +148,50 @@ scheduled_run held named job bytes ends report Forward is run = cc
 scheduled_run held named job bytes ends report Send is run = cc
 scheduled_run held named job bytes ends report Make is run = cc
 
-pub replay_reported : (held : Option Contents) (named : Named) (job : Job) (lines : List Line)
-    (old new : List (Option SourceSeen)) (report : RunReport)
-    → Replays (rings_of named.command) job lines old new report
-    → AreFetched held job.setup.cpus old → has_schedule named.command ≡ true
-    → HasJob held named job → HasLines held named job lines → IsReported held named job.setup report
-replay_reported held named job lines old new report r fetched is has lines_are =
-    reported held named job r.replayed.bytes r.replayed.ends report r.replayed.run has
-    (scheduled_captures held job.setup r.replayed.bytes r.replayed.ends named.command is
-    (captures_are held job.setup.cpus old new r.replayed.bytes r.replayed.ends fetched
+scheduled_given : (before after bytes : List (List ℕ)) (command : Command)
+    → has_schedule command ≡ true → AreGiven before after bytes
+    → GivenFor command before after bytes
+scheduled_given before after bytes Replay is are = are
+scheduled_given before after bytes Replay2 is are = are
+scheduled_given before after bytes Check is are = cc
+scheduled_given before after bytes Capture is are = cc
+scheduled_given before after bytes Forward is are = cc
+scheduled_given before after bytes Send is are = cc
+scheduled_given before after bytes Make is are = cc
+
+pub replay_reported : (start old mid new : StoreSeen) (named : Named) (job : Job)
+    (lines : List Line) (olds news : List (Option SourceSeen)) (report : RunReport)
+    → Replays (rings_of named.command) job lines olds news report
+    → FetchedBy old mid new job.setup.cpus olds news → has_schedule named.command ≡ true
+    → IsRead start old named job → HasLines start.held named job lines
+    → IsReported start new named job.setup report
+replay_reported start old mid new named job lines olds news report r sources is read lines_are =
+    let fetched = fetched_since start old named job olds read sources.0 in
+    reported start old new named job r.replayed.bytes r.replayed.ends report r.replayed.run read
+    (scheduled_captures start.held job.setup r.replayed.bytes r.replayed.ends named.command is
+    (captures_are start.held job.setup.cpus olds news r.replayed.bytes r.replayed.ends fetched
     r.replayed.gave))
-    (scheduled_run held named job r.replayed.bytes r.replayed.ends report named.command is
+    (scheduled_given old.closed new.closed r.replayed.bytes named.command is
+    (run_given start.held job.setup.cpus olds news r.replayed.bytes r.replayed.ends old.closed
+    mid.closed new.closed fetched r.replayed.gave sources.1 sources.2))
+    (scheduled_run start.held named job r.replayed.bytes r.replayed.ends report named.command is
     (record { lines = lines; lines_are = lines_are; replay = r.replayed.report_is }))
 
 -- and that of a `make`
-pub make_reported : (held : Option Contents) (named : Named) (job : Job) (lines : List Line)
-    (old new : List (Option SourceSeen)) (report : RunReport)
-    → (r : Replays Blocks job lines old new report) → named.command ≡ Make
-    → CapturesFor Make held job.setup r.replayed.bytes r.replayed.ends
-    → HasJob held named job → HasLines held named job lines → IsReported held named job.setup report
-make_reported held named job lines old new report r is captures has lines_are =
-    reported held named job r.replayed.bytes r.replayed.ends report
+pub make_reported : (old new : StoreSeen) (named : Named) (job : Job) (lines : List Line)
+    (olds news : List (Option SourceSeen)) (report : RunReport)
+    → (r : Replays Blocks job lines olds news report) → named.command ≡ Make
+    → CapturesFor Make old.held job.setup r.replayed.bytes r.replayed.ends
+    → IsRead old new named job → HasLines old.held named job lines
+    → IsReported old new named job.setup report
+make_reported old new named job lines olds news report r is captures read lines_are =
+    reported old new new named job r.replayed.bytes r.replayed.ends report
     (subst (λ (c : Command). IsReportBy (rings_of c) job r.replayed.bytes r.replayed.ends report)
-    (sym is) r.replayed.run) has
-    (subst (λ (c : Command). CapturesFor c held job.setup r.replayed.bytes r.replayed.ends) (sym is)
-    captures)
-    (subst (λ (c : Command). IsRunOf c held named job r.replayed.bytes r.replayed.ends report)
+    (sym is) r.replayed.run) read
+    (subst (λ (c : Command). CapturesFor c old.held job.setup r.replayed.bytes r.replayed.ends)
+    (sym is) captures)
+    (subst (λ (c : Command). GivenFor c new.closed new.closed r.replayed.bytes) (sym is) refl)
+    (subst (λ (c : Command). IsRunOf c old.held named job r.replayed.bytes r.replayed.ends report)
     (sym is)
     (record {
       lines = lines;
@@ -195,16 +235,31 @@ threaded_run held named job bytes ends report Replay2 is run = cc
 threaded_run held named job bytes ends report Send is run = cc
 threaded_run held named job bytes ends report Make is run = cc
 
-pub threaded_reported : (held : Option Contents) (named : Named) (job : Job) (moments : List ℕ)
-    (old new : List (Option SourceSeen)) (report : RunReport)
-    → IsCaptureRun job moments old new report → AreFetched held job.setup.cpus old
-    → is_threaded named.command ≡ true → HasJob held named job
-    → HasTicks held job.setup.ticks moments
-    → IsReported held named job.setup report
-threaded_reported held named job moments old new report r fetched is has ticks =
-    reported held named job r.bytes r.ends report
-    (threaded_worth job r.bytes r.ends report named.command is r.run) has
-    (threaded_captures held job.setup r.bytes r.ends named.command is
-    (captures_are held job.setup.cpus old new r.bytes r.ends fetched r.gave))
-    (threaded_run held named job r.bytes r.ends report named.command is
+threaded_given : (before after bytes : List (List ℕ)) (command : Command)
+    → is_threaded command ≡ true → AreGiven before after bytes
+    → GivenFor command before after bytes
+threaded_given before after bytes Capture is are = are
+threaded_given before after bytes Forward is are = are
+threaded_given before after bytes Check is are = cc
+threaded_given before after bytes Replay is are = cc
+threaded_given before after bytes Replay2 is are = cc
+threaded_given before after bytes Send is are = cc
+threaded_given before after bytes Make is are = cc
+
+pub threaded_reported : (start old mid new : StoreSeen) (named : Named) (job : Job)
+    (moments : List ℕ) (olds news : List (Option SourceSeen)) (report : RunReport)
+    → IsCaptureRun job moments olds news report
+    → FetchedBy old mid new job.setup.cpus olds news → is_threaded named.command ≡ true
+    → IsRead start old named job → HasTicks start.held job.setup.ticks moments
+    → IsReported start new named job.setup report
+threaded_reported start old mid new named job moments olds news report r sources is read ticks =
+    let fetched = fetched_since start old named job olds read sources.0 in
+    reported start old new named job r.bytes r.ends report
+    (threaded_worth job r.bytes r.ends report named.command is r.run) read
+    (threaded_captures start.held job.setup r.bytes r.ends named.command is
+    (captures_are start.held job.setup.cpus olds news r.bytes r.ends fetched r.gave))
+    (threaded_given old.closed new.closed r.bytes named.command is
+    (run_given start.held job.setup.cpus olds news r.bytes r.ends old.closed mid.closed new.closed
+    fetched r.gave sources.1 sources.2))
+    (threaded_run start.held named job r.bytes r.ends report named.command is
     (record { moments = moments; moments_are = ticks; captured = r.captured }))

@@ -23,24 +23,30 @@ use Rattle.setup_text.specs.declared.jobs.Job.{Job}
 use Rattle.setup_text.specs.declared.reports.RunReport.{RunReport}
 use Rattle.tap_outside.specs.Contents.{Contents}
 use Rattle.tap_outside.specs.Counts.{Rose}
-use Rattle.tap_outside.specs.Seen.{SourceSeen}
+use Rattle.tap_outside.specs.Seen.{SourceSeen, StoreSeen, unread_source}
+use Rattle.tap_outside.specs.Sources.{SureSourceState, seen_sure_source, unread_sure_source}
 use Rattle.tap_printing.specs.declared.ring_kind.RingKind.TheVariants.{Blocks}
 use Rattle.tap_replay.specs.Runs.{IsReplayed}
 use Rattle.tap_engine.specs.Commands.{Named}
 use Rattle.tap_engine.specs.Findings.{IsReported, IsSmall, fault_at, faults_in}
 use Rattle.tap_engine.specs.Headline.{AreMade}
 use Rattle.tap_engine.specs.inside.Replays.{IsReplayedBy}
-use Rattle.tap_engine.specs.Jobs.{HasJob, HasLines, LinesFor}
+use Rattle.tap_engine.specs.Jobs.{HasLines, IsRead, LinesFor}
 use Rattle.tap_engine.proofs.Complete.{whole_end}
 use Rattle.tap_engine.proofs.Ends.{AreEnds, report_ends}
+use Rattle.tap_engine.proofs.Given.{two}
 use Rattle.tap_engine.proofs.Made.{make_reported, replays}
 
--- a source of all these bytes, and what is left of one
+-- a source of all these bytes, and any source as it is seen
 abbrev pub fresh : List ℕ → Option SourceSeen
-fresh text = Some (record { left = Some text; faults = 0 })
+fresh text = Some (unread_source text)
 
-abbrev pub seen : Option (List ℕ) → Option SourceSeen
-seen = option_map (λ left. record { left = Some left; faults = 0 })
+abbrev pub seen : Option SureSourceState → Option SourceSeen
+seen = option_map seen_sure_source
+
+-- a source of all these bytes, as made captures have it
+abbrev pub sure : List ℕ → Option SureSourceState
+sure text = Some (unread_sure_source text)
 
 no_rise : Rose 0 0 → ⊥
 no_rise h = omega (arith, h)
@@ -65,20 +71,18 @@ where_ended (Damaged (errors.BadInterface place)) P Q f h = tt
 at_whole : (end : CpuEnd) (P : Type 0) → end ≡ Whole → WhereEnded end P → P
 at_whole end P e h = subst (λ (x : CpuEnd). WhereEnded x P) e h
 
-one_gave : (text bytes left : List ℕ) (end : CpuEnd) → end_of text ≡ None
-    → Gave (record { left = Some text; faults = 0 }) (record { left = Some left; faults = 0 }) bytes
-    end → (bytes ≡ text) × (end ≡ Whole)
-one_gave text bytes left end whole gave =
+one_gave : (text bytes : List ℕ) (source : SureSourceState) (end : CpuEnd) → end_of text ≡ None
+    → Gave (unread_source text) (seen_sure_source source) bytes end
+    → (bytes ≡ text) × (end ≡ Whole)
+one_gave text bytes source end whole gave =
+    let left = source.left in
     let all : left ≡ [] → bytes ≡ text = λ none. sym (gave.taken ∙ ap (λ l. bytes ++ l) none ∙
     append-nil bytes) in
     let ended : end ≡ Whole = whole_end text bytes left end gave.taken whole gave.damage
     (where_ended end (IsAtEnd (Some left)) (bytes ≡ text) all gave.all) (no_fault end gave.fault) in
     (all (at_whole end (IsAtEnd (Some left)) ended gave.all), ended)
 
-two : {A : Type 0} (x y : A) (xs ys : List A) → x ≡ y → xs ≡ ys → x ∷ xs ≡ y ∷ ys
-two x y xs ys e f = ap (λ z. z ∷ xs) e ∙ ap (λ zs. y ∷ zs) f
-
-all_gave : (texts : List (List ℕ)) (left : List (Option (List ℕ))) (bytes : List (List ℕ))
+all_gave : (texts : List (List ℕ)) (left : List (Option SureSourceState)) (bytes : List (List ℕ))
     (ends : List CpuEnd)
     → AllByRecursion (λ text. end_of text ≡ None) texts
     → AllGave (map fresh texts) (map seen left) bytes ends
@@ -106,7 +110,7 @@ no_faults (text ∷ texts) (log ∷ logs) are =
     let rest = no_faults texts logs are.1 in omega (arith, one, rest)
 
 -- the sources of the made captures, before anything was read
-fresh_sources : (texts : List (List ℕ)) → map seen (map Some texts) ≡ map fresh texts
+fresh_sources : (texts : List (List ℕ)) → map seen (map sure texts) ≡ map fresh texts
 fresh_sources [] = refl
 fresh_sources (text ∷ texts) = ap (λ rest. fresh text ∷ rest) (fresh_sources texts)
 
@@ -118,7 +122,7 @@ lines_of job = made_lines job.setup.count (length job.setup.cpus) job.setup.plan
 
 -- the captures of the run are the made ones
 are_made : (job : Job) (lines : List Line) (old : List (Option SourceSeen))
-    (left : List (Option (List ℕ))) (report : RunReport)
+    (left : List (Option SureSourceState)) (report : RunReport)
     → (r : IsReplayedBy Blocks job lines old (map seen left) report)
     → old ≡ map fresh (texts_of job)
     → AllByRecursion (λ text. end_of text ≡ None) (texts_of job) → AreMade job.setup r.bytes r.ends
@@ -148,15 +152,15 @@ blocks_replayed job lines old new report r = record {
 
 -- what the report of a run over made frames is
 pub record IsMadeRun (job : Job) (report : RunReport) : Type 0 where
-  pub reported : (held : Option Contents) (named : Named) → named.command ≡ Make
-      → HasJob held named job → IsReported held named job.setup report
+  pub reported : (old new : StoreSeen) (named : Named) → named.command ≡ Make
+      → IsRead old new named job → IsReported old new named job.setup report
   pub faults : faults_in report.cpus ≡ 0
   pub small : IsSmall report
 
-pub made_run : (job : Job) (lines : List Line) (sources left : List (Option (List ℕ)))
+pub made_run : (job : Job) (lines : List Line) (sources left : List (Option SureSourceState))
     (cpus members : ℕ) (report : RunReport)
     → IsSetup job.setup → cpus ≡ length job.setup.cpus → members ≡ job.setup.plan.members
-    → sources ≡ map Some (made_captures job.setup.seed job.setup.count cpus)
+    → sources ≡ map sure (made_captures job.setup.seed job.setup.count cpus)
     → lines ≡ made_lines job.setup.count cpus members
     → IsReplayed job lines (map seen sources) (map seen left) report → IsMadeRun job report
 made_run job lines sources left cpus members report sound cpus_is members_is sources_are lines_made
@@ -166,7 +170,7 @@ made_run job lines sources left cpus members report sound cpus_is members_is sou
     (length-map sources seen ∙ count_sources setup.seed setup.count cpus sources sources_are
     ∙ cpus_is)
     (blocks_replayed job lines (map seen sources) (map seen left) report replayed) in
-    let old_is = ap (λ ss. map seen ss) (sources_are ∙ ap (λ n. map Some (made_captures setup.seed
+    let old_is = ap (λ ss. map seen ss) (sources_are ∙ ap (λ n. map sure (made_captures setup.seed
     setup.count n)) cpus_is) ∙ fresh_sources (texts_of job) in
     let lines_same : lines ≡ lines_of job =
     lines_made ∙ ap (λ n. made_lines setup.count n members) cpus_is
@@ -175,9 +179,9 @@ made_run job lines sources left cpus members report sound cpus_is members_is sou
     (recursion_from_All (λ text. end_of text ≡ None) (texts_of job)
     (captures-end setup.seed setup.count (length setup.cpus) sound.count)) in
     record {
-      reported = λ held named is has.
-          make_reported held named job lines (map seen sources) (map seen left) report r is made has
-          (lines_are held named job lines is lines_same);
+      reported = λ old new named is read.
+          make_reported old new named job lines (map seen sources) (map seen left) report r is made
+          read (lines_are old.held named job lines is lines_same);
       faults = no_faults r.replayed.bytes report.cpus
           (subst (λ (es : List CpuEnd). AreEnds report.cpus es) made.whole
           (report_ends Blocks job r.replayed.bytes r.replayed.ends report r.replayed.run));

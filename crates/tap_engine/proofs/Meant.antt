@@ -1,4 +1,4 @@
--- The names that a command reads and saves are meant, where its setup is accepted.
+-- The names that a command reads and saves are meant, if its setup is accepted.
 use Rattle.std.proofs.Common.{◌≡◌, ℕ, Bool, List, [], ◌∷◌, ◌++◌, Option, None, Some, refl, sym}
 use Rattle.std.proofs.Common.{subst}
 use Rattle.std.specs.Prelude.{IsTrue, IfSome, Result, Ok, Err, map, option_map, option_to_list, All}
@@ -78,7 +78,7 @@ names_meant held meant named setup untold all has =
     let ticks = option_meant meant (ticks_for named.command setup) _ filter.1 in
     record { filter = filter.0; ticks = ticks.0; last = ticks.1 }
 
--- also where the name is lent
+-- also if the name is borrowed
 pub lent_meant : {A : Type 0} (meant : List ℕ → Bool) (now : A → List ℕ) (lent : Option A)
     (name : Option (List ℕ))
     → option_map now lent ≡ name

@@ -1,4 +1,4 @@
--- What was printed where memory ran out.
+-- What was printed when memory ran out.
 use Rattle.std.proofs.Common.{◌≡◌, ◌∙◌, ℕ, List, Option, None, Some, append-nil, arith, refl, sym}
 use Rattle.std.specs.Prelude.{OnErr, OnOk, Result, Ok, Err}
 use Rattle.std.specs.Io.KnownBytes.{Appends}
@@ -7,7 +7,7 @@ use Rattle.tap_outside.specs.Seen.{SinkSeen}
 use Rattle.tap_outside.specs.Sinks.{AppendsFront}
 use Rattle.tap_engine.specs.Conclusions.{PrintedSome}
 
--- nothing of the bytes is a prefix of them
+-- the empty list is a prefix of the bytes
 none_written : (written : Option (List ℕ)) (bytes : List ℕ) → AppendsFront written written bytes
 none_written None bytes = tt
 none_written (Some old) bytes = (0, omega arith, sym (append-nil old))

@@ -1,5 +1,5 @@
 -- A capture that was read and sent.
-use Rattle.std.proofs.Common.{◌≡◌, ℕ, ◌+◌, ◌<◌, ◌≤◌, Bool, true, false, List, [], ◌∷◌, length}
+use Rattle.std.proofs.Common.{◌≡◌, ℕ, ◌+◌, ◌<◌, ◌≤◌, Bool, true, false, List, [], ◌∷◌, ◌++◌, length}
 use Rattle.std.proofs.Common.{get_or, Option, refl, sym, ap, subst, arith}
 use Rattle.std.specs.Prelude.{All, if◌then◌else◌}
 use Rattle.std.specs.List.{AllByRecursion}
@@ -23,9 +23,11 @@ use Rattle.tap_engine.specs.Findings.{fault_at}
 use Rattle.tap_engine.specs.Headline.{IsCapture}
 use Rattle.tap_engine.specs.Names.{first_file}
 use Rattle.tap_engine.specs.Sendings.{IsFirst}
-use Rattle.tap_engine.specs.inside.Sources.{AreFetched, faulty_in, missing_in}
+use Rattle.tap_engine.specs.Given.{given_entries, missing_entries}
+use Rattle.tap_engine.specs.inside.Sources.{AreFetched, faulty_in, givens, missing_in}
 use Rattle.tap_engine.proofs.Counted.{counts_less, counts_run}
 use Rattle.tap_engine.proofs.Fetched.{captures_are}
+use Rattle.tap_engine.proofs.Given.{first_given}
 
 -- the capture of CPU 0 is that of the first CPU
 pub first_is : (cpus : List CpuSetup) (cpu : CpuSetup) → 0 < length cpus → cpu ≡ get_or cpus 0 cpu
@@ -33,19 +35,23 @@ pub first_is : (cpus : List CpuSetup) (cpu : CpuSetup) → 0 < length cpus → c
 first_is [] cpu some is = absurd (omega (arith, some))
 first_is (first ∷ cpus) cpu some is = ap (λ (c : CpuSetup). c.file) (sym is)
 
-pub first_read : (held : Option Contents) (setup : Setup) (cpu : CpuSetup)
+pub first_read : (a b c : StoreSeen) (setup : Setup) (cpu : CpuSetup)
     (old new : Option SourceSeen) (reading : Reading)
-    → first_file setup.cpus ≡ cpu.file → AreFetched held (cpu ∷ []) (old ∷ [])
-    → IsReading 0 old new reading → IsFirst held setup reading
-first_read held setup cpu old new reading file fetched is = record {
+    → first_file setup.cpus ≡ cpu.file → AreFetched a.held (cpu ∷ []) (old ∷ [])
+    → b.closed ≡ a.closed ++ missing_entries (old ∷ [])
+    → c.closed ≡ b.closed ++ given_entries (givens (new ∷ []))
+    → IsReading 0 old new reading → IsFirst a c setup reading
+first_read a b c setup cpu old new reading file fetched missed closed is = record {
   bytes = is.bytes;
-  capture = subst (λ name. IsCapture held name is.bytes reading.end) (sym file)
-      (captures_are held (cpu ∷ []) (old ∷ []) (new ∷ []) (is.bytes ∷ []) (reading.end ∷ []) fetched
-      (is.gave, tt)).0;
+  capture = subst (λ name. IsCapture a.held name is.bytes reading.end) (sym file)
+      (captures_are a.held (cpu ∷ []) (old ∷ []) (new ∷ []) (is.bytes ∷ []) (reading.end ∷ [])
+      fetched (is.gave, tt)).0;
+  given = first_given a.held cpu old new is.bytes reading.end a.closed b.closed c.closed fetched
+      is.gave missed closed;
   frames = is.frames;
 }
 
--- the log of a capture that ended so
+-- the log of a capture that ended in this way
 abbrev log_of : CpuEnd → CpuLog
 log_of end = record { frames = 0; given = 0; end = end; arrivals = [] }
 

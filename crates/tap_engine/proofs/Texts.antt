@@ -14,7 +14,7 @@ use Rattle.tap_outside.specs.Contents.{Contents}
 use Rattle.tap_reading.specs.Fronts.{IsTextOf}
 use Rattle.tap_reading.specs.Readers.{Says, schedule_for, setup_for}
 
--- a reader that says one thing of every text that is too large
+-- a reader that says the same about every text that is too large
 abbrev pub Limits : {A : Type 0} → (List ℕ → A) → Type 0
 Limits {A} reader = (wrong : A) × ((text : List ℕ) → 1048576 < length text → reader text ≡ wrong)
 
@@ -55,7 +55,7 @@ filters = (
       (lt-ltb 1048576 (length text) large)),
 )
 
--- so what it says of a text that was read it says of all that the name holds
+-- so what it says about a text that was read it says about all that the name holds
 pub same_answer : {A : Type 0} (reader : List ℕ → A) (files : Contents) (name text : List ℕ)
     → Limits reader → IsTextOf (Some files) name text
     → reader (unwrap_or (files name) []) ≡ reader text

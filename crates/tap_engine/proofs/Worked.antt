@@ -1,6 +1,6 @@
--- What the work of a command comes to, where its job is accepted.
+-- The outcome of a command's work, if its job is accepted.
 use Rattle.std.proofs.Common.{◌≡◌, ℕ, Bool, true, false, List, ◌∷◌, map, refl, sym, ap, subst, inl, inr}
-use Rattle.std.proofs.Common.{Option, None, Some}
+use Rattle.std.proofs.Common.{Option, None, Some, ◌+◌, arith}
 use Rattle.std.specs.Prelude.{◌⊎◌, IfSome, IsTrue, All, Ok}
 use Rattle.schedule_lines.specs.declared.lines.Line.{Line}
 use Rattle.setup_text.specs.Setups.{request_fault}
@@ -20,13 +20,16 @@ use Rattle.tap_engine.specs.Commands.{Named, has_schedule, is_threaded, rings_of
 use Rattle.tap_reading.specs.Readers.{Says}
 use Rattle.tap_engine.specs.Faults.{IsCounted}
 use Rattle.tap_engine.specs.Findings.{IsFound, IsReported, fault_at}
+use Rattle.tap_engine.specs.Given.{ReadTexts, all_texts, first_texts, last_texts, one_named}
 use Rattle.tap_engine.specs.Jobs.{HasJob, HasLast, HasLines, HasSchedule, HasTicks, IsAsked}
-use Rattle.tap_engine.specs.Jobs.{LinesFor, lines_for}
+use Rattle.tap_engine.specs.Jobs.{IsLoaded, IsRead, LinesFor, lines_for}
 use Rattle.tap_engine.specs.Names.{first_file, read_last, ticks_for}
 use Rattle.tap_engine.specs.Sendings.{IsSending}
 use Rattle.tap_engine.specs.declared.findings.Finding.TheVariants as finding
 use Rattle.tap_engine.specs.declared.sending.Sending.{Sending}
-use Rattle.tap_engine.proofs.Fetched.{held_same}
+use Rattle.tap_engine.proofs.Counted.{counts_later}
+use Rattle.tap_engine.proofs.Fetched.{held_same, unfailed_then}
+use Rattle.tap_engine.proofs.Given.{read_then}
 use Rattle.tap_engine.proofs.Meant.{AfterMeant, AllMeant, captures_meant}
 
 -- ---- the names that are read last are meant
@@ -87,7 +90,7 @@ pub first_meant : (meant : List ℕ → Bool) (named : Named) (setup : Setup) �
     → AfterMeant meant named setup → IsTrue (meant (first_file setup.cpus))
 first_meant meant named setup is all = (last_meant meant named setup Send is all).0
 
--- ---- the ring of a `send` is one for transmitting
+-- ---- the ring of a `send` is a transmit ring
 
 pub transmits : (command : Command) (setup : Setup) → command ≡ Send
     → request_fault command setup.request ≡ None
@@ -115,31 +118,57 @@ pub threaded_ticks : (named : Named) (setup : Setup) → is_threaded named.comma
     → ticks_for named.command setup ≡ setup.ticks
 threaded_ticks named setup is = threaded_moments named.command setup is
 
-pub checks : (old new : StoreSeen) (named : Named) (job : Job) (moments : List ℕ)
-    → named.command ≡ Check → HasJob old.held named job
+ticks_since : (start old : StoreSeen) (ticks : Option (List ℕ)) (moments : List ℕ)
+    → OnlyReads start old → HasTicks old.held ticks moments → HasTicks start.held ticks moments
+ticks_since start old ticks moments reads has =
+    subst (λ (held : Option Contents). HasTicks held ticks moments) (held_same start old reads) has
+
+pub checks : (start old new : StoreSeen) (named : Named) (job : Job) (moments : List ℕ)
+    → named.command ≡ Check → IsLoaded start old named job
     → HasTicks old.held job.setup.ticks moments → NoReadFailed old new
-    → IsFound (Some named) old new finding.Checked
-checks old new named job moments is has ticks unfailed = (
+    → IsFound (Some named) start new finding.Checked
+checks start old new named job moments is loaded ticks unfailed = (
   record {
     command = is;
     job = job;
-    job_is = has;
+    job_is = loaded.job_is;
     moments = moments;
-    ticks = subst (λ (name : Option (List ℕ)). HasTicks old.held name moments)
-        (sym (ticks_are named job.setup is)) ticks;
+    ticks = subst (λ (name : Option (List ℕ)). HasTicks start.held name moments)
+        (sym (ticks_are named job.setup is)) (ticks_since start old job.setup.ticks moments
+        loaded.texts.unfailed.only ticks);
   },
-  unfailed,
+  unfailed_then start old new loaded.texts.unfailed unfailed,
 )
 
-pub sent_found : (old new : StoreSeen) (named : Named) (job : Job) (sending : Sending)
-    → named.command ≡ Send → HasJob old.held named job
-    → IsSending old.held job.setup sending
-    → IsCounted old new (fault_at sending.end)
-    → IsFound (Some named) old new (finding.Sent job.setup sending)
-sent_found old new named job sending is has sent faults =
-    (record { command = is; job = job; job_is = has; setup_is = refl; sending_is = sent }, faults)
+send_texts : (command : Command) (setup : Setup) → command ≡ Send
+    → first_texts command setup ≡ all_texts command setup
+send_texts Send setup is = refl
+send_texts Check setup is = cc
+send_texts Capture setup is = cc
+send_texts Forward setup is = cc
+send_texts Replay setup is = cc
+send_texts Replay2 setup is = cc
+send_texts Make setup is = cc
 
--- ---- what was asked for, where memory ran out
+pub sent_found : (start old new : StoreSeen) (named : Named) (job : Job) (sending : Sending)
+    → named.command ≡ Send → IsLoaded start old named job → IsSending old new job.setup sending
+    → IsCounted old new (fault_at sending.end)
+    → IsFound (Some named) start new (finding.Sent job.setup sending)
+sent_found start old new named job sending is loaded sent faults = (
+  record {
+    command = is;
+    job = job;
+    job_is = loaded.job_is;
+    setup_is = refl;
+    read = old;
+    texts = subst (λ many. ReadTexts start old many) (send_texts named.command job.setup is)
+        loaded.texts;
+    sending_is = sent;
+  },
+  counts_later (fault_at sending.end) start old new loaded.texts.unfailed faults,
+)
+
+-- ---- what was asked for, if memory ran out
 
 pub made_asked : (held : Option Contents) (named : Named) (job : Job) → named.command ≡ Make
     → HasJob held named job → IsAsked held named
@@ -225,7 +254,7 @@ pub replays_unsent : (command : Command) → (command ≡ Replay) ⊎ (command �
 replays_unsent command (inl is) = ap sends is
 replays_unsent command (inr is) = ap sends is
 
--- the command that is named has a schedule, where the one that is carried out has
+-- the command that is named has a schedule, if the one that is carried out has
 pub named_schedule : (command : Command) (named : Named) → has_schedule command ≡ true
     → named.command ≡ command → has_schedule named.command ≡ true
 named_schedule command named is same =
@@ -238,32 +267,112 @@ schedule_by : (held : Option Contents) (named : Named) (job : Job) (name : List 
 schedule_by held named job name lines called says =
     subst (λ (n : List ℕ). Says (lines_for job) held n (Ok lines)) (sym called) says
 
-pub asked_by_name : (held : Option Contents) (named : Named) (job : Job) (name : List ℕ)
+schedule_since : (start old : StoreSeen) (named : Named) (job : Job) (name : List ℕ)
+    (lines : List Line) → named.schedule ≡ name → IsLoaded start old named job
+    → Says (lines_for job) old.held name (Ok lines) → HasSchedule start.held named job lines
+schedule_since start old named job name lines called loaded says =
+    schedule_by start.held named job name lines called
+    (subst (λ (held : Option Contents). Says (lines_for job) held name (Ok lines))
+    (held_same start old loaded.texts.unfailed.only) says)
+
+pub asked_by_name : (start old : StoreSeen) (named : Named) (job : Job) (name : List ℕ)
     (lines : List Line) → has_schedule named.command ≡ true
-    → named.schedule ≡ name → HasJob held named job → Says (lines_for job) held name (Ok lines)
-    → IsAsked held named
-asked_by_name held named job name lines is called has says =
-    replay_asked held named job lines is has (schedule_by held named job name lines called says)
+    → named.schedule ≡ name → IsLoaded start old named job
+    → Says (lines_for job) old.held name (Ok lines) → IsAsked start.held named
+asked_by_name start old named job name lines is called loaded says =
+    replay_asked start.held named job lines is loaded.job_is
+    (schedule_since start old named job name lines called loaded says)
 
--- what a report is worth, whatever the command with a schedule asks for it
-abbrev pub IsWorthTo : Command → Option Contents → Job → List Line → RunReport → Type 0
-IsWorthTo command held job lines report =
-    (named : Named) → named.command ≡ command → HasJob held named job
-    → HasLines held named job lines
-    → IsReported held named job.setup report
+pub asked_in_time : (start old : StoreSeen) (named : Named) (job : Job) (moments : List ℕ)
+    → is_threaded named.command ≡ true → IsLoaded start old named job
+    → HasTicks old.held job.setup.ticks moments → IsAsked start.held named
+asked_in_time start old named job moments is loaded ticks =
+    threaded_asked start.held named job moments is loaded.job_is
+    (ticks_since start old job.setup.ticks moments loaded.texts.unfailed.only ticks)
 
-pub scheduled : (old mid : StoreSeen) (command : Command) (job : Job) (name : List ℕ)
-    (lines : List Line) (report : RunReport) → has_schedule command ≡ true → OnlyReads old mid
-    → Says (lines_for job) old.held name (Ok lines) → IsWorthTo command mid.held job lines report
-    → (named : Named) → named.command ≡ command → named.schedule ≡ name → HasJob old.held named job
-    → IsReported old.held named job.setup report
-scheduled old mid command job name lines report by_schedule reads says worth named is called has =
-    let here : IsWorthTo command old.held job lines report = subst
-    (λ (held : Option Contents). IsWorthTo command held job lines report)
-    (held_same old mid reads) worth in
-    here named is has (scheduled_lines old.held named job lines named.command
-    (named_schedule command named by_schedule is)
-    (schedule_by old.held named job name lines called says))
+-- ---- all texts, the last ones among them
+
+scheduled_many : (command : Command) (setup : Setup) → has_schedule command ≡ true
+    → last_texts command setup ≡ 1
+scheduled_many Replay setup is = refl
+scheduled_many Replay2 setup is = refl
+scheduled_many Check setup is = cc
+scheduled_many Capture setup is = cc
+scheduled_many Forward setup is = cc
+scheduled_many Send setup is = cc
+scheduled_many Make setup is = cc
+
+threaded_many : (command : Command) (setup : Setup) → is_threaded command ≡ true
+    → last_texts command setup ≡ one_named setup.ticks
+threaded_many Capture setup is = refl
+threaded_many Forward setup is = refl
+threaded_many Check setup is = cc
+threaded_many Replay setup is = cc
+threaded_many Replay2 setup is = cc
+threaded_many Send setup is = cc
+threaded_many Make setup is = cc
+
+-- a `make` reads none
+none_last : (many : ℕ) → many ≡ many + 0
+none_last many = omega arith
+
+made_many : (command : Command) (setup : Setup) → command ≡ Make
+    → first_texts command setup ≡ all_texts command setup
+made_many Make setup is = none_last (first_texts Make setup)
+made_many Check setup is = cc
+made_many Capture setup is = cc
+made_many Forward setup is = cc
+made_many Replay setup is = cc
+made_many Replay2 setup is = cc
+made_many Send setup is = cc
+
+scheduled_read : (start old mid : StoreSeen) (named : Named) (job : Job)
+    → has_schedule named.command ≡ true → IsLoaded start old named job → ReadTexts old mid 1
+    → IsRead start mid named job
+scheduled_read start old mid named job is loaded last = record {
+  job_is = loaded.job_is;
+  texts = subst (λ many. ReadTexts start mid (first_texts named.command job.setup + many))
+      (sym (scheduled_many named.command job.setup is))
+      (read_then (first_texts named.command job.setup) 1 start old mid loaded.texts last);
+}
+
+threaded_read : (start old mid : StoreSeen) (named : Named) (job : Job)
+    → is_threaded named.command ≡ true → IsLoaded start old named job
+    → ReadTexts old mid (one_named job.setup.ticks) → IsRead start mid named job
+threaded_read start old mid named job is loaded last = record {
+  job_is = loaded.job_is;
+  texts = subst (λ many. ReadTexts start mid (first_texts named.command job.setup + many))
+      (sym (threaded_many named.command job.setup is))
+      (read_then (first_texts named.command job.setup) (one_named job.setup.ticks) start old mid
+      loaded.texts last);
+}
+
+pub made_read : (start old : StoreSeen) (named : Named) (job : Job) → named.command ≡ Make
+    → IsLoaded start old named job → IsRead start old named job
+made_read start old named job is loaded = record {
+  job_is = loaded.job_is;
+  texts = subst (λ many. ReadTexts start old many) (made_many named.command job.setup is)
+      loaded.texts;
+}
+
+-- what a report guarantees, whatever command with a schedule asks for it
+abbrev pub IsWorthTo : Command → StoreSeen → StoreSeen → Job → List Line → RunReport → Type 0
+IsWorthTo command mid new job lines report =
+    (start : StoreSeen) (named : Named) → named.command ≡ command → IsRead start mid named job
+    → HasLines start.held named job lines
+    → IsReported start new named job.setup report
+
+pub scheduled : (old mid new : StoreSeen) (command : Command) (job : Job) (name : List ℕ)
+    (lines : List Line) (report : RunReport) → has_schedule command ≡ true → ReadTexts old mid 1
+    → Says (lines_for job) old.held name (Ok lines) → IsWorthTo command mid new job lines report
+    → (start : StoreSeen) (named : Named) → named.command ≡ command → named.schedule ≡ name
+    → IsLoaded start old named job → IsReported start new named job.setup report
+scheduled old mid new command job name lines report by_schedule last says worth start named is
+    called loaded =
+    let scheduled_is = named_schedule command named by_schedule is in
+    worth start named is (scheduled_read start old mid named job scheduled_is loaded last)
+    (scheduled_lines start.held named job lines named.command scheduled_is
+    (schedule_since start old named job name lines called loaded says))
 
 -- ---- what rings are made of
 
@@ -293,20 +402,18 @@ slots_asked command setup sound ring is =
     subst (λ (request : RingRequest). slot_fault request ≡ None) (sym sound.shape)
     (slots_of command setup.request is ring)
 
--- and whatever a command on threads asks for it
-abbrev pub IsWorthTimed : Option Contents → Job → List ℕ → RunReport → Type 0
-IsWorthTimed held job moments report =
-    (named : Named) → is_threaded named.command ≡ true → HasJob held named job
-    → HasTicks held job.setup.ticks moments
-    → IsReported held named job.setup report
+-- and whatever command on threads asks for it
+abbrev pub IsWorthTimed : StoreSeen → StoreSeen → Job → List ℕ → RunReport → Type 0
+IsWorthTimed mid new job moments report =
+    (start : StoreSeen) (named : Named) → is_threaded named.command ≡ true
+    → IsRead start mid named job → HasTicks start.held job.setup.ticks moments
+    → IsReported start new named job.setup report
 
-pub timed : (old mid : StoreSeen) (job : Job) (moments : List ℕ) (report : RunReport)
-    → OnlyReads old mid
-    → HasTicks old.held job.setup.ticks moments → IsWorthTimed mid.held job moments report
-    → (named : Named) → is_threaded named.command ≡ true → HasJob old.held named job
-    → IsReported old.held named job.setup report
-timed old mid job moments report reads ticks worth named is has =
-    let here : IsWorthTimed old.held job moments report = subst
-    (λ (held : Option Contents). IsWorthTimed held job moments report) (held_same old mid reads)
-    worth in
-    here named is has ticks
+pub timed : (old mid new : StoreSeen) (job : Job) (moments : List ℕ) (report : RunReport)
+    → ReadTexts old mid (one_named job.setup.ticks)
+    → HasTicks old.held job.setup.ticks moments → IsWorthTimed mid new job moments report
+    → (start : StoreSeen) (named : Named) → is_threaded named.command ≡ true
+    → IsLoaded start old named job → IsReported start new named job.setup report
+timed old mid new job moments report last ticks worth start named is loaded =
+    worth start named is (threaded_read start old mid named job is loaded last)
+    (ticks_since start old job.setup.ticks moments loaded.texts.unfailed.only ticks)

@@ -2,11 +2,12 @@
 use Rattle.std.specs.Prelude.{ℕ, Bool, false, true, ◌&&◌, not, List, [], ◌∷◌, length, codes}
 use Rattle.std.specs.Prelude.{bytes_eq, ◌==◌, if◌then◌else◌, Option, None, Some, option_map}
 use Rattle.setup_text.specs.declared.commands.Command.{Command}
-use Rattle.setup_text.specs.declared.commands.Command.TheVariants.{Capture, Check, Forward, Make, Replay, Replay2, Send}
+use Rattle.setup_text.specs.declared.commands.Command.TheVariants.{Capture, Check, Forward, Make}
+use Rattle.setup_text.specs.declared.commands.Command.TheVariants.{Replay, Replay2, Send}
 use Rattle.tap_printing.specs.declared.ring_kind.RingKind.{RingKind}
 use Rattle.tap_printing.specs.declared.ring_kind.RingKind.TheVariants.{Blocks, Slots}
 
--- a command with the names of its texts; where it has no schedule that name is empty
+-- a command with the names of its texts; if it has no schedule that name is empty
 pub record Named : Type 0 where
   pub command : Command
   pub setup : List ℕ
@@ -18,7 +19,7 @@ named_by command setup schedule = record { command = command; setup = setup; sch
 abbrev pub is_name : List ℕ → Bool
 is_name word = not (length word == 0)
 
--- the commands that ask for a setup alone
+-- the commands that need only a setup
 unfoldable pub lone_command : List ℕ → Option Command
 lone_command word =
     if bytes_eq word (codes "check") then Some Check
@@ -28,15 +29,15 @@ lone_command word =
     else if bytes_eq word (codes "forward") then Some Forward
     else None
 
--- the commands that ask for a setup and a schedule
+-- the commands that need a setup and a schedule
 unfoldable pub scheduled_command : List ℕ → Option Command
 scheduled_command word =
     if bytes_eq word (codes "replay") then Some Replay
     else if bytes_eq word (codes "replay2") then Some Replay2
     else None
 
--- exactly the words `check CONF`, `capture CONF`, `send CONF`, `make CONF`, `forward CONF`,
--- `replay CONF SCHED` and `replay2 CONF SCHED`, where no name is empty
+-- exactly the words `check CONF`, `capture CONF`, `send CONF`, `make CONF`, `forward CONF`, `replay
+-- CONF SCHED` and `replay2 CONF SCHED`, if no name is empty
 abbrev pub command_of : List (List ℕ) → Option Named
 command_of (word ∷ setup ∷ []) =
     if is_name setup
@@ -68,7 +69,7 @@ abbrev pub rings_of : Command → RingKind
 rings_of Replay2 = Slots
 rings_of command = Blocks
 
--- the command that is carried out on one thread: each of these but `capture` and `forward`
+-- the command that is carried out on one thread: each of these except `capture` and `forward`
 abbrev pub plain_of : Option Named → Option Named
 plain_of None = None
 plain_of (Some named) = if is_threaded named.command then None else Some named

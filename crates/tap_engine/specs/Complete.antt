@@ -1,4 +1,4 @@
--- A command that nothing is wrong with.
+-- A command with nothing wrong.
 use Rattle.std.specs.Prelude.{◌≡◌, ◌⊎◌, ℕ, List, [], length, ⊤, Option, None, Some, unwrap_or, Ok}
 use Rattle.std.specs.List.{AllByRecursion}
 use Rattle.bpf_filter.specs.declared.insn.Insn.{Insn}
@@ -8,7 +8,8 @@ use Rattle.setup_text.specs.Filters.{filter_of}
 use Rattle.setup_text.specs.Moments.{moments_of}
 use Rattle.setup_text.specs.Schedules.{schedule_of}
 use Rattle.setup_text.specs.declared.commands.Command.{Command}
-use Rattle.setup_text.specs.declared.commands.Command.TheVariants.{Capture, Check, Forward, Make, Replay, Replay2, Send}
+use Rattle.setup_text.specs.declared.commands.Command.TheVariants.{Capture, Check, Forward, Make}
+use Rattle.setup_text.specs.declared.commands.Command.TheVariants.{Replay, Replay2, Send}
 use Rattle.setup_text.specs.declared.cpu_setups.CpuSetup.{CpuSetup}
 use Rattle.setup_text.specs.declared.setups.Setup.{Setup}
 use Rattle.tap_outside.specs.Contents.{Contents}
@@ -19,17 +20,17 @@ use Rattle.tap_engine.specs.Names.{filter_for, first_file, setup_held, ticks_for
 use Rattle.tap_engine.specs.declared.outcomes.Status.{Status}
 use Rattle.tap_engine.specs.declared.outcomes.Status.TheVariants.{Fine, Memory}
 
--- what a name holds, nothing where it isn't held
+-- what a name holds, nothing if it isn't held
 abbrev pub text_in : Contents → List ℕ → List ℕ
 text_in files name = unwrap_or (files name) []
 
--- the filter is accepted, where there is one
+-- the filter is accepted, if there is one
 abbrev pub IsSoundFilter : Contents → Option (List ℕ) → Type 0
 IsSoundFilter files None = ⊤
 IsSoundFilter files (Some name) =
     (program : List Insn) × (filter_of (text_in files name) ≡ Ok program)
 
--- so are the moments, where there are some
+-- so are the moments, if there are some
 abbrev pub AreSoundTicks : Contents → Option (List ℕ) → Type 0
 AreSoundTicks files None = ⊤
 AreSoundTicks files (Some name) =
@@ -72,7 +73,7 @@ pub record NothingFails (old new : StoreSeen) (before after : SinkSeen) : Type 0
   pub saves : Rose old.save_faults new.save_faults → ⊥
   pub prints : Rose before.faults after.faults → ⊥
 
--- where the store holds a sound command and nothing fails, the status is 0, or 7
+-- if the store holds a sound command and nothing fails, the status is 0, or 7
 abbrev pub IsComplete :
     Option Named → StoreSeen → StoreSeen → SinkSeen → SinkSeen → Status → Type 0
 IsComplete command old new before after status =

@@ -1,4 +1,4 @@
--- What a call answers, prints and saves, by what it found.
+-- What a call returns, prints and saves, by what it found.
 use Rattle.std.specs.Prelude.{◌≡◌, ◌⊎◌, ◌<◌, ℕ, Bool, true, false, List, Option, None, Some, codes}
 use Rattle.std.specs.Prelude.{IfOk, OnErr, Result}
 use Rattle.std.specs.Io.KnownBytes.{Appends}
@@ -15,7 +15,7 @@ use Rattle.tap_engine.specs.declared.outcomes.Outcome.{Outcome}
 use Rattle.tap_engine.specs.declared.outcomes.Status.{Status}
 use Rattle.tap_engine.specs.declared.outcomes.Status.TheVariants.{WriteFault}
 
--- the lines were printed and no write failed, or a prefix of them where printing failed
+-- the lines were printed and no write failed, or a prefix of them was and printing failed
 abbrev pub IsPrinted : SinkSeen → SinkSeen → List ℕ → Bool → Type 0
 IsPrinted before after lines true =
     Appends before.written after.written lines × (after.faults ≡ before.faults)
@@ -27,7 +27,7 @@ pub record PrintedSome (before after : SinkSeen) (lines : List ℕ) : Type 0 whe
   pub front : AppendsFront before.written after.written lines
   pub faultless : after.faults ≡ before.faults
 
--- the line that is printed where memory ran out, after whatever was printed before
+-- the line that is printed when memory ran out, after whatever was printed before
 abbrev pub memory_line : List ℕ
 memory_line = codes "out of memory\n"
 
@@ -41,7 +41,7 @@ pub record IsDone (finding : Finding) (status : Status) (old new : StoreSeen)
   pub saves : NoSaveFailed old new
   pub prints : after.faults ≡ before.faults
 
--- printing or saving failed: as many files may not hold their bytes as saving failed, or fewer
+-- printing or saving failed: at most as many files fail to hold their bytes as saves failed
 pub record IsFailed (finding : Finding) (status : Status) (old new : StoreSeen)
     (before after : SinkSeen) : Type 0 where
   pub status_is : status ≡ WriteFault
@@ -52,8 +52,8 @@ pub record IsFailed (finding : Finding) (status : Status) (old new : StoreSeen)
   pub counted : RoseBy (marked missed) old.save_faults new.save_faults
   pub cause : (0 < marked missed) ⊎ (printed ≡ false)
 
--- the report is that of the finding, and nothing of the store changes but its files and the count
--- of saving
+-- the report is that of the finding, and nothing of the store changes except its files and the
+-- count of failed saves
 pub record Concludes (finding : Finding) (outcome : Outcome) (old new : StoreSeen)
     (before after : SinkSeen) : Type 0 where
   pub report : outcome.report ≡ report_in finding
@@ -62,7 +62,7 @@ pub record Concludes (finding : Finding) (outcome : Outcome) (old new : StoreSee
       IsDone finding outcome.status old new before after
       ⊎ IsFailed finding outcome.status old new before after
 
--- what a call found, the store being read alone, and what it made of that
+-- what a call found while it only read the store, and what it made of that
 pub record Tells (command : Option Named) (outcome : Outcome) (old new : StoreSeen)
     (before after : SinkSeen) : Type 0 where
   pub read : StoreSeen
@@ -78,7 +78,7 @@ pub record IsCut (command : Option Named) (old new : StoreSeen) : Type 0 where
       NoReadFailed old new
       ⊎ ((named : Named) × (command ≡ Some named) × IsAsked old.held named)
 
--- what a call found, the store being read alone, or that memory ran out
+-- what a call found while it only read the store, or that memory ran out
 pub record IsSearched (command : Option Named) (old new : StoreSeen)
     (answer : Result Finding Memory) : Type 0 where
   pub reads : OnlyReads old new
@@ -86,7 +86,7 @@ pub record IsSearched (command : Option Named) (old new : StoreSeen)
   pub cut : OnErr answer (IsCut command old new)
 
 -- memory ran out after this was found: each name of its files holds what it held, or the file's
--- bytes, but for as many as saving failed, and a prefix of its lines was printed
+-- bytes, except at most as many as saves failed, and a prefix of its lines was printed
 pub record IsCutShort (command : Option Named) (old new : StoreSeen) (before after : SinkSeen)
     : Type 0 where
   pub read : StoreSeen
@@ -102,8 +102,8 @@ abbrev pub IsStopped : Option Named → StoreSeen → StoreSeen → SinkSeen →
 IsStopped command old new before after =
     (IsCut command old new × (after ≡ before)) ⊎ IsCutShort command old new before after
 
--- there is no report, no more of the store has changed than that, and no more was printed than that
--- and then a prefix of the line that says so
+-- there is no report, nothing else of the store has changed, and nothing else was printed except a
+-- prefix of the line that says so
 pub record GivesUp (command : Option Named) (outcome : Outcome) (old new : StoreSeen)
     (before after : SinkSeen) : Type 0 where
   pub report : outcome.report ≡ None

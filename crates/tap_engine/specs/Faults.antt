@@ -11,13 +11,13 @@ pub record IsCounted (old new : StoreSeen) (faults : ℕ) : Type 0 where
   pub rose : RoseBy faults old.read_faults new.read_faults
   pub faultless : faults ≡ 0 → NoReadFailed old new
 
--- no fault was counted: the counts of an exact store stand still, and that of the sink
+-- no fault was counted: the counts of an exact store and that of the sink are unchanged
 pub record NoneCounted (old new : StoreSeen) (before after : SinkSeen) : Type 0 where
   pub reads : IsTrue old.exact → new.read_faults ≡ old.read_faults
   pub saves : NoSaveFailed old new
   pub prints : after.faults ≡ before.faults
 
--- where a fault was counted the status is 5, 6 or 7
+-- if a fault was counted the status is 5, 6 or 7
 abbrev pub IsFaultless : StoreSeen → StoreSeen → SinkSeen → SinkSeen → Status → Type 0
 IsFaultless old new before after status =
     status ≢ ReadFault → status ≢ WriteFault → status ≢ Memory → NoneCounted old new before after

@@ -1,5 +1,7 @@
--- What a command finds, by what the outside gives, and what it answers, prints and saves by that.
-use Rattle.std.specs.Prelude.{◌≡◌, ◌≤◌, ℕ, ◌+◌, Bool, false, true, List, [], ◌∷◌, codes, length, map}
+-- What a command finds, from what the outside gives, and what it returns, prints and saves from
+-- that.
+use Rattle.std.specs.Prelude.{◌≡◌, ◌≤◌, ℕ, ◌+◌, Bool, false, true, List, [], ◌∷◌, codes, length}
+use Rattle.std.specs.Prelude.{map}
 use Rattle.std.specs.Prelude.{All, Option, None, Some, is_some, IfSome, ⊤, Result, Ok, Err}
 use Rattle.capture_file.specs.declared.cpu_end.CpuEnd.{CpuEnd}
 use Rattle.capture_file.specs.declared.cpu_end.CpuEnd.TheVariants.{Whole, Fault, Damaged}
@@ -10,8 +12,6 @@ use Rattle.setup_text.specs.declared.reports.MemberReport.{MemberReport}
 use Rattle.setup_text.specs.declared.reports.RunReport.{RunReport}
 use Rattle.setup_text.specs.declared.setups.Setup.{Setup}
 use Rattle.tap_forward.specs.Bridges.{sent_for, skipped_for}
-use Rattle.tap_outside.specs.Contents.{Contents}
-use Rattle.tap_outside.specs.Counts.{Rose}
 use Rattle.tap_outside.specs.Seen.{NoReadFailed, StoreSeen}
 use Rattle.tap_printing.specs.Lines.{send_lines, summary_of}
 use Rattle.tap_printing.specs.Refusals.{setup_refusal, text_refusal}
@@ -24,7 +24,7 @@ use Rattle.tx_ring.specs.Rings.{room_of}
 use Rattle.tap_engine.specs.Commands.{Named, rings_of, sends}
 use Rattle.tap_engine.specs.Faults.{IsCounted}
 use Rattle.tap_engine.specs.Headline.{IsHeadline}
-use Rattle.tap_engine.specs.Jobs.{HasBadSetup, HasBadText, IsChecked}
+use Rattle.tap_engine.specs.Jobs.{CantReadText, HasBadSetup, HasBadText, IsChecked}
 use Rattle.tap_engine.specs.Sendings.{IsSent}
 use Rattle.tap_engine.specs.declared.findings.Finding.{Finding}
 use Rattle.tap_engine.specs.declared.findings.Finding.TheVariants as finding
@@ -33,20 +33,20 @@ use Rattle.tap_engine.specs.declared.outcomes.Status.TheVariants as statuses
 
 -- ---- what is found
 
--- a report is worth the headline, and its setup is this
-pub record IsReported (held : Option Contents) (named : Named) (setup : Setup) (report : RunReport)
+-- a report fulfils the headline, and this is its setup
+pub record IsReported (old new : StoreSeen) (named : Named) (setup : Setup) (report : RunReport)
     : Type 0 where
-  pub headline : IsHeadline held named report
+  pub headline : IsHeadline old new named report
   pub setup_is : headline.job.setup ≡ setup
 
--- what members sent and skipped is what is forwarded of the packets that each read, through slots
--- of `room` bytes
+-- what each member sent and skipped follows from the packets that it read, for slots of `room`
+-- bytes
 pub record IsForwarded (room : ℕ) (members : List MemberReport) (forwards : Forwards)
     : Type 0 where
   pub sent : forwards.sent ≡ map (sent_for room) members
   pub skipped : forwards.skipped ≡ map (skipped_for room) members
 
--- members send under a command that sends, and under no other
+-- members send exactly under a command that sends
 abbrev pub IsSentBy : Bool → Setup → RunReport → Option Forwards → Type 0
 IsSentBy true setup report (Some forwards) =
     IsForwarded (room_of setup.shape) report.members forwards
@@ -64,27 +64,26 @@ abbrev pub faults_in : List CpuLog → ℕ
 faults_in [] = 0
 faults_in (log ∷ logs) = fault_at log.end + faults_in logs
 
--- A command finds this in a store. A text that can't be read comes only where reading failed, and
--- as many captures end with a fault as reading failed, or fewer. Where neither comes no read
--- failed.
+-- A command finds this in a store. As many captures end with a fault as reading failed, or fewer.
+-- Where no text can't be read and no capture ends with a fault no read failed.
 abbrev pub IsFound : Option Named → StoreSeen → StoreSeen → Finding → Type 0
 IsFound None old new finding.NoCommand = NoReadFailed old new
 IsFound None old new found = ⊥
 IsFound (Some named) old new finding.NoCommand = ⊥
-IsFound (Some named) old new finding.Unread = Rose old.read_faults new.read_faults
+IsFound (Some named) old new finding.Unread = CantReadText old new named
 IsFound (Some named) old new (finding.BadSetup error) = HasBadSetup old new named error
 IsFound (Some named) old new (finding.BadText error) = HasBadText old new named error
 IsFound (Some named) old new finding.Checked = IsChecked old.held named × NoReadFailed old new
 IsFound (Some named) old new (finding.Ran rings setup report forwards) =
-    IsReported old.held named setup report
+    IsReported old new named setup report
     × IsCounted old new (faults_in report.cpus)
     × IsSentBy (sends named.command) setup report forwards
     × (rings ≡ rings_of named.command)
 IsFound (Some named) old new (finding.Sent setup sending) =
-    IsSent old.held named setup sending
+    IsSent old new named setup sending
     × IsCounted old new (fault_at sending.end)
 
--- what is found where a text stops the command
+-- what is found if a text stops the command
 abbrev pub finding_of : Result Finding Stop → Result Finding Memory
 finding_of (Ok found) = Ok found
 finding_of (Err stops.Unread) = Ok finding.Unread
@@ -94,7 +93,7 @@ finding_of (Err stops.Memory) = Err (record {})
 
 -- ---- what follows from it
 
--- the status of the first CPU that didn't end whole: a fault of any comes before damage
+-- the status of the first CPU that didn't end whole: a fault of any CPU comes before damage
 abbrev pub status_by_end : ℕ → CpuEnd → Status → Status
 status_by_end cpu Whole rest = rest
 status_by_end cpu Fault rest = statuses.ReadFault

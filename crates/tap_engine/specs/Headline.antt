@@ -1,4 +1,4 @@
--- The headline: what a report is worth.
+-- The headline: what a report guarantees.
 use Rattle.std.specs.Prelude.{◌≡◌, ◌≤◌, ℕ, List, [], ◌∷◌, length, map, ⊤, Option, None, Some}
 use Rattle.std.specs.Prelude.{IfSome}
 use Rattle.capture_file.specs.Capture.{damage_of, end_of}
@@ -8,12 +8,14 @@ use Rattle.capture_reports.specs.Reported.{IsCaptured}
 use Rattle.made_captures.specs.Made.{made_captures}
 use Rattle.schedule_lines.specs.declared.lines.Line.{Line}
 use Rattle.setup_text.specs.declared.commands.Command.{Command}
-use Rattle.setup_text.specs.declared.commands.Command.TheVariants.{Capture, Check, Forward, Make, Replay, Replay2, Send}
+use Rattle.setup_text.specs.declared.commands.Command.TheVariants.{Capture, Check, Forward, Make}
+use Rattle.setup_text.specs.declared.commands.Command.TheVariants.{Replay, Replay2, Send}
 use Rattle.setup_text.specs.declared.cpu_setups.CpuSetup.{CpuSetup}
 use Rattle.setup_text.specs.declared.jobs.Job.{Job}
 use Rattle.setup_text.specs.declared.reports.RunReport.{RunReport}
 use Rattle.setup_text.specs.declared.setups.Setup.{Setup}
 use Rattle.tap_outside.specs.Contents.{Contents}
+use Rattle.tap_outside.specs.Seen.{StoreSeen}
 use Rattle.tap_reading.specs.Fronts.{IsAllOf, IsFrontOf}
 use Rattle.run_reports.specs.Reports.{IsRunReport}
 use Rattle.tap_printing.specs.declared.ring_kind.RingKind.{RingKind}
@@ -24,17 +26,18 @@ use Rattle.v2_replay.specs.SlotReports.{IsSlotRunReport}
 use Rattle.v2_replay.specs.SlotRuns.{slot_report_of}
 use Rattle.capture_reading.specs.Sources.{EndsAtDamage, UnlessFault, WhereEnded, WhereFault, end_by}
 use Rattle.tap_engine.specs.Commands.{Named, rings_of}
+use Rattle.tap_engine.specs.Given.{AreGiven, ReadTexts, all_texts}
 use Rattle.tap_engine.specs.Jobs.{HasJob, HasLines, HasTicks}
 
--- the capture under a name gave these bytes, from its start, and ended so
+-- the capture under a name gave these bytes, from its start, and ended in this way
 pub record IsCapture (held : Option Contents) (name bytes : List ℕ) (end : CpuEnd) : Type 0 where
   pub front : IsFrontOf held name bytes
   -- nothing was read after damage, and at most 33,554,432 bytes and a piece of 65,536
   pub last : EndsAtDamage bytes
   pub few : length bytes ≤ 33619968
-  -- where reading failed the bytes before it show no damage
+  -- if reading failed the bytes before it show no damage
   pub sound : WhereFault end (damage_of bytes ≡ None)
-  -- else the end is what the bytes say, and whole or cut only where they are all
+  -- otherwise the end is what the bytes say, and whole or cut only if they are all
   pub damage : UnlessFault end (end ≡ end_by (end_of bytes))
   pub all : WhereEnded end (IsAllOf held name bytes)
 
@@ -61,6 +64,17 @@ CapturesFor Capture held setup bytes ends = AreCaptures held setup.cpus bytes en
 CapturesFor Forward held setup bytes ends = AreCaptures held setup.cpus bytes ends
 CapturesFor Send held setup bytes ends = ⊥
 
+-- how the record of the store grew by the captures of a run: by exactly what their sources gave,
+-- also where reading failed, and under `make`, which reads no capture, by nothing
+abbrev pub GivenFor : Command → List (List ℕ) → List (List ℕ) → List (List ℕ) → Type 0
+GivenFor Check before after bytes = ⊥
+GivenFor Make before after bytes = after ≡ before
+GivenFor Replay before after bytes = AreGiven before after bytes
+GivenFor Replay2 before after bytes = AreGiven before after bytes
+GivenFor Capture before after bytes = AreGiven before after bytes
+GivenFor Forward before after bytes = AreGiven before after bytes
+GivenFor Send before after bytes = ⊥
+
 -- what holds of every report of a run, whatever its command, by what its rings are made of
 abbrev pub IsReportBy : RingKind → Job → List (List ℕ) → List CpuEnd → RunReport → Type 0
 IsReportBy Blocks job bytes ends report = IsRunReport job bytes ends report
@@ -83,15 +97,15 @@ pub record IsReplayOf (held : Option Contents) (named : Named) (job : Job) (byte
   pub lines_are : HasLines held named job lines
   pub replay : report ≡ replay_by (rings_of named.command) job lines bytes ends
 
--- the members were told the moments that the setup names, each once and in order, and the report
--- holds their rings, finished
+-- the moments that the setup names were reported to the members, each once and in order, and the
+-- report holds their finished rings
 pub record IsCaptureOf (held : Option Contents) (job : Job) (report : RunReport) : Type 0 where
   pub moments : List ℕ
   pub moments_are : HasTicks held job.setup.ticks moments
   pub captured : IsCaptured job.setup.shape moments report
 
 -- what a command adds to what holds of every report: `replay`, `replay2` and `make` replay their
--- lines, and `capture` and `forward` tell their moments
+-- lines, and `capture` and `forward` report their moments
 abbrev pub IsRunOf :
     Command → Option Contents → Named → Job → List (List ℕ) → List CpuEnd → RunReport → Type 0
 IsRunOf Check held named job bytes ends report = ⊥
@@ -102,23 +116,29 @@ IsRunOf Capture held named job bytes ends report = IsCaptureOf held job report
 IsRunOf Forward held named job bytes ends report = IsCaptureOf held job report
 IsRunOf Send held named job bytes ends report = ⊥
 
--- A report is that of the setup, the filter and the captures under their names.
-pub record IsHeadline (held : Option Contents) (named : Named) (report : RunReport) : Type 0 where
-  -- the texts were read and are accepted
+-- A report is that of the setup, the filter and the captures under their names, as the store had
+-- them before; its captures are what the sources gave that the store has taken back since.
+pub record IsHeadline (old new : StoreSeen) (named : Named) (report : RunReport) : Type 0 where
+  -- the texts are accepted
   pub job : Job
-  pub job_is : HasJob held named job
-  -- what the captures gave
+  pub job_is : HasJob old.held named job
+  -- the store after they were read, each once, and no read had failed
+  pub read : StoreSeen
+  pub texts : ReadTexts old read (all_texts named.command job.setup)
+  -- what the captures gave, and how they ended
   pub bytes : List (List ℕ)
   pub ends : List CpuEnd
-  pub captures : CapturesFor named.command held job.setup bytes ends
+  pub captures : CapturesFor named.command old.held job.setup bytes ends
+  -- all that their sources gave, each read once, whether reading failed or not
+  pub given : GivenFor named.command read.closed new.closed bytes
   -- what holds of every report: its logs, its members, and that each arrival that passes appears
   -- once
   pub report_is : IsReportBy (rings_of named.command) job bytes ends report
   -- what the command adds
-  pub run : IsRunOf named.command held named job bytes ends report
+  pub run : IsRunOf named.command old.held named job bytes ends report
 
--- a report, if there is one, is worth that, and the words were a command
-abbrev pub IsWorth : Option Named → Option Contents → Option RunReport → Type 0
-IsWorth command held report =
-    IfSome report (λ report. (named : Named) × (command ≡ Some named) × IsHeadline held named
-    report)
+-- a report, if there is one, guarantees that, and the words were a command
+abbrev pub IsWorth : Option Named → StoreSeen → StoreSeen → Option RunReport → Type 0
+IsWorth command old new report =
+    IfSome report (λ report. (named : Named) × (command ≡ Some named)
+    × IsHeadline old new named report)

@@ -1,4 +1,4 @@
--- That memory ran out is reported by the status alone, and by no error within an answer.
+-- That memory ran out is reported only by the status, and by no error within an answer.
 use Rattle.std.specs.Prelude.{◌≡◌, ◌≢◌, false, ⊤, IfSome}
 use Rattle.std.specs.List.{AllByRecursion}
 use Rattle.capture_file.specs.declared.cpu_end.CpuEnd.{CpuEnd}

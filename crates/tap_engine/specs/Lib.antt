@@ -1,5 +1,6 @@
 pub mod Commands
 pub mod Names
+pub mod Given
 pub mod Jobs
 pub mod Headline
 pub mod Sendings

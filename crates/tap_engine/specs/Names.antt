@@ -1,9 +1,11 @@
 -- Which files a command reads and which it saves.
-use Rattle.std.specs.Prelude.{ℕ, Bool, false, true, List, [], ◌∷◌, ◌++◌, map, option_to_list, Option, None, Some}
+use Rattle.std.specs.Prelude.{ℕ, Bool, false, true, List, [], ◌∷◌, ◌++◌, map, option_to_list}
+use Rattle.std.specs.Prelude.{Option, None, Some}
 use Rattle.std.specs.Prelude.{unwrap_or, IsTrue, ⊤, Result, Ok, Err}
 use Rattle.std.specs.List.{AllByRecursion}
 use Rattle.setup_text.specs.declared.commands.Command.{Command}
-use Rattle.setup_text.specs.declared.commands.Command.TheVariants.{Capture, Check, Forward, Make, Replay, Replay2, Send}
+use Rattle.setup_text.specs.declared.commands.Command.TheVariants.{Capture, Check, Forward, Make}
+use Rattle.setup_text.specs.declared.commands.Command.TheVariants.{Replay, Replay2, Send}
 use Rattle.setup_text.specs.declared.cpu_setups.CpuSetup.{CpuSetup}
 use Rattle.setup_text.specs.declared.setup_error.SetupError.{SetupError}
 use Rattle.setup_text.specs.declared.setups.Setup.{Setup}
@@ -56,7 +58,7 @@ read_after named setup =
     ++ (option_to_list (ticks_for named.command setup)
     ++ read_last named.command named.schedule setup)
 
--- the setup alone where it isn't accepted
+-- only the setup if it isn't accepted
 abbrev pub read_by : Named → Result Setup SetupError → List (List ℕ)
 read_by named (Err error) = named.setup ∷ []
 read_by named (Ok setup) = named.setup ∷ read_after named setup
@@ -88,14 +90,14 @@ abbrev pub names_to_save : Option Named → Contents → List (List ℕ)
 names_to_save None files = []
 names_to_save (Some named) files = saved_by named.command (setup_held files named)
 
--- each of the names is meant; of a store that doesn't report what it holds nothing is asked
+-- each of the names is meant; nothing is required of a store that doesn't report what it holds
 abbrev pub AreMeant : (Option Named → Contents → List (List ℕ)) → Option Named → Option Contents
     → (List ℕ → Bool) → Type 0
 AreMeant names command None meant = ⊤
 AreMeant names command (Some files) meant =
     AllByRecursion (λ name. IsTrue (meant name)) (names command files)
 
--- each file that a command reads is meant for reading, and each that it saves for saving
+-- each file that a command reads is meant for reading, and each that it saves is meant for saving
 abbrev pub AreMeantToRead : Option Named → StoreSeen → Type 0
 AreMeantToRead command store = AreMeant names_to_read command store.held store.to_read
 

@@ -1,40 +1,47 @@
--- What becomes of a capture that is sent through a transmit ring.
-use Rattle.std.specs.Prelude.{◌≡◌, ℕ, List, length, Option}
+-- The result of a capture that is sent through a transmit ring.
+use Rattle.std.specs.Prelude.{◌≡◌, ℕ, List, [], ◌∷◌, ◌++◌, length}
 use Rattle.capture_file.specs.Capture.{frames_of}
 use Rattle.capture_reading.specs.declared.whole.Reading.{Reading}
 use Rattle.setup_text.specs.declared.commands.Command.TheVariants.{Send}
 use Rattle.setup_text.specs.declared.jobs.Job.{Job}
 use Rattle.setup_text.specs.declared.setups.Setup.{Setup}
-use Rattle.tap_outside.specs.Contents.{Contents}
+use Rattle.tap_outside.specs.Seen.{StoreSeen}
 use Rattle.tx_ring.specs.Rings.{room_of}
 use Rattle.tx_ring.specs.Transmitting.{transmitted_of}
 use Rattle.tap_engine.specs.Commands.{Named}
+use Rattle.tap_engine.specs.Given.{ReadTexts, all_texts}
 use Rattle.tap_engine.specs.Headline.{IsCapture}
 use Rattle.tap_engine.specs.Jobs.{HasJob}
 use Rattle.tap_engine.specs.Names.{first_file}
 use Rattle.tap_engine.specs.declared.sending.Sending.{Sending}
 
--- the capture of CPU 0 was read: it gave these bytes and ended so, and its frames are those of the
--- bytes
-pub record IsFirst (held : Option Contents) (setup : Setup) (reading : Reading) : Type 0 where
+-- the capture of CPU 0 was read: it gave these bytes and ended so, its frames are those of the
+-- bytes, and they are all that its source gave, none where it couldn't be fetched
+pub record IsFirst (old new : StoreSeen) (setup : Setup) (reading : Reading) : Type 0 where
   pub bytes : List ℕ
-  pub capture : IsCapture held (first_file setup.cpus) bytes reading.end
+  pub capture : IsCapture old.held (first_file setup.cpus) bytes reading.end
+  pub given : new.closed ≡ old.closed ++ bytes ∷ []
   pub frames : reading.frames ≡ frames_of 0 bytes
 
--- the capture of CPU 0 gave these bytes and ended so; of its frames those were sent that fit into a
--- slot, in order: with `skip_bad` all of them, without it those before the first longer one
-pub record IsSending (held : Option Contents) (setup : Setup) (sending : Sending) : Type 0 where
+-- the capture of CPU 0 gave these bytes and ended so, and they are all that its source gave; of its
+-- frames those were sent that fit into a slot, in order: with `skip_bad` all of them, without it
+-- those before the first longer one
+pub record IsSending (old new : StoreSeen) (setup : Setup) (sending : Sending) : Type 0 where
   pub bytes : List ℕ
-  pub capture : IsCapture held (first_file setup.cpus) bytes sending.end
+  pub capture : IsCapture old.held (first_file setup.cpus) bytes sending.end
+  pub given : new.closed ≡ old.closed ++ bytes ∷ []
   pub frames : sending.frames ≡ length (frames_of 0 bytes)
   pub sent :
       sending.sent ≡ transmitted_of (room_of setup.shape) setup.skip_bad (frames_of 0 bytes)
 
 -- it is what a `send` asks for, whose setup was read and is accepted
-pub record IsSent (held : Option Contents) (named : Named) (setup : Setup) (sending : Sending)
+pub record IsSent (old new : StoreSeen) (named : Named) (setup : Setup) (sending : Sending)
     : Type 0 where
   pub command : named.command ≡ Send
   pub job : Job
-  pub job_is : HasJob held named job
+  pub job_is : HasJob old.held named job
   pub setup_is : job.setup ≡ setup
-  pub sending_is : IsSending held setup sending
+  -- the store after the setup was read
+  pub read : StoreSeen
+  pub texts : ReadTexts old read (all_texts named.command job.setup)
+  pub sending_is : IsSending read new setup sending

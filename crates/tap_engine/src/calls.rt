@@ -29,15 +29,15 @@ use text_lines::Word;
 ///
 /// - `capture CONF` reads the setup, and the filter and the moments that it names, and feeds the
 ///   captures of the setup on threads: a feeder for each capture, a reader for each member, and a
-///   timer that tells the members the moments. The threads pass the gate at the points that it
-///   names. The call may wait, and what it promises holds where it returns.
+///   timer that reports the moments to the members. The threads call the gate at its points. The
+///   call may wait; its promises hold when it returns.
 /// - `forward CONF` does the same, and each reader sends the packets that it reads through a
-///   transmit ring of its own. After a member's other files what it sent is saved as a capture
-///   file, and after its line the numbers of packets that it sent and skipped are printed.
+///   transmit ring of its own. What a member sent is saved as a capture file after its other files,
+///   and the numbers of packets that it sent and skipped are printed after its line.
 /// - Every other command is carried out as `run_plain` does.
 ///
-/// Any other words are no command. The commands, the texts and the printed lines are this project's
-/// own choice; docs/reference.md lists them.
+/// Any other words aren't a command. The commands, the texts and the printed lines are this
+/// project's own choice; docs/reference.md lists them.
 pub fn run<S: Store, O: Sink, G: Gate + Sync, R: Threads + Wait + Sync>(
     rt: &R,
     alloc: Global,
@@ -51,28 +51,29 @@ pub fn run<S: Store, O: Sink, G: Gate + Sync, R: Threads + Wait + Sync>(
     requires reads { AreMeantToRead (command_of words.now) (S.seen store.old) }
     requires saves { AreMeantToSave (command_of words.now) (S.seen store.old) }
 
-    // A report holds each frame that was read and passes the filter once: kept or dropped.
-    ensures headline { IsWorth (command_of words.now) (S.seen store.old).held result.report }
+    // A report holds each frame that was read and passes the filter once: kept or dropped. What was
+    // read of a capture is all that its source gave, also where reading failed.
+    ensures headline { IsWorth (command_of words.now) (S.seen store.old) (S.seen store.new)
+        result.report }
 
-    // Unless memory ran out: what the command found by what the outside gave, and the status, the
-    // report, the lines and the files of that.
+    // Unless memory ran out: what the command found from what the outside gave, with the status,
+    // the report, the lines and the files that follow from it.
     ensures told { result.status ≢ Status.Memory → Tells (command_of words.now) result
         (S.seen store.old) (S.seen store.new) (O.seen out.old) (O.seen out.new) }
 
-    // Where memory ran out: no report, no file but those of what was found has changed, and a
-    // prefix of its lines was printed, and then one of `out of memory`.
+    // If memory ran out: there is no report, only files of what was found have changed, and a
+    // prefix of its lines was printed, followed by a prefix of `out of memory`.
     ensures gave_up { result.status ≡ Status.Memory → GivesUp (command_of words.now) result
         (S.seen store.old) (S.seen store.new) (O.seen out.old) (O.seen out.new) }
 
     // No error within the status or the report says that memory ran out.
     ensures no_memory { HoldsNoMemory result }
 
-    // Where the store holds a sound command and no count of faults rose, the status is 0, or 7.
+    // If the store holds a sound command and no count of faults rose, the status is 0, or 7.
     ensures complete { IsComplete (command_of words.now)
         (S.seen store.old) (S.seen store.new) (O.seen out.old) (O.seen out.new) result.status }
 
-    // The other way round: where an exact store or the sink counted a fault the status is 5, 6 or
-    // 7.
+    // Conversely, if an exact store or the sink counted a fault the status is 5, 6 or 7.
     ensures faultless { IsFaultless
         (S.seen store.old) (S.seen store.new) (O.seen out.old) (O.seen out.new) result.status }
 {
@@ -88,10 +89,10 @@ pub fn run<S: Store, O: Sink, G: Gate + Sync, R: Threads + Wait + Sync>(
 ///   time.
 /// - `make CONF` replays frames that are made from the setup's number, by a schedule of its own,
 ///   and reads no capture.
-/// - `send CONF` sends the capture of CPU 0 through a transmit ring, and gives no report.
+/// - `send CONF` sends the capture of CPU 0 through a transmit ring, and returns no report.
 ///
-/// Any other words are no command here, `capture CONF` and `forward CONF` among them: they run on
-/// threads. The commands, the texts and the printed lines are this project's own choice;
+/// Any other words aren't a command here; that includes `capture CONF` and `forward CONF`, which
+/// run on threads. The commands, the texts and the printed lines are this project's own choice;
 /// docs/reference.md lists them.
 pub fn run_plain<S: Store, O: Sink>(
     alloc: Global,
@@ -104,28 +105,29 @@ pub fn run_plain<S: Store, O: Sink>(
     requires reads { AreMeantToRead (plain_command words.now) (S.seen store.old) }
     requires saves { AreMeantToSave (plain_command words.now) (S.seen store.old) }
 
-    // A report holds each frame that was read and passes the filter once: kept or dropped.
-    ensures headline { IsWorth (plain_command words.now) (S.seen store.old).held result.report }
+    // A report holds each frame that was read and passes the filter once: kept or dropped. What was
+    // read of a capture is all that its source gave, also where reading failed.
+    ensures headline { IsWorth (plain_command words.now) (S.seen store.old) (S.seen store.new)
+        result.report }
 
-    // Unless memory ran out: what the command found by what the outside gave, and the status, the
-    // report, the lines and the files of that.
+    // Unless memory ran out: what the command found from what the outside gave, with the status,
+    // the report, the lines and the files that follow from it.
     ensures told { result.status ≢ Status.Memory → Tells (plain_command words.now) result
         (S.seen store.old) (S.seen store.new) (O.seen out.old) (O.seen out.new) }
 
-    // Where memory ran out: no report, no file but those of what was found has changed, and a
-    // prefix of its lines was printed, and then one of `out of memory`.
+    // If memory ran out: there is no report, only files of what was found have changed, and a
+    // prefix of its lines was printed, followed by a prefix of `out of memory`.
     ensures gave_up { result.status ≡ Status.Memory → GivesUp (plain_command words.now) result
         (S.seen store.old) (S.seen store.new) (O.seen out.old) (O.seen out.new) }
 
     // No error within the status or the report says that memory ran out.
     ensures no_memory { HoldsNoMemory result }
 
-    // Where the store holds a sound command and no count of faults rose, the status is 0, or 7.
+    // If the store holds a sound command and no count of faults rose, the status is 0, or 7.
     ensures complete { IsComplete (plain_command words.now)
         (S.seen store.old) (S.seen store.new) (O.seen out.old) (O.seen out.new) result.status }
 
-    // The other way round: where an exact store or the sink counted a fault the status is 5, 6 or
-    // 7.
+    // Conversely, if an exact store or the sink counted a fault the status is 5, 6 or 7.
     ensures faultless { IsFaultless
         (S.seen store.old) (S.seen store.new) (O.seen out.old) (O.seen out.new) result.status }
 {
@@ -133,7 +135,7 @@ pub fn run_plain<S: Store, O: Sink>(
     finish(alloc, found, store, out)
 }
 
-/// Ends a command: saves and prints what was found, or says that memory ran out.
+/// Ends a command: saves and prints what was found, or prints that memory ran out.
 fn finish<S: Store, O: Sink>(
     alloc: Global,
     found: Result<Finding, Memory>,
@@ -153,7 +155,7 @@ fn finish<S: Store, O: Sink>(
     }
 }
 
-/// Saves and prints what was found, as far as there is memory.
+/// Saves and prints what was found, as far as memory suffices.
 fn attempt<S: Store, O: Sink>(
     alloc: Global,
     found: Result<Finding, Memory>,
@@ -174,7 +176,7 @@ fn attempt<S: Store, O: Sink>(
     conclude(alloc, finding, store, out)
 }
 
-/// Says that memory ran out, once, if the sink takes it.
+/// Prints once that memory ran out, if the sink takes it.
 fn give_up<O: Sink>(out: &mut O) -> Outcome
     ensures status { result.status ≡ Status.Memory }
     ensures report { result.report ≡ None }

@@ -3,12 +3,12 @@ ghost use Rattle.std.specs.Prelude.{◌≡◌, true, length, map, option_map};
 ghost use Rattle.std.specs.Prelude.{All, IfErr, IfOk, IfSome, IsTrue};
 ghost use Rattle.cpu_feeders.specs.Runs.{IsCaptureRun};
 ghost use Rattle.setup_text.specs.Sound.{AreMoments, IsSetup};
-ghost use Rattle.tap_outside.specs.Seen.{OnlyReads};
+ghost use Rattle.tap_outside.specs.Seen.{OnlyReads, StoreSeen};
 ghost use Rattle.tap_saving.specs.Files.{CanBeOutput};
 ghost use Rattle.tap_engine.specs.Commands.{Named, is_threaded};
 ghost use Rattle.tap_engine.specs.Faults.{IsCounted};
 ghost use Rattle.tap_engine.specs.Findings.{IsReported, IsSentBy, IsSmall, faults_in};
-ghost use Rattle.tap_engine.specs.Jobs.{HasJob, HasTicks, Stops};
+ghost use Rattle.tap_engine.specs.Jobs.{HasTicks, IsLoaded, IsRead, Stops};
 
 use crate::jobs::load_moments;
 use crate::sources::{close_captures, fetch_captures};
@@ -23,17 +23,17 @@ use tap_forward::{ForwardRan, forward_workers};
 use tap_outside::{Source, Store};
 use tap_reading::Stop;
 
-/// What becomes of a run on threads.
+/// The result of a run on threads.
 #[derive(Drop)]
 pub(crate) struct ThreadedRun {
     /// What it reports.
     pub report: RunReport,
-    /// What its members sent, where they send.
+    /// What its members sent, if they send.
     pub forwards: Option<Forwards>,
 }
 
-/// Runs a job on threads over the captures that a store holds, and tells its members the moments
-/// that its setup names. The members send what they read, or don't.
+/// Runs a job on threads over the captures that a store holds, and reports the moments that its
+/// setup names to its members. The members send what they read, or don't.
 pub(crate) fn run_timed<S: Store, G: Gate + Sync, R: Threads + Wait + Sync>(
     rt: &R,
     alloc: Global,
@@ -47,13 +47,13 @@ pub(crate) fn run_timed<S: Store, G: Gate + Sync, R: Threads + Wait + Sync>(
         (λ name. IsTrue ((S.seen store.old).to_read name)) }
     requires captures { All (λ cpu. IsTrue ((S.seen store.old).to_read cpu.file))
         job.now.setup.cpus }
-    ensures reported { IfOk result (λ run. (named : Named) → is_threaded named.command ≡ true
-        → HasJob (S.seen store.old).held named job.now
-        → IsReported (S.seen store.old).held named job.now.setup run.report) }
+    ensures reported { IfOk result (λ run. (start : StoreSeen) (named : Named)
+        → is_threaded named.command ≡ true → IsLoaded start (S.seen store.old) named job.now
+        → IsReported start (S.seen store.new) named job.now.setup run.report) }
     ensures sent { IfOk result (λ run. IsSentBy sends job.now.setup run.report run.forwards) }
-    ensures stop { IfErr result (λ stop. (named : Named) → is_threaded named.command ≡ true
-        → HasJob (S.seen store.old).held named job.now
-        → Stops (S.seen store.old) (S.seen store.new) named stop) }
+    ensures stop { IfErr result (λ stop. (start : StoreSeen) (named : Named)
+        → is_threaded named.command ≡ true → IsLoaded start (S.seen store.old) named job.now
+        → Stops start (S.seen store.new) named stop) }
     ensures faults { IfOk result (λ run. IsCounted (S.seen store.old) (S.seen store.new)
         (faults_in run.report.cpus)) }
     ensures small { IfOk result (λ run. IsSmall run.report) }
@@ -79,10 +79,10 @@ fn run_captures<S: Store, G: Gate + Sync, R: Threads + Wait + Sync>(
     requires moments { AreMoments moments.now }
     requires captures { All (λ cpu. IsTrue ((S.seen store.old).to_read cpu.file))
         job.now.setup.cpus }
-    ensures reported { IfOk result (λ run. (named : Named) → is_threaded named.command ≡ true
-        → HasJob (S.seen store.old).held named job.now
-        → HasTicks (S.seen store.old).held job.now.setup.ticks moments.now
-        → IsReported (S.seen store.old).held named job.now.setup run.report) }
+    ensures reported { IfOk result (λ run. (start : StoreSeen) (named : Named)
+        → is_threaded named.command ≡ true → IsRead start (S.seen store.old) named job.now
+        → HasTicks start.held job.now.setup.ticks moments.now
+        → IsReported start (S.seen store.new) named job.now.setup run.report) }
     ensures sent { IfOk result (λ run. IsSentBy sends job.now.setup run.report run.forwards) }
     ensures faults { IfOk result (λ run. IsCounted (S.seen store.old) (S.seen store.new)
         (faults_in run.report.cpus)) }
@@ -136,8 +136,8 @@ fn run_sources<S: Source + Send, G: Gate + Sync, R: Threads + Wait + Sync>(
     Ok((Ran { report, sources }, Some(forwards)))
 }
 
-/// Runs a job on threads whose members send nothing, with these moments. A pool decodes the blocks
-/// where the setup has workers, else each reader decodes its own.
+/// Runs a job on threads whose members send nothing, with these moments. If the setup has workers a
+/// pool decodes the blocks, otherwise each reader decodes its own.
 fn capture_sources<S: Source + Send, G: Gate + Sync, R: Threads + Wait + Sync>(
     rt: &R,
     alloc: Global,

@@ -14,11 +14,11 @@ pub(crate) struct Asked<'a> {
     pub command: Command,
     /// The name of the setup.
     pub setup: &'a [u8],
-    /// The name of the schedule; empty where the command has none.
+    /// The name of the schedule; empty if the command has none.
     pub schedule: &'a [u8],
 }
 
-/// The command that the words are, if they are one.
+/// The command that the words form, if they form one.
 pub(crate) fn command_of(words: &[Word]) -> Option<Asked<'_>>
     ensures { option_map (λ asked. named_by asked.command asked.setup.now asked.schedule.now) result
         ≡ command_of words.now }
@@ -30,7 +30,7 @@ pub(crate) fn command_of(words: &[Word]) -> Option<Asked<'_>>
     }
 }
 
-/// The command that the words are, if they are one that runs on one thread.
+/// The command that the words form, if they form one that runs on one thread.
 pub(crate) fn plain_command(words: &[Word]) -> Option<Asked<'_>>
     ensures command { option_map
         (λ asked. named_by asked.command asked.setup.now asked.schedule.now) result
@@ -103,7 +103,7 @@ fn lone_of<'a>(word: &Word, setup: &'a Word) -> Option<Asked<'a>>
     })
 }
 
-/// The command that asks for a setup alone and has this name.
+/// The command with this name that needs only a setup.
 #[tactic(auto, unfolding(crate::specs::Commands::lone_command))]
 fn lone_command(word: &[u8]) -> Option<Command>
     ensures { result ≡ lone_command word.now }
@@ -140,7 +140,7 @@ fn scheduled_of<'a>(word: &Word, setup: &'a Word, schedule: &'a Word) -> Option<
     })
 }
 
-/// The command that asks for a setup and a schedule and has this name.
+/// The command with this name that needs a setup and a schedule.
 #[tactic(auto, unfolding(crate::specs::Commands::scheduled_command))]
 fn scheduled_command(word: &[u8]) -> Option<Command>
     ensures { result ≡ scheduled_command word.now }

@@ -1,4 +1,4 @@
-//! The end of a command: its files are saved, its lines are printed, and it has a status.
+//! The end of a command: its files are saved, its lines are printed, and it gets a status.
 ghost use Rattle.std.specs.Prelude.{◌≡◌, ◌⊎◌, ◌&&◌, if◌then◌else◌, IfOk, IsTrue, OnErr};
 ghost use Rattle.std.specs.List.{AllByRecursion};
 ghost use Rattle.tap_saving.specs.Saving.{Saved, SavedSome, Touches};
@@ -12,7 +12,7 @@ use std::alloc::Global;
 use tap_outside::{OutError, Sink, Store, write_whole};
 use tap_saving::{save_members, save_sent};
 
-/// Saves the files of a finding and prints its lines. Each is tried whether the other fails or not.
+/// Saves the files of a finding and prints its lines. Each is tried even if the other fails.
 pub(crate) fn conclude<S: Store, O: Sink>(
     alloc: Global,
     finding: Finding,
@@ -37,7 +37,7 @@ pub(crate) fn conclude<S: Store, O: Sink>(
     })
 }
 
-/// Saves the files of a finding and prints its lines, and gives the status that the command ends
+/// Saves the files of a finding and prints its lines, and returns the status that the command ends
 /// with.
 fn save_and_print<S: Store, O: Sink>(
     alloc: Global,
@@ -65,7 +65,7 @@ fn save_and_print<S: Store, O: Sink>(
     Ok(status_with(saved, printed, finding.status()))
 }
 
-/// Saves the files of a finding, and says whether all were saved.
+/// Saves the files of a finding, and returns whether all were saved.
 fn save<S: Store>(alloc: Global, finding: &Finding, store: &mut S) -> Result<bool, Memory>
     requires ready { IsReady finding.now }
     requires meant { AllByRecursion (λ name. IsTrue ((S.seen store.old).to_save name))
@@ -86,7 +86,7 @@ fn save<S: Store>(alloc: Global, finding: &Finding, store: &mut S) -> Result<boo
     }
 }
 
-/// Prints lines, and says whether all were printed.
+/// Prints lines, and returns whether all were printed.
 fn print<O: Sink>(out: &mut O, lines: &[u8]) -> Result<bool, Memory>
     ensures told { IfOk result (IsPrinted (O.seen out.old) (O.seen out.new) lines.now) }
     ensures cut { OnErr result (PrintedSome (O.seen out.old) (O.seen out.new) lines.now) }

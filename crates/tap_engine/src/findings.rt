@@ -12,20 +12,21 @@ use setup_text::{Forwards, RunReport, Setup, SetupError, TextError};
 use std::alloc::Global;
 use tap_printing::{RingKind, send_lines, setup_refusal, summary, text_refusal};
 
-/// What a command finds, by what the outside gives.
+/// What a command finds, from what the outside gives.
 #[derive(Drop)]
 pub(crate) enum Finding {
-    /// The words are no command.
+    /// The words aren't a command.
     NoCommand,
     /// A text can't be read.
     Unread,
     /// The setup is refused.
     BadSetup(SetupError),
-    /// A further text is refused, all before it being accepted.
+    /// Another text is refused; all before it were accepted.
     BadText(TextError),
     /// All texts are accepted, and there is nothing to run.
     Checked,
-    /// The run of a setup was made over such rings, with what its members sent, where they send.
+    /// The run of a setup was made over rings of this kind, with what its members sent, if they
+    /// send.
     Ran(RingKind, Setup, RunReport, Option<Forwards>),
     /// The capture of a setup was sent.
     Sent(Setup, Sending),
@@ -56,7 +57,7 @@ impl Finding {
         Ok(ByteList::from_vec(line.into_bytes()))
     }
 
-    /// The status where nothing fails at printing and saving.
+    /// The status if neither printing nor saving fails.
     pub(crate) fn status(&self) -> Status
         requires { IsReady self.now }
         ensures { result ≡ status_of self.now }
@@ -83,7 +84,7 @@ impl Finding {
     }
 }
 
-/// What the ends of CPUs say: a fault of any, else damage, that of the lowest CPU.
+/// What the ends of CPUs say: a fault of any CPU, otherwise the damage of the lowest CPU.
 fn status_of_ends(logs: &[CpuLog]) -> Status
     requires { length logs.now ≤ 8 }
     ensures { result ≡ status_of_logs 0 logs.now }
@@ -97,7 +98,7 @@ fn status_of_ends(logs: &[CpuLog]) -> Status
     status
 }
 
-/// The status where a CPU of this number ended so, and those after it have this status.
+/// The status if a CPU with this number ended in this way, and those after it have this status.
 fn status_with_end(cpu: u32, end: CpuEnd, rest: Status) -> Status
     ensures { result ≡ status_by_end cpu end rest }
 {

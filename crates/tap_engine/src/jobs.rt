@@ -1,4 +1,4 @@
-//! What a command asks for: its texts, read and accepted.
+//! What a command needs: its texts, read and accepted.
 ghost use Rattle.std.specs.Prelude.{◌≡◌, ◌≤◌, None, Ok, IfErr, IfOk, IfSome, IsTrue, OnOk, length};
 ghost use Rattle.std.specs.Prelude.{option_map};
 ghost use Rattle.schedule_lines.specs.Ascending.{IsSchedule};
@@ -6,10 +6,11 @@ ghost use Rattle.setup_text.specs.Setups.{request_fault};
 ghost use Rattle.setup_text.specs.Sound.{AreMoments, IsSetup};
 ghost use Rattle.setup_text.specs.declared.jobs.Job.{Job};
 ghost use Rattle.setup_text.specs.declared.setups.Setup.{Setup};
-ghost use Rattle.tap_outside.specs.Seen.{NoReadFailed, OnlyReads};
+ghost use Rattle.tap_outside.specs.Seen.{OnlyReads, StoreSeen};
 ghost use Rattle.tap_reading.specs.Readers.{Says, StopsAtText, schedule_for};
 ghost use Rattle.tap_engine.specs.Commands.{Named, named_by};
-ghost use Rattle.tap_engine.specs.Jobs.{HasJob, HasProgram, HasSetup, HasTicks, Stops};
+ghost use Rattle.tap_engine.specs.Given.{ReadTexts, first_texts, one_named};
+ghost use Rattle.tap_engine.specs.Jobs.{HasJob, HasProgram, HasSetup, HasTicks, IsLoaded, Stops};
 ghost use Rattle.tap_engine.specs.Names.{AreMeantToRead, filter_for, ticks_for};
 
 use crate::commands::Asked;
@@ -38,7 +39,8 @@ pub(crate) fn load_job<S: Store>(
     ensures stop { IfErr result (Stops (S.seen store.old) (S.seen store.new)
         (named_by asked.entry.command asked.entry.setup.now asked.entry.schedule.now)) }
     ensures store { OnlyReads (S.seen store.old) (S.seen store.new) }
-    ensures faultless { OnOk result (NoReadFailed (S.seen store.old) (S.seen store.new)) }
+    ensures texts { IfOk result (λ job. ReadTexts (S.seen store.old) (S.seen store.new)
+        (first_texts asked.entry.command job.setup)) }
 {
     let setup = load_setup(alloc, store, asked.setup, asked.command)?;
     let program = load_program(alloc, store, filter_for(asked.command, &setup))?;
@@ -69,12 +71,13 @@ fn load_program<S: Store>(
     requires { IfSome filter (λ name. IsTrue ((S.seen store.old).to_read name.now)) }
     ensures program { IfOk result
         (HasProgram (S.seen store.old).held (option_map (λ word. word.now) filter.entry)) }
-    ensures stop { IfErr result (λ stop. (named : Named) (setup : Setup)
-        → HasSetup (S.seen store.old).held named setup
+    ensures stop { IfErr result (λ stop. (start : StoreSeen) (named : Named) (setup : Setup)
+        → ReadTexts start (S.seen store.old) 1 → HasSetup start.held named setup
         → filter_for named.command setup ≡ option_map (λ word. word.now) filter.entry
-        → Stops (S.seen store.old) (S.seen store.new) named stop) }
+        → Stops start (S.seen store.new) named stop) }
     ensures store { OnlyReads (S.seen store.old) (S.seen store.new) }
-    ensures faultless { OnOk result (NoReadFailed (S.seen store.old) (S.seen store.new)) }
+    ensures texts { OnOk result (ReadTexts (S.seen store.old) (S.seen store.new)
+        (one_named (option_map (λ word. word.now) filter.entry))) }
 {
     match filter {
         None => Ok(None),
@@ -85,7 +88,7 @@ fn load_program<S: Store>(
     }
 }
 
-/// Reads the moments that a setup names. Where it names none there is none.
+/// Reads the moments that a setup names; none if it names no file.
 pub(crate) fn load_moments<S: Store>(
     alloc: Global,
     store: &mut S,
@@ -94,12 +97,13 @@ pub(crate) fn load_moments<S: Store>(
     requires { IfSome ticks.now (λ name. IsTrue ((S.seen store.old).to_read name)) }
     ensures ticks { IfOk result (HasTicks (S.seen store.old).held ticks.now) }
     ensures sound { IfOk result AreMoments }
-    ensures stop { IfErr result (λ stop. (named : Named) (job : Job)
-        → HasJob (S.seen store.old).held named job
+    ensures stop { IfErr result (λ stop. (start : StoreSeen) (named : Named) (job : Job)
+        → IsLoaded start (S.seen store.old) named job
         → ticks_for named.command job.setup ≡ ticks.now
-        → Stops (S.seen store.old) (S.seen store.new) named stop) }
+        → Stops start (S.seen store.new) named stop) }
     ensures store { OnlyReads (S.seen store.old) (S.seen store.new) }
-    ensures faultless { OnOk result (NoReadFailed (S.seen store.old) (S.seen store.new)) }
+    ensures texts { OnOk result
+        (ReadTexts (S.seen store.old) (S.seen store.new) (one_named ticks.now)) }
 {
     match ticks {
         None => Ok(MomentList::new(alloc)),
@@ -125,7 +129,7 @@ pub(crate) fn load_lines<S: Store>(
         (StopsAtText (schedule_for (length setup.now.cpus) setup.now.plan.members)
         (S.seen store.old) (S.seen store.new) name.now) }
     ensures store { OnlyReads (S.seen store.old) (S.seen store.new) }
-    ensures faultless { OnOk result (NoReadFailed (S.seen store.old) (S.seen store.new)) }
+    ensures texts { OnOk result (ReadTexts (S.seen store.old) (S.seen store.new) 1) }
 {
     let cpus = setup.cpus.len() as u32;
     load_schedule(alloc, store, name, cpus, setup.plan.members())

@@ -1,11 +1,11 @@
-//! What the headline says of a report: that each frame appears exactly once, and where none is
+//! What the headline says about a report: that each frame appears exactly once, and when none is
 //! dropped.
-ghost use Rattle.std.specs.Prelude.{Option, All};
+ghost use Rattle.std.specs.Prelude.{All};
 ghost use Rattle.run_reports.specs.Jobs.{arriving_of, rules_of};
 ghost use Rattle.run_reports.specs.Members.{DropsNoneBelow};
 ghost use Rattle.run_reports.specs.Once.{EachArrivalAppearsOnce};
 ghost use Rattle.run_reports.specs.Reports.{logged, notes_of};
-ghost use Rattle.tap_outside.specs.Contents.{Contents};
+ghost use Rattle.tap_outside.specs.Seen.{StoreSeen};
 ghost use Rattle.tap_engine.specs.Commands.{Named, rings_of};
 ghost use Rattle.tap_engine.specs.Headline.{IsHeadline, places_by};
 
@@ -13,12 +13,12 @@ use run_reports::a_member_with_blocks_left_dropped_nothing;
 use setup_text::RunReport;
 use v2_replay::a_member_with_slots_left_dropped_nothing;
 
-/// In a report that is worth the headline each arrival whose verdict isn't 0 appears once among
-/// what the members kept and dropped, and nothing else appears there. It does nothing; its contract
-/// is the law.
+/// In a report that fulfils the headline each arrival whose verdict isn't 0 appears once among what
+/// the members kept and dropped, and nothing else appears there. The call does nothing; its
+/// contract is the law.
 pub fn each_frame_of_a_run_appears_exactly_once(report: &RunReport)
-    ensures { (held : Option Contents) (named : Named)
-        (headline : IsHeadline held named report.now) →
+    ensures { (old new : StoreSeen) (named : Named)
+        (headline : IsHeadline old new named report.now) →
         EachArrivalAppearsOnce (rules_of headline.job)
         (logged (arriving_of headline.job headline.bytes) report.now.cpus)
         (notes_of report.now.members) }
@@ -26,12 +26,12 @@ pub fn each_frame_of_a_run_appears_exactly_once(report: &RunReport)
     let _ = report;
 }
 
-/// In a report that is worth the headline a member that has filled fewer blocks, or slots under
-/// `replay2`, than its ring has dropped nothing. So with enough of them a run loses no frame. It
-/// does nothing; its contract is the law.
+/// In a report that fulfils the headline a member that has filled fewer blocks, or slots under
+/// `replay2`, than its ring has dropped nothing. So with enough of them a run loses no frame. The
+/// call does nothing; its contract is the law.
 pub fn a_ring_that_is_not_filled_dropped_nothing(report: &RunReport)
-    ensures { (held : Option Contents) (named : Named)
-        (headline : IsHeadline held named report.now) →
+    ensures { (old new : StoreSeen) (named : Named)
+        (headline : IsHeadline old new named report.now) →
         All (DropsNoneBelow (places_by (rings_of named.command) headline.job.setup.shape))
         report.now.members }
 {

@@ -1,18 +1,17 @@
 //! Runs from their jobs to their reports: over the captures of a store, and over frames that are
 //! made.
-ghost use Rattle.std.specs.Prelude.{◌≡◌, ◌≤◌, ◌<◌, ◌^◌, true, ℕ, Option, None, Some, length, map};
+ghost use Rattle.std.specs.Prelude.{◌≡◌, ◌≤◌, ◌<◌, ◌^◌, true, ℕ, None, Some, length, map};
 ghost use Rattle.std.specs.Prelude.{option_map, All, IfErr, IfOk, IsTrue};
 ghost use Rattle.schedule_lines.specs.Ascending.{IsSchedule};
 ghost use Rattle.setup_text.specs.Setups.{request_fault};
 ghost use Rattle.setup_text.specs.Sound.{IsSetup};
 ghost use Rattle.setup_text.specs.declared.commands.Command.TheVariants.{Make};
 ghost use Rattle.slot_layout.specs.SlotShapes.{IsSlotShape};
-ghost use Rattle.tap_outside.specs.Contents.{Contents};
-ghost use Rattle.tap_outside.specs.Seen.{OnlyReads};
+ghost use Rattle.tap_outside.specs.Seen.{OnlyReads, StoreSeen};
 ghost use Rattle.tap_engine.specs.Commands.{Named, has_schedule};
 ghost use Rattle.tap_engine.specs.Faults.{IsCounted};
 ghost use Rattle.tap_engine.specs.Findings.{IsReported, IsSmall, faults_in};
-ghost use Rattle.tap_engine.specs.Jobs.{HasJob, HasLines, Stops};
+ghost use Rattle.tap_engine.specs.Jobs.{HasLines, IsLoaded, IsRead, Stops};
 ghost use Rattle.tap_engine.specs.inside.Replays.{IsReplayedBy};
 
 use crate::commands::rings_of;
@@ -44,12 +43,14 @@ pub(crate) fn replay_scheduled<S: Store>(
     requires schedule { IsTrue ((S.seen store.old).to_read name.now) }
     requires captures { All (λ cpu. IsTrue ((S.seen store.old).to_read cpu.file))
         job.now.setup.cpus }
-    ensures reported { IfOk result (λ report. (named : Named) → named.command ≡ command
-        → named.schedule ≡ name.now → HasJob (S.seen store.old).held named job.now
-        → IsReported (S.seen store.old).held named job.now.setup report) }
-    ensures stop { IfErr result (λ stop. (named : Named) → named.command ≡ command
-        → named.schedule ≡ name.now → HasJob (S.seen store.old).held named job.now
-        → Stops (S.seen store.old) (S.seen store.new) named stop) }
+    ensures reported { IfOk result (λ report. (start : StoreSeen) (named : Named)
+        → named.command ≡ command → named.schedule ≡ name.now
+        → IsLoaded start (S.seen store.old) named job.now
+        → IsReported start (S.seen store.new) named job.now.setup report) }
+    ensures stop { IfErr result (λ stop. (start : StoreSeen) (named : Named)
+        → named.command ≡ command → named.schedule ≡ name.now
+        → IsLoaded start (S.seen store.old) named job.now
+        → Stops start (S.seen store.new) named stop) }
     ensures faults { IfOk result (λ report. IsCounted (S.seen store.old) (S.seen store.new)
         (faults_in report.cpus)) }
     ensures small { IfOk result IsSmall }
@@ -74,10 +75,10 @@ fn replay_captures<S: Store>(
     requires few { length schedule.now ≤ 1048576 }
     requires captures { All (λ cpu. IsTrue ((S.seen store.old).to_read cpu.file))
         job.now.setup.cpus }
-    ensures reported { IfOk result (λ report. (named : Named) → named.command ≡ command
-        → HasJob (S.seen store.old).held named job.now
-        → HasLines (S.seen store.old).held named job.now schedule.now
-        → IsReported (S.seen store.old).held named job.now.setup report) }
+    ensures reported { IfOk result (λ report. (start : StoreSeen) (named : Named)
+        → named.command ≡ command → IsRead start (S.seen store.old) named job.now
+        → HasLines start.held named job.now schedule.now
+        → IsReported start (S.seen store.new) named job.now.setup report) }
     ensures faults { IfOk result (λ report. IsCounted (S.seen store.old) (S.seen store.new)
         (faults_in report.cpus)) }
     ensures small { IfOk result IsSmall }
@@ -117,9 +118,9 @@ fn replay_over<I: Source>(
 /// Replays a job over the captures of the frames that its setup has made. No source fails.
 pub(crate) fn replay_made(alloc: Global, job: &Job) -> Result<RunReport, Memory>
     requires setup { IsSetup job.now.setup }
-    ensures reported { IfOk result (λ report. (held : Option Contents) (named : Named)
-        → named.command ≡ Make → HasJob held named job.now
-        → IsReported held named job.now.setup report) }
+    ensures reported { IfOk result (λ report. (old new : StoreSeen) (named : Named)
+        → named.command ≡ Make → IsRead old new named job.now
+        → IsReported old new named job.now.setup report) }
     ensures faults { IfOk result (λ report. faults_in report.cpus ≡ 0) }
     ensures small { IfOk result IsSmall }
 {

@@ -1,4 +1,4 @@
-//! What a call answers.
+//! What a call returns.
 ghost use Rattle.std.specs.Prelude.{◌≡◌};
 ghost use Rattle.tap_engine.specs.Numbers.{number_of};
 
@@ -10,11 +10,11 @@ use setup_text::{RunReport, SetupError, TextError};
 pub enum Status {
     /// 0: nothing else applies.
     Fine,
-    /// 1: the words are no command.
+    /// 1: the words aren't a command.
     Usage,
     /// 2: the setup was read and is refused.
     Setup(SetupError),
-    /// 3: a further text was read and is refused, all before it being accepted.
+    /// 3: another text was read and is refused; all before it were accepted.
     Text(TextError),
     /// 4: a capture is damaged, or cut; the lowest such CPU.
     Damaged { cpu: u32, fault: CaptureError },
@@ -22,7 +22,7 @@ pub enum Status {
     ReadFault,
     /// 6: a file couldn't be saved, or a line couldn't be printed.
     WriteFault,
-    /// 7: a request for memory was refused.
+    /// 7: an allocation failed.
     Memory,
 }
 
@@ -44,7 +44,7 @@ impl Status {
     }
 }
 
-/// What a call answers: its status, and its report where a run was made.
+/// What a call returns: its status, and its report if a run was made.
 #[derive(Debug, Drop)]
 pub struct Outcome {
     /// How it ended.

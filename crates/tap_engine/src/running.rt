@@ -2,13 +2,13 @@
 ghost use Rattle.std.specs.Prelude.{◌≡◌, false, true, Some, IfErr, IfOk};
 ghost use Rattle.setup_text.specs.Setups.{request_fault};
 ghost use Rattle.setup_text.specs.Sound.{IsSetup};
-ghost use Rattle.tap_outside.specs.Seen.{OnlyReads};
+ghost use Rattle.tap_outside.specs.Seen.{OnlyReads, StoreSeen};
 ghost use Rattle.tap_engine.specs.Commands.{command_of, is_threaded, named_by, plain_command};
 ghost use Rattle.tap_engine.specs.Commands.{rings_of};
 ghost use Rattle.tap_engine.specs.Conclusions.{IsSearched};
 ghost use Rattle.tap_engine.specs.inside.Dones.{finding_by};
 ghost use Rattle.tap_engine.specs.Findings.{IsFound, IsReady, finding_of};
-ghost use Rattle.tap_engine.specs.Jobs.{HasJob, Stops};
+ghost use Rattle.tap_engine.specs.Jobs.{HasJob, IsLoaded, Stops};
 ghost use Rattle.tap_engine.specs.Names.{AreMeantToRead};
 
 use crate::capturing::{ThreadedRun, run_timed};
@@ -28,8 +28,8 @@ use tap_printing::RingKind;
 use tap_reading::Stop;
 use text_lines::Word;
 
-/// Finds what the words ask for, on threads where they are `capture CONF` or `forward CONF`. The
-/// store is read alone.
+/// Finds what the words ask for, on threads if they are `capture CONF` or `forward CONF`. The store
+/// is only read.
 pub(crate) fn find<S: Store, G: Gate + Sync, R: Threads + Wait + Sync>(
     rt: &R,
     alloc: Global,
@@ -52,7 +52,7 @@ pub(crate) fn find<S: Store, G: Gate + Sync, R: Threads + Wait + Sync>(
     }
 }
 
-/// Finds what the words ask for on one thread. The store is read alone.
+/// Finds what the words ask for on one thread. The store is only read.
 pub(crate) fn find_plain<S: Store>(
     alloc: Global,
     words: &[Word],
@@ -69,7 +69,7 @@ pub(crate) fn find_plain<S: Store>(
     finding_of(carry_out(alloc, asked, store))
 }
 
-/// What is found where a text stops the command.
+/// What is found if a text stops the command.
 fn finding_of(answer: Result<Finding, Stop>) -> Result<Finding, Memory>
     ensures { result ≡ finding_of answer }
 {
@@ -124,7 +124,7 @@ impl Done {
     }
 }
 
-/// Does what a command asks for on one thread, after its setup and its filter.
+/// Carries out a command on one thread, after its setup and its filter.
 fn work<S: Store>(alloc: Global, asked: Asked<'_>, job: &Job, store: &mut S) -> Result<Done, Stop>
     requires plain { is_threaded asked.command ≡ false }
     requires job { HasJob (S.seen store.old).held
@@ -133,12 +133,16 @@ fn work<S: Store>(alloc: Global, asked: Asked<'_>, job: &Job, store: &mut S) -> 
     requires ring { request_fault asked.command job.now.setup.request ≡ None }
     requires reads { AreMeantToRead
         (Some (named_by asked.command asked.setup.now asked.schedule.now)) (S.seen store.old) }
-    ensures found { IfOk result (λ done. IsFound
+    ensures found { IfOk result (λ done. (start : StoreSeen) → IsLoaded start (S.seen store.old)
+        (named_by asked.entry.command asked.entry.setup.now asked.entry.schedule.now) job.now
+        → IsFound
         (Some (named_by asked.entry.command asked.entry.setup.now asked.entry.schedule.now))
-        (S.seen store.old) (S.seen store.new)
+        start (S.seen store.new)
         (finding_by (rings_of asked.entry.command) job.now.setup done)) }
-    ensures stop { IfErr result (Stops (S.seen store.old) (S.seen store.new)
-        (named_by asked.entry.command asked.entry.setup.now asked.entry.schedule.now)) }
+    ensures stop { IfErr result (λ stop. (start : StoreSeen) → IsLoaded start (S.seen store.old)
+        (named_by asked.entry.command asked.entry.setup.now asked.entry.schedule.now) job.now
+        → Stops start (S.seen store.new)
+        (named_by asked.entry.command asked.entry.setup.now asked.entry.schedule.now) stop) }
     ensures ready { IfOk result (λ done.
         IsReady (finding_by (rings_of asked.entry.command) job.now.setup done)) }
     ensures store { OnlyReads (S.seen store.old) (S.seen store.new) }

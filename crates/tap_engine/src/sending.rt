@@ -17,14 +17,14 @@ use std::alloc::Global;
 use tap_outside::Store;
 use tx_ring::{Transmitted, transmit_frames};
 
-/// What became of a capture that was sent.
+/// The result of a capture that was sent.
 #[derive(Drop)]
 pub(crate) struct Sending {
     /// The number of the frames of the capture.
     pub frames: usize,
     /// How the capture ended.
     pub end: CpuEnd,
-    /// What became of its frames.
+    /// The result of its frames.
     pub sent: Transmitted,
 }
 
@@ -37,7 +37,7 @@ pub(crate) fn send_capture<S: Store>(
     requires setup { IsSetup setup.now }
     requires ring { transmit_fault setup.now.request ≡ None }
     requires meant { IsTrue ((S.seen store.old).to_read (first_file setup.now.cpus)) }
-    ensures sent { IfOk result (IsSending (S.seen store.old).held setup.now) }
+    ensures sent { IfOk result (IsSending (S.seen store.old) (S.seen store.new) setup.now) }
     ensures faults { IfOk result (λ sending. IsCounted (S.seen store.old) (S.seen store.new)
         (fault_at sending.end)) }
     ensures short { IfOk result (λ sending.
@@ -60,11 +60,11 @@ pub(crate) fn send_capture<S: Store>(
 }
 
 /// Reads the capture of CPU 0 to its end. One that can't be fetched gives nothing and ends with a
-/// fault. Where memory runs out no read failed.
+/// fault. If memory runs out no read failed.
 fn read_first<S: Store>(alloc: Global, setup: &Setup, store: &mut S) -> Result<Reading, Memory>
     requires setup { IsSetup setup.now }
     requires meant { IsTrue ((S.seen store.old).to_read (first_file setup.now.cpus)) }
-    ensures read { IfOk result (IsFirst (S.seen store.old).held setup.now) }
+    ensures read { IfOk result (IsFirst (S.seen store.old) (S.seen store.new) setup.now) }
     ensures faults { IfOk result (λ reading. IsCounted (S.seen store.old) (S.seen store.new)
         (fault_at reading.end)) }
     ensures store { OnlyReads (S.seen store.old) (S.seen store.new) }
@@ -72,7 +72,7 @@ fn read_first<S: Store>(alloc: Global, setup: &Setup, store: &mut S) -> Result<R
 {
     an_empty_capture_has_no_frames();
     let mut source = fetch_capture(store, &setup.cpus.as_slice()[0])?;
-    // `read_capture` ends so too, but may run out of memory there, for all that it promises.
+    // `read_capture` ends in the same way, but its contract allows it to run out of memory there.
     if source.is_none() {
         return Ok(Reading {
             frames: Frames::new(alloc),

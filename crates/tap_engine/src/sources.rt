@@ -1,16 +1,18 @@
 //! The sources of a run's captures: fetched before it, and closed after it.
-ghost use Rattle.std.specs.Prelude.{◌≡◌, [], ◌∷◌, length, map, option_map, All, IfOk, IfSome};
+ghost use Rattle.std.specs.Prelude.{◌≡◌, [], ◌∷◌, ◌++◌, length, map, option_map, All, IfOk, IfSome};
 ghost use Rattle.std.specs.Prelude.{IsTrue, OnErr};
 ghost use Rattle.tap_outside.specs.Seen.{NoReadFailed, OnlyReads};
 ghost use Rattle.tap_engine.specs.Faults.{IsCounted};
-ghost use Rattle.tap_engine.specs.inside.Sources.{AreFetched, faulty_in, missing_in};
+ghost use Rattle.tap_engine.specs.Given.{given_entries, missing_entries};
+ghost use Rattle.tap_engine.specs.inside.Sources.{AreFetched, faulty_in, givens, missing_in};
 
 use frame_view::Memory;
 use setup_text::{CpuSetup, CpuSetupList};
 use std::alloc::Global;
 use tap_outside::{OutError, Store};
 
-/// Fetches the capture of each CPU. One that can't be fetched is missing.
+/// Fetches the capture of each CPU. One that can't be fetched is missing, and the store records an
+/// empty entry for it.
 pub(crate) fn fetch_captures<S: Store>(
     alloc: Global,
     store: &mut S,
@@ -21,6 +23,9 @@ pub(crate) fn fetch_captures<S: Store>(
         (map (option_map S.Input.seen) sources.items)) }
     ensures faults { IfOk result (λ sources. IsCounted (S.seen store.old) (S.seen store.new)
         (missing_in (map (option_map S.Input.seen) sources.items))) }
+    ensures given { IfOk result (λ sources. (S.seen store.new).closed
+        ≡ (S.seen store.old).closed
+        ++ missing_entries (map (option_map S.Input.seen) sources.items)) }
     ensures store { OnlyReads (S.seen store.old) (S.seen store.new) }
 {
     let mut sources = Vec::with_capacity(alloc, cpus.len())?;
@@ -31,8 +36,8 @@ pub(crate) fn fetch_captures<S: Store>(
     Ok(sources)
 }
 
-/// Fetches the capture of a CPU; none where it can't be fetched. Where memory runs out the store is
-/// as before: a fault that was counted isn't told so.
+/// Fetches the capture of a CPU; none if it can't be fetched. If memory runs out the store is as
+/// before: a counted fault isn't reported as running out of memory.
 pub(crate) fn fetch_capture<S: Store>(
     store: &mut S,
     cpu: &CpuSetup,
@@ -42,6 +47,8 @@ pub(crate) fn fetch_capture<S: Store>(
         (cpu.now ∷ []) (option_map S.Input.seen source ∷ [])) }
     ensures faults { IfOk result (λ source. IsCounted (S.seen store.old) (S.seen store.new)
         (missing_in (option_map S.Input.seen source ∷ []))) }
+    ensures given { IfOk result (λ source. (S.seen store.new).closed
+        ≡ (S.seen store.old).closed ++ missing_entries (option_map S.Input.seen source ∷ [])) }
     ensures store { OnlyReads (S.seen store.old) (S.seen store.new) }
     ensures faultless { IfOk result (λ source.
         IfSome source (λ _. NoReadFailed (S.seen store.old) (S.seen store.new))) }
@@ -54,10 +61,12 @@ pub(crate) fn fetch_capture<S: Store>(
     }
 }
 
-/// Gives the sources back to the store, which counts their faults.
+/// Gives the sources back to the store, which counts their faults and records what they gave.
 pub(crate) fn close_captures<S: Store>(store: &mut S, sources: Vec<Option<S::Input>>)
     ensures faults { IsCounted (S.seen store.old) (S.seen store.new)
         (faulty_in (map (option_map S.Input.seen) sources.items)) }
+    ensures given { (S.seen store.new).closed ≡ (S.seen store.old).closed
+        ++ given_entries (givens (map (option_map S.Input.seen) sources.items)) }
     ensures store { OnlyReads (S.seen store.old) (S.seen store.new) }
 {
     for source in sources {
@@ -69,9 +78,11 @@ pub(crate) fn close_captures<S: Store>(store: &mut S, sources: Vec<Option<S::Inp
 pub(crate) fn close_capture<S: Store>(store: &mut S, source: Option<S::Input>)
     ensures faults { IsCounted (S.seen store.old) (S.seen store.new)
         (faulty_in (option_map S.Input.seen source ∷ [])) }
+    ensures given { (S.seen store.new).closed ≡ (S.seen store.old).closed
+        ++ given_entries (givens (option_map S.Input.seen source ∷ [])) }
     ensures store { OnlyReads (S.seen store.old) (S.seen store.new) }
     ensures faultless { IfSome source (λ source. (S.Input.seen source).faults ≡ 0)
-        → S.seen store.new ≡ S.seen store.old }
+        → NoReadFailed (S.seen store.old) (S.seen store.new) }
 {
     if let Some(source) = source {
         store.close(source);

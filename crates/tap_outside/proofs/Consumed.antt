@@ -1,8 +1,8 @@
--- Reads one after the other.
+-- Reads, one after another.
 use Rattle.std.proofs.Common.{ℕ, List, [], ◌++◌, Option, None, Some, refl, sym, ap, ◌∙◌, append_assoc}
 use Rattle.std.specs.Io.KnownBytes.{Consumes}
 
--- where nothing is read all is left
+-- if nothing is read all is left
 pub Consumes-none : (known : Option (List ℕ)) → Consumes known known []
 Consumes-none None = tt
 Consumes-none (Some bytes) = refl

@@ -30,7 +30,7 @@ first_named files name at default found =
     let place = position-Some (λ (f : HeldFile). bytes_eq f.name name) files at default found in
     (sym (cond_some _ _ _ found).1, place.0, one_name _ _ place.1)
 
--- nothing in place of what isn't there
+-- the default of a missing place is nothing
 option_or-None : {A : Type 0} (option : Option A) → option_or option None ≡ option
 option_or-None None = refl
 option_or-None (Some x) = refl
@@ -48,7 +48,7 @@ PutsFile-set files at file found =
           (rw place.2 (other_name file.name other differs)) (other_name file.name other differs);
     }
 
--- where no place has a file of a name, nothing is found under it
+-- if no place has a file of a name, nothing is found under it
 none_named : (files : List HeldFile) (name : List ℕ)
     → position (λ f. bytes_eq f.name name) files ≡ None → file_of files name ≡ None
 none_named files name absent =

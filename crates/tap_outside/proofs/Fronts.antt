@@ -1,4 +1,4 @@
--- What several writes have written together, for those who write more than once.
+-- What several writes have written together, for callers that write more than once.
 use Rattle.std.proofs.Common.{ℕ, List, ◌++◌, ◌+◌, length, take, Option, None, Some, arith, append_assoc, length-append}
 use Rattle.std.proofs.Math.Seq.{take-append-add, take-length}
 use Rattle.std.proofs.lemmas.List.{take-append-le}

@@ -1,8 +1,8 @@
--- What a store keeps where it is only read, or only saved to.
+-- What a store keeps if it is only read, or only saved to.
 use Rattle.std.proofs.Common.{◌≡◌, ℕ, List, refl, sym, ap, ◌∙◌, subst, arith}
 use Rattle.tap_outside.specs.Seen.{NoReadFailed, OnlyReads, OnlySaves, StoreSeen}
 
--- ---- where it is only read
+-- ---- if it is only read
 
 pub held_kept : {old new : StoreSeen} → OnlyReads old new → new.held ≡ old.held
 held_kept only = ap (λ (s : StoreSeen). s.held) only.same
@@ -26,11 +26,12 @@ OnlyReads-same old new e = subst (λ (s : StoreSeen). OnlyReads old s) (sym e) (
 -- so is one that is only read twice
 pub OnlyReads-then : (a b c : StoreSeen) → OnlyReads a b → OnlyReads b c → OnlyReads a c
 OnlyReads-then a b c first second = record {
-  same = second.same ∙ ap (λ (s : StoreSeen). record s { read_faults = c.read_faults }) first.same;
+  same = second.same
+      ∙ ap (λ (s : StoreSeen). record s { read_faults = c.read_faults; closed = c.closed }) first.same;
   later = let x = first.later in let y = second.later in omega (arith, x, y);
 }
 
--- ---- where no read failed
+-- ---- if no read failed
 
 pub exact_kept : {old new : StoreSeen} → OnlyReads old new → new.exact ≡ old.exact
 exact_kept only = ap (λ (s : StoreSeen). s.exact) only.same
@@ -39,7 +40,7 @@ exact_kept only = ap (λ (s : StoreSeen). s.exact) only.same
 pub NoReadFailed-none : (store : StoreSeen) → NoReadFailed store store
 NoReadFailed-none store = record { only = OnlyReads-none store; exact = λ is. refl }
 
--- nor where none failed before and none after
+-- nor if none failed before and none after
 pub NoReadFailed-then : (a b c : StoreSeen) → NoReadFailed a b → NoReadFailed b c
     → NoReadFailed a c
 NoReadFailed-then a b c first second = record {
@@ -47,7 +48,7 @@ NoReadFailed-then a b c first second = record {
   exact = λ is. second.exact (exact_kept first.only ∙ is) ∙ first.exact is;
 }
 
--- ---- where it is only saved to
+-- ---- if it is only saved to
 
 pub to_read_saved : {old new : StoreSeen} {name : List ℕ}
     → OnlySaves old new name → new.to_read ≡ old.to_read

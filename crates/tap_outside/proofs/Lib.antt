@@ -2,4 +2,5 @@ pub mod Consumed
 pub mod Fronts
 pub mod Kept
 mod FileLists
+mod Walks
 mod Writes

@@ -6,7 +6,7 @@ use Rattle.std.specs.Prelude.{◌≡◌, ◌≢◌, List, ℕ, [], ⊤, Option, 
 abbrev pub Contents : Type 0
 Contents = List ℕ → Option (List ℕ)
 
--- a source has left what the name holds, and nothing where the name isn't held
+-- a source has left what the name holds, and nothing if the name isn't held
 abbrev pub GivesFile : Option Contents → List ℕ → Option (List ℕ) → Type 0
 GivesFile None name left = ⊤
 GivesFile (Some files) name None = ⊥

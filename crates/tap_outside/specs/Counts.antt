@@ -1,4 +1,4 @@
--- Counts of faults. A count never falls, and stands still at the greatest u64.
+-- Counts of faults. A count never falls, and stays at the greatest u64 once there.
 use Rattle.std.specs.Prelude.{ℕ, ◌+◌, ◌-◌, ◌^◌, ◌≤◌, min}
 
 -- a count with one more
@@ -9,6 +9,6 @@ counted count = min (count + 1) (2 ^ 64 - 1)
 abbrev pub RoseBy : ℕ → ℕ → ℕ → Type 0
 RoseBy many before now = min (before + many) (2 ^ 64 - 1) ≤ now
 
--- the count rose, or stands at its greatest value
+-- the count rose, or is at its greatest value
 abbrev pub Rose : ℕ → ℕ → Type 0
 Rose before now = RoseBy 1 before now

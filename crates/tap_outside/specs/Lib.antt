@@ -1,6 +1,7 @@
 pub mod Counts
 pub mod Contents
 pub mod Outcomes
+pub mod Records
 pub mod Seen
 pub mod Sources
 pub mod Sinks

@@ -1,4 +1,4 @@
--- What is written to a sink, and what a sink in memory stands for.
+-- What is written to a sink, and the state of a sink in memory.
 use Rattle.std.specs.Prelude.{◌≡◌, ◌≤◌, ℕ, List, ◌++◌, length, [], take, ⊤, Option, None, Some}
 use Rattle.tap_outside.specs.Counts.{counted}
 use Rattle.tap_outside.specs.Seen.{SinkSeen}
@@ -16,12 +16,12 @@ pub record MemSinkState : Type 0 where
   pub written : List ℕ
   -- the numbers, from 1, of the writes that fail
   pub failing : List ℕ
-  -- the number of writes so far, those left out that wanted memory
+  -- the number of writes so far, except those that ran out of memory
   pub writes : ℕ
   -- the number of those that failed
   pub faults : ℕ
 
--- such a sink as each sink is seen: it reports what was written
+-- the view of such a sink: it reports what was written
 abbrev pub seen_sink : MemSinkState → SinkSeen
 seen_sink sink = record { written = Some sink.written; faults = sink.faults }
 

@@ -1,5 +1,6 @@
--- What stores in memory stand for.
-use Rattle.std.specs.Prelude.{◌≡◌, ◌≢◌, ℕ, List, [], Option, Some, IsNone, ◌⊎◌, Contains, find, bytes_eq, option_map}
+-- The state of stores in memory.
+use Rattle.std.specs.Prelude.{◌≡◌, ◌≢◌, ℕ, List, [], ◌∷◌, ◌++◌, Option, Some, IsNone, ◌⊎◌, Contains}
+use Rattle.std.specs.Prelude.{find, bytes_eq, option_map}
 use Rattle.tap_outside.specs.Contents.{Contents}
 use Rattle.tap_outside.specs.Counts.{counted}
 use Rattle.tap_outside.specs.Seen.{StoreSeen, meant_store}
@@ -32,32 +33,34 @@ contents_of files name = option_map (λ file. file.bytes) (file_of files name)
 abbrev pub source_of : HeldFile → MemSourceState
 source_of file = fresh_source file.bytes file.piece file.failing
 
--- the file stands under its name, and every other name has the file that it had
+-- the file is under its name, and every other name has the file that it had
 pub record PutsFile (old new : List HeldFile) (file : HeldFile) : Type 0 where
   pub there : file_of new file.name ≡ Some file
   pub others : (other : List ℕ) → other ≢ file.name → file_of new other ≡ file_of old other
 
 -- a store in memory
 pub record MemStoreState : Type 0 where
-  -- the files, of which the first of a name is that name's
+  -- the files; the first one with a name is that name's
   pub files : List HeldFile
   -- the numbers, from 1, of the fetches that fail
   pub failing_fetches : List ℕ
   -- the numbers, from 1, of the saves that fail
   pub failing_saves : List ℕ
-  -- the number of fetches so far, those left out that wanted memory
+  -- the number of fetches so far, except those that ran out of memory
   pub fetches : ℕ
-  -- the number of saves so far, those left out that wanted memory
+  -- the number of saves so far, except those that ran out of memory
   pub saves : ℕ
   -- the number of fetches that failed, and of sources that had a fault when they were closed
   pub read_faults : ℕ
+  -- for each source that was closed the bytes that it gave, and for each fetch that failed none
+  pub closed : List (List ℕ)
   -- the number of saves that failed
   pub save_faults : ℕ
 
--- such a store as each store is seen: it reports what it holds
+-- the view of such a store: it reports what it holds
 abbrev pub seen_store : MemStoreState → StoreSeen
 seen_store store =
-    meant_store (Some (contents_of store.files)) store.read_faults store.save_faults
+    meant_store (Some (contents_of store.files)) store.closed store.read_faults store.save_faults
 
 -- the next fetch is one that is to fail, or the name isn't held
 abbrev pub FetchFails : MemStoreState → List ℕ → Type 0
@@ -74,6 +77,7 @@ fresh_store fetch_numbers save_numbers =
       fetches = 0;
       saves = 0;
       read_faults = 0;
+      closed = [];
       save_faults = 0;
     }
 
@@ -84,11 +88,20 @@ after_fetch store = record store { fetches = counted store.fetches }
 -- a store after a fetch that failed
 abbrev pub after_failed_fetch : MemStoreState → MemStoreState
 after_failed_fetch store =
-    record store { fetches = counted store.fetches; read_faults = counted store.read_faults }
+    record store {
+      fetches = counted store.fetches;
+      read_faults = counted store.read_faults;
+      closed = store.closed ++ [] ∷ [];
+    }
 
--- a store after it took back a source that had a fault
-abbrev pub after_faulty_close : MemStoreState → MemStoreState
-after_faulty_close store = record store { read_faults = counted store.read_faults }
+-- a store after it took back a source that gave these bytes and had no fault
+abbrev pub after_close : MemStoreState → List ℕ → MemStoreState
+after_close store given = record store { closed = store.closed ++ given ∷ [] }
+
+-- a store after it took back a source that gave these bytes and had a fault
+abbrev pub after_faulty_close : MemStoreState → List ℕ → MemStoreState
+after_faulty_close store given =
+    record (after_close store given) { read_faults = counted store.read_faults }
 
 -- a store after a save that left it these files
 abbrev pub after_save : MemStoreState → List HeldFile → MemStoreState
@@ -98,3 +111,14 @@ after_save store held = record store { files = held; saves = counted store.saves
 abbrev pub after_failed_save : MemStoreState → MemStoreState
 after_failed_save store =
     record store { saves = counted store.saves; save_faults = counted store.save_faults }
+
+-- a store in memory that has no fault
+pub record SureStoreState : Type 0 where
+  -- the files; the first one with a name is that name's
+  pub files : List HeldFile
+  -- for each source that was closed the bytes that it gave
+  pub closed : List (List ℕ)
+
+-- such a store as each store is seen
+abbrev pub seen_sure_store : SureStoreState → StoreSeen
+seen_sure_store store = meant_store (Some (contents_of store.files)) store.closed 0 0

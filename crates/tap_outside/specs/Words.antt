@@ -1,4 +1,4 @@
--- What is printed of the errors of the outside.
+-- How the errors of the outside are printed.
 use Rattle.std.specs.Prelude.{ℕ, List, codes}
 use Rattle.tap_outside.specs.declared.causes.OutError.{OutError}
 use Rattle.tap_outside.specs.declared.causes.OutError.TheVariants.{Failed, Memory}

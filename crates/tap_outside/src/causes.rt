@@ -14,12 +14,12 @@ use std::{fmt, io};
 #[derive(Clone, Copy, Debug, PartialEq, Eq)]
 pub struct Failed;
 
-/// Why a call that takes memory itself didn't do its work.
+/// Why a call that allocates memory itself didn't do its work.
 #[derive(Clone, Copy, Debug, PartialEq, Eq)]
 pub enum OutError {
     /// The outside failed, and its object counted a fault.
     Failed,
-    /// A request for memory was refused. Nothing has changed.
+    /// An allocation failed. Nothing has changed.
     Memory,
 }
 
@@ -81,8 +81,8 @@ impl<T: Drop> From<AllocFailed<T>> for OutError {
 impl From<io::Error> for OutError {
     ghost from_gives = { λ error e. (e ≡ Memory) ↔ (error_kind error ≡ OutOfMemory) };
 
-    /// Out of memory, where the system reports it, else a fault. Who hands it on as a fault counts
-    /// it.
+    /// Out of memory if the system reports that, otherwise a fault. The caller that passes it on as
+    /// a fault counts it.
     fn from(error: io::Error) -> OutError {
         match error.kind() {
             io::ErrorKind::OutOfMemory => OutError::Memory,

@@ -1,43 +1,64 @@
-//! Real files. What they hold is the system's word, so nothing here reports any content.
-ghost use Rattle.std.specs.Prelude.{◌≡◌, refl, None, IfOk};
+//! Real files. Only the system knows what they hold, so contracts say nothing about their content.
+ghost use Rattle.std.specs.Prelude.{◌≡◌, refl, [], map, None, IfOk};
 ghost use Rattle.std.specs.Io.{ReadsAtMost};
-ghost use Rattle.tap_outside.specs.Seen.{meant_store};
+ghost use Rattle.tap_outside.specs.Seen.{meant_store, unread_file};
+ghost use Rattle.tap_outside.specs.Records.{given_by};
 
+use crate::history::History;
 use crate::{Failed, OutError, Source, Store};
 use std::fs::OpenFile;
 use std::io::{ErrorKind, Read, Write};
+use std::marker::Model;
 use std::rt::Files;
 use std::{fs, io};
 
 /// The most bytes that one read of a real file gives.
 const PIECE: usize = 65_536;
 
-/// How often a read or a write is tried that a signal interrupts.
+/// How often a read or a write is tried if a signal interrupts it.
 pub(crate) const TRIES: u32 = 16;
 
-/// A real file, open for reading.
+/// A real file, open for reading. Contracts see the bytes that its reads gave, and how many reads
+/// failed.
 #[derive(Drop)]
 pub struct DiskSource<F> {
-    /// The file, open; it is closed where the source is dropped.
+    /// The file, open; it is closed when the source is dropped.
     file: F,
     /// What a read takes from the system, before it goes to the caller.
     buffer: Vec<u8>,
-    /// How many reads failed; it stands still at the greatest u64.
+    /// The bytes that reads gave so far.
+    given: History<u8>,
+    /// How many reads failed; it stays at the greatest u64.
     faults: u64,
 }
 
-impl<F: Read + Drop> Source for DiskSource<F> {
-    ghost seen = { λ source. record { left = None; faults = source.faults } };
+impl<F> Model for DiskSource<F> {
+    ghost use Rattle.std.specs.Prelude.{None};
+    ghost use Rattle.tap_outside.specs.Seen.{SourceSeen};
 
-    /// A read that a signal interrupts is tried again, 16 times at most. Each error that is left is
-    /// a fault.
+    ghost Value = { SourceSeen };
+
+    ghost view = { λ source. record {
+      left = None;
+      given = source.given.items;
+      faults = source.faults;
+    } };
+}
+
+impl<F: Read + Drop> Source for DiskSource<F> {
+    ghost seen = { λ source. source };
+
+    /// A read that a signal interrupts is tried again, 16 times at most. Every other error is a
+    /// fault.
     fn read(&mut self, into: &mut [u8]) -> Result<usize, Failed> {
         let room = into.len().min(self.buffer.len());
         let window = &mut self.buffer[..room];
         match read_some(&mut self.file, window) {
-            Ok(given) => {
-                into[..given].copy_from_slice(&window[..given]);
-                Ok(given)
+            Ok(count) => {
+                let (piece, _) = window.split_at(count);
+                into[..count].copy_from_slice(piece);
+                self.given.extend(piece);
+                Ok(count)
             }
             Err(_) => {
                 self.faults = self.faults.saturating_add(1);
@@ -47,7 +68,7 @@ impl<F: Read + Drop> Source for DiskSource<F> {
     }
 }
 
-/// One read, tried again where a signal interrupts it.
+/// One read, tried again if a signal interrupts it.
 fn read_some<F: Read>(file: &mut F, into: &mut [u8]) -> io::Result<usize>
     ensures { ReadsAtMost result into.new }
 {
@@ -60,15 +81,17 @@ fn read_some<F: Read>(file: &mut F, into: &mut [u8]) -> io::Result<usize>
     file.read(into)
 }
 
-/// Real files, by their paths in UTF-8. A file that isn't there, a folder, and a name that is no
-/// path count as faults when they are fetched. A save writes over the file that is there. An error
-/// that the system reports only after a file is closed isn't seen.
+/// Real files, by their paths in UTF-8. A file that doesn't exist, a folder, and a name that isn't
+/// a path count as faults when they are fetched. A save overwrites an existing file. An error that
+/// the system reports only after a file is closed isn't seen.
 #[derive(Drop)]
-pub struct DiskStore<'a, R> {
-    /// What opens files, and gives memory for a source's buffer.
+pub struct DiskStore<'a, R: Files> {
+    /// What opens files, and allocates a source's buffer.
     rt: &'a R,
     /// How many fetches failed, and how many sources had a fault when they were closed.
     read_faults: u64,
+    /// The sources that were closed, and `None` for each fetch that failed.
+    closed: History<Option<DiskSource<R::File>>>,
     /// How many saves failed.
     save_faults: u64,
 }
@@ -79,23 +102,24 @@ where
 {
     /// The files of this system, with no fault so far. It takes no memory.
     pub fn new(rt: &'a R) -> DiskStore<'a, R>
-        ensures { ⟦<DiskStore<'a, R> as Store>⟧.seen result ≡ meant_store None 0 0 }
+        ensures { ⟦<DiskStore<'a, R> as Store>⟧.seen result ≡ meant_store None [] 0 0 }
     {
         DiskStore {
             rt,
             read_faults: 0,
+            closed: History::new(),
             save_faults: 0,
         }
     }
 
-    /// The number of faults of reading so far; it stands still at the greatest u64.
+    /// The number of faults of reading so far; it stays at the greatest u64.
     pub fn read_faults(&self) -> u64
         ensures { result ≡ (⟦<DiskStore<'a, R> as Store>⟧.seen self.now).read_faults }
     {
         self.read_faults
     }
 
-    /// The number of faults of saving so far; it stands still at the greatest u64.
+    /// The number of faults of saving so far; it stays at the greatest u64.
     pub fn save_faults(&self) -> u64
         ensures { result ≡ (⟦<DiskStore<'a, R> as Store>⟧.seen self.now).save_faults }
     {
@@ -109,12 +133,14 @@ where
 {
     type Input = DiskSource<R::File>;
 
-    ghost seen = { λ store. meant_store None store.read_faults store.save_faults };
+    ghost seen = { λ store. meant_store None (map given_by store.closed.items)
+        store.read_faults store.save_faults };
 
     fn fetch(&mut self, name: &[u8]) -> Result<DiskSource<R::File>, OutError> {
         let opened = open_source(self.rt, name);
         if let Err(OutError::Failed) = opened {
             self.read_faults = self.read_faults.saturating_add(1);
+            self.closed.push(&None);
         }
         opened
     }
@@ -123,6 +149,7 @@ where
         if input.faults > 0 {
             self.read_faults = self.read_faults.saturating_add(1);
         }
+        self.closed.push(&Some(input));
     }
 
     fn save(&mut self, name: &[u8], bytes: &[u8]) -> Result<(), OutError> {
@@ -138,9 +165,9 @@ where
     ghost untold_saves = { λ store name untold. refl };
 }
 
-/// Opens a file for reading. A folder, which the system would open too, has failed.
+/// Opens a file for reading. A folder, which the system would open too, is a failure.
 fn open_source<R: Files + AllocGlobal>(rt: &R, name: &[u8]) -> Result<DiskSource<R::File>, OutError>
-    ensures { IfOk result (λ input. input.faults ≡ 0) }
+    ensures { IfOk result (λ input. input ≡ unread_file) }
 {
     let path = str::from_utf8(name).map_err(|_| Failed)?;
     let file = fs::open(rt, path)?;
@@ -150,12 +177,13 @@ fn open_source<R: Files + AllocGlobal>(rt: &R, name: &[u8]) -> Result<DiskSource
     Ok(DiskSource {
         file,
         buffer: vec![in rt.alloc(); 0; PIECE]?,
+        given: History::new(),
         faults: 0,
     })
 }
 
-/// Makes a file of these bytes. Once it is open its old bytes are gone, so running out of memory is
-/// a fault from there on: the file may hold anything then.
+/// Writes a file with these bytes. Once it is open its old bytes are gone, so from then on running
+/// out of memory is a fault: the file may hold anything.
 fn write_file<R: Files>(rt: &R, name: &[u8], bytes: &[u8]) -> Result<(), OutError> {
     let path = str::from_utf8(name).map_err(|_| Failed)?;
     let mut file = fs::create(rt, path)?;

@@ -1,9 +1,10 @@
-//! The outside as the product sees it: sources that are read, sinks that are written and stores of
+//! The outside as the program sees it: sources that are read, sinks that are written and stores of
 //! named files, each with a count of its faults; in memory, on disk, and standard output.
 #![tactic(auto)]
 
 mod causes;
 mod disk_files;
+mod history;
 mod memory_files;
 mod memory_sink;
 mod memory_source;
@@ -16,6 +17,7 @@ mod writing;
 
 pub use causes::{Failed, OutError};
 pub use disk_files::{DiskSource, DiskStore};
+pub use history::History;
 pub use memory_sink::MemSink;
 pub use memory_source::MemSource;
 pub use memory_store::MemStore;

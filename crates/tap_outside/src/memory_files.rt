@@ -7,7 +7,7 @@ use frame_view::{ByteList, Memory, MomentList};
 use std::alloc::Global;
 use std::marker::Model;
 
-/// A file in memory, and how reads of it go.
+/// A file in memory, and how its reads behave.
 #[derive(Debug, Drop)]
 pub(crate) struct MemFile {
     name: ByteList,
@@ -55,14 +55,14 @@ impl MemFile {
         })
     }
 
-    /// The name of the file, lent.
+    /// The name of the file, borrowed.
     fn name(&self) -> &[u8]
         ensures { result.now ≡ self.now.name }
     {
         self.name.as_slice()
     }
 
-    /// The bytes of the file, lent.
+    /// The bytes of the file, borrowed.
     pub(crate) fn bytes(&self) -> &[u8]
         ensures { result.now ≡ self.now.bytes }
     {
@@ -93,8 +93,8 @@ fn place_of(files: &[MemFile], name: &[u8]) -> Option<usize>
     files.iter().position(|file| file.name() == name)
 }
 
-/// Puts a file under its name, in the place of the one that stood there. After `Memory` the files
-/// are as before.
+/// Puts a file under its name, in place of the one that was there. After `Memory` the files are as
+/// before.
 pub(crate) fn put_file(files: &mut Vec<MemFile>, file: MemFile) -> Result<(), Memory>
     ensures ok { OnOk result (PutsFile files.old.items files.new.items file) }
     ensures err { OnErr result (files.new.items ≡ files.old.items) }

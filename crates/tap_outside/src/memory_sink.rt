@@ -1,5 +1,6 @@
-//! A sink that keeps its bytes in memory, and fails where it is told to.
-ghost use Rattle.std.specs.Prelude.{◌≡◌, ◌<◌, ◌≤◌, ◌↔◌, [], Some, length, Contains, IfOk, OnOk, IsErrOf};
+//! A sink that keeps its bytes in memory, and fails when it is told to.
+ghost use Rattle.std.specs.Prelude.{◌≡◌, ◌<◌, ◌≤◌, ◌↔◌, [], Some, length, Contains, IfOk, OnOk};
+ghost use Rattle.std.specs.Prelude.{IsErrOf};
 ghost use Rattle.std.specs.Io.KnownBytes.{WriteAppends};
 ghost use Rattle.tap_outside.specs.Counts.{counted, Rose};
 ghost use Rattle.tap_outside.specs.Outcomes.{OnFailed, OnMemory};
@@ -18,10 +19,10 @@ pub struct MemSink {
     bytes: Vec<u8>,
     /// The numbers of the writes that fail, from 1, in any order.
     failing: MomentList,
-    /// How many writes there were, those left out that wanted memory; it stands still at the
-    /// greatest u64.
+    /// How many writes there were, except those that ran out of memory; it stays at the greatest
+    /// u64.
     writes: u64,
-    /// How many of them failed; it stands still at the greatest u64.
+    /// How many of them failed; it stays at the greatest u64.
     faults: u64,
 }
 
@@ -39,8 +40,8 @@ impl Model for MemSink {
 }
 
 impl MemSink {
-    /// A sink without a byte. The writes fail whose numbers, counted from 1, stand in `failing`; a
-    /// write that runs out of memory isn't counted. It takes no memory.
+    /// An empty sink. The writes whose numbers, counted from 1, are in `failing` fail; a write that
+    /// runs out of memory isn't counted. It takes no memory.
     pub fn new(alloc: Global, failing: MomentList) -> MemSink
         ensures fresh { result ≡ fresh_sink failing }
         ensures seen { ⟦<MemSink as Sink>⟧.seen result ≡ record { written = Some []; faults = 0 } }
@@ -53,7 +54,7 @@ impl MemSink {
         }
     }
 
-    /// The bytes written so far, lent.
+    /// The bytes written so far, borrowed.
     pub fn written(&self) -> &[u8]
         ensures { (⟦<MemSink as Sink>⟧.seen self.now).written ≡ Some result.now }
     {
@@ -67,7 +68,7 @@ impl Sink for MemSink {
     fn write(&mut self, from: &[u8]) -> Result<usize, OutError>
         requires { 0 < length from.now }
 
-        // A write fails exactly where its number stands among those that are to fail. Else it takes
+        // A write fails exactly if its number is among those that are to fail. Otherwise it takes
         // the whole piece, or runs out of memory.
         ensures fails { IsErrOf result OutError.Failed ↔
             Contains self.old.failing (counted self.old.writes) }

@@ -1,10 +1,12 @@
-//! A source over bytes in memory, which fails where it is told to.
-ghost use Rattle.std.specs.Prelude.{◌≡◌, ◌<◌, ◌≤◌, ◌↔◌, Some, length, drop, Contains, IsErr, IfOk, OnErr, OnOk};
+//! A source over bytes in memory, which fails when it is told to.
+ghost use Rattle.std.specs.Prelude.{◌≡◌, ◌<◌, ◌≤◌, ◌↔◌, ◌++◌, Some, length, drop, take, Contains};
+ghost use Rattle.std.specs.Prelude.{IsErr, IfOk, OnErr, OnOk};
 ghost use Rattle.std.specs.Io.{ReadsAtMost};
 ghost use Rattle.std.specs.Io.KnownBytes.{ReadConsumes};
 ghost use Rattle.tap_outside.specs.Counts.{counted, Rose};
 ghost use Rattle.tap_outside.specs.Seen.{unread_source};
-ghost use Rattle.tap_outside.specs.Sources.{after_failed_read, after_read, fresh_source, read_length, seen_source};
+ghost use Rattle.tap_outside.specs.Sources.{after_failed_read, after_read, fresh_source};
+ghost use Rattle.tap_outside.specs.Sources.{read_length, seen_source};
 
 use crate::{Failed, Source};
 use frame_view::{ByteList, MomentList};
@@ -14,7 +16,7 @@ use std::marker::Model;
 /// gives, the numbers of the reads that fail, and how many reads there were and failed.
 #[derive(Debug, Drop)]
 pub struct MemSource {
-    /// All bytes of the source, those read among them.
+    /// All bytes of the source, those already read included.
     bytes: ByteList,
     /// How many of them were read, at most all.
     at: usize,
@@ -22,14 +24,14 @@ pub struct MemSource {
     piece: usize,
     /// The numbers of the reads that fail, from 1, in any order.
     failing: MomentList,
-    /// How many reads there were; it stands still at the greatest u64.
+    /// How many reads there were; it stays at the greatest u64.
     reads: u64,
-    /// How many of them failed; it stands still at the greatest u64.
+    /// How many of them failed; it stays at the greatest u64.
     faults: u64,
 }
 
 impl Model for MemSource {
-    ghost use Rattle.std.specs.Prelude.{◌≤◌, length, drop};
+    ghost use Rattle.std.specs.Prelude.{◌≤◌, length, drop, take};
     ghost use Rattle.tap_outside.specs.Seen.{unread_source};
     ghost use Rattle.tap_outside.specs.Sources.{MemSourceState};
 
@@ -37,6 +39,7 @@ impl Model for MemSource {
 
     ghost view = { λ source. record {
       left = drop source.at source.bytes;
+      given = take source.at source.bytes;
       piece = source.piece;
       failing = source.failing;
       reads = source.reads;
@@ -47,8 +50,8 @@ impl Model for MemSource {
 }
 
 impl MemSource {
-    /// A source of these bytes, of which a read gives at most `piece`. The reads fail whose
-    /// numbers, counted from 1, stand in `failing`. It takes no memory.
+    /// A source of these bytes, in which a read gives at most `piece`. The reads whose numbers,
+    /// counted from 1, are in `failing` fail. It takes no memory.
     pub fn new(bytes: ByteList, piece: usize, failing: MomentList) -> MemSource
         requires { 1 ≤ piece }
         ensures fresh { result ≡ fresh_source bytes piece failing }
@@ -64,7 +67,7 @@ impl MemSource {
         }
     }
 
-    /// The number of reads that failed so far; it stands still at the greatest u64.
+    /// The number of reads that failed so far; it stays at the greatest u64.
     pub(crate) fn faults(&self) -> u64
         ensures { result ≡ self.now.faults }
     {
@@ -78,7 +81,7 @@ impl Source for MemSource {
     fn read(&mut self, into: &mut [u8]) -> Result<usize, Failed>
         requires { 0 < length into.old }
 
-        // A read fails exactly where its number stands among those that are to fail.
+        // A read fails exactly if its number is among those that are to fail.
         ensures fails { IsErr result ↔ Contains self.old.failing (counted self.old.reads) }
         ensures given { IfOk result (λ n. n ≡ read_length self.old (length into.old)) }
         ensures ok { IfOk result (λ n. self.new ≡ after_read self.old n) }
@@ -87,6 +90,8 @@ impl Source for MemSource {
         // What each source promises.
         ensures bound { ReadsAtMost result into.new }
         ensures bytes { ReadConsumes (Some self.old.left) (Some self.new.left) result into.new }
+        ensures grows { IfOk result (λ n. self.new.given ≡ self.old.given ++ take n into.new) }
+        ensures kept { OnErr result (self.new.given ≡ self.old.given) }
         ensures rest { IfOk result (λ n. drop n into.new ≡ drop n into.old) }
         ensures unchanged { OnErr result (into.new ≡ into.old) }
         ensures later { self.old.faults ≤ self.new.faults }

@@ -1,12 +1,17 @@
-//! A store that keeps its files in memory, and fails where it is told to.
-ghost use Rattle.std.specs.Prelude.{◌≡◌, ◌<◌, ◌≤◌, ◌↔◌, [], refl, None, Some, Contains, option_copied, option_map, IfOk, OnOk, OnErr, IsErrOf};
+//! A store that keeps its files in memory, and fails when it is told to.
+ghost use Rattle.std.specs.Prelude.{◌≡◌, ◌<◌, ◌≤◌, ◌↔◌, ◌++◌, ◌∷◌, [], refl, None, Some, Contains};
+ghost use Rattle.std.specs.Prelude.{option_copied, option_map, IfOk, OnOk, OnErr, IsErrOf};
 ghost use Rattle.tap_outside.specs.Counts.{counted, Rose};
 ghost use Rattle.tap_outside.specs.Contents.{GivesFile, HoldsFile};
 ghost use Rattle.tap_outside.specs.Outcomes.{OnFailed, OnMemory};
 ghost use Rattle.tap_outside.specs.Seen.{OnlyReads, OnlySaves, meant_store};
 ghost use Rattle.tap_outside.specs.Sources.{seen_source};
-ghost use Rattle.tap_outside.specs.Stores.{FetchFails, PutsFile, after_failed_fetch, after_failed_save, after_faulty_close, after_fetch, after_save, contents_of, file_of, file_with, fresh_store, seen_store, source_of};
+ghost use Rattle.tap_outside.specs.Stores.{FetchFails, PutsFile, after_close, after_failed_fetch};
+ghost use Rattle.tap_outside.specs.Stores.{after_failed_save, after_faulty_close, after_fetch};
+ghost use Rattle.tap_outside.specs.Stores.{after_save, contents_of, file_of, file_with};
+ghost use Rattle.tap_outside.specs.Stores.{fresh_store, seen_store, source_of};
 
+use crate::history::History;
 use crate::memory_files::{MemFile, file_named, put_file};
 use crate::{MemSource, OutError, Store};
 use frame_view::{Memory, MomentList};
@@ -17,10 +22,11 @@ use std::marker::Model;
 pub(crate) const SAVED_PIECE: usize = 65_536;
 
 /// A store that keeps its files in memory. Contracts see its files, the numbers of the fetches and
-/// of the saves that fail, and how many of each there were and failed.
+/// of the saves that fail, how many of each there were and failed, and what the sources gave that
+/// were closed.
 #[derive(Debug, Drop)]
 pub struct MemStore {
-    /// What gives memory for the files and for the sources.
+    /// Allocates the files and the sources.
     alloc: Global,
     /// The files, each name once.
     files: Vec<MemFile>,
@@ -28,19 +34,23 @@ pub struct MemStore {
     failing_fetches: MomentList,
     /// The numbers of the saves that fail, from 1, in any order.
     failing_saves: MomentList,
-    /// How many fetches there were, those left out that wanted memory; it stands still at the
-    /// greatest u64.
+    /// How many fetches there were, except those that ran out of memory; it stays at the greatest
+    /// u64.
     fetches: u64,
-    /// How many saves there were, those left out that wanted memory; it stands still at the
-    /// greatest u64.
+    /// How many saves there were, except those that ran out of memory; it stays at the greatest
+    /// u64.
     saves: u64,
     /// How many fetches failed, and how many sources had a fault when they were closed.
     read_faults: u64,
+    /// The sources that were closed, and `None` for each fetch that failed.
+    closed: History<Option<MemSource>>,
     /// How many saves failed.
     save_faults: u64,
 }
 
 impl Model for MemStore {
+    ghost use Rattle.std.specs.Prelude.{map};
+    ghost use Rattle.tap_outside.specs.Records.{given_from_memory};
     ghost use Rattle.tap_outside.specs.Stores.{MemStoreState};
 
     ghost Value = { MemStoreState };
@@ -52,16 +62,18 @@ impl Model for MemStore {
       fetches = store.fetches;
       saves = store.saves;
       read_faults = store.read_faults;
+      closed = map given_from_memory store.closed.items;
       save_faults = store.save_faults;
     } };
 }
 
 impl MemStore {
-    /// A store without a file. The fetches and the saves fail whose numbers, each counted from 1,
-    /// stand in the two lists; one that runs out of memory isn't counted. It takes no memory.
+    /// An empty store. The fetches and the saves whose numbers, each counted from 1, are in the two
+    /// lists fail; one that runs out of memory isn't counted. It takes no memory.
     pub fn new(alloc: Global, failing_fetches: MomentList, failing_saves: MomentList) -> MemStore
         ensures fresh { result ≡ fresh_store failing_fetches failing_saves }
-        ensures seen { ⟦<MemStore as Store>⟧.seen result ≡ meant_store (Some (λ name. None)) 0 0 }
+        ensures seen { ⟦<MemStore as Store>⟧.seen result
+            ≡ meant_store (Some (λ name. None)) [] 0 0 }
     {
         MemStore {
             alloc,
@@ -71,13 +83,14 @@ impl MemStore {
             fetches: 0,
             saves: 0,
             read_faults: 0,
+            closed: History::new(),
             save_faults: 0,
         }
     }
 
-    /// Sets up a file, in the place of one of that name. A read of it gives at most `piece` bytes,
-    /// and the reads fail whose numbers, counted from 1 in each source that is fetched, stand in
-    /// `failing`. After `Memory` the store is as before.
+    /// Sets up a file, in place of one with that name. A read of it gives at most `piece` bytes,
+    /// and the reads whose numbers, counted from 1 in each source that is fetched, are in `failing`
+    /// fail. After `Memory` the store is as before.
     pub fn put(
         &mut self,
         name: &[u8],
@@ -100,7 +113,7 @@ impl MemStore {
         put_file(&mut self.files, file)
     }
 
-    /// What a name holds, lent. `None` comes exactly where the name isn't held.
+    /// What a name holds, borrowed. `None` exactly if the name isn't held.
     pub fn file(&self, name: &[u8]) -> Option<&[u8]>
         ensures { option_copied result ≡ contents_of self.now.files name.now }
     {
@@ -114,8 +127,8 @@ impl Store for MemStore {
     ghost seen = { seen_store };
 
     fn fetch(&mut self, name: &[u8]) -> Result<MemSource, OutError>
-        // A fetch fails exactly where its number stands among those that are to fail, and where the
-        // name isn't held.
+        // A fetch fails exactly if its number is among those that are to fail, or the name isn't
+        // held.
         ensures fails { IsErrOf result OutError.Failed ↔ FetchFails self.old name.now }
         ensures given { IfOk result (λ input.
             option_map source_of (file_of self.old.files name.now) ≡ Some input) }
@@ -127,8 +140,11 @@ impl Store for MemStore {
         ensures left { IfOk result (λ input.
             GivesFile (seen_store self.old).held name.now (seen_source input).left) }
         ensures fresh { IfOk result (λ input. input.faults ≡ 0) }
+        ensures unread { IfOk result (λ input. input.given ≡ []) }
         ensures only { OnlyReads (seen_store self.old) (seen_store self.new) }
-        ensures faultless { OnOk result (seen_store self.new ≡ seen_store self.old) }
+        ensures unclosed { OnOk result (self.new.closed ≡ self.old.closed) }
+        ensures missed { OnFailed result (self.new.closed ≡ self.old.closed ++ [] ∷ []) }
+        ensures faultless { OnOk result (self.new.read_faults ≡ self.old.read_faults) }
         ensures cause { OnFailed result (Rose self.old.read_faults self.new.read_faults) }
     {
         let number = self.fetches.saturating_add(1);
@@ -142,27 +158,30 @@ impl Store for MemStore {
             _ => {
                 self.fetches = number;
                 self.read_faults = self.read_faults.saturating_add(1);
+                self.closed.push(&None);
                 Err(OutError::Failed)
             }
         }
     }
 
     fn close(&mut self, input: MemSource)
-        ensures faulty { 0 < input.faults → self.new ≡ after_faulty_close self.old }
-        ensures faultless { input.faults ≡ 0 → self.new ≡ self.old }
+        ensures faulty { 0 < input.faults → self.new ≡ after_faulty_close self.old input.given }
+        ensures whole { input.faults ≡ 0 → self.new ≡ after_close self.old input.given }
 
         // What each store promises.
         ensures only { OnlyReads (seen_store self.old) (seen_store self.new) }
+        ensures closed { self.new.closed ≡ self.old.closed ++ input.given ∷ [] }
+        ensures faultless { input.faults ≡ 0 → self.new.read_faults ≡ self.old.read_faults }
         ensures rose { 0 < input.faults → Rose self.old.read_faults self.new.read_faults }
     {
         if input.faults() > 0 {
             self.read_faults = self.read_faults.saturating_add(1);
         }
+        self.closed.push(&Some(input));
     }
 
     fn save(&mut self, name: &[u8], bytes: &[u8]) -> Result<(), OutError>
-        // A save fails exactly where its number stands among those that are to fail; no file
-        // changes then.
+        // A save fails exactly if its number is among those that are to fail; then no file changes.
         ensures fails { IsErrOf result OutError.Failed ↔
             Contains self.old.failing_saves (counted self.old.saves) }
         ensures puts { OnOk result (PutsFile self.old.files self.new.files

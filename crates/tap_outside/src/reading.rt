@@ -1,5 +1,5 @@
 //! What is read.
-ghost use Rattle.std.specs.Prelude.{◌≡◌, ◌<◌, ◌≤◌, length, drop, IfOk, OnErr, OnOk};
+ghost use Rattle.std.specs.Prelude.{◌≡◌, ◌<◌, ◌≤◌, length, drop, take, ◌++◌, IfOk, OnErr, OnOk};
 ghost use Rattle.std.specs.Io.{ReadsAtMost};
 ghost use Rattle.std.specs.Io.KnownBytes.{ReadConsumes};
 ghost use Rattle.tap_outside.specs.Counts.{Rose};
@@ -7,19 +7,22 @@ ghost use Rattle.tap_outside.specs.Seen.{SourceSeen};
 
 use crate::Failed;
 
-/// A stream of bytes that is read from its start. Contracts see the bytes that it has left, where
-/// it reports them, and the number of its faults, which never falls and stands still at the
-/// greatest u64.
+/// A stream of bytes that is read from its start. Contracts see the bytes that it has left, if it
+/// reports them, the bytes that it gave so far, and the number of its faults, which never falls and
+/// stays at the greatest u64 once there.
 pub trait Source: Drop {
     ghost seen: { Self → SourceSeen };
 
     /// Reads the next bytes into the start of a buffer that isn't empty, and returns their number.
-    /// 0 is the end, and comes only where nothing is left. `Failed` comes only where the source
-    /// counts a fault, and nothing was read then; a read that succeeds counts none.
+    /// 0 is the end, and is returned only if nothing is left. `Failed` is returned only if the
+    /// source counts a fault, and then nothing was read; a read that succeeds counts none.
     fn read(&mut self, into: &mut [u8]) -> Result<usize, Failed>
         requires { 0 < length into.old }
         ensures bound { ReadsAtMost result into.new }
         ensures bytes { ReadConsumes (seen self.old).left (seen self.new).left result into.new }
+        ensures grows { IfOk result
+            (λ n. (seen self.new).given ≡ (seen self.old).given ++ take n into.new) }
+        ensures kept { OnErr result ((seen self.new).given ≡ (seen self.old).given) }
         ensures rest { IfOk result (λ n. drop n into.new ≡ drop n into.old) }
         ensures unchanged { OnErr result (into.new ≡ into.old) }
 

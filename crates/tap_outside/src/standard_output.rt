@@ -1,4 +1,4 @@
-//! Standard output. What it takes is the system's word, so nothing here reports any content.
+//! Standard output. Only the system knows what it has taken, so contracts say nothing about that.
 ghost use Rattle.std.specs.Prelude.{◌≡◌, ◌<◌, ◌≤◌, None, length, IfOk};
 
 use crate::disk_files::TRIES;
@@ -11,7 +11,7 @@ use std::io::ErrorKind;
 pub struct StdSink<'a, R> {
     /// What prints.
     rt: &'a R,
-    /// How many writes failed; it stands still at the greatest u64.
+    /// How many writes failed; it stays at the greatest u64.
     faults: u64,
 }
 
@@ -23,7 +23,7 @@ impl<'a, R: Print> StdSink<'a, R> {
         StdSink { rt, faults: 0 }
     }
 
-    /// The number of faults so far; it stands still at the greatest u64.
+    /// The number of faults so far; it stays at the greatest u64.
     pub fn faults(&self) -> u64
         ensures { result ≡ (⟦<StdSink<'a, R> as Sink>⟧.seen self.now).faults }
     {
@@ -34,8 +34,8 @@ impl<'a, R: Print> StdSink<'a, R> {
 impl<'a, R: Print> Sink for StdSink<'a, R> {
     ghost seen = { λ sink. record { written = None; faults = sink.faults } };
 
-    /// A write that a signal interrupts is tried again, 16 times at most. Each error that is left
-    /// is a fault, memory that ran out aside, and so is a write that takes nothing.
+    /// A write that a signal interrupts is tried again, 16 times at most. Every other error is a
+    /// fault, except that memory ran out; so is a write that takes nothing.
     fn write(&mut self, from: &[u8]) -> Result<usize, OutError> {
         let written = write_some(self.rt, from);
         if let Err(OutError::Failed) = written {
@@ -45,7 +45,7 @@ impl<'a, R: Print> Sink for StdSink<'a, R> {
     }
 }
 
-/// One write of at least a byte, tried again where a signal interrupts it.
+/// One write of at least a byte, tried again if a signal interrupts it.
 fn write_some<R: Print>(rt: &R, from: &[u8]) -> Result<usize, OutError>
     ensures { IfOk result (λ n. (0 < n) × (n ≤ length from.now)) }
 {

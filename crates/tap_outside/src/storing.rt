@@ -1,5 +1,5 @@
 //! What holds named files.
-ghost use Rattle.std.specs.Prelude.{◌≡◌, ◌<◌, ℕ, List, None, IsTrue, IfOk, OnOk};
+ghost use Rattle.std.specs.Prelude.{◌≡◌, ◌<◌, ◌++◌, ◌∷◌, [], ℕ, List, None, IsTrue, IfOk, OnOk};
 ghost use Rattle.tap_outside.specs.Counts.{Rose};
 ghost use Rattle.tap_outside.specs.Outcomes.{OnFailed, OnMemory};
 ghost use Rattle.tap_outside.specs.Contents.{GivesFile, HoldsFile};
@@ -7,40 +7,50 @@ ghost use Rattle.tap_outside.specs.Seen.{OnlyReads, OnlySaves, StoreSeen};
 
 use crate::{OutError, Source};
 
-/// Files by their names. Contracts see what each name holds, where the store reports it, which
-/// names are meant for reading and which for saving, and the numbers of faults of reading and of
-/// saving, which never fall and stand still at the greatest u64. No call changes what a name is
-/// meant for. Code that is generic over the store learns of a name that it is meant from its own
-/// caller, or from a store that doesn't report what it holds.
+/// Files by their names. Contracts see what each name holds, if the store reports it, which names
+/// are meant for reading and which for saving, the bytes that each source gave which was closed,
+/// and the numbers of faults of reading and of saving, which never fall and stay at the greatest
+/// u64 once there. No call changes what a name is meant for. Code that is generic over the store
+/// learns that a name is meant from its own caller, or from a store that doesn't report what it
+/// holds.
 ///
 /// A call that fails has raised its count. An exact store counts nothing else; another one may
-/// count a fault and still answer.
+/// count a fault and still succeed.
 pub trait Store {
-    /// What a fetched file is read by.
+    /// The source by which a fetched file is read.
     type Input: Source + Send;
 
     ghost seen: { Self → StoreSeen };
 
-    /// A source of what a name holds, or of nothing where the name isn't held; a store may count
-    /// such a name as a fault of reading. It changes nothing but the count, and that of an exact
-    /// store only where it fails.
+    /// A source of what a name holds, or of nothing if the name isn't held; a store may count such
+    /// a name as a fault of reading. It changes nothing except the count, and that of an exact
+    /// store only if it fails. Where it fails the record of what was closed has one entry more,
+    /// without a byte.
     fn fetch(&mut self, name: &[u8]) -> Result<Self::Input, OutError>
         requires { IsTrue ((seen self.old).to_read name.now) }
         ensures left { IfOk result (λ input.
             GivesFile (seen self.old).held name.now (Self.Input.seen input).left) }
         ensures fresh { IfOk result (λ input. (Self.Input.seen input).faults ≡ 0) }
+        ensures unread { IfOk result (λ input. (Self.Input.seen input).given ≡ []) }
 
         ensures only { OnlyReads (seen self.old) (seen self.new) }
-        ensures faultless { OnOk result
-            (IsTrue (seen self.old).exact → seen self.new ≡ seen self.old) }
+        ensures unclosed { OnOk result ((seen self.new).closed ≡ (seen self.old).closed) }
+        ensures missed { OnFailed result
+            ((seen self.new).closed ≡ (seen self.old).closed ++ [] ∷ []) }
+        ensures faultless { OnOk result (IsTrue (seen self.old).exact →
+            (seen self.new).read_faults ≡ (seen self.old).read_faults) }
         ensures cause { OnFailed result
             (Rose (seen self.old).read_faults (seen self.new).read_faults) }
         ensures memory { OnMemory result (seen self.new ≡ seen self.old) };
 
-    /// Takes a source back. The faults of reading rise exactly where the source had one.
+    /// Takes a source back, and records what it gave. The faults of reading rise exactly if the
+    /// source had one.
     fn close(&mut self, input: Self::Input)
         ensures only { OnlyReads (seen self.old) (seen self.new) }
-        ensures faultless { (Self.Input.seen input).faults ≡ 0 → seen self.new ≡ seen self.old }
+        ensures closed { (seen self.new).closed ≡
+            (seen self.old).closed ++ (Self.Input.seen input).given ∷ [] }
+        ensures faultless { (Self.Input.seen input).faults ≡ 0 →
+            (seen self.new).read_faults ≡ (seen self.old).read_faults }
         ensures faulty { 0 < (Self.Input.seen input).faults →
             Rose (seen self.old).read_faults (seen self.new).read_faults };
 
@@ -57,7 +67,7 @@ pub trait Store {
             (Rose (seen self.old).save_faults (seen self.new).save_faults) }
         ensures memory { OnMemory result (seen self.new ≡ seen self.old) };
 
-    // Where the store doesn't report what it holds, every name is meant for both.
+    // If the store doesn't report what it holds, every name is meant for both.
     ghost untold_reads: { (store : Self) (name : List ℕ) →
         (seen store).held ≡ None → IsTrue ((seen store).to_read name) };
 

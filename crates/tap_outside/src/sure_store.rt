@@ -1,32 +1,40 @@
 //! A store in memory that has no fault.
-ghost use Rattle.std.specs.Prelude.{◌≡◌, ◌<◌, ◌≤◌, refl, None, Some, length, drop, IfOk, OnOk, OnErr, IsOk};
+ghost use Rattle.std.specs.Prelude.{◌≡◌, ◌<◌, ◌≤◌, ◌++◌, [], refl, map, None, Some, length, drop};
+ghost use Rattle.std.specs.Prelude.{take, IfOk, OnOk, OnErr, IsOk};
 ghost use Rattle.std.specs.Io.{ReadsAtMost};
 ghost use Rattle.std.specs.Io.KnownBytes.{ReadConsumes};
 ghost use Rattle.tap_outside.specs.Contents.{HoldsFile};
 ghost use Rattle.tap_outside.specs.Seen.{OnlySaves, meant_store, unread_source};
-ghost use Rattle.tap_outside.specs.Stores.{contents_of};
+ghost use Rattle.tap_outside.specs.Sources.{seen_sure_source, unread_sure_source};
+ghost use Rattle.tap_outside.specs.Stores.{seen_sure_store};
 
+use crate::history::History;
 use crate::memory_store::SAVED_PIECE;
 use crate::{Failed, MemStore, OutError, Source, Store};
 use frame_view::{ByteList, Memory, MomentList};
 use std::alloc::Global;
 use std::marker::Model;
 
-/// A source over bytes in memory that never fails. Contracts see the bytes that are left.
+/// A source over bytes in memory that never fails. Contracts see the bytes that are left, and those
+/// that its reads gave.
 #[derive(Debug, Drop)]
 pub struct SureSource {
-    /// All bytes of the source, those read among them.
+    /// All bytes of the source, those already read included.
     bytes: ByteList,
     /// How many of them were read, at most all.
     at: usize,
 }
 
 impl Model for SureSource {
-    ghost use Rattle.std.specs.Prelude.{◌≤◌, ℕ, List, length, drop};
+    ghost use Rattle.std.specs.Prelude.{◌≤◌, length, drop, take};
+    ghost use Rattle.tap_outside.specs.Sources.{SureSourceState};
 
-    ghost Value = { List ℕ };
+    ghost Value = { SureSourceState };
 
-    ghost view = { λ source. drop source.at source.bytes };
+    ghost view = { λ source. record {
+      left = drop source.at source.bytes;
+      given = take source.at source.bytes;
+    } };
 
     ghost invariant = { λ source. source.at ≤ length source.bytes };
 }
@@ -34,7 +42,7 @@ impl Model for SureSource {
 impl SureSource {
     /// A source of these bytes. It takes no memory.
     pub fn new(bytes: ByteList) -> SureSource
-        ensures value { result ≡ bytes }
+        ensures value { result ≡ unread_sure_source bytes }
         ensures seen { ⟦<SureSource as Source>⟧.seen result ≡ unread_source bytes }
     {
         SureSource { bytes, at: 0 }
@@ -42,13 +50,14 @@ impl SureSource {
 }
 
 impl Source for SureSource {
-    ghost seen = { λ source. record { left = Some source; faults = 0 } };
+    ghost seen = { seen_sure_source };
 
     fn read(&mut self, into: &mut [u8]) -> Result<usize, Failed>
         requires { 0 < length into.old }
         ensures sure { IsOk result }
         ensures bound { ReadsAtMost result into.new }
-        ensures bytes { ReadConsumes (Some self.old) (Some self.new) result into.new }
+        ensures bytes { ReadConsumes (Some self.old.left) (Some self.new.left) result into.new }
+        ensures grows { IfOk result (λ n. self.new.given ≡ self.old.given ++ take n into.new) }
         ensures rest { IfOk result (λ n. drop n into.new ≡ drop n into.old) }
     {
         let (_, left) = self.bytes.as_slice().split_at(self.at);
@@ -61,31 +70,40 @@ impl Source for SureSource {
 }
 
 /// A store in memory that has no fault: a name that was never set up or saved gives an empty
-/// source. Contracts see its files.
+/// source. Contracts see its files and its record.
 #[derive(Debug, Drop)]
 pub struct SureStore {
-    /// What gives memory for the files and for the sources.
+    /// Allocates the files and the sources.
     alloc: Global,
     /// What keeps the files. No list makes it fail, and its counts are not looked at.
     files: MemStore,
+    /// The sources that were closed.
+    closed: History<SureSource>,
 }
 
 impl Model for SureStore {
-    ghost use Rattle.std.specs.Prelude.{List};
-    ghost use Rattle.tap_outside.specs.Stores.{HeldFile};
+    ghost use Rattle.std.specs.Prelude.{map};
+    ghost use Rattle.tap_outside.specs.Stores.{SureStoreState};
 
-    ghost Value = { List HeldFile };
+    ghost Value = { SureStoreState };
 
-    ghost view = { λ store. store.files.files };
+    ghost view = { λ store. record {
+      files = store.files.files;
+      closed = map (λ source. source.given) store.closed.items;
+    } };
 }
 
 impl SureStore {
-    /// A store without a file. It takes no memory.
+    /// An empty store. It takes no memory.
     pub fn new(alloc: Global) -> SureStore
-        ensures { ⟦<SureStore as Store>⟧.seen result ≡ meant_store (Some (λ name. None)) 0 0 }
+        ensures { ⟦<SureStore as Store>⟧.seen result ≡ meant_store (Some (λ name. None)) [] 0 0 }
     {
         let files = MemStore::new(alloc, MomentList::new(alloc), MomentList::new(alloc));
-        SureStore { alloc, files }
+        SureStore {
+            alloc,
+            files,
+            closed: History::new(),
+        }
     }
 
     /// Makes a name hold these bytes. After `Memory` the store is as before.
@@ -104,7 +122,7 @@ impl SureStore {
 impl Store for SureStore {
     type Input = SureSource;
 
-    ghost seen = { λ store. meant_store (Some (contents_of store)) 0 0 };
+    ghost seen = { seen_sure_store };
 
     fn fetch(&mut self, name: &[u8]) -> Result<SureSource, OutError> {
         let bytes = match self.files.file(name) {
@@ -114,7 +132,9 @@ impl Store for SureStore {
         Ok(SureSource::new(ByteList::from_vec(bytes)))
     }
 
-    fn close(&mut self, _input: SureSource) {}
+    fn close(&mut self, input: SureSource) {
+        self.closed.push(&input);
+    }
 
     fn save(&mut self, name: &[u8], bytes: &[u8]) -> Result<(), OutError> {
         self.put(name, bytes)?;

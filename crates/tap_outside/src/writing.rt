@@ -8,9 +8,8 @@ ghost use Rattle.tap_outside.specs.Sinks.{AppendsFront};
 
 use crate::OutError;
 
-/// A stream that takes bytes at its end. Contracts see the bytes that were written, where it
-/// reports them, and the number of its faults, which never falls and stands still at the greatest
-/// u64.
+/// A stream that takes bytes at its end. Contracts see the bytes that were written, if it reports
+/// them, and the number of its faults, which never falls and stays at the greatest u64 once there.
 pub trait Sink {
     ghost seen: { Self → SinkSeen };
 
@@ -28,7 +27,7 @@ pub trait Sink {
         ensures memory { OnMemory result (seen self.new ≡ seen self.old) };
 }
 
-/// Writes all bytes, by as many writes as that takes. After an error a prefix of them was written.
+/// Writes all bytes, with as many writes as needed. After an error a prefix of them was written.
 pub fn write_whole<S: Sink>(sink: &mut S, bytes: &[u8]) -> Result<(), OutError>
     ensures ok { OnOk result
         (Appends (S.seen sink.old).written (S.seen sink.new).written bytes.now) }

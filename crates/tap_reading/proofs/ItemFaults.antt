@@ -14,7 +14,7 @@ use Rattle.setup_text.specs.declared.text_error.Which.{Which}
 use Rattle.setup_text.proofs.Stops.{first_fault, stops}
 
 module _ {A : Type 0} (which : Which) where
-  -- what a text answers that is too large, or was read so
+  -- the answer for a text that is too large, or was read with this result
   abbrev answered : Bool → Result (List A) (ℕ × TextKind) → Result (List A) TextError
   answered large read =
       if large then Err (record { which = which; line = 0; kind = TooLarge }) else placed which read
@@ -40,7 +40,7 @@ module _ {A : Type 0} (which : Which) where
       ap (λ n. Err (n, fault.1)) (ap (λ (e : TextError). e.line) is ∙ at)
       ∙ ap (λ (e : TextError). Err (count + 1, e.kind)) is
 
-  -- no line is at fault only where the text is too large
+  -- no single line is at fault only if the text is too large
   large_is : (large : Bool) (read : Result (List A) (ℕ × TextKind)) (error : TextError)
       → ((fault : ℕ × TextKind) → read ≡ Err fault → 0 < fault.0)
       → answered large read ≡ Err error → error.line ≡ 0

@@ -1,33 +1,56 @@
 -- What was read of a file: a prefix of its bytes.
-use Rattle.std.specs.Prelude.{◌≡◌, ℕ, ◌≤◌, List, [], ◌++◌, length, ⊤, Option, None, Some, unwrap_or}
+use Rattle.std.specs.Prelude.{◌≡◌, ℕ, ◌≤◌, List, [], ◌∷◌, ◌++◌, length, ⊤, Option, None, Some}
+use Rattle.std.specs.Prelude.{unwrap_or}
 use Rattle.std.specs.Io.KnownBytes.{Consumes}
 use Rattle.tap_outside.specs.Contents.{Contents}
+use Rattle.tap_outside.specs.Counts.{Rose}
+use Rattle.tap_outside.specs.Seen.{SourceSeen, StoreSeen}
 
 -- bytes from the start of a whole
 pub record IsFront (whole bytes : List ℕ) : Type 0 where
   pub rest : List ℕ
   pub parts : whole ≡ bytes ++ rest
 
--- the bytes are a prefix of what the name holds, where the store reports it; a name that isn't held
+-- the bytes are a prefix of what the name holds, if the store reports it; a name that isn't held
 -- holds nothing
 abbrev pub IsFrontOf : Option Contents → List ℕ → List ℕ → Type 0
 IsFrontOf None name bytes = ⊤
 IsFrontOf (Some files) name bytes = IsFront (unwrap_or (files name) []) bytes
 
--- the bytes are all that the name holds, where the store reports it
+-- the bytes are all that the name holds, if the store reports it
 abbrev pub IsAllOf : Option Contents → List ℕ → List ℕ → Type 0
 IsAllOf None name bytes = ⊤
 IsAllOf (Some files) name bytes = bytes ≡ unwrap_or (files name) []
 
 -- a text that was read: a prefix of what the name holds, all of it unless it is too large, and
--- never more than one byte above the largest size
+-- never more than one byte above the greatest size
 pub record IsTextOf (held : Option Contents) (name text : List ℕ) : Type 0 where
   pub front : IsFrontOf held name text
   pub whole : length text ≤ 1048576 → IsAllOf held name text
   pub few : length text ≤ 1048577
 
+-- a source gave this text: all that its reads gave, whether or not it reports what is left
+pub record GaveText (old new : SourceSeen) (text : List ℕ) : Type 0 where
+  pub taken : Consumes old.left new.left text
+  pub given_is : new.given ≡ text
+
 -- a source gave no more bytes than a text may have: its text doesn't count as read yet
-pub record GaveFew (old new : Option (List ℕ)) : Type 0 where
-  pub bytes : List ℕ
-  pub taken : Consumes old new bytes
-  pub few : length bytes ≤ 1048576
+pub record GaveFew (old new : SourceSeen) : Type 0 where
+  pub taken : Consumes old.left new.left new.given
+  pub few : length new.given ≤ 1048576
+
+-- the store recorded the text that its source gave
+pub record TookText (old new : StoreSeen) : Type 0 where
+  pub text : List ℕ
+  pub closed_is : new.closed ≡ old.closed ++ text ∷ []
+
+-- a text can't be read: the name can't be fetched, or a read of it failed, and the count of faults
+-- rose
+pub record CantRead (old new : StoreSeen) (name : List ℕ) : Type 0 where
+  -- what its source gave before that; no byte where there was none
+  pub given : List ℕ
+  pub closed_is : new.closed ≡ old.closed ++ given ∷ []
+  pub front : IsFrontOf old.held name given
+  -- it isn't the whole of a text that is too large
+  pub few : length given ≤ 1048576
+  pub rose : Rose old.read_faults new.read_faults

@@ -1,4 +1,4 @@
--- What the reading of a text comes to.
+-- The outcome of reading a text.
 use Rattle.std.specs.Prelude.{◌≡◌, ℕ, List, Bool, false, if◌then◌else◌, Option, Result, Err}
 use Rattle.schedule_lines.specs.declared.lines.Line.{Line}
 use Rattle.setup_text.specs.Answers.{is_setup_want, is_text_want}
@@ -9,15 +9,14 @@ use Rattle.setup_text.specs.declared.setup_error.SetupError.{SetupError}
 use Rattle.setup_text.specs.declared.setups.Setup.{Setup}
 use Rattle.setup_text.specs.declared.text_error.TextError.{TextError}
 use Rattle.tap_outside.specs.Contents.{Contents}
-use Rattle.tap_outside.specs.Counts.{Rose}
 use Rattle.tap_outside.specs.Seen.{NoReadFailed, StoreSeen}
-use Rattle.tap_reading.specs.Fronts.{IsTextOf}
+use Rattle.tap_reading.specs.Fronts.{CantRead, IsTextOf}
 use Rattle.tap_reading.specs.declared.stops.Stop.{Stop}
 use Rattle.tap_reading.specs.declared.stops.Stop.TheVariants as stops
 use Rattle.tap_reading.specs.declared.texts.Unread.{Unread}
 use Rattle.tap_reading.specs.declared.texts.Unread.TheVariants as unread
 
--- the text under a name was read, and a reader of texts says this of it
+-- the text under a name was read, and this is what a reader of texts says about it
 pub record Says {A : Type 0} (reader : List ℕ → A) (held : Option Contents) (name : List ℕ)
     (answer : A) : Type 0 where
   pub text : List ℕ
@@ -40,19 +39,18 @@ pub record Refuses {A E : Type 0} (reader : List ℕ → Result A E) (wanted : E
   pub says : Says reader old.held name (Err error)
   pub not_memory : wanted error ≡ false
 
--- why a setup isn't there, and what the store came to: where it can't be read the count rose, and
--- else no read failed
+-- why a setup isn't there, and what the store came to: it can't be read, or no read failed
 abbrev pub StopsAtSetup : Command → StoreSeen → StoreSeen → List ℕ → Stop → Type 0
-StopsAtSetup command old new name stops.Unread = Rose old.read_faults new.read_faults
+StopsAtSetup command old new name stops.Unread = CantRead old new name
 StopsAtSetup command old new name (stops.Setup error) =
     Refuses (setup_for command) is_setup_want old new name error
 StopsAtSetup command old new name (stops.Text error) = ⊥
 StopsAtSetup command old new name stops.Memory = NoReadFailed old new
 
--- the same of a further text
+-- the same for another text
 abbrev pub StopsAtText : {A : Type 0} → (List ℕ → Result A TextError)
     → StoreSeen → StoreSeen → List ℕ → Stop → Type 0
-StopsAtText reader old new name stops.Unread = Rose old.read_faults new.read_faults
+StopsAtText reader old new name stops.Unread = CantRead old new name
 StopsAtText reader old new name (stops.Setup error) = ⊥
 StopsAtText reader old new name (stops.Text error) = Refuses reader is_text_want old new name error
 StopsAtText reader old new name stops.Memory = NoReadFailed old new

@@ -5,7 +5,7 @@ use Rattle.setup_text.specs.Moments.{added, latest, moment_in}
 use Rattle.setup_text.specs.Schedules.{clock_of, line_in}
 use Rattle.setup_text.specs.declared.text_error.TextKind.{TextKind}
 
--- the moments with that of a line, which is no less than the last of them
+-- the moments with that of a line, which isn't less than the last of them
 abbrev pub ticks_after : List ℕ → List ℕ → Result (List ℕ) TextKind
 ticks_after = added (λ moments line. moment_in (latest moments) line)
 

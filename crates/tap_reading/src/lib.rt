@@ -1,4 +1,4 @@
-//! The texts of a command, read out of a store piece by piece and understood.
+//! The texts of a command, read from a store piece by piece and parsed.
 #![tactic(auto)]
 
 mod laws;

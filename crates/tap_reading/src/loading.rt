@@ -1,11 +1,13 @@
-//! Texts of a store, read and understood.
+//! Texts of a store, read and parsed.
 ghost use Rattle.std.specs.Prelude.{◌≡◌, None, Ok, IfErr, IfOk, IsTrue, OnOk};
 ghost use Rattle.setup_text.specs.Filters.{filter_of};
 ghost use Rattle.setup_text.specs.Moments.{moments_of};
 ghost use Rattle.setup_text.specs.Setups.{request_fault};
 ghost use Rattle.setup_text.specs.Sound.{AreMoments, IsScheduleFor, IsSetup};
 ghost use Rattle.tap_outside.specs.Seen.{NoReadFailed, OnlyReads};
-ghost use Rattle.tap_reading.specs.Readers.{Says, StopsAtSetup, StopsAtText, schedule_for, setup_for};
+ghost use Rattle.tap_reading.specs.Fronts.{TookText};
+ghost use Rattle.tap_reading.specs.Readers.{Says, StopsAtSetup, StopsAtText, schedule_for};
+ghost use Rattle.tap_reading.specs.Readers.{setup_for};
 
 use crate::stops::Stop;
 use crate::texts::read_text;
@@ -31,6 +33,7 @@ pub fn load_setup<S: Store>(
     ensures stop { IfErr result
         (StopsAtSetup command (S.seen store.old) (S.seen store.new) name.now) }
     ensures store { OnlyReads (S.seen store.old) (S.seen store.new) }
+    ensures took { OnOk result (TookText (S.seen store.old) (S.seen store.new)) }
     ensures faultless { OnOk result (NoReadFailed (S.seen store.old) (S.seen store.new)) }
 {
     let text = read_text(alloc, store, name)?;
@@ -45,6 +48,7 @@ pub fn load_filter<S: Store>(alloc: Global, store: &mut S, name: &[u8]) -> Resul
     ensures stop { IfErr result
         (StopsAtText filter_of (S.seen store.old) (S.seen store.new) name.now) }
     ensures store { OnlyReads (S.seen store.old) (S.seen store.new) }
+    ensures took { OnOk result (TookText (S.seen store.old) (S.seen store.new)) }
     ensures faultless { OnOk result (NoReadFailed (S.seen store.old) (S.seen store.new)) }
 {
     let text = read_text(alloc, store, name)?;
@@ -60,6 +64,7 @@ pub fn load_ticks<S: Store>(alloc: Global, store: &mut S, name: &[u8]) -> Result
     ensures stop { IfErr result
         (StopsAtText moments_of (S.seen store.old) (S.seen store.new) name.now) }
     ensures store { OnlyReads (S.seen store.old) (S.seen store.new) }
+    ensures took { OnOk result (TookText (S.seen store.old) (S.seen store.new)) }
     ensures faultless { OnOk result (NoReadFailed (S.seen store.old) (S.seen store.new)) }
 {
     let text = read_text(alloc, store, name)?;
@@ -81,6 +86,7 @@ pub fn load_schedule<S: Store>(
     ensures stop { IfErr result
         (StopsAtText (schedule_for cpus members) (S.seen store.old) (S.seen store.new) name.now) }
     ensures store { OnlyReads (S.seen store.old) (S.seen store.new) }
+    ensures took { OnOk result (TookText (S.seen store.old) (S.seen store.new)) }
     ensures faultless { OnOk result (NoReadFailed (S.seen store.old) (S.seen store.new)) }
 {
     let text = read_text(alloc, store, name)?;

@@ -15,9 +15,9 @@ pub enum Stop {
     Unread,
     /// The setup was read and is refused.
     Setup(SetupError),
-    /// A further text was read and is refused.
+    /// Another text was read and is refused.
     Text(TextError),
-    /// A request for memory was refused.
+    /// An allocation failed.
     Memory,
 }
 
@@ -66,14 +66,14 @@ impl From<TextError> for Stop {
     }
 }
 
-/// Whether a setup wasn't read for lack of memory.
+/// Whether a setup wasn't read because memory ran out.
 fn is_setup_want(error: &SetupError) -> bool
     ensures { result ≡ is_setup_want error.now }
 {
     matches!(error.kind, SetupKind::Memory)
 }
 
-/// Whether a text wasn't read for lack of memory.
+/// Whether a text wasn't read because memory ran out.
 fn is_text_want(error: &TextError) -> bool
     ensures { result ≡ is_text_want error.now }
 {

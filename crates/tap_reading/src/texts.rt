@@ -1,9 +1,9 @@
-//! Texts, read to their end or past their largest size.
-ghost use Rattle.std.specs.Prelude.{◌≡◌, ◌<◌, ◌≤◌, length, IfOk, IsErrOf, IsTrue, OnOk, vec_len};
-ghost use Rattle.std.specs.Io.KnownBytes.{Consumes, IsAtEnd};
-ghost use Rattle.tap_outside.specs.Counts.{Rose};
+//! Texts, read to their end or past their greatest size.
+ghost use Rattle.std.specs.Prelude.{◌≡◌, ◌<◌, ◌≤◌, ◌++◌, ◌∷◌, [], length, IfOk, IsErrOf, IsTrue};
+ghost use Rattle.std.specs.Prelude.{OnOk, vec_len};
+ghost use Rattle.std.specs.Io.KnownBytes.{IsAtEnd};
 ghost use Rattle.tap_outside.specs.Seen.{NoReadFailed, OnlyReads};
-ghost use Rattle.tap_reading.specs.Fronts.{GaveFew, IsTextOf};
+ghost use Rattle.tap_reading.specs.Fronts.{CantRead, GaveFew, GaveText, IsTextOf};
 
 use frame_view::ByteList;
 use std::alloc::{AllocError, Global};
@@ -18,7 +18,7 @@ pub(crate) const PIECE: usize = 65_536;
 pub enum Unread {
     /// Reading failed.
     Failed,
-    /// A request for memory was refused.
+    /// An allocation failed.
     Memory,
 }
 
@@ -33,16 +33,18 @@ impl From<AllocError> for Unread {
 }
 
 /// Reads the text of a name to its end, or until it has more than 1,048,576 bytes; then it has
-/// 1,048,577, and no more is read. Where a read fails the answer is `Failed`; else an exact store
-/// is as before.
+/// 1,048,577, and no more is read. The store records the text, as what its source gave. Where a
+/// read fails the answer is `Failed`; else an exact store counts no fault.
 pub fn read_text<S: Store>(alloc: Global, store: &mut S, name: &[u8]) -> Result<ByteList, Unread>
     requires { IsTrue ((S.seen store.old).to_read name.now) }
     ensures text { IfOk result (λ text. IsTextOf (S.seen store.old).held name.now text) }
 
     ensures store { OnlyReads (S.seen store.old) (S.seen store.new) }
+    ensures closed { IfOk result
+        (λ text. (S.seen store.new).closed ≡ (S.seen store.old).closed ++ text ∷ []) }
     ensures faultless { OnOk result (NoReadFailed (S.seen store.old) (S.seen store.new)) }
     ensures failed { IsErrOf result Unread.Failed
-        → Rose (S.seen store.old).read_faults (S.seen store.new).read_faults }
+        → CantRead (S.seen store.old) (S.seen store.new) name.now }
     ensures memory { IsErrOf result Unread.Memory
         → NoReadFailed (S.seen store.old) (S.seen store.new) }
 {
@@ -59,16 +61,16 @@ pub fn read_text<S: Store>(alloc: Global, store: &mut S, name: &[u8]) -> Result<
 /// Reads a source to its end, or until it gave more bytes than a text may have. A read that fails
 /// is `Failed` only before that; later none is made.
 fn read_source<I: Source>(alloc: Global, input: &mut I) -> Result<ByteList, Unread>
-    requires { (I.seen input.old).faults ≡ 0 }
-    ensures bytes { IfOk result
-        (λ text. Consumes (I.seen input.old).left (I.seen input.new).left text) }
+    requires fresh { (I.seen input.old).faults ≡ 0 }
+    requires unread { (I.seen input.old).given ≡ [] }
+    ensures gave { IfOk result (GaveText (I.seen input.old) (I.seen input.new)) }
     ensures end { IfOk result (λ text. length text ≤ 1048576 → IsAtEnd (I.seen input.new).left) }
     ensures few { IfOk result (λ text. length text ≤ 1048577) }
 
     ensures faultless { OnOk result ((I.seen input.new).faults ≡ 0) }
     ensures failed { IsErrOf result Unread.Failed → 0 < (I.seen input.new).faults }
     ensures early { IsErrOf result Unread.Failed
-        → GaveFew (I.seen input.old).left (I.seen input.new).left }
+        → GaveFew (I.seen input.old) (I.seen input.new) }
     ensures memory { IsErrOf result Unread.Memory → (I.seen input.new).faults ≡ 0 }
 {
     let mut text = Vec::new(alloc);

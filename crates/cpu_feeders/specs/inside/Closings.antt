@@ -24,8 +24,8 @@ module _ {T : Type 0} (base_of : T → Base) (taken_by : T → List Taken) where
 
   -- what is left of them: the member was closed, and the taker has read all blocks that its ring
   -- retired
-  pub record IsClosedWith (lock : Lock) (member_seats : List Seat) (walker : Walker T) (closed : Closed T)
-      : Type 0 where
+  pub record IsClosedWith (lock : Lock) (member_seats : List Seat) (walker : Walker T)
+      (closed : Closed T) : Type 0 where
     pub over : IsClosedOver lock.base.shape member_seats
         (record { lock = lock; notes = closed.notes; ring = closed.ring })
     pub base : base_of closed.taker ≡ base_of walker.taker
@@ -39,7 +39,8 @@ module _ {T : Type 0} (base_of : T → Base) (taken_by : T → List Taken) where
       AreAtEnd lock member_seats walker × AllAtEnd locks rows walkers
   AllAtEnd locks rows walkers = ⊥
 
-  abbrev pub AllClosedWith : List Lock → List (List Seat) → List (Walker T) → List (Closed T) → Type 0
+  abbrev pub AllClosedWith :
+      List Lock → List (List Seat) → List (Walker T) → List (Closed T) → Type 0
   AllClosedWith [] [] [] [] = ⊤
   AllClosedWith (lock ∷ locks) (member_seats ∷ rows) (walker ∷ walkers) (closed ∷ all) =
       IsClosedWith lock member_seats walker closed × AllClosedWith locks rows walkers all

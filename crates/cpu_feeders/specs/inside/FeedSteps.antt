@@ -1,5 +1,6 @@
 -- A feeder while it runs.
-use Rattle.std.specs.Prelude.{◌≡◌, ℕ, ◌+◌, ◌*◌, ◌<◌, ◌≤◌, ◌++◌, ◌∷◌, [], Bool, List, MatchBool, Option, None, Some, length, option_to_list, slice_index_or, take}
+use Rattle.std.specs.Prelude.{◌≡◌, ℕ, ◌+◌, ◌*◌, ◌<◌, ◌≤◌, ◌++◌, ◌∷◌, [], Bool, List, MatchBool}
+use Rattle.std.specs.Prelude.{Option, None, Some, length, option_to_list, slice_index_or, take}
 use Rattle.cpu_feed.specs.Feeding.{Feeding, IsAllOfCpu}
 use Rattle.cpu_feed.specs.Lawful.{IsLawful, LogsLawfully}
 use Rattle.capture_reports.specs.Feeders.{HasFed, IsFedAt}
@@ -33,10 +34,12 @@ has_drawn_for seat ticket = record seat { drawn = seat.drawn ++ option_to_list t
 -- ---- its seats at the members
 
 -- a ready seat at each member, none of which has entered more often than this
-pub record AreMemberSeats (cpu most : ℕ) (locks : List Lock) (member_seats : List Seat) : Type 0 where
+pub record AreMemberSeats (cpu most : ℕ) (locks : List Lock) (member_seats : List Seat)
+    : Type 0 where
   pub count : length member_seats ≡ length locks
   pub ready : (member : ℕ) (lock : Lock) (member_seat : Seat) → member < length member_seats →
-      IsReady (slice_index_or locks member lock) cpu (slice_index_or member_seats member member_seat)
+      IsReady (slice_index_or locks member lock) cpu
+      (slice_index_or member_seats member member_seat)
   pub entered : (member : ℕ) (member_seat : Seat) → member < length member_seats →
       (slice_index_or member_seats member member_seat).entered ≤ most
 

@@ -67,7 +67,8 @@ pub record IsFreshReader {T : Type 0} (base_of : T → Base) (taken_by : T → L
   pub seat : IsFreshOf dealer walker.seat
 
 -- a dealer for n feeders, with a fresh seat for each of them, and nine for others
-pub record IsDealt (feeders : ℕ) (dealer : DealerValue) (seats spare : List SeatValue) : Type 0 where
+pub record IsDealt (feeders : ℕ) (dealer : DealerValue) (seats spare : List SeatValue)
+    : Type 0 where
   pub feeders_are : dealer.feeders ≡ feeders
   pub count : length seats ≡ feeders
   pub seats_are : AllByRecursion (IsFreshSeat dealer) seats
@@ -77,9 +78,9 @@ pub record IsDealt (feeders : ℕ) (dealer : DealerValue) (seats spare : List Se
 -- The workers of a job: a reader for each member, with its taker; a timer that has reported
 -- nothing; a feeder for each CPU, with its source. The dealer's seats that none of them has are
 -- spare.
-pub record AreFreshThreads {S T : Type 0} (base_of : T → Base) (taken_by : T → List Taken) (job : Job)
-    (firsts : List (Option SourceSeen)) (takers : List T) (locks : List Lock) (dealer : DealerValue)
-    (spare : List SeatValue) (workers : List (Worker S T)) : Type 0 where
+pub record AreFreshThreads {S T : Type 0} (base_of : T → Base) (taken_by : T → List Taken)
+    (job : Job) (firsts : List (Option SourceSeen)) (takers : List T) (locks : List Lock)
+    (dealer : DealerValue) (spare : List SeatValue) (workers : List (Worker S T)) : Type 0 where
   pub walkers : List (Walker T)
   pub timer : Timer
   pub feeders : List (Feeder S)

@@ -22,4 +22,5 @@ fresh_member_seats locks number = map (λ lock. fresh_seat lock number) locks
 -- those of n users, numbered from this number
 abbrev pub fresh_users : List Lock → ℕ → ℕ → List (List Seat)
 fresh_users locks number zero = []
-fresh_users locks number (suc more) = fresh_member_seats locks number ∷ fresh_users locks (number + 1) more
+fresh_users locks number (suc more) =
+    fresh_member_seats locks number ∷ fresh_users locks (number + 1) more

@@ -19,8 +19,8 @@ pub record IsOpened (shape : RingRequest) (cpus : ℕ) (lock : Lock) (end : Walk
 
 -- the members of a job's group, each opened; the readers' ends of their rings; and the seats of
 -- each user: of each CPU from 0 up, and then of the timer
-pub record IsGroupOf (job : Job) (locks : List Lock) (ends : List Walking) (users : List (List Seat))
-    : Type 0 where
+pub record IsGroupOf (job : Job) (locks : List Lock) (ends : List Walking)
+    (users : List (List Seat)) : Type 0 where
   pub count : length locks ≡ job.setup.plan.members
   pub opened : AllZip (IsOpened job.setup.shape (length job.setup.cpus)) locks ends
   pub users_are : users ≡ fresh_users locks 0 (length job.setup.cpus + 1)

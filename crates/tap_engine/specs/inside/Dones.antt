@@ -7,7 +7,7 @@ use Rattle.tap_engine.specs.declared.findings.Finding.TheVariants as finding
 use Rattle.tap_engine.specs.declared.running.Done.{Done}
 use Rattle.tap_engine.specs.declared.running.Done.TheVariants as done
 
--- with the setup and what the rings are made of, where a run was made
+-- with the setup and what the rings are made of, if a run was made
 abbrev pub finding_by : RingKind → Setup → Done → Finding
 finding_by rings setup done.Checked = finding.Checked
 finding_by rings setup (done.Ran report) = finding.Ran rings setup report None

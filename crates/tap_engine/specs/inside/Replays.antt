@@ -9,8 +9,8 @@ use Rattle.tap_outside.specs.Seen.{SourceSeen}
 use Rattle.tap_printing.specs.declared.ring_kind.RingKind.{RingKind}
 use Rattle.tap_engine.specs.Headline.{IsReportBy, replay_by}
 
--- the job was replayed by these lines over such rings: its sources gave these bytes and ended so,
--- the report is that of a run over them, and it is the replay report
+-- the job was replayed by these lines over such rings: its sources gave these bytes and ended in
+-- this way, the report is that of a run over them, and it is the replay report
 pub record IsReplayedBy (rings : RingKind) (job : Job) (lines : List Line)
     (old new : List (Option SourceSeen)) (report : RunReport) : Type 0 where
   pub bytes : List (List ℕ)

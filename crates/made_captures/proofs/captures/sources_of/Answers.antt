@@ -3,6 +3,7 @@ use Rattle.std.proofs.Common.{List, Some, ap, subst, ◌∙◌}
 use Rattle.std.specs.Prelude.{All}
 use Rattle.std.proofs.lemmas.List.Elements.{All-tail}
 use Rattle.frame_view.specs.declared.frames.Packet.{Packet}
+use Rattle.tap_outside.specs.Sources.{unread_sure_source}
 use Rattle.made_captures.specs.Made.{AreShort}
 use Rattle.made_captures.proofs.Texts.{one_source_more}
 use Rattle.made_captures.proofs.captures.sources_of.Goals as goal
@@ -15,5 +16,5 @@ loop-packets-preserved c =
     record {
       short = All-tail AreShort c.in-Some.packets _ (subst P next before.short);
       made = one_source_more c.loop-packets.sources.items c.push.new.self.items _ c.in-Some.packets _ _ (Some c.new.result) next
-          (ap Some (c.new.ensures.value ∙ c.in_ok-pcap_text.ensures)) c.in_ok-push.ensures.items before.made;
+          (ap Some (c.new.ensures.value ∙ ap unread_sure_source c.in_ok-pcap_text.ensures)) c.in_ok-push.ensures.items before.made;
     }

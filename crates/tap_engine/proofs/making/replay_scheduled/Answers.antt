@@ -7,16 +7,16 @@ pub returns-in_err-replay_captures-clause-stop : goal.returns-in_err-replay_capt
 returns-in_err-replay_captures-clause-stop g c =
     let p = err_from_is_err_and c.from_residual-in_err-replay_captures.result
     c.from_residual-in_err-replay_captures.ensures.1 in
-    rw (p.1, p.2) (λ named is called has.
-    inr (asked_by_name (g.S.Store.seen c.args.store.now).held named c.args.job.now c.args.name.now
-    c.in_ok-schedule.schedule (named_schedule c.args.command named c.requires.scheduled is)
-    called has c.in_ok-schedule.ensures.schedule))
+    rw (p.1, p.2) (λ start named is called loaded.
+    inr (asked_by_name start (g.S.Store.seen c.args.store.now) named c.args.job.now
+    c.args.name.now c.in_ok-schedule.schedule
+    (named_schedule c.args.command named c.requires.scheduled is)
+    called loaded c.in_ok-schedule.ensures.schedule))
 
 pub returns-clause-reported : goal.returns-clause-reported
-returns-clause-reported g c = λ named is called has.
+returns-clause-reported g c = λ start named is called loaded.
     scheduled (g.S.Store.seen c.args.store.now) (g.S.Store.seen c.load_lines.new.store)
-    c.args.command c.args.job.now c.args.name.now
+    (g.S.Store.seen c.replay_captures.new.store) c.args.command c.args.job.now c.args.name.now
     c.in_ok-schedule.schedule c.in_ok-replay_captures.field-0 c.requires.scheduled
-    c.in_ok-schedule.ensures.faultless.only
-    c.in_ok-schedule.ensures.schedule
-    c.in_ok-replay_captures.ensures.reported named is called has
+    c.in_ok-schedule.ensures.texts c.in_ok-schedule.ensures.schedule
+    c.in_ok-replay_captures.ensures.reported start named is called loaded

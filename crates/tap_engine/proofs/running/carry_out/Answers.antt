@@ -5,7 +5,7 @@ use Rattle.tap_outside.specs.Contents.{Contents}
 use Rattle.tap_engine.specs.Commands.{Named, named_by}
 use Rattle.tap_engine.specs.Jobs.{HasJob}
 use Rattle.tap_engine.proofs.Fetched.{held_same}
-use Rattle.tap_engine.proofs.Found.{found_earlier, meant_later, stops_earlier}
+use Rattle.tap_engine.proofs.Found.{meant_later}
 use Rattle.tap_engine.proofs.running.carry_out.Goals as goal
 
 pub work-requires-clause-job : goal.work-requires-clause-job
@@ -13,26 +13,23 @@ work-requires-clause-job g c κs within =
     let named : Named = named_by c.args.asked.command c.args.asked.setup.now
     c.args.asked.schedule.now in
     subst (λ (held : Option Contents). HasJob held named c.in_ok-job.job)
-    (sym (held_same _ _ c.in_ok-job.ensures.faultless.only)) c.in_ok-job.ensures.job
+    (sym (held_same _ _ c.in_ok-job.ensures.texts.unfailed.only)) c.in_ok-job.ensures.job
 
 pub work-requires-clause-reads : goal.work-requires-clause-reads
 work-requires-clause-reads g c κs within =
     let named : Named = named_by c.args.asked.command c.args.asked.setup.now
     c.args.asked.schedule.now in
-    meant_later _ _ (Some named) c.in_ok-job.ensures.faultless.only c.requires.reads
+    meant_later _ _ (Some named) c.in_ok-job.ensures.texts.unfailed.only c.requires.reads
 
 pub returns-clause-found : goal.returns-clause-found
 returns-clause-found g c =
-    let named : Named = named_by c.args.asked.command c.args.asked.setup.now
-    c.args.asked.schedule.now in
-    rw (c.into_finding.ensures, c.rings_of.ensures) (found_earlier _ _ _ named _ c.in_ok-job.ensures.faultless
-    c.in_ok-done.ensures.found)
+    rw (c.into_finding.ensures, c.rings_of.ensures)
+    (c.in_ok-done.ensures.found (g.S.Store.seen c.args.store.now)
+    (record { job_is = c.in_ok-job.ensures.job; texts = c.in_ok-job.ensures.texts }))
 
 pub returns-in_err-done-clause-stop : goal.returns-in_err-done-clause-stop
 returns-in_err-done-clause-stop g c =
-    let named : Named = named_by c.args.asked.command c.args.asked.setup.now
-    c.args.asked.schedule.now in
     let p = err_from_is_err_and c.from_residual-in_err-done.result
     c.from_residual-in_err-done.ensures.1 in
-    rw (p.1, p.2) (stops_earlier _ _ _ named _ c.in_ok-job.ensures.faultless
-    c.in_err-done.ensures.stop)
+    rw (p.1, p.2) (c.in_err-done.ensures.stop (g.S.Store.seen c.args.store.now)
+    (record { job_is = c.in_ok-job.ensures.job; texts = c.in_ok-job.ensures.texts }))

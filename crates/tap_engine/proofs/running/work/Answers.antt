@@ -1,7 +1,8 @@
 use Rattle.std.proofs.Common.{Bool, refl, sym, subst, None}
 use Rattle.std.proofs.lemmas.Result.{err_from_is_err_and}
 use Rattle.tap_engine.specs.Commands.{Named, named_by}
-use Rattle.tap_engine.specs.Findings.{IsSentBy}
+use Rattle.tap_engine.specs.Findings.{IsSentBy, faults_in}
+use Rattle.tap_engine.proofs.Counted.{counts_later}
 use Rattle.tap_engine.proofs.Meant.{names_meant}
 use Rattle.tap_engine.proofs.Worked.{first_meant, replays_scheduled, replays_unsent, run_meant}
 use Rattle.tap_engine.proofs.Worked.{schedule_meant, ticks_are, ticks_meant}
@@ -24,8 +25,8 @@ returns-in_err-load_moments-in-Check-clause-stop g c =
     c.args.asked.schedule.now in
     let p = err_from_is_err_and c.from_residual.result
     c.from_residual.ensures.1 in
-    rw (p.1, p.2) (c.in_err-load_moments-in-Check.ensures.stop named c.args.job.now c.requires.job
-    (ticks_are named c.args.job.now.setup c.in-Check.is))
+    rw (p.1, p.2) (λ start loaded. c.in_err-load_moments-in-Check.ensures.stop start named
+    c.args.job.now loaded (ticks_are named c.args.job.now.setup c.in-Check.is))
 
 pub replay_scheduled-requires-clause-schedule : goal.replay_scheduled-requires-clause-schedule
 replay_scheduled-requires-clause-schedule g c κs within =
@@ -53,7 +54,8 @@ returns-in_err-report-in-Replay-clause-stop g c =
     c.args.asked.schedule.now in
     let p = err_from_is_err_and c.from_residual-in_err-report-in-Replay.result
     c.from_residual-in_err-report-in-Replay.ensures.1 in
-    rw (p.1, p.2) (c.in_err-report-in-Replay.ensures.stop named refl refl c.requires.job)
+    rw (p.1, p.2) (λ start loaded.
+    c.in_err-report-in-Replay.ensures.stop start named refl refl loaded)
 
 pub send_capture-requires-clause-meant : goal.send_capture-requires-clause-meant
 send_capture-requires-clause-meant g c κs within =
@@ -66,12 +68,13 @@ send_capture-requires-clause-meant g c κs within =
     c.requires.reads c.requires.job.setup)
 
 pub returns-in_ok-report-in-Replay-clause-found : goal.returns-in_ok-report-in-Replay-clause-found
-returns-in_ok-report-in-Replay-clause-found g c =
+returns-in_ok-report-in-Replay-clause-found g c = λ start loaded.
     let named : Named = named_by c.args.asked.command c.args.asked.setup.now
     c.args.asked.schedule.now in
     let report = c.in_ok-report-in-Replay.report in (
-      c.in_ok-report-in-Replay.ensures.reported named refl refl c.requires.job,
-      c.in_ok-report-in-Replay.ensures.faults,
+      c.in_ok-report-in-Replay.ensures.reported start named refl refl loaded,
+      counts_later (faults_in report.cpus) start _ _ loaded.texts.unfailed
+          c.in_ok-report-in-Replay.ensures.faults,
       subst (λ (sent : Bool). IsSentBy sent c.args.job.now.setup report None)
           (sym (replays_unsent named.command c.in-Replay.is)) tt,
       refl,

@@ -9,6 +9,8 @@ returns-clause-read g c =
     let file = first_is c.args.setup.now.cpus cpu c.requires.setup.some
     (c.index-as_slice-0.is ∙ ap (λ cpus. get_or cpus 0 cpu) c.as_slice.ensures) in
     if_ok _ _ c.read_capture-reading.result
-    (λ reading is. first_read (g.S.Store.seen c.args.store.now).held c.args.setup.now cpu _ _
-    reading file c.in_ok-source.ensures.fetched is)
+    (λ reading is. first_read (g.S.Store.seen c.args.store.now)
+    (g.S.Store.seen c.fetch_capture.new.store) (g.S.Store.seen c.close_capture.new.store)
+    c.args.setup.now cpu _ _ reading file
+    c.in_ok-source.ensures.fetched c.in_ok-source.ensures.given c.close_capture.ensures.given is)
     c.read_capture-reading.ensures.read

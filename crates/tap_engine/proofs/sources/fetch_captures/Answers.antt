@@ -2,6 +2,7 @@ use Rattle.std.proofs.Common.{◌<◌, length, subst, get_or, ap, ◌∙◌}
 use Rattle.std.specs.Prelude.{option_map}
 use Rattle.tap_engine.proofs.Counted.{goes_on}
 use Rattle.tap_engine.proofs.Fetched.{held_same, reads_then}
+use Rattle.tap_engine.proofs.Given.{fetches_one}
 use Rattle.tap_engine.proofs.sources.fetch_captures.Goals as goal
 
 pub loop-cpu-preserved : goal.loop-cpu-preserved
@@ -16,4 +17,7 @@ loop-cpu-preserved g c =
     c.loop-cpu-test.true)
     c.in_ok-push.ensures.items inv.1 c.in_ok-source.ensures.fetched inv.2
     c.in_ok-source.ensures.faults in
-    (reads_then _ _ _ inv.0 c.fetch_capture.ensures.store, next.0, next.1)
+    let given = fetches_one (option_map g.S.Input.Source.seen) c.loop-cpu.sources.items
+    c.push.new.self.items c.in_ok-source.source _ _ _ c.in_ok-push.ensures.items inv.3
+    c.in_ok-source.ensures.given in
+    (reads_then _ _ _ inv.0 c.fetch_capture.ensures.store, next.0, next.1, given)

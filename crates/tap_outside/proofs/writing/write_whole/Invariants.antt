@@ -2,7 +2,7 @@ use Rattle.std.proofs.Common.{◌≡◌, length, take, ◌-◌, ◌≤◌}
 use Rattle.std.specs.Io.KnownBytes.{Appends}
 use Rattle.tap_outside.proofs.writing.write_whole.Given as goal
 
--- so much is written, and no fault was counted
+-- this prefix is written, and no fault was counted
 abbrev pub invariant-loop-at : goal.invariant-loop-at
 invariant-loop-at g l =
     (l.at ≤ length l.bytes)
