@@ -147,9 +147,7 @@ FORMS: dict[str, Form] = {
     "pcapng: interfaces of 524,288 bytes": Form(blocks_of(block("<", by_hand.INTERFACE, struct.pack("<HHI", 1, 0, 0) + bytes(524_268)))),
     "pcapng: sections": Form(blocks_of(SECTION)),
     # Each of the nine tries of a frame is a note of 96 bytes, as docs/reference.md tells.
-    "rollover over 8 full members": Form(
-        capture_of(lambda at: frame(60)), ring=DROPS, lines="members 8\nmode rollover\n", limit=4, commands=("replay", "replay2")
-    ),
+    "rollover over 8 full members": Form(capture_of(lambda at: frame(60)), ring=DROPS, lines="members 8\nmode rollover\n", commands=("replay", "replay2")),
     "a schedule of feeds": Form(lines_of("sched", lambda at: "feed 0\n")),
     "a schedule of reads": Form(lines_of("sched", lambda at: "read 0\n")),
     "a schedule of statistics": Form(lines_of("sched", lambda at: "stats 0\n")),

@@ -523,7 +523,7 @@ QUESTIONS = [
               "tp_mac 82, tp_net 96", "tp_mac 86, tp_net 100", "tp_mac 114, tp_net 128"), reserved),
     Question("stamped", "a packet says where its time is from, once some socket wants times", "the other bits of `tp_status`",
              ("status 0x20000001",), stamped),
-    Question("own_filters", "each member has a filter of its own", "where the filter stands", ("0 packets", "2 packets"),
+    Question("own_filters", "each member has a filter of its own", "where the filter is", ("0 packets", "2 packets"),
              own_filters),
     Question("recorded_queue", "a device that records the queue says one more", "fanout mode qm, and a filter's queue",
              ("queue 1",), recorded_queue),
