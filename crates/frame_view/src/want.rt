@@ -1,4 +1,4 @@
-//! A failed allocation, an error type of its own.
+//! The error of a failed allocation.
 ghost use Rattle.std.specs.Prelude.{Some, codes};
 
 use std::alloc::{AllocError, AllocFailed};

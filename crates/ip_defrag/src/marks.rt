@@ -74,7 +74,7 @@ fn units_to(place: usize) -> usize
     (place + UNIT - 1) / UNIT
 }
 
-/// Marks some more units as nobody's, up to `units` of them, if fewer have a mark.
+/// Widens the marks to `units` units, if they have fewer. The new ones belong to no fragment.
 fn widen(marks: &mut Vec<u16>, units: usize) -> Result<(), Memory>
     ensures wide { OnOk result (marks.new.items
         ≡ marks.old.items ++ replicate (units - length marks.old.items) 0) }

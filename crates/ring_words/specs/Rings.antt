@@ -37,8 +37,7 @@ pub record Feed : Type 0 where
   -- it retired
   pub given : ℕ
   pub retired : ℕ
-  -- how many of its looks found a word of the reader's side; it stays at the greatest u64 once
-  -- there
+  -- how many of its looks found a word of the reader's side; it saturates at the greatest u64
   pub holds : ℕ
   -- the numbers in these words, in order, where the end reports them
   pub found : Option (List ℕ)
@@ -77,8 +76,7 @@ pub record Walk : Type 0 where
   pub in_hand : Bool
   -- how many blocks it took so far
   pub taken : ℕ
-  -- how many of its looks found a word of the feeder's side; it stays at the greatest u64 once
-  -- there
+  -- how many of its looks found a word of the feeder's side; it saturates at the greatest u64
   pub empties : ℕ
   -- how many retired blocks wait to be taken, where the end reports that
   pub waiting : Option ℕ

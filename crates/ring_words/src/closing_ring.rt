@@ -31,9 +31,9 @@ pub struct ClosingRing<B: Content + Drop> {
     pub(crate) marks: Vec<u32>,
     /// The blocks that wait for the reader, by number.
     pub(crate) filled: VecDeque<Filled<B>>,
-    /// How many looks of the feeder found no free block; it stays at the greatest u64.
+    /// How many looks of the feeder found no free block; it saturates at `u64::MAX`.
     pub(crate) holds: u64,
-    /// How many looks of the reader found no block; it stays at the greatest u64.
+    /// How many looks of the reader found no block; it saturates at `u64::MAX`.
     pub(crate) empties: u64,
     /// One of the blocks that the ring was made from. It takes no memory: only contracts read it.
     pub(crate) sample: Snapshot<B>,

@@ -52,9 +52,9 @@ pub struct PlainRing<B: Content + Drop> {
     vacant: VecDeque<Vacant<B>>,
     /// The blocks that wait for the reader, by number.
     filled: VecDeque<Filled<B>>,
-    /// How many looks of the feeder found no free block; it stays at the greatest u64.
+    /// How many looks of the feeder found no free block; it saturates at `u64::MAX`.
     holds: u64,
-    /// How many looks of the reader found no block; it stays at the greatest u64.
+    /// How many looks of the reader found no block; it saturates at `u64::MAX`.
     empties: u64,
     /// One of the blocks that the ring was made from. It takes no memory: only contracts read it.
     sample: Snapshot<B>,

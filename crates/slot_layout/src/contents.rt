@@ -1,5 +1,5 @@
-//! A slot as the thing that a ring hands over: its bytes are what a reader sees, its shape is what
-//! all slots of a ring share.
+//! A slot as a ring hands it over: its bytes are what a reader sees, its shape is what all slots
+//! of a ring share.
 use crate::Slot;
 use block_content::Content;
 

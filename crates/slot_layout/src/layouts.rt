@@ -1,4 +1,4 @@
-//! A slot as the thing that a reader reads: one packet, and its text.
+//! A slot as a reader reads it: one packet, and its text.
 use crate::{Slot, packet_of};
 use frame_view::{Memory, Packet};
 use std::alloc::Global;

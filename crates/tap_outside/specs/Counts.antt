@@ -1,4 +1,4 @@
--- Counts of faults. A count never falls, and stays at the greatest u64 once there.
+-- Counts of faults. A count never falls, and saturates at the greatest u64.
 use Rattle.std.specs.Prelude.{ℕ, ◌+◌, ◌-◌, ◌^◌, ◌≤◌, min}
 
 -- a count with one more

@@ -28,7 +28,7 @@ pub struct DiskSource<F> {
     buffer: Vec<u8>,
     /// The bytes that reads gave so far.
     given: History<u8>,
-    /// How many reads failed; it stays at the greatest u64.
+    /// How many reads failed; it saturates at `u64::MAX`.
     faults: u64,
 }
 
@@ -112,14 +112,14 @@ where
         }
     }
 
-    /// The number of faults of reading so far; it stays at the greatest u64.
+    /// The number of faults of reading so far; it saturates at `u64::MAX`.
     pub fn read_faults(&self) -> u64
         ensures { result ≡ (⟦<DiskStore<'a, R> as Store>⟧.seen self.now).read_faults }
     {
         self.read_faults
     }
 
-    /// The number of faults of saving so far; it stays at the greatest u64.
+    /// The number of faults of saving so far; it saturates at `u64::MAX`.
     pub fn save_faults(&self) -> u64
         ensures { result ≡ (⟦<DiskStore<'a, R> as Store>⟧.seen self.now).save_faults }
     {

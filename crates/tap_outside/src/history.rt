@@ -1,11 +1,11 @@
-//! A list of what there was, which only proofs read.
+//! A list of what happened, which only proofs read.
 ghost use Rattle.std.specs.Prelude.{◌≡◌, List, [], ◌∷◌, ◌++◌};
 ghost use Rattle.std.specs.Borrow.{ftrue};
 
 use std::fmt;
 use std::marker::{Model, PhantomData};
 
-/// What there was, in order: contracts see it as `items`. It takes no memory, and its calls do
+/// What happened, in order: contracts see it as `items`. It takes no memory, and its calls do
 /// nothing when they run. A source can keep in it the bytes that it gave, and a store the sources
 /// that were closed.
 #[derive(Drop)]
@@ -22,7 +22,7 @@ impl<T> Model for History<T> {
 unsafe impl<T: Send> Send for History<T> {}
 
 impl<T> History<T> {
-    /// That of nothing.
+    /// The empty history.
     pub fn new() -> History<T>
         ensures { result.items ≡ [] }
     {

@@ -22,7 +22,7 @@ pub struct MemSink {
     /// How many writes there were, except those that ran out of memory; it stays at the greatest
     /// u64.
     writes: u64,
-    /// How many of them failed; it stays at the greatest u64.
+    /// How many of them failed; it saturates at `u64::MAX`.
     faults: u64,
 }
 

@@ -24,9 +24,9 @@ pub struct MemSource {
     piece: usize,
     /// The numbers of the reads that fail, from 1, in any order.
     failing: MomentList,
-    /// How many reads there were; it stays at the greatest u64.
+    /// How many reads there were; it saturates at `u64::MAX`.
     reads: u64,
-    /// How many of them failed; it stays at the greatest u64.
+    /// How many of them failed; it saturates at `u64::MAX`.
     faults: u64,
 }
 
@@ -67,7 +67,7 @@ impl MemSource {
         }
     }
 
-    /// The number of reads that failed so far; it stays at the greatest u64.
+    /// The number of reads that failed so far; it saturates at `u64::MAX`.
     pub(crate) fn faults(&self) -> u64
         ensures { result ≡ self.now.faults }
     {

@@ -1,4 +1,4 @@
-//! What is read.
+//! Sources, which are read.
 ghost use Rattle.std.specs.Prelude.{◌≡◌, ◌<◌, ◌≤◌, length, drop, take, ◌++◌, IfOk, OnErr, OnOk};
 ghost use Rattle.std.specs.Io.{ReadsAtMost};
 ghost use Rattle.std.specs.Io.KnownBytes.{ReadConsumes};
@@ -9,7 +9,7 @@ use crate::Failed;
 
 /// A stream of bytes that is read from its start. Contracts see the bytes that it has left, if it
 /// reports them, the bytes that it gave so far, and the number of its faults, which never falls and
-/// stays at the greatest u64 once there.
+/// saturates at `u64::MAX`.
 pub trait Source: Drop {
     ghost seen: { Self → SourceSeen };
 

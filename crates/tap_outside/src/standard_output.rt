@@ -11,7 +11,7 @@ use std::io::ErrorKind;
 pub struct StdSink<'a, R> {
     /// What prints.
     rt: &'a R,
-    /// How many writes failed; it stays at the greatest u64.
+    /// How many writes failed; it saturates at `u64::MAX`.
     faults: u64,
 }
 
@@ -23,7 +23,7 @@ impl<'a, R: Print> StdSink<'a, R> {
         StdSink { rt, faults: 0 }
     }
 
-    /// The number of faults so far; it stays at the greatest u64.
+    /// The number of faults so far; it saturates at `u64::MAX`.
     pub fn faults(&self) -> u64
         ensures { result ≡ (⟦<StdSink<'a, R> as Sink>⟧.seen self.now).faults }
     {

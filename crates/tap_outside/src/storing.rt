@@ -1,4 +1,4 @@
-//! What holds named files.
+//! Stores of named files.
 ghost use Rattle.std.specs.Prelude.{◌≡◌, ◌<◌, ◌++◌, ◌∷◌, [], ℕ, List, None, IsTrue, IfOk, OnOk};
 ghost use Rattle.tap_outside.specs.Counts.{Rose};
 ghost use Rattle.tap_outside.specs.Outcomes.{OnFailed, OnMemory};
@@ -9,10 +9,9 @@ use crate::{OutError, Source};
 
 /// Files by their names. Contracts see what each name holds, if the store reports it, which names
 /// are meant for reading and which for saving, the bytes that each source gave which was closed,
-/// and the numbers of faults of reading and of saving, which never fall and stay at the greatest
-/// u64 once there. No call changes what a name is meant for. Code that is generic over the store
-/// learns that a name is meant from its own caller, or from a store that doesn't report what it
-/// holds.
+/// and the numbers of faults of reading and of saving, which never fall and saturate at `u64::MAX`.
+/// No call changes what a name is meant for. Code that is generic over the store learns that a name
+/// is meant from its own caller, or from a store that doesn't report what it holds.
 ///
 /// A call that fails has raised its count. An exact store counts nothing else; another one may
 /// count a fault and still succeed.

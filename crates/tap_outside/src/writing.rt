@@ -1,4 +1,4 @@
-//! What is written.
+//! Sinks, which are written to.
 ghost use Rattle.std.specs.Prelude.{◌≡◌, ◌<◌, ◌≤◌, length, IfOk, OnOk, OnErr};
 ghost use Rattle.std.specs.Io.KnownBytes.{Appends, WriteAppends};
 ghost use Rattle.tap_outside.specs.Counts.{Rose};
@@ -9,7 +9,7 @@ ghost use Rattle.tap_outside.specs.Sinks.{AppendsFront};
 use crate::OutError;
 
 /// A stream that takes bytes at its end. Contracts see the bytes that were written, if it reports
-/// them, and the number of its faults, which never falls and stays at the greatest u64 once there.
+/// them, and the number of its faults, which never falls and saturates at `u64::MAX`.
 pub trait Sink {
     ghost seen: { Self → SinkSeen };
 

@@ -1,5 +1,5 @@
-//! A block as the thing that a ring hands over: its bytes are what a reader sees, its shape is what
-//! all blocks of a ring share.
+//! A block as a ring hands it over: its bytes are what a reader sees, its shape is what all blocks
+//! of a ring share.
 use crate::Block;
 use block_content::Content;
 

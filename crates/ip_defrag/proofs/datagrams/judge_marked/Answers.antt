@@ -1,4 +1,4 @@
--- The mark that is met tells with which fragment to compare.
+-- The mark that is found is that of the fragment to compare with.
 use Rattle.std.proofs.Common.{◌≡◌, ◌∙◌, ap, sym, refl, arith, find, nat_lt, Bool, cond, None, Some}
 use Rattle.ip_defrag.specs.Extents.{extent_of}
 use Rattle.ip_defrag.specs.Marks.{own_marks}
