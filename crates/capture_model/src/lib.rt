@@ -1,5 +1,5 @@
-//! How the logs of CPUs, the histories of members' locks and the tickets of a dealer combine to the
-//! report of a run with threads. There is no code here, only laws over lists.
+//! How the logs of CPUs, the histories of members' locks and the tickets of a dealer combine into
+//! the report of a run with threads. There is no code here, only laws over lists.
 #![tactic(auto)]
 
 mod laws;

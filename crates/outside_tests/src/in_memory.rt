@@ -141,7 +141,7 @@ fn check_fetches(rt: &impl Abort, alloc: Global, store: &mut MemStore) -> Result
     Ok(())
 }
 
-/// A save that failed left the file, and the other one stands.
+/// A save that failed left its file as it was, and the other file was saved.
 fn check_files(rt: &impl Abort, store: &MemStore) {
     assert_eq!(rt; store.file(b"a"), Some(b"first".as_slice()));
     assert_eq!(rt; store.file(b"b"), Some(b"third".as_slice()));

@@ -28,7 +28,7 @@ last_texts command setup =
 abbrev pub all_texts : Command → Setup → ℕ
 all_texts command setup = first_texts command setup + last_texts command setup
 
--- so many texts were read, and nothing else, and no read failed
+-- this number of texts was read, and nothing else, and no read failed
 pub record ReadTexts (old new : StoreSeen) (many : ℕ) : Type 0 where
   pub unfailed : NoReadFailed old new
   -- what they gave

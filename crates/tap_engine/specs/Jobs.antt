@@ -111,8 +111,8 @@ HasBadText old new named error =
 
 -- ---- what can't be read, all texts before it being accepted
 
--- after so many texts the one of this name can't be read: reading failed, and nothing was read
--- since
+-- after this number of texts the one of this name can't be read: reading failed, and nothing was
+-- read since
 pub record CantReadNext (old new : StoreSeen) (many : ℕ) (name : List ℕ) : Type 0 where
   pub before : StoreSeen
   pub texts : ReadTexts old before many

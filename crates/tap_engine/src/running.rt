@@ -82,7 +82,7 @@ fn finding_of(answer: Result<Finding, Stop>) -> Result<Finding, Memory>
     }
 }
 
-/// Reads the texts and the captures of a command, and does its run on one thread.
+/// Reads the texts and the captures of a command, and carries out its run on one thread.
 fn carry_out<S: Store>(alloc: Global, asked: Asked<'_>, store: &mut S) -> Result<Finding, Stop>
     requires plain { is_threaded asked.command ≡ false }
     requires reads { AreMeantToRead
@@ -162,7 +162,8 @@ fn work<S: Store>(alloc: Global, asked: Asked<'_>, job: &Job, store: &mut S) -> 
     }
 }
 
-/// Reads the texts and the captures of a `capture` or a `forward`, and does its run on threads.
+/// Reads the texts and the captures of a `capture` or a `forward`, and carries out its run on
+/// threads.
 fn run_threads<S: Store, G: Gate + Sync, R: Threads + Wait + Sync>(
     rt: &R,
     alloc: Global,

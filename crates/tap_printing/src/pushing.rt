@@ -1,4 +1,4 @@
-//! A line that is put after others.
+//! Lines, appended one after another.
 ghost use Rattle.std.specs.Prelude.{◌≡◌, ◌++◌, OnOk, string_bytes};
 
 use frame_view::Memory;

@@ -39,7 +39,7 @@ pub record Refuses {A E : Type 0} (reader : List ℕ → Result A E) (wanted : E
   pub says : Says reader old.held name (Err error)
   pub not_memory : wanted error ≡ false
 
--- why a setup isn't there, and what the store came to: it can't be read, or no read failed
+-- why a setup isn't there, and the store after it: it can't be read, or no read failed
 abbrev pub StopsAtSetup : Command → StoreSeen → StoreSeen → List ℕ → Stop → Type 0
 StopsAtSetup command old new name stops.Unread = CantRead old new name
 StopsAtSetup command old new name (stops.Setup error) =
