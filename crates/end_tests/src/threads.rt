@@ -56,7 +56,7 @@ fn feed_all(alloc: Global, mut ring: Ring, count: u32) -> Result<TableFeeder<Slo
     Ok(ring.finish().0)
 }
 
-/// Whether each packet has its place for its seconds.
+/// Whether each packet's seconds are its place among them.
 fn are_in_place(packets: &Packets) -> bool {
     for (at, packet) in packets.as_slice().iter().enumerate() {
         if packet.sec as usize != at {
@@ -66,7 +66,7 @@ fn are_in_place(packets: &Packets) -> bool {
     true
 }
 
-/// How many slots and packets were read, and whether each packet has its place for its seconds.
+/// How many slots and packets were read, and whether each packet's seconds are its place.
 fn seen_of(outputs: Outputs) -> (u64, usize, bool) {
     let packets = &outputs.walked;
     (outputs.blocks, packets.len(), are_in_place(packets))

@@ -85,7 +85,7 @@ fn feed_all(alloc: Global, mut ring: Ring, count: u32) -> Result<TableFeeder<Blo
     Ok(ring.finish().0)
 }
 
-/// Whether each packet has its place for its seconds.
+/// Whether each packet's seconds are its place among them.
 fn are_in_place(packets: &Packets) -> bool {
     for (at, packet) in packets.as_slice().iter().enumerate() {
         if packet.sec as usize != at {
@@ -95,7 +95,7 @@ fn are_in_place(packets: &Packets) -> bool {
     true
 }
 
-/// How many blocks and packets were read, and whether each packet has its place for its seconds.
+/// How many blocks and packets were read, and whether each packet's seconds are its place.
 fn seen_of(outputs: &Outputs) -> (u64, usize, bool) {
     let packets = &outputs.walked;
     (outputs.blocks, packets.len(), are_in_place(packets))
