@@ -1,3 +1,4 @@
+pub mod Planning
 pub mod Naming
 pub mod Stores
 pub mod Missing

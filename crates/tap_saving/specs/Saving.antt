@@ -1,6 +1,7 @@
 -- The effect of saving on a store.
 use Rattle.std.specs.Prelude.{◌≡◌, ◌≢◌, ◌≤◌, ℕ, ◌+◌, Bool, true, false, IsTrue, MatchBool, List, []}
 use Rattle.std.specs.Prelude.{◌∷◌, ⊤, Option, None, Some, ◌⊎◌}
+use Rattle.std.specs.List.{AllByRecursion}
 use Rattle.tap_outside.specs.Contents.{Contents, HoldsFile}
 use Rattle.tap_outside.specs.Counts.{RoseBy}
 use Rattle.tap_outside.specs.Seen.{StoreSeen}
@@ -48,8 +49,7 @@ marked (false ∷ missed) = marked missed
 
 -- a name that is none of these
 abbrev pub IsApart : List ℕ → List (List ℕ) → Type 0
-IsApart name [] = ⊤
-IsApart name (other ∷ names) = (name ≢ other) × IsApart name names
+IsApart name names = AllByRecursion (λ other. name ≢ other) names
 
 -- every name except these holds what it held
 abbrev pub KeepsAllBut : Option Contents → Option Contents → List (List ℕ) → Type 0

@@ -3,6 +3,7 @@
 
 mod members;
 mod names;
+mod planned_file;
 mod saves;
 mod sent_file;
 

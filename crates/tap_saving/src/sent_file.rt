@@ -4,7 +4,7 @@ ghost use Rattle.tap_saving.specs.Files.{CanBeOutput, sent_file, sent_name};
 ghost use Rattle.tap_saving.specs.Saving.{Saved, Touches};
 
 use crate::names::sent_name;
-use crate::saves::save_capture;
+use crate::planned_file::PlannedFile;
 use frame_view::{Memory, Packets};
 use setup_text::Setup;
 use std::alloc::Global;
@@ -26,6 +26,6 @@ pub fn save_sent<S: Store>(
         (sent_file setup.now packets.now ∷ []) all) }
     ensures memory { OnErr result (S.seen store.new ≡ S.seen store.old) }
 {
-    let name = sent_name(alloc, &setup.prefix)?;
-    save_capture(alloc, store, &name, packets)
+    let file = PlannedFile::capture(sent_name(alloc, &setup.prefix)?, packets);
+    file.save(alloc, store)
 }

@@ -1,0 +1,97 @@
+//! A file that is to be saved.
+ghost use Rattle.std.specs.Prelude.{◌≡◌, IfOk, IsTrue, OnErr};
+ghost use Rattle.capture_file.specs.Output.{output_of};
+ghost use Rattle.tap_outside.specs.Seen.{OnlySaves};
+ghost use Rattle.tap_saving.specs.Files.{CanBeOutput};
+ghost use Rattle.tap_saving.specs.inside.Plans.{IsTried};
+
+use capture_file::pcap_text;
+use frame_view::{Memory, Packets};
+use std::alloc::Global;
+use std::marker::Model;
+use tap_outside::{OutError, Store};
+
+/// Where the bytes of a file come from.
+#[derive(Clone, Copy)]
+pub(crate) enum Content<'a> {
+    /// From packets, of which a capture file is made when it is saved.
+    Packets(&'a Packets),
+    /// These are its bytes.
+    Bytes(&'a [u8]),
+}
+
+/// A file that is to be saved. Contracts see its name and its bytes.
+#[derive(Drop)]
+pub(crate) struct PlannedFile<'a> {
+    /// Its name in the store.
+    name: Vec<u8>,
+    /// Where its bytes come from.
+    content: Content<'a>,
+}
+
+impl<'a> Model for PlannedFile<'a> {
+    ghost use Rattle.tap_saving.specs.Files.{File};
+
+    ghost Value = { File };
+
+    ghost use Rattle.tap_saving.specs.inside.Plans.{CanBeMade, file_of};
+
+    ghost view = { file_of };
+
+    ghost invariant = { λ file. CanBeMade file.content };
+}
+
+impl<'a> PlannedFile<'a> {
+    /// A capture file of these packets.
+    pub(crate) fn capture(name: Vec<u8>, packets: &'a Packets) -> PlannedFile<'a>
+        requires { CanBeOutput packets.now }
+        ensures { result ≡ record { name = name.items; bytes = output_of packets.now } }
+    {
+        PlannedFile {
+            name,
+            content: Content::Packets(packets),
+        }
+    }
+
+    /// A file of these bytes.
+    pub(crate) fn of_bytes(name: Vec<u8>, bytes: &'a [u8]) -> PlannedFile<'a>
+        ensures { result ≡ record { name = name.items; bytes = bytes.now } }
+    {
+        PlannedFile {
+            name,
+            content: Content::Bytes(bytes),
+        }
+    }
+
+    /// Saves the file, and returns whether that succeeded. If memory runs out the store is as
+    /// before.
+    pub(crate) fn save<S: Store>(&self, alloc: Global, store: &mut S) -> Result<bool, Memory>
+        requires { IsTrue ((S.seen store.old).to_save self.now.name) }
+        ensures only { OnlySaves (S.seen store.old) (S.seen store.new) self.now.name }
+        ensures tried { IfOk result (IsTried (S.seen store.old) (S.seen store.new) self.now) }
+        ensures memory { OnErr result (S.seen store.new ≡ S.seen store.old) }
+    {
+        match self.content {
+            Content::Bytes(bytes) => save_bytes(store, &self.name, bytes),
+            Content::Packets(packets) => {
+                let text = pcap_text(alloc, packets)?;
+                save_bytes(store, &self.name, text.as_slice())
+            }
+        }
+    }
+}
+
+/// Saves bytes under a name, and returns whether that succeeded.
+fn save_bytes<S: Store>(store: &mut S, name: &[u8], bytes: &[u8]) -> Result<bool, Memory>
+    requires { IsTrue ((S.seen store.old).to_save name.now) }
+    ensures only { OnlySaves (S.seen store.old) (S.seen store.new) name.now }
+    ensures tried { IfOk result (IsTried (S.seen store.old) (S.seen store.new)
+        (record { name = name.now; bytes = bytes.now })) }
+    ensures memory { OnErr result (S.seen store.new ≡ S.seen store.old) }
+{
+    match store.save(name, bytes) {
+        Ok(()) => Ok(true),
+        Err(OutError::Failed) => Ok(false),
+        Err(OutError::Memory) => Err(Memory),
+    }
+}
