@@ -10,9 +10,33 @@ use Rattle.tap_outside.specs.Seen.{OnlySaves, StoreSeen}
 use Rattle.tap_saving.specs.Files.{File}
 use Rattle.tap_saving.specs.Saving.{AllUnless, HoldsNow, HoldsOldOrNew, IsApart, KeepsAllBut}
 use Rattle.tap_saving.specs.Saving.{NoSaveFailed, Saved, SavedSome, Touches, marked}
-use Rattle.tap_saving.specs.inside.Plans.{AreTried, HaveOwnNames, IsTried, TriedFirst, are_saved}
-use Rattle.tap_saving.specs.inside.Plans.{names_of}
+use Rattle.tap_saving.specs.inside.Plans.{HaveOwnNames, IsTried, names_of}
 use Rattle.tap_saving.proofs.Stores.{touches_none, touches_then}
+
+-- ---- what saves do
+
+-- files were tried one after another, with these answers; those without an answer weren't tried
+abbrev pub AreTried : StoreSeen → StoreSeen → List Bool → List File → Type 0
+AreTried old new [] files = new ≡ old
+AreTried old new (saved ∷ answers) [] = ⊥
+AreTried old new (saved ∷ answers) (file ∷ files) =
+    (next : StoreSeen)
+    × OnlySaves old next file.name
+    × IsTried old next file saved
+    × AreTried next new answers files
+
+abbrev are_saved : List Bool → Bool
+are_saved [] = true
+are_saved (true ∷ answers) = are_saved answers
+are_saved (false ∷ answers) = false
+
+-- that many files were tried, and all were saved or not
+pub record TriedFirst (old new : StoreSeen) (files : List File) (many : ℕ) (all : Bool) : Type 0
+  where
+    pub answers : List Bool
+    pub tried : AreTried old new answers files
+    pub many_is : length answers ≡ many
+    pub all_is : all ≡ are_saved answers
 
 -- ---- files and marks
 

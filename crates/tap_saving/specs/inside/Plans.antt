@@ -1,9 +1,9 @@
 -- Files that are to be saved, and one save.
-use Rattle.std.specs.Prelude.{◌≡◌, ℕ, Bool, true, false, List, [], ◌∷◌, length, map, ⊤}
+use Rattle.std.specs.Prelude.{ℕ, Bool, true, false, List, [], ◌∷◌, map, ⊤}
 use Rattle.capture_file.specs.Output.{output_of}
 use Rattle.tap_outside.specs.Contents.{HoldsFile}
 use Rattle.tap_outside.specs.Counts.{Rose}
-use Rattle.tap_outside.specs.Seen.{OnlySaves, StoreSeen}
+use Rattle.tap_outside.specs.Seen.{StoreSeen}
 use Rattle.tap_saving.specs.Files.{CanBeOutput, File}
 use Rattle.tap_saving.specs.Saving.{IsApart, NoSaveFailed}
 use Rattle.tap_saving.specs.declared.planned_file.Content.{Content}
@@ -32,33 +32,7 @@ abbrev pub HaveOwnNames : List File → Type 0
 HaveOwnNames [] = ⊤
 HaveOwnNames (file ∷ files) = IsApart file.name (names_of files) × HaveOwnNames files
 
--- ---- saves
-
 -- a file was saved, or saving it failed
 abbrev pub IsTried : StoreSeen → StoreSeen → File → Bool → Type 0
 IsTried old new file true = HoldsFile new.held file.name file.bytes × NoSaveFailed old new
 IsTried old new file false = Rose old.save_faults new.save_faults
-
--- files were tried one after another, with these answers; for the files after them there is none,
--- and they weren't tried
-abbrev pub AreTried : StoreSeen → StoreSeen → List Bool → List File → Type 0
-AreTried old new [] files = new ≡ old
-AreTried old new (saved ∷ answers) [] = ⊥
-AreTried old new (saved ∷ answers) (file ∷ files) =
-    (next : StoreSeen)
-    × OnlySaves old next file.name
-    × IsTried old next file saved
-    × AreTried next new answers files
-
-abbrev pub are_saved : List Bool → Bool
-are_saved [] = true
-are_saved (true ∷ answers) = are_saved answers
-are_saved (false ∷ answers) = false
-
--- that many files were tried, and all were saved or not
-pub record TriedFirst (old new : StoreSeen) (files : List File) (many : ℕ) (all : Bool) : Type 0
-  where
-    pub answers : List Bool
-    pub tried : AreTried old new answers files
-    pub many_is : length answers ≡ many
-    pub all_is : all ≡ are_saved answers
