@@ -11,6 +11,8 @@ use super::{Sent, TxRing};
 use crate::SendError;
 use crate::slot_fields::{AVAILABLE, WRONG_FORMAT};
 use frame_view::{ByteList, Memory, Packet, Packets};
+use std::alloc::Global;
+use std::mem;
 use tp_layout::a_shape_is_sound;
 
 /// The fewest bytes of a frame: an Ethernet header.
@@ -36,6 +38,7 @@ impl TxRing {
             sent: 0,
             skipped: 0,
         };
+        reserve(self.alloc, out, self.requested() as usize);
         for _ in 0..self.requested() {
             let is_sent = self.take_front(out)?;
             counts = count_one(counts, is_sent);
@@ -133,4 +136,14 @@ fn count_one(counts: Sent, is_sent: bool) -> Sent
             ..counts
         }
     }
+}
+
+/// Makes room for more packets, so that the list grows once. If there is no memory for all of them
+/// there may still be enough for those that are sent.
+fn reserve(alloc: Global, packets: &mut Packets, more: usize)
+    ensures { packets.new ≡ packets.old }
+{
+    let mut list = mem::replace(packets, Packets::new(alloc)).into_vec();
+    let _ = list.reserve(more);
+    *packets = Packets::from_vec(list);
 }

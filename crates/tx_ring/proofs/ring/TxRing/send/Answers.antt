@@ -27,7 +27,7 @@ returns-in-Some-clause-ring c =
     sym (subst (λ (r : TxState). after_send r ≡ r) c.self.view_is stays.1)
 
 pub loop-init : goal.loop-init
-loop-init c = starts c.args.self.now c.args.out.now
+loop-init c = rw c.reserve.ensures (starts c.args.self.now c.args.out.now)
 
 pub take_front-requires : goal.take_front-requires
 take_front-requires c =
