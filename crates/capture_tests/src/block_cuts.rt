@@ -1,6 +1,6 @@
 //! A capture cut at every place: fed in two pieces, or ended there.
-use crate::block_feeding::{Ended, decode};
 use crate::block_orders::LITTLE;
+use crate::decoded_blocks::{Ended, decode};
 use frame_view::{Frames, Memory};
 use pcapng_blocks::{BlockDecoder, BlockError};
 use std::alloc::Global;

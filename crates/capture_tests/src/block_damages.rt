@@ -1,6 +1,6 @@
 //! A capture with one field overwritten: the damage, its place, and the frames before it.
-use crate::block_feeding::{Ended, decode};
 use crate::block_orders::LITTLE;
+use crate::decoded_blocks::{Ended, decode};
 use frame_view::{Frames, Memory};
 use pcapng_blocks::BlockError;
 use std::alloc::Global;

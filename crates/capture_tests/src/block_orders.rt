@@ -1,7 +1,7 @@
 //! One packet in either byte order, whose frame is known, and what two sections of different byte
 //! order give.
-use crate::block_feeding::{bytes_of, decode, seen};
-use crate::block_writing::{push_enhanced, push_interface, push_section, push_simple};
+use crate::decoded_blocks::{bytes_of, decode, seen};
+use crate::written_blocks::{push_enhanced, push_interface, push_section, push_simple};
 use frame_view::{Frames, Memory};
 use pcapng_blocks::{BlockError, Order};
 use std::alloc::Global;

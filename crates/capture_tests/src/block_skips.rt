@@ -1,6 +1,6 @@
 //! Blocks of other types, however long they are.
-use crate::block_feeding::decode;
-use crate::block_writing::{push_enhanced, push_interface, push_section, push_u32};
+use crate::decoded_blocks::decode;
+use crate::written_blocks::{push_enhanced, push_interface, push_section, push_u32};
 use frame_view::{Frames, Memory};
 use pcapng_blocks::{BlockDecoder, BlockError, Order};
 use std::alloc::Global;

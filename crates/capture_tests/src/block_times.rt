@@ -1,6 +1,6 @@
 //! Time stamps in the units that an interface can state, and times that don't fit.
-use crate::block_feeding::{decode, seen};
-use crate::block_writing::{push_enhanced, push_section, push_timed};
+use crate::decoded_blocks::{decode, seen};
+use crate::written_blocks::{push_enhanced, push_section, push_timed};
 use frame_view::{Frames, Memory};
 use pcapng_blocks::Order;
 use std::alloc::Global;

@@ -1,5 +1,5 @@
 //! Captures with one field overwritten or cut: the damage, its place, and the frames before it.
-use crate::feeding::{Answer, decode};
+use crate::decoded_captures::{Answer, decode};
 use crate::spellings::LITTLE_NANO;
 use capture_file::CaptureError;
 use frame_view::{Frames, Memory};

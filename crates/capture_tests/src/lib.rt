@@ -7,22 +7,22 @@ mod block_cuts;
 #[cfg(test)]
 mod block_damages;
 #[cfg(test)]
-mod block_feeding;
-#[cfg(test)]
 mod block_orders;
 #[cfg(test)]
 mod block_skips;
 #[cfg(test)]
 mod block_times;
 #[cfg(test)]
-mod block_writing;
-#[cfg(test)]
 mod damaged_captures;
 #[cfg(test)]
-mod feeding;
+mod decoded_blocks;
+#[cfg(test)]
+mod decoded_captures;
 #[cfg(test)]
 mod output_files;
 #[cfg(test)]
 mod pcapng_pieces;
 #[cfg(test)]
 mod spellings;
+#[cfg(test)]
+mod written_blocks;

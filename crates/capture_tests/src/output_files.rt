@@ -1,6 +1,6 @@
 //! One capture in four encodings, and one frame, with the output file that another program writes
 //! for them.
-use crate::feeding::{decode, text_of};
+use crate::decoded_captures::{decode, text_of};
 use crate::spellings::{BIG_MICRO, BIG_NANO, LITTLE_MICRO, LITTLE_NANO, ONE_FRAME, THREE_FRAMES};
 use frame_view::Frames;
 use std::alloc::Global;

@@ -1,6 +1,6 @@
 //! A pcapng capture that is fed in pieces.
-use crate::block_feeding::{bytes_of, seen};
-use crate::feeding::{Answer, decode};
+use crate::decoded_blocks::{bytes_of, seen};
+use crate::decoded_captures::{Answer, decode};
 use capture_file::{CaptureError, Decoder};
 use frame_view::Frames;
 use std::alloc::Global;

@@ -174,7 +174,7 @@ fn filled(
     wire: u32,
 ) -> Result<(Option<usize>, usize, u32, usize), Fail> {
     if wire < 3_966 || shape.room() < need(3_966) {
-        return Err("so many bytes fit".into());
+        return Err("a block has room for 3,966 bytes".into());
     }
     let bytes = vec![in alloc; 7; 4000]?;
     let offer = offer(alloc, bytes.as_slice(), 3_966, wire, None)?;

@@ -11,6 +11,6 @@ mod in_memory;
 #[cfg(test)]
 mod made;
 #[cfg(test)]
-mod printing;
-#[cfg(test)]
 mod real_files;
+#[cfg(test)]
+mod standard_output;

@@ -12,7 +12,7 @@ mod producer_calls;
 #[cfg(test)]
 mod producer_rows;
 #[cfg(test)]
-mod reading;
+mod readers;
 #[cfg(test)]
 mod seen_blocks;
 #[cfg(test)]

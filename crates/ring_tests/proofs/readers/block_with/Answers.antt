@@ -7,7 +7,7 @@ use Rattle.tp_layout.specs.Blocks.{BeginsWith, needs_of}
 use Rattle.tp_layout.specs.Packets.{need_of_packet}
 use Rattle.tp_layout.specs.Writing.{ShapedBytes, end_of}
 use Rattle.tp_layout.specs.declared.requests.RingRequest.{RingRequest}
-use Rattle.ring_tests.proofs.reading.block_with.Goals as goal
+use Rattle.ring_tests.proofs.readers.block_with.Goals as goal
 
 pub returns : goal.returns
 returns c =
