@@ -97,7 +97,7 @@ impl GateLog {
         )
     }
 
-    /// Waits until a word is at least so large, or gives up.
+    /// Waits until a word is at least `least`, or gives up.
     fn wait_for(&self, word: &AtomicU64, least: u64) {
         for _ in 0..POLLS {
             if word.load(Ordering::SeqCst) >= least {

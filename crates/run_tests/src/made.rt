@@ -41,7 +41,7 @@ fn read_some(source: &mut SureSource, into: &mut [u8]) -> usize {
     source.read(into).unwrap_or(0)
 }
 
-/// The bytes that a source gives, by reads of so many at most.
+/// The bytes that a source gives, by reads of at most `most` bytes.
 fn bytes_of(alloc: Global, mut source: SureSource, most: usize) -> Result<Vec<u8>, Memory> {
     let mut bytes = Vec::new(alloc);
     let mut piece = vec![in alloc; 0u8; most]?;
@@ -100,7 +100,7 @@ fn output_of(alloc: Global, notes: &Notes) -> Result<(Vec<u8>, usize), Memory> {
 }
 
 /// How many packets a member's notes keep; none where its file isn't that of its notes, or its
-/// reader didn't walk so many.
+/// reader walked another number.
 fn kept_of(
     alloc: Global,
     files: &MemStore,

@@ -17,7 +17,7 @@ struct Row {
     more: &'static str,
     /// The sum of the bits of the workers that are waited for.
     all: u64,
-    /// The status, the report without the letters of moments, which may stand anywhere, and the
+    /// The status, the report without the letters of moments, which may come anywhere, and the
     /// lines.
     told: &'static str,
     /// How many letters of moments the report has.

@@ -72,7 +72,7 @@ fn push_name(names: &mut Names, work: &Work) -> Result<(), Memory> {
     Ok(names.push((work.member, work.number))?)
 }
 
-/// Fetches at most so many works, and appends their names.
+/// Fetches at most `most` works, and appends their names.
 fn fetch_some<R: Wait>(
     rt: &R,
     queue: &WorkQueue,
@@ -106,8 +106,8 @@ fn close<R: Wait>(rt: &R, alloc: Global, opened: Opened, names: &mut Names) -> R
     Ok(())
 }
 
-/// Hands so many works of each of two members in, one member after the other, and fetches at most
-/// so many: how many were fetched, and the names of these and then of those that were left.
+/// Hands in these numbers of works of two members, one member after the other, and fetches at most
+/// `most`: how many were fetched, and the names of these and then of those that were left.
 fn hand_and_fetch<R: Wait>(
     rt: &R,
     alloc: Global,
@@ -124,7 +124,7 @@ fn hand_and_fetch<R: Wait>(
     Ok((fetched, names))
 }
 
-/// Appends the names of so many works of a member, in order.
+/// Appends the names of the first `works` works of a member, in order.
 fn push_names(names: &mut Names, member: u32, works: u32) -> Result<(), Memory> {
     for number in 0..works {
         names.push((member, u64::from(number) + 1))?;
@@ -132,7 +132,7 @@ fn push_names(names: &mut Names, member: u32, works: u32) -> Result<(), Memory> 
     Ok(())
 }
 
-/// The names of so many works of each of two members, in order.
+/// The names of these numbers of works of two members, in order.
 fn names_of(alloc: Global, (first, second): (u32, u32)) -> Result<Names, Memory> {
     let mut names = Vec::new(alloc);
     push_names(&mut names, 0, first)?;

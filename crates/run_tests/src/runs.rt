@@ -29,7 +29,7 @@ pub(crate) fn no_files(alloc: Global) -> MemStore {
     MemStore::new(alloc, MomentList::new(alloc), MomentList::new(alloc))
 }
 
-/// Puts a file into a store, of which one read gives so many bytes at most.
+/// Puts a file into a store, of which one read gives at most `piece` bytes.
 pub(crate) fn put_file(
     alloc: Global,
     files: &mut MemStore,
@@ -53,7 +53,7 @@ pub(crate) struct Case {
     pub(crate) waits: bool,
 }
 
-/// A capture of so many frames of a length, each of which is its number, repeated.
+/// A capture of `frames` frames of a length, each of which is its number, repeated.
 fn capture(alloc: Global, frames: u8, length: u16) -> Result<Vec<u8>, Memory> {
     let mut bytes = Vec::new(alloc);
     push_fields(&mut bytes, &[0xa1b2_c3d4, 0x0004_0002, 0, 0, 0xffff, 1])?;

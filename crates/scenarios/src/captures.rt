@@ -15,13 +15,13 @@ fn repeated(word: &str) -> (&str, usize) {
     }
 }
 
-/// How many words there are, each as often as it stands.
+/// The number of words, each repeated as often as it says.
 pub(crate) fn count_of(words: &str) -> usize {
     let times = words.split_whitespace().map(|word| repeated(word).1);
     times.fold(0, |sum: usize, more| sum.saturating_add(more))
 }
 
-/// The word of an index, each counted as often as it stands; empty where there aren't so many.
+/// The word at an index, each repeated as often as it says; empty after the last one.
 pub(crate) fn word_at(words: &str, index: usize) -> &str {
     let mut left = index;
     for word in words.split_whitespace() {
@@ -84,7 +84,7 @@ impl<'a> Case<'a> {
         Ok(bytes)
     }
 
-    /// Appends the record of a frame, in which at most so many of its bytes stand.
+    /// Appends the record of a frame, with at most `most` of its bytes.
     fn push_frame(
         &self,
         bytes: &mut Vec<u8>,

@@ -63,7 +63,7 @@ impl<'a> Case<'a> {
         }
     }
 
-    /// Whether a call fails, or is out of memory: its number stands in the line of these two words.
+    /// Whether a call fails, or is out of memory: the line of these two words has its number.
     pub(crate) fn has(&self, word: &str, what: &str, number: u64) -> bool {
         let fault = self.fault;
         let is_fault = fault.word == word && fault.what == what && fault.number == number;

@@ -3,19 +3,19 @@
 
 mod captures;
 mod cases;
-mod comparing;
+mod comparison;
 mod expected;
 mod files;
 mod gates;
 mod lines;
-mod running;
+mod runs;
 mod saved;
 mod scripted;
 mod sweeps;
 mod texts;
 
 pub use captures::push_fields;
-pub use comparing::differences;
+pub use comparison::differences;
 pub use lines::Scenario;
-pub use running::{Answer, answer_of, outcome_on_threads};
+pub use runs::{Answer, answer_of, outcome_on_threads};
 pub use texts::{Counted, carry_out_text};

@@ -30,7 +30,7 @@ fn first_value<'a>(parts: &'a str, separator: &str, word: &str) -> Option<&'a st
     None
 }
 
-/// Appends the values that stand between bars.
+/// Appends the values between bars.
 fn push_parts<'a>(parts: &mut Vec<&'a str>, values: &'a str) -> Result<(), Memory> {
     for value in values.split(" | ") {
         if !value.trim().is_empty() {

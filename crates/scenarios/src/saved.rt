@@ -1,7 +1,7 @@
 //! Whether the files after a command are as a scenario says.
 use crate::captures::{bytes_of, count_of, word_at};
 use crate::cases::Case;
-use crate::comparing::Wanted;
+use crate::comparison::Wanted;
 use crate::expected::member_of;
 use crate::lines::{is_among, number, parted};
 use frame_view::Memory;
@@ -36,7 +36,7 @@ const SLOTS: Parts = (0, 8, 66);
 /// The blocks of TPACKET_V3.
 const BLOCKS: Parts = (8, 20, 0);
 
-/// A number of 32 bits as it stands in a dump.
+/// The bytes of a number of 32 bits in a dump.
 fn field(value: usize) -> [u8; 4] {
     u32::try_from(value).unwrap_or(0).to_le_bytes()
 }

@@ -142,7 +142,7 @@ impl<'a> ScriptStore<'a> {
             .has("poor", "call", (count as u64).saturating_add(1))
     }
 
-    /// A source of a file that nobody has read, at the fetch before which there were so many.
+    /// A source of a file that nobody has read, at the fetch after this number of others.
     fn open(&self, name: &str, fetch: usize) -> Result<ScriptSource<'a>, Memory>
         ensures fresh { IfOk result (λ source. source.faults ≡ 0) }
         ensures unread { IfOk result (λ source. source.given.items ≡ []) }

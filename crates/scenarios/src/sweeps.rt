@@ -2,7 +2,7 @@
 //! each read, each save and each write fails or is out of memory. The expected results follow from
 //! what the scenario says.
 use crate::cases::{Case, Fault, is_faulty};
-use crate::comparing::{Reported, Wanted};
+use crate::comparison::{Reported, Wanted};
 use crate::gates::ScriptGate;
 use crate::scripted::{Calls, TAKEN};
 use crate::texts::Counted;
@@ -129,7 +129,7 @@ impl<'a, R: Threads + Wait + Sync> Sweep<'a, R> {
         wanted
     }
 
-    /// Each of so many calls in turn fails, or is out of memory.
+    /// Each of the first `count` calls in turn fails, or is out of memory.
     fn each(&self, counted: &mut Counted, fault: Fault<'a>, count: u64) -> Result<(), Memory> {
         let mut case = self.case;
         case.fault = fault;

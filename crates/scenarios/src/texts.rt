@@ -1,6 +1,6 @@
 //! All scenarios of a text, one after another.
 use crate::cases::Case;
-use crate::comparing::differences;
+use crate::comparison::differences;
 use crate::lines::Scenario;
 use crate::sweeps::sweep_all;
 use frame_view::Memory;

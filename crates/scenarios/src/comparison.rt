@@ -2,7 +2,7 @@
 use crate::cases::{Case, is_dumped_too};
 use crate::gates::ScriptGate;
 use crate::lines::{Scenario, number};
-use crate::running::{Answer, Ran, is_on_threads};
+use crate::runs::{Answer, Ran, is_on_threads};
 use crate::saved::After;
 use frame_view::Memory;
 use std::alloc::Global;
@@ -114,9 +114,9 @@ impl<'a> Case<'a> {
         Ok(text)
     }
 
-    /// What the run came to, in the same form: of the status so much as is said; on threads without
-    /// the letters of ticks that found nothing to do, as between other notes they may stand
-    /// anywhere.
+    /// What the run came to, in the same form: of the status as many bytes as are said; on threads
+    /// without the letters of ticks that found nothing to do, which may come anywhere between other
+    /// notes.
     fn found_text(
         &self,
         wanted: &Wanted<'_>,
