@@ -7,6 +7,7 @@ pub mod Rounds
 pub mod HeldFacts
 pub mod ArrivalFacts
 pub mod LongerLogs
+pub mod Receptions
 pub mod LikeLenses
 pub mod SoundArrivals
 pub mod RoundLaws

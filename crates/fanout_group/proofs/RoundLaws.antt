@@ -1,9 +1,9 @@
 -- The tries of an arrival go round the group from its home on.
-use Rattle.std.proofs.Common.{◌≡◌, ℕ, zero, suc, ◌+◌, ◌%◌, ◌<◌, ◌≤◌, Bool, true, false, List, [], ◌∷◌, ◌++◌, length, ap, sym, ◌∙◌, subst, refl, inl, inr, arith}
+use Rattle.std.proofs.Common.{◌≡◌, ℕ, zero, suc, ◌+◌, ◌%◌, ◌<◌, Bool, true, false, List, [], ◌∷◌, ◌++◌, length, ap, sym, ◌∙◌, subst, refl, inl, inr, arith}
 use Rattle.std.specs.Prelude.{slice_get, Option, None, Some}
 use Rattle.std.proofs.Math.Nat.{add-mod_right, mod-add-mod, mod-eq_of_lt}
 use Rattle.std.proofs.lemmas.Nat.{mod_below}
-use Rattle.fanout_group.specs.Routes.{AreRefusedBeforeLast, GoesRound, IsBegun, IsRoute, IsSettled, a_try, behind, refused_from}
+use Rattle.fanout_group.specs.Routes.{AreRefusedBeforeLast, GoesRound, IsBegun, IsRoute, a_try, behind, refused_from}
 use Rattle.fanout_group.specs.declared.logs.Fate.{Fate}
 use Rattle.fanout_group.specs.declared.logs.Fate.TheVariants.{Kept, Refused}
 use Rattle.fanout_group.specs.declared.logs.Try.{Try}

@@ -1,12 +1,13 @@
 -- A round of the group, one member further.
 use Rattle.std.proofs.Common.{◌≡◌, ℕ, zero, suc, ◌+◌, ◌-◌, ◌%◌, List, [], ◌∷◌, ◌++◌, length, refl, sym, ap, ◌∙◌, subst, append_assoc, arith}
 use Rattle.std.specs.Prelude.{slice_get, IfSome, Option, Some}
-use Rattle.fanout_group.specs.inside.TryEffects.{Tells, fate_by}
 use Rattle.ring_model.specs.declared.notes.Offer.{Offer}
 use Rattle.fanout_group.specs.Desks.{TakesTheSame}
 use Rattle.fanout_group.specs.Routes.{a_try, behind, last_member, refused_from}
+use Rattle.fanout_group.specs.declared.logs.Fate.{Fate}
 use Rattle.fanout_group.specs.declared.logs.Fate.TheVariants.{Refused}
 use Rattle.fanout_group.specs.declared.logs.Try.{Try}
+use Rattle.fanout_group.specs.inside.TryEffects.{AreListed, IsTried, fate_by}
 
 refused_from-suc : (members at count : ℕ) → refused_from members at (suc count) ≡ refused_from members at count ++ a_try (behind members at count) Refused ∷ []
 refused_from-suc members at zero = refl
@@ -47,24 +48,25 @@ last_of present (t ∷ tries) last e =
     last_try present (t ∷ tries) (length tries) last refl (ap (λ k. slice_get (t ∷ tries) k) (sym one) ∙ e)
 
 -- one more refusal in the round
-pub record Turned (members home turn : ℕ) (before more now : List Try) : Type 0 where
-  pub tried : now ≡ refused_from members home (turn + 1)
-  pub told : more ≡ before ++ refused_from members home (turn + 1)
+module _ {D : Type 0} (made : Offer → List Try → D → D → Type 0)
+    (more_made : (offer : Offer) (tries more : List Try) (first next last : D) → made offer tries first next → made offer more next last
+    → made offer (tries ++ more) first last) where
+  pub turned : (members home turn member : ℕ) (offer other : Offer) (answer : Option Offer) (told mid there now : List Try) (before desk after : D)
+      → AreListed made offer (λ more. more ≡ refused_from members home turn) told mid before desk → there ≡ mid → other ≡ offer
+      → AreListed made other (IsTried member answer) there now desk after → member ≡ behind members home turn → fate_by answer ≡ Refused
+      → AreListed made offer (λ more. more ≡ refused_from members home (turn + 1)) told now before after
+  turned members home turn member offer other answer told mid there now before desk after round same is one at refused = record {
+    more = round.more ++ one.more;
+    told_is = one.told_is ∙ ap (λ (tries : List Try). tries ++ one.more) (same ∙ round.told_is) ∙ append_assoc told round.more one.more;
+    made_is = more_made offer round.more one.more before desk after round.made_is (subst (λ (o : Offer). made o one.more desk after) is one.made_is);
+    such = ap (λ (tries : List Try). tries ++ one.more) round.such
+        ∙ ap (λ (tries : List Try). refused_from members home turn ++ tries) (one.such ∙ ap (λ (m : ℕ). a_try m (fate_by answer) ∷ []) at
+        ∙ ap (λ (fate : Fate). a_try (behind members home turn) fate ∷ []) refused)
+        ∙ sym (refused_from-add_1 members home turn);
+  }
 
-pub turned : (members home turn member : ℕ) (answer : Option Offer) (back : Offer) (before told more tried now : List Try)
-    → tried ≡ refused_from members home turn → told ≡ before ++ refused_from members home turn → member ≡ behind members home turn
-    → answer ≡ Some back → Tells (a_try member (fate_by answer)) told more tried now → Turned members home turn before more now
-turned members home turn member answer back before told more tried now at_desk in_list at e tells =
-    let one : refused_from members home turn ++ a_try member (fate_by answer) ∷ [] ≡ refused_from members home (turn + 1) =
-    ap (λ (m : ℕ). refused_from members home turn ++ a_try m (fate_by answer) ∷ []) at
-    ∙ ap (λ (o : Option Offer). refused_from members home turn ++ a_try (behind members home turn) (fate_by o) ∷ []) e
-    ∙ sym (refused_from-add_1 members home turn) in
-    record {
-      tried = tells.desk ∙ ap (λ (tries : List Try). tries ++ a_try member (fate_by answer) ∷ []) at_desk ∙ one;
-      told = tells.list ∙ ap (λ (tries : List Try). tries ++ a_try member (fate_by answer) ∷ []) in_list
-          ∙ append_assoc before (refused_from members home turn) (a_try member (fate_by answer) ∷ [])
-          ∙ ap (λ (tries : List Try). before ++ tries) one;
-    }
+pub back_refused : (answer : Option Offer) (back : Offer) → answer ≡ Some back → fate_by answer ≡ Refused
+back_refused answer back is = ap fate_by is
 
 -- what holds of the value of an option that has one
 pub of_some : {A : Type 0} (P : A → Type 0) (answer : Option A) (x : A) → answer ≡ Some x → IfSome answer P → P x

@@ -1,5 +1,5 @@
 -- Homes, present members and routes stay within the group, and a route settles its packet once.
-use Rattle.std.proofs.Common.{◌≡◌, ℕ, zero, suc, ◌+◌, ◌%◌, ◌<◌, Bool, true, false, not, eqb, ltb, List, [], ◌∷◌, ◌++◌, inl, inr, refl, ap, ◌∙◌, arith}
+use Rattle.std.proofs.Common.{◌≡◌, ℕ, zero, suc, ◌+◌, ◌%◌, ◌<◌, Bool, true, false, not, eqb, ltb, List, [], ◌∷◌, ◌++◌, inl, inr, refl, sym, ap, append_assoc, ◌∙◌, arith}
 use Rattle.std.specs.Prelude.{sum_by, ◌&&◌, Option, unwrap_or, MatchBool}
 use Rattle.std.proofs.lemmas.Bool.{lt-ltb}
 use Rattle.std.proofs.lemmas.List.Sums.{sum_by-cons, sum_by-append}
@@ -117,3 +117,39 @@ pub present_after-route : (rolls : Bool) (mode : Mode) (members home present : �
     → IsRoute rolls members home tries → present_after mode present tries < members
 present_after-route rolls mode members home present tries h at route =
     present_stays mode members present tries at (route_settles rolls members home present tries h route).last
+
+-- ---- the last try of a route, whatever was listed before it
+
+last_appended : (member : ℕ) (tries : List Try) (t : Try) → last_member member (tries ++ t ∷ []) ≡ t.member
+last_appended member [] t = refl
+last_appended member (first ∷ tries) t = last_appended first.member tries t
+
+-- these tries end with one at this member
+abbrev EndsAt : ℕ → List Try → Type 0
+EndsAt member tries = (earlier : List Try) × (fate : Fate) × (tries ≡ earlier ++ a_try member fate ∷ [])
+
+last_there : (present member : ℕ) (told tries : List Try) → EndsAt member tries → last_member present (told ++ tries) ≡ member
+last_there present member told tries ends =
+    let last = a_try member ends.1 in
+    ap (λ (more : List Try). last_member present (told ++ more)) ends.2
+    ∙ ap (λ (all : List Try). last_member present all) (sym (append_assoc told ends.0 (last ∷ [])))
+    ∙ last_appended present (told ++ ends.0) last
+
+route_ends : (rolls : Bool) (members home : ℕ) (tries : List Try) → IsRoute rolls members home tries → (member : ℕ) × EndsAt member tries
+route_ends true members home tries (inl way) = (behind members home way.0, (refused_from members home way.0, Kept, way.2))
+route_ends true members home tries (inr put) = (home, (refused_from members home members, put.0, put.2))
+route_ends false members home tries one = (home, ([], one.0, one.2))
+
+last_of_route : (rolls : Bool) (members home present : ℕ) (told tries : List Try) → IsRoute rolls members home tries
+    → last_member present (told ++ tries) ≡ last_member present tries
+last_of_route rolls members home present told tries route =
+    let ends = route_ends rolls members home tries route in
+    last_there present ends.0 told tries ends.1 ∙ sym (last_there present ends.0 [] tries ends.1)
+
+pub present_of_route : (mode : Mode) (rolls : Bool) (members home present : ℕ) (told tries : List Try) → IsRoute rolls members home tries
+    → present_after mode present (told ++ tries) ≡ present_after mode present tries
+present_of_route Hash rolls members home present told tries route = refl
+present_of_route Lb rolls members home present told tries route = refl
+present_of_route Cpu rolls members home present told tries route = refl
+present_of_route Rollover rolls members home present told tries route = last_of_route rolls members home present told tries route
+present_of_route Qm rolls members home present told tries route = refl

@@ -1,5 +1,5 @@
 -- When logs and notes agree: each try has its note at its member, and each note its try.
-use Rattle.std.specs.Prelude.{◌≡◌, ℕ, ◌+◌, ◌<◌, ◌≤◌, List, [], ◌∷◌, ◌++◌, length, count_by}
+use Rattle.std.specs.Prelude.{◌≡◌, ℕ, ◌<◌, List, [], ◌∷◌, ◌++◌, length, count_by}
 use Rattle.std.specs.Prelude.{filter_map, sum_by, nat_lt, ◌==◌, if◌then◌else◌, slice_index_or}
 use Rattle.std.specs.Prelude.{Option}
 use Rattle.frame_view.specs.declared.frames.Frame.{Frame}

@@ -10,5 +10,6 @@ pub mod Desks
 pub mod Judgements
 pub mod Lenses
 pub mod Paths
+pub mod Deliveries
 pub mod PathsInside
 pub mod inside

@@ -1,19 +1,18 @@
 //! Who gets a packet: the tries of an arrival, by the rules of its group.
-ghost use Rattle.std.specs.Prelude.{◌≡◌, ◌<◌, ◌≤◌, ℕ, [], ◌++◌, unwrap_or, IfNone, IfOk, IfSome};
-ghost use Rattle.std.specs.Prelude.{OnErr, OnOk};
+ghost use Rattle.std.specs.Prelude.{◌≡◌, ◌+◌, ◌<◌, ◌≤◌, ℕ, unwrap_or, IfNone, IfOk, IfSome, OnErr};
+ghost use Rattle.std.specs.Prelude.{OnOk};
+ghost use Rattle.fanout_group.specs.Deliveries.{IsBegunDelivery, IsDelivery};
 ghost use Rattle.fanout_group.specs.Desks.{TakesTheSame};
 ghost use Rattle.fanout_group.specs.Plans.{rolls_over};
 ghost use Rattle.fanout_group.specs.Routes.{AreRefusals, IsBegun, IsKeptOnTheWay, IsRoute};
 ghost use Rattle.fanout_group.specs.Routes.{present_after, refused_from};
 ghost use Rattle.fanout_group.specs.Rules.{HasTicket, home_by};
+ghost use Rattle.fanout_group.specs.inside.TryEffects.{AreListed};
 
-use crate::tries::{put_at, try_at};
 use crate::{Desk, Mode, Plan, Try, TryList};
 use frame_view::Memory;
 use ring_model::Offer;
-use smallvec::SmallVec;
 use std::alloc::Global;
-use std::mem;
 
 /// Delivers a packet to a group by its mode: makes the tries of an arrival at a desk, in order, and
 /// reports them at the end of a list.
@@ -28,7 +27,7 @@ use std::mem;
 /// After `Memory` the tries that were made are in the list, and `present` is unchanged: without
 /// rollover none was made; with it all of them are refusals, and no member has the packet.
 pub fn deliver<D: Desk>(
-    alloc: Global,
+    _alloc: Global,
     plan: &Plan,
     desk: &mut D,
     present: &mut u32,
@@ -39,61 +38,20 @@ pub fn deliver<D: Desk>(
 ) -> Result<(), Memory>
     requires present { present.old < plan.now.members }
     requires ticket { HasTicket plan.now.mode ticket }
-    requires fresh { D.tried desk.old ≡ [] }
+    requires room { D.room desk.old 9 }
     requires takes { (member : ℕ) → member < plan.now.members → D.takes desk.old member offer }
-    ensures told { tries.new ≡ tries.old ++ D.tried desk.new }
-    ensures route { OnOk result (let home = home_by plan.now.mode plan.now.members
-        offer.hash (unwrap_or ticket 0) offer.frame.cpu queue present.old in
-        IsRoute (rolls_over plan.now) plan.now.members home (D.tried desk.new)) }
-    ensures present { OnOk result (present.new
-        ≡ present_after plan.now.mode present.old (D.tried desk.new)) }
+    ensures delivery { OnOk result (IsDelivery D.made plan.now offer ticket queue
+        present.old present.new tries.old tries.new desk.old desk.new) }
+    ensures begun { OnErr result (IsBegunDelivery D.made plan.now offer ticket queue
+        present.old tries.old tries.new desk.old desk.new) }
+    ensures stays { OnErr result (present.new ≡ present.old) }
     ensures member { present.new < plan.now.members }
-    ensures refusals { OnErr result (let home = home_by plan.now.mode plan.now.members
-        offer.hash (unwrap_or ticket 0) offer.frame.cpu queue present.old in
-        IsBegun (rolls_over plan.now) plan.now.members home (D.tried desk.new)) }
-    ensures err { OnErr result (present.new ≡ present.old) }
+    ensures room { OnOk result ((n : ℕ) → D.room desk.old (n + 9) → D.room desk.new n) }
     ensures same { TakesTheSame (D.takes desk.old) (D.takes desk.new) }
-    ensures follows { D.follows desk.old desk.new }
-{
-    let mut told = mem::replace(tries, TryList::new(alloc)).into_small();
-    let made = deliver_by(plan, desk, present, queue, offer, ticket, &mut told);
-    *tries = TryList::from_small(told);
-    made
-}
-
-/// Delivers a packet to a group by its mode, as `deliver` says.
-pub(crate) fn deliver_by<D: Desk>(
-    plan: &Plan,
-    desk: &mut D,
-    present: &mut u32,
-    queue: u32,
-    offer: Offer,
-    ticket: Option<u64>,
-    tries: &mut SmallVec<Try, 1>,
-) -> Result<(), Memory>
-    requires present { present.old < plan.now.members }
-    requires ticket { HasTicket plan.now.mode ticket }
-    requires fresh { D.tried desk.old ≡ [] }
-    requires takes { (member : ℕ) → member < plan.now.members → D.takes desk.old member offer }
-    ensures told { tries.new.items ≡ tries.old.items ++ D.tried desk.new }
-    ensures route { OnOk result (let home = home_by plan.now.mode plan.now.members
-        offer.hash (unwrap_or ticket 0) offer.frame.cpu queue present.old in
-        IsRoute (rolls_over plan.now) plan.now.members home (D.tried desk.new)) }
-    ensures present { OnOk result (present.new
-        ≡ present_after plan.now.mode present.old (D.tried desk.new)) }
-    ensures member { present.new < plan.now.members }
-    ensures refusals { OnErr result (let home = home_by plan.now.mode plan.now.members
-        offer.hash (unwrap_or ticket 0) offer.frame.cpu queue present.old in
-        IsBegun (rolls_over plan.now) plan.now.members home (D.tried desk.new)) }
-    ensures err { OnErr result (present.new ≡ present.old) }
-    ensures same { TakesTheSame (D.takes desk.old) (D.takes desk.new) }
-    ensures follows { D.follows desk.old desk.new }
 {
     let home = home(plan, *present, queue, &offer, ticket);
-    let earlier = tries.len();
     make_tries(plan, desk, home, offer, tries)?;
-    let (_, route) = tries.as_slice().split_at(earlier);
-    *present = present_after(plan.mode(), *present, route);
+    *present = present_after(plan.mode(), *present, tries.as_slice());
     Ok(())
 }
 
@@ -120,57 +78,59 @@ fn make_tries<D: Desk>(
     desk: &mut D,
     home: u32,
     offer: Offer,
-    tries: &mut SmallVec<Try, 1>,
+    tries: &mut TryList,
 ) -> Result<(), Memory>
     requires home { home < plan.now.members }
-    requires fresh { D.tried desk.old ≡ [] }
+    requires room { D.room desk.old 9 }
     requires takes { (member : ℕ) → member < plan.now.members → D.takes desk.old member offer }
-    ensures told { tries.new.items ≡ tries.old.items ++ D.tried desk.new }
-    ensures route { OnOk result
-        (IsRoute (rolls_over plan.now) plan.now.members home (D.tried desk.new)) }
-    ensures refusals { OnErr result
-        (IsBegun (rolls_over plan.now) plan.now.members home (D.tried desk.new)) }
+    ensures route { OnOk result (AreListed D.made offer
+        (IsRoute (rolls_over plan.now) plan.now.members home)
+        tries.old tries.new desk.old desk.new) }
+    ensures begun { OnErr result (AreListed D.made offer
+        (IsBegun (rolls_over plan.now) plan.now.members home)
+        tries.old tries.new desk.old desk.new) }
+    ensures room { OnOk result ((n : ℕ) → D.room desk.old (n + 9) → D.room desk.new n) }
     ensures same { TakesTheSame (D.takes desk.old) (D.takes desk.new) }
-    ensures follows { D.follows desk.old desk.new }
 {
     if !plan.rolls_over() {
-        put_at(desk, home, offer, tries)?;
-        return Ok(());
+        return tries.put_at(desk, home, offer);
     }
     if let Some(offer) = try_round(desk, plan.members(), home, offer, tries)? {
-        put_at(desk, home, offer, tries)?;
+        tries.put_at(desk, home, offer)?;
     }
     Ok(())
 }
 
-/// Tries each member once, from the home on round the group, until one keeps the packet.
+/// Tries each member once, from the home on round the group, until one keeps the packet. The packet
+/// comes back if all refuse it.
 fn try_round<D: Desk>(
     desk: &mut D,
     members: u32,
     home: u32,
     offer: Offer,
-    tries: &mut SmallVec<Try, 1>,
+    tries: &mut TryList,
 ) -> Result<Option<Offer>, Memory>
     requires few { members ≤ 8 }
     requires home { home < members }
-    requires fresh { D.tried desk.old ≡ [] }
+    requires room { D.room desk.old members }
     requires takes { (member : ℕ) → member < members → D.takes desk.old member offer }
-    ensures told { tries.new.items ≡ tries.old.items ++ D.tried desk.new }
-    ensures kept { IfOk result (λ back. IfNone back
-        (IsKeptOnTheWay members home (D.tried desk.new))) }
-    ensures refused { IfOk result (λ back. IfSome back (λ _.
-        D.tried desk.new ≡ refused_from members home members)) }
+    ensures kept { IfOk result (λ back. IfNone back (AreListed D.made offer
+        (IsKeptOnTheWay members home) tries.old tries.new desk.old desk.new)) }
+    ensures refused { IfOk result (λ back. IfSome back (λ _. AreListed D.made offer
+        (λ more. more ≡ refused_from members home members)
+        tries.old tries.new desk.old desk.new)) }
     ensures back { IfOk result (λ back. IfSome back (λ back. back ≡ offer)) }
-    ensures err { OnErr result (AreRefusals members home (D.tried desk.new)) }
+    ensures begun { OnErr result (AreListed D.made offer (AreRefusals members home)
+        tries.old tries.new desk.old desk.new) }
+    ensures room { OnOk result ((n : ℕ) → D.room desk.old (n + members) → D.room desk.new n) }
     ensures same { TakesTheSame (D.takes desk.old) (D.takes desk.new) }
-    ensures follows { D.follows desk.old desk.new }
 {
     let mut member = home;
     let mut offer = offer;
     for turn in 0..members {
         // Twice the room, but not for more tries than an arrival can have.
         tries.reserve_exact(turn.min(members + 1 - turn) as usize)?;
-        match try_at(desk, member, offer, tries)? {
+        match tries.try_at(desk, member, offer)? {
             None => return Ok(None),
             Some(back) => offer = back,
         }
@@ -180,7 +140,7 @@ fn try_round<D: Desk>(
 }
 
 /// The present member after the tries of an arrival: in mode `Rollover` the member of the last one.
-pub(crate) fn present_after(mode: Mode, present: u32, tries: &[Try]) -> u32
+fn present_after(mode: Mode, present: u32, tries: &[Try]) -> u32
     ensures { result ≡ present_after mode present tries.now }
 {
     match (mode, tries.last()) {

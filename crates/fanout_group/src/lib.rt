@@ -4,6 +4,7 @@
 
 mod delivery;
 mod desk;
+mod group;
 mod judgements;
 mod laws;
 mod logs;
@@ -12,13 +13,12 @@ mod plan;
 mod plan_error;
 mod receive_path;
 mod runs;
-mod tries;
 mod try_list;
-mod try_trace;
 
 pub use capture_file::CpuEnd;
 pub use delivery::deliver;
 pub use desk::Desk;
+pub use group::Group;
 pub use judgements::{ArrivalRules, Judged};
 pub use laws::{
     arrivals_are_sound, arrivals_rise, each_frame_appears_exactly_once, tries_go_round,
@@ -31,4 +31,3 @@ pub use receive_path::ReceivePath;
 pub use runs::{CpuLog, CpuLogList};
 pub use ticket_dealer::{Dealer, DealerSeat};
 pub use try_list::TryList;
-pub use try_trace::TryTrace;

@@ -1,25 +1,26 @@
 //! The receive path of a CPU: from the frames of its capture to arrivals, and from the tries of an
 //! arrival to its log.
-ghost use Rattle.std.specs.Prelude.{◌≡◌, ◌<◌, ◌≤◌, ℕ, List, [], ◌∷◌, ◌++◌, None, Some, unwrap_or};
+ghost use Rattle.std.specs.Prelude.{◌≡◌, ◌+◌, ◌<◌, ◌≤◌, ℕ, List, [], ◌∷◌, ◌++◌, None, Some};
 ghost use Rattle.std.specs.Prelude.{All, IfOk, IfSome, OnErr, OnOk};
 ghost use Rattle.capture_file.specs.Laws.{IsCaptured};
 ghost use Rattle.fanout_group.specs.Arrivals.{HasPlaceOf, IsArrival, IsUntagged, arrival_at};
 ghost use Rattle.fanout_group.specs.Arrivals.{held_after, held_behind, no_runt, whole_at};
+ghost use Rattle.fanout_group.specs.Deliveries.{AreTriesOf, HasDrawn, IsGivenUp, Received};
+ghost use Rattle.fanout_group.specs.Deliveries.{TakesAllOf};
 ghost use Rattle.fanout_group.specs.Desks.{TakesTheSame};
-ghost use Rattle.fanout_group.specs.Judgements.{IsJudged, Lens, rules_by};
-ghost use Rattle.fanout_group.specs.Paths.{IsPath, IsPathBehind, IsPathTo, first_path, logged};
-ghost use Rattle.fanout_group.specs.Plans.{has_defrag, rolls_over};
+ghost use Rattle.fanout_group.specs.Judgements.{AgreesAt, Lens, rules_by};
+ghost use Rattle.fanout_group.specs.Lenses.{lens_of};
+ghost use Rattle.fanout_group.specs.Paths.{IsPath, IsPathBehind, IsPathTo, first_path};
+ghost use Rattle.fanout_group.specs.Plans.{has_defrag};
 ghost use Rattle.fanout_group.specs.Routes.{IsBegun, IsRoute, present_after};
-ghost use Rattle.fanout_group.specs.Rules.{HasTicket, Rules, home_by};
+ghost use Rattle.fanout_group.specs.Rules.{HasTicket, Rules};
 ghost use Rattle.frame_view.specs.declared.frames.Frame.{Frame};
 ghost use Rattle.ip_defrag.specs.Fold.{pass};
 
-use crate::delivery::deliver_by;
-use crate::{ArrivalList, ArrivalLog, Desk, Plan, TryList};
+use crate::{ArrivalList, ArrivalLog, ArrivalRules, Group, Judged, Mode, Plan, deliver};
 use frame_view::{Frame, Memory, untag};
 use ip_defrag::Defrag;
 use ring_model::Offer;
-use smallvec::SmallVec;
 use std::alloc::Global;
 use std::marker::Model;
 
@@ -114,68 +115,51 @@ impl ReceivePath {
         }
     }
 
-    /// Logs an arrival whose verdict is 0: no member is tried. After `Memory` the path is
-    /// unchanged.
-    pub fn pass_over(&mut self, entry: ArrivalLog) -> Result<(), Memory>
-        requires none { entry.tries ≡ [] }
-        ensures ok { OnOk result (self.new ≡ logged entry self.old) }
-        ensures err { OnErr result (self.new ≡ self.old) }
-        ensures lawful { OnOk result
-            ((group : Lens) (room : ℕ) (frames : List Frame) (arrival : Frame)
-            → HasTicket self.old.shape.mode entry.ticket
-            → IsJudged group room arrival entry None
-            → IsPathTo (rules_by self.old.shape group) frames arrival self.old
-            → IsPath (rules_by self.old.shape group) frames self.new) }
-    {
-        self.log.push(entry)?;
-        Ok(())
-    }
-
-    /// Delivers the offer of an arrival, and logs the arrival with the tries that were made: memory
-    /// for the entry is reserved first, so that no packet is kept without being logged. After
-    /// `Memory` the path is unchanged, and the desk's tries are what `deliver` says of them.
-    pub fn deliver<D: Desk>(
+    /// Receives an arrival of the CPU: it draws its ticket if the mode has tickets, is judged, its
+    /// offer is delivered, and it is logged with the tries that were made. If its verdict is 0 no
+    /// member is tried.
+    ///
+    /// Memory for the entry is reserved before the delivery, so that no packet is kept without
+    /// being logged. After `Memory` the path is unchanged and no member has the packet; a ticket
+    /// that was drawn stays drawn.
+    pub fn receive<G: Group>(
         &mut self,
         alloc: Global,
-        desk: &mut D,
-        queue: u32,
-        entry: ArrivalLog,
-        offer: Offer,
+        rules: &ArrivalRules,
+        group: &mut G,
+        arrival: Frame,
     ) -> Result<(), Memory>
-        requires ticket { HasTicket self.old.shape.mode entry.ticket }
-        requires none { entry.tries ≡ [] }
-        requires fresh { D.tried desk.old ≡ [] }
-        requires takes { (member : ℕ) → member < self.old.shape.members
-            → D.takes desk.old member offer }
-        ensures ok { OnOk result (self.new
-            ≡ logged (record entry { tries = D.tried desk.new }) self.old) }
-        ensures route { OnOk result (let home = home_by self.old.shape.mode self.old.shape.members
-            offer.hash (unwrap_or entry.ticket 0) offer.frame.cpu queue self.old.present in
-            IsRoute (rolls_over self.old.shape) self.old.shape.members home (D.tried desk.new)) }
-        ensures refusals { OnErr result (let home = home_by self.old.shape.mode
-            self.old.shape.members offer.hash (unwrap_or entry.ticket 0) offer.frame.cpu queue
-            self.old.present in
-            IsBegun (rolls_over self.old.shape) self.old.shape.members home (D.tried desk.new)) }
+        requires arrival { IsArrival arrival }
+        requires block { 82 < rules.now.room }
+        requires may_draw { G.may_draw group.old }
+        requires room { G.room group.old 9 }
+        requires takes { TakesAllOf (G.takes group.old) self.old.shape.members rules.now.room
+            arrival.cpu }
+        ensures received { OnOk result (Received G.made G.drew rules.now arrival
+            self.old self.new group.old group.new) }
+        ensures lawful { OnOk result ((lens : Lens) (frames : List Frame)
+            → AgreesAt arrival.cpu lens (lens_of rules.now)
+            → IsPathTo (rules_by self.old.shape lens) frames arrival self.old
+            → IsPath (rules_by self.old.shape lens) frames self.new) }
+        ensures room { OnOk result ((n : ℕ) → G.room group.old (n + 9) → G.room group.new n) }
         ensures err { OnErr result (self.new ≡ self.old) }
-        ensures lawful { OnOk result
-            ((group : Lens) (room : ℕ) (frames : List Frame) (arrival : Frame)
-            → group.queue arrival.cpu ≡ queue
-            → IsJudged group room arrival entry (Some offer)
-            → IsPathTo (rules_by self.old.shape group) frames arrival self.old
-            → IsPath (rules_by self.old.shape group) frames self.new) }
-        ensures same { TakesTheSame (D.takes desk.old) (D.takes desk.new) }
-        ensures follows { D.follows desk.old desk.new }
+        ensures given_up { OnErr result (IsGivenUp G.made G.drew rules.now arrival self.old
+            group.old group.new) }
+        ensures same { TakesTheSame (G.takes group.old) (G.takes group.new) }
     {
-        deliver_and_log(
+        let ticket = draw(self.plan.mode(), group);
+        let Judged { mut entry, offer } = rules.judge(alloc, arrival, ticket);
+        self.log.reserve(1)?;
+        offer_to(
             alloc,
             &self.plan,
-            desk,
+            group,
             &mut self.present,
-            queue,
-            entry,
+            rules.queue,
             offer,
-            &mut self.log,
+            &mut entry,
         )?;
+        self.log.push_reserved(entry);
         Ok(())
     }
 
@@ -187,47 +171,58 @@ impl ReceivePath {
     }
 }
 
-/// Delivers the offer of an arrival to a group, and puts its entry with the tries that were made at
-/// the end of a log.
-fn deliver_and_log<D: Desk>(
+/// Draws the ticket of an arrival, which has one only in mode `Lb`.
+fn draw<G: Group>(mode: Mode, group: &mut G) -> Option<u64>
+    requires may_draw { G.may_draw group.old }
+    ensures ticket { HasTicket mode result }
+    ensures drawn { HasDrawn G.drew result group.old group.new }
+    ensures room { (n : ℕ) → G.room group.old n → G.room group.new n }
+    ensures same { TakesTheSame (G.takes group.old) (G.takes group.new) }
+{
+    match mode {
+        Mode::Lb => Some(group.ticket()),
+        _ => None,
+    }
+}
+
+/// Delivers what an arrival offers, if it offers anything, and reports the tries in its entry. The
+/// offer is announced first.
+fn offer_to<G: Group>(
     alloc: Global,
     plan: &Plan,
-    desk: &mut D,
+    group: &mut G,
     present: &mut u32,
     queue: u32,
-    entry: ArrivalLog,
-    offer: Offer,
-    log: &mut Vec<ArrivalLog>,
+    offer: Option<Offer>,
+    entry: &mut ArrivalLog,
 ) -> Result<(), Memory>
     requires present { present.old < plan.now.members }
-    requires ticket { HasTicket plan.now.mode entry.ticket }
-    requires none { entry.tries ≡ [] }
-    requires fresh { D.tried desk.old ≡ [] }
-    requires takes { (member : ℕ) → member < plan.now.members → D.takes desk.old member offer }
-    ensures logged { OnOk result (log.new.items
-        ≡ log.old.items ++ record entry { tries = D.tried desk.new } ∷ []) }
-    ensures route { OnOk result (let home = home_by plan.now.mode plan.now.members
-        offer.hash (unwrap_or entry.ticket 0) offer.frame.cpu queue present.old in
-        IsRoute (rolls_over plan.now) plan.now.members home (D.tried desk.new)) }
+    requires ticket { HasTicket plan.now.mode entry.old.ticket }
+    requires none { entry.old.tries ≡ [] }
+    requires room { G.room group.old 9 }
+    requires takes { IfSome offer (λ offer.
+        (member : ℕ) → member < plan.now.members → G.takes group.old member offer) }
+    ensures tried { OnOk result (AreTriesOf IsRoute G.made plan.now entry.old.ticket queue
+        present.old offer entry.new.tries group.old group.new) }
+    ensures begun { OnErr result (AreTriesOf IsBegun G.made plan.now entry.old.ticket queue
+        present.old offer entry.new.tries group.old group.new) }
+    ensures entry { entry.new ≡ record entry.old { tries = entry.new.tries } }
     ensures present { OnOk result (present.new
-        ≡ present_after plan.now.mode present.old (D.tried desk.new)) }
-    ensures member { present.new < plan.now.members }
-    ensures refusals { OnErr result (let home = home_by plan.now.mode plan.now.members
-        offer.hash (unwrap_or entry.ticket 0) offer.frame.cpu queue present.old in
-        IsBegun (rolls_over plan.now) plan.now.members home (D.tried desk.new)) }
-    ensures err { OnErr result (log.new.items ≡ log.old.items) }
+        ≡ present_after plan.now.mode present.old entry.new.tries) }
     ensures stays { OnErr result (present.new ≡ present.old) }
-    ensures same { TakesTheSame (D.takes desk.old) (D.takes desk.new) }
-    ensures follows { D.follows desk.old desk.new }
+    ensures member { present.new < plan.now.members }
+    ensures room { OnOk result ((n : ℕ) → G.room group.old (n + 9) → G.room group.new n) }
+    ensures same { TakesTheSame (G.takes group.old) (G.takes group.new) }
 {
-    log.reserve(1)?;
-    let mut tries = SmallVec::new(alloc);
-    deliver_by(plan, desk, present, queue, offer, entry.ticket, &mut tries)?;
-    log.push_reserved(ArrivalLog {
-        tries: TryList::from_small(tries),
-        ..entry
-    });
-    Ok(())
+    match offer {
+        Some(offer) => {
+            group.announce(&offer);
+            let ticket = entry.ticket;
+            let tries = &mut entry.tries;
+            deliver(alloc, plan, group, present, queue, offer, ticket, tries)
+        }
+        None => Ok(()),
+    }
 }
 
 /// Passes an untagged frame through reassembly.

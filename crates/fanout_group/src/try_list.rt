@@ -1,9 +1,12 @@
 //! The tries of an arrival.
-ghost use Rattle.std.specs.Prelude.{◌≡◌, ◌^◌, ◌<◌, ◌∷◌, ◌++◌, ◌↔◌, [], length, option_copied};
-ghost use Rattle.std.specs.Prelude.{slice_get, IsTrue, OnErr, OnOk};
+ghost use Rattle.std.specs.Prelude.{◌≡◌, ◌+◌, ◌∷◌, ◌++◌, ◌↔◌, ℕ, [], length, option_copied};
+ghost use Rattle.std.specs.Prelude.{slice_get, IfOk, IfSome, IsTrue, OnErr, OnOk};
+ghost use Rattle.fanout_group.specs.Desks.{TakesTheSame};
+ghost use Rattle.fanout_group.specs.inside.TryEffects.{AreListed, IsNone, IsPut, IsTried};
 
-use crate::Try;
+use crate::{Desk, Fate, Try};
 use frame_view::Memory;
+use ring_model::{Offer, Put, Tried};
 use smallvec::SmallVec;
 use std::alloc::Global;
 use std::marker::Model;
@@ -71,17 +74,67 @@ impl TryList {
         Ok(())
     }
 
-    /// The tries as a `Vec`, so that memory can be reserved and more appended. It takes no memory.
-    pub(crate) fn into_small(self) -> SmallVec<Try, 1>
-        ensures { result.items ≡ self }
+    /// Reserves memory for n more tries, and for no more than that. After `Memory` the list is
+    /// unchanged.
+    pub(crate) fn reserve_exact(&mut self, more: usize) -> Result<(), Memory>
+        ensures { self.new ≡ self.old }
     {
-        self.tries
+        self.tries.reserve_exact(more)?;
+        Ok(())
     }
 
-    /// The list of these tries. It takes no memory.
-    pub(crate) fn from_small(tries: SmallVec<Try, 1>) -> TryList
-        ensures { result ≡ tries.items }
+    /// Tries to give an offer to a member of a desk; it comes back if the member refuses it. Memory
+    /// for the try is reserved first, so that no try is made without being listed.
+    pub(crate) fn try_at<D: Desk>(
+        &mut self,
+        desk: &mut D,
+        member: u32,
+        offer: Offer,
+    ) -> Result<Option<Offer>, Memory>
+        requires takes { D.takes desk.old member offer }
+        requires room { D.room desk.old 1 }
+        ensures tried { IfOk result (λ back. AreListed D.made offer (IsTried member back)
+            self.old self.new desk.old desk.new) }
+        ensures back { IfOk result (λ back. IfSome back (λ back. back ≡ offer)) }
+        ensures room { OnOk result ((n : ℕ) → D.room desk.old (n + 1) → D.room desk.new n) }
+        ensures err { OnErr result (AreListed D.made offer IsNone
+            self.old self.new desk.old desk.new) }
+        ensures same { TakesTheSame (D.takes desk.old) (D.takes desk.new) }
     {
-        TryList { tries }
+        self.tries.reserve(1)?;
+        let (fate, back) = match desk.try_put(member, offer) {
+            Ok(Tried::Kept) => (Fate::Kept, None),
+            Ok(Tried::Refused(offer)) => (Fate::Refused, Some(offer)),
+            Err(_) => return Err(Memory),
+        };
+        self.tries.push_reserved(Try { member, fate });
+        Ok(back)
+    }
+
+    /// Gives an offer to a member of a desk, which keeps it or drops it. Memory for the try is
+    /// reserved first.
+    pub(crate) fn put_at<D: Desk>(
+        &mut self,
+        desk: &mut D,
+        member: u32,
+        offer: Offer,
+    ) -> Result<(), Memory>
+        requires takes { D.takes desk.old member offer }
+        requires room { D.room desk.old 1 }
+        ensures put { OnOk result (AreListed D.made offer (IsPut member)
+            self.old self.new desk.old desk.new) }
+        ensures room { OnOk result ((n : ℕ) → D.room desk.old (n + 1) → D.room desk.new n) }
+        ensures err { OnErr result (AreListed D.made offer IsNone
+            self.old self.new desk.old desk.new) }
+        ensures same { TakesTheSame (D.takes desk.old) (D.takes desk.new) }
+    {
+        self.tries.reserve(1)?;
+        let fate = match desk.put(member, offer) {
+            Ok(Put::Kept) => Fate::Kept,
+            Ok(Put::Dropped(_)) => Fate::Dropped,
+            Err(_) => return Err(Memory),
+        };
+        self.tries.push_reserved(Try { member, fate });
+        Ok(())
     }
 }

@@ -1,11 +1,11 @@
 //! Whole deliveries: each arrival is judged, delivered and logged, and its tries are compared.
 ghost use Rattle.std.specs.Prelude.{◌≡◌, ◌<◌, ◌≤◌, None, length, IfOk, OnOk};
 ghost use Rattle.fanout_group.specs.Arrivals.{IsArrival};
-ghost use Rattle.fanout_group.specs.Rules.{HasTicket};
+ghost use Rattle.group_tests.specs.Rooms.{IsDeskOf};
 
 use crate::list_desk::{ListDesk, shown};
 use bpf_filter::{Program, read_ddd};
-use fanout_group::{ArrivalList, ArrivalRules, Judged, Mode, Plan, ReceivePath};
+use fanout_group::{ArrivalList, ArrivalRules, Mode, Plan, ReceivePath};
 use flow_hash::Key;
 use frame_view::{ByteList, Frame, Memory};
 use std::alloc::Global;
@@ -44,38 +44,21 @@ pub(crate) fn arrival(alloc: Global, cpu: u32, index: u32, bytes: &[u8]) -> Resu
     })
 }
 
-/// Judges an arrival, delivers what it offers, and logs it.
+/// The path receives an arrival at a desk with all members of its group.
 pub(crate) fn take(
     alloc: Global,
     path: &mut ReceivePath,
     rules: &ArrivalRules<'_>,
     desk: &mut ListDesk,
     arrival: Frame,
-    ticket: Option<u64>,
 ) -> Result<(), Memory>
     requires arrival { IsArrival arrival }
     requires room { 82 < rules.now.room }
-    requires ticket { HasTicket path.old.shape.mode ticket }
-    requires members { path.old.shape.members ≡ length desk.old.rooms.items }
+    requires members { IsDeskOf path.old.shape.members desk.old.rooms.items }
     ensures shape { OnOk result (path.new.shape ≡ path.old.shape) }
-    ensures members { OnOk result (length desk.new.rooms.items ≡ length desk.old.rooms.items) }
+    ensures members { IsDeskOf path.old.shape.members desk.new.rooms.items }
 {
-    desk.tries = Vec::new(alloc);
-    let Judged { entry, offer } = rules.judge(alloc, arrival, ticket);
-    match offer {
-        None => path.pass_over(entry),
-        Some(offer) => path.deliver(alloc, desk, rules.queue, entry, offer),
-    }
-}
-
-/// The ticket of an arrival, if the mode draws one.
-fn ticket(mode: Mode, next: u32) -> Option<u64>
-    ensures { HasTicket mode result }
-{
-    match mode {
-        Mode::Lb => Some(u64::from(next)),
-        _ => None,
-    }
+    path.receive(alloc, rules, desk, arrival)
 }
 
 /// The log of arrivals with these bytes each, at members that each have room for `room` packets.
@@ -91,20 +74,13 @@ fn log_of(
 {
     let mut desk = ListDesk {
         rooms: vec![in alloc; room; plan.members() as usize]?,
-        tries: Vec::new(alloc),
+        ticket: 0,
     };
     let mut path = ReceivePath::new(alloc, plan);
     for (index, &bytes) in frames.iter().enumerate() {
         let index = index as u32;
-        let ticket = ticket(plan.mode(), index);
-        take(
-            alloc,
-            &mut path,
-            rules,
-            &mut desk,
-            arrival(alloc, 0, index, bytes)?,
-            ticket,
-        )?;
+        let arrival = arrival(alloc, 0, index, bytes)?;
+        take(alloc, &mut path, rules, &mut desk, arrival)?;
     }
     Ok(path.into_log())
 }

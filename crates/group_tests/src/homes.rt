@@ -1,7 +1,6 @@
 //! Which groups are valid, and the member that an arrival is for if each member has room.
-ghost use Rattle.std.specs.Prelude.{◌≡◌, ◌<◌, None, length, IfOk};
+ghost use Rattle.std.specs.Prelude.{◌≡◌, ◌<◌, length, IfOk};
 ghost use Rattle.fanout_group.specs.Arrivals.{IsArrival};
-ghost use Rattle.fanout_group.specs.Rules.{HasTicket};
 
 use crate::deliveries::{DIGITS, OPEN, arrival, take};
 use crate::list_desk::ListDesk;
@@ -71,14 +70,13 @@ fn member_of(
 ) -> Result<Option<u32>, Memory>
     requires arrival { IsArrival arrival }
     requires room { 82 < rules.now.room }
-    requires mode { HasTicket plan.mode None }
 {
     let mut desk = ListDesk {
         rooms: vec![in alloc; 1; plan.members() as usize]?,
-        tries: Vec::new(alloc),
+        ticket: 0,
     };
     let mut path = ReceivePath::new(alloc, plan);
-    take(alloc, &mut path, rules, &mut desk, arrival, None)?;
+    take(alloc, &mut path, rules, &mut desk, arrival)?;
     match path.into_log().get(0) {
         Some(entry) => Ok(keeper(entry.tries.as_slice())),
         None => Ok(None),
@@ -164,7 +162,6 @@ fn members_of(
     flow: u16,
 ) -> Result<(Option<u32>, Option<u32>), Memory>
     requires room { 82 < rules.now.room }
-    requires mode { HasTicket plan.mode None }
     requires few { flow < 100 }
 {
     let host = (0x0a00_0001 + u32::from(flow), 1000 + flow);
