@@ -1,15 +1,11 @@
 -- The log of a CPU stays lawful, frame by frame.
 use Rattle.std.proofs.Common.{◌≡◌, ℕ, zero, suc, ◌+◌, List, [], ◌∷◌, ◌++◌, take, Option, None, Some, sym, ap, ◌∙◌, subst, arith}
-use Rattle.std.specs.Prelude.{OnOk, Result, slice_get}
-use Rattle.std.proofs.lemmas.Result.{on_ok_weaker}
+use Rattle.std.specs.Prelude.{slice_get}
 use Rattle.frame_view.specs.declared.frames.Frame.{Frame}
-use Rattle.fanout_group.specs.Judgements.{IsJudged, Lens, rules_by}
-use Rattle.fanout_group.specs.Paths.{IsPath, IsPathBehind, IsPathTo, Path}
+use Rattle.fanout_group.specs.Paths.{IsPath, IsPathBehind, Path}
 use Rattle.fanout_group.specs.Rules.{Rules}
-use Rattle.fanout_group.specs.declared.logs.ArrivalLog.{ArrivalLog}
-use Rattle.ring_model.specs.declared.notes.Offer.{Offer}
 use Rattle.cpu_feed.specs.Feeding.{Feeding, HasRead, IsAllOfCpu, Pops, behind, frames_in}
-use Rattle.cpu_feed.specs.Lawful.{FeedsLawfully, LogsLawfully}
+use Rattle.cpu_feed.specs.inside.Steps.{FeedsLawfully}
 
 take_suc : (n : ℕ) (xs ys : List Frame) (x : Frame) → Some x ≡ slice_get xs n → take (suc n) (xs ++ ys) ≡ take n (xs ++ ys) ++ x ∷ []
 take_suc n [] ys x e = cc
@@ -56,15 +52,3 @@ module _ (old mid : Feeding) (read : HasRead old mid) where
       let fed : old.fed ≡ popped.fed = sym (ap (λ (cpu : Feeding). cpu.fed) now ∙ same_fed) in
       let path : old.path ≡ popped.path = sym (ap (λ (cpu : Feeding). cpu.path) now ∙ same_path) in
       subst (λ n. IsPath rules (take n all) popped.path) fed (subst (λ (p : Path). IsPath rules (take old.fed all) p) path lawful)
-
--- ---- an arrival is logged
-
-pub logs_so : {A E : Type 0} (result : Result A E) (Asked : Feeding → Lens → Frame → Type 0) (was now new : Feeding) (entry : ArrivalLog) (made : Option Offer)
-    → was ≡ now → new.fed ≡ was.fed
-    → OnOk result ((group : Lens) (room : ℕ) (frames : List Frame) (arrival : Frame) → Asked was group arrival → IsJudged group room arrival entry made
-    → IsPathTo (rules_by was.path.shape group) frames arrival was.path → IsPath (rules_by was.path.shape group) frames new.path)
-    → OnOk result ((group : Lens) (room : ℕ) → LogsLawfully group room (Asked now group) now entry made new)
-logs_so result Asked was now new entry made is fed told =
-    subst (λ (cpu : Feeding). OnOk result ((group : Lens) (room : ℕ) → LogsLawfully group room (Asked cpu group) cpu entry made new)) is
-    (on_ok_weaker result (λ law group room all arrival asked judged to.
-    subst (λ n. IsPath (rules_by was.path.shape group) (take n all) new.path) (sym fed) (law group room (take was.fed all) arrival asked judged to)) told)

@@ -1,5 +1,6 @@
 mod Piecewise
 mod Totals
 mod Lawfulness
+mod FedFrames
 pub mod ClosedOnes
 mod SourceFacts

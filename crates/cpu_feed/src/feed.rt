@@ -5,23 +5,26 @@
 //! A frame that is fed moves out of the queue into the receive path. The source has ended once a
 //! read gave no byte or failed, or the bytes showed damage; the frames before that are still fed.
 ghost use Rattle.std.specs.Prelude.{◌≡◌, ◌≢◌, ◌+◌, ◌<◌, ◌≤◌, ℕ, List, None, Some, false, true, []};
-ghost use Rattle.std.specs.Prelude.{◌∷◌, ◌++◌, length, option_map, unwrap_or, IfOk, IfSome, IsSome};
-ghost use Rattle.std.specs.Prelude.{OnErr, OnOk};
+ghost use Rattle.std.specs.Prelude.{◌∷◌, ◌++◌, length, option_map, IfOk, IfSome, IsSome, OnErr};
+ghost use Rattle.std.specs.Prelude.{OnOk};
 ghost use Rattle.capture_file.specs.Laws.{IsCaptured};
 ghost use Rattle.capture_file.specs.declared.cpu_end.CpuEnd.TheVariants.{Fault};
-ghost use Rattle.fanout_group.specs.Arrivals.{HasPlaceOf, IsArrival, arrival_at, held_behind};
-ghost use Rattle.fanout_group.specs.Judgements.{Lens};
-ghost use Rattle.fanout_group.specs.Paths.{IsPath, IsPathBehind, first_path, logged};
-ghost use Rattle.fanout_group.specs.Plans.{has_defrag, rolls_over};
-ghost use Rattle.fanout_group.specs.Routes.{IsBegun, IsRoute};
-ghost use Rattle.fanout_group.specs.Rules.{HasTicket, Rules, home_by};
-ghost use Rattle.frame_view.specs.declared.frames.Frame.{Frame};
 ghost use Rattle.cpu_feed.specs.Feeding.{Closes, FailsFed, HasNotFailed, HasRead, IsAllOfCpu};
 ghost use Rattle.cpu_feed.specs.Feeding.{IsReady, IsSameCpu, Pops, ReadsWhereNoneWaits, Takes};
 ghost use Rattle.cpu_feed.specs.Feeding.{frames_in, unread};
-ghost use Rattle.cpu_feed.specs.Fed.{GoesOn, arrival_of};
+ghost use Rattle.cpu_feed.specs.Feeds.{Feeds, GivesUp};
+ghost use Rattle.cpu_feed.specs.Lawful.{IsLawful};
 ghost use Rattle.cpu_feed.specs.declared.fed.Fed.TheVariants.{End};
-ghost use Rattle.cpu_feed.specs.Lawful.{FeedsLawfully, LogsLawfully};
+ghost use Rattle.cpu_feed.specs.inside.Steps.{FeedsLawfully, GoesOn, arrival_of};
+ghost use Rattle.fanout_group.specs.Arrivals.{HasPlaceOf, IsArrival, arrival_at, held_behind};
+ghost use Rattle.fanout_group.specs.Deliveries.{IsGivenUp, Received, TakesAllOf};
+ghost use Rattle.fanout_group.specs.Desks.{TakesTheSame};
+ghost use Rattle.fanout_group.specs.Judgements.{AgreesAt, Lens, rules_by};
+ghost use Rattle.fanout_group.specs.Lenses.{lens_of};
+ghost use Rattle.fanout_group.specs.Paths.{IsPath, IsPathBehind, IsPathTo, first_path};
+ghost use Rattle.fanout_group.specs.Plans.{has_defrag};
+ghost use Rattle.fanout_group.specs.Rules.{Rules};
+ghost use Rattle.frame_view.specs.declared.frames.Frame.{Frame};
 
 use crate::fed::Fed;
 use crate::trace::Trace;
@@ -30,9 +33,8 @@ use capture_file::{
     frames_are_few, frames_are_numbered, too_many_bytes_are_damage,
 };
 use capture_reading::{Buffer, decode, end_at, ended_by};
-use fanout_group::{ArrivalLog, CpuLog, Desk, Plan, ReceivePath};
+use fanout_group::{ArrivalRules, CpuLog, Group, Plan, ReceivePath};
 use frame_view::{Frame, Memory};
-use ring_model::Offer;
 use std::alloc::Global;
 use std::collections::VecDeque;
 use std::marker::Model;
@@ -116,6 +118,13 @@ impl<S: Source> CpuFeed<S> {
             first,
             trace: Trace::new(),
         }
+    }
+
+    /// Its number, from 0.
+    pub fn number(&self) -> u32
+        ensures { result ≡ self.now.number }
+    {
+        self.number
     }
 
     /// Whether more has to be read before a frame can be fed.
@@ -224,9 +233,8 @@ impl<S: Source> CpuFeed<S> {
     }
 
     /// Feeds the next frame, if there is one, and returns what arrives with it. Reads on if no
-    /// frame waits. The only error is that an allocation fails, never that a read failed; a CPU
-    /// that returned it has to be dropped.
-    pub fn next(&mut self, alloc: Global, buffer: &mut Buffer) -> Result<Fed, Memory>
+    /// frame waits.
+    fn next(&mut self, alloc: Global, buffer: &mut Buffer) -> Result<Fed, Memory>
         ensures same { OnOk result (IsSameCpu self.old self.new) }
         ensures takes { IfOk result (λ fed. (all : List Frame)
             → IsAllOfCpu all self.new → Takes all self.old (arrival_of fed) self.new) }
@@ -237,6 +245,8 @@ impl<S: Source> CpuFeed<S> {
         ensures idle { IfOk result (λ fed. fed ≡ End → self.new.fed ≡ self.old.fed) }
         ensures waits { OnOk result (ReadsWhereNoneWaits self.old self.new) }
         ensures lawful { IfOk result (λ fed. FeedsLawfully self.old (arrival_of fed) self.new) }
+        ensures reads { IfOk result (λ fed.
+            IfSome (arrival_of fed) (λ _. HasNotFailed self.old self.new)) }
         ensures err { OnErr result (HasNotFailed self.old self.new) }
     {
         frames_are_few();
@@ -252,54 +262,72 @@ impl<S: Source> CpuFeed<S> {
         }
     }
 
-    /// Logs an arrival whose verdict is 0. The only error is that an allocation fails; the CPU is
-    /// as before then.
-    pub fn pass_over(&mut self, entry: ArrivalLog) -> Result<(), Memory>
-        requires none { entry.tries ≡ [] }
-        ensures ok { OnOk result (self.new
-            ≡ record self.old { path = logged entry self.old.path }) }
-        ensures lawful { OnOk result ((group : Lens) (room : ℕ)
-            → LogsLawfully group room (λ _. HasTicket self.old.path.shape.mode entry.ticket)
-            self.old entry None self.new) }
-        ensures err { OnErr result (self.new ≡ self.old) }
-    {
-        self.path.pass_over(entry)
-    }
-
-    /// Delivers the offer of an arrival at a desk, and logs the arrival with the tries that were
-    /// made. The only error is that an allocation fails; the CPU is as before then, and no member
-    /// has the packet.
-    pub fn deliver<D: Desk>(
+    /// Receives an arrival of the CPU, as `ReceivePath::receive` says.
+    fn receive<G: Group>(
         &mut self,
         alloc: Global,
-        desk: &mut D,
-        queue: u32,
-        entry: ArrivalLog,
-        offer: Offer,
+        rules: &ArrivalRules,
+        group: &mut G,
+        arrival: Frame,
     ) -> Result<(), Memory>
-        requires ticket { HasTicket self.old.path.shape.mode entry.ticket }
-        requires none { entry.tries ≡ [] }
-        requires fresh { D.tried desk.old ≡ [] }
-        requires takes { (member : ℕ) → member < self.old.path.shape.members
-            → D.takes desk.old member offer }
-        ensures ok { OnOk result (self.new ≡ record self.old {
-          path = logged (record entry { tries = D.tried desk.new }) self.old.path;
-        }) }
-        ensures route { OnOk result (let path = self.old.path in
-            let home = home_by path.shape.mode path.shape.members
-            offer.hash (unwrap_or entry.ticket 0) offer.frame.cpu queue path.present in
-            IsRoute (rolls_over path.shape) path.shape.members home (D.tried desk.new)) }
-        ensures lawful { OnOk result ((group : Lens) (room : ℕ)
-            → LogsLawfully group room (λ arrival. group.queue arrival.cpu ≡ queue)
-            self.old entry (Some offer) self.new) }
-        ensures refusals { OnErr result (let path = self.old.path in
-            let home = home_by path.shape.mode path.shape.members
-            offer.hash (unwrap_or entry.ticket 0) offer.frame.cpu queue path.present in
-            IsBegun (rolls_over path.shape) path.shape.members home (D.tried desk.new)) }
-        ensures err { OnErr result (self.new ≡ self.old) }
-        ensures follows { D.follows desk.old desk.new }
+        requires arrival { IsArrival arrival }
+        requires block { 82 < rules.now.room }
+        requires may_draw { G.may_draw group.old }
+        requires room { G.room group.old 9 }
+        requires takes { TakesAllOf (G.takes group.old) self.old.path.shape.members rules.now.room
+            arrival.cpu }
+        ensures received { OnOk result (Received G.made G.drew rules.now arrival
+            self.old.path self.new.path group.old group.new) }
+        ensures rest { self.new ≡ record self.old { path = self.new.path } }
+        ensures lawful { OnOk result ((lens : Lens) (frames : List Frame)
+            → AgreesAt arrival.cpu lens (lens_of rules.now)
+            → IsPathTo (rules_by self.old.path.shape lens) frames arrival self.old.path
+            → IsPath (rules_by self.old.path.shape lens) frames self.new.path) }
+        ensures room { OnOk result ((n : ℕ) → G.room group.old (n + 9) → G.room group.new n) }
+        ensures given_up { OnErr result (IsGivenUp G.made G.drew rules.now arrival self.old.path
+            group.old group.new) }
+        ensures same { TakesTheSame (G.takes group.old) (G.takes group.new) }
     {
-        self.path.deliver(alloc, desk, queue, entry, offer)
+        self.path.receive(alloc, rules, group, arrival)
+    }
+
+    /// Feeds the next frame to a group, if there is one; returns whether there was. What arrives
+    /// with it is received by these rules and logged. Reads on if no frame waits.
+    ///
+    /// The only error is that an allocation fails, never that a read failed. No member has the
+    /// packet of an arrival that isn't logged then, and the CPU has to be dropped.
+    pub fn feed<G: Group>(
+        &mut self,
+        alloc: Global,
+        buffer: &mut Buffer,
+        rules: &ArrivalRules,
+        group: &mut G,
+    ) -> Result<bool, Memory>
+        requires block { 82 < rules.now.room }
+        requires may_draw { G.may_draw group.old }
+        requires room { G.room group.old 9 }
+        requires takes { TakesAllOf (G.takes group.old) self.old.path.shape.members rules.now.room
+            self.old.number }
+        ensures fed { IfOk result (λ more. Feeds G.made G.drew rules.now more
+            self.old self.new group.old group.new) }
+        ensures lawful { OnOk result ((lens : Lens) (all : List Frame)
+            → AgreesAt self.old.number lens (lens_of rules.now) → IsAllOfCpu all self.new
+            → IsLawful (rules_by self.old.path.shape lens) all self.old
+            → IsLawful (rules_by self.old.path.shape lens) all self.new) }
+        ensures waits { OnOk result (ReadsWhereNoneWaits self.old self.new) }
+        ensures room { OnOk result ((n : ℕ) → G.room group.old (n + 9) → G.room group.new n) }
+        ensures err { OnErr result (HasNotFailed self.old self.new) }
+        ensures given_up { OnErr result (GivesUp G.made G.drew rules.now group.old group.new) }
+        ensures same { TakesTheSame (G.takes group.old) (G.takes group.new) }
+    {
+        match self.next(alloc, buffer)? {
+            Fed::Arrival(arrival) => {
+                self.receive(alloc, rules, group, arrival)?;
+                Ok(true)
+            }
+            Fed::Nothing => Ok(true),
+            Fed::End => Ok(false),
+        }
     }
 
     /// The source, and what is logged of the CPU, once its source has ended.

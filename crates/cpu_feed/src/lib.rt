@@ -10,5 +10,4 @@ mod trace;
 
 pub use arrival_rules::rules_at;
 pub use closing::{ClosedCpus, close_cpus};
-pub use fed::Fed;
 pub use feed::CpuFeed;

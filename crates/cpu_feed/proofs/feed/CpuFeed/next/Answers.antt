@@ -57,3 +57,8 @@ returns-in_err-arrival-in-Some-clause-err g c =
     on_err c.from_residual-in_err-arrival-in-Some.result
     (still_reads c.args.self.now c.fill.new.self c.pop.new.self c.arrive.new.self c.in-Some.frame _ c.in_ok-fill.ensures.failed c.in_ok-frame.ensures.pops c.in-Some.is
     c.arrive.ensures.ended)
+
+pub returns-in-Some-2-clause-reads : goal.returns-in-Some-2-clause-reads
+returns-in-Some-2-clause-reads g c =
+    still_reads c.args.self.now c.fill.new.self c.pop.new.self c.arrive.new.self c.in-Some.frame _ c.in_ok-fill.ensures.failed c.in_ok-frame.ensures.pops c.in-Some.is
+    c.arrive.ensures.ended
