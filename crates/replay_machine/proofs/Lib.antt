@@ -1,11 +1,10 @@
 pub mod Clocks
 pub mod Whole
-pub mod Desks
+pub mod RingGroups
 pub mod RunRoutes
 pub mod RunArrivals
 pub mod RunCounts
 pub mod Timed
-pub mod CpuSteps
 pub mod RunSteps
 pub mod Lines
 pub mod WholeRuns

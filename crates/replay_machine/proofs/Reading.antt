@@ -11,7 +11,7 @@ use Rattle.tp_layout.specs.Layouts.{Taken}
 use Rattle.tp_layout.specs.declared.requests.RingRequest.{RingRequest}
 use Rattle.replay_machine.specs.inside.Members.{HasRead}
 
--- after so many of a list comes this one
+-- the item after the first n of a list
 record NextOf {X : Type 0} (count : ℕ) (all rest : List X) (x : X) : Type 0 where
   some : count < length all
   left : drop (suc count) all ≡ rest

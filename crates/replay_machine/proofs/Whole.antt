@@ -1,5 +1,5 @@
 -- The CPUs of a run, and those of the replay of all their frames, place by place.
-use Rattle.std.proofs.Common.{◌≡◌, ℕ, zero, suc, ◌+◌, ◌<◌, List, [], ◌∷◌, length, drop, get_or, Option, None, Some, refl, sym, ap, ◌∙◌, subst, arith}
+use Rattle.std.proofs.Common.{◌≡◌, ℕ, zero, suc, ◌+◌, ◌<◌, List, [], ◌∷◌, length, drop, get_or, Option, None, Some, refl, sym, ap, ◌∙◌, arith}
 use Rattle.std.specs.Prelude.{slice_set}
 use Rattle.fanout_group.specs.Paths.{Path}
 use Rattle.fanout_group.specs.Plans.{Shape}
@@ -7,10 +7,8 @@ use Rattle.frame_view.specs.declared.frames.Frame.{Frame}
 use Rattle.replay_model.specs.Replay.{Cpu, Replay, arrived, cpu_at, fed_by, feed, no_cpu}
 use Rattle.fanout_group.specs.Rules.{Rules}
 use Rattle.replay_model.specs.RingSteps.{RingSteps}
-use Rattle.cpu_feed.specs.Fed.{arrival_of}
-use Rattle.cpu_feed.specs.Feeding.{Feeding, IsAllOfCpu, next_of, Takes, waiting_of}
-use Rattle.replay_machine.specs.RunStates.{AreAllOf, AreCpus, Nexts, RunValue, cpu_in, cpus_of, no_feeding, whole, cpu_of}
-use Rattle.cpu_feed.specs.declared.fed.Fed.{Fed}
+use Rattle.cpu_feed.specs.Feeding.{Feeding, IsAllOfCpu, IsSameCpu, next_of, Takes, waiting_of}
+use Rattle.replay_machine.specs.RunStates.{AreAllOf, AreCpus, RunValue, cpu_in, cpus_of, no_feeding, whole, cpu_of}
 
 -- a CPU has one fewer waiting frame
 abbrev pub with_rest : ℕ → List (Option Frame) → Replay → Replay
@@ -44,7 +42,8 @@ all-at (a ∷ all) [] at h less = absurd h
 all-at (a ∷ all) (d ∷ cpus) zero h less = h.0
 all-at (a ∷ all) (d ∷ cpus) (suc at) h less = all-at all cpus at h.1 (omega (arith, less))
 
-pub all-set : (all : List (List Frame)) (cpus : List Feeding) (at : ℕ) (c : Feeding) → AreAllOf all (slice_set cpus at c) → at < length cpus
+pub all-set : (all : List (List Frame)) (cpus : List Feeding) (at : ℕ) (c : Feeding) → AreAllOf all (slice_set cpus at c)
+    → at < length cpus
     → IsAllOfCpu (get_or all at no_frames) c
 all-set [] [] at c h less = absurd (omega (arith, less))
 all-set [] (d ∷ cpus) zero c h less = absurd h
@@ -77,27 +76,33 @@ taken_cpu all old new arrival t =
     ap (λ (ws : List (Option Frame)). record { waiting = ws; present = new.path.present; log = new.path.log }) t.waiting_is
     ∙ ap (λ (path : Path). record { waiting = drop 1 (waiting_of all old); present = path.present; log = path.log }) t.path_is
 
-pub record Taken (cpu : ℕ) (fed : Fed) (all : List (List Frame)) (old new : RunValue) : Type 0 where
+-- the run after a CPU became this one
+abbrev pub with_cpu : ℕ → Feeding → RunValue → RunValue
+with_cpu cpu c run = record run { cpus = slice_set run.cpus cpu c }
+
+-- a CPU takes the next of all its frames, and this arrives with it
+pub record Nexts (cpu : ℕ) (arrival : Option Frame) (run : RunValue) (c : Feeding) : Type 0 where
+  pub same : IsSameCpu (cpu_in run cpu) c
+  pub takes : (all : List Frame) → IsAllOfCpu all c → Takes all (cpu_in run cpu) arrival c
+
+pub record Taken (cpu : ℕ) (arrival : Option Frame) (all : List (List Frame)) (old new : RunValue) : Type 0 where
   pub before : AreAllOf all old.cpus
   pub rest_is : whole all new ≡ with_rest cpu (drop 1 (cpu_at (whole all old) cpu).waiting) (whole all old)
-  pub arrival_is : arrival_of fed ≡ next_of (cpu_at (whole all old) cpu).waiting
+  pub arrival_is : arrival ≡ next_of (cpu_at (whole all old) cpu).waiting
 
-pub next_does : (cpu : ℕ) (fed : Fed) (all : List (List Frame)) (old new : RunValue) → Nexts cpu fed old new → cpu < length old.cpus → AreAllOf all new.cpus
-    → Taken cpu fed all old new
-next_does cpu fed all old new n within h =
-    let c = cpu_in new cpu in
+pub next_does : (cpu : ℕ) (arrival : Option Frame) (all : List (List Frame)) (run : RunValue) (c : Feeding)
+    → Nexts cpu arrival run c → cpu < length run.cpus
+    → AreAllOf all (slice_set run.cpus cpu c) → Taken cpu arrival all run (with_cpu cpu c run)
+next_does cpu arrival all run c n within h =
     let a = get_or all cpu no_frames in
-    let cpus_are : new.cpus ≡ slice_set old.cpus cpu c = ap (λ (run : RunValue). run.cpus) n.new_is in
-    let g : AreAllOf all (slice_set old.cpus cpu c) = subst (λ (cs : List Feeding). AreAllOf all cs) cpus_are h in
-    let t = n.takes a (all-set all old.cpus cpu c g within) in
-    let before = all-back all old.cpus cpu c g t.before in
-    let was : cpu_at (whole all old) cpu ≡ cpu_of a (cpu_in old cpu) = cpus-at all old.cpus cpu before within in
+    let t = n.takes a (all-set all run.cpus cpu c h within) in
+    let before = all-back all run.cpus cpu c h t.before in
+    let was : cpu_at (whole all run) cpu ≡ cpu_of a (cpu_in run cpu) = cpus-at all run.cpus cpu before within in
     record {
       before = before;
-      rest_is = ap (λ (run : RunValue). whole all run) n.new_is
-          ∙ ap (λ (cs : List Cpu). record (whole all old) { cpus = cs }) (cpus-set all old.cpus cpu c g)
-          ∙ ap (λ (x : Cpu). record (whole all old) { cpus = slice_set (cpus_of all old.cpus) cpu x })
-          (taken_cpu a (cpu_in old cpu) c (arrival_of fed) t ∙ ap (λ (x : Cpu). record x { waiting = drop 1 x.waiting }) (sym was));
+      rest_is = ap (λ (cs : List Cpu). record (whole all run) { cpus = cs }) (cpus-set all run.cpus cpu c h)
+          ∙ ap (λ (x : Cpu). record (whole all run) { cpus = slice_set (cpus_of all run.cpus) cpu x })
+          (taken_cpu a (cpu_in run cpu) c arrival t ∙ ap (λ (x : Cpu). record x { waiting = drop 1 x.waiting }) (sym was));
       arrival_is = t.arrival_is ∙ ap (λ (x : Cpu). next_of x.waiting) (sym was);
     }
 
@@ -107,7 +112,8 @@ set_same (x ∷ xs) zero d = refl
 set_same (x ∷ xs) (suc at) d = ap (λ ys. x ∷ ys) (set_same xs at d)
 
 -- what is fed, if nothing arrives, and where a frame does
-nothing_fed : (rules : Rules) (steps : RingSteps) (cpu : ℕ) (waiting : List (Option Frame)) (replay : Replay) → waiting ≡ (cpu_at replay cpu).waiting → None ≡ next_of waiting
+nothing_fed : (rules : Rules) (steps : RingSteps) (cpu : ℕ) (waiting : List (Option Frame)) (replay : Replay)
+    → waiting ≡ (cpu_at replay cpu).waiting → None ≡ next_of waiting
     → with_rest cpu (drop 1 waiting) replay ≡ fed_by rules steps cpu waiting replay
 nothing_fed rules steps cpu [] replay is e =
     ap (λ (ws : List (Option Frame)). with_rest cpu ws replay) is
@@ -115,7 +121,8 @@ nothing_fed rules steps cpu [] replay is e =
 nothing_fed rules steps cpu (None ∷ rest) replay is e = refl
 nothing_fed rules steps cpu (Some frame ∷ rest) replay is e = cc
 
-frame_fed : (rules : Rules) (steps : RingSteps) (cpu : ℕ) (waiting : List (Option Frame)) (frame : Frame) (replay : Replay) → Some frame ≡ next_of waiting
+frame_fed : (rules : Rules) (steps : RingSteps) (cpu : ℕ) (waiting : List (Option Frame)) (frame : Frame) (replay : Replay)
+    → Some frame ≡ next_of waiting
     → arrived rules steps cpu frame (with_rest cpu (drop 1 waiting) replay) ≡ fed_by rules steps cpu waiting replay
 frame_fed rules steps cpu [] frame replay e = cc
 frame_fed rules steps cpu (None ∷ rest) frame replay e = cc
@@ -127,7 +134,8 @@ pub feeds_nothing : (rules : Rules) (steps : RingSteps) (cpu : ℕ) (replay : Re
     → with_rest cpu (drop 1 (cpu_at replay cpu).waiting) replay ≡ feed rules steps cpu replay
 feeds_nothing rules steps cpu replay e = nothing_fed rules steps cpu (cpu_at replay cpu).waiting replay refl e
 
-pub feeds_frame : (rules : Rules) (steps : RingSteps) (cpu : ℕ) (frame : Frame) (replay : Replay) → Some frame ≡ next_of (cpu_at replay cpu).waiting
+pub feeds_frame : (rules : Rules) (steps : RingSteps) (cpu : ℕ) (frame : Frame) (replay : Replay)
+    → Some frame ≡ next_of (cpu_at replay cpu).waiting
     → arrived rules steps cpu frame (with_rest cpu (drop 1 (cpu_at replay cpu).waiting) replay) ≡ feed rules steps cpu replay
 feeds_frame rules steps cpu frame replay e = frame_fed rules steps cpu (cpu_at replay cpu).waiting frame replay e
 
@@ -147,7 +155,8 @@ cpus-shape plan number (c ∷ cpus) zero h less = h.1
 cpus-shape plan number (c ∷ cpus) (suc at) h less = cpus-shape plan (number + 1) cpus at h.2 (omega (arith, less))
 
 pub cpus-keep : (plan : Shape) (number : ℕ) (cpus : List Feeding) (at : ℕ) (c : Feeding) → AreCpus plan number cpus
-    → c.number ≡ (get_or cpus at no_feeding).number → c.path.shape ≡ (get_or cpus at no_feeding).path.shape → AreCpus plan number (slice_set cpus at c)
+    → c.number ≡ (get_or cpus at no_feeding).number → c.path.shape ≡ (get_or cpus at no_feeding).path.shape
+    → AreCpus plan number (slice_set cpus at c)
 cpus-keep plan number [] at c h n s = tt
 cpus-keep plan number (d ∷ cpus) zero c h n s = (n ∙ h.0, s ∙ h.1, h.2)
 cpus-keep plan number (d ∷ cpus) (suc at) c h n s = (h.0, h.1, cpus-keep plan (number + 1) cpus at c h.2 n s)

@@ -1,5 +1,6 @@
 pub mod Deliveries
-pub mod DeskLaws
+pub mod GroupLaws
+pub mod RingGroups
 pub mod RunStates
 pub mod Runs
 pub mod inside

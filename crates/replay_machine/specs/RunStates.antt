@@ -1,29 +1,21 @@
 -- A running replay whose sources are read a piece at a time, and the replay of all their frames
 -- that it represents.
 use Rattle.std.specs.Prelude.{◌≡◌, ℕ, ◌+◌, ◌*◌, ◌^◌, ◌<◌, ◌≤◌, Bool, List, [], ◌∷◌, length}
-use Rattle.std.specs.Prelude.{slice_index_or, slice_set, map, ⊤, Option, None, Some, All, MatchBool}
-use Rattle.std.specs.Prelude.{unwrap_or}
+use Rattle.std.specs.Prelude.{slice_index_or, slice_set, map, ⊤, Option, None, All, MatchBool}
 use Rattle.std.specs.List.{AllByRecursion}
-use Rattle.fanout_group.specs.Paths.{Path, first_path, logged}
-use Rattle.fanout_group.specs.Plans.{Shape, rolls_over}
-use Rattle.fanout_group.specs.Routes.{IsRoute}
-use Rattle.fanout_group.specs.Rules.{home_by}
-use Rattle.fanout_group.specs.declared.logs.ArrivalLog.{ArrivalLog}
-use Rattle.fanout_group.specs.declared.logs.Try.{Try}
+use Rattle.fanout_group.specs.Paths.{first_path}
+use Rattle.fanout_group.specs.Plans.{Shape}
 use Rattle.fanout_group.specs.declared.modes.Mode.TheVariants.{Hash}
 use Rattle.frame_view.specs.declared.frames.Frame.{Frame}
-use Rattle.replay_model.specs.Replay.{Cpu, Replay, arrived, feed}
+use Rattle.replay_model.specs.Replay.{Cpu, Replay, feed}
 use Rattle.replay_model.specs.RingSteps.{RingSteps}
 use Rattle.ring_model.specs.Rings.{Ring}
-use Rattle.ring_model.specs.declared.notes.Offer.{Offer}
 use Rattle.setup_text.specs.declared.jobs.Job.{Job}
-use Rattle.replay_machine.specs.Deliveries.{AreTried, ChangedByTries}
-use Rattle.cpu_feed.specs.Fed.{FedOne, GoesOn, IsAtItsEnd, arrival_of}
-use Rattle.cpu_feed.specs.Feeding.{Feeding, IsAllOfCpu, IsSameCpu, Takes, waiting_of}
+use Rattle.replay_machine.specs.Deliveries.{ChangedByTries}
+use Rattle.cpu_feed.specs.Fed.{FedOne, IsAtItsEnd}
+use Rattle.cpu_feed.specs.Feeding.{Feeding, IsAllOfCpu, waiting_of}
 use Rattle.run_reports.specs.Jobs.{rules_of}
 use Rattle.tap_outside.specs.Seen.{SourceSeen}
-use Rattle.cpu_feed.specs.declared.fed.Fed.{Fed}
-use Rattle.cpu_feed.specs.declared.fed.Fed.TheVariants.{End}
 
 pub record RunValue : Type 0 where
   pub cpus : List Feeding
@@ -107,59 +99,11 @@ pub record IsCounted (lines : ℕ) (run : RunValue) : Type 0 where
 abbrev pub HasCount : RunValue → Type 0
 HasCount run = (lines : ℕ) × (lines < 2 ^ 32) × IsCounted lines run
 
--- an arrival may draw a ticket and make its notes
-pub record HasRoom (run : RunValue) : Type 0 where
-  pub ticket : run.ticket + 1 < 2 ^ 64
-  pub notes : All (λ ring. length ring.notes + 9 ≤ 2 ^ 39) run.members
-
--- a CPU is fed its next frame, if it has one
-pub record Nexts (cpu : ℕ) (fed : Fed) (old new : RunValue) : Type 0 where
-  pub new_is : new ≡ record old { cpus = slice_set old.cpus cpu (cpu_in new cpu) }
-  pub same : IsSameCpu (cpu_in old cpu) (cpu_in new cpu)
-  pub takes : (all : List Frame) → IsAllOfCpu all (cpu_in new cpu)
-      → Takes all (cpu_in old cpu) (arrival_of fed) (cpu_in new cpu)
-  pub goes : GoesOn (cpu_in old cpu) fed (cpu_in new cpu)
-  pub idle : fed ≡ End → (cpu_in new cpu).fed ≡ (cpu_in old cpu).fed
-
--- the tries of an arrival that offers this: none, or a route, each with its note
-abbrev pub IsTriedAs : RingSteps → Shape → ℕ → ℕ → Option ℕ → Option Offer → List Try
-    → List Ring → List Ring → Type 0
-IsTriedAs steps plan present queue ticket None tries old new = (tries ≡ []) × (new ≡ old)
-IsTriedAs steps plan present queue ticket (Some offer) tries old new =
-    IsRoute (rolls_over plan) plan.members
-    (home_by plan.mode plan.members offer.hash (unwrap_or ticket 0) offer.frame.cpu queue present)
-    tries
-    × AreTried steps offer tries old new
-
--- an arrival is logged with its tries
-pub record IsLogged (steps : RingSteps) (queue cpu : ℕ) (entry : ArrivalLog) (made : Option Offer)
-    (old new : RunValue) : Type 0 where
-  pub tries : List Try
-  pub cpus_are : new.cpus ≡ slice_set old.cpus cpu
-      (record (cpu_in old cpu) {
-        path = logged (record entry { tries = tries })
-            (cpu_in old cpu).path;
-      })
-  pub ticket_is : new.ticket ≡ old.ticket
-  pub tried : IsTriedAs steps (cpu_in old cpu).path.shape
-      (cpu_in old cpu).path.present queue entry.ticket made tries old.members new.members
-
 -- one CPU was fed: it goes on, or has ended
 pub record FeedsOn (cpu : ℕ) (more : Bool) (old new : RunValue) : Type 0 where
   pub one : Feeding
   pub cpus_are : new.cpus ≡ slice_set old.cpus cpu one
   pub goes : MatchBool more (FedOne (cpu_in old cpu) one) (IsAtItsEnd one)
-
--- a frame arrives at a CPU
-pub record Arrives (steps : RingSteps) (job : Job) (cpu : ℕ) (frame : Frame)
-    (old new : RunValue) : Type 0 where
-  pub does : Does (arrived (rules_of job) steps cpu frame) old new
-  pub run : IsRun steps job new
-  pub path : Path
-  pub cpus_are : new.cpus ≡ slice_set old.cpus cpu (record (cpu_in old cpu) { path = path })
-  pub changed : ChangedByTries steps old.members new.members
-  pub ticket : new.ticket ≤ old.ticket + 1
-  pub notes : (most : ℕ) → HaveAtMost most old.members → HaveAtMost (most + 9) new.members
 
 -- a CPU is fed its next frame, if it has one
 pub record Feeds (steps : RingSteps) (job : Job) (cpu : ℕ) (more : Bool) (old new : RunValue)

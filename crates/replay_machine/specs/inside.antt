@@ -1,3 +1,4 @@
 -- What only this crate's own proofs and private functions cite.
 pub mod RunEffects
+pub mod RunRules
 pub mod Members

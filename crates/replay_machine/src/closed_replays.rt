@@ -42,8 +42,9 @@ pub(crate) fn finish<S: Source, R: ReceiveRing, K: Setting>(
         (map (option_map S.seen) ran.sources.items)
         ran.report) }
 {
+    let group = run.group;
     let closed = close_cpus(alloc, run.cpus)?;
-    let members = close_members(alloc, run.members)?;
+    let members = close_members(alloc, group.members)?;
     Ok(Ran {
         report: RunReport {
             cpus: closed.logs,

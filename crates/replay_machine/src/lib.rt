@@ -6,11 +6,10 @@ mod closed_replays;
 mod member;
 mod new_replays;
 mod replay_run;
-mod ring_desk;
+mod ring_group;
 mod room_rules;
 mod runs;
 mod settings;
-mod tickets;
 
 pub use runs::replay_over;
 pub use settings::Setting;

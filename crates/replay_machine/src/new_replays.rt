@@ -6,6 +6,7 @@ ghost use Rattle.replay_machine.specs.inside.RunEffects.{Starts, starting_from};
 use crate::Setting;
 use crate::member::Member;
 use crate::replay_run::ReplayRun;
+use crate::ring_group::RingGroup;
 use capture_reading::Buffer;
 use cpu_feed::CpuFeed;
 use fanout_group::Plan;
@@ -30,9 +31,11 @@ pub(crate) fn start<S: Source, R: ReceiveRing, K: Setting>(
         (map (option_map S.seen) sources.items) run) }
 {
     Ok(ReplayRun {
-        members: members_of(alloc, job)?,
+        group: RingGroup {
+            members: members_of(alloc, job)?,
+            ticket: 0,
+        },
         cpus: feeds_of(alloc, job.setup.plan, sources)?,
-        ticket: 0,
         buffer: Buffer::new(alloc)?,
     })
 }

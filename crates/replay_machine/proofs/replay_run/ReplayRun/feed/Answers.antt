@@ -1,33 +1,36 @@
-use Rattle.std.proofs.Common.{◌≡◌, ◌∙◌, subst}
-use Rattle.std.specs.Prelude.{IfSome}
-use Rattle.cpu_feed.specs.Fed.{arrival_of}
-use Rattle.replay_machine.specs.RunStates.{cpu_in}
-use Rattle.cpu_feed.specs.declared.fed.Fed.{Fed}
-use Rattle.replay_machine.proofs.RunSteps.{feeds_arrival, feeds_end, feeds_none, next_run, number_at, room_for_arrival}
+use Rattle.std.proofs.Common.{◌^◌, ◌+◌, ◌<◌, ℕ, subst, sym}
+use Rattle.replay_machine.specs.RingGroups.{HasRoomFor}
+use Rattle.replay_machine.specs.RunStates.{Feeds, RunValue}
+use Rattle.replay_machine.specs.inside.RunRules.{IsRunBy}
+use Rattle.replay_machine.proofs.RunCounts.{room_for_arrival}
+use Rattle.replay_machine.proofs.RunSteps.{by_each, run_with, takes_all, told_fed}
 use Rattle.replay_machine.proofs.replay_run.ReplayRun.feed.Goals as goal
 
-pub arrive-requires-clause-run : goal.arrive-requires-clause-run
-arrive-requires-clause-run g c = next_run (g.R.ReceiveRing.steps g.K.Setting.shape) c.args.job.now c.args.cpu c.in_ok-arrival.field-0 c.args.self.now c.next.new.self c.in_ok-arrival.ensures.next c.requires.run
+pub feed-requires-clause-block : goal.feed-requires-clause-block
+feed-requires-clause-block g c = c.requires.bytes.some
 
-pub arrive-requires-clause-room : goal.arrive-requires-clause-room
-arrive-requires-clause-room g c =
-    room_for_arrival c.args.cpu c.in_ok-arrival.field-0 c.in-Arrival.arrival c.args.self.now c.next.new.self c.requires.cpu c.requires.counted c.in-Arrival.is
-    c.in_ok-arrival.ensures.next
+pub feed-requires-clause-may_draw : goal.feed-requires-clause-may_draw
+feed-requires-clause-may_draw g c = subst (λ (run : RunValue). run.ticket + 1 < 2 ^ 64) (sym c.self.view_is)
+    (room_for_arrival c.args.self.now c.requires.counted).ticket
 
-pub arrive-requires-clause-place : goal.arrive-requires-clause-place
-arrive-requires-clause-place g c =
-    subst (λ (fed : Fed). IfSome (arrival_of fed) (λ arrival. arrival.cpu ≡ (cpu_in c.args.self.now c.args.cpu).number)) c.in-Arrival.is c.in_ok-arrival.ensures.place
-    ∙ number_at (g.R.ReceiveRing.steps g.K.Setting.shape) c.args.job.now c.args.self.now c.args.cpu c.requires.run c.requires.cpu
+pub feed-requires-clause-room : goal.feed-requires-clause-room
+feed-requires-clause-room g c = subst (λ (run : RunValue). HasRoomFor 9 run.members) (sym c.self.view_is)
+    (room_for_arrival c.args.self.now c.requires.counted).notes
 
-pub returns-in_ok-arrive-in-Arrival : goal.returns-in_ok-arrive-in-Arrival
-returns-in_ok-arrive-in-Arrival g c =
-    feeds_arrival (g.R.ReceiveRing.steps g.K.Setting.shape) c.args.job.now c.args.cpu c.args.self.now c.next.new.self c.requires.run c.requires.cpu c.in_ok-arrival.field-0 c.in-Arrival.arrival c.arrive.new.self
-    c.in-Arrival.is c.in_ok-arrival.ensures.next c.in_ok-arrive-in-Arrival.ensures
+pub feed-requires-clause-takes : goal.feed-requires-clause-takes
+feed-requires-clause-takes g c =
+    takes_all (g.R.ReceiveRing.steps g.K.Setting.shape) c.requires.run.0 c.args.cpu c.args.rules.now
+    c.self.inside.cpus.items c.self.inside.group c.index_mut.result.now c.args.self.now
+    c.self.view_is c.index_mut.ensures.value c.requires.cpu c.requires.run.1.run_is
+    c.requires.bytes.room_is c.requires.bytes.even
 
-pub returns-in-Nothing : goal.returns-in-Nothing
-returns-in-Nothing g c =
-    feeds_none (g.R.ReceiveRing.steps g.K.Setting.shape) c.args.job.now c.args.cpu c.args.self.now c.next.new.self c.requires.run c.requires.cpu c.in_ok-arrival.field-0 c.in-Nothing.is c.in_ok-arrival.ensures.next
-
-pub returns-in-End : goal.returns-in-End
-returns-in-End g c =
-    feeds_end (g.R.ReceiveRing.steps g.K.Setting.shape) c.args.job.now c.args.cpu c.args.self.now c.next.new.self c.requires.run c.requires.cpu c.in_ok-arrival.field-0 c.in-End.is c.in_ok-arrival.ensures.next
+pub returns : goal.returns
+returns g c =
+    let steps = g.R.ReceiveRing.steps g.K.Setting.shape in
+    let cpu = c.args.cpu in
+    let rules = c.args.rules.now in
+    let now = c.args.self.now in
+    by_each c.feed.result (λ job. IsRunBy steps job cpu rules now) (λ job more. Feeds steps job cpu more now _)
+    (λ job by. told_fed steps job cpu rules c.self.inside.cpus.items c.self.inside.group c.index_mut.result.now now
+    c.self.view_is c.index_mut.ensures.value c.requires.cpu c.feed.result c.feed.new.self c.feed.new.group by.run_is
+    by.setup.few_members by.rules_are c.feed.ensures.fed)

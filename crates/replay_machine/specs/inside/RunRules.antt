@@ -1,0 +1,24 @@
+-- The rules by which the arrivals of a run are judged.
+use Rattle.std.specs.Prelude.{◌≡◌, ℕ}
+use Rattle.fanout_group.specs.Judgements.{AgreesAt}
+use Rattle.fanout_group.specs.Lenses.{lens_of as lens_in}
+use Rattle.fanout_group.specs.declared.judgements.ArrivalRules.{ArrivalRules}
+use Rattle.replay_machine.specs.RunStates.{IsRun, RunValue}
+use Rattle.replay_model.specs.RingSteps.{RingSteps}
+use Rattle.run_reports.specs.Jobs.{lens_of}
+use Rattle.setup_text.specs.Runnable.{IsRunnable}
+use Rattle.setup_text.specs.declared.jobs.Job.{Job}
+
+-- the rules of a job for the arrivals of one CPU
+pub record AreRulesAt (steps : RingSteps) (job : Job) (cpu : ℕ) (rules : ArrivalRules)
+    : Type 0 where
+  pub agrees : AgreesAt cpu (lens_of job) (lens_in rules)
+  pub queue_is : rules.queue ≡ (lens_of job).queue cpu
+  pub room_is : rules.room ≡ steps.size.room
+
+-- a run of a job, and that job's rules for one of its CPUs
+pub record IsRunBy (steps : RingSteps) (job : Job) (cpu : ℕ) (rules : ArrivalRules)
+    (run : RunValue) : Type 0 where
+  pub setup : IsRunnable job.setup
+  pub rules_are : AreRulesAt steps job cpu rules
+  pub run_is : IsRun steps job run
