@@ -7,7 +7,7 @@ use Rattle.fanout_group.specs.declared.logs.ArrivalLog.{ArrivalLog}
 use Rattle.fanout_group.specs.declared.logs.Fate.{Fate}
 use Rattle.fanout_group.specs.declared.logs.Try.{Try}
 use Rattle.frame_view.specs.declared.frames.Frame.{Frame}
-use Rattle.member_turns.specs.Desks.{AreNotesOfTries, IsNoteOfTry, fates_at}
+use Rattle.member_turns.specs.Tries.{AreNotesOfTries, IsNoteOfTry, fates_at}
 use Rattle.ring_model.specs.Offers.{offer_of}
 use Rattle.ring_model.specs.declared.notes.Note.{Note}
 use Rattle.ring_model.specs.declared.notes.Note.TheVariants.{Kept, Refused, Dropped, Ticked, Counted, Finished}

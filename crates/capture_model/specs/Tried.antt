@@ -2,7 +2,7 @@
 use Rattle.std.specs.Prelude.{ℕ, List, Option}
 use Rattle.fanout_group.specs.declared.logs.ArrivalLog.{ArrivalLog}
 use Rattle.frame_view.specs.declared.frames.Frame.{Frame}
-use Rattle.member_turns.specs.Desks.{AreNotesOfTries, fates_at}
+use Rattle.member_turns.specs.Tries.{AreNotesOfTries, fates_at}
 use Rattle.ring_model.specs.Offers.{offer_of}
 use Rattle.ring_model.specs.declared.notes.Note.{Note}
 

@@ -1,11 +1,11 @@
 -- What arrived with the frames that were fed, one frame at a time.
-use Rattle.std.proofs.Common.{◌≡◌, ℕ, zero, suc, Bool, List, [], ◌∷◌, ◌++◌, length, take, drop, append_assoc, append-nil, Option, None, Some, refl, sym, ap, ◌∙◌}
+use Rattle.std.proofs.Common.{◌≡◌, ℕ, zero, suc, Bool, List, [], ◌∷◌, ◌++◌, length, take, drop, append_assoc, append-nil, Option, refl, sym, ap, ◌∙◌}
 use Rattle.std.proofs.lemmas.List.{append_cancel_right}
 use Rattle.std.specs.Prelude.{option_to_list}
 use Rattle.cpu_feed.specs.Feeding.{Feeding, IsAllOfCpu, Takes, frames_in, next_of, waiting_of}
 use Rattle.fanout_group.specs.Arrivals.{arrival_at, arrivals_from, arrivals_of, held_behind, held_from, somes}
 use Rattle.fanout_group.specs.Logs.{IsLawfulFrom}
-use Rattle.fanout_group.specs.Paths.{IsPath, IsPathBehind, Path}
+use Rattle.fanout_group.specs.Paths.{IsPath, Path}
 use Rattle.fanout_group.specs.Plans.{has_defrag}
 use Rattle.fanout_group.specs.Routes.{present_after}
 use Rattle.fanout_group.specs.Rules.{Rules}
@@ -54,11 +54,6 @@ arrived_more all arrival old new takes before after =
     (sym (all_arrived all new after) ∙ defrag ∙ all_arrived all old before
     ∙ ap (λ (more : List Frame). arrived_of all old ++ more) waits
     ∙ sym (append_assoc (arrived_of all old) (option_to_list arrival) rest))
-
-pub held_behind_all : (rules : Rules) (frames : List Frame) (arrival : Option Frame) (path : Path) → IsPathBehind rules frames arrival path
-    → path.held ≡ held_from (has_defrag path.shape.flags) [] frames
-held_behind_all rules frames None path is = is.held_is
-held_behind_all rules frames (Some arrival) path is = is.2.held_is
 
 -- an entry for each arrival
 as_many : (rules : Rules) (present : ℕ) (arrivals : List Frame) (log : List ArrivalLog) → IsLawfulFrom rules present arrivals log

@@ -1,5 +1,5 @@
 -- A feeder before its first frame.
-use Rattle.std.proofs.Common.{◌≡◌, ◌<◌, ◌*◌, ℕ, List, [], length, take, get_or, refl, sym, ap, ◌∙◌, subst, arith}
+use Rattle.std.proofs.Common.{◌≡◌, ◌<◌, ◌-◌, ◌*◌, ℕ, Bool, List, [], length, take, get_or, refl, sym, ap, ◌∙◌, subst, arith}
 use Rattle.cpu_feed.specs.Feeding.{Feeding}
 use Rattle.fanout_group.specs.Arrivals.{arrivals_of}
 use Rattle.fanout_group.specs.Joined.{AreNotesOf, tickets_of}
@@ -40,11 +40,11 @@ module _ (job : Job) (locks : List Lock) (dealer : DealerValue) (feed : Feeding)
     own = subst (λ (notes : List Note). AreNotesOf (room_of job.setup.shape) job.setup.mac [] notes) (sym (each member lock member_seat within).none) tt;
   }
 
-  first_member_seats : AreMemberSeats feed.number (9 * feed.fed) locks member_seats
+  first_member_seats : AreMemberSeats feed.number (9 * (2097151 - feed.fed)) locks member_seats
   first_member_seats = record {
     count = count;
     ready = λ member lock member_seat within. (each member lock member_seat within).ready;
-    entered = λ member member_seat within. let none = (each member (item locks member (omega (arith, within, count))) member_seat within).entered in omega (arith, none);
+    room = λ member member_seat within. let none = (each member (item locks member (omega (arith, within, count))) member_seat within).entered in omega (arith, none);
   }
 
   pub first_goes : Goes job locks feed member_seats seat
@@ -63,9 +63,9 @@ module _ (job : Job) (locks : List Lock) (dealer : DealerValue) (feed : Feeding)
   }
 
 -- a feeder that has fed all, after its call of `done`
-pub out_still : {S : Type 0} (job : Job) (locks : List Lock) (before after : Feeder S) (seat : SeatValue) → seat.drawn ≡ after.seat.drawn
-    → FeedsOut job locks before after → FeedsOut job locks before (record after { seat = seat })
-out_still job locks before after seat same out =
+pub out_still : {S : Type 0} (job : Job) (locks : List Lock) (before after : Feeder S) (seat : SeatValue) (full : Bool) → seat.drawn ≡ after.seat.drawn
+    → FeedsOut job locks before after → FeedsOut job locks before (record after { seat = seat; full = full })
+out_still job locks before after seat full same out =
     let fed = out.fed in
     record {
       first = out.first;

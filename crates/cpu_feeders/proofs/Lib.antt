@@ -5,13 +5,16 @@ pub mod FedFeeders
 pub mod AtEnd
 pub mod Arrived
 pub mod NextFrames
-pub mod Desks
+pub mod GroupFrames
+pub mod TurnTries
+pub mod Offered
 pub mod Deliveries
 pub mod FirstFrames
 pub mod FreshThreads
 pub mod AllClosed
 pub mod ClosedThreads
 pub mod ReadOut
+pub mod MemberReports
 pub mod OneMore
 pub mod Pendings
 pub mod Results

@@ -1,6 +1,6 @@
 -- Lists that loops make one item at a time.
 use Rattle.std.proofs.Common.{◌≡◌, ℕ, ◌+◌, ◌<◌, List, [], ◌∷◌, ◌++◌, length, length-append, append_assoc, append-nil, refl, sym, ap, ◌∙◌, subst, arith}
-use Rattle.std.specs.Prelude.{map}
+use Rattle.std.specs.Prelude.{flat_map, map}
 use Rattle.std.specs.List.{AllByRecursion, AllZip}
 use Rattle.std.proofs.lemmas.List.{map-append}
 use Rattle.std.proofs.lemmas.Slice.Zip.{all_zipped_more}
@@ -26,6 +26,18 @@ first_items {A = A} {B = B} f now rest all none same = ap (λ (ys : List B). ys 
 
 pub last_items : {A B : Type 0} (f : A → B) (done all : List B) (rest : List A) → rest ≡ [] → done ++ map f rest ≡ all → done ≡ all
 last_items {A = A} f done all rest none h = sym (append-nil done) ∙ ap (λ (xs : List A). done ++ map f xs) (sym none) ∙ h
+
+-- and the same where each item becomes some
+pub next_kind : {A B : Type 0} (kind : A → List B) (done now all : List B) (rest after : List A) (x : A) → rest ≡ x ∷ after
+    → now ≡ done ++ kind x → done ++ flat_map kind rest ≡ all → now ++ flat_map kind after ≡ all
+next_kind {A = A} {B = B} kind done now all rest after x next now_is h =
+    ap (λ (ys : List B). ys ++ flat_map kind after) now_is ∙ append_assoc done (kind x) (flat_map kind after)
+    ∙ ap (λ (xs : List A). done ++ flat_map kind xs) (sym next) ∙ h
+
+pub last_kind : {A B : Type 0} (kind : A → List B) (done all : List B) (rest : List A) → rest ≡ []
+    → done ++ flat_map kind rest ≡ all → done ≡ all
+last_kind {A = A} kind done all rest none h =
+    sym (append-nil done) ∙ ap (λ (xs : List A). done ++ flat_map kind xs) (sym none) ∙ h
 
 pub next_all : {A : Type 0} (P : A → Type 0) (rest after : List A) (x : A) → rest ≡ x ∷ after → AllByRecursion P rest → P x × AllByRecursion P after
 next_all {A = A} P rest after x next all =
@@ -119,10 +131,3 @@ module _ {A B : Type 0} where
       let sum = length-append less (x ∷ []) in
       let other = ap (λ (zs : List B). length zs) ys_are in
       omega (arith, same, one, sum, other)
-
--- three lists after one another
-pub in_a_row : {A : Type 0} (none one two three first last : List A) (x : A) → none ≡ [] → one ≡ none ++ first → two ≡ one ++ x ∷ [] → three ≡ two ++ last
-    → three ≡ first ++ x ∷ last
-in_a_row {A = A} none one two three first last x none_is one_is two_is three_is =
-    three_is ∙ ap (λ (xs : List A). xs ++ last) (two_is ∙ ap (λ (xs : List A). xs ++ x ∷ []) (one_is ∙ ap (λ (xs : List A). xs ++ first) none_is))
-    ∙ append_assoc first (x ∷ []) last

@@ -3,4 +3,5 @@ pub mod Walks
 pub mod Feeds
 pub mod WorkerEffects
 pub mod Runs
+pub mod Reports
 pub mod inside

@@ -6,9 +6,9 @@ ghost use Rattle.cpu_feeders.specs.Walks.{taken_of};
 ghost use Rattle.member_turns.specs.Closings.{contents_of};
 ghost use Rattle.tp_layout.specs.Requests.{numbers_of};
 
-use crate::Walker;
 use crate::list_ends::first_of;
 use crate::member_seats::SeatList;
+use crate::walker::Walker;
 use fanout_group::DealerSeat;
 use frame_view::Memory;
 use member_turns::{Member, MemberSeat, close_member};

@@ -3,9 +3,9 @@ ghost use Rattle.std.specs.Prelude.{◌≡◌, ◌++◌, ◌∷◌, [], length, 
 ghost use Rattle.std.specs.List.{AllByRecursion};
 ghost use Rattle.cpu_feeders.specs.inside.MemberSeats.{with_all, with_each};
 
-use crate::Timer;
 use crate::feeder::Feeder;
 use crate::member_seats::{SeatList, add_to_each, empty_lists};
+use crate::timer::Timer;
 use cpu_feed::CpuFeed;
 use fanout_group::DealerSeat;
 use frame_view::Memory;

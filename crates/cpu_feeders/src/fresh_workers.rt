@@ -11,8 +11,9 @@ ghost use Rattle.ticket_dealer.specs.Seats.{DealerValue, IsFreshOf};
 use crate::feeder::Feeder;
 use crate::list_ends::{first_of, last_of};
 use crate::member_seats::SeatList;
+use crate::timer::Timer;
+use crate::walker::Walker;
 use crate::worker::Worker;
-use crate::{Timer, Walker};
 use capture_reading::Buffer;
 use cpu_feed::CpuFeed;
 use fanout_group::{DealerSeat, Plan};
@@ -122,32 +123,34 @@ pub(crate) fn walkers_of<T: Taker + Drop>(
     Ok(walkers)
 }
 
-/// Puts readers after these workers.
-fn add_walkers<S: Source, T: Taker + Drop>(
-    workers: &mut Vec<Worker<S, T>>,
+/// Readers as workers.
+fn all_walking<S: Source, T: Taker + Drop>(
+    alloc: Global,
     walkers: Vec<Walker<T>>,
-) -> Result<(), Memory>
-    ensures { OnOk result (workers.new.items
-        ≡ workers.old.items ++ map (λ walker. worker.Walks walker) walkers.items) }
+) -> Result<Vec<Worker<S, T>>, Memory>
+    ensures { IfOk result (λ workers.
+        workers.items ≡ map (λ walker. worker.Walks walker) walkers.items) }
 {
-    for walker in walkers {
-        workers.push(Worker::Walks(walker))?;
-    }
-    Ok(())
+    let workers: Vec<Worker<S, T>> = walkers
+        .into_iter()
+        .map(|walker| Worker::Walks(walker))
+        .collect(alloc)?;
+    Ok(workers)
 }
 
-/// Puts feeders after these workers.
-fn add_feeders<S: Source, T: Taker + Drop>(
-    workers: &mut Vec<Worker<S, T>>,
+/// Feeders as workers.
+fn all_feeding<S: Source, T: Taker + Drop>(
+    alloc: Global,
     feeders: Vec<Feeder<S>>,
-) -> Result<(), Memory>
-    ensures { OnOk result (workers.new.items
-        ≡ workers.old.items ++ map (λ feeder. worker.Feeds feeder) feeders.items) }
+) -> Result<Vec<Worker<S, T>>, Memory>
+    ensures { IfOk result (λ workers.
+        workers.items ≡ map (λ feeder. worker.Feeds feeder) feeders.items) }
 {
-    for feeder in feeders {
-        workers.push(Worker::Feeds(feeder))?;
-    }
-    Ok(())
+    let workers: Vec<Worker<S, T>> = feeders
+        .into_iter()
+        .map(|feeder| Worker::Feeds(feeder))
+        .collect(alloc)?;
+    Ok(workers)
 }
 
 /// The workers in the order in which they are run: readers, the timer, feeders.
@@ -160,9 +163,8 @@ pub(crate) fn workers_of<S: Source, T: Taker + Drop>(
     ensures { IfOk result (λ workers.
         workers.items ≡ in_order walkers.items timer feeders.items) }
 {
-    let mut workers = Vec::new(alloc);
-    add_walkers(&mut workers, walkers)?;
+    let mut workers = all_walking(alloc, walkers)?;
     workers.push(Worker::Ticks(timer))?;
-    add_feeders(&mut workers, feeders)?;
+    workers.append(&mut all_feeding(alloc, feeders)?)?;
     Ok(workers)
 }

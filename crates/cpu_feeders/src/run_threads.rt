@@ -6,10 +6,10 @@ ghost use Rattle.cpu_feeders.specs.inside.Openings.{IsGroupOf};
 ghost use Rattle.cpu_feeders.specs.Runs.{IsFreshTaker};
 ghost use Rattle.setup_text.specs.Runnable.{IsRunnable};
 
-use crate::Timer;
 use crate::fresh_workers::{feeders_of, walkers_of, workers_of};
 use crate::list_ends::last_of;
 use crate::open_groups::{OpenGroup, open_group};
+use crate::timer::Timer;
 use crate::worker::Worker;
 use fanout_group::{Dealer, DealerSeat};
 use frame_view::Memory;

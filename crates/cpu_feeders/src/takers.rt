@@ -12,8 +12,9 @@ use crate::Gate;
 use crate::closed_members::{Closed, close_group};
 use crate::ended_workers::gather;
 use crate::run_threads::{RunThreads, new_threads};
-use crate::worker::{Shared, run_all};
-use crate::worker_kinds::part;
+use crate::shared::Shared;
+use crate::worker::run_all;
+use crate::worker_kinds::kinds_of;
 use capture_reports::{
     blocks_are_read_as_they_were_noted, threads_leave_a_group, threads_leave_what_sources_gave,
 };
@@ -138,10 +139,10 @@ fn close_threads<S: Source, T: Taker + Drop>(
     threads_leave_a_group();
     threads_leave_what_sources_gave();
     blocks_are_read_as_they_were_noted();
-    let parted = part(alloc, threads.workers)?;
+    let kinds = kinds_of(alloc, threads.workers)?;
     let members = job.setup.plan.members() as usize;
-    let left = gather(alloc, members, parted.feeders, parted.timers)?;
-    let closed = close_group(alloc, threads.members, left.member_seats, parted.walkers)?;
+    let left = gather(alloc, members, kinds.feeders, kinds.timers)?;
+    let closed = close_group(alloc, threads.members, left.member_seats, kinds.walkers)?;
     let cpus = close_cpus(alloc, left.cpus)?;
     let mut seats = left.seats;
     let workers = assemble(alloc, cpus, closed, &mut seats)?;

@@ -5,6 +5,7 @@ ghost use Rattle.cpu_feeders.specs.Timing.{AreTimers, HaveTicked, TimesOut};
 ghost use Rattle.member_turns.specs.Seats.{Lock, Seat, moment_of, own_of};
 ghost use Rattle.setup_text.specs.Sound.{AreMoments};
 
+use crate::shared::Shared;
 use crate::{Gate, Point};
 use frame_view::Memory;
 use member_turns::{Member, MemberSeat, tick_turn};
@@ -12,11 +13,11 @@ use std::sync::Wait;
 
 /// The timer's thread.
 #[derive(Drop)]
-pub struct Timer {
+pub(crate) struct Timer {
     /// Its seat at each member, from 0 up.
-    pub member_seats: Vec<MemberSeat>,
+    pub(crate) member_seats: Vec<MemberSeat>,
     /// Whether an allocation failed.
-    pub full: bool,
+    pub(crate) full: bool,
 }
 
 /// Reports a moment to each member, from member 0 up.
@@ -63,19 +64,17 @@ fn tick_all<R: Wait, G: Gate>(
 }
 
 /// Reports each of the moments to each member, from member 0 up, or stops if an allocation fails.
-pub fn run_timer<R: Wait, G: Gate>(
-    rt: &R,
-    members: &[Member],
-    moments: &[u64],
-    gate: &G,
-    timer: &mut Timer,
-)
-    requires moments { AreMoments moments.now }
-    requires fresh { AreTimed [] members.now timer.old.member_seats.items }
-    ensures { TimesOut moments.now members.now timer.new }
+pub(crate) fn run_timer<R: Wait, G: Gate>(rt: &R, shared: &Shared<G>, timer: &mut Timer)
+    requires moments { AreMoments shared.now.moments.now }
+    requires fresh { AreTimed [] shared.now.members.now timer.old.member_seats.items }
+    ensures { TimesOut shared.now.moments.now shared.now.members.now timer.new }
 {
-    match tick_all(rt, members, moments, gate, &mut timer.member_seats) {
-        Ok(()) => {}
-        Err(Memory) => timer.full = true,
-    }
+    let ticked = tick_all(
+        rt,
+        shared.members,
+        shared.moments,
+        shared.gate,
+        &mut timer.member_seats,
+    );
+    timer.full = ticked.is_err();
 }

@@ -6,8 +6,9 @@ ghost use Rattle.reader_walk.specs.Takers.{IsReadable};
 ghost use Rattle.tp_layout.specs.Layouts.{taken_in};
 ghost use Rattle.ticket_dealer.specs.Seats.{IsFreshOf};
 
+use crate::shared::Shared;
 use crate::{Gate, Idler, Point};
-use fanout_group::{Dealer, DealerSeat};
+use fanout_group::DealerSeat;
 use frame_view::Memory;
 use reader_walk::Taker;
 use ring_words::{TableWalker, WalkerEnd};
@@ -20,20 +21,20 @@ const FREE: u32 = 0;
 
 /// A reader's thread.
 #[derive(Drop)]
-pub struct Walker<T: Taker + Drop> {
+pub(crate) struct Walker<T: Taker + Drop> {
     /// The number of its member, from 0.
-    pub member: u32,
+    pub(crate) member: u32,
     /// The reader's end of the member's ring.
-    pub end: TableWalker<Block>,
+    pub(crate) end: TableWalker<Block>,
     /// What reads each block.
-    pub taker: T,
+    pub(crate) taker: T,
     /// Its seat at the dealer, by which it knows how many feeders are live.
-    pub seat: DealerSeat,
+    pub(crate) seat: DealerSeat,
     /// How many blocks it has released.
-    pub released: u64,
+    pub(crate) released: u64,
     /// Whether an allocation failed: its taker then reads no more, and it only releases what it
     /// takes.
-    pub full: bool,
+    pub(crate) full: bool,
 }
 
 /// Hands a block to a taker, unless an allocation failed before; returns whether one has failed by
@@ -79,16 +80,15 @@ fn take_next<T: Taker + Drop, G: Gate>(gate: &G, walker: &mut Walker<T>) -> bool
 /// Reads blocks until no feeder is live and no block waits, and gives each back as a free one.
 /// Feeders are counted before each poll, so that what they retired is seen. While no block waits
 /// the reader yields, and later sleeps, between its polls.
-pub fn run_walker<T: Taker + Drop, R: Wait, G: Gate>(
+pub(crate) fn run_walker<T: Taker + Drop, R: Wait, G: Gate>(
     rt: &R,
-    dealer: &Dealer,
-    gate: &G,
+    shared: &Shared<G>,
     walker: &mut Walker<T>,
 )
     requires walks { Walks T.base T.taken (T.base walker.old.taker) walker.old }
-    requires seat { IsFreshOf dealer.now walker.old.seat }
+    requires seat { IsFreshOf shared.now.dealer.now walker.old.seat }
     ensures walked { HasWalked T.base T.taken (T.base walker.old.taker) walker.old walker.new }
-    ensures seat { IsFreshOf dealer.now walker.new.seat }
+    ensures seat { IsFreshOf shared.now.dealer.now walker.new.seat }
 
     // It last saw no live feeder, and its last poll found nothing.
     ensures ended { walker.new.seat.live ≡ 0 }
@@ -96,8 +96,8 @@ pub fn run_walker<T: Taker + Drop, R: Wait, G: Gate>(
 {
     let mut idler = Idler::new();
     for _ in rt.forever() {
-        let live = dealer.live(&mut walker.seat);
-        if take_next(gate, walker) {
+        let live = shared.dealer.live(&mut walker.seat);
+        if take_next(shared.gate, walker) {
             idler.found();
         } else if live == 0 {
             return;

@@ -1,15 +1,15 @@
 //! The workers of a run: readers, a timer and feeders, each on a thread of its own.
 ghost use Rattle.std.specs.Prelude.{◌≡◌, ◌<◌, ℕ, length, slice_index_or, All};
+ghost use Rattle.cpu_feeders.specs.inside.WorkerKinds.{is_full};
 ghost use Rattle.cpu_feeders.specs.WorkerEffects.{IsDoneWorker, IsReadyWorker};
 ghost use Rattle.setup_text.specs.Sound.{AreMoments};
 
+use crate::Gate;
 use crate::feeder::{Feeder, run_feeder};
-use crate::{Gate, Timer, Walker, run_timer, run_walker};
-use fanout_group::Dealer;
-use member_turns::Member;
+use crate::shared::Shared;
+use crate::timer::{Timer, run_timer};
+use crate::walker::{Walker, run_walker};
 use reader_walk::Taker;
-use setup_text::Job;
-use std::alloc::Global;
 use std::sync::Wait;
 use std::thread;
 use std::thread::Threads;
@@ -26,21 +26,17 @@ pub(crate) enum Worker<S: Source, T: Taker + Drop> {
     Feeds(Feeder<S>),
 }
 
-/// What all threads of a run share.
-#[derive(Drop)]
-pub(crate) struct Shared<'a, G> {
-    /// Allocates what the feeders make.
-    pub(crate) alloc: Global,
-    /// The job that is run.
-    pub(crate) job: &'a Job,
-    /// The moments, in milliseconds.
-    pub(crate) moments: &'a [u64],
-    /// The members, from 0 up.
-    pub(crate) members: &'a [Member],
-    /// Deals tickets, and counts the live feeders.
-    pub(crate) dealer: &'a Dealer,
-    /// Where a test may hold a thread.
-    pub(crate) gate: &'a G,
+impl<S: Source, T: Taker + Drop> Worker<S, T> {
+    /// Whether an allocation of it failed.
+    pub(crate) fn is_full(&self) -> bool
+        ensures { result ≡ is_full self.now }
+    {
+        match self {
+            Worker::Walks(walker) => walker.full,
+            Worker::Ticks(timer) => timer.full,
+            Worker::Feeds(feeder) => feeder.full,
+        }
+    }
 }
 
 /// Does what one worker has to do.
@@ -57,19 +53,9 @@ fn work<S: Source, T: Taker + Drop, G: Gate, R: Wait>(
         shared.now.moments.now worker.old worker.new }
 {
     match worker {
-        Worker::Walks(walker) => run_walker(rt, shared.dealer, shared.gate, walker),
-        Worker::Ticks(timer) => {
-            run_timer(rt, shared.members, shared.moments, shared.gate, timer);
-        }
-        Worker::Feeds(feeder) => run_feeder(
-            rt,
-            shared.alloc,
-            shared.job,
-            shared.members,
-            shared.dealer,
-            shared.gate,
-            feeder,
-        ),
+        Worker::Walks(walker) => run_walker(rt, shared, walker),
+        Worker::Ticks(timer) => run_timer(rt, shared, timer),
+        Worker::Feeds(feeder) => run_feeder(rt, shared, feeder),
     }
 }
 

@@ -1,22 +1,16 @@
 //! The run of a job on threads.
-ghost use Rattle.std.specs.Prelude.{◌≡◌, Bool, None, length, map, option_map, replicate, IfOk};
-ghost use Rattle.std.specs.List.{AllByRecursion, AllZip};
-ghost use Rattle.capture_reports.specs.Reported.{AreReported};
-ghost use Rattle.cpu_feeders.specs.inside.Readers.{IsReaderOf};
+ghost use Rattle.std.specs.Prelude.{◌≡◌, None, length, map, option_map, replicate, IfOk};
+ghost use Rattle.std.specs.List.{AllByRecursion};
 ghost use Rattle.cpu_feeders.specs.Runs.{IsCaptureRun};
-ghost use Rattle.reader_walk.specs.Readers.{new_reader};
+ghost use Rattle.reader_walk.specs.Readers.{new_reader, outputs_of};
 ghost use Rattle.setup_text.specs.Runnable.{IsRunnable};
 ghost use Rattle.setup_text.specs.Sound.{AreMoments};
-ghost use Rattle.tp_layout.specs.declared.requests.RingRequest.{RingRequest};
 
-use crate::list_ends::first_of;
-use crate::{Gate, Workers, run_takers};
-use capture_reports::{threads_report_a_capture, threads_report_a_run};
+use crate::{Gate, report_run, run_takers};
 use frame_view::{Memory, MomentList};
-use reader_walk::Reader;
-use setup_text::{Job, MemberList, MemberReport, Ran, RunReport};
+use reader_walk::{Outputs, Reader};
+use setup_text::{Job, Ran};
 use std::alloc::Global;
-use std::collections::VecDeque;
 use std::sync::Wait;
 use std::thread::Threads;
 use tap_outside::Source;
@@ -34,38 +28,16 @@ fn readers_of(alloc: Global, members: u32, shape: &Shape, dump: bool) -> Result<
     Ok(readers)
 }
 
-/// Reports what a run with readers leaves.
-fn report<S: Source>(alloc: Global, workers: Workers<S, Reader>) -> Result<Ran<S>, Memory>
-    requires held { AllByRecursion (λ reader. reader.held ≡ None) workers.takers.items }
-    requires readers { length workers.takers.items ≡ length workers.notes.items }
-    requires rings { length workers.rings.items ≡ length workers.notes.items }
-    ensures cpus { IfOk result (λ ran. ran.report.cpus ≡ workers.cpus) }
-    ensures sources { IfOk result (λ ran. ran.sources.items ≡ workers.sources.items) }
-    ensures members { IfOk result (λ ran. (shape : RingRequest) (dump : Bool)
-        → AllZip (IsReaderOf shape dump) workers.notes.items workers.takers.items
-        → AreReported shape dump workers.notes.items workers.rings.items ran.report.members) }
+/// What readers return, in order.
+fn outputs_of_all(alloc: Global, readers: Vec<Reader>) -> Result<Vec<Outputs>, Memory>
+    requires held { AllByRecursion (λ reader. reader.held ≡ None) readers.items }
+    ensures { IfOk result (λ outputs. outputs.items ≡ map outputs_of readers.items) }
 {
-    let mut members = MemberList::new(alloc);
-    let mut rings = VecDeque::from(workers.rings);
-    let mut readers = VecDeque::from(workers.takers);
-    for notes in workers.notes {
-        let ring = first_of(&mut rings);
-        let outputs = first_of(&mut readers).outputs();
-        members.push(MemberReport {
-            notes,
-            walked: outputs.walked,
-            dump: outputs.dump,
-            blocks: outputs.blocks,
-            ring: Some(ring),
-        })?;
+    let mut outputs = Vec::with_capacity(alloc, readers.len())?;
+    for reader in readers {
+        outputs.push(reader.outputs())?;
     }
-    Ok(Ran {
-        report: RunReport {
-            cpus: workers.cpus,
-            members,
-        },
-        sources: workers.sources,
-    })
+    Ok(outputs)
 }
 
 /// Runs a job on threads: a reader for each member, a timer that reports the moments, and a feeder
@@ -88,10 +60,13 @@ pub fn run_workers<S: Source + Send, G: Gate + Sync, R: Threads + Wait + Sync>(
         (map (option_map S.seen) ran.sources.items)
         ran.report) }
 {
-    threads_report_a_run();
-    threads_report_a_capture();
     let setup = &job.setup;
     let readers = readers_of(alloc, setup.plan.members(), &setup.shape, setup.dump)?;
     let workers = run_takers(rt, alloc, job, sources, ticks, gate, readers)?;
-    report(alloc, workers)
+    let outputs = outputs_of_all(alloc, workers.takers)?;
+    let report = report_run(alloc, workers.cpus, workers.notes, workers.rings, outputs)?;
+    Ok(Ran {
+        report,
+        sources: workers.sources,
+    })
 }

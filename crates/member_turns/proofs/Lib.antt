@@ -2,4 +2,3 @@ pub mod Moments
 pub mod OneTurn
 pub mod Closed
 pub mod AllAlike
-pub mod DeskTurns

@@ -3,5 +3,5 @@ pub mod EntryLaws
 pub mod Seats
 pub mod TurnEffects
 pub mod Closings
-pub mod Desks
-pub mod DeskLaws
+pub mod Tries
+pub mod TryLaws

@@ -7,7 +7,6 @@ mod member;
 mod member_ring;
 mod opening;
 mod ring_base;
-mod turn_desk;
 mod turns;
 
 pub use closing::{ClosedMember, close_member};
@@ -15,5 +14,4 @@ pub use member::{Member, MemberSeat};
 pub use member_ring::MemberRing;
 pub use opening::open_member;
 pub use ring_base::RingBase;
-pub use turn_desk::TurnDesk;
 pub use turns::{put_turn, tick_turn, try_turn};

@@ -7,23 +7,20 @@ use Rattle.cpu_feeders.specs.declared.worker.Worker.{Worker}
 use Rattle.cpu_feeders.specs.declared.worker.Worker.TheVariants as worker
 
 module _ {S T : Type 0} where
-  -- the readers among them, in order
-  abbrev pub walkers_in : List (Worker S T) → List (Walker T)
-  walkers_in [] = []
-  walkers_in (worker.Walks walker ∷ workers) = walker ∷ walkers_in workers
-  walkers_in (other ∷ workers) = walkers_in workers
+  -- the reader that a worker is, if it is one
+  abbrev pub walker_in : Worker S T → List (Walker T)
+  walker_in (worker.Walks walker) = walker ∷ []
+  walker_in other = []
 
-  -- the timers
-  abbrev pub timers_in : List (Worker S T) → List Timer
-  timers_in [] = []
-  timers_in (worker.Ticks timer ∷ workers) = timer ∷ timers_in workers
-  timers_in (other ∷ workers) = timers_in workers
+  -- the timer
+  abbrev pub timer_in : Worker S T → List Timer
+  timer_in (worker.Ticks timer) = timer ∷ []
+  timer_in other = []
 
-  -- the feeders
-  abbrev pub feeders_in : List (Worker S T) → List (Feeder S)
-  feeders_in [] = []
-  feeders_in (worker.Feeds feeder ∷ workers) = feeder ∷ feeders_in workers
-  feeders_in (other ∷ workers) = feeders_in workers
+  -- the feeder
+  abbrev pub feeder_in : Worker S T → List (Feeder S)
+  feeder_in (worker.Feeds feeder) = feeder ∷ []
+  feeder_in other = []
 
   -- an allocation of a worker failed
   abbrev pub is_full : Worker S T → Bool

@@ -16,5 +16,5 @@ loop-preserved-then-take_next g c =
         ring = after.ring ∙ before.ring;
         freed = freed_more c.args.walker.now.end c.loop.walker.end c.take_next.new.walker.end before.freed after.freed;
       };
-      seat = subst (λ (seat : SeatValue). IsFreshOf c.args.dealer.now seat) (sym (c.take_next.ensures.seat ∙ c.live-live.ensures.seen)) c.loop.invariant.seat;
+      seat = subst (λ (seat : SeatValue). IsFreshOf c.args.shared.now.dealer.now seat) (sym (c.take_next.ensures.seat ∙ c.live-live.ensures.seen)) c.loop.invariant.seat;
     }
