@@ -14,7 +14,7 @@ use Rattle.block_pool.proofs.Members.{AreMembers, IsPlaced, fetched_else, handed
 use Rattle.block_pool.proofs.Placing.{IsThere, all_empty, all_fit, all_held, all_there}
 use Rattle.block_pool.proofs.Reading.{HasAt, IsFilled, blocks_row, dumped_row, filled_all, full_all, walked_row}
 use Rattle.block_pool.proofs.Zips.{zip_append}
-use Rattle.block_pool.specs.inside.Reports.{AreOutputsOf}
+use Rattle.cpu_feeders.specs.Reports.{AreOutputsOf}
 use Rattle.cpu_feeders.specs.Runs.{AreTakersOf}
 use Rattle.reader_walk.specs.Readers.{dump_by, walked_of}
 use Rattle.reader_walk.specs.Takers.{Base}

@@ -1,3 +1,2 @@
 -- What only this crate's own proofs and private functions cite.
-pub mod Reports
 pub mod PieceTables

@@ -10,7 +10,7 @@ ghost use Rattle.work_queue.specs.Works.{IsLawfulWork};
 use crate::pieces::Piece;
 use crate::tables::{PieceTable, put_all, read_all};
 use crate::takers::Handing;
-use crate::workers::{PoolWorker, keep};
+use crate::workers::{Decoder, PoolWorker};
 use cpu_feeders::Gate;
 use frame_view::Memory;
 use reader_walk::Outputs;
@@ -107,42 +107,39 @@ pub(crate) fn part_all<'a, R: Wait>(
 
 /// Decodes the works that no worker fetched, and puts their pieces after the others.
 fn decode_left<G: Gate>(
-    alloc: Global,
-    gate: &G,
-    dumps: bool,
+    decoder: &Decoder<G>,
     index: u32,
     works: Vec<Work>,
     pieces: &mut Vec<Piece>,
 ) -> Result<(), Memory>
     requires lawful { AllByRecursion IsLawfulWork works.items }
-    ensures { OnOk result ((more : _) × AllZip (IsPieceOf dumps) works.items more
+    ensures { OnOk result ((more : _) × AllZip (IsPieceOf decoder.now.dumps) works.items more
         × (pieces.new.items ≡ pieces.old.items ++ more)) }
 {
     for work in works {
-        keep(alloc, gate, dumps, index, pieces, work)?;
+        decoder.keep(index, pieces, work)?;
     }
     Ok(())
 }
 
 /// Decodes the works that no worker fetched, puts all pieces into their places, and reads them out.
 pub(crate) fn put_together<G: Gate>(
-    alloc: Global,
-    gate: &G,
-    dumps: bool,
+    decoder: &Decoder<G>,
     index: u32,
     works: Vec<Work>,
     mut tables: Vec<PieceTable>,
     mut pieces: Vec<Piece>,
 ) -> Result<Vec<Outputs>, Memory>
     requires lawful { AllByRecursion IsLawfulWork works.items }
-    requires places { (more : List _) → AllZip (IsPieceOf dumps) works.items more
+    requires places { (more : List _) → AllZip (IsPieceOf decoder.now.dumps) works.items more
         → AllByRecursion (HasPlaceIn (counts_of tables.items)) (pieces.items ++ more) }
-    requires full { (more : List _) → AllZip (IsPieceOf dumps) works.items more
+    requires full { (more : List _) → AllZip (IsPieceOf decoder.now.dumps) works.items more
         → AreFull (put_each tables.items (pieces.items ++ more)) }
-    ensures { IfOk result (λ outputs. (more : List _) × AllZip (IsPieceOf dumps) works.items more
+    ensures { IfOk result (λ outputs.
+        (more : List _) × AllZip (IsPieceOf decoder.now.dumps) works.items more
         × (outputs.items ≡ map read_of (put_each tables.items (pieces.items ++ more)))) }
 {
-    decode_left(alloc, gate, dumps, index, works, &mut pieces)?;
+    decode_left(decoder, index, works, &mut pieces)?;
     put_all(&mut tables, pieces);
-    read_all(alloc, tables)
+    read_all(decoder.alloc, tables)
 }

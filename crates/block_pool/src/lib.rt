@@ -3,7 +3,6 @@
 
 mod ended_takers;
 mod fresh_workers;
-mod member_reports;
 mod pieces;
 mod pool;
 mod pool_threads;

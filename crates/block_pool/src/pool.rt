@@ -10,9 +10,9 @@ ghost use Rattle.work_queue.specs.Passes.{fresh_passes};
 
 use crate::ended_takers::{part_all, put_together};
 use crate::fresh_workers::{pool_workers_of, takers_of};
-use crate::member_reports::report_run;
-use crate::pool_threads::{Pool, run_both};
-use cpu_feeders::{Gate, Workers};
+use crate::pool_threads::run_both;
+use crate::workers::{Decoder, Pool};
+use cpu_feeders::{Gate, Workers, report_run};
 use fanout_group::{Dealer, DealerSeat};
 use frame_view::{Memory, MomentList};
 use setup_text::{Job, Ran};
@@ -83,17 +83,19 @@ pub fn run_pool<S: Source + Send, G: Gate + Sync, R: Threads + Wait + Sync>(
         ran.report) }
 {
     let members = job.setup.plan.members();
-    let dumps = job.setup.dump;
     let (dealer, seat, others) = deal_one(alloc)?;
     let (queue, takers_passes, workers_passes) = queue_for(alloc, members, workers)?;
     let pool_workers = pool_workers_of(alloc, workers_passes, others)?;
     let takers = takers_of(rt, alloc, &queue, &job.setup.shape, takers_passes)?;
-    let pool = Pool {
+    let decoder = Decoder {
         alloc,
+        gate,
+        dumps: job.setup.dump,
+    };
+    let pool = Pool {
         queue: &queue,
         dealer: &dealer,
-        gate,
-        dumps,
+        decoder: &decoder,
     };
     let (pool_workers, ran) = run_both(rt, &pool, job, sources, ticks, takers, pool_workers, seat);
     let Workers {
@@ -106,6 +108,7 @@ pub fn run_pool<S: Source + Send, G: Gate + Sync, R: Threads + Wait + Sync>(
     let parted = part_all(alloc, takers, pool_workers)?;
     let left = queue.close(rt, alloc, parted.passes)?;
     let (tables, pieces) = (parted.tables, parted.pieces);
-    let outputs = put_together(alloc, gate, dumps, workers, left, tables, pieces)?;
-    report_run(alloc, job, cpus, notes, rings, sources, outputs)
+    let outputs = put_together(&decoder, workers, left, tables, pieces)?;
+    let report = report_run(alloc, cpus, notes, rings, outputs)?;
+    Ok(Ran { report, sources })
 }

@@ -10,32 +10,15 @@ ghost use Rattle.setup_text.specs.Runnable.{IsRunnable};
 ghost use Rattle.setup_text.specs.Sound.{AreMoments};
 
 use crate::takers::Handing;
-use crate::workers::{PoolWorker, run_pool_worker};
+use crate::workers::{Decoder, Pool, PoolWorker, run_pool_worker};
 use cpu_feeders::{Gate, Workers, run_takers};
-use fanout_group::{Dealer, DealerSeat};
+use fanout_group::DealerSeat;
 use frame_view::{Memory, MomentList};
 use setup_text::Job;
-use std::alloc::Global;
 use std::sync::Wait;
 use std::thread;
 use std::thread::Threads;
 use tap_outside::Source;
-use work_queue::WorkQueue;
-
-/// What all workers share.
-#[derive(Drop)]
-pub(crate) struct Pool<'a, G> {
-    /// Allocates what is decoded.
-    pub(crate) alloc: Global,
-    /// Holds the works.
-    pub(crate) queue: &'a WorkQueue,
-    /// Knows whether the takers are still running.
-    pub(crate) dealer: &'a Dealer,
-    /// Where a test may hold a thread.
-    pub(crate) gate: &'a G,
-    /// Whether texts are kept.
-    pub(crate) dumps: bool,
-}
 
 /// Runs workers, each on a thread of its own if one can be made, and joins them.
 fn serve_slice<G: Gate + Sync, R: Threads + Wait + Sync>(
@@ -47,7 +30,7 @@ fn serve_slice<G: Gate + Sync, R: Threads + Wait + Sync>(
     requires ready { All (IsFreshWorker pool.now.queue.now pool.now.dealer.now) pool_workers.old }
     ensures count { length pool_workers.new ≡ length pool_workers.old }
     ensures done { (i : ℕ) (d : _) → i < length pool_workers.old
-        → HasDecoded pool.now.dumps pool.now.queue.now
+        → HasDecoded pool.now.decoder.now.dumps pool.now.queue.now
         (slice_index_or pool_workers.old i d) (slice_index_or pool_workers.new i d) }
 {
     let count = pool_workers.len();
@@ -57,18 +40,10 @@ fn serve_slice<G: Gate + Sync, R: Threads + Wait + Sync>(
         count,
         &|_, pool_worker|
             requires { IsFreshWorker pool.now.queue.now pool.now.dealer.now pool_worker.now }
-            ensures { HasDecoded pool.entry.now.dumps pool.entry.now.queue.now
+            ensures { HasDecoded pool.entry.now.decoder.now.dumps pool.entry.now.queue.now
                 pool_worker.entry.now pool_worker.exit.now }
         {
-            run_pool_worker(
-                rt,
-                pool.alloc,
-                pool.queue,
-                pool.dealer,
-                pool.gate,
-                pool.dumps,
-                pool_worker,
-            );
+            run_pool_worker(rt, pool, pool_worker);
         },
     );
 }
@@ -82,7 +57,7 @@ fn serve<G: Gate + Sync, R: Threads + Wait + Sync>(
     requires some { 0 < length pool_workers.items }
     requires ready { AllByRecursion (IsFreshWorker pool.now.queue.now pool.now.dealer.now)
         pool_workers.items }
-    ensures { AllZip (HasDecoded pool.now.dumps pool.now.queue.now)
+    ensures { AllZip (HasDecoded pool.now.decoder.now.dumps pool.now.queue.now)
         pool_workers.items result.items }
 {
     let mut pool_workers = pool_workers;
@@ -114,7 +89,8 @@ fn take_all<'a, S: Source + Send, G: Gate + Sync, R: Threads + Wait + Sync>(
         workers.cpus workers.notes.items workers.rings.items) }
 {
     let mut seat = seat;
-    let ran = run_takers(rt, pool.alloc, job, sources, ticks, pool.gate, takers);
+    let decoder = pool.decoder;
+    let ran = run_takers(rt, decoder.alloc, job, sources, ticks, decoder.gate, takers);
     pool.dealer.done(&mut seat);
     ran
 }
@@ -143,15 +119,15 @@ pub(crate) fn run_both<'a, S: Source + Send, G: Gate + Sync, R: Threads + Wait +
     requires ready { AllByRecursion (IsFreshWorker pool.now.queue.now pool.now.dealer.now)
         pool_workers.items }
     requires seat { IsFreshSeat pool.now.dealer.now seat }
-    ensures decoded { AllZip (HasDecoded pool.now.dumps pool.now.queue.now)
+    ensures decoded { AllZip (HasDecoded pool.now.decoder.now.dumps pool.now.queue.now)
         pool_workers.items result.0.items }
     ensures ran { IfOk result.1 (λ workers. IsTakerRun handing_base handing_taken
         job.now ticks.now (map (option_map S.seen) sources.items) takers.entry.items
         (map (option_map S.seen) workers.sources.items) workers.takers.items
         workers.cpus workers.notes.items workers.rings.items) }
 {
-    let (alloc, dumps) = (pool.alloc, pool.dumps);
-    let (queue, dealer, gate) = (pool.queue, pool.dealer, pool.gate);
+    let (queue, dealer, decoder) = (pool.queue, pool.dealer, pool.decoder);
+    let (alloc, gate, dumps) = (decoder.alloc, decoder.gate, decoder.dumps);
     thread::join(
         rt,
         move || -> Vec<PoolWorker>
@@ -159,12 +135,11 @@ pub(crate) fn run_both<'a, S: Source + Send, G: Gate + Sync, R: Threads + Wait +
                 × AllByRecursion (IsFreshWorker queue.now dealer.now) pool_workers.items }
             ensures { AllZip (HasDecoded dumps queue.entry.now) pool_workers.items result.items }
         {
+            let decoder = Decoder { alloc, gate, dumps };
             let pool = Pool {
-                alloc,
                 queue,
                 dealer,
-                gate,
-                dumps,
+                decoder: &decoder,
             };
             serve(rt, &pool, pool_workers)
         },

@@ -33,62 +33,75 @@ pub struct PoolWorker {
     pub full: bool,
 }
 
-/// Decodes a work, and puts its piece after the others.
-pub(crate) fn keep<G: Gate>(
-    alloc: Global,
-    gate: &G,
-    dumps: bool,
-    index: u32,
-    pieces: &mut Vec<Piece>,
-    work: Work,
-) -> Result<(), Memory>
-    requires lawful { IsLawfulWork work }
-    ensures { OnOk result ((piece : _) × IsPieceOf dumps work piece
-        × (pieces.new.items ≡ pieces.old.items ++ piece ∷ [])) }
-{
-    gate.at(Point::Decoding {
-        worker: index,
-        member: work.member,
-        number: work.number,
-    });
-    pieces.push(piece_of(alloc, work, dumps)?)?;
-    Ok(())
+/// What decodes works.
+#[derive(Drop)]
+pub(crate) struct Decoder<'a, G> {
+    /// Allocates what is decoded.
+    pub(crate) alloc: Global,
+    /// Where a test may hold a thread.
+    pub(crate) gate: &'a G,
+    /// Whether texts are kept.
+    pub(crate) dumps: bool,
+}
+
+impl<'a, G: Gate> Decoder<'a, G> {
+    /// Decodes a work for the worker of this number, and puts its piece after the others.
+    pub(crate) fn keep(
+        &self,
+        worker: u32,
+        pieces: &mut Vec<Piece>,
+        work: Work,
+    ) -> Result<(), Memory>
+        requires lawful { IsLawfulWork work }
+        ensures { OnOk result ((piece : _) × IsPieceOf self.now.dumps work piece
+            × (pieces.new.items ≡ pieces.old.items ++ piece ∷ [])) }
+    {
+        self.gate.at(Point::Decoding {
+            worker,
+            member: work.member,
+            number: work.number,
+        });
+        pieces.push(piece_of(self.alloc, work, self.dumps)?)?;
+        Ok(())
+    }
+}
+
+/// What all workers share.
+#[derive(Drop)]
+pub(crate) struct Pool<'a, G> {
+    /// Holds the works.
+    pub(crate) queue: &'a WorkQueue,
+    /// Knows whether the takers are still running.
+    pub(crate) dealer: &'a Dealer,
+    /// Decodes the works.
+    pub(crate) decoder: &'a Decoder<'a, G>,
 }
 
 /// Fetches works and decodes them. It ends if a poll found no work after the takers had ended, if
 /// an allocation failed, and after as many polls as a pass may make.
 ///
 /// The takers are counted before each poll, so that what they handed before they ended is seen.
-pub fn run_pool_worker<R: Wait, G: Gate>(
+pub(crate) fn run_pool_worker<R: Wait, G: Gate>(
     rt: &R,
-    alloc: Global,
-    queue: &WorkQueue,
-    dealer: &Dealer,
-    gate: &G,
-    dumps: bool,
+    pool: &Pool<G>,
     pool_worker: &mut PoolWorker,
 )
-    requires fresh { IsFreshWorker queue.now dealer.now pool_worker.old }
-    ensures { HasDecoded dumps queue.now pool_worker.old pool_worker.new }
+    requires fresh { IsFreshWorker pool.now.queue.now pool.now.dealer.now pool_worker.old }
+    ensures { HasDecoded pool.now.decoder.now.dumps pool.now.queue.now
+        pool_worker.old pool_worker.new }
 {
     let mut idler = Idler::new();
     for _ in rt.forever() {
         if pool_worker.fetches >= MOST_FETCHES {
             return;
         }
-        let live = dealer.live(&mut pool_worker.seat);
+        let live = pool.dealer.live(&mut pool_worker.seat);
         pool_worker.fetches += 1;
-        match queue.fetch(rt, &mut pool_worker.pass) {
+        match pool.queue.fetch(rt, &mut pool_worker.pass) {
             Some(work) => {
                 idler.found();
-                let kept = keep(
-                    alloc,
-                    gate,
-                    dumps,
-                    pool_worker.index,
-                    &mut pool_worker.pieces,
-                    work,
-                );
+                let pieces = &mut pool_worker.pieces;
+                let kept = pool.decoder.keep(pool_worker.index, pieces, work);
                 if kept.is_err() {
                     pool_worker.full = true;
                     return;

@@ -1,11 +1,8 @@
--- The forwarders of a run, and what is sent for each member.
-use Rattle.std.specs.Prelude.{◌≡◌, ℕ, Bool, List}
-use Rattle.capture_reports.specs.Reported.{taken_of_notes}
+-- What is sent of a run.
+use Rattle.std.specs.Prelude.{ℕ, List}
 use Rattle.frame_view.specs.declared.frames.Packet.{Packet}
-use Rattle.ring_model.specs.declared.notes.Note.{Note}
 use Rattle.setup_text.specs.declared.reports.MemberReport.{MemberReport}
 use Rattle.tp_layout.specs.declared.requests.RingRequest.{RingRequest}
-use Rattle.tap_forward.specs.Forwarders.{ForwarderValue}
 use Rattle.tap_forward.specs.Forwarding.{sent_of, skipped_of}
 
 -- the request of a transmit ring beside a receive ring: it has no time-out, no private area and no
@@ -20,11 +17,3 @@ sent_for room member = sent_of room member.walked
 -- the number of the others
 abbrev pub skipped_for : ℕ → MemberReport → ℕ
 skipped_for room member = skipped_of room member.walked
-
--- a forwarder that has read all blocks that a member's notes retired
-pub record IsForwarderOf (shape tx : RingRequest) (dump : Bool) (notes : List Note)
-    (forwarder : ForwarderValue) : Type 0 where
-  pub shape_is : forwarder.shape ≡ shape
-  pub tx_is : forwarder.tx ≡ tx
-  pub dumps_is : forwarder.dumps ≡ dump
-  pub taken_is : forwarder.taken ≡ taken_of_notes shape notes

@@ -1,23 +1,19 @@
 //! The run of a job on threads whose readers send.
-ghost use Rattle.std.specs.Prelude.{◌≡◌, Bool, None, length, map, option_map, replicate, IfOk};
-ghost use Rattle.std.specs.List.{AllZip};
-ghost use Rattle.capture_reports.specs.Reported.{AreReported};
+ghost use Rattle.std.specs.Prelude.{◌≡◌, None, length, map, option_map, replicate, IfOk};
 ghost use Rattle.cpu_feeders.specs.Runs.{IsCaptureRun};
 ghost use Rattle.setup_text.specs.Runnable.{IsRunnable};
 ghost use Rattle.setup_text.specs.Sound.{AreMoments};
-ghost use Rattle.tap_forward.specs.Bridges.{IsForwarderOf, sent_for, skipped_for, tx_request};
-ghost use Rattle.tap_forward.specs.Forwarders.{new_forwarder};
+ghost use Rattle.tap_forward.specs.Bridges.{sent_for, skipped_for, tx_request};
+ghost use Rattle.tap_forward.specs.Forwarders.{forwarded_of, new_forwarder};
 ghost use Rattle.tp_layout.specs.Requests.{receive_fault, transmit_fault};
-ghost use Rattle.tp_layout.specs.declared.requests.RingRequest.{RingRequest as Request};
 ghost use Rattle.tx_ring.specs.Rings.{room_of};
 
 use crate::Forwarder;
-use capture_reports::{threads_report_a_capture, threads_report_a_run};
-use cpu_feeders::{Gate, Workers, run_takers};
+use cpu_feeders::{Gate, report_run, run_takers};
 use frame_view::{Memory, MomentList, Packets};
-use setup_text::{Job, MemberList, MemberReport, RunReport};
+use reader_walk::Outputs;
+use setup_text::{Job, RunReport};
 use std::alloc::Global;
-use std::collections::VecDeque;
 use std::sync::Wait;
 use std::thread::Threads;
 use tap_outside::Source;
@@ -35,6 +31,17 @@ pub struct ForwardRan<S: Drop> {
     /// The source of each CPU, from 0 up, less the bytes that it gave; nothing if none was handed
     /// in.
     pub sources: Vec<Option<S>>,
+}
+
+/// What forwarders leave: that of each in its place.
+#[derive(Drop)]
+struct Ended {
+    /// What a reader of the same blocks returns.
+    outputs: Vec<Outputs>,
+    /// The packets that were sent.
+    sent: Vec<Packets>,
+    /// The number of packets that were skipped.
+    skipped: Vec<u64>,
 }
 
 /// The shape of the transmit ring beside a receive ring: that of the same request without a
@@ -75,55 +82,27 @@ fn forwarders_of(
     Ok(forwarders)
 }
 
-/// Reports what a run with forwarders leaves.
-fn report<S: Source>(alloc: Global, workers: Workers<S, Forwarder>) -> Result<ForwardRan<S>, Memory>
-    requires forwarders { length workers.takers.items ≡ length workers.notes.items }
-    requires rings { length workers.rings.items ≡ length workers.notes.items }
-    ensures cpus { IfOk result (λ ran. ran.report.cpus ≡ workers.cpus) }
-    ensures sources { IfOk result (λ ran. ran.sources.items ≡ workers.sources.items) }
-    ensures members { IfOk result (λ ran. (shape tx : Request) (dump : Bool)
-        → AllZip (IsForwarderOf shape tx dump) workers.notes.items workers.takers.items
-        → AreReported shape dump workers.notes.items workers.rings.items ran.report.members) }
-    ensures sent { IfOk result (λ ran. (shape tx : Request) (dump : Bool)
-        → AllZip (IsForwarderOf shape tx dump) workers.notes.items workers.takers.items
-        → ran.sent.items ≡ map (sent_for (room_of tx)) ran.report.members) }
-    ensures skipped { IfOk result (λ ran. (shape tx : Request) (dump : Bool)
-        → AllZip (IsForwarderOf shape tx dump) workers.notes.items workers.takers.items
-        → ran.skipped.items ≡ map (skipped_for (room_of tx)) ran.report.members) }
+/// Ends forwarders, and returns what they leave.
+fn end_all(alloc: Global, forwarders: Vec<Forwarder>) -> Result<Ended, Memory>
+    ensures outputs { IfOk result (λ ended. ended.outputs.items
+        ≡ map (λ forwarder. (forwarded_of forwarder).outputs) forwarders.items) }
+    ensures sent { IfOk result (λ ended. ended.sent.items
+        ≡ map (λ forwarder. (forwarded_of forwarder).sent) forwarders.items) }
+    ensures skipped { IfOk result (λ ended. ended.skipped.items
+        ≡ map (λ forwarder. (forwarded_of forwarder).skipped) forwarders.items) }
 {
-    let mut members = MemberList::new(alloc);
-    let mut sent = Vec::new(alloc);
-    let mut skipped = Vec::new(alloc);
-    let mut rings = VecDeque::from(workers.rings);
-    let mut forwarders = VecDeque::from(workers.takers);
-    for notes in workers.notes {
-        let Some(forwarder) = forwarders.pop_front() else {
-            unreachable!()
-        };
-        let Some(ring) = rings.pop_front() else {
-            unreachable!()
-        };
+    let mut ended = Ended {
+        outputs: Vec::new(alloc),
+        sent: Vec::new(alloc),
+        skipped: Vec::new(alloc),
+    };
+    for forwarder in forwarders {
         let forwarded = forwarder.end()?;
-        let outputs = forwarded.outputs;
-        members.push(MemberReport {
-            notes,
-            walked: outputs.walked,
-            dump: outputs.dump,
-            blocks: outputs.blocks,
-            ring: Some(ring),
-        })?;
-        sent.push(forwarded.sent)?;
-        skipped.push(forwarded.skipped)?;
+        ended.outputs.push(forwarded.outputs)?;
+        ended.sent.push(forwarded.sent)?;
+        ended.skipped.push(forwarded.skipped)?;
     }
-    Ok(ForwardRan {
-        report: RunReport {
-            cpus: workers.cpus,
-            members,
-        },
-        sent,
-        skipped,
-        sources: workers.sources,
-    })
+    Ok(ended)
 }
 
 /// Runs a job on threads as `run_workers` does, with a reader for each member that also sends the
@@ -160,11 +139,22 @@ pub fn forward_workers<S: Source + Send, G: Gate + Sync, R: Threads + Wait + Syn
     ensures skipped { IfOk result (λ ran. ran.skipped.items
         ≡ map (skipped_for (room_of job.now.setup.shape)) ran.report.members) }
 {
-    threads_report_a_run();
-    threads_report_a_capture();
     let setup = &job.setup;
     let tx = tx_shape(&setup.request);
     let forwarders = forwarders_of(alloc, setup.plan.members(), &setup.shape, &tx, setup.dump)?;
     let workers = run_takers(rt, alloc, job, sources, ticks, gate, forwarders)?;
-    report(alloc, workers)
+    let ended = end_all(alloc, workers.takers)?;
+    let report = report_run(
+        alloc,
+        workers.cpus,
+        workers.notes,
+        workers.rings,
+        ended.outputs,
+    )?;
+    Ok(ForwardRan {
+        report,
+        sent: ended.sent,
+        skipped: ended.skipped,
+        sources: workers.sources,
+    })
 }

@@ -28,7 +28,7 @@ loop-work-preserved g c =
         works ++ work ∷ [],
         more ++ piece ∷ [],
         append_assoc works (work ∷ []) _ ∙ ap (λ (ws : List Work). works ++ ws) (sym next) ∙ inv.done.2,
-        all_zipped_more (IsPieceOf c.args.dumps) works more work piece inv.done.3 kept.1,
+        all_zipped_more (IsPieceOf c.args.decoder.now.dumps) works more work piece inv.done.3 kept.1,
         kept.2 ∙ ap (λ (ps : List Piece). ps ++ piece ∷ []) inv.done.4 ∙ append_assoc c.args.pieces.now.items more (piece ∷ []),
       );
     }

@@ -10,5 +10,5 @@ abbrev pub invariant-loop-work : goal.invariant-loop-work
 invariant-loop-work g l = record {
   lawful : AllByRecursion IsLawfulWork l.work-iterator.rest.items;
   done : (works : List Work) × (more : List Piece) × (works ++ l.work-iterator.rest.items ≡ l.fn.works.items)
-      × AllZip (IsPieceOf l.dumps) works more × (l.pieces.items ≡ l.fn.pieces.items ++ more);
+      × AllZip (IsPieceOf l.decoder.dumps) works more × (l.pieces.items ≡ l.fn.pieces.items ++ more);
 }

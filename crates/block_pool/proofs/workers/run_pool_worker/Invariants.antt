@@ -5,7 +5,7 @@ use Rattle.block_pool.proofs.workers.run_pool_worker.Given as goal
 
 abbrev pub invariant-loop : goal.invariant-loop
 invariant-loop g l = record {
-  decoded : HasDecoded l.dumps l.queue l.initial.pool_worker l.pool_worker;
+  decoded : HasDecoded l.pool.decoder.now.dumps l.pool.queue.now l.initial.pool_worker l.pool_worker;
   full : l.pool_worker.full ≡ false;
-  seat : IsFreshOf l.dealer l.pool_worker.seat;
+  seat : IsFreshOf l.pool.dealer.now l.pool_worker.seat;
 }
