@@ -150,8 +150,8 @@ def page() -> str:
         ),
         "",
         *wrapped(
-            f"The contract of `run` reaches {sum(map(len, found.values()))} definitions in {len(found)} of {len(known)} modules. Those are "
-            "to be read; the other modules are for a crate's own contracts, laws and proofs."
+            f"The contract of `run` reaches {sum(map(len, found.values()))} definitions in {len(found)} of {len(known)} modules. Read "
+            "those; the others are for a crate's own contracts, laws and proofs."
         ),
     ]
     for crate in sorted({place[0] for place in found}, key=order_of):

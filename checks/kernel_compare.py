@@ -122,7 +122,7 @@ class Free:
     holds: Callable[[Place, int, int], bool]
 
 
-STALE = "the private area, the 14 bytes before the data, the padding behind it, the last 2 bytes of `sll_addr`"
+STALE = "the private area, the 14 bytes before the data, the padding after it, the last 2 bytes of `sll_addr`"
 FREE = [
     Free(STALE, private_area, stale),
     Free(STALE, gaps, stale),
