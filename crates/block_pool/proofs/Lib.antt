@@ -1,11 +1,11 @@
 pub mod Texts
 pub mod Zips
 pub mod Members
-pub mod Placing
-pub mod Reading
+pub mod PlacedPieces
+pub mod ReadPieces
 pub mod Pooled
 pub mod Lists
 pub mod Decoded
 pub mod FreshThreads
 pub mod Joined
-pub mod Crossing
+pub mod Crossings

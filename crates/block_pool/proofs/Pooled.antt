@@ -11,8 +11,8 @@ use Rattle.block_pool.specs.Workers.{HasDecoded}
 use Rattle.block_pool.specs.declared.pieces.Piece.{Piece}
 use Rattle.block_pool.specs.declared.workers.PoolWorker.{PoolWorker}
 use Rattle.block_pool.proofs.Members.{AreMembers, IsPlaced, fetched_else, handed_of, numbered_at, passes_of, placed, was_handed}
-use Rattle.block_pool.proofs.Placing.{IsThere, all_empty, all_fit, all_held, all_there}
-use Rattle.block_pool.proofs.Reading.{HasAt, IsFilled, blocks_row, dumped_row, filled_all, full_all, walked_row}
+use Rattle.block_pool.proofs.PlacedPieces.{IsThere, all_empty, all_fit, all_held, all_there}
+use Rattle.block_pool.proofs.ReadPieces.{HasAt, IsFilled, blocks_row, dumped_row, filled_all, full_all, walked_row}
 use Rattle.block_pool.proofs.Zips.{zip_append}
 use Rattle.cpu_feeders.specs.Reports.{AreOutputsOf}
 use Rattle.cpu_feeders.specs.Runs.{AreTakersOf}

@@ -9,7 +9,7 @@ use Rattle.reader_walk.specs.Takers.{IsRetired}
 use Rattle.tp_layout.specs.Layouts.{Taken, taken_in, text_of_taken}
 use Rattle.tp_layout.proofs.Opens.{length-block_text}
 use Rattle.tp_layout.specs.Blocks.{BeginsWith, HasText, block_text}
-use Rattle.tp_layout.specs.Reading.{IsTextOf}
+use Rattle.tp_layout.specs.Readers.{IsTextOf}
 use Rattle.tp_layout.specs.declared.requests.RingRequest.{RingRequest}
 use Rattle.work_queue.specs.Works.{IsLawfulText, IsTextWith}
 

@@ -1,7 +1,7 @@
 //! How a work is decoded.
 ghost use Rattle.std.specs.Prelude.{◌≡◌, IfOk};
 ghost use Rattle.tp_layout.specs.Layouts.{taken_in};
-ghost use Rattle.tp_layout.specs.Reading.{IsTextOf};
+ghost use Rattle.tp_layout.specs.Readers.{IsTextOf};
 ghost use Rattle.work_queue.specs.Works.{IsLawfulWork};
 
 use frame_view::{Memory, Packets};

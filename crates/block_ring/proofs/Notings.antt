@@ -4,7 +4,7 @@ use Rattle.std.specs.Prelude.{if◌then◌else◌}
 use Rattle.std.specs.Prelude.{nat_lt}
 use Rattle.std.proofs.lemmas.List.Concat.{flat_map-append}
 use Rattle.std.proofs.lemmas.List.Sums.{sum_by-append, sum_by-cons}
-use Rattle.ring_model.specs.Asking.{is_empty_block}
+use Rattle.ring_model.specs.KnownReleases.{is_empty_block}
 use Rattle.ring_model.specs.Ring.{EndsThere, IsRun, IsWholeRun, MayFollow, Size, State, after, after_all, after_due, after_drop, finished, first_state, open_count, retired, state_of, status_of, with_offer}
 use Rattle.ring_model.specs.declared.notes.Found.{Found}
 use Rattle.ring_model.specs.declared.notes.Found.TheVariants.{NotAsked, Free, Held}
@@ -12,8 +12,8 @@ use Rattle.ring_model.specs.declared.notes.Note.{Note}
 use Rattle.ring_model.specs.declared.notes.Note.TheVariants.{Kept, Refused, Dropped, Ticked, Counted, Finished}
 use Rattle.ring_model.specs.declared.notes.Offer.{Offer}
 use Rattle.ring_model.specs.Unreleased.{held_number}
-use Rattle.block_ring.specs.Noting.{FoundAsNoted, found_with, held_count, held_in, held_numbers, listed}
-use Rattle.block_ring.specs.Producing.{GoesOn, IsOpenRun}
+use Rattle.block_ring.specs.CallNotes.{FoundAsNoted, found_with, held_count, held_in, held_numbers, listed}
+use Rattle.block_ring.specs.Producers.{GoesOn, IsOpenRun}
 
 pub after_all-push : (size : Size) (s : State) (notes : List Note) (note : Note) → after_all size s (notes ++ note ∷ []) ≡ after size (after_all size s notes) note
 after_all-push size s [] note = refl

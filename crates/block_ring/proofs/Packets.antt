@@ -11,7 +11,7 @@ use Rattle.tp_layout.specs.Blocks.{first_time, last_time_after, needs_of}
 use Rattle.tp_layout.specs.Dump.{packets_of_offers}
 use Rattle.tp_layout.specs.Packets.{need_of_packet}
 use Rattle.tp_layout.specs.Requests.{fills_hash, first_of}
-use Rattle.tp_layout.specs.Writing.{IsWritable, closing_of, end_of, last_place}
+use Rattle.tp_layout.specs.BlockWrites.{IsWritable, closing_of, end_of, last_place}
 use Rattle.tp_layout.specs.declared.requests.RingRequest.{RingRequest}
 
 pub packets_push : (shape : RingRequest) (offers : List Offer) (offer : Offer)

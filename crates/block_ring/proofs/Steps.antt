@@ -2,7 +2,7 @@
 use Rattle.std.proofs.Common.{◌≡◌, ℕ, ◌+◌, ◌-◌, ◌^◌, ◌<◌, ◌≤◌, List, [], ◌∷◌, ◌++◌, length, refl, sym, subst, ap, ◌∙◌, arith, length-append, Bool, true, false, Option, None, Some}
 use Rattle.std.specs.Prelude.{if◌then◌else◌, nat_lt}
 use Rattle.std.proofs.Common.{◌⊎◌, inl, inr}
-use Rattle.ring_model.specs.Asking.{put_by, try_by}
+use Rattle.ring_model.specs.KnownReleases.{put_by, try_by}
 use Rattle.ring_model.specs.Ring.{Size, State, after, after_drop, after_due, state_of}
 use Rattle.ring_model.specs.declared.notes.Found.{Found}
 use Rattle.ring_model.specs.declared.notes.Found.TheVariants.{NotAsked, Free, Held}
@@ -16,8 +16,8 @@ use Rattle.ring_words.specs.Counts.{Rose}
 use Rattle.ring_words.specs.Rings.{Feed}
 use Rattle.tp_layout.specs.Requests.{size_of}
 use Rattle.block_ring.specs.Machines.{IsAt, IsFew, KeepsEnd, Stepped}
-use Rattle.block_ring.specs.Noting.{FoundAsNoted, WasHeld, held_count, held_in, listed}
-use Rattle.block_ring.specs.Producing.{Adds, GoesOn, Keeps, Producing, Puts, Ticks, Tries}
+use Rattle.block_ring.specs.CallNotes.{FoundAsNoted, WasHeld, held_count, held_in, listed}
+use Rattle.block_ring.specs.Producers.{Adds, GoesOn, Keeps, Producing, Puts, Ticks, Tries}
 use Rattle.block_ring.specs.declared.machine.Machine.{Machine}
 use Rattle.block_ring.proofs.Notings.{counted, held_few, held_one, held_push, number_in, run_push, state_of-push}
 

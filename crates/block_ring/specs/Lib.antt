@@ -1,7 +1,7 @@
 pub mod Texts
 pub mod OpenBlocks
 pub mod Machines
-pub mod Noting
-pub mod Producing
-pub mod Ticking
-pub mod Walking
+pub mod CallNotes
+pub mod Producers
+pub mod TickErrors
+pub mod WalkerSteps

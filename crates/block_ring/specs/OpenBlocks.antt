@@ -5,7 +5,7 @@ use Rattle.ring_model.specs.Sizes.{used_by}
 use Rattle.ring_model.specs.declared.notes.Offer.{Offer}
 use Rattle.tp_layout.specs.Dump.{packets_of_offers}
 use Rattle.tp_layout.specs.Requests.{first_of}
-use Rattle.tp_layout.specs.Writing.{IsOpen, IsWritable, closing_of}
+use Rattle.tp_layout.specs.BlockWrites.{IsOpen, IsWritable, closing_of}
 use Rattle.tp_layout.specs.declared.requests.RingRequest.{RingRequest}
 use Rattle.block_ring.specs.declared.open_block.OpenBlock.{OpenBlock}
 

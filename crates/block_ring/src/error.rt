@@ -1,6 +1,6 @@
 //! Why a tick isn't done.
 ghost use Rattle.std.specs.Prelude.{◌≡◌, Some};
-ghost use Rattle.block_ring.specs.Ticking.{tick_words};
+ghost use Rattle.block_ring.specs.TickErrors.{tick_words};
 
 use frame_view::Memory;
 use std::error::Error;

@@ -5,7 +5,7 @@ mod error;
 mod machine;
 mod open_block;
 mod producer;
-mod walking;
+mod walker_end;
 
 pub use error::TickError;
 pub use producer::Producer;

@@ -18,8 +18,8 @@
 //! In the end an open block that has packets is retired. An empty one is discarded.
 ghost use Rattle.std.specs.Prelude.{◌≡◌, ◌+◌, ◌^◌, ◌<◌, ◌≤◌, ◌≢◌, ◌∷◌, ℕ, [], true, false, IsTrue};
 ghost use Rattle.std.specs.Prelude.{None, Some};
-ghost use Rattle.ring_model.specs.Asking.{found_for, has_room, is_empty_block, look, put_by};
-ghost use Rattle.ring_model.specs.Asking.{tick_note, try_by};
+ghost use Rattle.ring_model.specs.KnownReleases.{found_for, has_room, is_empty_block, look, put_by};
+ghost use Rattle.ring_model.specs.KnownReleases.{tick_note, try_by};
 ghost use Rattle.ring_model.specs.Fates.{stats_of};
 ghost use Rattle.ring_model.specs.Ring.{HasRoom, MayFollow, State, after, after_due, first_state};
 ghost use Rattle.ring_model.specs.Ring.{open_count, status_of};
@@ -27,13 +27,13 @@ ghost use Rattle.ring_model.specs.Sizes.{need_of};
 ghost use Rattle.ring_model.specs.declared.notes.Found.TheVariants as found;
 ghost use Rattle.ring_model.specs.declared.notes.Note.TheVariants as notes;
 ghost use Rattle.ring_words.specs.Counts.{Rose};
-ghost use Rattle.block_ring.specs.Noting.{CountsHeld, FoundAsNoted, IsAsked, WasHeld};
-ghost use Rattle.block_ring.specs.Noting.{deadline_after, found_with};
+ghost use Rattle.block_ring.specs.CallNotes.{CountsHeld, FoundAsNoted, IsAsked, WasHeld};
+ghost use Rattle.block_ring.specs.CallNotes.{deadline_after, found_with};
 ghost use Rattle.tp_layout.specs.Blocks.{is_status};
 ghost use Rattle.tp_layout.specs.Requests.{numbers_of, room_of, size_of};
-ghost use Rattle.tp_layout.specs.Writing.{IsWritable};
+ghost use Rattle.tp_layout.specs.BlockWrites.{IsWritable};
 
-mod filling;
+mod block_steps;
 
 use crate::open_block::OpenBlock;
 use ring_model::{Found, Note, Offer, Stats, due};

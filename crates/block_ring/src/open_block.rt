@@ -8,7 +8,7 @@ ghost use Rattle.tp_layout.specs.Blocks.{BeginsWith, first_time, is_status};
 ghost use Rattle.tp_layout.specs.Dump.{packets_of_offers};
 ghost use Rattle.tp_layout.specs.Requests.{IsShape, fills_hash, room_of};
 ghost use Rattle.tp_layout.specs.declared.requests.RingRequest.{RingRequest};
-ghost use Rattle.tp_layout.specs.Writing.{IsWritable};
+ghost use Rattle.tp_layout.specs.BlockWrites.{IsWritable};
 ghost use Rattle.block_ring.specs.OpenBlocks.{Holds, OpenText, with_packet};
 
 use ring_model::{Offer, need};

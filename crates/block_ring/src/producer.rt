@@ -1,14 +1,14 @@
 //! A ring that frames are put into: its machine, and the notes of what happened.
 ghost use Rattle.std.specs.Prelude.{◌≡◌, ◌+◌, ◌^◌, ◌<◌, ◌≤◌, ◌≢◌, ◌↔◌, ◌∷◌, ◌++◌, ℕ, [], length};
 ghost use Rattle.std.specs.Prelude.{IsOk, IfOk, IfErr, OnOk, OnErr, Err};
-ghost use Rattle.ring_model.specs.Asking.{put_by, try_by};
+ghost use Rattle.ring_model.specs.KnownReleases.{put_by, try_by};
 ghost use Rattle.ring_model.specs.Told.{put_told, try_told};
 ghost use Rattle.ring_model.specs.Fates.{stats_of};
 ghost use Rattle.ring_model.specs.Ring.{IsWholeRun, state_of};
 ghost use Rattle.ring_model.specs.declared.notes.Found.{Found};
 ghost use Rattle.ring_model.specs.declared.notes.Note.TheVariants.{Counted, Finished};
 ghost use Rattle.tp_layout.specs.Requests.{room_of, size_of};
-ghost use Rattle.tp_layout.specs.Writing.{IsWritable};
+ghost use Rattle.tp_layout.specs.BlockWrites.{IsWritable};
 
 use crate::TickError;
 use crate::machine::Machine;
@@ -29,7 +29,7 @@ pub struct Producer<E: FeederEnd<Block> + Drop> {
 impl<E: FeederEnd<Block> + Drop> Model for Producer<E> {
     ghost use Rattle.std.specs.Prelude.{◌-◌};
     ghost use Rattle.std.specs.Vec.{vec_capacity};
-    ghost use Rattle.block_ring.specs.Producing.{Keeps, Producing};
+    ghost use Rattle.block_ring.specs.Producers.{Keeps, Producing};
     ghost use Rattle.std.specs.Prelude.{length};
 
     ghost Value = { Producing E };
@@ -47,10 +47,10 @@ impl<E: FeederEnd<Block> + Drop> Model for Producer<E> {
 
 impl<E: FeederEnd<Block> + Drop> Producer<E> {
     ghost use Rattle.block_ring.specs.Machines.{IsFresh, KeepsEnd};
-    ghost use Rattle.block_ring.specs.Noting.{FoundAsNoted, held_count};
-    ghost use Rattle.block_ring.specs.Producing.{Adds, Opens, Puts, Stays, Ticks, Tries, state};
+    ghost use Rattle.block_ring.specs.CallNotes.{FoundAsNoted, held_count};
+    ghost use Rattle.block_ring.specs.Producers.{Adds, Opens, Puts, Stays, Ticks, Tries, state};
     ghost use Rattle.block_ring.specs.Texts.{RepresentsTexts};
-    ghost use Rattle.block_ring.specs.Ticking.{IsBackwardsFrom};
+    ghost use Rattle.block_ring.specs.TickErrors.{IsBackwardsFrom};
     ghost use Rattle.block_ring.specs.declared.error.TickError.{TickError};
     ghost use Rattle.block_ring.specs.declared.error.TickError.TheVariants.{Backwards};
 

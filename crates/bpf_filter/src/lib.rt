@@ -4,7 +4,7 @@
 
 mod error;
 mod insn;
-mod listing;
+mod listings;
 mod loads;
 mod machine;
 mod packets;
@@ -12,6 +12,6 @@ mod program;
 
 pub use error::FilterError;
 pub use insn::Insn;
-pub use listing::read_ddd;
+pub use listings::read_ddd;
 pub use packets::Seen;
 pub use program::{LARGEST_PROGRAM, Program, verdict_with};

@@ -9,7 +9,7 @@ use Rattle.pcapng_blocks.proofs.Cuts as cuts
 use Rattle.capture_file.specs.declared.error.CaptureError.{CaptureError}
 use Rattle.capture_file.specs.declared.error.CaptureError.TheVariants.{Truncated, Memory}
 use Rattle.capture_file.specs.Capture.{is_pcapng, error_from, damage_of, end_of}
-use Rattle.capture_file.specs.Decoding.{damage_as, end_as}
+use Rattle.capture_file.specs.Decoders.{damage_as, end_as}
 use Rattle.capture_file.proofs.PcapDamage as records
 use Rattle.capture_file.proofs.PcapUncut as whole
 use Rattle.capture_file.proofs.Formats.{damage_is, end_is}

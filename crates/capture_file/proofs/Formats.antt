@@ -13,9 +13,9 @@ use Rattle.pcapng_blocks.specs.declared.error.BlockError.TheVariants as faults
 use Rattle.capture_file.specs.declared.error.CaptureError.TheVariants.{Truncated}
 use Rattle.capture_file.specs.Pcap as pcap
 use Rattle.capture_file.specs.Capture.{is_pcapng, error_from, frames_of, stop_of, damage_of, end_of}
-use Rattle.capture_file.specs.Decoding.{frames_as, damage_as, end_as, kept_of}
-use Rattle.capture_file.proofs.PcapFeeding.{short}
-use Rattle.capture_file.proofs.PcapSettling.{kept_none}
+use Rattle.capture_file.specs.Decoders.{frames_as, damage_as, end_as, kept_of}
+use Rattle.capture_file.proofs.PcapFeeds.{short}
+use Rattle.capture_file.proofs.PcapOutcomes.{kept_none}
 
 -- ---- the first four bytes
 

@@ -8,10 +8,10 @@ use Rattle.frame_view.specs.declared.frames.Frame.{Frame}
 use Rattle.pcapng_blocks.specs.Capture as pcapng
 use Rattle.pcapng_blocks.specs.Laws as packets
 use Rattle.pcapng_blocks.proofs.Firsts as firsts
-use Rattle.pcapng_blocks.proofs.Fitting as fitting
+use Rattle.pcapng_blocks.proofs.FrameBounds as fitting
 use Rattle.pcapng_blocks.proofs.Lawful as blocks
 use Rattle.capture_file.specs.Capture.{is_pcapng, frames_of}
-use Rattle.capture_file.specs.Decoding.{frames_as}
+use Rattle.capture_file.specs.Decoders.{frames_as}
 use Rattle.capture_file.specs.Laws.{IsNumbered, IsCaptured, FitsFrame}
 use Rattle.capture_file.proofs.PcapFrames as records
 use Rattle.capture_file.proofs.Formats.{first_word, format_stays, frames_are, brief}

@@ -6,7 +6,7 @@ use Rattle.std.proofs.lemmas.List.{append-nil, length-append}
 use Rattle.frame_view.specs.declared.frames.Frame.{Frame}
 use Rattle.pcapng_blocks.specs.Blocks as splits
 use Rattle.pcapng_blocks.specs.Capture as pcapng
-use Rattle.pcapng_blocks.specs.Decoding as blocks
+use Rattle.pcapng_blocks.specs.Decoders as blocks
 use Rattle.pcapng_blocks.specs.declared.error.BlockError.{BlockError}
 use Rattle.capture_file.specs.declared.error.CaptureError.{CaptureError}
 use Rattle.capture_file.specs.declared.error.CaptureError.TheVariants.{Truncated}
@@ -14,7 +14,8 @@ use Rattle.capture_file.specs.declared.format_decoder.FormatDecoder.{FormatDecod
 use Rattle.capture_file.specs.declared.format_decoder.FormatDecoder.TheVariants.{Pcapng}
 use Rattle.capture_file.specs.Pcap as pcap
 use Rattle.capture_file.specs.Capture.{is_pcapng, error_from, frames_of, damage_of, end_of}
-use Rattle.capture_file.specs.Decoding.{frames_as, damage_as, end_as, kept_as, kept_of, reads_blocks, RepresentsAs, FeedsAs, FeedsFrom, IsBegun, DecoderValue, Represents, RepresentsBy}
+use Rattle.capture_file.specs.Decoders.{frames_as, damage_as, end_as, kept_as, kept_of, reads_blocks, RepresentsAs, FeedsAs}
+use Rattle.capture_file.specs.Decoders.{FeedsFrom, IsBegun, DecoderValue, Represents, RepresentsBy}
 use Rattle.capture_file.proofs.Formats.{format_stays, frames_are, damage_is, end_is, brief, gathers, gathers_all}
 
 -- ---- a decoder of blocks

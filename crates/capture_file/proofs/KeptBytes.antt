@@ -9,9 +9,9 @@ use Rattle.pcapng_blocks.proofs.Lawful as blocks
 use Rattle.capture_file.specs.declared.error.CaptureError.{CaptureError}
 use Rattle.capture_file.specs.declared.format.Format.{Format}
 use Rattle.capture_file.specs.Pcap as pcap
-use Rattle.capture_file.specs.PcapDecoding as records
+use Rattle.capture_file.specs.PcapDecoders as records
 use Rattle.capture_file.specs.Capture.{is_pcapng, error_from, stop_of, damage_of, is_skipping}
-use Rattle.capture_file.specs.Decoding.{damage_as, kept_as, kept_of}
+use Rattle.capture_file.specs.Decoders.{damage_as, kept_as, kept_of}
 use Rattle.capture_file.proofs.Formats.{damage_is}
 use Rattle.capture_file.proofs.PcapFrames.{concat_within}
 

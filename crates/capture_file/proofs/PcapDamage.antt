@@ -8,7 +8,7 @@ use Rattle.capture_file.specs.declared.error.CaptureError.TheVariants.{BadLength
 use Rattle.capture_file.specs.declared.format.Format.{Format}
 use Rattle.capture_file.specs.Pcap.{header_of, counted, begins_oversized, stop_of, damage_of, cut_of, end_of}
 use Rattle.capture_file.proofs.Steps.{header_not_memory}
-use Rattle.capture_file.proofs.PcapFeeding.{short, refused, damage_oversized, damage_too_large, damage_none}
+use Rattle.capture_file.proofs.PcapFeeds.{short, refused, damage_oversized, damage_too_large, damage_none}
 
 -- the three cases of a capture after a good header
 data Ways (bytes : List ℕ) : Type 0 where

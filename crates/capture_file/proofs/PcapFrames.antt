@@ -13,11 +13,11 @@ use Rattle.capture_file.specs.declared.format.Format.{Format}
 use Rattle.capture_file.specs.declared.format.Order.{Order}
 use Rattle.capture_file.specs.declared.format.Order.TheVariants.{Little, Big}
 use Rattle.capture_file.specs.Pcap.{number_at, captured, record_size, begins_whole, header_of, counted, records_in, frame_of_record, frames_from, frames_of}
-use Rattle.capture_file.specs.Reading.{Reached, read_from, first_place}
+use Rattle.capture_file.specs.Feeds.{Reached, read_from, first_place}
 use Rattle.capture_file.specs.Laws.{IsNumbered, IsCaptured, FitsFrame}
 use Rattle.capture_file.proofs.Records.{number_at-append, header_of-append, whole_has, length_record, records_in-none, records_in-step, read_from-frames, accounts}
 use Rattle.capture_file.proofs.Whole.{all_of, all_accounts, all_append, length-frames_from}
-use Rattle.capture_file.proofs.PcapFeeding.{short, refused}
+use Rattle.capture_file.proofs.PcapFeeds.{short, refused}
 
 -- ---- the frames of a capture are those of its records
 

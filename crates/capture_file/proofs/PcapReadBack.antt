@@ -11,16 +11,16 @@ use Rattle.frame_view.specs.declared.frames.Packet.{Packet}
 use Rattle.frame_view.specs.declared.frames.Tag.{Tag}
 use Rattle.capture_file.specs.declared.format.Format.{Format}
 use Rattle.capture_file.specs.declared.format.Order.TheVariants.{Little}
-use Rattle.capture_file.specs.declared.reading.Place.{Place}
+use Rattle.capture_file.specs.declared.record_reader.Place.{Place}
 use Rattle.capture_file.specs.Pcap.{number_at, captured, record_size, begins_whole, header_of, counted, frame_of_record, frames_of, stop_of, damage_of, end_of}
 use Rattle.capture_file.specs.Output.{four_bytes, output_header, tag_size, original, record_text, output_of}
-use Rattle.capture_file.specs.Reading.{Reached, place_behind, read_from, first_place}
+use Rattle.capture_file.specs.Feeds.{Reached, place_behind, read_from, first_place}
 use Rattle.capture_file.specs.Laws.{IsWritable, frames_back}
 use Rattle.capture_file.proofs.Records.{number_at-append, has_whole, header_of-append, read_from-none, read_from-step}
 use Rattle.capture_file.proofs.Steps.{empty_not_whole, empty_not_oversized}
 use Rattle.capture_file.proofs.Whole.{all_of, all_read_from}
-use Rattle.capture_file.proofs.PcapFeeding.{damage_none}
-use Rattle.capture_file.proofs.PcapSettling.{stop_accounts}
+use Rattle.capture_file.proofs.PcapFeeds.{damage_none}
+use Rattle.capture_file.proofs.PcapOutcomes.{stop_accounts}
 
 -- ---- numbers
 

@@ -4,7 +4,7 @@ use Rattle.std.specs.Prelude.{None}
 use Rattle.std.specs.List.{flat_map, AllByRecursion}
 use Rattle.frame_view.specs.declared.frames.Packet.{Packet}
 use Rattle.capture_file.specs.Capture.{is_pcapng, frames_of, end_of}
-use Rattle.capture_file.specs.Decoding.{frames_as, end_as}
+use Rattle.capture_file.specs.Decoders.{frames_as, end_as}
 use Rattle.capture_file.specs.Output.{four_bytes, output_header, record_text, output_of}
 use Rattle.capture_file.specs.Laws.{IsWritable, frames_back}
 use Rattle.capture_file.proofs.Formats.{format_stays, frames_are, end_is}

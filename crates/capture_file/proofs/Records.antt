@@ -10,9 +10,9 @@ use Rattle.frame_view.specs.declared.frames.Frame.{Frame}
 use Rattle.capture_file.specs.declared.format.Format.{Format}
 use Rattle.capture_file.specs.declared.format.Order.{Order}
 use Rattle.capture_file.specs.declared.format.Order.TheVariants.{Little, Big}
-use Rattle.capture_file.specs.declared.reading.Place.{Place}
+use Rattle.capture_file.specs.declared.record_reader.Place.{Place}
 use Rattle.capture_file.specs.Pcap.{number_at, format_in, checked, header_of, captured, record_size, begins_whole, begins_oversized, records_within, records_in, frame_of_record, frames_from}
-use Rattle.capture_file.specs.Reading.{Reached, left_in, place_behind, read_from}
+use Rattle.capture_file.specs.Feeds.{Reached, left_in, place_behind, read_from}
 
 -- ---- numbers
 

@@ -9,12 +9,13 @@ use Rattle.capture_file.specs.declared.error.CaptureError.TheVariants.{BadLength
 use Rattle.capture_file.specs.declared.stage.Stage.TheVariants.{Records, Damaged}
 use Rattle.capture_file.specs.declared.format.Format.{Format}
 use Rattle.capture_file.specs.declared.format.Order.{Order}
-use Rattle.capture_file.specs.declared.reading.Place.{Place}
-use Rattle.capture_file.specs.declared.reading.Progress.{Progress}
+use Rattle.capture_file.specs.declared.record_reader.Place.{Place}
+use Rattle.capture_file.specs.declared.record_reader.Progress.{Progress}
 use Rattle.std.specs.Option.{option_or}
 use Rattle.capture_file.specs.declared.format.Order.TheVariants.{Little, Big}
 use Rattle.capture_file.specs.Pcap.{number_at, format_in, checked, header_of, captured, record_size, begins_whole, begins_oversized, frame_of_record}
-use Rattle.capture_file.specs.Reading.{Reached, place_behind, read_from, stage_at, IsPart, Completes, IsRead, Comes, start, first_place, ComesBehind, Begins, kept_at, IsSoundAt}
+use Rattle.capture_file.specs.Feeds.{Reached, place_behind, read_from, stage_at, IsPart, Completes, IsRead, Comes, start}
+use Rattle.capture_file.specs.Feeds.{first_place, ComesBehind, Begins, kept_at, IsSoundAt}
 use Rattle.capture_file.proofs.Records.{number_at-append, header_of-append, whole_has, has_whole, has_oversized, oversized-append, oversized_not_whole, whole_not_oversized, read_from-none, read_from-step, read_from-append, accounts}
 
 -- ---- completing

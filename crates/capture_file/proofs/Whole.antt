@@ -7,7 +7,7 @@ use Rattle.std.proofs.lemmas.Bool.{cases_lt, le-ltb}
 use Rattle.std.proofs.lemmas.List.{append-nil, length-append, length-take, take-append-le, take_all, drop-drop, drop-append-le}
 use Rattle.capture_file.specs.declared.format.Format.{Format}
 use Rattle.capture_file.specs.Pcap.{header_of, counted, records_in, frames_from, frames_of, stop_of}
-use Rattle.capture_file.specs.Reading.{Reached, left_in, read_from, first_place}
+use Rattle.capture_file.specs.Feeds.{Reached, left_in, read_from, first_place}
 use Rattle.capture_file.proofs.Records.{header_of-append, read_from-append, Accounts, accounts}
 
 -- the bytes that count of two lists

@@ -1,7 +1,7 @@
 pub mod Pcap
 pub mod Capture
 pub mod Output
-pub mod PcapDecoding
-pub mod Decoding
-pub mod Reading
+pub mod PcapDecoders
+pub mod Decoders
+pub mod Feeds
 pub mod Laws

@@ -4,11 +4,11 @@
 //! everything after them.
 ghost use Rattle.std.specs.Prelude.{◌≡◌, ◌≢◌, ◌≤◌, [], length, take, None, Some, IfOk, OnErr};
 ghost use Rattle.std.specs.Prelude.{IsErrOf, Err};
-ghost use Rattle.capture_file.specs.Decoding.{IsBegun};
+ghost use Rattle.capture_file.specs.Decoders.{IsBegun};
 
 use crate::CaptureError;
 use crate::format_decoder::FormatDecoder;
-use crate::reading::top_up;
+use crate::record_reader::top_up;
 use frame_view::{Frames, Memory};
 use std::alloc::Global;
 use std::marker::Model;
@@ -32,7 +32,7 @@ pub struct Decoder {
 }
 
 impl Model for Decoder {
-    ghost use Rattle.capture_file.specs.Decoding.{DecoderValue, decoder_value, IsSound};
+    ghost use Rattle.capture_file.specs.Decoders.{DecoderValue, decoder_value, IsSound};
 
     ghost Value = { DecoderValue };
 
@@ -42,10 +42,10 @@ impl Model for Decoder {
 }
 
 impl Decoder {
-    ghost use Rattle.capture_file.specs.Decoding.{Represents, RepresentsMore, AppendsNew, IsDamage};
-    ghost use Rattle.capture_file.specs.Decoding.{AnswersDamage, AnswersEnd, CountsKept};
-    ghost use Rattle.capture_file.specs.Decoding.{KeepsAfterStop, KeepsNoBody, KeepsNoDamage};
-    ghost use Rattle.capture_file.specs.Decoding.{UnlessMemory};
+    ghost use Rattle.capture_file.specs.Decoders.{Represents, RepresentsMore, AppendsNew, IsDamage};
+    ghost use Rattle.capture_file.specs.Decoders.{AnswersDamage, AnswersEnd, CountsKept};
+    ghost use Rattle.capture_file.specs.Decoders.{KeepsAfterStop, KeepsNoBody, KeepsNoDamage};
+    ghost use Rattle.capture_file.specs.Decoders.{UnlessMemory};
 
     /// A decoder that nothing was fed to. It takes no memory.
     pub fn new(alloc: Global, cpu: u32) -> Decoder

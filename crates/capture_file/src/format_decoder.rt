@@ -21,8 +21,8 @@ pub(crate) enum FormatDecoder {
 }
 
 impl FormatDecoder {
-    ghost use Rattle.capture_file.specs.Decoding.{reads_blocks, RepresentsAs, FeedsFrom, EndsAs};
-    ghost use Rattle.capture_file.specs.Decoding.{CountsAs};
+    ghost use Rattle.capture_file.specs.Decoders.{reads_blocks, RepresentsAs, FeedsFrom, EndsAs};
+    ghost use Rattle.capture_file.specs.Decoders.{CountsAs};
 
     /// A decoder that nothing was fed to, of the format that a capture's first four bytes say.
     #[tactic(auto, unfolding(crate::specs::Capture::is_pcapng))]

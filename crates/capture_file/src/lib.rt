@@ -11,7 +11,7 @@ mod format_decoder;
 mod laws;
 mod output;
 mod pcap_decoder;
-mod reading;
+mod record_reader;
 mod stage;
 
 pub use cpu_end::CpuEnd;

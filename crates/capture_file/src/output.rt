@@ -3,7 +3,7 @@ ghost use Rattle.std.specs.Prelude.{◌≡◌, ◌+◌, ◌≤◌, ◌++◌, len
 ghost use Rattle.frame_view.specs.Vlan.{frame_of};
 ghost use Rattle.capture_file.specs.Output.{output_of, record_text, original};
 
-use crate::reading::RECORD_HEADER_SIZE;
+use crate::record_reader::RECORD_HEADER_SIZE;
 use frame_view::{ByteList, Memory, Packet, Packets};
 use std::alloc::Global;
 

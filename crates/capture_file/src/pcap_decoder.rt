@@ -6,7 +6,7 @@
 ghost use Rattle.std.specs.Prelude.{◌≡◌, ◌≢◌, ◌≤◌, [], IfOk, OnErr, Err, Some};
 
 use crate::CaptureError;
-use crate::reading::{Place, cut_front, read_on};
+use crate::record_reader::{Place, cut_front, read_on};
 use crate::stage::Stage;
 use frame_view::{Frames, Memory};
 use std::alloc::Global;
@@ -32,7 +32,7 @@ pub(crate) struct PcapDecoder {
 }
 
 impl Model for PcapDecoder {
-    ghost use Rattle.capture_file.specs.PcapDecoding.{PcapValue, pcap_value, IsSound};
+    ghost use Rattle.capture_file.specs.PcapDecoders.{PcapValue, pcap_value, IsSound};
 
     ghost Value = { PcapValue };
 
@@ -42,9 +42,9 @@ impl Model for PcapDecoder {
 }
 
 impl PcapDecoder {
-    ghost use Rattle.capture_file.specs.PcapDecoding.{Represents, RepresentsMore, AppendsNew};
-    ghost use Rattle.capture_file.specs.PcapDecoding.{IsDamage};
-    ghost use Rattle.capture_file.specs.PcapDecoding.{AnswersEnd, CountsKept};
+    ghost use Rattle.capture_file.specs.PcapDecoders.{Represents, RepresentsMore, AppendsNew};
+    ghost use Rattle.capture_file.specs.PcapDecoders.{IsDamage};
+    ghost use Rattle.capture_file.specs.PcapDecoders.{AnswersEnd, CountsKept};
 
     /// A decoder that nothing was fed to. It takes no memory.
     pub fn new(alloc: Global, cpu: u32) -> PcapDecoder

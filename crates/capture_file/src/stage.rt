@@ -17,7 +17,7 @@ pub(crate) enum Stage {
 }
 
 impl Stage {
-    ghost use Rattle.capture_file.specs.Reading.{stage_with, end_at};
+    ghost use Rattle.capture_file.specs.Feeds.{stage_with, end_at};
 
     /// The stage, given whether bytes beyond those that count were fed.
     pub(crate) fn with(self, has_beyond: bool) -> Stage

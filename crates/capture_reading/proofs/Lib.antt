@@ -1,2 +1,2 @@
-pub mod Giving
-mod Advancing
+pub mod GivenBytes
+mod NextPieces

@@ -1,7 +1,7 @@
 -- How a piece changes a decoder.
 use Rattle.std.specs.Prelude.{◌≡◌, ℕ, Bool, true, false, List, ◌++◌, Option, None, Some}
 use Rattle.capture_file.specs.Capture.{frames_of, damage_of}
-use Rattle.capture_file.specs.Decoding.{DecoderValue, Represents}
+use Rattle.capture_file.specs.Decoders.{DecoderValue, Represents}
 use Rattle.capture_file.specs.declared.error.CaptureError.{CaptureError}
 use Rattle.capture_file.specs.declared.error.CaptureError.TheVariants as errors
 use Rattle.capture_file.specs.declared.cpu_end.CpuEnd.{CpuEnd}

@@ -2,7 +2,7 @@
 use Rattle.std.specs.Prelude.{◌≡◌, ℕ, ◌-◌, List, length, is_some, if◌then◌else◌, ⊤, Option, None}
 use Rattle.std.specs.Prelude.{Some}
 use Rattle.capture_file.specs.Capture.{frames_of}
-use Rattle.capture_file.specs.Decoding.{Represents}
+use Rattle.capture_file.specs.Decoders.{Represents}
 use Rattle.tap_outside.specs.Seen.{SourceSeen}
 use Rattle.capture_reading.specs.Sources.{GaveBy, GaveIfThere}
 use Rattle.capture_reading.specs.declared.so_far.SoFar.{SoFar}

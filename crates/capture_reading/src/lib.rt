@@ -3,10 +3,10 @@
 #![tactic(auto)]
 
 mod buffer;
-mod decoding;
+mod pieces;
 mod so_far;
 mod whole;
 
 pub use buffer::Buffer;
-pub use decoding::{Decoded, decode, end_at, ended_by};
+pub use pieces::{Decoded, decode, end_at, ended_by};
 pub use whole::{Reading, read_capture};

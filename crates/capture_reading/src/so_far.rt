@@ -4,7 +4,7 @@ ghost use Rattle.tap_outside.specs.Seen.{SourceSeen};
 ghost use Rattle.capture_reading.specs.Wholes.{IsSoFar, unread};
 
 use crate::buffer::Buffer;
-use crate::decoding::{end_at, ended_by, feed};
+use crate::pieces::{end_at, ended_by, feed};
 use capture_file::{CpuEnd, Decoder, an_empty_capture_has_no_frames, damage_is_the_end};
 use frame_view::{Frames, Memory};
 use std::alloc::Global;

@@ -16,7 +16,7 @@ use Rattle.tp_layout.specs.Requests.{size_of}
 use Rattle.turn_lock.specs.Histories.{own}
 use Rattle.capture_reports.specs.Closed.{AreRingsOf, IsRingOf, MemberLeft, locks_of, notes_of_members, rings_of}
 use Rattle.capture_reports.specs.Left.{AreLeft, CpuLeft, member_seats_at}
-use Rattle.capture_reports.specs.Timing.{IsTicked, IsTimed}
+use Rattle.capture_reports.specs.Timers.{IsTicked, IsTimed}
 
 -- the laws of the notes that a timer adds
 abbrev pub Ticks : Type 0

@@ -4,8 +4,8 @@ use Rattle.std.specs.Prelude.{map, ⊤}
 use Rattle.std.specs.List.{AllByRecursion}
 use Rattle.capture_file.specs.Capture.{frames_of}
 use Rattle.capture_model.specs.Threads.{logged_at}
-use Rattle.cpu_feed.specs.Closing.{AllClose, bytes_of, ends_of}
-use Rattle.cpu_feed.specs.Feeding.{Closes, Feeding, frames_in}
+use Rattle.cpu_feed.specs.ClosedCpus.{AllClose, bytes_of, ends_of}
+use Rattle.cpu_feed.specs.CpuFeeds.{Closes, Feeding, frames_in}
 use Rattle.fanout_group.specs.Arrivals.{arrivals_at, arrivals_of}
 use Rattle.fanout_group.specs.Joined.{AreNotesOf, Logged, attempts_at, tickets_of}
 use Rattle.fanout_group.specs.Logs.{IsLawful}

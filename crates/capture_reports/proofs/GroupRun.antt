@@ -6,7 +6,7 @@ use Rattle.std.proofs.lemmas.List.{get_or-map, length-map}
 use Rattle.std.proofs.lemmas.List.Elements.{All-cons, All-nil}
 use Rattle.capture_model.specs.Seats as runs
 use Rattle.capture_model.specs.Threads.{AreThreads, HaveTickets, logged_at, notes_at}
-use Rattle.cpu_feed.specs.Closing.{AllClose, bytes_of, ends_of}
+use Rattle.cpu_feed.specs.ClosedCpus.{AllClose, bytes_of, ends_of}
 use Rattle.fanout_group.specs.Arrivals.{somes}
 use Rattle.fanout_group.specs.Joined.{AreNotesOf, Logged, attempts_at}
 use Rattle.fanout_group.specs.Once.{AreOf, IsGroupReport}
@@ -32,7 +32,7 @@ use Rattle.std.proofs.lemmas.List.Elements.{All-get_or}
 use Rattle.capture_reports.specs.Closed.{IsLockOf, MemberLeft, locks_of, notes_of_members, rings_of}
 use Rattle.capture_reports.specs.Left.{AreLeft, CpuLeft, all_member_seats_at, feeds_of, seats_of}
 use Rattle.capture_reports.specs.Reported.{IsGroupRun}
-use Rattle.capture_reports.specs.Timing.{IsTicked}
+use Rattle.capture_reports.specs.Timers.{IsTicked}
 use Rattle.capture_reports.proofs.FedCpus.{AllFed, Fed, all_fed, drawn_are, lawful_at, logged_are, logged_of, logs_are, own_at}
 use Rattle.capture_reports.proofs.ClosedMembers.{Counts, IsMemberLeft, Ticks, lock_at, members_left, rings_are, seat_run, within_locks}
 

@@ -1,5 +1,5 @@
 mod FedCpus
 mod ClosedMembers
 mod GroupRun
-mod Reporting
+mod ReadReports
 pub mod OneMore

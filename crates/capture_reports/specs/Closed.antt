@@ -1,6 +1,6 @@
 -- What a member that was closed leaves.
 use Rattle.std.specs.Prelude.{◌≡◌, ◌≤◌, List, [], ◌∷◌, length, map, ⊤}
-use Rattle.block_ring.specs.Noting.{held_count, held_numbers}
+use Rattle.block_ring.specs.CallNotes.{held_count, held_numbers}
 use Rattle.block_ring.specs.Texts.{AreTexts}
 use Rattle.member_turns.specs.Closings.{AreClosedNotes}
 use Rattle.member_turns.specs.Seats.{Lock, Seat}
@@ -9,7 +9,7 @@ use Rattle.ring_model.specs.declared.notes.Note.{Note}
 use Rattle.ring_words.specs.Pendings.{Pends}
 use Rattle.setup_text.specs.declared.jobs.Job.{Job}
 use Rattle.tp_layout.specs.Requests.{size_of}
-use Rattle.tp_layout.specs.Writing.{ShapedBytes}
+use Rattle.tp_layout.specs.BlockWrites.{ShapedBytes}
 use Rattle.tp_layout.specs.declared.requests.RingRequest.{RingRequest}
 
 -- its lock, the notes of its ring, and what the ring held when it was finished

@@ -1,6 +1,6 @@
 -- What a feeder leaves.
 use Rattle.std.specs.Prelude.{◌≡◌, ℕ, ◌<◌, List, length, slice_index_or, IsSome}
-use Rattle.cpu_feed.specs.Feeding.{Feeding, frames_in}
+use Rattle.cpu_feed.specs.CpuFeeds.{Feeding, frames_in}
 use Rattle.fanout_group.specs.Arrivals.{arrivals_of}
 use Rattle.fanout_group.specs.Joined.{AreNotesOf, attempts_at, tickets_of}
 use Rattle.fanout_group.specs.Paths.{IsPath}

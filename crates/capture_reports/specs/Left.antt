@@ -2,13 +2,13 @@
 use Rattle.std.specs.Prelude.{◌≡◌, ℕ, ◌<◌, List, [], ◌∷◌, ◌++◌, length, map, slice_index_or, All}
 use Rattle.std.specs.List.{AllByRecursion}
 use Rattle.capture_model.specs.Threads.{DrewNone}
-use Rattle.cpu_feed.specs.Feeding.{Feeding}
+use Rattle.cpu_feed.specs.CpuFeeds.{Feeding}
 use Rattle.member_turns.specs.Seats.{Seat}
 use Rattle.setup_text.specs.declared.jobs.Job.{Job}
 use Rattle.ticket_dealer.specs.Seats.{AreDealt, SeatValue}
 use Rattle.capture_reports.specs.Closed.{IsClosedOver, IsLockOf, MemberLeft, locks_of}
 use Rattle.capture_reports.specs.Feeders.{HasFed}
-use Rattle.capture_reports.specs.Timing.{AreTimed}
+use Rattle.capture_reports.specs.Timers.{AreTimed}
 
 -- what a feeder left: its CPU, its seats at the members from 0 up, and its seat at the dealer
 pub record CpuLeft : Type 0 where

@@ -1,4 +1,4 @@
-pub mod Timing
+pub mod Timers
 pub mod Feeders
 pub mod Closed
 pub mod Left

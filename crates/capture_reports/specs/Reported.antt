@@ -16,10 +16,10 @@ use Rattle.setup_text.specs.declared.jobs.Job.{Job}
 use Rattle.setup_text.specs.declared.reports.MemberReport.{MemberReport}
 use Rattle.setup_text.specs.declared.reports.RunReport.{RunReport}
 use Rattle.tp_layout.specs.Requests.{room_of, size_of}
-use Rattle.tp_layout.specs.Writing.{ShapedBytes}
+use Rattle.tp_layout.specs.BlockWrites.{ShapedBytes}
 use Rattle.tp_layout.specs.declared.requests.RingRequest.{RingRequest}
 use Rattle.capture_reports.specs.Closed.{AreRingsOf, IsRingOf}
-use Rattle.capture_reports.specs.Timing.{IsTicked}
+use Rattle.capture_reports.specs.Timers.{IsTicked}
 
 -- A run with threads, whatever the takers of its blocks do: the logs are those of sources that gave
 -- these bytes and ended in this way, logs and notes are joined, the notes of each member are a

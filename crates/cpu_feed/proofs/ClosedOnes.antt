@@ -3,8 +3,8 @@ use Rattle.std.proofs.Common.{◌≡◌, List, [], ◌∷◌, ◌++◌, length, 
 use Rattle.std.specs.Prelude.{IsSome, map}
 use Rattle.std.specs.List.{AllByRecursion}
 use Rattle.capture_reading.specs.Sources.{AllGave}
-use Rattle.cpu_feed.specs.Closing.{AllClose, bytes_of, ends_of, firsts_of}
-use Rattle.cpu_feed.specs.Feeding.{Closes, Feeding}
+use Rattle.cpu_feed.specs.ClosedCpus.{AllClose, bytes_of, ends_of, firsts_of}
+use Rattle.cpu_feed.specs.CpuFeeds.{Closes, Feeding}
 use Rattle.fanout_group.specs.declared.runs.CpuLog.{CpuLog}
 use Rattle.tap_outside.specs.Seen.{SourceSeen}
 

@@ -11,7 +11,7 @@ use Rattle.fanout_group.specs.declared.judgements.ArrivalRules.{ArrivalRules}
 use Rattle.fanout_group.specs.declared.logs.Try.{Try}
 use Rattle.frame_view.specs.declared.frames.Frame.{Frame}
 use Rattle.ring_model.specs.declared.notes.Offer.{Offer}
-use Rattle.cpu_feed.specs.Feeding.{Feeding, IsAllOfCpu, IsSameCpu, Takes}
+use Rattle.cpu_feed.specs.CpuFeeds.{Feeding, IsAllOfCpu, IsSameCpu, Takes}
 use Rattle.cpu_feed.specs.Feeds.{Feeds}
 use Rattle.cpu_feed.specs.Lawful.{IsLawful}
 use Rattle.cpu_feed.specs.declared.fed.Fed.{Fed}

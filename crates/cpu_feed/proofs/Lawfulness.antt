@@ -4,7 +4,7 @@ use Rattle.std.specs.Prelude.{slice_get}
 use Rattle.frame_view.specs.declared.frames.Frame.{Frame}
 use Rattle.fanout_group.specs.Paths.{IsPath, IsPathBehind, Path}
 use Rattle.fanout_group.specs.Rules.{Rules}
-use Rattle.cpu_feed.specs.Feeding.{Feeding, HasRead, IsAllOfCpu, Pops, behind, frames_in}
+use Rattle.cpu_feed.specs.CpuFeeds.{Feeding, HasRead, IsAllOfCpu, Pops, behind, frames_in}
 use Rattle.cpu_feed.specs.inside.Steps.{FeedsLawfully}
 
 take_suc : (n : ℕ) (xs ys : List Frame) (x : Frame) → Some x ≡ slice_get xs n → take (suc n) (xs ++ ys) ≡ take n (xs ++ ys) ++ x ∷ []

@@ -5,15 +5,16 @@ use Rattle.std.proofs.lemmas.Bool.{eqb-true}
 use Rattle.std.proofs.lemmas.List.{length-drop}
 use Rattle.frame_view.specs.declared.frames.Frame.{Frame}
 use Rattle.capture_file.specs.Capture.{damage_of, end_of, frames_of}
-use Rattle.capture_file.specs.Decoding.{DecoderValue, Represents}
+use Rattle.capture_file.specs.Decoders.{DecoderValue, Represents}
 use Rattle.capture_file.specs.declared.error.CaptureError.{CaptureError}
 use Rattle.capture_file.specs.declared.cpu_end.CpuEnd.{CpuEnd}
 use Rattle.capture_file.specs.declared.cpu_end.CpuEnd.TheVariants.{Fault}
 use Rattle.capture_reading.specs.Pieces.{Decodes, ended_by}
 use Rattle.capture_reading.specs.Sources.{FailedToGive, GavePiece, Giving, end_by}
 use Rattle.tap_outside.specs.Seen.{SourceSeen}
-use Rattle.capture_reading.proofs.Giving.{IsTheEnd, IsUncut, end_gives, fault_gives, gave_nothing, is_small, none_gives, none_shown, piece_gives}
-use Rattle.cpu_feed.specs.Feeding.{Feeding, HasRead, IsAllOf, IsFed, frames_in, unread}
+use Rattle.capture_reading.proofs.GivenBytes.{IsTheEnd, IsUncut, end_gives, fault_gives, gave_nothing, is_small, none_gives}
+use Rattle.capture_reading.proofs.GivenBytes.{none_shown, piece_gives}
+use Rattle.cpu_feed.specs.CpuFeeds.{Feeding, HasRead, IsAllOf, IsFed, frames_in, unread}
 
 -- a capture of more bytes shows damage
 abbrev pub AreTooMany : Type 0

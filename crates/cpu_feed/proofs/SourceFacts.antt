@@ -1,8 +1,8 @@
 -- What is known of a source if no piece was lost.
 use Rattle.std.proofs.Common.{◌≡◌, ℕ, Bool, true, false, List, Option}
-use Rattle.capture_file.specs.Decoding.{DecoderValue}
+use Rattle.capture_file.specs.Decoders.{DecoderValue}
 use Rattle.capture_file.specs.declared.cpu_end.CpuEnd.{CpuEnd}
-use Rattle.cpu_feed.specs.Feeding.{IsFed, IsKnown}
+use Rattle.cpu_feed.specs.CpuFeeds.{IsFed, IsKnown}
 use Rattle.frame_view.specs.declared.frames.Frame.{Frame}
 use Rattle.tap_outside.specs.Seen.{SourceSeen}
 

@@ -9,7 +9,8 @@ use Rattle.capture_file.specs.declared.cpu_end.CpuEnd.{CpuEnd}
 use Rattle.capture_file.specs.declared.cpu_end.CpuEnd.TheVariants.{Fault}
 use Rattle.fanout_group.specs.Paths.{Path}
 use Rattle.cpu_feed.specs.Fed.{FedOne, IsAtItsEnd}
-use Rattle.cpu_feed.specs.Feeding.{FailsFed, Feeding, HasNotFailed, HasRead, IsAllOfCpu, IsReady, Pops, Takes, behind, frames_in, next_of, waiting_of}
+use Rattle.cpu_feed.specs.CpuFeeds.{FailsFed, Feeding, HasNotFailed, HasRead, IsAllOfCpu, IsReady, Pops, Takes, behind}
+use Rattle.cpu_feed.specs.CpuFeeds.{frames_in, next_of, waiting_of}
 
 got_within : (n : ℕ) (xs : List Frame) (x : Frame) → Some x ≡ slice_get xs n → n < length xs
 got_within n [] x e = cc

@@ -1,6 +1,6 @@
 -- How far a CPU is fed.
 use Rattle.std.specs.Prelude.{◌≡◌, ◌+◌, ◌≤◌, length, IsSome}
-use Rattle.cpu_feed.specs.Feeding.{Feeding, frames_in}
+use Rattle.cpu_feed.specs.CpuFeeds.{Feeding, frames_in}
 
 -- one more frame was fed, of the few that a capture has
 pub record FedOne (old new : Feeding) : Type 0 where

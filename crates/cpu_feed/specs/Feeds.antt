@@ -8,7 +8,7 @@ use Rattle.fanout_group.specs.declared.logs.Try.{Try}
 use Rattle.frame_view.specs.declared.frames.Frame.{Frame}
 use Rattle.ring_model.specs.declared.notes.Offer.{Offer}
 use Rattle.cpu_feed.specs.Fed.{FedOne, IsAtItsEnd}
-use Rattle.cpu_feed.specs.Feeding.{Feeding, IsAllOfCpu, IsSameCpu, Takes}
+use Rattle.cpu_feed.specs.CpuFeeds.{Feeding, IsAllOfCpu, IsSameCpu, Takes}
 
 -- no frame was left, so nothing arrived
 pub record HasNone (old new : Feeding) (arrival : Option Frame) : Type 0 where

@@ -4,7 +4,7 @@ use Rattle.std.specs.Prelude.{List, take}
 use Rattle.fanout_group.specs.Paths.{IsPath}
 use Rattle.fanout_group.specs.Rules.{Rules}
 use Rattle.frame_view.specs.declared.frames.Frame.{Frame}
-use Rattle.cpu_feed.specs.Feeding.{Feeding}
+use Rattle.cpu_feed.specs.CpuFeeds.{Feeding}
 
 -- the log is lawful over the frames that were fed
 abbrev pub IsLawful : Rules → List Frame → Feeding → Type 0

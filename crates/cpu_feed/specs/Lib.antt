@@ -1,6 +1,6 @@
-pub mod Feeding
+pub mod CpuFeeds
 pub mod Fed
 pub mod Feeds
 pub mod Lawful
-pub mod Closing
+pub mod ClosedCpus
 pub mod inside

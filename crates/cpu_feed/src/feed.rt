@@ -9,9 +9,9 @@ ghost use Rattle.std.specs.Prelude.{◌∷◌, ◌++◌, length, option_map, IfO
 ghost use Rattle.std.specs.Prelude.{OnOk};
 ghost use Rattle.capture_file.specs.Laws.{IsCaptured};
 ghost use Rattle.capture_file.specs.declared.cpu_end.CpuEnd.TheVariants.{Fault};
-ghost use Rattle.cpu_feed.specs.Feeding.{Closes, FailsFed, HasNotFailed, HasRead, IsAllOfCpu};
-ghost use Rattle.cpu_feed.specs.Feeding.{IsReady, IsSameCpu, Pops, ReadsWhereNoneWaits, Takes};
-ghost use Rattle.cpu_feed.specs.Feeding.{frames_in, unread};
+ghost use Rattle.cpu_feed.specs.CpuFeeds.{Closes, FailsFed, HasNotFailed, HasRead, IsAllOfCpu};
+ghost use Rattle.cpu_feed.specs.CpuFeeds.{IsReady, IsSameCpu, Pops, ReadsWhereNoneWaits, Takes};
+ghost use Rattle.cpu_feed.specs.CpuFeeds.{frames_in, unread};
 ghost use Rattle.cpu_feed.specs.Feeds.{Feeds, GivesUp};
 ghost use Rattle.cpu_feed.specs.Lawful.{IsLawful};
 ghost use Rattle.cpu_feed.specs.declared.fed.Fed.TheVariants.{End};
@@ -71,7 +71,7 @@ pub struct CpuFeed<S: Source> {
 
 impl<S: Source> Model for CpuFeed<S> {
     ghost use Rattle.std.specs.Prelude.{option_map};
-    ghost use Rattle.cpu_feed.specs.Feeding.{Feeding, IsKnown};
+    ghost use Rattle.cpu_feed.specs.CpuFeeds.{Feeding, IsKnown};
 
     ghost Value = { Feeding };
 

@@ -3,11 +3,11 @@
 #![tactic(auto)]
 
 mod arrival_rules;
-mod closing;
+mod closed_cpus;
 mod fed;
 mod feed;
 mod trace;
 
 pub use arrival_rules::rules_at;
-pub use closing::{ClosedCpus, close_cpus};
+pub use closed_cpus::{ClosedCpus, close_cpus};
 pub use feed::CpuFeed;

@@ -12,7 +12,7 @@ use Rattle.ring_words.specs.Pendings.{Pends}
 use Rattle.ring_words.specs.Rings.{Entry}
 use Rattle.setup_text.specs.declared.jobs.Job.{Job}
 use Rattle.ticket_dealer.specs.Seats.{DealerValue, IsFreshOf, SeatValue}
-use Rattle.tp_layout.specs.Writing.{ShapedBytes}
+use Rattle.tp_layout.specs.BlockWrites.{ShapedBytes}
 use Rattle.tp_layout.specs.declared.requests.RingRequest.{RingRequest}
 use Rattle.cpu_feeders.specs.inside.Closings.{AllAtEnd, AllClosedWith, AreAtEnd, IsClosedWith}
 use Rattle.cpu_feeders.specs.inside.FreshWorkers.{IsFreshReader, IsMemberOf}

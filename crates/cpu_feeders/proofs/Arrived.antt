@@ -2,7 +2,7 @@
 use Rattle.std.proofs.Common.{◌≡◌, ℕ, zero, suc, Bool, List, [], ◌∷◌, ◌++◌, length, take, drop, append_assoc, append-nil, Option, refl, sym, ap, ◌∙◌}
 use Rattle.std.proofs.lemmas.List.{append_cancel_right}
 use Rattle.std.specs.Prelude.{option_to_list}
-use Rattle.cpu_feed.specs.Feeding.{Feeding, IsAllOfCpu, Takes, frames_in, next_of, waiting_of}
+use Rattle.cpu_feed.specs.CpuFeeds.{Feeding, IsAllOfCpu, Takes, frames_in, next_of, waiting_of}
 use Rattle.fanout_group.specs.Arrivals.{arrival_at, arrivals_from, arrivals_of, held_behind, held_from, somes}
 use Rattle.fanout_group.specs.Logs.{IsLawfulFrom}
 use Rattle.fanout_group.specs.Paths.{IsPath, Path}

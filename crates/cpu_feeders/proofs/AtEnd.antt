@@ -3,7 +3,7 @@ use Rattle.std.proofs.Common.{◌≡◌, ◌<◌, ℕ, zero, suc, false, List, [
 use Rattle.std.specs.Prelude.{map, replicate}
 use Rattle.std.specs.List.{AllByRecursion, AllZip}
 use Rattle.std.proofs.lemmas.List.{length-map, length-replicate}
-use Rattle.capture_reports.specs.Timing.{AreTimed}
+use Rattle.capture_reports.specs.Timers.{AreTimed}
 use Rattle.member_turns.specs.Entries.{table_numbers}
 use Rattle.member_turns.specs.Seats.{Lock, Seat}
 use Rattle.reader_walk.specs.Takers.{Base}
@@ -19,7 +19,7 @@ use Rattle.cpu_feeders.specs.WorkerEffects.{IsWalkedOut}
 use Rattle.cpu_feeders.specs.declared.feeder.Feeder.{Feeder}
 use Rattle.cpu_feeders.specs.declared.walker.Walker.{Walker}
 use Rattle.cpu_feeders.proofs.FedFeeders.{Outs, idle_at, member_seats_in, member_seats_long}
-use Rattle.cpu_feeders.proofs.Ticking.{item}
+use Rattle.cpu_feeders.proofs.TimerTicks.{item}
 use Rattle.cpu_feeders.proofs.MemberSeatLists.{all_at, items_at, no_list, nothing, with_all_long}
 
 -- a relation at each place is one of the lists

@@ -11,9 +11,9 @@ use Rattle.capture_reports.specs.Closed.{IsClosedOver, IsLockOf, MemberLeft, loc
 use Rattle.capture_reports.specs.Feeders.{HasFed}
 use Rattle.capture_reports.specs.Left.{AreLeft, CpuLeft, all_member_seats_at, feeds_of}
 use Rattle.capture_reports.specs.Reported.{IsGroupRun}
-use Rattle.capture_reports.specs.Timing.{AreTimed}
-use Rattle.cpu_feed.specs.Closing.{AllClose, bytes_of, ends_of, firsts_of}
-use Rattle.cpu_feed.specs.Feeding.{Feeding}
+use Rattle.capture_reports.specs.Timers.{AreTimed}
+use Rattle.cpu_feed.specs.ClosedCpus.{AllClose, bytes_of, ends_of, firsts_of}
+use Rattle.cpu_feed.specs.CpuFeeds.{Feeding}
 use Rattle.fanout_group.specs.declared.runs.CpuLog.{CpuLog}
 use Rattle.member_turns.specs.Seats.{Lock, Seat}
 use Rattle.reader_walk.specs.Takers.{Base}
@@ -24,7 +24,7 @@ use Rattle.setup_text.specs.Runnable.{IsRunnable}
 use Rattle.setup_text.specs.declared.jobs.Job.{Job}
 use Rattle.tap_outside.specs.Seen.{SourceSeen}
 use Rattle.ticket_dealer.specs.Seats.{AreDealt, DealerValue, IsFreshOf, IsSeatOf, SeatValue}
-use Rattle.tp_layout.specs.Writing.{ShapedBytes}
+use Rattle.tp_layout.specs.BlockWrites.{ShapedBytes}
 use Rattle.cpu_feeders.specs.inside.Closings.{AllAtEnd, AllClosedWith}
 use Rattle.cpu_feeders.specs.inside.RunThreads.{HaveWorked}
 use Rattle.cpu_feeders.specs.inside.FreshWorkers.{IsMemberOf}

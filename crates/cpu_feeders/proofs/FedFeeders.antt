@@ -5,8 +5,8 @@ use Rattle.std.specs.List.{AllByRecursion, AllZip}
 use Rattle.std.proofs.lemmas.List.{map-append}
 use Rattle.capture_reports.specs.Feeders.{HasFed}
 use Rattle.capture_reports.specs.Left.{CpuLeft, feeds_of, seats_of}
-use Rattle.cpu_feed.specs.Closing.{firsts_of}
-use Rattle.cpu_feed.specs.Feeding.{Feeding}
+use Rattle.cpu_feed.specs.ClosedCpus.{firsts_of}
+use Rattle.cpu_feed.specs.CpuFeeds.{Feeding}
 use Rattle.fanout_group.specs.Plans.{Shape}
 use Rattle.member_turns.specs.Seats.{Lock, Seat}
 use Rattle.setup_text.specs.declared.jobs.Job.{Job}

@@ -1,6 +1,6 @@
 -- A feeder before its first frame.
 use Rattle.std.proofs.Common.{◌≡◌, ◌<◌, ◌-◌, ◌*◌, ℕ, Bool, List, [], length, take, get_or, refl, sym, ap, ◌∙◌, subst, arith}
-use Rattle.cpu_feed.specs.Feeding.{Feeding}
+use Rattle.cpu_feed.specs.CpuFeeds.{Feeding}
 use Rattle.fanout_group.specs.Arrivals.{arrivals_of}
 use Rattle.fanout_group.specs.Joined.{AreNotesOf, tickets_of}
 use Rattle.fanout_group.specs.Paths.{IsPath, Path, first_path}
@@ -18,7 +18,7 @@ use Rattle.cpu_feeders.specs.inside.FeedSteps.{AreFedAt, AreMemberSeats, Goes}
 use Rattle.cpu_feeders.specs.Feeds.{FeedsOut, IsFreshSeat, IsFreshMemberSeat}
 use Rattle.cpu_feeders.specs.declared.feeder.Feeder.{Feeder}
 use Rattle.cpu_feeders.proofs.NextFrames.{fed_same}
-use Rattle.cpu_feeders.proofs.Ticking.{item}
+use Rattle.cpu_feeders.proofs.TimerTicks.{item}
 
 none_taken : (all : List Frame) (fed : ℕ) → fed ≡ 0 → take fed all ≡ []
 none_taken all fed none = ap (λ (n : ℕ). take n all) none

@@ -2,7 +2,7 @@
 use Rattle.std.proofs.Common.{◌≡◌, ◌<◌, ◌+◌, ◌-◌, ◌*◌, ℕ, List, true, false, Option, None, Some, refl, sym, ap, ◌∙◌, subst}
 use Rattle.capture_reports.specs.Feeders.{HasFed}
 use Rattle.cpu_feed.specs.Fed.{FedOne}
-use Rattle.cpu_feed.specs.Feeding.{Feeding, IsAllOfCpu, IsSameCpu, Takes}
+use Rattle.cpu_feed.specs.CpuFeeds.{Feeding, IsAllOfCpu, IsSameCpu, Takes}
 use Rattle.cpu_feed.specs.Feeds.{Feeds, ReceivesIfAny}
 use Rattle.cpu_feed.specs.Lawful.{IsLawful}
 use Rattle.fanout_group.specs.Deliveries.{TakesAllOf}

@@ -1,4 +1,4 @@
-pub mod Ticking
+pub mod TimerTicks
 pub mod MemberSeatLists
 pub mod WorkerOrder
 pub mod FedFeeders
@@ -19,5 +19,5 @@ pub mod OneMore
 pub mod Pendings
 pub mod Results
 pub mod JoinedThreads
-pub mod Crossing
+pub mod Crossings
 mod Numbered

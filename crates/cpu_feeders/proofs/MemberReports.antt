@@ -8,7 +8,7 @@ use Rattle.reader_walk.specs.declared.outputs.Outputs.{Outputs}
 use Rattle.ring_model.specs.declared.notes.Note.{Note}
 use Rattle.ring_words.specs.Pendings.{Pends}
 use Rattle.setup_text.specs.declared.reports.MemberReport.{MemberReport}
-use Rattle.tp_layout.specs.Writing.{ShapedBytes}
+use Rattle.tp_layout.specs.BlockWrites.{ShapedBytes}
 use Rattle.tp_layout.specs.declared.requests.RingRequest.{RingRequest}
 
 pub next_report : (made now wanted : List MemberReport) (all later : List (List Note)) (rings other : List (Pends ShapedBytes))

@@ -3,7 +3,7 @@ use Rattle.std.proofs.Common.{◌≡◌, ◌<◌, ◌≤◌, ◌+◌, ◌-◌, �
 use Rattle.std.proofs.lemmas.List.{take_all}
 use Rattle.std.specs.Prelude.{option_to_list}
 use Rattle.cpu_feed.specs.Fed.{FedOne, IsAtItsEnd}
-use Rattle.cpu_feed.specs.Feeding.{Feeding, IsAllOfCpu, IsSameCpu, Takes, frames_in}
+use Rattle.cpu_feed.specs.CpuFeeds.{Feeding, IsAllOfCpu, IsSameCpu, Takes, frames_in}
 use Rattle.cpu_feed.specs.Lawful.{IsLawful}
 use Rattle.fanout_group.specs.Arrivals.{arrivals_of, held_from}
 use Rattle.fanout_group.specs.Joined.{tickets_of}

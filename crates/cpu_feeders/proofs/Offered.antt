@@ -5,7 +5,7 @@ use Rattle.ring_model.specs.Offers.{IsSound}
 use Rattle.ring_model.specs.declared.notes.Offer.{Offer}
 use Rattle.setup_text.specs.declared.jobs.Job.{Job}
 use Rattle.tp_layout.specs.Requests.{room_of}
-use Rattle.tp_layout.specs.Writing.{IsWritable}
+use Rattle.tp_layout.specs.BlockWrites.{IsWritable}
 use Rattle.tp_layout.specs.declared.requests.RingRequest.{RingRequest}
 use Rattle.cpu_feeders.specs.Feeds.{AreMembersFor}
 use Rattle.cpu_feeders.specs.inside.FeedSteps.{AreMemberSeats}

@@ -7,7 +7,7 @@ use Rattle.member_turns.specs.Closings.{contents_of}
 use Rattle.reader_walk.specs.Takers.{Base}
 use Rattle.tp_layout.specs.Layouts.{Taken, taken_in}
 use Rattle.ring_words.specs.Rings.{Entry}
-use Rattle.tp_layout.specs.Writing.{ShapedBytes}
+use Rattle.tp_layout.specs.BlockWrites.{ShapedBytes}
 use Rattle.cpu_feeders.specs.Walks.{taken_of}
 
 -- the blocks that were taken and those that are left are all that were retired

@@ -9,7 +9,7 @@ use Rattle.reader_walk.specs.Takers.{Base}
 use Rattle.ring_model.specs.declared.notes.Note.{Note}
 use Rattle.ring_words.specs.Pendings.{Pends}
 use Rattle.tp_layout.specs.Layouts.{Taken}
-use Rattle.tp_layout.specs.Writing.{ShapedBytes}
+use Rattle.tp_layout.specs.BlockWrites.{ShapedBytes}
 use Rattle.tp_layout.specs.declared.requests.RingRequest.{RingRequest}
 use Rattle.cpu_feeders.specs.Reports.{AreOutputsOf}
 use Rattle.cpu_feeders.specs.Runs.{AreTakersOf, IsFreshTaker, IsTakerOf}

@@ -7,7 +7,7 @@ use Rattle.fanout_group.specs.Desks.{TakesTheSame, fate_of_put, fate_of_try}
 use Rattle.fanout_group.specs.Routes.{a_try}
 use Rattle.fanout_group.specs.declared.logs.Fate.{Fate}
 use Rattle.fanout_group.specs.declared.logs.Try.{Try}
-use Rattle.ring_model.specs.Asking.{put_by, try_by}
+use Rattle.ring_model.specs.KnownReleases.{put_by, try_by}
 use Rattle.ring_model.specs.Told.{put_told, try_told}
 use Rattle.ring_model.specs.declared.notes.Found.{Found}
 use Rattle.ring_model.specs.declared.notes.Found.TheVariants.{NotAsked, Free, Held}

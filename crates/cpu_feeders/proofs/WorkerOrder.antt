@@ -6,7 +6,7 @@ use Rattle.std.specs.List.{AllByRecursion, AllZip}
 use Rattle.turn_lock.proofs.SeatLists.{changed_whole}
 use Rattle.cpu_feeders.specs.inside.FreshWorkers.{in_order}
 use Rattle.cpu_feeders.specs.inside.WorkerKinds.{feeder_in, is_full, timer_in, walker_in}
-use Rattle.cpu_feeders.specs.Timing.{TimesOut}
+use Rattle.cpu_feeders.specs.Timers.{TimesOut}
 use Rattle.cpu_feeders.specs.WorkerEffects.{IsDoneWorker, IsFedOut, IsReadyWorker, IsWalkedOut}
 use Rattle.cpu_feeders.specs.declared.feeder.Feeder.{Feeder}
 use Rattle.cpu_feeders.specs.declared.timer.Timer.{Timer}

@@ -1,4 +1,4 @@
-pub mod Timing
+pub mod Timers
 pub mod Walks
 pub mod Feeds
 pub mod WorkerEffects

@@ -12,7 +12,7 @@ use Rattle.run_reports.specs.Reports.{IsRunReport}
 use Rattle.setup_text.specs.declared.jobs.Job.{Job}
 use Rattle.setup_text.specs.declared.reports.RunReport.{RunReport}
 use Rattle.tap_outside.specs.Seen.{SourceSeen}
-use Rattle.tp_layout.specs.Writing.{ShapedBytes}
+use Rattle.tp_layout.specs.BlockWrites.{ShapedBytes}
 use Rattle.tp_layout.specs.declared.requests.RingRequest.{RingRequest}
 
 module _ {T : Type 0} (base_of : T → Base) (taken_by : T → List Taken) where

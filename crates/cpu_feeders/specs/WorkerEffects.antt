@@ -1,8 +1,8 @@
 -- What each worker of a run is given, and what it leaves.
 use Rattle.std.specs.Prelude.{◌≡◌, ℕ, false, List, []}
-use Rattle.capture_reports.specs.Timing.{AreTimed}
+use Rattle.capture_reports.specs.Timers.{AreTimed}
 use Rattle.cpu_feeders.specs.Feeds.{FeedsOut, HasEnded, IsFreshFeeder}
-use Rattle.cpu_feeders.specs.Timing.{TimesOut}
+use Rattle.cpu_feeders.specs.Timers.{TimesOut}
 use Rattle.cpu_feeders.specs.Walks.{HasWalked, Walks}
 use Rattle.cpu_feeders.specs.declared.feeder.Feeder.{Feeder}
 use Rattle.cpu_feeders.specs.declared.walker.Walker.{Walker}

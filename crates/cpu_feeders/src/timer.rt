@@ -1,7 +1,7 @@
 //! The timer of a run: it reports each moment to each member.
 ghost use Rattle.std.specs.Prelude.{◌≡◌, ◌^◌, ◌<◌, ◌≤◌, ℕ, [], length, slice_index_or, OnOk};
-ghost use Rattle.capture_reports.specs.Timing.{AreTimed};
-ghost use Rattle.cpu_feeders.specs.Timing.{AreTimers, HaveTicked, TimesOut};
+ghost use Rattle.capture_reports.specs.Timers.{AreTimed};
+ghost use Rattle.cpu_feeders.specs.Timers.{AreTimers, HaveTicked, TimesOut};
 ghost use Rattle.member_turns.specs.Seats.{Lock, Seat, moment_of, own_of};
 ghost use Rattle.setup_text.specs.Sound.{AreMoments};
 

@@ -2,7 +2,7 @@
 //! sockaddr_ll`.
 ghost use Rattle.std.specs.Prelude.{◌≡◌, ◌≤◌, IfOk, IfSome};
 ghost use Rattle.slot_layout.specs.SlotShapes.{IsSlotShape};
-ghost use Rattle.tp_layout.specs.Writing.{IsWritable};
+ghost use Rattle.tp_layout.specs.BlockWrites.{IsWritable};
 
 use frame_view::{ByteList, Frame, Memory, Tag};
 use ring_model::Offer;

@@ -6,8 +6,8 @@ use Rattle.std.specs.Int.{Width, to_be_bytes, w32, w128}
 use Rattle.flow_hash.specs.Toeplitz.{hash_of}
 use Rattle.flow_hash.specs.FlowHash.{flow_input, way_back, ends_input, ports_back, source_first, ordered, port_bytes}
 use Rattle.flow_hash.proofs.BitLists.{hash_of_nothing}
-use Rattle.frame_view.specs.declared.header_reading.Headers.{Headers}
-use Rattle.frame_view.specs.declared.header_reading.Headers.TheVariants.{Runt, Plain, V4, V6}
+use Rattle.frame_view.specs.declared.headers.Headers.{Headers}
+use Rattle.frame_view.specs.declared.headers.Headers.TheVariants.{Runt, Plain, V4, V6}
 
 -- two ends in order, either of which may be the smaller
 ends_input-first : (w : Width) (from to : ℕ) (ports : Option (ℕ × ℕ)) → source_first from to ports ≡ true → source_first to from (ports_back ports) ≡ false

@@ -2,8 +2,8 @@
 use Rattle.std.specs.Prelude.{ℕ, Bool, true, false, ◌&&◌, ◌||◌, List, [], ◌++◌, nat_lt, nat_le}
 use Rattle.std.specs.Prelude.{◌==◌, Option, None, Some}
 use Rattle.std.specs.Int.{Width, to_be_bytes, w16, w32, w128}
-use Rattle.frame_view.specs.declared.header_reading.Headers.{Headers}
-use Rattle.frame_view.specs.declared.header_reading.Headers.TheVariants.{Runt, Plain, V4, V6}
+use Rattle.frame_view.specs.declared.headers.Headers.{Headers}
+use Rattle.frame_view.specs.declared.headers.Headers.TheVariants.{Runt, Plain, V4, V6}
 
 -- whether the source is the smaller of the two ends, by address and then by port
 abbrev pub source_first : ℕ → ℕ → Option (ℕ × ℕ) → Bool

@@ -3,7 +3,7 @@ use Rattle.std.specs.Prelude.{ℕ, zero, suc, ◌+◌, ◌*◌, ◌/◌, ◌%◌
 use Rattle.std.specs.Prelude.{length, map, None}
 use Rattle.std.specs.List.{range_with_len}
 use Rattle.frame_view.specs.Built.{built}
-use Rattle.frame_view.specs.declared.frame_building.Parts.{Parts}
+use Rattle.frame_view.specs.declared.frame_parts.Parts.{Parts}
 use Rattle.frame_view.specs.declared.frames.Frame.{Frame}
 
 -- the state of the generator after a draw: a linear congruence modulo 2 ^ 64, with the numbers of

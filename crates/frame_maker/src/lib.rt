@@ -2,6 +2,6 @@
 #![tactic(auto)]
 
 mod generator;
-mod making;
+mod made_frames;
 
-pub use making::make;
+pub use made_frames::make;

@@ -4,7 +4,7 @@ use Rattle.frame_view.specs.InternetChecksum.{checksum_of}
 use Rattle.frame_view.proofs.Words.{AreBytes, checksum_of-words, folded, sum_of_words}
 use Rattle.frame_view.specs.Built.{built, link_bytes, ip_bytes, ip_checksum}
 use Rattle.frame_view.proofs.Addresses.{address_of_six}
-use Rattle.frame_view.specs.declared.frame_building.Parts.{Parts}
+use Rattle.frame_view.specs.declared.frame_parts.Parts.{Parts}
 
 -- a sum of a few words, and what its ones' complement adds to it
 ones_sum_whole : (s : ℕ) → 0 < s → s < 655361 → 0xffff - folded (folded (s + (0xffff - folded (folded s)))) ≡ 0

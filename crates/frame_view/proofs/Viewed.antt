@@ -4,8 +4,8 @@ use Rattle.std.proofs.lemmas.Bool.Decides.{nat_tests}
 use Rattle.frame_view.specs.Headers.{view_of, link_of, v4_of, is_v4}
 use Rattle.frame_view.specs.Built.{built, link_bytes, ip_bytes, udp_bytes, headers_of}
 use Rattle.frame_view.proofs.Addresses.{address_of_six}
-use Rattle.frame_view.specs.declared.frame_building.Parts.{Parts}
-use Rattle.frame_view.specs.declared.header_reading.Headers.TheVariants.{V4}
+use Rattle.frame_view.specs.declared.frame_parts.Parts.{Parts}
+use Rattle.frame_view.specs.declared.headers.Headers.TheVariants.{V4}
 
 -- after a whole link header, an IPv4 header
 view_of_v4 : (bytes : List ℕ) → nat_lt (length bytes) 14 ≡ false → is_v4 bytes ≡ true → view_of bytes ≡ V4 (link_of bytes) (v4_of bytes)

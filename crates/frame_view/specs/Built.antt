@@ -2,9 +2,9 @@
 use Rattle.std.specs.Prelude.{ℕ, ◌+◌, List, ◌∷◌, ◌++◌, length, false, Some}
 use Rattle.std.specs.Int.{to_be_bytes, w16, w32}
 use Rattle.frame_view.specs.InternetChecksum.{checksum_of}
-use Rattle.frame_view.specs.declared.frame_building.Parts.{Parts}
-use Rattle.frame_view.specs.declared.header_reading.Headers.{Headers}
-use Rattle.frame_view.specs.declared.header_reading.Headers.TheVariants.{V4}
+use Rattle.frame_view.specs.declared.frame_parts.Parts.{Parts}
+use Rattle.frame_view.specs.declared.headers.Headers.{Headers}
+use Rattle.frame_view.specs.declared.headers.Headers.TheVariants.{V4}
 
 -- the Ethernet header, with the type of IPv4
 unfoldable pub link_bytes : Parts → List ℕ

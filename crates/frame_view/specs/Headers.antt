@@ -3,11 +3,11 @@ use Rattle.std.specs.Prelude.{ℕ, ◌+◌, ◌*◌, ◌/◌, ◌%◌, Bool, fal
 use Rattle.std.specs.Prelude.{slice_index, nat_lt, nat_le, ◌==◌, true, if◌then◌else◌, bytes_eq}
 use Rattle.std.specs.Prelude.{Option, None, Some, replicate}
 pub use Rattle.frame_view.specs.Numbers.{u16_at, u32_at, u128_at}
-use Rattle.frame_view.specs.declared.header_reading.Headers.{Headers}
-use Rattle.frame_view.specs.declared.header_reading.Headers.TheVariants.{Runt, Plain, V4, V6}
-use Rattle.frame_view.specs.declared.header_reading.Link.{Link}
-use Rattle.frame_view.specs.declared.ip_reading.V4Part.{V4Part}
-use Rattle.frame_view.specs.declared.ip_reading.V6Part.{V6Part}
+use Rattle.frame_view.specs.declared.headers.Headers.{Headers}
+use Rattle.frame_view.specs.declared.headers.Headers.TheVariants.{Runt, Plain, V4, V6}
+use Rattle.frame_view.specs.declared.headers.Link.{Link}
+use Rattle.frame_view.specs.declared.ip_headers.V4Part.{V4Part}
+use Rattle.frame_view.specs.declared.ip_headers.V6Part.{V6Part}
 
 -- the six bytes of a link address from a place
 abbrev pub address_of : ℕ → List ℕ → List ℕ

@@ -2,20 +2,20 @@
 #![tactic(auto)]
 
 mod checksums;
-mod frame_building;
+mod frame_parts;
 mod frames;
-mod header_reading;
-mod ip_reading;
+mod headers;
+mod ip_headers;
 mod list_types;
+mod memory;
 mod numbers;
 mod vlan;
-mod want;
 
 pub use checksums::checksum;
-pub use frame_building::{Parts, build};
+pub use frame_parts::{Parts, build};
 pub use frames::{Frame, Frames, Packet, Packets, Tag};
-pub use header_reading::{Headers, Link, link_header, pkttype, view};
-pub use ip_reading::{V4Part, V6Part};
+pub use headers::{Headers, Link, link_header, pkttype, view};
+pub use ip_headers::{V4Part, V6Part};
 pub use list_types::{ByteList, ItemList, MomentList};
+pub use memory::Memory;
 pub use vlan::{retag, untag};
-pub use want::Memory;

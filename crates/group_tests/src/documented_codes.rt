@@ -1,5 +1,5 @@
 //! The documented meaning of each code, and of the ancillary loads.
-use crate::judging::{judged, packet};
+use crate::verdicts::{judged, packet};
 use bpf_filter::verdict_with;
 
 /// A name, the text of a program, and the verdict that its documented meaning gives on the bytes

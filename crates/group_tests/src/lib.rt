@@ -12,10 +12,10 @@ mod documented_codes;
 #[cfg(test)]
 mod homes;
 #[cfg(test)]
-mod judging;
-#[cfg(test)]
 mod list_desk;
 #[cfg(test)]
 mod listings;
 #[cfg(test)]
 mod refused_texts;
+#[cfg(test)]
+mod verdicts;

@@ -1,5 +1,5 @@
 //! What `tcpdump -ddd ip` writes, with a number of bytes to keep.
-use crate::judging::{judged, packet};
+use crate::verdicts::{judged, packet};
 use std::test::Fail;
 
 const CUTS: &str = "4\n40 0 0 12\n21 0 1 2048\n6 0 0 96\n6 0 0 0\n";

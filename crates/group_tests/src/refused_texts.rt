@@ -1,5 +1,5 @@
 //! Texts at the edges of the form of `tcpdump -ddd`, and programs of the most instructions.
-use crate::judging::{judged, packet};
+use crate::verdicts::{judged, packet};
 use bpf_filter::{FilterError, Insn, Program, read_ddd};
 use std::test::Fail;
 

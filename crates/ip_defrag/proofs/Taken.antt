@@ -4,11 +4,11 @@ use Rattle.std.proofs.lemmas.Bool.{not-true, ltb-true}
 use Rattle.std.proofs.lemmas.Bool.Decides.{nat_tests}
 use Rattle.frame_view.specs.Headers.{view_of, v4_of, v6_of, link_of, is_v4, is_v6}
 use Rattle.frame_view.specs.declared.frames.Frame.{Frame}
-use Rattle.frame_view.specs.declared.header_reading.Headers.{Headers}
-use Rattle.frame_view.specs.declared.header_reading.Headers.TheVariants.{Runt, Plain, V4, V6}
-use Rattle.frame_view.specs.declared.header_reading.Link.{Link}
-use Rattle.frame_view.specs.declared.ip_reading.V4Part.{V4Part}
-use Rattle.frame_view.specs.declared.ip_reading.V6Part.{V6Part}
+use Rattle.frame_view.specs.declared.headers.Headers.{Headers}
+use Rattle.frame_view.specs.declared.headers.Headers.TheVariants.{Runt, Plain, V4, V6}
+use Rattle.frame_view.specs.declared.headers.Link.{Link}
+use Rattle.frame_view.specs.declared.ip_headers.V4Part.{V4Part}
+use Rattle.frame_view.specs.declared.ip_headers.V6Part.{V6Part}
 use Rattle.ip_defrag.specs.Fragments.{takes_part, takes_part_by, is_fragment, from_of, to_of, is_last, data_of, headers_length}
 use Rattle.ip_defrag.specs.Held.{IsRead}
 

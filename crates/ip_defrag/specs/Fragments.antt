@@ -4,9 +4,9 @@ use Rattle.std.specs.Prelude.{ℕ, ◌+◌, ◌-◌, ◌*◌, ◌%◌, Bool, fal
 use Rattle.std.specs.Prelude.{take, drop, nat_lt, nat_le, ◌==◌}
 use Rattle.frame_view.specs.Headers.{view_of, v4_of}
 use Rattle.frame_view.specs.declared.frames.Frame.{Frame}
-use Rattle.frame_view.specs.declared.header_reading.Headers.{Headers}
-use Rattle.frame_view.specs.declared.header_reading.Headers.TheVariants.{Runt, Plain, V4, V6}
-use Rattle.frame_view.specs.declared.ip_reading.V4Part.{V4Part}
+use Rattle.frame_view.specs.declared.headers.Headers.{Headers}
+use Rattle.frame_view.specs.declared.headers.Headers.TheVariants.{Runt, Plain, V4, V6}
+use Rattle.frame_view.specs.declared.ip_headers.V4Part.{V4Part}
 use Rattle.ip_defrag.specs.declared.names.Name.{Name}
 
 -- the most data of a datagram: after the longest header of 60 it makes a total length of 65535

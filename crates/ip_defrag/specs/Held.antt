@@ -5,7 +5,7 @@ use Rattle.std.specs.List.{list_any}
 use Rattle.ip_defrag.specs.Fold.{conflicts}
 use Rattle.frame_view.specs.Headers.{v4_of}
 use Rattle.frame_view.specs.declared.frames.Frame.{Frame}
-use Rattle.frame_view.specs.declared.ip_reading.V4Part.{V4Part}
+use Rattle.frame_view.specs.declared.ip_headers.V4Part.{V4Part}
 use Rattle.ip_defrag.specs.Fragments.{takes_part, from_of, to_of, is_last, data_of, headers_length}
 
 -- a frame takes part, and its IPv4 header was read; with what follows for the places of its data

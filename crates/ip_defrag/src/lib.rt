@@ -9,7 +9,7 @@ mod laws;
 mod marks;
 mod names;
 mod passes;
-mod reassembling;
+mod reassembly;
 mod rules;
 mod steps;
 mod trace;
@@ -17,5 +17,5 @@ mod wholes;
 
 pub use defrag::Defrag;
 pub use laws::{each_byte_is_its_fragments, no_frame_is_lost};
-pub use reassembling::reassemble;
+pub use reassembly::reassemble;
 pub use steps::{NoPush, Step};

@@ -4,7 +4,7 @@ ghost use Rattle.frame_view.specs.Vlan.{is_tpid};
 ghost use Rattle.ring_model.specs.Sizes.{need_of};
 ghost use Rattle.tp_layout.specs.Blocks.{BeginsLawfully};
 ghost use Rattle.tp_layout.specs.Requests.{first_of};
-ghost use Rattle.tp_layout.specs.Writing.{IsWritable};
+ghost use Rattle.tp_layout.specs.BlockWrites.{IsWritable};
 
 use frame_view::{ByteList, Frame, Memory, Tag};
 use ring_model::{Offer, need};

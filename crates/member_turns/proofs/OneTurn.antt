@@ -2,7 +2,7 @@
 use Rattle.std.proofs.Common.{◌≡◌, ℕ, true, List, [], ◌∷◌, ◌++◌, Result, Ok, Err, IfOk, IfErr, refl, sym, ap, ap₂, ◌∙◌, subst, ◌<◌}
 use Rattle.std.proofs.lemmas.Bool.{and_from, eq-eqb, lt-ltb}
 use Rattle.block_ring.specs.Machines.{KeepsEnd}
-use Rattle.ring_model.specs.Asking.{put_by, try_by}
+use Rattle.ring_model.specs.KnownReleases.{put_by, try_by}
 use Rattle.ring_model.specs.Ring.{Size, state_of}
 use Rattle.ring_model.specs.declared.notes.Found.{Found}
 use Rattle.ring_model.specs.declared.notes.Found.TheVariants.{NotAsked, Free, Held}

@@ -5,7 +5,7 @@ use Rattle.ring_model.specs.declared.notes.Note.{Note}
 use Rattle.ring_model.specs.declared.notes.Note.TheVariants.{Finished}
 use Rattle.ring_words.specs.Pendings.{entries_of}
 use Rattle.ring_words.specs.Rings.{Entry}
-use Rattle.tp_layout.specs.Writing.{ShapedBytes}
+use Rattle.tp_layout.specs.BlockWrites.{ShapedBytes}
 use Rattle.turn_lock.specs.Histories.{own}
 use Rattle.turn_lock.specs.Seats.{entered_by}
 use Rattle.member_turns.specs.Entries.{may_note}

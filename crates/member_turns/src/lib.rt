@@ -2,16 +2,16 @@
 //! in turns.
 #![tactic(auto)]
 
-mod closing;
+mod closed_members;
 mod member;
 mod member_ring;
-mod opening;
+mod new_members;
 mod ring_base;
 mod turns;
 
-pub use closing::{ClosedMember, close_member};
+pub use closed_members::{ClosedMember, close_member};
 pub use member::{Member, MemberSeat};
 pub use member_ring::MemberRing;
-pub use opening::open_member;
+pub use new_members::open_member;
 pub use ring_base::RingBase;
 pub use turns::{put_turn, tick_turn, try_turn};

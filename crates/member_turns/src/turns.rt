@@ -4,7 +4,7 @@ ghost use Rattle.std.specs.Prelude.{◌≡◌, ◌+◌, ◌^◌, ◌<◌, ◌≤
 ghost use Rattle.member_turns.specs.Seats.{IsReady, moment_of, own_of};
 ghost use Rattle.member_turns.specs.TurnEffects.{IsPutTurn, IsTickTurn, IsTryTurn, Turned};
 ghost use Rattle.tp_layout.specs.Requests.{room_of};
-ghost use Rattle.tp_layout.specs.Writing.{IsWritable};
+ghost use Rattle.tp_layout.specs.BlockWrites.{IsWritable};
 
 use crate::{Member, MemberSeat};
 use block_ring::TickError;

@@ -21,7 +21,7 @@ use Rattle.pcapng_blocks.specs.Bodies.{captured_fits, packet_by, enhanced, simpl
 use Rattle.pcapng_blocks.specs.Blocks.{Spot, Reached, front_told, front_by, front_of, split_from}
 use Rattle.pcapng_blocks.specs.Capture.{counted, origin, reached_in, damage_of}
 use Rattle.pcapng_blocks.proofs.Splits.{by_blocks}
-use Rattle.pcapng_blocks.proofs.Settling.{failed, large, fine, stage_is}
+use Rattle.pcapng_blocks.proofs.Outcomes.{failed, large, fine, stage_is}
 
 headed_uncut : (place : ℕ) (kind : Kind) (found : Option Order) (bytes : List ℕ) (cut : ℕ) → headed place kind found bytes ≢ Bad (Truncated cut)
 headed_uncut place kind None bytes cut e = absurd cc

@@ -4,16 +4,16 @@ use Rattle.std.specs.Prelude.{min, nat_lt, Option, None}
 use Rattle.std.proofs.lemmas.List.{length-append, length-take, take_min}
 use Rattle.frame_view.specs.declared.frames.Frame.{Frame}
 use Rattle.pcapng_blocks.specs.declared.error.BlockError.{BlockError}
-use Rattle.pcapng_blocks.specs.declared.reading.Cursor.{Cursor}
-use Rattle.pcapng_blocks.specs.declared.reading.Held.{Held}
-use Rattle.pcapng_blocks.specs.declared.reading.Progress.{Progress}
+use Rattle.pcapng_blocks.specs.declared.block_reader.Cursor.{Cursor}
+use Rattle.pcapng_blocks.specs.declared.block_reader.Held.{Held}
+use Rattle.pcapng_blocks.specs.declared.block_reader.Progress.{Progress}
 use Rattle.pcapng_blocks.specs.declared.stage.Stage.{Stage}
 use Rattle.pcapng_blocks.specs.declared.stage.Stage.TheVariants as stages
 use Rattle.pcapng_blocks.specs.Blocks.{Spot}
 use Rattle.pcapng_blocks.specs.Capture.{counted, damage_of}
-use Rattle.pcapng_blocks.specs.Reading.{spot_of, Feeds, IsKept, IsSoundAt}
-use Rattle.pcapng_blocks.specs.Decoding.{stage_with, error_of, stage_of, Represents, DecoderValue}
-use Rattle.pcapng_blocks.proofs.Settling.{Settles, settles, damage_is_error}
+use Rattle.pcapng_blocks.specs.Feeds.{spot_of, Feeds, IsKept, IsSoundAt}
+use Rattle.pcapng_blocks.specs.Decoders.{stage_with, error_of, stage_of, Represents, DecoderValue}
+use Rattle.pcapng_blocks.proofs.Outcomes.{Settles, settles, damage_is_error}
 
 -- what a feed leaves, by its steps: what was taken of the piece, and the stage with what is beyond
 pub settles_here : (number : ℕ) (fed piece taken : List ℕ) (now : DecoderValue) (cpu : ℕ) (cursor : Cursor) (stage : Stage) (count : ℕ) (old new : Held) (before after : List Frame)

@@ -20,13 +20,14 @@ use Rattle.pcapng_blocks.specs.Bodies.{frame_of, frames_in, IsWithin}
 use Rattle.pcapng_blocks.specs.Blocks.{Spot, Reached, spot_after, split_from}
 use Rattle.pcapng_blocks.specs.Heads.{look_at}
 use Rattle.pcapng_blocks.specs.Capture.{counted, origin, reached_in, frames_of, stop_of, skips, is_skipping, damage_of, end_of}
-use Rattle.pcapng_blocks.specs.Reading.{waiting, rest_in}
-use Rattle.pcapng_blocks.specs.Decoding.{stage_of, kept_of}
+use Rattle.pcapng_blocks.specs.Feeds.{waiting, rest_in}
+use Rattle.pcapng_blocks.specs.Decoders.{stage_of, kept_of}
 use Rattle.pcapng_blocks.specs.Laws.{IsPacketFrame}
 use Rattle.pcapng_blocks.proofs.Told.{IsCapturedPacket, IsPacket}
 use Rattle.pcapng_blocks.proofs.FrontBlocks.{front_block, part_short}
 use Rattle.pcapng_blocks.proofs.Splits.{by_blocks, stop_after, Accounts, accounts, split_frames}
-use Rattle.pcapng_blocks.proofs.Settling.{failed, large, fine, stage_is, front_fine, reached-append, reached_alike, reached_beyond, damage_fault, frames_fault}
+use Rattle.pcapng_blocks.proofs.Outcomes.{failed, large, fine, stage_is, front_fine, reached-append, reached_alike}
+use Rattle.pcapng_blocks.proofs.Outcomes.{reached_beyond, damage_fault, frames_fault}
 
 -- ---- frames grow, and damage stays
 

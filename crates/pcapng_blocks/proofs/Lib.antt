@@ -4,11 +4,11 @@ pub mod FrontBlocks
 pub mod Splits
 pub mod Steps
 pub mod Sounds
-pub mod Settling
-pub mod Ending
+pub mod Outcomes
+pub mod Ends
 pub mod Options
 pub mod Decoders
 pub mod Lawful
 pub mod Firsts
 pub mod Cuts
-pub mod Fitting
+pub mod FrameBounds

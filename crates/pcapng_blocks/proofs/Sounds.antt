@@ -10,13 +10,14 @@ use Rattle.pcapng_blocks.specs.declared.heads.Look.{Look}
 use Rattle.pcapng_blocks.specs.declared.heads.Look.TheVariants.{Short, Bad, Headed}
 use Rattle.pcapng_blocks.specs.declared.interfaces.Interface.{Interface}
 use Rattle.pcapng_blocks.specs.declared.fronts.Front.TheVariants.{Part}
-use Rattle.pcapng_blocks.specs.declared.reading.Progress.{Progress}
+use Rattle.pcapng_blocks.specs.declared.block_reader.Progress.{Progress}
 use Rattle.pcapng_blocks.specs.declared.stage.Skip.{Skip}
 use Rattle.pcapng_blocks.specs.declared.stage.Stage.{Stage}
 use Rattle.pcapng_blocks.specs.declared.stage.Stage.TheVariants as stages
 use Rattle.pcapng_blocks.specs.Heads.{look_at, is_skipped, IsHead}
 use Rattle.pcapng_blocks.specs.Blocks.{Spot, front_of, split_from}
-use Rattle.pcapng_blocks.specs.Reading.{spot_of, waiting, stage_by, stage_at, rest_in, Comes, IsSkipping, IsPart, IsSkip, IsKept, IsSoundAt, Extends}
+use Rattle.pcapng_blocks.specs.Feeds.{spot_of, waiting, stage_by, stage_at, rest_in, Comes, IsSkipping, IsPart, IsSkip, IsKept}
+use Rattle.pcapng_blocks.specs.Feeds.{IsSoundAt, Extends}
 use Rattle.pcapng_blocks.proofs.HeadLooks.{look_at-append, look_at-there, look_head}
 use Rattle.pcapng_blocks.proofs.FrontBlocks.{part_short}
 use Rattle.pcapng_blocks.proofs.Splits.{ended, accounts}

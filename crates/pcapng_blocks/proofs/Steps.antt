@@ -17,7 +17,7 @@ use Rattle.pcapng_blocks.specs.declared.interfaces.Interface.{Interface}
 use Rattle.pcapng_blocks.specs.declared.bodies.Meaning.{Meaning}
 use Rattle.pcapng_blocks.specs.declared.bodies.Meaning.TheVariants as meanings
 use Rattle.pcapng_blocks.specs.declared.fronts.Front.TheVariants.{Part, Fault, Block}
-use Rattle.pcapng_blocks.specs.declared.reading.Cursor.{Cursor}
+use Rattle.pcapng_blocks.specs.declared.block_reader.Cursor.{Cursor}
 use Rattle.pcapng_blocks.specs.declared.stage.Skip.{Skip}
 use Rattle.pcapng_blocks.specs.declared.stage.Stage.{Stage}
 use Rattle.pcapng_blocks.specs.declared.stage.Stage.TheVariants as stages
@@ -25,7 +25,7 @@ use Rattle.pcapng_blocks.specs.Numbers.{number_at}
 use Rattle.pcapng_blocks.specs.Heads.{look_at, is_skipped}
 use Rattle.pcapng_blocks.specs.Bodies.{meaning_of, frames_in}
 use Rattle.pcapng_blocks.specs.Blocks.{Spot, Reached, front_told, front_of, spot_after, split_from}
-use Rattle.pcapng_blocks.specs.Reading.{spot_of, waiting, rest_in, Comes, IsSkipping}
+use Rattle.pcapng_blocks.specs.Feeds.{spot_of, waiting, rest_in, Comes, IsSkipping}
 use Rattle.pcapng_blocks.proofs.HeadLooks.{look_at-append}
 use Rattle.pcapng_blocks.proofs.FrontBlocks.{front_part, front_here}
 use Rattle.pcapng_blocks.proofs.Splits.{split_part, split_fault, split_block}

@@ -4,6 +4,6 @@ pub mod Interfaces
 pub mod Bodies
 pub mod Blocks
 pub mod Capture
-pub mod Reading
-pub mod Decoding
+pub mod Feeds
+pub mod Decoders
 pub mod Laws

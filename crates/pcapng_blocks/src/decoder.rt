@@ -6,8 +6,8 @@
 ghost use Rattle.std.specs.Prelude.{◌≡◌, ◌≤◌, [], IfOk, OnErr};
 
 use crate::BlockError;
+use crate::block_reader::{Cursor, Held, Reader, cut_front};
 use crate::byte_order::Order;
-use crate::reading::{Cursor, Held, Reader, cut_front};
 use crate::stage::Stage;
 use frame_view::{Frames, Memory};
 use std::alloc::Global;
@@ -36,7 +36,7 @@ pub struct BlockDecoder {
 }
 
 impl Model for BlockDecoder {
-    ghost use Rattle.pcapng_blocks.specs.Decoding.{DecoderValue, decoder_value, IsSound};
+    ghost use Rattle.pcapng_blocks.specs.Decoders.{DecoderValue, decoder_value, IsSound};
 
     ghost Value = { DecoderValue };
 
@@ -46,9 +46,9 @@ impl Model for BlockDecoder {
 }
 
 impl BlockDecoder {
-    ghost use Rattle.pcapng_blocks.specs.Decoding.{Represents, RepresentsMore, AppendsNew};
-    ghost use Rattle.pcapng_blocks.specs.Decoding.{IsDamage, IsEnd};
-    ghost use Rattle.pcapng_blocks.specs.Decoding.{CountsKept};
+    ghost use Rattle.pcapng_blocks.specs.Decoders.{Represents, RepresentsMore, AppendsNew};
+    ghost use Rattle.pcapng_blocks.specs.Decoders.{IsDamage, IsEnd};
+    ghost use Rattle.pcapng_blocks.specs.Decoders.{CountsKept};
 
     /// A decoder that nothing was fed to. It takes no memory.
     pub fn new(alloc: Global, cpu: u32) -> BlockDecoder

@@ -7,7 +7,7 @@ ghost use Rattle.pcapng_blocks.specs.Capture.{counted, frames_of, damage_of, sto
 ghost use Rattle.pcapng_blocks.specs.Capture.{is_skipping};
 ghost use Rattle.pcapng_blocks.specs.Numbers.{number_at};
 ghost use Rattle.pcapng_blocks.specs.declared.byte_order.Order.TheVariants.{Little};
-ghost use Rattle.pcapng_blocks.specs.Decoding.{kept_of};
+ghost use Rattle.pcapng_blocks.specs.Decoders.{kept_of};
 ghost use Rattle.pcapng_blocks.specs.Laws.{IsPacketFrame, FitsFrame};
 ghost use Rattle.pcapng_blocks.specs.declared.error.BlockError.{BlockError};
 

@@ -1,6 +1,7 @@
 //! The blocks of a pcapng capture: a decoder that is fed piece by piece, in either byte order.
 #![tactic(auto)]
 
+mod block_reader;
 mod bodies;
 mod byte_order;
 mod decoder;
@@ -9,7 +10,6 @@ mod fronts;
 mod heads;
 mod interfaces;
 mod laws;
-mod reading;
 mod stage;
 
 pub use byte_order::Order;

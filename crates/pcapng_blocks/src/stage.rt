@@ -26,7 +26,7 @@ pub(crate) enum Stage {
 }
 
 impl Stage {
-    ghost use Rattle.pcapng_blocks.specs.Decoding.{stage_with, end_at};
+    ghost use Rattle.pcapng_blocks.specs.Decoders.{stage_with, end_at};
 
     /// The stage, given whether bytes beyond those that count were fed.
     pub(crate) fn with(self, has_beyond: bool) -> Stage

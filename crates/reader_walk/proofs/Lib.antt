@@ -1,4 +1,4 @@
-mod Adding
+mod AddedBlocks
 mod MarkedBlocks
 mod Units
-mod Telling
+mod PacketCounts

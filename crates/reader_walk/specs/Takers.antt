@@ -1,7 +1,7 @@
 -- What a taker has read of retired blocks.
 use Rattle.std.specs.Prelude.{◌≡◌, ℕ, List}
 use Rattle.tp_layout.specs.Blocks.{BeginsLawfully}
-use Rattle.tp_layout.specs.Writing.{ShapedBytes}
+use Rattle.tp_layout.specs.BlockWrites.{ShapedBytes}
 use Rattle.tp_layout.specs.declared.requests.RingRequest.{RingRequest}
 
 -- what no block changes of a taker: the shape of the blocks that it reads, and whatever else

@@ -1,3 +1,3 @@
-mod Waiting
-mod BlockReceiving
-mod SlotReceiving
+mod WaitingBlocks
+mod BlockCalls
+mod SlotCalls

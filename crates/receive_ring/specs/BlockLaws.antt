@@ -1,10 +1,10 @@
 -- What the notes of a ring of blocks hand over.
 use Rattle.std.proofs.Common.{◌≡◌, ℕ, ◌+◌, ◌≤◌, List, [], ◌∷◌, ◌++◌, length, sym, ap, ◌∙◌}
 use Rattle.std.proofs.Common.{arith}
-use Rattle.block_ring.specs.Producing.{Producing}
-use Rattle.block_ring.specs.Walking.{StaysBy, TookBy}
+use Rattle.block_ring.specs.Producers.{Producing}
+use Rattle.block_ring.specs.WalkerSteps.{StaysBy, TookBy}
 use Rattle.receive_ring.specs.BlockRings.{block_reads, seen_blocks}
-use Rattle.receive_ring.specs.Receiving.{Grows, StaysThere, TookOne}
+use Rattle.receive_ring.specs.Rings.{Grows, StaysThere, TookOne}
 use Rattle.ring_model.specs.Ring.{Size, state_of}
 use Rattle.ring_model.specs.Rings.{Ring}
 use Rattle.ring_model.specs.declared.notes.Note.{Note}

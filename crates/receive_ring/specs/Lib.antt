@@ -1,4 +1,4 @@
-pub mod Receiving
+pub mod Rings
 pub mod BlockRings
 pub mod BlockLaws
 pub mod SlotRings

@@ -1,7 +1,7 @@
 -- What the notes of a ring of slots hand over.
 use Rattle.std.proofs.Common.{◌≡◌, ℕ, ◌≤◌, List, [], ◌∷◌, ◌++◌, length, sym, ap, arith}
 use Rattle.std.proofs.lemmas.List.{append-nil, length-map, map-append}
-use Rattle.receive_ring.specs.Receiving.{Grows, StaysThere, TookOne}
+use Rattle.receive_ring.specs.Rings.{Grows, StaysThere, TookOne}
 use Rattle.receive_ring.specs.SlotRings.{seen_slots, slot_reads, slots_taken}
 use Rattle.ring_model.specs.Rings.{Ring}
 use Rattle.ring_model.specs.declared.notes.Note.{Note}
@@ -16,8 +16,8 @@ use Rattle.slot_layout.specs.SlotShapes.{slot_size_of}
 use Rattle.slot_model.proofs.Runs.{slot_counted, slot_state_push}
 use Rattle.slot_model.specs.SlotSteps.{SlotState, slot_after, slot_state_of, slot_status}
 use Rattle.tp_layout.specs.declared.requests.RingRequest.{RingRequest}
-use Rattle.v2_ring.specs.SlotProducing.{SlotProducing}
-use Rattle.v2_ring.specs.SlotWalking.{SlotStaysBy, SlotTookBy}
+use Rattle.v2_ring.specs.SlotProducers.{SlotProducing}
+use Rattle.v2_ring.specs.SlotWalkerSteps.{SlotStaysBy, SlotTookBy}
 
 pub took_slot : (before after : SlotProducing PlainState) (content : List ℕ)
     → SlotTookBy Took before after content → TookOne (seen_slots before) (seen_slots after) content

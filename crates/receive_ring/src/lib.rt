@@ -3,7 +3,7 @@
 #![tactic(auto)]
 
 mod block_rings;
-mod receiving;
+mod receive_rings;
 mod slot_rings;
 
-pub use receiving::ReceiveRing;
+pub use receive_rings::ReceiveRing;

@@ -9,6 +9,6 @@ pub mod RunSteps
 pub mod Lines
 pub mod WholeRuns
 pub mod GroupReports
-pub mod Reading
+pub mod ReadBlocks
 pub mod MemberSteps
 pub mod OneMore

@@ -19,7 +19,7 @@ use Rattle.ring_model.specs.declared.notes.Found.{Found}
 use Rattle.ring_model.specs.declared.notes.Note.TheVariants.{Counted}
 use Rattle.setup_text.specs.declared.jobs.Job.{Job}
 use Rattle.cpu_feed.specs.Fed.{FedOne, IsAtItsEnd}
-use Rattle.cpu_feed.specs.Feeding.{Feeding, IsAllOfCpu, frames_in}
+use Rattle.cpu_feed.specs.CpuFeeds.{Feeding, IsAllOfCpu, frames_in}
 use Rattle.replay_machine.specs.RingGroups.{GroupValue}
 use Rattle.replay_machine.specs.RunStates.{AreAllOf, Feeds, HasCount, IsCounted, IsRun, RunValue, cpu_in, cpus_of, firsts_of, no_feeding, whole, cpu_of}
 use Rattle.run_reports.specs.Jobs.{rules_of}

@@ -5,7 +5,7 @@ use Rattle.std.proofs.lemmas.Bool.{le-ltb, lt-ltb}
 use Rattle.std.proofs.lemmas.List.{append-nil}
 use Rattle.reader_walk.specs.Readers.{ComesFrom, ReaderValue, Reads, new_reader, outputs_by}
 use Rattle.reader_walk.specs.declared.outputs.Outputs.{Outputs}
-use Rattle.receive_ring.specs.Receiving.{Becomes, Closes, Grows, Opens, Receiving, StaysThere, TookOne, Waits, ring_by, ring_in}
+use Rattle.receive_ring.specs.Rings.{Becomes, Closes, Grows, Opens, Receiving, StaysThere, TookOne, Waits, ring_by, ring_in}
 use Rattle.replay_model.specs.RingSteps.{RingSteps, read_by, ticked_by}
 use Rattle.replay_model.specs.TakenOffers.{Takes}
 use Rattle.ring_model.specs.Rings.{Ring, fresh, noted}
@@ -21,7 +21,7 @@ use Rattle.tp_layout.specs.Requests.{numbers_of}
 use Rattle.tp_layout.specs.declared.requests.RingRequest.{RingRequest}
 use Rattle.replay_machine.specs.Reported.{reported_by}
 use Rattle.replay_machine.specs.inside.Members.{HasRead, IsMember, Parts}
-use Rattle.replay_machine.proofs.Reading.{came, few_read, free_hand, none_read, one_read, read_on}
+use Rattle.replay_machine.proofs.ReadBlocks.{came, few_read, free_hand, none_read, one_read, read_on}
 
 -- what a call did, or that it did nothing
 pub either : {A E : Type 0} (result : Result A E) (Q R P : Type 0) → OnOk result Q → OnErr result R → (Q → P) → (R → P) → P

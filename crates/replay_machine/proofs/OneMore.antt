@@ -1,7 +1,7 @@
 -- Lists that loops make one item at a time.
 use Rattle.std.proofs.Common.{◌≡◌, ℕ, ◌+◌, ◌≤◌, List, [], ◌∷◌, ◌++◌, length, append_assoc, length-append, sym, ap, ◌∙◌, arith}
 use Rattle.std.specs.Prelude.{map, Option}
-use Rattle.cpu_feed.specs.Feeding.{Feeding}
+use Rattle.cpu_feed.specs.CpuFeeds.{Feeding}
 use Rattle.fanout_group.specs.Plans.{Shape}
 use Rattle.tap_outside.specs.Seen.{SourceSeen}
 use Rattle.replay_machine.specs.inside.RunEffects.{first_feeding, starting_from}

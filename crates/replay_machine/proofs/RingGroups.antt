@@ -13,7 +13,7 @@ use Rattle.fanout_group.specs.declared.modes.Mode.TheVariants.{Hash, Lb, Cpu, Ro
 use Rattle.replay_model.specs.Replay.{fate_of, next_ticket, no_ring, noted_at, ticket_of}
 use Rattle.replay_model.specs.RingSteps.{RingSteps, put_note, try_note}
 use Rattle.replay_model.specs.TakenOffers.{Takes}
-use Rattle.ring_model.specs.Asking.{put_by, try_by}
+use Rattle.ring_model.specs.KnownReleases.{put_by, try_by}
 use Rattle.ring_model.specs.Offers.{IsSound}
 use Rattle.ring_model.specs.Ring.{Size}
 use Rattle.ring_model.specs.Rings.{Ring, noted}

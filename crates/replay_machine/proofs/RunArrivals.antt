@@ -20,7 +20,7 @@ use Rattle.ring_model.specs.Rings.{Ring, noted}
 use Rattle.ring_model.specs.declared.notes.Note.{Note}
 use Rattle.ring_model.specs.declared.notes.Offer.{Offer}
 use Rattle.replay_machine.specs.Deliveries.{AreTried, ChangedByTries, IsTried}
-use Rattle.cpu_feed.specs.Feeding.{Feeding, IsAllOfCpu}
+use Rattle.cpu_feed.specs.CpuFeeds.{Feeding, IsAllOfCpu}
 use Rattle.run_reports.specs.Jobs.{rules_of}
 use Rattle.setup_text.specs.declared.jobs.Job.{Job}
 use Rattle.replay_machine.specs.RingGroups.{TakesAt}

@@ -7,7 +7,7 @@ use Rattle.std.proofs.lemmas.List.{set_past}
 use Rattle.std.proofs.lemmas.List.Elements.{All-map, All-replicate, All-set}
 use Rattle.replay_model.specs.RingSteps.{RingSteps, read_by, ticked, ticked_by}
 use Rattle.cpu_feed.specs.Fed.{FedOne}
-use Rattle.cpu_feed.specs.Feeding.{Feeding}
+use Rattle.cpu_feed.specs.CpuFeeds.{Feeding}
 use Rattle.fanout_group.proofs.Rounds.{length-refused_from}
 use Rattle.fanout_group.specs.Plans.{Shape, rolls_over}
 use Rattle.fanout_group.specs.Routes.{IsRoute, a_try, behind, refused_from}

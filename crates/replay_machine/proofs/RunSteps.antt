@@ -19,7 +19,7 @@ use Rattle.ring_model.specs.Rings.{Ring}
 use Rattle.ring_model.specs.declared.notes.Offer.{Offer}
 use Rattle.setup_text.specs.declared.jobs.Job.{Job}
 use Rattle.cpu_feed.specs.Fed.{FedOne, IsAtItsEnd}
-use Rattle.cpu_feed.specs.Feeding.{Feeding}
+use Rattle.cpu_feed.specs.CpuFeeds.{Feeding}
 use Rattle.cpu_feed.specs.Feeds.{Feeds as CpuFeeds, HasNone, ReceivesIfAny}
 use Rattle.run_reports.specs.Jobs.{lens_of, rules_of}
 use Rattle.replay_machine.specs.RingGroups.{GroupValue, IsDrawn, IsMadeBy, TakesAt}

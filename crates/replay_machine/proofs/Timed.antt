@@ -5,7 +5,7 @@ use Rattle.std.proofs.lemmas.Bool.{cases_lt}
 use Rattle.std.proofs.lemmas.List.{set_past}
 use Rattle.std.proofs.lemmas.List.Elements.{All-get_or, All-map, All-replicate, All-set}
 use Rattle.fanout_group.specs.declared.logs.Try.{Try}
-use Rattle.ring_model.specs.Asking.{put_by, try_by}
+use Rattle.ring_model.specs.KnownReleases.{put_by, try_by}
 use Rattle.ring_model.specs.Ring.{Size}
 use Rattle.ring_model.specs.Rings.{Ring, fresh, noted}
 use Rattle.ring_model.specs.Unreleased.{last_moment}
@@ -18,7 +18,7 @@ use Rattle.replay_model.specs.Replay.{no_ring}
 use Rattle.replay_model.specs.RingSteps.{RingSteps, read_by, ticked, ticked_by}
 use Rattle.replay_model.specs.TakenOffers.{MayCome}
 use Rattle.replay_model.proofs.KeptOpen.{read_notes}
-use Rattle.schedule_lines.specs.Ascending.{AreAscending}
+use Rattle.schedule_lines.specs.TickOrder.{AreAscending}
 use Rattle.schedule_lines.specs.declared.lines.Line.{Line}
 use Rattle.schedule_lines.specs.declared.lines.Line.TheVariants.{Feed, Read, Tick, Stats}
 use Rattle.replay_machine.specs.Deliveries.{AreTried, ChangedByTries, IsNoteOf, IsTried}

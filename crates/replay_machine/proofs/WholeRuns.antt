@@ -12,7 +12,7 @@ use Rattle.fanout_group.specs.declared.runs.CpuLog.{CpuLog}
 use Rattle.frame_view.specs.declared.frames.Frame.{Frame}
 use Rattle.replay_model.specs.Replay.{Cpu, Replay, closed, done_line, done_lines, feed_from, replayed, started}
 use Rattle.replay_model.specs.RingSteps.{RingSteps}
-use Rattle.schedule_lines.specs.Ascending.{IsSchedule}
+use Rattle.schedule_lines.specs.TickOrder.{IsSchedule}
 use Rattle.schedule_lines.specs.declared.lines.Line.{Line}
 use Rattle.schedule_lines.specs.declared.lines.Line.TheVariants.{Feed}
 use Rattle.replay_machine.proofs.Timed.{IsTimed, drop_line, timed-started, timed_after}
@@ -20,8 +20,8 @@ use Rattle.ring_model.specs.Rings.{Ring, fresh}
 use Rattle.setup_text.specs.declared.jobs.Job.{Job}
 use Rattle.setup_text.specs.declared.reports.MemberReport.{MemberReport}
 use Rattle.setup_text.specs.declared.reports.RunReport.{RunReport}
-use Rattle.cpu_feed.specs.Closing.{AllClose}
-use Rattle.cpu_feed.specs.Feeding.{Closes, Feeding, frames_in}
+use Rattle.cpu_feed.specs.ClosedCpus.{AllClose}
+use Rattle.cpu_feed.specs.CpuFeeds.{Closes, Feeding, frames_in}
 use Rattle.cpu_feed.proofs.ClosedOnes.{all_gave, closed_many}
 use Rattle.replay_machine.specs.RunStates.{AreAllOf, AreCpus, IsCounted, IsRun, RunValue, cpus_of, firsts_of, whole, cpu_of}
 use Rattle.run_reports.specs.Jobs.{captures_from, rules_of}

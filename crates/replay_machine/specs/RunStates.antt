@@ -13,7 +13,7 @@ use Rattle.ring_model.specs.Rings.{Ring}
 use Rattle.setup_text.specs.declared.jobs.Job.{Job}
 use Rattle.replay_machine.specs.Deliveries.{ChangedByTries}
 use Rattle.cpu_feed.specs.Fed.{FedOne, IsAtItsEnd}
-use Rattle.cpu_feed.specs.Feeding.{Feeding, IsAllOfCpu, waiting_of}
+use Rattle.cpu_feed.specs.CpuFeeds.{Feeding, IsAllOfCpu, waiting_of}
 use Rattle.run_reports.specs.Jobs.{rules_of}
 use Rattle.tap_outside.specs.Seen.{SourceSeen}
 

@@ -42,7 +42,7 @@ impl<R: ReceiveRing, K: Setting> Model for Member<R, K> {
 
     ghost Value = { Ring };
 
-    ghost use Rattle.receive_ring.specs.Receiving.{ring_by};
+    ghost use Rattle.receive_ring.specs.Rings.{ring_by};
     ghost use Rattle.replay_machine.specs.inside.Members.{IsMember};
 
     ghost view = { λ member. ring_by (R.steps K.shape) (R.seen member.ring) };

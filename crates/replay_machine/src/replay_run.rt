@@ -4,7 +4,7 @@ ghost use Rattle.schedule_lines.specs.declared.lines.Line.TheVariants.{Feed};
 ghost use Rattle.replay_model.specs.TakenOffers.{MayCome};
 ghost use Rattle.setup_text.specs.Runnable.{IsRunnable};
 ghost use Rattle.setup_text.specs.declared.jobs.Job.{Job as GivenJob};
-ghost use Rattle.receive_ring.specs.Receiving.{IsRoomOf};
+ghost use Rattle.receive_ring.specs.Rings.{IsRoomOf};
 ghost use Rattle.replay_machine.specs.RunStates.{Feeds, HasCount, IsRun};
 ghost use Rattle.replay_machine.specs.inside.RunEffects.{FedRest, FedWhole, LineDone};
 ghost use Rattle.replay_machine.specs.inside.RunRules.{IsRunBy};

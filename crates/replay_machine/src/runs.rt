@@ -1,7 +1,7 @@
 //! The replay of a job over the rings of its members: its sources are read as its schedule asks for
 //! their frames.
 ghost use Rattle.std.specs.Prelude.{◌≡◌, ◌^◌, ◌<◌, length, map, option_map, IfOk};
-ghost use Rattle.schedule_lines.specs.Ascending.{IsSchedule};
+ghost use Rattle.schedule_lines.specs.TickOrder.{IsSchedule};
 ghost use Rattle.setup_text.specs.Runnable.{IsRunnable};
 ghost use Rattle.replay_machine.specs.Reported.{reported_by};
 ghost use Rattle.replay_machine.specs.Runs.{IsReplayedOver};

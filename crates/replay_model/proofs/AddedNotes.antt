@@ -6,7 +6,7 @@ use Rattle.std.proofs.lemmas.List.{append-nil, length-set}
 use Rattle.frame_view.specs.declared.frames.Frame.{Frame}
 use Rattle.ring_model.specs.Fates.{frame_note, frame_notes}
 use Rattle.ring_model.specs.Offers.{offer_of}
-use Rattle.ring_model.specs.Asking.{put_by, try_by}
+use Rattle.ring_model.specs.KnownReleases.{put_by, try_by}
 use Rattle.ring_model.specs.Rings.{Ring, noted}
 use Rattle.ring_model.specs.declared.notes.Offer.{Offer}
 use Rattle.ring_model.specs.declared.notes.Found.{Found}

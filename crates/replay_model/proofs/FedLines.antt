@@ -12,7 +12,7 @@ use Rattle.fanout_group.specs.Rules.{Rules}
 use Rattle.fanout_group.specs.declared.logs.ArrivalLog.{ArrivalLog}
 use Rattle.replay_model.specs.Replay.{Cpu, Replay, cpu_at, done_lines, fed_by, feed, feed_from, feed_times, no_cpu, no_ring}
 use Rattle.replay_model.specs.RingSteps.{RingSteps}
-use Rattle.schedule_lines.specs.Ascending.{AreAscending}
+use Rattle.schedule_lines.specs.TickOrder.{AreAscending}
 use Rattle.schedule_lines.specs.declared.lines.Line.{Line}
 use Rattle.schedule_lines.specs.declared.lines.Line.TheVariants.{Feed, Read, Tick, Stats}
 use Rattle.replay_model.proofs.KeptOpen.{KeepOpen}

@@ -18,7 +18,7 @@ use Rattle.fanout_group.proofs.Members.{one_if}
 use Rattle.replay_model.specs.Replay.{Cpu, Replay, closed, cpu_at, feed_from, done_lines, no_cpu, no_ring, replayed, started}
 use Rattle.replay_model.specs.Reports.{AreArrivals, IsReplayReport, logged_of, notes_of}
 use Rattle.replay_model.specs.RingSteps.{RingSteps}
-use Rattle.schedule_lines.specs.Ascending.{IsSchedule}
+use Rattle.schedule_lines.specs.TickOrder.{IsSchedule}
 use Rattle.schedule_lines.specs.declared.lines.Line.{Line}
 use Rattle.replay_model.proofs.FedLines.{all_fed, lines_go}
 use Rattle.replay_model.proofs.ReplayStates.{Waiting, Goes, Joins}

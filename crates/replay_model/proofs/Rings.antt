@@ -2,7 +2,7 @@
 use Rattle.std.proofs.Common.{◌≡◌, ℕ, ◌+◌, ◌≤◌, Bool, true, false, cond, List, [], ◌∷◌, ◌++◌, length, Option, None, Some, refl, subst, arith, append_assoc}
 use Rattle.std.specs.Prelude.{nat_lt}
 use Rattle.std.proofs.lemmas.Grind.{common_steps}
-use Rattle.ring_model.specs.Asking.{put_by, put_note, try_by, try_note, tick_note}
+use Rattle.ring_model.specs.KnownReleases.{put_by, put_note, try_by, try_note, tick_note}
 use Rattle.ring_model.specs.Ring.{Size, State, EndsThere, IsRun, MayFollow, after, after_drop, after_due, first_state}
 use Rattle.ring_model.specs.Rings.{Ring, note_of_put, fresh, note_of_tick, note_of_try, noted, read_once, state}
 use Rattle.ring_model.specs.declared.notes.Offer.{Offer}

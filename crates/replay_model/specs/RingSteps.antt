@@ -1,7 +1,7 @@
 -- What the rings of a replay do at each step, where every look at a status word has the answer that
 -- follows from the released blocks. In a ring of slots a slot has the block's place.
 use Rattle.std.specs.Prelude.{ℕ, ◌+◌, length, nat_lt, if◌then◌else◌, Option, None, Some}
-use Rattle.ring_model.specs.Asking.{found_for, put_by, try_by}
+use Rattle.ring_model.specs.KnownReleases.{found_for, put_by, try_by}
 use Rattle.ring_model.specs.Ring.{Size}
 use Rattle.ring_model.specs.Rings.{Ring, note_of_tick, noted, state}
 use Rattle.ring_model.specs.Sizes.{need_of}

@@ -8,7 +8,7 @@ ghost use Rattle.replay_model.specs.Replay.{replayed};
 ghost use Rattle.replay_model.specs.Reports.{AreArrivals, IsReplayReport, IsRingReport, logged_of};
 ghost use Rattle.replay_model.specs.Reports.{notes_of};
 ghost use Rattle.replay_model.specs.RingSteps.{block_steps};
-ghost use Rattle.schedule_lines.specs.Ascending.{IsSchedule};
+ghost use Rattle.schedule_lines.specs.TickOrder.{IsSchedule};
 ghost use Rattle.schedule_lines.specs.declared.lines.Line.{Line};
 
 use fanout_group::each_frame_appears_exactly_once;

@@ -12,7 +12,7 @@ use Rattle.ring_model.specs.declared.notes.Found.TheVariants.{NotAsked, Free, He
 use Rattle.ring_model.specs.declared.notes.Note.{Note}
 use Rattle.ring_model.specs.declared.notes.Note.TheVariants.{Kept, Refused, Dropped, Ticked, Counted, Finished}
 use Rattle.ring_model.specs.declared.notes.Stats.{Stats}
-use Rattle.ring_model.specs.declared.tallying.Ledger.{Ledger}
+use Rattle.ring_model.specs.declared.tally.Ledger.{Ledger}
 
 -- the statistics that a ledger has
 abbrev pub stats_in : Ledger → Stats

@@ -2,7 +2,8 @@
 use Rattle.std.proofs.Common.{◌≡◌, ℕ, ◌-◌, ◌<◌, Bool, true, false, cond, List, Option, refl}
 use Rattle.std.specs.Prelude.{nat_lt, ◌||◌}
 use Rattle.std.proofs.lemmas.Bool.{ltb-true}
-use Rattle.ring_model.specs.Asking.{found_for, has_room, is_empty_block, look, put_by, put_note, tick_note, try_by, try_note}
+use Rattle.ring_model.specs.KnownReleases.{found_for, has_room, is_empty_block, look, put_by, put_note, tick_note, try_by}
+use Rattle.ring_model.specs.KnownReleases.{try_note}
 use Rattle.ring_model.specs.Ring.{Size, State, next_number}
 use Rattle.ring_model.specs.Sizes.{need_of}
 use Rattle.ring_model.specs.Unreleased.{IsUnreleased}

@@ -5,9 +5,9 @@ use Rattle.ring_model.specs.declared.notes.Offer.{Offer}
 use Rattle.ring_model.specs.declared.notes.Note.{Note}
 use Rattle.ring_model.specs.declared.notes.Note.TheVariants.{Counted}
 use Rattle.ring_model.specs.declared.notes.Stats.{Stats}
-use Rattle.ring_model.specs.declared.tallying.Open.{Open}
-use Rattle.ring_model.specs.declared.tallying.Open.TheVariants.{Frozen, Empty, Filled}
-use Rattle.ring_model.specs.declared.tallying.Ledger.{Ledger}
+use Rattle.ring_model.specs.declared.tally.Open.{Open}
+use Rattle.ring_model.specs.declared.tally.Open.TheVariants.{Frozen, Empty, Filled}
+use Rattle.ring_model.specs.declared.tally.Ledger.{Ledger}
 
 -- whether the open block has packets
 abbrev pub open_of : Option (List Offer) → Open

@@ -1,7 +1,7 @@
 -- A ring with its reader, as far as reports need it: its notes, and how many blocks were released.
 use Rattle.std.specs.Prelude.{ℕ, ◌+◌, List, [], ◌∷◌, ◌++◌, length, nat_lt, if◌then◌else◌}
 use Rattle.ring_model.specs.Ring.{Size, State, state_of}
-use Rattle.ring_model.specs.Asking.{put_note, try_note, tick_note}
+use Rattle.ring_model.specs.KnownReleases.{put_note, try_note, tick_note}
 use Rattle.ring_model.specs.declared.notes.Offer.{Offer}
 use Rattle.ring_model.specs.declared.notes.Note.{Note}
 

@@ -3,9 +3,9 @@
 
 mod laws;
 mod notes;
-mod noting;
+mod packet_notes;
 mod sizes;
-mod tallying;
+mod tally;
 
 pub use laws::{
     a_block_noted_as_held_is_unreleased, a_ring_with_blocks_left_drops_nothing, puts_may_follow,
@@ -13,6 +13,6 @@ pub use laws::{
     tries_may_follow,
 };
 pub use notes::{Found, Note, Notes, Offer, Put, Stats, Tried, Unput};
-pub use noting::{noted_put, noted_try};
+pub use packet_notes::{noted_put, noted_try};
 pub use sizes::{due, need};
-pub use tallying::{StatsList, Tally, tally_notes};
+pub use tally::{StatsList, Tally, tally_notes};

@@ -1,7 +1,7 @@
 //! Puts into a ring of blocks that need no memory after room was reserved.
 ghost use Rattle.std.specs.Prelude.{◌≡◌, ◌+◌, ◌<◌, ◌≤◌, IfOk, [], length};
 ghost use Rattle.tp_layout.specs.Requests.{room_of};
-ghost use Rattle.tp_layout.specs.Writing.{IsWritable};
+ghost use Rattle.tp_layout.specs.BlockWrites.{IsWritable};
 
 use crate::producer_calls::{Ring, new_ring, offer};
 use frame_view::Memory;

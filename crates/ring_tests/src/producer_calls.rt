@@ -2,7 +2,7 @@
 ghost use Rattle.std.specs.Prelude.{◌≡◌, ◌+◌, ◌-◌, ◌<◌, ◌≤◌, false, IfOk, [], length};
 ghost use Rattle.ring_words.specs.PlainRings.{has_block};
 ghost use Rattle.tp_layout.specs.Requests.{room_of};
-ghost use Rattle.tp_layout.specs.Writing.{IsWritable};
+ghost use Rattle.tp_layout.specs.BlockWrites.{IsWritable};
 
 use crate::seen_blocks::{Seen, read};
 use block_ring::Producer;

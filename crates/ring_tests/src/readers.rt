@@ -3,7 +3,7 @@ ghost use Rattle.std.specs.Prelude.{◌≡◌, ◌+◌, ◌≤◌, IfOk};
 ghost use Rattle.reader_walk.specs.Takers.{IsReadable};
 ghost use Rattle.ring_model.specs.Sizes.{need_of};
 ghost use Rattle.tp_layout.specs.Requests.{first_of, room_of};
-ghost use Rattle.tp_layout.specs.Writing.{IsWritable, zero_block};
+ghost use Rattle.tp_layout.specs.BlockWrites.{IsWritable, zero_block};
 
 use crate::blocks::page_shape;
 use frame_view::{ByteList, Frame, Memory, Packet};

@@ -8,13 +8,13 @@ use Rattle.std.proofs.lemmas.List.{length-map}
 use Rattle.std.proofs.Math.ListN.{length-replicate}
 use Rattle.atomic_table.specs.Table.{State, keeps, takes, Allows, Joins, Splits, opening, step}
 use Rattle.atomic_table.proofs.Lists.{at_last, at_longer, at_map, at_set, set_again, set_else, set_here}
-use Rattle.ring_words.specs.Knowing.{all_known, left_to_feed, left_to_walk, nothing_known, together}
+use Rattle.ring_words.specs.Knowledge.{all_known, left_to_feed, left_to_walk, nothing_known, together}
 use Rattle.ring_words.specs.Rings.{Entry}
 use Rattle.ring_words.specs.Tables.{Course, IsRing, IsSeen, Knows, LooksHold, TakesFront, course_of}
 use Rattle.ring_words.specs.Plays.{Compares, Drains, Holder}
-use Rattle.ring_words.specs.declared.known.Known.{Known}
+use Rattle.ring_words.specs.declared.knowledge.Known.{Known}
 use Rattle.ring_words.proofs.Entries.{at_new, entry_at, length-snoc, set-read, within}
-use Rattle.ring_words.proofs.Seeing.{seen_new, start_zero}
+use Rattle.ring_words.proofs.PastLooks.{seen_new, start_zero}
 use Rattle.ring_words.proofs.WalkerMoves.{Goes, Ring, front_next, next_block, taken_one, takes_block}
 
 all_at : {X : Type 0} (P : X → Type 0) (l : List X) (i : ℕ) (x : X) → AllByRecursion P l → get_elem? l i ≡ some x → P x

@@ -11,12 +11,12 @@ use Rattle.ring_words.specs.Rings.{Entry, IsMark, IsStatus}
 use Rattle.ring_words.specs.FoundWords.{from_start}
 use Rattle.ring_words.specs.Tables.{Course, IsRing}
 use Rattle.ring_words.specs.Plays.{Holder, Looks, Stores}
-use Rattle.ring_words.specs.declared.known.Known.{Known}
+use Rattle.ring_words.specs.declared.knowledge.Known.{Known}
 use Rattle.ring_words.proofs.Words.{number_of_word, odd_word, status_of_word}
 use Rattle.ring_words.proofs.Rounds.{elsewhere}
 use Rattle.ring_words.proofs.Entries.{at_end, at_front, entry_at, length-snoc, set-read, take-longer, within}
-use Rattle.ring_words.proofs.Placing.{others_feed, still_sits, untouched}
-use Rattle.ring_words.proofs.Seeing.{seen_free, seen_held, seen_shown}
+use Rattle.ring_words.proofs.UnchangedPlaces.{others_feed, still_sits, untouched}
+use Rattle.ring_words.proofs.PastLooks.{seen_free, seen_held, seen_shown}
 
 module _ {B : Type 0} (bytes kind_of : B → List ℕ) (ready : B → ℕ → ℕ → Type 0) (kind : List ℕ) where
   abbrev Ring : State (Option B) Known → Type 0

@@ -3,7 +3,7 @@ mod Openings
 mod Words
 mod Rounds
 mod Entries
-mod Placing
+mod UnchangedPlaces
 mod FeederMoves
 mod WalkerMoves
 mod EndMoves
@@ -11,5 +11,5 @@ mod Hands
 mod FeederSteps
 mod WalkerSteps
 mod PendingSteps
-mod Seeing
+mod PastLooks
 mod LooksFound

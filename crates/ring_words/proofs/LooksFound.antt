@@ -11,10 +11,10 @@ use Rattle.atomic_table.proofs.Lists.{at_last}
 use Rattle.ring_words.specs.FoundWords.{IsLook, IsVisit, from_start}
 use Rattle.ring_words.specs.TableEnds.{even_count, odd_count}
 use Rattle.ring_words.specs.Tables.{IsRing, LooksAreTrue, VisitsAreTrue}
-use Rattle.ring_words.specs.declared.known.Known.{Known}
+use Rattle.ring_words.specs.declared.knowledge.Known.{Known}
 use Rattle.ring_words.proofs.EndMoves.{looks_hold}
 use Rattle.ring_words.proofs.Entries.{entry_at, within}
-use Rattle.ring_words.proofs.Seeing.{length-start, start_made}
+use Rattle.ring_words.proofs.PastLooks.{length-start, start_made}
 
 -- the last of the looks, and what was before it
 last_look : (P : ℕ → ℕ → ℕ → Type 0) (rank : List ℕ → ℕ) (before after : List ℕ) (word : ℕ) → after ≡ before ++ word ∷ []

@@ -10,7 +10,7 @@ use Rattle.ring_words.specs.Plays.{Drains, Holder}
 use Rattle.ring_words.specs.Rings.{Entry}
 use Rattle.ring_words.specs.TableEnds.{IsSeated}
 use Rattle.ring_words.specs.Tables.{IsRing}
-use Rattle.ring_words.specs.declared.known.Known.{Known}
+use Rattle.ring_words.specs.declared.knowledge.Known.{Known}
 use Rattle.ring_words.proofs.EndMoves.{drains}
 use Rattle.ring_words.proofs.Hands.{front_of}
 

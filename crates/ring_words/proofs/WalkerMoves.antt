@@ -11,12 +11,12 @@ use Rattle.ring_words.specs.Rings.{Entry, IsMark}
 use Rattle.ring_words.specs.FoundWords.{from_start}
 use Rattle.ring_words.specs.Tables.{Course, IsRing}
 use Rattle.ring_words.specs.Plays.{Fetches, FoundNext, Frees, Holder}
-use Rattle.ring_words.specs.declared.known.Known.{Known}
+use Rattle.ring_words.specs.declared.knowledge.Known.{Known}
 use Rattle.ring_words.proofs.Words.{number_of_word, odd_word, status_of_word}
 use Rattle.ring_words.proofs.Rounds.{elsewhere}
 use Rattle.ring_words.proofs.Entries.{entry_at, length-snoc, set-read, take-next, within}
-use Rattle.ring_words.proofs.Placing.{others_walk, still_sits, untouched}
-use Rattle.ring_words.proofs.Seeing.{seen_freed, seen_none, seen_taken, start_last, start_longer}
+use Rattle.ring_words.proofs.UnchangedPlaces.{others_walk, still_sits, untouched}
+use Rattle.ring_words.proofs.PastLooks.{seen_freed, seen_none, seen_taken, start_last, start_longer}
 
 module _ {B : Type 0} (bytes kind_of : B → List ℕ) (ready : B → ℕ → ℕ → Type 0) (kind : List ℕ) where
   abbrev pub Ring : State (Option B) Known → Type 0

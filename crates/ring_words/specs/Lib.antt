@@ -3,7 +3,7 @@ pub mod Rings
 pub mod Looks
 pub mod PlainRings
 pub mod PlainLaws
-pub mod Knowing
+pub mod Knowledge
 pub mod FoundWords
 pub mod Tables
 pub mod Plays

@@ -4,7 +4,7 @@ use Rattle.std.specs.List.{AllByRecursion}
 use Rattle.ring_words.specs.Plays.{Holder}
 use Rattle.ring_words.specs.Rings.{Entry}
 use Rattle.ring_words.specs.TableEnds.{found_in, odd_count}
-use Rattle.ring_words.specs.declared.known.Known.{Known}
+use Rattle.ring_words.specs.declared.knowledge.Known.{Known}
 
 -- the pending blocks of a ring, and what its feeder did
 pub record Pends (B : Type 0) : Type 0 where

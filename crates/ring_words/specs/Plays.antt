@@ -3,7 +3,7 @@ use Rattle.std.specs.Prelude.{◌≡◌, ℕ, ◌+◌, ◌/◌, ◌%◌, ◌^◌
 use Rattle.std.specs.Prelude.{take, Option, Some, None}
 use Rattle.atomic_table.specs.Table.{Me, Step, rest}
 use Rattle.ring_words.specs.Rings.{Entry, IsMark, IsStatus}
-use Rattle.ring_words.specs.declared.known.Known.{Known}
+use Rattle.ring_words.specs.declared.knowledge.Known.{Known}
 
 -- an end: what it knows, and the slots that it has out
 abbrev pub Holder : Type 0 → Type 0

@@ -11,7 +11,7 @@ use Rattle.atomic_table.specs.Table.{State}
 use Rattle.ring_words.specs.Rings.{Entry, IsMark, IsStatus}
 use Rattle.ring_words.specs.FoundWords.{IsLook, IsVisit, from_start}
 use Rattle.ring_words.specs.TableEnds.{even_count, odd_count}
-use Rattle.ring_words.specs.declared.known.Known.{Known}
+use Rattle.ring_words.specs.declared.knowledge.Known.{Known}
 
 -- how far a ring has come
 pub record Course : Type 0 where

@@ -1,10 +1,10 @@
 //! The table of a ring between two threads: its rule, and what each of its steps shows.
-ghost use Rattle.ring_words.specs.Knowing.{all_known};
+ghost use Rattle.ring_words.specs.Knowledge.{all_known};
 ghost use Rattle.ring_words.specs.Plays.{Compares, Drains, Fetches, Frees, Looks, Stores};
 ghost use Rattle.ring_words.specs.Tables.{IsRing};
 
 use crate::Content;
-use crate::known::Known;
+use crate::knowledge::Known;
 use atomic_table::{Play, Seat, Table, TableRule};
 use std::alloc::Global;
 use std::snapshot::Snapshot;

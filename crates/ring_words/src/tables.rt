@@ -16,16 +16,16 @@
 //! retired and not taken.
 ghost use Rattle.std.specs.Prelude.{◌≡◌, ◌≤◌, ℕ, List, [], length, map, Option, Some, IfOk};
 ghost use Rattle.std.specs.List.{AllByRecursion};
-ghost use Rattle.ring_words.specs.Knowing.{all_known};
+ghost use Rattle.ring_words.specs.Knowledge.{all_known};
 ghost use Rattle.atomic_table.specs.Table.{State};
 ghost use Rattle.ring_words.specs.TableEnds.{fresh_feeder, fresh_walker};
 ghost use Rattle.ring_words.specs.Tables.{Course, EachKnows, IsOwnedBy, LooksHold, LooksAreTrue};
 ghost use Rattle.ring_words.specs.Tables.{TakesFront, VisitsAreTrue};
-ghost use Rattle.ring_words.specs.declared.known.Known.{Known};
+ghost use Rattle.ring_words.specs.declared.knowledge.Known.{Known};
 ghost use Rattle.std.specs.declared.snapshot.Snapshot.{Snapshot};
 
 use crate::handover::{Handover, RingSeat, RingTable};
-use crate::known::{Apart, Known};
+use crate::knowledge::{Apart, Known};
 use crate::{Content, TableFeeder, TableWalker};
 use atomic_table::{Table, TableRule};
 use frame_view::Memory;

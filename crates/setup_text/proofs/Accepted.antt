@@ -19,7 +19,7 @@ use Rattle.setup_text.specs.declared.made_frames.MadeFrames.{MadeFrames}
 use Rattle.setup_text.specs.declared.setup_error.Needed.TheVariants as needed
 use Rattle.setup_text.specs.declared.setup_error.SetupKind.{SetupKind}
 use Rattle.setup_text.specs.declared.setups.Setup.{Setup}
-use Rattle.setup_text.proofs.Passing.{ok_same}
+use Rattle.setup_text.proofs.PassedTests.{ok_same}
 use Rattle.setup_text.proofs.DraftLines.{AreFrames, AreWorkers, IsDraft, IsTimeOut, line_keeps}
 
 or_none : {A : Type 0} (a b : Option A) → option_or a b ≡ None → (a ≡ None) × (b ≡ None)

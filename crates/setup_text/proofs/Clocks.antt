@@ -4,7 +4,7 @@ use Rattle.std.specs.Prelude.{All, nat_lt, if◌then◌else◌}
 use Rattle.std.specs.List.{fold}
 use Rattle.std.proofs.lemmas.Bool.{ltb-true, ltb-false}
 use Rattle.std.proofs.lemmas.List.Elements.{All-nil, All-push}
-use Rattle.schedule_lines.specs.Ascending.{AreAscending}
+use Rattle.schedule_lines.specs.TickOrder.{AreAscending}
 use Rattle.schedule_lines.specs.declared.lines.Line.{Line}
 use Rattle.schedule_lines.specs.declared.lines.Line.TheVariants as line
 use Rattle.text_lines.specs.Numbers.{number_of}
@@ -16,7 +16,7 @@ use Rattle.setup_text.specs.Sound.{IsScheduleFor, NamesOne}
 use Rattle.setup_text.specs.declared.schedules.Verb.{Verb}
 use Rattle.setup_text.specs.declared.schedules.Verb.TheVariants as verb
 use Rattle.setup_text.specs.declared.text_error.TextKind.{TextKind}
-use Rattle.setup_text.proofs.Passing.{ok_same, passed, spared}
+use Rattle.setup_text.proofs.PassedTests.{ok_same, passed, spared}
 use Rattle.setup_text.proofs.Items.{items_sound}
 
 -- a line never puts the clock back, and leads to a number of 32 bits

@@ -17,7 +17,7 @@ use Rattle.setup_text.specs.declared.setup_error.SetupKind.{SetupKind}
 use Rattle.setup_text.specs.declared.setup_error.SetupKind.TheVariants.{BadLine, BadNumber}
 use Rattle.setup_text.specs.declared.setup_words.SetupWord.{SetupWord}
 use Rattle.setup_text.specs.declared.setup_words.SetupWord.TheVariants as word
-use Rattle.setup_text.proofs.Passing.{ok_same, passed, spared}
+use Rattle.setup_text.proofs.PassedTests.{ok_same, passed, spared}
 
 -- frames that are made are at least one, and at most 20,000
 abbrev pub AreFrames : Option MadeFrames → Type 0

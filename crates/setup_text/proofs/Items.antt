@@ -8,7 +8,7 @@ use Rattle.text_lines.proofs.Kept.{lines_of-few, reads_few, reads_keep}
 use Rattle.setup_text.specs.Moments.{added, items_of, placed, with_one}
 use Rattle.setup_text.specs.declared.text_error.TextKind.{TextKind}
 use Rattle.setup_text.specs.declared.text_error.Which.{Which}
-use Rattle.setup_text.proofs.Passing.{ok_same, spared}
+use Rattle.setup_text.proofs.PassedTests.{ok_same, spared}
 
 with_one_keeps : {A : Type 0} (P : List A → Type 0) (items : List A) (given : Result A TextKind) (next : List A)
     → ((item : A) → given ≡ Ok item → P (items ++ item ∷ [])) → with_one items given ≡ Ok next → P next

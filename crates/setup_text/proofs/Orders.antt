@@ -13,9 +13,9 @@ use Rattle.setup_text.specs.declared.setup_error.SetupError.{SetupError}
 use Rattle.setup_text.specs.declared.setup_error.SetupKind.{SetupKind}
 use Rattle.setup_text.specs.declared.setup_error.SetupKind.TheVariants.{TooLarge}
 use Rattle.setup_text.specs.declared.setups.Setup.{Setup}
-use Rattle.setup_text.proofs.Acting.{Acts, changes, line_acts, never, nothing, step_of}
+use Rattle.setup_text.proofs.LineEffects.{Acts, changes, line_acts, never, nothing, step_of}
 use Rattle.setup_text.proofs.Parts.{Apart, BlockSize, Cpus, Fills, Held, Part, apart, get, put}
-use Rattle.setup_text.proofs.Passing.{ok_same}
+use Rattle.setup_text.proofs.PassedTests.{ok_same}
 use Rattle.setup_text.proofs.Texts.{when_small}
 
 -- ---- two lines

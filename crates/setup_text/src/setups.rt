@@ -105,7 +105,7 @@ fn draft_of(alloc: Global, text: &[u8]) -> Result<Draft, SetupError>
 }
 
 /// A fault of a line. A failed allocation isn't a fault of any line.
-#[tactic(auto, using(crate::proofs::Wants::wants))]
+#[tactic(auto, using(crate::proofs::MemoryErrors::wants))]
 fn at_line(number: u32, kind: SetupKind) -> SetupError
     ensures fault { is_want kind ≡ false → result ≡ record { line = number; kind = kind } }
     ensures memory { is_want kind ≡ true → result ≡ setup_memory }

@@ -6,7 +6,7 @@ use Rattle.frame_view.specs.declared.frames.Packet.{Packet}
 use Rattle.ring_model.specs.declared.notes.Offer.{Offer}
 use Rattle.tp_layout.specs.Packets.{IsTyped, address_rows}
 use Rattle.tp_layout.specs.Rows.{bytes_of, zeros}
-use Rattle.tp_layout.specs.Writing.{IsWritable, put}
+use Rattle.tp_layout.specs.BlockWrites.{IsWritable, put}
 use Rattle.tp_layout.specs.declared.requests.RingRequest.{RingRequest}
 use Rattle.tp_layout.proofs.Opens.{begins}
 use Rattle.tp_layout.proofs.Puts.{all, bytes_of-zeros, length-address, length-bytes_of, nothing, piece}

@@ -3,7 +3,7 @@ use Rattle.std.specs.Prelude.{◌≡◌, ◌≤◌, None, replicate}
 use Rattle.ring_model.specs.Ring.{Size}
 use Rattle.slot_model.specs.SlotRings.{room_of_slots}
 use Rattle.tp_layout.specs.Requests.{slot_fault}
-use Rattle.tp_layout.specs.Writing.{ShapedBytes}
+use Rattle.tp_layout.specs.BlockWrites.{ShapedBytes}
 use Rattle.tp_layout.specs.declared.requests.RingRequest.{RingRequest}
 
 -- the shape came from `check_v2`

@@ -2,7 +2,7 @@
 -- slots share.
 use Rattle.std.specs.Prelude.{◌≡◌, length, replicate}
 use Rattle.std.specs.Arc.{arc_value}
-use Rattle.tp_layout.specs.Writing.{ShapedBytes, bytes_or_zeros}
+use Rattle.tp_layout.specs.BlockWrites.{ShapedBytes, bytes_or_zeros}
 use Rattle.slot_layout.specs.declared.ring_slots.Slot.TheInside.{Inside}
 
 -- the shape and the bytes

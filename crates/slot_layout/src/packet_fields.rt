@@ -4,7 +4,7 @@ ghost use Rattle.slot_layout.specs.SlotDump.{slot_packet_of};
 ghost use Rattle.slot_layout.specs.SlotTexts.{slot_header_rows, slot_text};
 ghost use Rattle.tp_layout.specs.Packets.{IsTyped, tci_of, tpid_of};
 ghost use Rattle.tp_layout.specs.Rows.{bytes_of};
-ghost use Rattle.tp_layout.specs.Writing.{HasNumbers, IsWritable, put};
+ghost use Rattle.tp_layout.specs.BlockWrites.{HasNumbers, IsWritable, put};
 
 use crate::numbers::{MAC, NET};
 use frame_view::{Tag, link_header};

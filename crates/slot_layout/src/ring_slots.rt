@@ -6,7 +6,7 @@ ghost use Rattle.slot_layout.specs.SlotDump.{slot_packet_of};
 ghost use Rattle.slot_layout.specs.SlotShapes.{IsSlotShape, zero_slot};
 ghost use Rattle.slot_layout.specs.SlotTexts.{slot_text};
 ghost use Rattle.tp_layout.specs.Packets.{IsTyped};
-ghost use Rattle.tp_layout.specs.Writing.{IsWritable, put};
+ghost use Rattle.tp_layout.specs.BlockWrites.{IsWritable, put};
 
 use crate::packet_fields::put_packet;
 use frame_view::Memory;
@@ -27,7 +27,7 @@ pub struct Slot {
 }
 
 impl Model for Slot {
-    ghost use Rattle.tp_layout.specs.Writing.{ShapedBytes};
+    ghost use Rattle.tp_layout.specs.BlockWrites.{ShapedBytes};
 
     ghost Value = { ShapedBytes };
 

@@ -2,12 +2,12 @@
 use Rattle.std.proofs.Common.{◌≡◌, ℕ, ◌-◌, ◌<◌, Bool, true, false, cond, refl, arith}
 use Rattle.std.specs.Prelude.{nat_lt}
 use Rattle.std.proofs.lemmas.Bool.{ltb-true}
-use Rattle.ring_model.specs.Asking.{put_by, try_by}
+use Rattle.ring_model.specs.KnownReleases.{put_by, try_by}
 use Rattle.ring_model.specs.Unreleased.{IsUnreleased}
 use Rattle.ring_model.specs.declared.notes.Found.{Found}
 use Rattle.ring_model.specs.declared.notes.Found.TheVariants.{Free, Held}
 use Rattle.ring_model.specs.declared.notes.Offer.{Offer}
-use Rattle.slot_model.specs.SlotAsking.{slot_put_note, slot_try_note}
+use Rattle.slot_model.specs.SlotReleases.{slot_put_note, slot_try_note}
 use Rattle.slot_model.specs.SlotSteps.{SlotMayFollow, SlotState, next_slot}
 
 -- what holds of a packet's note if it holds of Kept and of the note for a held slot

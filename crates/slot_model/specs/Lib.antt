@@ -1,4 +1,4 @@
 pub mod SlotSteps
-pub mod SlotAsking
+pub mod SlotReleases
 pub mod SlotRings
 pub mod SlotFates

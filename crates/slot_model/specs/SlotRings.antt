@@ -6,7 +6,7 @@ use Rattle.ring_model.specs.Rings.{Ring}
 use Rattle.ring_model.specs.declared.notes.Offer.{Offer}
 use Rattle.ring_model.specs.declared.notes.Note.{Note}
 use Rattle.slot_model.specs.SlotSteps.{SlotState, slot_state_of}
-use Rattle.slot_model.specs.SlotAsking.{slot_put_note, slot_try_note}
+use Rattle.slot_model.specs.SlotReleases.{slot_put_note, slot_try_note}
 
 -- the room of a block that would keep as much of a packet as a slot of this many bytes: a packet's
 -- data follow 66 bytes in a slot and 82 in a block

@@ -8,7 +8,7 @@ use Rattle.std.proofs.lemmas.Bool.{cases_lt}
 use Rattle.capture_file.specs.Capture.{cut_of, damage_of, end_of, lacks_header, stop_of}
 use Rattle.capture_file.specs.declared.error.CaptureError.{CaptureError}
 use Rattle.capture_file.specs.declared.error.CaptureError.TheVariants.{Truncated}
-use Rattle.capture_file.proofs.Feeding.{stays}
+use Rattle.capture_file.proofs.LastingDamage.{stays}
 use Rattle.capture_file.specs.declared.cpu_end.CpuEnd.{CpuEnd}
 use Rattle.capture_file.specs.declared.cpu_end.CpuEnd.TheVariants.{Whole, Fault, Damaged}
 use Rattle.fanout_group.specs.declared.runs.CpuLog.{CpuLog}
@@ -26,7 +26,7 @@ use Rattle.tap_outside.specs.Counts.{RoseBy}
 use Rattle.tap_outside.specs.Seen.{SinkSeen, StoreSeen}
 use Rattle.tap_reading.specs.Readers.{Says, setup_for}
 use Rattle.capture_reading.specs.Sources.{UnlessFault, WhereEnded, end_by}
-use Rattle.tap_saving.specs.Saving.{marked}
+use Rattle.tap_saving.specs.Saves.{marked}
 use Rattle.tap_engine.specs.Commands.{Named, has_schedule, rings_of}
 use Rattle.tap_engine.specs.Complete.{AreSoundLast, AreSoundTicks, AreWhole, IsComplete, IsSound}
 use Rattle.tap_engine.specs.Complete.{IsSoundFilter, IsSoundSchedule, NothingFails, text_in}
@@ -44,7 +44,7 @@ use Rattle.tap_engine.specs.declared.findings.Finding.TheVariants as finding
 use Rattle.tap_engine.specs.declared.outcomes.Outcome.{Outcome}
 use Rattle.tap_engine.specs.declared.outcomes.Status.{Status}
 use Rattle.tap_engine.specs.declared.outcomes.Status.TheVariants as statuses
-use Rattle.tap_engine.specs.declared.sending.Sending.{Sending}
+use Rattle.tap_engine.specs.declared.sent_captures.Sending.{Sending}
 use Rattle.tap_engine.proofs.Ends.{AreEnds, report_ends}
 use Rattle.tap_engine.proofs.Fetched.{held_same, rose_less, saves_same}
 use Rattle.tap_engine.proofs.Found.{unread_rose}

@@ -15,7 +15,7 @@ use Rattle.setup_text.specs.declared.reports.MemberReport.{MemberReport}
 use Rattle.setup_text.specs.declared.reports.RunReport.{RunReport}
 use Rattle.setup_text.specs.declared.setups.Setup.{Setup}
 use Rattle.tap_forward.specs.Bridges.{sent_for}
-use Rattle.tap_forward.specs.Forwarding.{as_sent, is_sendable, sent_of}
+use Rattle.tap_forward.specs.Forwards.{as_sent, is_sendable, sent_of}
 use Rattle.tap_saving.specs.Files.{CanBeOutput}
 use Rattle.tp_layout.specs.Requests.{frames_in, receive_fault}
 use Rattle.tp_layout.specs.declared.error.RequestError.TheVariants.{BlockCount, BlockSize, FrameAlign}

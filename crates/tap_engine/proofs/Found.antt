@@ -3,7 +3,7 @@ use Rattle.std.proofs.Common.{◌≡◌, ℕ, Bool, false, true, List, length, i
 use Rattle.std.proofs.Common.{refl, sym, ap, ◌∙◌, Option, None, Some, subst}
 use Rattle.std.specs.Prelude.{◌⊎◌, is_some, IfOk, IfErr, OnErr, Result, Ok, Err}
 use Rattle.capture_file.specs.declared.cpu_end.CpuEnd.{CpuEnd}
-use Rattle.frame_view.specs.declared.want.Memory.{Memory}
+use Rattle.frame_view.specs.declared.memory.Memory.{Memory}
 use Rattle.setup_text.specs.Answers.{is_text_want}
 use Rattle.setup_text.specs.Filters.{filter_of}
 use Rattle.setup_text.specs.Moments.{moments_of}

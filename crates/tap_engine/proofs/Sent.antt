@@ -16,8 +16,8 @@ use Rattle.setup_text.specs.declared.cpu_setups.CpuSetup.{CpuSetup}
 use Rattle.setup_text.specs.declared.setups.Setup.{Setup}
 use Rattle.tap_outside.specs.Contents.{Contents}
 use Rattle.tap_outside.specs.Seen.{SourceSeen, StoreSeen}
-use Rattle.tx_ring.specs.Transmitting.{before_long, is_fitting, is_long, plain_packets, reached}
-use Rattle.tx_ring.specs.Transmitting.{transmitted_of}
+use Rattle.tx_ring.specs.Transmission.{before_long, is_fitting, is_long, plain_packets, reached}
+use Rattle.tx_ring.specs.Transmission.{transmitted_of}
 use Rattle.tap_engine.specs.Faults.{IsCounted}
 use Rattle.tap_engine.specs.Findings.{fault_at}
 use Rattle.tap_engine.specs.Headline.{IsCapture}

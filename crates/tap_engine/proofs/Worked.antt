@@ -26,7 +26,7 @@ use Rattle.tap_engine.specs.Jobs.{IsLoaded, IsRead, LinesFor, lines_for}
 use Rattle.tap_engine.specs.Names.{first_file, read_last, ticks_for}
 use Rattle.tap_engine.specs.Sendings.{IsSending}
 use Rattle.tap_engine.specs.declared.findings.Finding.TheVariants as finding
-use Rattle.tap_engine.specs.declared.sending.Sending.{Sending}
+use Rattle.tap_engine.specs.declared.sent_captures.Sending.{Sending}
 use Rattle.tap_engine.proofs.Counted.{counts_later}
 use Rattle.tap_engine.proofs.Fetched.{held_same, unfailed_then}
 use Rattle.tap_engine.proofs.Given.{read_then}

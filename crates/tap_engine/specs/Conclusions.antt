@@ -2,11 +2,11 @@
 use Rattle.std.specs.Prelude.{◌≡◌, ◌⊎◌, ◌<◌, ℕ, Bool, true, false, List, Option, None, Some, codes}
 use Rattle.std.specs.Prelude.{IfOk, OnErr, Result}
 use Rattle.std.specs.Io.KnownBytes.{Appends}
-use Rattle.frame_view.specs.declared.want.Memory.{Memory}
+use Rattle.frame_view.specs.declared.memory.Memory.{Memory}
 use Rattle.tap_outside.specs.Counts.{Rose, RoseBy}
 use Rattle.tap_outside.specs.Seen.{NoReadFailed, OnlyReads, SinkSeen, StoreSeen}
 use Rattle.tap_outside.specs.Sinks.{AppendsFront}
-use Rattle.tap_saving.specs.Saving.{HoldAll, HoldUnless, NoSaveFailed, SavedSome, Touches, marked}
+use Rattle.tap_saving.specs.Saves.{HoldAll, HoldUnless, NoSaveFailed, SavedSome, Touches, marked}
 use Rattle.tap_engine.specs.Commands.{Named}
 use Rattle.tap_engine.specs.Findings.{IsFound, files_of, lines_of, names_of, report_in, status_of}
 use Rattle.tap_engine.specs.Jobs.{IsAsked}

@@ -2,7 +2,7 @@
 use Rattle.std.specs.Prelude.{◌≡◌, ◌≢◌, ℕ, IsTrue}
 use Rattle.tap_outside.specs.Counts.{RoseBy}
 use Rattle.tap_outside.specs.Seen.{NoReadFailed, SinkSeen, StoreSeen}
-use Rattle.tap_saving.specs.Saving.{NoSaveFailed}
+use Rattle.tap_saving.specs.Saves.{NoSaveFailed}
 use Rattle.tap_engine.specs.declared.outcomes.Status.{Status}
 use Rattle.tap_engine.specs.declared.outcomes.Status.TheVariants.{Memory, ReadFault, WriteFault}
 

@@ -6,7 +6,7 @@ use Rattle.std.specs.Prelude.{All, Option, None, Some, is_some, IfSome, ⊤, Res
 use Rattle.capture_file.specs.declared.cpu_end.CpuEnd.{CpuEnd}
 use Rattle.capture_file.specs.declared.cpu_end.CpuEnd.TheVariants.{Whole, Fault, Damaged}
 use Rattle.fanout_group.specs.declared.runs.CpuLog.{CpuLog}
-use Rattle.frame_view.specs.declared.want.Memory.{Memory}
+use Rattle.frame_view.specs.declared.memory.Memory.{Memory}
 use Rattle.setup_text.specs.declared.reports.Forwards.{Forwards}
 use Rattle.setup_text.specs.declared.reports.MemberReport.{MemberReport}
 use Rattle.setup_text.specs.declared.reports.RunReport.{RunReport}

@@ -7,13 +7,13 @@ use Rattle.setup_text.specs.declared.jobs.Job.{Job}
 use Rattle.setup_text.specs.declared.setups.Setup.{Setup}
 use Rattle.tap_outside.specs.Seen.{StoreSeen}
 use Rattle.tx_ring.specs.Rings.{room_of}
-use Rattle.tx_ring.specs.Transmitting.{transmitted_of}
+use Rattle.tx_ring.specs.Transmission.{transmitted_of}
 use Rattle.tap_engine.specs.Commands.{Named}
 use Rattle.tap_engine.specs.Given.{ReadTexts, all_texts}
 use Rattle.tap_engine.specs.Headline.{IsCapture}
 use Rattle.tap_engine.specs.Jobs.{HasJob}
 use Rattle.tap_engine.specs.Names.{first_file}
-use Rattle.tap_engine.specs.declared.sending.Sending.{Sending}
+use Rattle.tap_engine.specs.declared.sent_captures.Sending.{Sending}
 
 -- the capture of CPU 0 was read: it gave these bytes and ended so, its frames are those of the
 -- bytes, and they are all that its source gave, none where it couldn't be fetched

@@ -13,9 +13,9 @@ ghost use Rattle.tap_engine.specs.Headline.{IsWorth};
 ghost use Rattle.tap_engine.specs.InnerErrors.{HoldsNoMemory};
 ghost use Rattle.tap_engine.specs.Names.{AreMeantToRead, AreMeantToSave};
 
-use crate::concluding::conclude;
+use crate::command_runs::{find, find_plain};
+use crate::conclusion::conclude;
 use crate::findings::Finding;
-use crate::running::{find, find_plain};
 use crate::{Outcome, Status};
 use cpu_feeders::Gate;
 use frame_view::Memory;

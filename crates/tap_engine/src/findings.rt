@@ -4,7 +4,7 @@ ghost use Rattle.tap_engine.specs.Findings.{IsReady, lines_of, report_in, status
 ghost use Rattle.tap_engine.specs.Findings.{status_of_logs};
 
 use crate::Status;
-use crate::sending::Sending;
+use crate::sent_captures::Sending;
 use capture_file::CpuEnd;
 use fanout_group::CpuLog;
 use frame_view::{ByteList, Memory};

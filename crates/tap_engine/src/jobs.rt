@@ -1,7 +1,7 @@
 //! What a command needs: its texts, read and accepted.
 ghost use Rattle.std.specs.Prelude.{◌≡◌, ◌≤◌, None, Ok, IfErr, IfOk, IfSome, IsTrue, OnOk, length};
 ghost use Rattle.std.specs.Prelude.{option_map};
-ghost use Rattle.schedule_lines.specs.Ascending.{IsSchedule};
+ghost use Rattle.schedule_lines.specs.TickOrder.{IsSchedule};
 ghost use Rattle.setup_text.specs.Setups.{request_fault};
 ghost use Rattle.setup_text.specs.Sound.{AreMoments, IsSetup};
 ghost use Rattle.setup_text.specs.declared.jobs.Job.{Job};

@@ -2,17 +2,17 @@
 #![tactic(auto)]
 
 mod calls;
-mod capturing;
+mod command_runs;
 mod commands;
-mod concluding;
+mod conclusion;
 mod findings;
 mod jobs;
 mod laws;
-mod making;
 mod outcomes;
-mod running;
-mod sending;
+mod replay_runs;
+mod sent_captures;
 mod sources;
+mod threaded_runs;
 
 pub use calls::{run, run_plain};
 pub use laws::{

@@ -13,12 +13,12 @@ use Rattle.tp_layout.specs.Layouts.{Taken}
 use Rattle.ring_model.specs.declared.notes.Note.{Note}
 use Rattle.ring_words.specs.Pendings.{Pends}
 use Rattle.tp_layout.specs.Requests.{numbers_of}
-use Rattle.tp_layout.specs.Writing.{ShapedBytes}
+use Rattle.tp_layout.specs.BlockWrites.{ShapedBytes}
 use Rattle.tp_layout.specs.declared.requests.RingRequest.{RingRequest}
 use Rattle.tx_ring.specs.Rings.{room_of}
 use Rattle.tap_forward.specs.Bridges.{sent_for, skipped_for, tx_request}
 use Rattle.tap_forward.specs.Forwarders.{ForwarderValue, base_of, forwarded_of, new_forwarder}
-use Rattle.tap_forward.specs.Forwarding.{sent_of, skipped_of}
+use Rattle.tap_forward.specs.Forwards.{sent_of, skipped_of}
 
 -- the blocks that a forwarder has read
 abbrev pub taken_in_forwarder : ForwarderValue → List Taken

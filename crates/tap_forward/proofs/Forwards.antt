@@ -8,16 +8,16 @@ use Rattle.frame_view.specs.declared.frames.Packet.{Packet}
 use Rattle.reader_walk.specs.Readers.{ReaderValue, dump_by, has_read, new_reader, outputs_of, walked_of}
 use Rattle.reader_walk.specs.Takers.{IsReadable}
 use Rattle.tp_layout.specs.Layouts.{Taken, taken_in}
-use Rattle.tp_layout.specs.Writing.{ShapedBytes}
+use Rattle.tp_layout.specs.BlockWrites.{ShapedBytes}
 use Rattle.reader_walk.specs.declared.outputs.Outputs.{Outputs}
 use Rattle.tp_layout.specs.declared.requests.RingRequest.{RingRequest}
 use Rattle.tx_ring.specs.Rings.{room_of}
-use Rattle.tx_ring.specs.Sending.{packets_of}
+use Rattle.tx_ring.specs.Sends.{packets_of}
 use Rattle.tx_ring.specs.Slots.{Request}
 use Rattle.tap_forward.specs.Forwarders.{ForwarderValue, forwarded_of}
-use Rattle.tap_forward.specs.Forwarding.{sent_of, skipped_of}
+use Rattle.tap_forward.specs.Forwards.{sent_of, skipped_of}
 use Rattle.tap_forward.specs.ForwardersInside.{IsSound, forwarder_value}
-use Rattle.tap_forward.specs.Sending.{IsGoing, WasGiven}
+use Rattle.tap_forward.specs.Senders.{IsGoing, WasGiven}
 use Rattle.tap_forward.specs.declared.forwarder.Forwarder.TheInside.{Inside}
 use Rattle.tap_forward.specs.declared.sender.Sender.{Sender}
 use Rattle.tap_forward.proofs.Givings.{few_skipped}

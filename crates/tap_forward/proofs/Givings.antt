@@ -11,11 +11,11 @@ use Rattle.frame_view.specs.PlainPacket.{plain_of}
 use Rattle.frame_view.specs.Vlan.{frame_of}
 use Rattle.frame_view.specs.declared.frames.Packet.{Packet}
 use Rattle.tx_ring.specs.Rings.{TxState, room_of, whole_request, with_request}
-use Rattle.tx_ring.specs.Sending.{is_good, packet_of, packets_of}
+use Rattle.tx_ring.specs.Sends.{is_good, packet_of, packets_of}
 use Rattle.tx_ring.specs.Slots.{Request}
 use Rattle.tx_ring.proofs.Takings.{packets_good}
-use Rattle.tap_forward.specs.Forwarding.{as_sent, is_sendable, sent_of, skipped_of}
-use Rattle.tap_forward.specs.Sending.{IsGoing, WasGiven}
+use Rattle.tap_forward.specs.Forwards.{as_sent, is_sendable, sent_of, skipped_of}
+use Rattle.tap_forward.specs.Senders.{IsGoing, WasGiven}
 use Rattle.tap_forward.specs.declared.sender.Sender.{Sender}
 
 -- ---- one more packet

@@ -6,13 +6,14 @@ use Rattle.std.proofs.lemmas.List.{take-append-drop}
 use Rattle.std.proofs.Math.Seq.{drop-length}
 use Rattle.frame_view.specs.declared.frames.Packet.{Packet}
 use Rattle.tx_ring.specs.Rings.{TxState, room_of}
-use Rattle.tx_ring.specs.Sending.{IsBrokenOff, UnlessMemory, after_send, after_taking, answer_with, counts_of, good_front, is_good, packets_of, packets_sent, send_answer, stop_at_front, taken_by}
+use Rattle.tx_ring.specs.Sends.{IsBrokenOff, UnlessMemory, after_send, after_taking, answer_with, counts_of, good_front}
+use Rattle.tx_ring.specs.Sends.{is_good, packets_of, packets_sent, send_answer, stop_at_front, taken_by}
 use Rattle.tx_ring.specs.Slots.{Request}
 use Rattle.tx_ring.specs.declared.error.SendError.{SendError}
 use Rattle.tx_ring.specs.declared.error.SendError.TheVariants.{BadSlot, Memory}
 use Rattle.tx_ring.proofs.Splits.{packets_append}
 use Rattle.tx_ring.proofs.Takings.{AllGood, good_all}
-use Rattle.tap_forward.specs.Sending.{IsGoing, WasGiven}
+use Rattle.tap_forward.specs.Senders.{IsGoing, WasGiven}
 use Rattle.tap_forward.specs.declared.sender.Sender.{Sender}
 
 all_good : (room : ℕ) (requests : List Request) → AllByRecursion (λ request. is_good room request ≡ true) requests → AllGood room requests

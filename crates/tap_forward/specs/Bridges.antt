@@ -3,7 +3,7 @@ use Rattle.std.specs.Prelude.{ℕ, List}
 use Rattle.frame_view.specs.declared.frames.Packet.{Packet}
 use Rattle.setup_text.specs.declared.reports.MemberReport.{MemberReport}
 use Rattle.tp_layout.specs.declared.requests.RingRequest.{RingRequest}
-use Rattle.tap_forward.specs.Forwarding.{sent_of, skipped_of}
+use Rattle.tap_forward.specs.Forwards.{sent_of, skipped_of}
 
 -- the request of a transmit ring beside a receive ring: it has no time-out, no private area and no
 -- feature

@@ -6,7 +6,7 @@ use Rattle.tp_layout.specs.Layouts.{Taken, taken_in}
 use Rattle.tp_layout.specs.Requests.{numbers_of}
 use Rattle.tp_layout.specs.declared.requests.RingRequest.{RingRequest}
 use Rattle.tx_ring.specs.Rings.{room_of}
-use Rattle.tap_forward.specs.Forwarding.{sent_of, skipped_of}
+use Rattle.tap_forward.specs.Forwards.{sent_of, skipped_of}
 use Rattle.tap_forward.specs.declared.forwarder.Forwarded.{Forwarded}
 
 pub record ForwarderValue : Type 0 where

@@ -2,7 +2,7 @@
 use Rattle.std.specs.Prelude.{◌≡◌, ◌*◌, ◌^◌, ◌≤◌, length, take, None}
 use Rattle.reader_walk.specs.Readers.{walked_of}
 use Rattle.tap_forward.specs.Forwarders.{ForwarderValue}
-use Rattle.tap_forward.specs.Sending.{IsGoing, WasGiven}
+use Rattle.tap_forward.specs.Senders.{IsGoing, WasGiven}
 use Rattle.tap_forward.specs.declared.forwarder.Forwarder.TheInside.{Inside}
 
 abbrev pub forwarder_value : Inside → ForwarderValue

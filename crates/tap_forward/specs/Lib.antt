@@ -1,5 +1,5 @@
-pub mod Forwarding
-pub mod Sending
+pub mod Forwards
+pub mod Senders
 pub mod Forwarders
 pub mod ForwardersInside
 pub mod Bridges

@@ -29,7 +29,7 @@ pub(crate) struct Sender {
 }
 
 impl Sender {
-    ghost use Rattle.tap_forward.specs.Sending.{IsGoing, WasGiven};
+    ghost use Rattle.tap_forward.specs.Senders.{IsGoing, WasGiven};
 
     /// A sender that was given nothing, through a ring of this shape.
     pub(crate) fn new(alloc: Global, shape: Shape) -> Result<Sender, Memory>

@@ -7,7 +7,7 @@ use Rattle.capture_file.specs.declared.error.CaptureError.TheVariants.{BadMagic,
 use Rattle.capture_file.specs.declared.error.CaptureError.TheVariants.{BadLink, BadLength}
 use Rattle.capture_file.specs.declared.error.CaptureError.TheVariants.{Truncated, TooLarge, Memory}
 use Rattle.capture_file.specs.declared.error.CaptureError.TheVariants.{BadInterface}
-use Rattle.tx_ring.specs.declared.transmitting.Transmitted.{Transmitted}
+use Rattle.tx_ring.specs.declared.transmission.Transmitted.{Transmitted}
 use Rattle.ring_model.specs.Ring.{Size}
 use Rattle.ring_model.specs.declared.notes.Stats.{Stats}
 use Rattle.capture_file.specs.declared.cpu_end.CpuEnd.{CpuEnd}

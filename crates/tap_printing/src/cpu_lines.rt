@@ -3,7 +3,7 @@ ghost use Rattle.std.specs.Prelude.{◌≡◌, ◌++◌, IfOk, OnOk, string_byte
 ghost use Rattle.tap_printing.specs.Lines.{arrivals_in, cpu_line, cpu_lines, damage_text, end_text};
 ghost use Rattle.tap_printing.specs.Lines.{filtered_in};
 
-use crate::pushing::push_line;
+use crate::lines::push_line;
 use capture_file::{CaptureError, CpuEnd};
 use fanout_group::CpuLog;
 use frame_view::Memory;

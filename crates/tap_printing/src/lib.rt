@@ -3,8 +3,8 @@
 #![tactic(auto)]
 
 mod cpu_lines;
+mod lines;
 mod member_lines;
-mod pushing;
 mod refusals;
 mod ring_kind;
 mod sent_lines;

@@ -7,7 +7,7 @@ ghost use Rattle.tap_printing.specs.Lines.{kept_in, lines_at, member_line, membe
 ghost use Rattle.tap_printing.specs.Lines.{member_text, stats_text};
 ghost use Rattle.tap_printing.specs.Statistics.{seen_by, totals_by};
 
-use crate::pushing::push_line;
+use crate::lines::push_line;
 use crate::ring_kind::RingKind;
 use frame_view::Memory;
 use ring_model::{Stats, Tally, tally_notes};

@@ -4,8 +4,8 @@ ghost use Rattle.ring_model.specs.Ring.{AtEachSize};
 ghost use Rattle.tap_printing.specs.Lines.{summary_of, total_line};
 
 use crate::cpu_lines::{arrivals_in, filtered_in, push_cpus};
+use crate::lines::push_line;
 use crate::member_lines::{Passed, push_members};
-use crate::pushing::push_line;
 use crate::ring_kind::RingKind;
 use frame_view::{ByteList, Memory};
 use setup_text::{Forwards, RunReport};

@@ -2,11 +2,11 @@
 #![tactic(auto)]
 
 mod laws;
-mod loading;
+mod loads;
 mod stops;
 mod texts;
 
 pub use laws::{the_first_fault_of_a_schedule_answers, the_first_fault_of_ticks_answers};
-pub use loading::{load_filter, load_schedule, load_setup, load_ticks};
+pub use loads::{load_filter, load_schedule, load_setup, load_ticks};
 pub use stops::Stop;
 pub use texts::{Unread, read_text};

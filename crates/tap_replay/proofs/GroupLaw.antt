@@ -14,7 +14,7 @@ use Rattle.run_reports.specs.Logs.{AreLogsFrom}
 use Rattle.run_reports.specs.Members.{IsMember}
 use Rattle.run_reports.specs.Reports.{IsReport}
 use Rattle.run_reports.proofs.ArrivalOrder.{AreNumbered, arrive}
-use Rattle.schedule_lines.specs.Ascending.{IsSchedule}
+use Rattle.schedule_lines.specs.TickOrder.{IsSchedule}
 use Rattle.schedule_lines.specs.declared.lines.Line.{Line}
 use Rattle.setup_text.specs.Runnable.{IsRunnable}
 use Rattle.setup_text.specs.declared.jobs.Job.{Job}

@@ -1,4 +1,4 @@
-pub mod Planning
-pub mod Naming
+pub mod Plans
+pub mod FileNames
 pub mod Stores
-pub mod Missing
+pub mod MissedFiles

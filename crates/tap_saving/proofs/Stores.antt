@@ -3,7 +3,7 @@ use Rattle.std.proofs.Common.{◌≡◌, ℕ, List, ◌∷◌, refl, ap, ◌∙�
 use Rattle.std.specs.Prelude.{Option, None, Some}
 use Rattle.tap_outside.specs.Contents.{Contents, KeepsOthers}
 use Rattle.tap_outside.specs.Seen.{OnlySaves, StoreSeen}
-use Rattle.tap_saving.specs.Saving.{IsApart, KeepsAllBut, Touches}
+use Rattle.tap_saving.specs.Saves.{IsApart, KeepsAllBut, Touches}
 
 -- ---- what names hold
 

@@ -1,3 +1,3 @@
 pub mod Files
-pub mod Saving
+pub mod Saves
 pub mod inside

@@ -3,7 +3,7 @@ ghost use Rattle.std.specs.Prelude.{◌≡◌, ◌≤◌, ◌++◌, length, All,
 ghost use Rattle.std.specs.Prelude.{is_some, option_copied};
 ghost use Rattle.std.specs.List.{AllByRecursion};
 ghost use Rattle.tap_saving.specs.Files.{CanBeOutput, files_at, files_from, names_from, sent_by};
-ghost use Rattle.tap_saving.specs.Saving.{Saved, SavedSome, Touches};
+ghost use Rattle.tap_saving.specs.Saves.{Saved, SavedSome, Touches};
 
 use crate::names::file_name;
 use crate::planned_file::PlannedFile;

@@ -1,7 +1,7 @@
 //! Planned files, saved one after another.
 ghost use Rattle.std.specs.Prelude.{IfOk, IsTrue, OnErr};
 ghost use Rattle.std.specs.List.{AllByRecursion};
-ghost use Rattle.tap_saving.specs.Saving.{Saved, SavedSome, Touches};
+ghost use Rattle.tap_saving.specs.Saves.{Saved, SavedSome, Touches};
 ghost use Rattle.tap_saving.specs.inside.Plans.{HaveOwnNames, names_of};
 
 use crate::planned_file::PlannedFile;

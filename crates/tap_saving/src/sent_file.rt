@@ -1,7 +1,7 @@
 //! The file of what was sent.
 ghost use Rattle.std.specs.Prelude.{◌≡◌, [], ◌∷◌, IfOk, IsTrue, OnErr};
 ghost use Rattle.tap_saving.specs.Files.{CanBeOutput, sent_file, sent_name};
-ghost use Rattle.tap_saving.specs.Saving.{Saved, Touches};
+ghost use Rattle.tap_saving.specs.Saves.{Saved, Touches};
 
 use crate::names::sent_name;
 use crate::planned_file::PlannedFile;

@@ -6,7 +6,7 @@ pub mod Opens
 pub mod Tables
 pub mod PacketTexts
 pub mod BlockTexts
-pub mod Answering
-pub mod Filling
-pub mod Telling
+pub mod ReaderAnswers
+pub mod FilledBlocks
+pub mod LawfulReads
 pub mod OneShape

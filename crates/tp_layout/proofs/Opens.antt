@@ -7,12 +7,13 @@ use Rattle.std.proofs.lemmas.List.Sums.{sum_by-cons}
 use Rattle.byteorder.specs.Endian.{little_bytes}
 use Rattle.frame_view.specs.declared.frames.Packet.{Packet}
 use Rattle.tp_layout.specs.declared.requests.RingRequest.{RingRequest}
-use Rattle.tp_layout.specs.declared.writing.Closing.{Closing}
+use Rattle.tp_layout.specs.declared.block_writes.Closing.{Closing}
 use Rattle.tp_layout.specs.Requests.{first_of}
 use Rattle.tp_layout.specs.Rows.{bytes_of}
 use Rattle.tp_layout.specs.Packets.{packet_text, need_of_packet, IsLawfulPacket, packet_rows}
 use Rattle.tp_layout.specs.Blocks.{Descriptor, BeginsWith, head_rows, time_rows, private_rows, end_may, is_status, descriptor_of, descriptor_text, packets_text, block_text, needs_of}
-use Rattle.tp_layout.specs.Writing.{IsOpen, put, empty_descriptor, open_header, open_packets, open_text, end_of, last_place, closing_of, closing_times, closed}
+use Rattle.tp_layout.specs.BlockWrites.{IsOpen, put, empty_descriptor, open_header, open_packets, open_text, end_of, last_place}
+use Rattle.tp_layout.specs.BlockWrites.{closing_of, closing_times, closed}
 use Rattle.tp_layout.proofs.Puts.{length-put, length-bytes_of, bytes_of-zeros, length-packet_text}
 
 -- ---- lengths

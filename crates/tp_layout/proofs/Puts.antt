@@ -7,7 +7,7 @@ use Rattle.frame_view.specs.declared.frames.Packet.{Packet}
 use Rattle.ring_model.specs.Sizes.{need_of}
 use Rattle.tp_layout.specs.Rows.{Row, zeros, bytes_of, size_of_rows}
 use Rattle.tp_layout.specs.Packets.{header_rows, address_rows, packet_rows, padding_rows, packet_text, need_of_packet}
-use Rattle.tp_layout.specs.Writing.{put}
+use Rattle.tp_layout.specs.BlockWrites.{put}
 
 pub length-put : (at : ℕ) (text bytes : List ℕ) → at + length text ≤ length bytes → length (put at text bytes) ≡ length bytes
 length-put at text bytes fits =

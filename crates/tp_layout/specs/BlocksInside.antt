@@ -4,7 +4,7 @@ use Rattle.std.specs.Prelude.{◌≡◌, ◌≤◌, [], length, replicate}
 use Rattle.std.specs.Arc.{arc_value}
 use Rattle.std.specs.Vec.{vec_capacity}
 use Rattle.tp_layout.specs.Requests.{IsShape}
-use Rattle.tp_layout.specs.Writing.{ShapedBytes, bytes_or_zeros}
+use Rattle.tp_layout.specs.BlockWrites.{ShapedBytes, bytes_or_zeros}
 use Rattle.tp_layout.specs.declared.ring_blocks.Block.TheInside.{Inside}
 
 -- the shape and the bytes

@@ -4,8 +4,8 @@ use Rattle.std.specs.Prelude.{not, length, if◌then◌else◌, List, Option, No
 use Rattle.std.specs.Option.{option_or}
 use Rattle.tp_layout.specs.declared.requests.RingRequest.{RingRequest}
 use Rattle.tp_layout.specs.declared.error.LayoutError.{LayoutError}
-use Rattle.tp_layout.specs.declared.checking.Ends.{Ends}
-use Rattle.tp_layout.specs.declared.checking.Ends.TheVariants.{UpTo, At}
+use Rattle.tp_layout.specs.declared.checks.Ends.{Ends}
+use Rattle.tp_layout.specs.declared.checks.Ends.TheVariants.{UpTo, At}
 use Rattle.tp_layout.specs.declared.error.LayoutKind.{LayoutKind}
 use Rattle.tp_layout.specs.declared.error.LayoutKind.TheVariants.{Version, Length, Offset, Count}
 use Rattle.tp_layout.specs.declared.error.LayoutKind.TheVariants.{Snap, Field}
@@ -14,7 +14,7 @@ use Rattle.tp_layout.specs.Rows.{number_at, first_fault, zeros}
 use Rattle.tp_layout.specs.Packets.{padding_rows, status_of_tag, tag_at, tci_of, tpid_may, tpid_of}
 use Rattle.tp_layout.specs.Blocks.{end_may, is_status, last_time, private_rows}
 use Rattle.tp_layout.specs.Faults.{snap_may, next_of, packets_fault_by, packets_in, area_of}
-pub use Rattle.tp_layout.specs.Reading.{told, seen}
+pub use Rattle.tp_layout.specs.Readers.{told, seen}
 
 -- where the packets of a block of this shape may end
 abbrev pub fits_of : Ends → RingRequest → ℕ → Bool

@@ -9,7 +9,7 @@ use Rattle.tp_layout.specs.declared.requests.RingRequest.{RingRequest}
 use Rattle.tp_layout.specs.Requests.{IsShape, fills_hash, first_of}
 use Rattle.tp_layout.specs.Packets.{packet_text, IsTyped}
 use Rattle.tp_layout.specs.Blocks.{IsLawful, block_text, is_status, needs_of}
-use Rattle.tp_layout.specs.Writing.{IsWritable, put, open_header, closed, closing_of}
+use Rattle.tp_layout.specs.BlockWrites.{IsWritable, put, open_header, closed, closing_of}
 use Rattle.tp_layout.specs.Dump.{packets_of_offers}
 
 -- what a block of this shape says: its number, its status, its packets

@@ -6,8 +6,8 @@ pub mod Packets
 pub mod Blocks
 pub mod BlocksInside
 pub mod Faults
-pub mod Writing
-pub mod Reading
+pub mod BlockWrites
+pub mod Readers
 pub mod Checks
 pub mod Dump
 pub mod Laws

@@ -2,7 +2,7 @@
 ghost use Rattle.std.specs.Prelude.{◌≡◌, ◌+◌, ◌^◌, ◌<◌, ◌≤◌, ℕ, length, replicate, slice_index};
 ghost use Rattle.byteorder.specs.Endian.{big_bytes, little_bytes};
 ghost use Rattle.tp_layout.specs.Rows.{network_at, number_at};
-ghost use Rattle.tp_layout.specs.Writing.{put};
+ghost use Rattle.tp_layout.specs.BlockWrites.{put};
 
 use byteorder::{BigEndian, ByteOrder, LittleEndian};
 

@@ -2,7 +2,7 @@
 ghost use Rattle.std.specs.Prelude.{◌≡◌, ◌≤◌, ℕ, [], length, replicate, IfOk};
 ghost use Rattle.std.specs.Arc.{arc_value};
 ghost use Rattle.std.specs.Vec.{vec_capacity};
-ghost use Rattle.tp_layout.specs.Writing.{bytes_or_zeros};
+ghost use Rattle.tp_layout.specs.BlockWrites.{bytes_or_zeros};
 
 use frame_view::Memory;
 use std::alloc::Global;

@@ -6,7 +6,7 @@ ghost use Rattle.frame_view.specs.declared.frames.Packet.{Packet};
 ghost use Rattle.tp_layout.specs.Checks.{address_tests, told};
 ghost use Rattle.tp_layout.specs.Packets.{address_rows};
 ghost use Rattle.tp_layout.specs.Rows.{bytes_of, network_at, number_at};
-ghost use Rattle.tp_layout.specs.Writing.{put};
+ghost use Rattle.tp_layout.specs.BlockWrites.{put};
 
 use crate::fields::{
     network_u16_at, put_bytes, put_network_u16, put_u16, put_u32, u8_at, u16_at, u32_at,

@@ -1,6 +1,6 @@
 //! A packet that is read in place.
 ghost use Rattle.std.specs.Prelude.{◌≡◌, ◌+◌, ◌^◌, ◌<◌, ◌≤◌, IfOk, IfSome, length};
-ghost use Rattle.tp_layout.specs.Reading.{seen};
+ghost use Rattle.tp_layout.specs.Readers.{seen};
 ghost use Rattle.tp_layout.specs.Packets.{packet_at, status_of_tag, tag_at, tci_of, tpid_may};
 ghost use Rattle.tp_layout.specs.Packets.{tpid_of};
 ghost use Rattle.tp_layout.specs.Rows.{number_at};

@@ -57,7 +57,7 @@ impl<'a> PacketWalk<'a> {
 
 impl<'a> Iterator for PacketWalk<'a> {
     ghost use Rattle.std.specs.Iterator.{YieldsFirstBy, item_count};
-    ghost use Rattle.tp_layout.specs.Reading.{seen};
+    ghost use Rattle.tp_layout.specs.Readers.{seen};
 
     type Item = PacketRef<'a>;
 

@@ -5,11 +5,11 @@ ghost use Rattle.ring_model.specs.Offers.{packet_of};
 ghost use Rattle.ring_model.specs.Sizes.{need_of};
 ghost use Rattle.tp_layout.specs.Packets.{IsTyped, packet_text};
 ghost use Rattle.tp_layout.specs.Requests.{IsShape, first_of};
-ghost use Rattle.tp_layout.specs.Writing.{IsWritable, closed, open_header, put, zero_block};
+ghost use Rattle.tp_layout.specs.BlockWrites.{IsWritable, closed, open_header, put, zero_block};
 ghost use Rattle.tp_layout.specs.declared.requests.RingRequest.{RingRequest};
 
-use crate::header_writing::{put_closing, put_empty};
-use crate::packet_writing::put_packet;
+use crate::block_headers::{put_closing, put_empty};
+use crate::packet_fields::put_packet;
 use crate::{Closing, LazyBytes, Shape, zeros};
 use frame_view::Memory;
 use ring_model::Offer;
@@ -27,7 +27,7 @@ pub struct Block {
 }
 
 impl Model for Block {
-    ghost use Rattle.tp_layout.specs.Writing.{ShapedBytes};
+    ghost use Rattle.tp_layout.specs.BlockWrites.{ShapedBytes};
 
     ghost Value = { ShapedBytes };
 

@@ -7,9 +7,10 @@ use Rattle.std.proofs.Math.Seq.{take-append_seam}
 use Rattle.frame_view.specs.PlainPacket.{plain_of}
 use Rattle.frame_view.specs.declared.frames.Frame.{Frame}
 use Rattle.tx_ring.specs.Rings.{request_of}
-use Rattle.tx_ring.specs.Sending.{bad_in, good_front, is_good, packet_of, packets_of}
+use Rattle.tx_ring.specs.Sends.{bad_in, good_front, is_good, packet_of, packets_of}
 use Rattle.tx_ring.specs.Slots.{Request}
-use Rattle.tx_ring.specs.Transmitting.{before_long, first_long, is_fitting, is_long, is_runt, long_in, plain_packets, request_for, requests_of}
+use Rattle.tx_ring.specs.Transmission.{before_long, first_long, is_fitting, is_long, is_runt, long_in, plain_packets}
+use Rattle.tx_ring.specs.Transmission.{request_for, requests_of}
 use Rattle.tx_ring.proofs.Splits.{has_bad}
 
 -- a frame is a runt, fits or is longer

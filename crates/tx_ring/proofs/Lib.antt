@@ -8,5 +8,5 @@ pub mod Sends
 pub mod Splits
 pub mod Runs
 pub mod Lengths
-pub mod Feeding
+pub mod FedRuns
 pub mod Stops

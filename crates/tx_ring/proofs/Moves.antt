@@ -5,9 +5,9 @@ use Rattle.std.proofs.lemmas.Bool.{cases_eq, eq-eqb, false_from_ne_true, eqb-tru
 use Rattle.std.proofs.lemmas.List.{get_or-set_same, get_or-set_other, get_or-replicate, length-set, length-replicate}
 use Rattle.std.proofs.Math.Nat.{mod-lt}
 use Rattle.tp_layout.specs.declared.requests.RingRequest.{RingRequest}
-use Rattle.tx_ring.specs.Keeping.{HasStopped, BeginsBad, Keeps, requests_in, state_in}
+use Rattle.tx_ring.specs.KeptSlots.{HasStopped, BeginsBad, Keeps, requests_in, state_in}
 use Rattle.tx_ring.specs.Rings.{TxState, is_among, new_ring, room_of, status_by, status_of, with_request}
-use Rattle.tx_ring.specs.Sending.{after_taking, is_good, front_of}
+use Rattle.tx_ring.specs.Sends.{after_taking, is_good, front_of}
 use Rattle.tx_ring.specs.Slots.{Request, SlotState, empty_slot, slot_at}
 use Rattle.tx_ring.proofs.Turns.{among_more, first_is_past, length-requests_in, next_is_free, other_requests, requests_more, same_requests}
 

@@ -6,14 +6,15 @@ use Rattle.std.proofs.lemmas.List.{append_assoc}
 use Rattle.std.proofs.Math.Seq.{drop-length}
 use Rattle.frame_view.specs.declared.frames.Packet.{Packet}
 use Rattle.tp_layout.specs.declared.requests.RingRequest.{RingRequest}
-use Rattle.tx_ring.specs.Keeping.{BeginsBad}
+use Rattle.tx_ring.specs.KeptSlots.{BeginsBad}
 use Rattle.tx_ring.specs.Rings.{TxState, room_of}
-use Rattle.tx_ring.specs.Sending.{UnlessMemory, after_send, after_taking, answer_with, bad_in, counts_of, good_front, packets_sent, send_answer, stop_at_front, taken_by}
+use Rattle.tx_ring.specs.Sends.{UnlessMemory, after_send, after_taking, answer_with, bad_in, counts_of, good_front}
+use Rattle.tx_ring.specs.Sends.{packets_sent, send_answer, stop_at_front, taken_by}
 use Rattle.tx_ring.specs.Slots.{Request}
-use Rattle.tx_ring.specs.Transmitting.{sent_once}
+use Rattle.tx_ring.specs.Transmission.{sent_once}
 use Rattle.tx_ring.specs.declared.error.SendError.{SendError}
 use Rattle.tx_ring.specs.declared.error.SendError.TheVariants.{BadSlot, Memory}
-use Rattle.tx_ring.specs.declared.transmitting.Transmitter.{Transmitter}
+use Rattle.tx_ring.specs.declared.transmission.Transmitter.{Transmitter}
 use Rattle.tx_ring.proofs.Splits.{after_good, bad_in_good, left_bad, left_in, left_is, over_by, over_split, sent_by, sent_split, stops_by, stops_split}
 
 -- a send that reports a bad slot skipped none

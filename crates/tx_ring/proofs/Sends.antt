@@ -5,9 +5,11 @@ use Rattle.std.proofs.lemmas.List.{length-append, append_assoc, append-nil, nil_
 use Rattle.std.proofs.Math.Seq.{take-append_seam, drop-append_seam}
 use Rattle.frame_view.specs.declared.frames.Packet.{Packet}
 use Rattle.tp_layout.specs.declared.requests.RingRequest.{RingRequest}
-use Rattle.tx_ring.specs.Keeping.{HasStopped}
+use Rattle.tx_ring.specs.KeptSlots.{HasStopped}
 use Rattle.tx_ring.specs.Rings.{TxState, front_slot, room_of, slot_of}
-use Rattle.tx_ring.specs.Sending.{FrontTaken, IsBrokenOff, OnMemory, UnlessMemory, after_send, after_taking, answer_with, bad_in, counted, counts_of, front_of, good_front, is_good, packet_of, packets_of, packets_sent, send_answer, stop_at_front, taken_by}
+use Rattle.tx_ring.specs.Sends.{FrontTaken, IsBrokenOff, OnMemory, UnlessMemory, after_send, after_taking, answer_with, bad_in}
+use Rattle.tx_ring.specs.Sends.{counted, counts_of, front_of, good_front, is_good, packet_of, packets_of, packets_sent}
+use Rattle.tx_ring.specs.Sends.{send_answer, stop_at_front, taken_by}
 use Rattle.tx_ring.specs.Slots.{Request}
 use Rattle.tx_ring.specs.declared.error.SendError.{SendError}
 use Rattle.tx_ring.specs.declared.error.SendError.TheVariants.{BadSlot, Memory}

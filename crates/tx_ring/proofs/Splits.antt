@@ -3,8 +3,8 @@ use Rattle.std.proofs.Common.{◌≡◌, ℕ, ◌+◌, Bool, false, true, ◌⊎
 use Rattle.std.specs.Prelude.{if◌then◌else◌}
 use Rattle.std.proofs.Math.Seq.{drop-length}
 use Rattle.frame_view.specs.declared.frames.Packet.{Packet}
-use Rattle.tx_ring.specs.Keeping.{BeginsBad}
-use Rattle.tx_ring.specs.Sending.{bad_in, good_front, is_good, packet_of, packets_of}
+use Rattle.tx_ring.specs.KeptSlots.{BeginsBad}
+use Rattle.tx_ring.specs.Sends.{bad_in, good_front, is_good, packet_of, packets_of}
 use Rattle.tx_ring.specs.Slots.{Request}
 
 -- what a send takes of requests, and what it leaves

@@ -2,10 +2,11 @@
 use Rattle.std.proofs.Common.{◌≡◌, ℕ, ◌-◌, Bool, false, true, List, [], ◌∷◌, ◌++◌, length, Option, Some, IfSome, Err, refl, sym, ap, subst, ◌∙◌, inl, inr}
 use Rattle.std.specs.Prelude.{if◌then◌else◌, nat_lt}
 use Rattle.std.proofs.lemmas.List.{append-nil}
-use Rattle.tx_ring.specs.Keeping.{BeginsBad, HasStopped}
+use Rattle.tx_ring.specs.KeptSlots.{BeginsBad, HasStopped}
 use Rattle.tx_ring.specs.Laws.{HasStoppedAt}
 use Rattle.tx_ring.specs.Rings.{TxState, front_slot, place_answer, room_of, slot_of}
-use Rattle.tx_ring.specs.Sending.{after_send, after_taking, answer_with, counts_of, good_front, is_good, packets_of, send_answer, stop_at_front, taken_by}
+use Rattle.tx_ring.specs.Sends.{after_send, after_taking, answer_with, counts_of, good_front, is_good, packets_of, send_answer}
+use Rattle.tx_ring.specs.Sends.{stop_at_front, taken_by}
 use Rattle.tx_ring.specs.Slots.{Request}
 use Rattle.tx_ring.specs.declared.error.SendError.TheVariants.{BadSlot}
 use Rattle.tx_ring.specs.declared.error.TxError.TheVariants.{TooLong, Stopped}

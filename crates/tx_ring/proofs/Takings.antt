@@ -2,8 +2,8 @@
 use Rattle.std.proofs.Common.{◌≡◌, ℕ, suc, ◌+◌, ◌<◌, Bool, false, true, List, [], ◌∷◌, ◌++◌, length, drop, Option, None, Some, IfSome, refl, ap, subst, arith}
 use Rattle.std.specs.Prelude.{if◌then◌else◌}
 use Rattle.frame_view.specs.declared.frames.Packet.{Packet}
-use Rattle.tx_ring.specs.Keeping.{BeginsBad}
-use Rattle.tx_ring.specs.Sending.{bad_in, front_of, good_front, is_good, packet_of, packets_of}
+use Rattle.tx_ring.specs.KeptSlots.{BeginsBad}
+use Rattle.tx_ring.specs.Sends.{bad_in, front_of, good_front, is_good, packet_of, packets_of}
 use Rattle.tx_ring.specs.Slots.{Request}
 
 -- requests that are all good

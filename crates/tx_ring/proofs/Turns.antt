@@ -4,7 +4,7 @@ use Rattle.std.specs.Prelude.{◌||◌, ◌==◌}
 use Rattle.std.proofs.lemmas.Bool.{cases_lt, eqb-true, eqb-false, false_from_ne_true}
 use Rattle.std.proofs.lemmas.List.{get_or-set_other}
 use Rattle.std.proofs.Math.Nat.{div-add-mod, mul-le-mul_left}
-use Rattle.tx_ring.specs.Keeping.{requests_in}
+use Rattle.tx_ring.specs.KeptSlots.{requests_in}
 use Rattle.tx_ring.specs.Rings.{is_among}
 use Rattle.tx_ring.specs.Slots.{Request, SlotState, empty_slot, slot_at}
 

@@ -1,7 +1,7 @@
 -- What the laws of this crate say.
 use Rattle.std.specs.Prelude.{◌≡◌, ℕ, nat_lt, if◌then◌else◌, List, [], length, Err}
 use Rattle.tx_ring.specs.Rings.{TxState, place_answer, room_of}
-use Rattle.tx_ring.specs.Sending.{after_send, packets_sent, send_answer}
+use Rattle.tx_ring.specs.Sends.{after_send, packets_sent, send_answer}
 use Rattle.tx_ring.specs.declared.error.SendError.TheVariants.{BadSlot}
 use Rattle.tx_ring.specs.declared.error.TxError.TheVariants.{TooLong, Stopped}
 

@@ -1,8 +1,8 @@
 pub mod Slots
 pub mod SlotsInside
 pub mod Rings
-pub mod Sending
-pub mod Keeping
-pub mod Transmitting
+pub mod Sends
+pub mod KeptSlots
+pub mod Transmission
 pub mod Laws
 pub mod Words

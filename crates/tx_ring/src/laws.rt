@@ -2,7 +2,7 @@
 ghost use Rattle.std.specs.Prelude.{◌≡◌, ◌++◌, ℕ, Err};
 ghost use Rattle.tx_ring.specs.Laws.{HasStoppedAt};
 ghost use Rattle.tx_ring.specs.Rings.{TxState};
-ghost use Rattle.tx_ring.specs.Sending.{after_send, send_answer, taken_by};
+ghost use Rattle.tx_ring.specs.Sends.{after_send, send_answer, taken_by};
 ghost use Rattle.tx_ring.specs.declared.error.SendError.TheVariants as errors;
 
 /// No request is lost: those that a send takes, followed by those that it leaves, are all that

@@ -6,9 +6,9 @@ mod laws;
 mod ring;
 mod slot_fields;
 mod slots;
-mod transmitting;
+mod transmission;
 
 pub use error::{SendError, TxError};
 pub use laws::{a_bad_slot_stops_for_good, no_request_is_lost};
 pub use ring::{Sent, TxRing};
-pub use transmitting::{Transmitted, transmit_frames};
+pub use transmission::{Transmitted, transmit_frames};

@@ -13,7 +13,7 @@ ghost use Rattle.tp_layout.specs.Requests.{transmit_fault};
 ghost use Rattle.tx_ring.specs.Rings.{after_place, new_ring, place_answer, request_of, room_of};
 ghost use Rattle.tx_ring.specs.Rings.{slot_of, status_at, whole_request, with_request};
 
-mod sending;
+mod sends;
 
 use crate::TxError;
 use crate::slot_fields::HEADER;
@@ -53,7 +53,7 @@ pub struct TxRing {
 }
 
 impl Model for TxRing {
-    ghost use Rattle.tx_ring.specs.Keeping.{Keeps, state_in};
+    ghost use Rattle.tx_ring.specs.KeptSlots.{Keeps, state_in};
     ghost use Rattle.tx_ring.specs.Rings.{TxState};
 
     ghost Value = { TxState };

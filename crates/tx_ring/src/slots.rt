@@ -2,7 +2,7 @@
 ghost use Rattle.std.specs.Prelude.{◌≡◌, ◌+◌, ◌-◌, ◌*◌, ◌^◌, ◌<◌, ◌≤◌, ◌++◌, ℕ, IfOk, drop, length};
 ghost use Rattle.std.specs.Prelude.{replicate, set, take};
 ghost use Rattle.std.specs.Vec.{vec_capacity};
-ghost use Rattle.tx_ring.specs.Sending.{frame_of};
+ghost use Rattle.tx_ring.specs.Sends.{frame_of};
 ghost use Rattle.tx_ring.specs.Slots.{IsSlot, IsSound, SlotState, empty_slot, number_at, put_slot};
 ghost use Rattle.tx_ring.specs.Slots.{slot_at, slot_in, slot_text};
 

@@ -1,7 +1,7 @@
 //! The replay of a job over rings of slots.
 ghost use Rattle.std.specs.Prelude.{◌≡◌, ◌^◌, ◌<◌, ℕ, List, length, map, option_map, All, IfOk};
 ghost use Rattle.capture_file.specs.declared.cpu_end.CpuEnd.{CpuEnd};
-ghost use Rattle.schedule_lines.specs.Ascending.{IsSchedule};
+ghost use Rattle.schedule_lines.specs.TickOrder.{IsSchedule};
 ghost use Rattle.schedule_lines.specs.declared.lines.Line.{Line};
 ghost use Rattle.setup_text.specs.Runnable.{IsRunnable};
 ghost use Rattle.setup_text.specs.declared.jobs.Job.{Job};

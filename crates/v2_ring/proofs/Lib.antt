@@ -1,2 +1,2 @@
-mod SlotFilling
-mod SlotAdding
+mod FilledSlots
+mod SlotNotes

@@ -1,4 +1,4 @@
 pub mod SlotContents
 pub mod SlotMachines
-pub mod SlotProducing
-pub mod SlotWalking
+pub mod SlotProducers
+pub mod SlotWalkerSteps

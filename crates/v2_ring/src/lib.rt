@@ -4,7 +4,7 @@
 
 mod machine;
 mod producer;
-mod walking;
+mod walker_end;
 
 pub use producer::SlotProducer;
 use reader_walk::RingReader;

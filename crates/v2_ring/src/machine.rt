@@ -6,7 +6,7 @@
 //! are counted has TP_STATUS_LOSING. There are no blocks, no timer and no freeze.
 ghost use Rattle.std.specs.Prelude.{◌≡◌, ◌+◌, ◌^◌, ◌<◌, ◌≤◌, ℕ, length, OnOk};
 ghost use Rattle.std.specs.Vec.{vec_capacity};
-ghost use Rattle.ring_model.specs.Asking.{put_by, try_by};
+ghost use Rattle.ring_model.specs.KnownReleases.{put_by, try_by};
 ghost use Rattle.ring_model.specs.declared.notes.Found.TheVariants as found;
 ghost use Rattle.ring_model.specs.declared.notes.Note.TheVariants as notes;
 ghost use Rattle.slot_layout.specs.SlotShapes.{IsSlotShape};
@@ -14,7 +14,7 @@ ghost use Rattle.slot_model.specs.SlotFates.{slot_stats_of};
 ghost use Rattle.slot_model.specs.SlotSteps.{SlotMayFollow, SlotState, first_slot_state};
 ghost use Rattle.slot_model.specs.SlotSteps.{slot_after};
 ghost use Rattle.tp_layout.specs.Requests.{numbers_of};
-ghost use Rattle.tp_layout.specs.Writing.{IsWritable};
+ghost use Rattle.tp_layout.specs.BlockWrites.{IsWritable};
 
 use frame_view::Memory;
 use ring_model::{Found, Note, Offer, Stats};
@@ -43,7 +43,7 @@ pub(crate) struct SlotMachine<E> {
 impl<E: FeederEnd<Slot> + Drop> SlotMachine<E> {
     ghost use Rattle.v2_ring.specs.SlotMachines.{IsFreshSlots, IsReserved, IsSlotAt, IsSlotFew};
     ghost use Rattle.v2_ring.specs.SlotMachines.{KeepsSlotEnd};
-    ghost use Rattle.v2_ring.specs.SlotProducing.{SlotLooks};
+    ghost use Rattle.v2_ring.specs.SlotProducers.{SlotLooks};
 
     /// A machine over a fresh end.
     pub(crate) fn new(alloc: Global, shape: Shape, end: E, notes: Vec<Note>) -> SlotMachine<E>

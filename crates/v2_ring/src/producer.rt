@@ -6,7 +6,7 @@ ghost use Rattle.ring_model.specs.declared.notes.Note.TheVariants.{Counted, Fini
 ghost use Rattle.slot_layout.specs.SlotShapes.{IsSlotShape};
 ghost use Rattle.slot_model.specs.SlotFates.{slot_stats_of};
 ghost use Rattle.slot_model.specs.SlotSteps.{IsWholeSlotRun, slot_state_of};
-ghost use Rattle.tp_layout.specs.Writing.{IsWritable};
+ghost use Rattle.tp_layout.specs.BlockWrites.{IsWritable};
 
 use crate::machine::SlotMachine;
 use frame_view::Memory;
@@ -26,7 +26,7 @@ pub struct SlotProducer<E: FeederEnd<Slot> + Drop> {
 
 impl<E: FeederEnd<Slot> + Drop> Model for SlotProducer<E> {
     ghost use Rattle.std.specs.Vec.{vec_capacity};
-    ghost use Rattle.v2_ring.specs.SlotProducing.{SlotKeeps, SlotProducing};
+    ghost use Rattle.v2_ring.specs.SlotProducers.{SlotKeeps, SlotProducing};
 
     ghost Value = { SlotProducing E };
 
@@ -44,7 +44,7 @@ impl<E: FeederEnd<Slot> + Drop> Model for SlotProducer<E> {
 impl<E: FeederEnd<Slot> + Drop> SlotProducer<E> {
     ghost use Rattle.v2_ring.specs.SlotContents.{RepresentsSlots};
     ghost use Rattle.v2_ring.specs.SlotMachines.{IsFreshSlots};
-    ghost use Rattle.v2_ring.specs.SlotProducing.{SlotAdds, SlotPuts, SlotTries, slots_filled};
+    ghost use Rattle.v2_ring.specs.SlotProducers.{SlotAdds, SlotPuts, SlotTries, slots_filled};
 
     /// A ring of slots of this shape, which came from `check_v2`. The end is fresh, and its ring
     /// has as many slots of the shape as the shape has frames. After `Memory` the end is dropped.

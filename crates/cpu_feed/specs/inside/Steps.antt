@@ -4,7 +4,7 @@ use Rattle.frame_view.specs.declared.frames.Frame.{Frame}
 use Rattle.fanout_group.specs.Paths.{IsPathBehind}
 use Rattle.fanout_group.specs.Rules.{Rules}
 use Rattle.cpu_feed.specs.Fed.{FedOne, IsAtItsEnd}
-use Rattle.cpu_feed.specs.Feeding.{Feeding, IsAllOfCpu}
+use Rattle.cpu_feed.specs.CpuFeeds.{Feeding, IsAllOfCpu}
 use Rattle.cpu_feed.specs.Lawful.{IsLawful}
 use Rattle.cpu_feed.specs.declared.fed.Fed.{Fed}
 use Rattle.cpu_feed.specs.declared.fed.Fed.TheVariants.{Arrival, Nothing, End}

@@ -1,7 +1,7 @@
 -- A feeder while it runs.
 use Rattle.std.specs.Prelude.{◌≡◌, ℕ, ◌-◌, ◌*◌, ◌<◌, ◌≤◌, List, length, slice_index_or, take}
 use Rattle.capture_reports.specs.Feeders.{IsFedAt}
-use Rattle.cpu_feed.specs.Feeding.{Feeding, IsAllOfCpu}
+use Rattle.cpu_feed.specs.CpuFeeds.{Feeding, IsAllOfCpu}
 use Rattle.cpu_feed.specs.Lawful.{IsLawful}
 use Rattle.cpu_feeders.specs.inside.TurnGroups.{HasRoom}
 use Rattle.fanout_group.specs.Arrivals.{arrivals_of}

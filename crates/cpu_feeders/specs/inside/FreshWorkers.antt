@@ -2,8 +2,8 @@
 use Rattle.std.specs.Prelude.{◌≡◌, ℕ, ◌+◌, List, [], ◌∷◌, ◌++◌, length, map, ⊤, Option, None}
 use Rattle.std.specs.List.{AllByRecursion, AllZip}
 use Rattle.capture_reports.specs.Closed.{IsLockOf}
-use Rattle.capture_reports.specs.Timing.{AreTimed}
-use Rattle.cpu_feed.specs.Feeding.{Feeding}
+use Rattle.capture_reports.specs.Timers.{AreTimed}
+use Rattle.cpu_feed.specs.CpuFeeds.{Feeding}
 use Rattle.cpu_feeders.specs.Feeds.{IsFreshFeeder, IsFreshSeat}
 use Rattle.cpu_feeders.specs.Walks.{Walks}
 use Rattle.cpu_feeders.specs.declared.feeder.Feeder.{Feeder}

@@ -7,7 +7,7 @@ use Rattle.member_turns.specs.Tries.{Tried, fates_at}
 use Rattle.ring_model.specs.declared.notes.Offer.{Offer}
 use Rattle.ticket_dealer.specs.Seats.{DealerValue, IsSeatOf, SeatValue, has_drawn}
 use Rattle.tp_layout.specs.Requests.{room_of}
-use Rattle.tp_layout.specs.Writing.{IsWritable}
+use Rattle.tp_layout.specs.BlockWrites.{IsWritable}
 
 -- a member takes an offer: the feeder has a ready seat of the offer's CPU there, which may put the
 -- offer into the member's ring

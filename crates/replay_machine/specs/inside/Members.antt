@@ -1,7 +1,7 @@
 -- A receive ring with its reader: what its fields keep.
 use Rattle.std.specs.Prelude.{◌≡◌, ℕ, ◌^◌, ◌≤◌, Bool, false, List, length, take, None}
 use Rattle.reader_walk.specs.Readers.{ReaderValue}
-use Rattle.receive_ring.specs.Receiving.{Receiving, Waits}
+use Rattle.receive_ring.specs.Rings.{Receiving, Waits}
 use Rattle.ring_model.specs.declared.notes.Note.{Note}
 use Rattle.ring_words.specs.PlainRings.{PlainState}
 use Rattle.tp_layout.specs.Layouts.{Taken}

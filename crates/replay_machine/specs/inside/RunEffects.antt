@@ -17,8 +17,8 @@ use Rattle.setup_text.specs.declared.reports.RunReport.{RunReport}
 use Rattle.replay_model.specs.Replay.{finished_ring}
 use Rattle.replay_machine.specs.Deliveries.{ChangedByTries}
 use Rattle.cpu_feed.specs.Fed.{IsAtItsEnd}
-use Rattle.cpu_feed.specs.Closing.{AllClose}
-use Rattle.cpu_feed.specs.Feeding.{Feeding}
+use Rattle.cpu_feed.specs.ClosedCpus.{AllClose}
+use Rattle.cpu_feed.specs.CpuFeeds.{Feeding}
 use Rattle.replay_machine.specs.RunStates.{Does, IsCounted, IsRun, RunValue, firsts_of}
 use Rattle.run_reports.specs.Jobs.{rules_of}
 use Rattle.tap_outside.specs.Seen.{SourceSeen}

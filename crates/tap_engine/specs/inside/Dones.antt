@@ -4,8 +4,8 @@ use Rattle.setup_text.specs.declared.setups.Setup.{Setup}
 use Rattle.tap_printing.specs.declared.ring_kind.RingKind.{RingKind}
 use Rattle.tap_engine.specs.declared.findings.Finding.{Finding}
 use Rattle.tap_engine.specs.declared.findings.Finding.TheVariants as finding
-use Rattle.tap_engine.specs.declared.running.Done.{Done}
-use Rattle.tap_engine.specs.declared.running.Done.TheVariants as done
+use Rattle.tap_engine.specs.declared.command_runs.Done.{Done}
+use Rattle.tap_engine.specs.declared.command_runs.Done.TheVariants as done
 
 -- with the setup and what the rings are made of, if a run was made
 abbrev pub finding_by : RingKind → Setup → Done → Finding

@@ -5,7 +5,7 @@ use Rattle.tap_outside.specs.Contents.{HoldsFile}
 use Rattle.tap_outside.specs.Counts.{Rose}
 use Rattle.tap_outside.specs.Seen.{StoreSeen}
 use Rattle.tap_saving.specs.Files.{CanBeOutput, File}
-use Rattle.tap_saving.specs.Saving.{IsApart, NoSaveFailed}
+use Rattle.tap_saving.specs.Saves.{IsApart, NoSaveFailed}
 use Rattle.tap_saving.specs.declared.planned_file.Content.{Content}
 use Rattle.tap_saving.specs.declared.planned_file.Content.TheVariants.{Bytes, Packets}
 use Rattle.tap_saving.specs.declared.planned_file.PlannedFile.TheInside.{Inside}

@@ -1,6 +1,6 @@
 use Rattle.std.proofs.Common.{refl}
 use Rattle.capture_file.specs.Capture.{damage_of}
-use Rattle.capture_file.proofs.Feeding.{stays, stays_frames}
+use Rattle.capture_file.proofs.LastingDamage.{stays, stays_frames}
 use Rattle.capture_file.proofs.laws.damage_stays.Goals as goal
 
 pub returns-clause-damage : goal.returns-clause-damage

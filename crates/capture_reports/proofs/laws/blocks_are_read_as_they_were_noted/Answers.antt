@@ -1,4 +1,4 @@
-use Rattle.capture_reports.proofs.Reporting.{read_all}
+use Rattle.capture_reports.proofs.ReadReports.{read_all}
 use Rattle.capture_reports.proofs.laws.blocks_are_read_as_they_were_noted.Goals as goal
 use Rattle.ring_model.specs.Ring.{state_of}
 use Rattle.tp_layout.specs.Requests.{size_of}

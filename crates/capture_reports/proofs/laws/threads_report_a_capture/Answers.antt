@@ -1,4 +1,4 @@
-use Rattle.capture_reports.proofs.Reporting.{rings_are, ticked_are}
+use Rattle.capture_reports.proofs.ReadReports.{rings_are, ticked_are}
 use Rattle.capture_reports.proofs.laws.threads_report_a_capture.Goals as goal
 
 pub returns : goal.returns

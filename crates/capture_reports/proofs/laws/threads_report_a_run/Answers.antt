@@ -1,5 +1,5 @@
 use Rattle.std.proofs.Common.{List, sym, subst}
-use Rattle.capture_reports.proofs.Reporting.{members_are, notes_are}
+use Rattle.capture_reports.proofs.ReadReports.{members_are, notes_are}
 use Rattle.capture_reports.proofs.laws.threads_report_a_run.Goals as goal
 use Rattle.fanout_group.specs.Once.{IsGroupReport}
 use Rattle.ring_model.specs.declared.notes.Note.{Note}

@@ -1,5 +1,5 @@
 use Rattle.std.proofs.Common.{◌-◌}
-use Rattle.cpu_feed.specs.Feeding.{IsSameCpu}
+use Rattle.cpu_feed.specs.CpuFeeds.{IsSameCpu}
 use Rattle.cpu_feeders.specs.inside.FeedSteps.{Goes, IsDrawing}
 use Rattle.cpu_feeders.specs.inside.TurnGroups.{IsSameGroup}
 use Rattle.cpu_feeders.proofs.feeder.feed_all.Given as goal

@@ -1,6 +1,6 @@
 use Rattle.std.proofs.Common.{◌<◌, ◌∙◌, ℕ, List, length, get_or, take, subst, sym, arith}
-use Rattle.capture_reports.specs.Timing.{AreTimed}
-use Rattle.cpu_feeders.proofs.Ticking.{are_small, item, not_before, take_few, timed_more}
+use Rattle.capture_reports.specs.Timers.{AreTimed}
+use Rattle.cpu_feeders.proofs.TimerTicks.{are_small, item, not_before, take_few, timed_more}
 use Rattle.cpu_feeders.proofs.timer.tick_all.Goals as goal
 use Rattle.std.proofs.lemmas.List.{take_more}
 

@@ -1,5 +1,5 @@
 use Rattle.std.proofs.Common.{take}
-use Rattle.capture_reports.specs.Timing.{AreTimed}
+use Rattle.capture_reports.specs.Timers.{AreTimed}
 use Rattle.cpu_feeders.proofs.timer.tick_all.Given as goal
 
 abbrev pub invariant-loop-ms : goal.invariant-loop-ms

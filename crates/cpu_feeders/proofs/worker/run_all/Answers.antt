@@ -4,7 +4,7 @@ use denote.Param.Send.{IsSend, sendable}
 use Rattle.cpu_feeders.specs.contracts.worker.Worker as Worker
 use Rattle.cpu_feeders.specs.WorkerEffects.{IsReadyWorker}
 use Rattle.cpu_feeders.specs.declared.worker.Worker as declared
-use Rattle.cpu_feeders.proofs.Crossing.{worker_send}
+use Rattle.cpu_feeders.proofs.Crossings.{worker_send}
 use Rattle.cpu_feeders.proofs.worker.run_all.Goals as goal
 
 pub for_each_mut-requires-send-T : goal.for_each_mut-requires-send-T

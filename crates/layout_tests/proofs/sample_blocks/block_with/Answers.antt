@@ -5,7 +5,7 @@ use Rattle.ring_model.specs.Sizes.{need_of}
 use Rattle.tp_layout.specs.declared.requests.RingRequest.{RingRequest}
 use Rattle.tp_layout.specs.Requests.{fills_hash, first_of}
 use Rattle.tp_layout.specs.Blocks.{BeginsLawfully, needs_of}
-use Rattle.tp_layout.specs.Writing.{ShapedBytes, end_of}
+use Rattle.tp_layout.specs.BlockWrites.{ShapedBytes, end_of}
 use Rattle.tp_layout.proofs.Opens.{needs-cons}
 use Rattle.layout_tests.proofs.sample_blocks.block_with.Goals as goal
 

@@ -1,6 +1,6 @@
 use Rattle.std.proofs.Common.{◌≡◌, [], ◌∷◌, ◌++◌, Err, OnOk, OnErr, ap, sym, ◌∙◌, subst, append-nil, arith}
 use Rattle.std.proofs.lemmas.Result.{IfOk-at_ok, IfErr-at_err}
-use Rattle.block_ring.specs.Ticking.{IsBackwardsFrom}
+use Rattle.block_ring.specs.TickErrors.{IsBackwardsFrom}
 use Rattle.block_ring.specs.declared.error.TickError.TheVariants.{Backwards}
 use Rattle.ring_model.specs.Ring.{state_of}
 use Rattle.ring_model.specs.declared.notes.Note.TheVariants.{Ticked}

@@ -1,6 +1,6 @@
 use Rattle.std.proofs.Common.{◌<◌, [], ◌∷◌, ◌++◌, ap, sym, ◌∙◌, subst, append-nil}
 use Rattle.std.proofs.lemmas.Result.{IfOk-weaker, IfErr-weaker}
-use Rattle.ring_model.specs.Asking.{try_by}
+use Rattle.ring_model.specs.KnownReleases.{try_by}
 use Rattle.member_turns.specs.Seats.{Lock, Seat}
 use Rattle.member_turns.specs.TurnEffects.{IsTryTurn, Turned}
 use Rattle.member_turns.proofs.OneTurn.{adds_in, entered_at, of_both, try_may, turn_done}

@@ -1,4 +1,4 @@
-use Rattle.pcapng_blocks.proofs.Fitting.{frames_fitting}
+use Rattle.pcapng_blocks.proofs.FrameBounds.{frames_fitting}
 use Rattle.pcapng_blocks.proofs.laws.frames_fit.Goals as goal
 
 pub returns : goal.returns

@@ -1,4 +1,4 @@
-use Rattle.reader_walk.proofs.Telling.{few_packets}
+use Rattle.reader_walk.proofs.PacketCounts.{few_packets}
 use Rattle.reader_walk.proofs.laws.a_block_has_few_packets.Goals as goal
 
 pub returns : goal.returns

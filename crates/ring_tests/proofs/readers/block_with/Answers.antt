@@ -5,7 +5,7 @@ use Rattle.ring_model.specs.Sizes.{need_of}
 use Rattle.tp_layout.specs.Requests.{fills_hash}
 use Rattle.tp_layout.specs.Blocks.{BeginsWith, needs_of}
 use Rattle.tp_layout.specs.Packets.{need_of_packet}
-use Rattle.tp_layout.specs.Writing.{ShapedBytes, end_of}
+use Rattle.tp_layout.specs.BlockWrites.{ShapedBytes, end_of}
 use Rattle.tp_layout.specs.declared.requests.RingRequest.{RingRequest}
 use Rattle.ring_tests.proofs.readers.block_with.Goals as goal
 

@@ -2,7 +2,7 @@ use Rattle.std.proofs.Common.{◌∙◌, ap, length, refl}
 use Rattle.std.proofs.Math.ListN.{length-replicate}
 use Rattle.ring_words.specs.TableEnds.{Feeding}
 use Rattle.tp_layout.specs.Requests.{numbers_of}
-use Rattle.tp_layout.specs.Writing.{zero_block}
+use Rattle.tp_layout.specs.BlockWrites.{zero_block}
 use Rattle.ring_tests.proofs.AllAlike.{one_kind}
 use Rattle.ring_tests.proofs.threads.new_sides.Goals as goal
 

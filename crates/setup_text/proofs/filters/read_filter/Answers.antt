@@ -1,7 +1,7 @@
 use Rattle.std.proofs.Common.{◌≡◌, ap, sym, ◌∙◌, arith, length, Err}
 use Rattle.setup_text.specs.Filters.{filter_after, filter_fault, filter_of, told}
 use Rattle.setup_text.specs.Answers.{is_text_want}
-use Rattle.setup_text.proofs.Wants.{filter_want}
+use Rattle.setup_text.proofs.MemoryErrors.{filter_want}
 use Rattle.setup_text.proofs.FilterLines.{refused_place, refused_program, refused_text}
 use Rattle.setup_text.proofs.ListingFaults.{instructions_of-few}
 use Rattle.setup_text.proofs.filters.read_filter.Goals as goal

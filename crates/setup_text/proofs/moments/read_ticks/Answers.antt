@@ -5,7 +5,7 @@ use Rattle.text_lines.proofs.Readings.{reads_all, reads_fault, reads_more, reads
 use Rattle.setup_text.specs.Moments.{added, latest, moment_in, moments_of}
 use Rattle.setup_text.specs.declared.text_error.TextKind.{TextKind}
 use Rattle.setup_text.specs.declared.text_error.Which.TheVariants.{Ticks}
-use Rattle.setup_text.proofs.Rising.{moments_sound}
+use Rattle.setup_text.proofs.SoundMoments.{moments_sound}
 use Rattle.setup_text.proofs.Texts.{items_of-large, items_of-read}
 use Rattle.setup_text.proofs.moments.read_ticks.Goals as goal
 use Rattle.setup_text.proofs.moments.read_ticks.Goals.{then-not-is_passed_over+in_default-add_moment, else-not-is_passed_over}

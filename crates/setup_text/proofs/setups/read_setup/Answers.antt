@@ -3,7 +3,7 @@ use Rattle.std.proofs.lemmas.Result.{err_from_is_err_and}
 use Rattle.setup_text.specs.Setups.{at_end, completed, setup_of}
 use Rattle.setup_text.proofs.Accepted.{setup_accepted}
 use Rattle.setup_text.proofs.Texts.{when_large, when_small}
-use Rattle.setup_text.proofs.Wants.{want_is}
+use Rattle.setup_text.proofs.MemoryErrors.{want_is}
 use Rattle.setup_text.specs.declared.setup_error.SetupKind.{SetupKind}
 use Rattle.setup_text.proofs.setups.read_setup.Goals as goal
 

@@ -1,8 +1,8 @@
 use Rattle.std.proofs.Common.{◌≡◌, ◌+◌, ◌^◌, ◌≤◌, ◌<◌, ℕ, List, length, refl, ap, subst, ◌∙◌}
 use Rattle.std.proofs.lemmas.List.{length-take-le}
 use Rattle.frame_view.specs.Headers.{address_of, link_of}
-use Rattle.frame_view.specs.declared.header_reading.Link.{Link}
-use Rattle.tp_layout.specs.Writing.{put}
+use Rattle.frame_view.specs.declared.headers.Link.{Link}
+use Rattle.tp_layout.specs.BlockWrites.{put}
 use Rattle.tp_layout.proofs.Bytes.{IsBytes, all_bytes}
 use Rattle.slot_layout.specs.SlotDump.{slot_packet_of}
 use Rattle.slot_layout.proofs.SlotPuts.{slot_put}

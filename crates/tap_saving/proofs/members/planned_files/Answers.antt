@@ -1,6 +1,6 @@
 use Rattle.std.proofs.Common.{arith, sym}
 use Rattle.std.specs.Prelude.{option_copied}
-use Rattle.tap_saving.proofs.Planning.{all_planned, more_planned, sent_short}
+use Rattle.tap_saving.proofs.Plans.{all_planned, more_planned, sent_short}
 use Rattle.tap_saving.proofs.members.planned_files.Goals as goal
 
 pub push_files-requires-clause-sent : goal.push_files-requires-clause-sent

@@ -1,8 +1,8 @@
 use Rattle.std.proofs.Common.{refl, rules, ◌∙◌}
 use Rattle.std.specs.Prelude.{IsTrue, option_copied}
 use Rattle.tap_saving.specs.Files.{files_from}
-use Rattle.tap_saving.proofs.Missing.{none_saved}
-use Rattle.tap_saving.proofs.Naming.{run_named, run_names, run_touched}
+use Rattle.tap_saving.proofs.MissedFiles.{none_saved}
+use Rattle.tap_saving.proofs.FileNames.{run_named, run_names, run_touched}
 use Rattle.tap_saving.proofs.members.save_members.Goals as goal
 
 pub returns-in_err-files-clause-early : goal.returns-in_err-files-clause-early

@@ -1,5 +1,5 @@
 use Rattle.std.proofs.Common.{[], arith, rules, refl, sym}
-use Rattle.tap_saving.proofs.Missing.{first_more, first_saved, tried_some, tried_touch}
+use Rattle.tap_saving.proofs.MissedFiles.{first_more, first_saved, tried_some, tried_touch}
 use Rattle.tap_saving.proofs.Stores.{touches_none}
 use Rattle.tap_saving.proofs.saves.save_files.Goals as goal
 

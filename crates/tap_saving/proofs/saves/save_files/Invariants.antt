@@ -1,7 +1,7 @@
 use Rattle.std.proofs.Common.{◌≤◌, length}
-use Rattle.tap_saving.specs.Saving.{Touches}
+use Rattle.tap_saving.specs.Saves.{Touches}
 use Rattle.tap_saving.specs.inside.Plans.{names_of}
-use Rattle.tap_saving.proofs.Missing.{TriedFirst}
+use Rattle.tap_saving.proofs.MissedFiles.{TriedFirst}
 use Rattle.tap_saving.proofs.saves.save_files.Given as goal
 
 -- the files so far were tried, and no other name was touched

@@ -1,6 +1,6 @@
 use Rattle.std.proofs.Common.{◌≡◌}
 use Rattle.tap_saving.specs.Files.{sent_file}
-use Rattle.tap_saving.proofs.Missing.{saved_alone}
+use Rattle.tap_saving.proofs.MissedFiles.{saved_alone}
 use Rattle.tap_saving.proofs.sent_file.save_sent.Goals as goal
 
 pub returns-clause-saved : goal.returns-clause-saved

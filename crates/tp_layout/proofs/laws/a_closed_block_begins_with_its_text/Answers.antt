@@ -1,4 +1,4 @@
-use Rattle.tp_layout.proofs.Filling.{fills_whole}
+use Rattle.tp_layout.proofs.FilledBlocks.{fills_whole}
 use Rattle.tp_layout.proofs.laws.a_closed_block_begins_with_its_text.Goals as goal
 
 pub returns : goal.returns

@@ -1,5 +1,5 @@
 use Rattle.std.proofs.Common.{◌≡◌, replicate}
-use Rattle.tp_layout.specs.Writing.{zero_block}
+use Rattle.tp_layout.specs.BlockWrites.{zero_block}
 use Rattle.tp_layout.proofs.ring_blocks.blocks.Given as goal
 
 -- one block of zeros for each round

@@ -1,6 +1,6 @@
 use Rattle.std.proofs.Common.{ap, arith, sym}
 use Rattle.tp_layout.specs.Dump.{packets_of_offers}
-use Rattle.tp_layout.specs.declared.writing.Closing.{Closing}
+use Rattle.tp_layout.specs.declared.block_writes.Closing.{Closing}
 use Rattle.block_ring.proofs.Packets.{closing_push, need_least, packets_push, used_push, writable_push}
 use Rattle.block_ring.proofs.open_block.OpenBlock.add.Goals as goal
 

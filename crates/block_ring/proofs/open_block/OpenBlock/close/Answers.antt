@@ -1,7 +1,7 @@
 use Rattle.std.proofs.Common.{ap, arith}
 use Rattle.tp_layout.specs.Requests.{first_of}
 use Rattle.block_ring.proofs.Packets.{last_place_within}
-use Rattle.tp_layout.specs.declared.writing.Closing.{Closing}
+use Rattle.tp_layout.specs.declared.block_writes.Closing.{Closing}
 use Rattle.block_ring.proofs.open_block.OpenBlock.close.Goals as goal
 
 pub close_header-requires-clause-behind : goal.close_header-requires-clause-behind

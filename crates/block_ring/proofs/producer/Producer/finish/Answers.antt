@@ -1,7 +1,7 @@
 use Rattle.std.proofs.Common.{ap, subst, sym}
 use Rattle.ring_model.specs.declared.notes.Note.TheVariants.{Finished}
 use Rattle.tp_layout.specs.Requests.{size_of}
-use Rattle.block_ring.specs.Producing.{Producing}
+use Rattle.block_ring.specs.Producers.{Producing}
 use Rattle.block_ring.specs.Texts.{RepresentsTexts}
 use Rattle.block_ring.proofs.Notings.{closed_run, state_of-push}
 use Rattle.block_ring.proofs.producer.Producer.finish.Goals as goal

@@ -1,10 +1,10 @@
 use Rattle.std.proofs.Common.{◌≡◌, ◌-◌, ◌+◌, ◌^◌, ◌<◌, ◌≤◌, ◌∷◌, ◌++◌, [], ◌∙◌, ap, arith, length, subst, sym}
 use Rattle.std.specs.Vec.{vec_capacity}
-use Rattle.ring_model.specs.Asking.{put_by}
+use Rattle.ring_model.specs.KnownReleases.{put_by}
 use Rattle.ring_model.specs.Ring.{state_of}
 use Rattle.tp_layout.specs.Requests.{room_of, size_of}
 use Rattle.block_ring.specs.Machines.{Stepped}
-use Rattle.block_ring.specs.Producing.{Producing, Puts}
+use Rattle.block_ring.specs.Producers.{Producing, Puts}
 use Rattle.block_ring.proofs.Notings.{numbers_after}
 use Rattle.block_ring.proofs.Steps.{added, clock_put, few_after, goes_put, kept_on, looks_more, put_looked, put_number, puts_given, spare_less}
 use Rattle.block_ring.proofs.producer.Producer.put.Goals as goal

@@ -6,7 +6,7 @@ use Rattle.ring_model.specs.declared.notes.Found.TheVariants.{NotAsked}
 use Rattle.ring_model.specs.declared.notes.Note.TheVariants.{Counted}
 use Rattle.tp_layout.specs.Requests.{size_of}
 use Rattle.block_ring.specs.Machines.{Stepped}
-use Rattle.block_ring.specs.Producing.{Producing, state}
+use Rattle.block_ring.specs.Producers.{Producing, state}
 use Rattle.block_ring.proofs.Notings.{numbers_after}
 use Rattle.block_ring.proofs.Steps.{added, adds_given, keeps_end, kept_on, spare_less}
 use Rattle.block_ring.proofs.producer.Producer.take_stats.Goals as goal

@@ -4,7 +4,7 @@ use Rattle.ring_model.specs.Ring.{state_of}
 use Rattle.ring_model.specs.declared.notes.Note.TheVariants.{Ticked}
 use Rattle.tp_layout.specs.Requests.{size_of}
 use Rattle.block_ring.specs.Machines.{Stepped}
-use Rattle.block_ring.specs.Producing.{Producing, Ticks, state}
+use Rattle.block_ring.specs.Producers.{Producing, Ticks, state}
 use Rattle.block_ring.proofs.Notings.{numbers_after}
 use Rattle.block_ring.proofs.Steps.{added, clock_tick, few_after, kept_on, looks_more, spare_less, tick_looked, tick_number, ticks_given}
 use Rattle.block_ring.proofs.producer.Producer.tick.Goals as goal

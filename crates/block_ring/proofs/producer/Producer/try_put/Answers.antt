@@ -1,10 +1,10 @@
 use Rattle.std.proofs.Common.{◌≡◌, ◌-◌, ◌+◌, ◌^◌, ◌<◌, ◌≤◌, ◌∷◌, ◌++◌, [], ◌∙◌, ap, arith, length, subst, sym}
 use Rattle.std.specs.Vec.{vec_capacity}
-use Rattle.ring_model.specs.Asking.{try_by}
+use Rattle.ring_model.specs.KnownReleases.{try_by}
 use Rattle.ring_model.specs.Ring.{state_of}
 use Rattle.tp_layout.specs.Requests.{room_of, size_of}
 use Rattle.block_ring.specs.Machines.{Stepped}
-use Rattle.block_ring.specs.Producing.{Producing, Tries}
+use Rattle.block_ring.specs.Producers.{Producing, Tries}
 use Rattle.block_ring.proofs.Notings.{numbers_after}
 use Rattle.block_ring.proofs.Steps.{added, clock_try, few_after, goes_try, kept_on, looks_more, spare_less, tries_given, try_looked, try_number}
 use Rattle.block_ring.proofs.producer.Producer.try_put.Goals as goal

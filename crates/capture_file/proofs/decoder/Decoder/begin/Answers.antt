@@ -1,5 +1,5 @@
 use Rattle.std.proofs.Common.{◌≤◌, ◌<◌, length, ap, ◌∙◌, arith}
-use Rattle.capture_file.specs.Decoding.{decoder_value, DecoderValue}
+use Rattle.capture_file.specs.Decoders.{decoder_value, DecoderValue}
 use Rattle.capture_file.proofs.Joined.{waiting_frames, waiting_damage, begun_represents, begun_frames, begun_damage}
 use Rattle.capture_file.proofs.decoder.Decoder.begin.Goals as goal
 

@@ -1,5 +1,5 @@
 use Rattle.std.specs.Result.{result_err}
-use Rattle.capture_file.specs.Decoding.{decoder_value}
+use Rattle.capture_file.specs.Decoders.{decoder_value}
 use Rattle.capture_file.proofs.Joined.{end_not_yet, end_known, represents_known}
 use Rattle.capture_file.proofs.decoder.Decoder.end.Goals as goal
 

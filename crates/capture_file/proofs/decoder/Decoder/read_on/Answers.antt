@@ -1,5 +1,5 @@
 use Rattle.std.specs.Prelude.{Result, Ok, Err, IfOk}
-use Rattle.capture_file.specs.Decoding.{decoder_value}
+use Rattle.capture_file.specs.Decoders.{decoder_value}
 use Rattle.capture_file.proofs.Joined.{known_represents, known_frames, known_damage}
 use Rattle.capture_file.proofs.decoder.Decoder.read_on.Goals as goal
 

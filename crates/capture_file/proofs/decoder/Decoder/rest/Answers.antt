@@ -1,5 +1,5 @@
 use Rattle.std.proofs.Common.{◌∙◌}
-use Rattle.capture_file.specs.Decoding.{decoder_value}
+use Rattle.capture_file.specs.Decoders.{decoder_value}
 use Rattle.capture_file.proofs.Joined.{kept_known, kept_not_yet, represents_known}
 use Rattle.capture_file.proofs.KeptBytes.{keeps_after_stop, keeps_no_body, keeps_no_damage}
 use Rattle.capture_file.proofs.decoder.Decoder.rest.Goals as goal

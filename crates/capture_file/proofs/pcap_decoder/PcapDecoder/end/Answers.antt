@@ -1,7 +1,7 @@
 use Rattle.std.proofs.Common.{ℕ, ◌∙◌, ap, eqb, refl}
 use Rattle.std.specs.Result.{result_err}
-use Rattle.capture_file.specs.PcapDecoding.{pcap_value}
-use Rattle.capture_file.proofs.PcapEnding.{end_told, end_sound}
+use Rattle.capture_file.specs.PcapDecoders.{pcap_value}
+use Rattle.capture_file.proofs.PcapEnds.{end_told, end_sound}
 use Rattle.capture_file.proofs.pcap_decoder.PcapDecoder.end.Goals as goal
 
 pub returns-clause-end : goal.returns-clause-end

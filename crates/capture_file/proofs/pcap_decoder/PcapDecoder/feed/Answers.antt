@@ -1,8 +1,9 @@
 use Rattle.std.proofs.Common.{ℕ, List, ◌++◌, drop, arith, ap}
 use Rattle.capture_file.specs.Pcap.{frames_of}
-use Rattle.capture_file.specs.Reading.{error_of}
-use Rattle.capture_file.specs.PcapDecoding.{Represents, pcap_value}
-use Rattle.capture_file.proofs.PcapSettling.{Settles, settles_here, represents_more, represents_damaged, settles_damage, no_error}
+use Rattle.capture_file.specs.Feeds.{error_of}
+use Rattle.capture_file.specs.PcapDecoders.{Represents, pcap_value}
+use Rattle.capture_file.proofs.PcapOutcomes.{Settles, settles_here, represents_more, represents_damaged, settles_damage}
+use Rattle.capture_file.proofs.PcapOutcomes.{no_error}
 use Rattle.capture_file.proofs.pcap_decoder.PcapDecoder.feed.Goals as goal
 
 damaged : (c : goal.After-clear) (number : ℕ) (fed : List ℕ) → Represents number c.args.self.now fed

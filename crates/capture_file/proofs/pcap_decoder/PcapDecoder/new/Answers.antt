@@ -1,4 +1,4 @@
-use Rattle.capture_file.proofs.PcapEnding.{represents_new}
+use Rattle.capture_file.proofs.PcapEnds.{represents_new}
 use Rattle.capture_file.proofs.pcap_decoder.PcapDecoder.new.Goals as goal
 
 pub returns : goal.returns

@@ -1,5 +1,5 @@
 use Rattle.std.proofs.Common.{arith}
-use Rattle.capture_file.proofs.PcapEnding.{few_kept}
+use Rattle.capture_file.proofs.PcapEnds.{few_kept}
 use Rattle.capture_file.proofs.pcap_decoder.PcapDecoder.rest.Goals as goal
 
 pub returns-clause-few : goal.returns-clause-few

@@ -1,6 +1,6 @@
 use Rattle.std.proofs.Common.{List, ℕ, refl, subst, sym}
 use Rattle.capture_reading.specs.Sources.{GavePiece}
-use Rattle.capture_reading.proofs.Advancing.{read_piece}
+use Rattle.capture_reading.proofs.NextPieces.{read_piece}
 use Rattle.capture_reading.proofs.so_far.SoFar.read_piece.Goals as goal
 
 pub returns-clause-read : goal.returns-clause-read

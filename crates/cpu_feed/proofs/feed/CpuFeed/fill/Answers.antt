@@ -1,5 +1,5 @@
 use Rattle.std.proofs.Common.{refl, subst, sym, arith}
-use Rattle.cpu_feed.specs.Feeding.{Waits}
+use Rattle.cpu_feed.specs.CpuFeeds.{Waits}
 use Rattle.cpu_feed.proofs.Piecewise.{reads_none, reads_on}
 use Rattle.cpu_feed.proofs.feed.CpuFeed.fill.Goals as goal
 

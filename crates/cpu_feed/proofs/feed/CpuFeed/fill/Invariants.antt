@@ -1,7 +1,7 @@
 use Rattle.std.proofs.Common.{Some}
 use Rattle.std.specs.Prelude.{◌≡◌, ◌≢◌}
 use Rattle.capture_file.specs.declared.cpu_end.CpuEnd.TheVariants.{Fault}
-use Rattle.cpu_feed.specs.Feeding.{FailsFed, HasRead, Waits, unread}
+use Rattle.cpu_feed.specs.CpuFeeds.{FailsFed, HasRead, Waits, unread}
 use Rattle.cpu_feed.proofs.feed.CpuFeed.fill.Given as goal
 
 abbrev pub invariant-reading : goal.invariant-reading

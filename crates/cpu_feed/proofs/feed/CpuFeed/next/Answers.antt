@@ -1,6 +1,6 @@
 use Rattle.std.proofs.Common.{None, Option, Some, ap, ◌∙◌, subst, sym}
 use Rattle.frame_view.specs.declared.frames.Frame.{Frame}
-use Rattle.cpu_feed.specs.Feeding.{Feeding}
+use Rattle.cpu_feed.specs.CpuFeeds.{Feeding}
 use Rattle.cpu_feed.proofs.Lawfulness.{Arrives, frame_lawful, none_lawful}
 use Rattle.cpu_feed.proofs.Totals.{at_end, none_fed, on_err, one_fed, still_reads, takes_frame, takes_none}
 use Rattle.cpu_feed.proofs.feed.CpuFeed.next.Goals as goal

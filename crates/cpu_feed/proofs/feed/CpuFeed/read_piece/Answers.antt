@@ -1,6 +1,6 @@
 use Rattle.std.proofs.Common.{◌≡◌, ◌≤◌, ◌∙◌, [], None, ap, length, subst, sym}
 use Rattle.std.specs.Prelude.{option_map}
-use Rattle.cpu_feed.specs.Feeding.{Feeding, frames_in}
+use Rattle.cpu_feed.specs.CpuFeeds.{Feeding, frames_in}
 use Rattle.tap_outside.specs.Seen.{SourceSeen}
 use Rattle.cpu_feed.proofs.Piecewise.{ends_here, no_bytes, piece_frames, piece_taken, read_more, reads_less}
 use Rattle.cpu_feed.proofs.SourceFacts.{known}

@@ -4,7 +4,7 @@ use Rattle.fanout_group.specs.Judgements.{AgreesAt, Lens, rules_by}
 use Rattle.fanout_group.specs.Lenses.{lens_of}
 use Rattle.fanout_group.specs.Paths.{IsPath, IsPathTo}
 use Rattle.frame_view.specs.declared.frames.Frame.{Frame}
-use Rattle.cpu_feed.specs.Feeding.{Feeding}
+use Rattle.cpu_feed.specs.CpuFeeds.{Feeding}
 use Rattle.cpu_feed.proofs.feed.CpuFeed.receive.Goals as goal
 
 pub returns-clause-lawful : goal.returns-clause-lawful

@@ -2,7 +2,7 @@ use Rattle.std.proofs.Common.{[], ◌∷◌, get_or, refl, subst, sym}
 use Rattle.std.proofs.lemmas.Result.{IfErr-weaker, IfOk-weaker}
 use Rattle.member_turns.proofs.OneTurn.{of_both}
 use Rattle.member_turns.specs.Seats.{IsReady, Lock, Seat}
-use Rattle.ring_model.specs.Asking.{put_by}
+use Rattle.ring_model.specs.KnownReleases.{put_by}
 use Rattle.cpu_feeders.proofs.TurnTries.{none_tried, put_tried, turn_takes}
 use Rattle.cpu_feeders.proofs.turn_group.TurnGroupDesk.put.Goals as goal
 

@@ -1,7 +1,7 @@
 -- The header that was read is the frame's.
 use Rattle.std.proofs.Common.{◌≡◌, sym, true, length}
 use Rattle.frame_view.specs.Headers.{view_of}
-use Rattle.frame_view.specs.declared.header_reading.Headers.TheVariants.{V4}
+use Rattle.frame_view.specs.declared.headers.Headers.TheVariants.{V4}
 use Rattle.ip_defrag.specs.Fragments.{is_fragment}
 use Rattle.ip_defrag.proofs.Taken.{viewed, is_read, takes_part_v4, takes_part_other}
 use Rattle.ip_defrag.proofs.fragments.Fragment.read.Goals as goal

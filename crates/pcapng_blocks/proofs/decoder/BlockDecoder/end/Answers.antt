@@ -1,7 +1,7 @@
 use Rattle.std.proofs.Common.{ℕ, ◌∙◌, ap, eqb}
 use Rattle.pcapng_blocks.specs.Blocks.{Spot}
-use Rattle.pcapng_blocks.specs.Decoding.{DecoderValue}
-use Rattle.pcapng_blocks.proofs.Ending.{end_told}
+use Rattle.pcapng_blocks.specs.Decoders.{DecoderValue}
+use Rattle.pcapng_blocks.proofs.Ends.{end_told}
 use Rattle.pcapng_blocks.proofs.decoder.BlockDecoder.end.Goals as goal
 
 pub returns : goal.returns

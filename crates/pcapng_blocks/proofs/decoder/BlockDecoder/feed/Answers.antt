@@ -1,7 +1,7 @@
 use Rattle.std.proofs.Common.{ℕ, List, drop, ap}
-use Rattle.pcapng_blocks.specs.Reading.{spot_of}
-use Rattle.pcapng_blocks.specs.Decoding.{Represents, decoder_value, error_of}
-use Rattle.pcapng_blocks.proofs.Settling.{Settles}
+use Rattle.pcapng_blocks.specs.Feeds.{spot_of}
+use Rattle.pcapng_blocks.specs.Decoders.{Represents, decoder_value, error_of}
+use Rattle.pcapng_blocks.proofs.Outcomes.{Settles}
 use Rattle.pcapng_blocks.proofs.Decoders.{settles_here, represents_more, represents_damaged, settles_damage, no_error}
 use Rattle.pcapng_blocks.proofs.decoder.BlockDecoder.feed.Goals as goal
 

@@ -1,6 +1,6 @@
 use Rattle.std.proofs.Common.{arith}
-use Rattle.pcapng_blocks.specs.Reading.{spot_of}
-use Rattle.pcapng_blocks.proofs.Ending.{few_kept}
+use Rattle.pcapng_blocks.specs.Feeds.{spot_of}
+use Rattle.pcapng_blocks.proofs.Ends.{few_kept}
 use Rattle.pcapng_blocks.proofs.decoder.BlockDecoder.rest.Goals as goal
 
 pub returns-clause-few : goal.returns-clause-few

@@ -1,4 +1,4 @@
-use Rattle.reader_walk.proofs.Adding.{Adds, err_after, ok_after, sound_after}
+use Rattle.reader_walk.proofs.AddedBlocks.{Adds, err_after, ok_after, sound_after}
 use Rattle.reader_walk.specs.Texts.{kept_if}
 use Rattle.reader_walk.proofs.reader.RingReader.walk_block.Goals as goal
 

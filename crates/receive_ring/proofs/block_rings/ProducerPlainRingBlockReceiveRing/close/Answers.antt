@@ -1,4 +1,4 @@
-use Rattle.receive_ring.proofs.BlockReceiving.{closed_as}
+use Rattle.receive_ring.proofs.BlockCalls.{closed_as}
 use Rattle.receive_ring.proofs.block_rings.ProducerPlainRingBlockReceiveRing.close.Goals as goal
 
 pub returns : goal.returns

@@ -1,9 +1,9 @@
 use Rattle.std.proofs.Common.{◌≡◌, ◌∙◌, List, ap, length, subst, sym}
 use Rattle.std.specs.List.{AllByRecursion}
 use Rattle.std.proofs.lemmas.List.{length-replicate}
-use Rattle.receive_ring.proofs.BlockReceiving.{fresh_end, one_kind}
+use Rattle.receive_ring.proofs.BlockCalls.{fresh_end, one_kind}
 use Rattle.tp_layout.specs.Requests.{numbers_of}
-use Rattle.tp_layout.specs.Writing.{ShapedBytes, zero_block}
+use Rattle.tp_layout.specs.BlockWrites.{ShapedBytes, zero_block}
 use Rattle.receive_ring.proofs.block_rings.ProducerPlainRingBlockReceiveRing.open.Goals as goal
 
 pub new-requires-clause-kind : goal.new-requires-clause-kind

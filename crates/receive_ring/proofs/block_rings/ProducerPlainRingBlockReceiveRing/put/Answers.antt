@@ -1,4 +1,4 @@
-use Rattle.receive_ring.proofs.BlockReceiving.{put_kept}
+use Rattle.receive_ring.proofs.BlockCalls.{put_kept}
 use Rattle.receive_ring.proofs.block_rings.ProducerPlainRingBlockReceiveRing.put.Goals as goal
 
 pub returns-clause-ok : goal.returns-clause-ok

@@ -1,5 +1,5 @@
 use Rattle.ring_model.specs.declared.notes.Note.TheVariants.{Counted}
-use Rattle.receive_ring.proofs.BlockReceiving.{added}
+use Rattle.receive_ring.proofs.BlockCalls.{added}
 use Rattle.receive_ring.proofs.block_rings.ProducerPlainRingBlockReceiveRing.take_stats.Goals as goal
 
 pub returns-clause-ok : goal.returns-clause-ok

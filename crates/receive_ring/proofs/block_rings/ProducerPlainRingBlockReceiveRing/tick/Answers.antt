@@ -1,4 +1,4 @@
-use Rattle.receive_ring.proofs.BlockReceiving.{ticked_as}
+use Rattle.receive_ring.proofs.BlockCalls.{ticked_as}
 use Rattle.receive_ring.proofs.block_rings.ProducerPlainRingBlockReceiveRing.tick.Goals as goal
 
 pub returns-in-Ok-clause-ok : goal.returns-in-Ok-clause-ok

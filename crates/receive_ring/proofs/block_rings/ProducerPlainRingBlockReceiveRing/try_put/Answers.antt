@@ -1,4 +1,4 @@
-use Rattle.receive_ring.proofs.BlockReceiving.{try_kept}
+use Rattle.receive_ring.proofs.BlockCalls.{try_kept}
 use Rattle.receive_ring.proofs.block_rings.ProducerPlainRingBlockReceiveRing.try_put.Goals as goal
 
 pub returns-clause-ok : goal.returns-clause-ok

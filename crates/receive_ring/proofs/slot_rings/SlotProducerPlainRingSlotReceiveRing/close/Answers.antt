@@ -1,4 +1,4 @@
-use Rattle.receive_ring.proofs.SlotReceiving.{closed_as}
+use Rattle.receive_ring.proofs.SlotCalls.{closed_as}
 use Rattle.receive_ring.proofs.slot_rings.SlotProducerPlainRingSlotReceiveRing.close.Goals as goal
 
 pub returns : goal.returns

@@ -1,10 +1,10 @@
 use Rattle.std.proofs.Common.{◌≡◌, ◌∙◌, List, ap, length, subst, sym}
 use Rattle.std.specs.List.{AllByRecursion}
 use Rattle.std.proofs.lemmas.List.{length-replicate}
-use Rattle.receive_ring.proofs.SlotReceiving.{fresh_end, one_kind}
+use Rattle.receive_ring.proofs.SlotCalls.{fresh_end, one_kind}
 use Rattle.slot_layout.specs.SlotShapes.{zero_slot}
 use Rattle.tp_layout.specs.Requests.{numbers_of}
-use Rattle.tp_layout.specs.Writing.{ShapedBytes}
+use Rattle.tp_layout.specs.BlockWrites.{ShapedBytes}
 use Rattle.receive_ring.proofs.slot_rings.SlotProducerPlainRingSlotReceiveRing.open.Goals as goal
 
 pub new-requires-clause-kind : goal.new-requires-clause-kind

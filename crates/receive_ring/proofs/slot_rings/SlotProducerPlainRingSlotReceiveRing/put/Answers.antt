@@ -1,4 +1,4 @@
-use Rattle.receive_ring.proofs.SlotReceiving.{put_kept}
+use Rattle.receive_ring.proofs.SlotCalls.{put_kept}
 use Rattle.receive_ring.proofs.slot_rings.SlotProducerPlainRingSlotReceiveRing.put.Goals as goal
 
 pub returns-clause-ok : goal.returns-clause-ok

@@ -1,5 +1,5 @@
 use Rattle.ring_model.specs.declared.notes.Note.TheVariants.{Counted}
-use Rattle.receive_ring.proofs.SlotReceiving.{added}
+use Rattle.receive_ring.proofs.SlotCalls.{added}
 use Rattle.receive_ring.proofs.slot_rings.SlotProducerPlainRingSlotReceiveRing.take_stats.Goals as goal
 
 pub returns-clause-ok : goal.returns-clause-ok

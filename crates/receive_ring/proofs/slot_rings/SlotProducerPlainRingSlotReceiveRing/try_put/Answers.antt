@@ -1,4 +1,4 @@
-use Rattle.receive_ring.proofs.SlotReceiving.{try_kept}
+use Rattle.receive_ring.proofs.SlotCalls.{try_kept}
 use Rattle.receive_ring.proofs.slot_rings.SlotProducerPlainRingSlotReceiveRing.try_put.Goals as goal
 
 pub returns-clause-ok : goal.returns-clause-ok

@@ -4,7 +4,7 @@ use Rattle.ring_model.specs.declared.notes.Note.TheVariants.{Finished}
 use Rattle.tp_layout.specs.Requests.{numbers_of}
 use Rattle.tp_layout.specs.declared.requests.RingRequest.{RingRequest}
 use Rattle.replay_machine.proofs.MemberSteps.{closed_report, closing_read, few_closed, may_be}
-use Rattle.replay_machine.proofs.Reading.{all_read, few_read, free_hand, next_read, none_read}
+use Rattle.replay_machine.proofs.ReadBlocks.{all_read, few_read, free_hand, next_read, none_read}
 use Rattle.replay_machine.proofs.member.Member.close.Goals as goal
 
 pub close-requires : goal.close-requires

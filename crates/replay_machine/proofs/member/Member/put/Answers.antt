@@ -1,5 +1,5 @@
 use Rattle.std.proofs.Common.{◌≡◌}
-use Rattle.receive_ring.specs.Receiving.{note_of_put}
+use Rattle.receive_ring.specs.Rings.{note_of_put}
 use Rattle.replay_model.specs.RingSteps.{put_note}
 use Rattle.ring_model.specs.Rings.{noted}
 use Rattle.replay_machine.specs.inside.Members.{Parts}

@@ -1,5 +1,5 @@
 use Rattle.std.proofs.Common.{◌∙◌, subst, sym}
-use Rattle.receive_ring.specs.Receiving.{IsRoomOf}
+use Rattle.receive_ring.specs.Rings.{IsRoomOf}
 use Rattle.replay_machine.proofs.RunCounts.{keeps_count}
 use Rattle.replay_machine.proofs.Lines.{Goes, goes_first, goes_on, goes_to_end}
 use Rattle.replay_machine.proofs.replay_run.ReplayRun.feed_all.Goals as goal

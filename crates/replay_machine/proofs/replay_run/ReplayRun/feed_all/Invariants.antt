@@ -1,7 +1,7 @@
 use Rattle.std.proofs.Common.{◌≡◌, ◌-◌, ℕ, List}
 use Rattle.std.specs.Prelude.{slice_set}
 use Rattle.frame_view.specs.declared.frames.Frame.{Frame}
-use Rattle.cpu_feed.specs.Feeding.{Feeding}
+use Rattle.cpu_feed.specs.CpuFeeds.{Feeding}
 use Rattle.replay_machine.specs.RunStates.{AreAllOf, IsCounted, IsRun, cpu_in, firsts_of, whole}
 use Rattle.replay_machine.specs.inside.RunEffects.{fed_whole}
 use Rattle.replay_machine.proofs.replay_run.ReplayRun.feed_all.Given as goal

@@ -1,5 +1,5 @@
 use Rattle.std.proofs.Common.{◌≤◌, ◌∙◌, length, rules, subst, sym}
-use Rattle.receive_ring.specs.Receiving.{IsRoomOf}
+use Rattle.receive_ring.specs.Rings.{IsRoomOf}
 use Rattle.replay_machine.proofs.Lines.{fed_line, no_such_cpu}
 use Rattle.replay_machine.proofs.replay_run.ReplayRun.feed_line.Goals as goal
 

@@ -1,6 +1,6 @@
 use Rattle.std.proofs.Common.{◌≡◌, ◌+◌, ◌-◌, ◌≤◌, ◌++◌, List, length, take}
 use Rattle.frame_view.specs.declared.frames.Packet.{Packet}
-use Rattle.tap_forward.specs.Sending.{IsGoing, WasGiven}
+use Rattle.tap_forward.specs.Senders.{IsGoing, WasGiven}
 use Rattle.tap_forward.proofs.sender.Sender.give_all.Given as goal
 
 -- the packets that are counted were given, and at most that number was placed or skipped

@@ -1,7 +1,7 @@
 use Rattle.std.proofs.Common.{◌≤◌, ◌∙◌, ap, subst, sym}
 use Rattle.std.proofs.Math.Logic.{∥∥₁_elim}
 use Rattle.std.proofs.Props.{props}
-use Rattle.tp_layout.proofs.Telling.{tells}
+use Rattle.tp_layout.proofs.LawfulReads.{tells}
 use Rattle.tp_layout.specs.Layouts.{Taken, text_of_taken}
 use Rattle.tp_layout.specs.declared.requests.RingRequest.{RingRequest}
 use Rattle.tp_layout.proofs.layouts.BlockLayout.text.Goals as goal

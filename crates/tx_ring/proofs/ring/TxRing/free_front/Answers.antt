@@ -1,7 +1,7 @@
 use Rattle.std.proofs.Common.{◌≡◌, ◌+◌, ◌-◌, ◌%◌, ◌<◌, ℕ, length, set, Option, None, refl, sym, ap, subst, ◌∙◌, arith}
-use Rattle.tx_ring.specs.Keeping.{Keeps, state_in}
+use Rattle.tx_ring.specs.KeptSlots.{Keeps, state_in}
 use Rattle.tx_ring.specs.Rings.{TxState, slot_of}
-use Rattle.tx_ring.specs.Sending.{after_taking}
+use Rattle.tx_ring.specs.Sends.{after_taking}
 use Rattle.tx_ring.specs.Slots.{SlotState, slot_at}
 use Rattle.tx_ring.proofs.Moves.{taken_keeps, taken_state}
 use Rattle.tx_ring.proofs.Turns.{length-requests_in}

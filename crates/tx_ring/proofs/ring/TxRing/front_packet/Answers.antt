@@ -1,7 +1,7 @@
 use Rattle.std.proofs.Common.{◌≡◌, ◌-◌, ◌%◌, ◌<◌, ℕ, length, sym, ap, ◌∙◌, arith}
 use Rattle.frame_view.specs.PlainPacket.{plain_of}
 use Rattle.tx_ring.specs.Rings.{TxState, slot_of}
-use Rattle.tx_ring.specs.Sending.{frame_of, front_of}
+use Rattle.tx_ring.specs.Sends.{frame_of, front_of}
 use Rattle.tx_ring.specs.Slots.{slot_at}
 use Rattle.tx_ring.proofs.Moves.{front_request}
 use Rattle.tx_ring.proofs.Turns.{length-requests_in}

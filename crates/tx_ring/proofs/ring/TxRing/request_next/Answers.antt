@@ -1,5 +1,5 @@
 use Rattle.std.proofs.Common.{◌≡◌, ◌+◌, ◌-◌, ◌%◌, ◌<◌, ℕ, length, set, Option, None, refl, sym, ap, subst, ◌∙◌, arith}
-use Rattle.tx_ring.specs.Keeping.{Keeps, state_in}
+use Rattle.tx_ring.specs.KeptSlots.{Keeps, state_in}
 use Rattle.tx_ring.specs.Rings.{TxState, request_of, slot_of, with_request}
 use Rattle.tx_ring.specs.Slots.{SlotState, slot_at}
 use Rattle.tx_ring.proofs.Moves.{placed_keeps, placed_state}

@@ -1,8 +1,8 @@
 use Rattle.std.proofs.Common.{◌≡◌, ◌-◌, Err, sym, ap, subst, ◌∙◌, arith}
 use Rattle.std.proofs.lemmas.Result.{err_from_is_err_and}
 use Rattle.tx_ring.specs.Rings.{TxState}
-use Rattle.tx_ring.specs.Keeping.{state_in}
-use Rattle.tx_ring.specs.Sending.{after_send, answer_with, send_answer, stop_at_front}
+use Rattle.tx_ring.specs.KeptSlots.{state_in}
+use Rattle.tx_ring.specs.Sends.{after_send, answer_with, send_answer, stop_at_front}
 use Rattle.tx_ring.specs.declared.error.SendError.TheVariants as errors
 use Rattle.tx_ring.proofs.Sends.{all_counted, answers, appended, at_end, ends_by, goes_on, leaves, some_left, starts, stopped_answer}
 use Rattle.tx_ring.proofs.Turns.{length-requests_in}

@@ -1,7 +1,7 @@
 use Rattle.std.proofs.Common.{◌≡◌, ◌-◌, ◌%◌, ◌<◌, ℕ, length, false, set, Some, refl, sym, ap, ◌∙◌, arith}
-use Rattle.tx_ring.specs.Keeping.{requests_in, state_in}
+use Rattle.tx_ring.specs.KeptSlots.{requests_in, state_in}
 use Rattle.tx_ring.specs.Rings.{TxState, room_of, slot_of}
-use Rattle.tx_ring.specs.Sending.{front_of, is_good}
+use Rattle.tx_ring.specs.Sends.{front_of, is_good}
 use Rattle.tx_ring.specs.Slots.{SlotState, slot_at}
 use Rattle.tx_ring.proofs.Moves.{begins_bad, stopped_keeps, stopped_state}
 use Rattle.tx_ring.proofs.Turns.{length-requests_in}

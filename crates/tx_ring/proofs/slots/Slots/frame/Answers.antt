@@ -1,6 +1,6 @@
 use Rattle.std.proofs.Common.{◌≡◌, ◌*◌, ◌<◌, List, ℕ, length, take, drop, sym, ap, ◌∙◌, arith}
 use Rattle.std.specs.Vec.{vec_capacity}
-use Rattle.tx_ring.specs.Sending.{frame_of}
+use Rattle.tx_ring.specs.Sends.{frame_of}
 use Rattle.tx_ring.specs.Slots.{SlotState, slot_at, slot_text}
 use Rattle.tx_ring.specs.SlotsInside.{slots_by}
 use Rattle.tx_ring.proofs.Pieces.{each_size, each_sound, less_of, places_fit, shown, slot_size, was_written, within_bytes}

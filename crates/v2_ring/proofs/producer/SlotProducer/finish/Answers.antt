@@ -2,7 +2,7 @@ use Rattle.std.proofs.Common.{ap, subst, sym}
 use Rattle.ring_model.specs.declared.notes.Note.TheVariants.{Finished}
 use Rattle.slot_model.proofs.Runs.{slot_run_closed, slot_state_push}
 use Rattle.v2_ring.specs.SlotContents.{RepresentsSlots}
-use Rattle.v2_ring.specs.SlotProducing.{SlotProducing}
+use Rattle.v2_ring.specs.SlotProducers.{SlotProducing}
 use Rattle.v2_ring.proofs.producer.SlotProducer.finish.Goals as goal
 
 pub returns-clause-run : goal.returns-clause-run

@@ -3,7 +3,7 @@ use Rattle.ring_model.specs.declared.notes.Note.{Note}
 use Rattle.ring_model.specs.declared.notes.Note.TheVariants.{Counted}
 use Rattle.slot_model.specs.SlotSteps.{slot_after, slot_state_of}
 use Rattle.v2_ring.specs.SlotMachines.{IsSlotAt}
-use Rattle.v2_ring.proofs.SlotAdding.{Stepped, added, adds_given, kept_with, same_end}
+use Rattle.v2_ring.proofs.SlotNotes.{Stepped, added, adds_given, kept_with, same_end}
 use Rattle.v2_ring.proofs.producer.SlotProducer.take_stats.Goals as goal
 
 pub invariant_of-self-2 : goal.invariant_of-self-2

@@ -1,0 +1,81 @@
+use Rattle.std.proofs.Common.{Bool, refl, sym, subst, None}
+use Rattle.std.proofs.lemmas.Result.{err_from_is_err_and}
+use Rattle.tap_engine.specs.Commands.{Named, named_by}
+use Rattle.tap_engine.specs.Findings.{IsSentBy, faults_in}
+use Rattle.tap_engine.proofs.Counted.{counts_later}
+use Rattle.tap_engine.proofs.Meant.{names_meant}
+use Rattle.tap_engine.proofs.Worked.{first_meant, replays_scheduled, replays_unsent, run_meant}
+use Rattle.tap_engine.proofs.Worked.{schedule_meant, ticks_are, ticks_meant}
+use Rattle.tap_engine.proofs.command_runs.work.Goals as goal
+
+pub load_moments-requires-after_bounds : goal.load_moments-requires-after_bounds
+load_moments-requires-after_bounds g c κs within =
+    let store = g.S.Store.seen c.args.store.now in
+    let named : Named = named_by c.args.asked.command c.args.asked.setup.now
+    c.args.asked.schedule.now in
+    let setup = c.args.job.now.setup in
+    ticks_meant store.to_read named setup (ticks_are named setup c.in-Check.is)
+    (names_meant store.held store.to_read named setup (g.met.S.Store.untold_reads c.args.store.now)
+    c.requires.reads c.requires.job.setup)
+
+pub returns-in_err-load_moments-in-Check-clause-stop :
+    goal.returns-in_err-load_moments-in-Check-clause-stop
+returns-in_err-load_moments-in-Check-clause-stop g c =
+    let named : Named = named_by c.args.asked.command c.args.asked.setup.now
+    c.args.asked.schedule.now in
+    let p = err_from_is_err_and c.from_residual.result
+    c.from_residual.ensures.1 in
+    rw (p.1, p.2) (λ start loaded. c.in_err-load_moments-in-Check.ensures.stop start named
+    c.args.job.now loaded (ticks_are named c.args.job.now.setup c.in-Check.is))
+
+pub replay_scheduled-requires-clause-schedule : goal.replay_scheduled-requires-clause-schedule
+replay_scheduled-requires-clause-schedule g c κs within =
+    let store = g.S.Store.seen c.args.store.now in
+    let named : Named = named_by c.args.asked.command c.args.asked.setup.now
+    c.args.asked.schedule.now in
+    let setup = c.args.job.now.setup in
+    schedule_meant store.to_read named setup (replays_scheduled named.command c.in-Replay.is)
+    (names_meant store.held store.to_read named setup (g.met.S.Store.untold_reads c.args.store.now)
+    c.requires.reads c.requires.job.setup)
+
+pub replay_scheduled-requires-clause-captures : goal.replay_scheduled-requires-clause-captures
+replay_scheduled-requires-clause-captures g c κs within =
+    let store = g.S.Store.seen c.args.store.now in
+    let named : Named = named_by c.args.asked.command c.args.asked.setup.now
+    c.args.asked.schedule.now in
+    let setup = c.args.job.now.setup in
+    run_meant store.to_read named setup (replays_scheduled named.command c.in-Replay.is)
+    (names_meant store.held store.to_read named setup (g.met.S.Store.untold_reads c.args.store.now)
+    c.requires.reads c.requires.job.setup)
+
+pub returns-in_err-report-in-Replay-clause-stop : goal.returns-in_err-report-in-Replay-clause-stop
+returns-in_err-report-in-Replay-clause-stop g c =
+    let named : Named = named_by c.args.asked.command c.args.asked.setup.now
+    c.args.asked.schedule.now in
+    let p = err_from_is_err_and c.from_residual-in_err-report-in-Replay.result
+    c.from_residual-in_err-report-in-Replay.ensures.1 in
+    rw (p.1, p.2) (λ start loaded.
+    c.in_err-report-in-Replay.ensures.stop start named refl refl loaded)
+
+pub send_capture-requires-clause-meant : goal.send_capture-requires-clause-meant
+send_capture-requires-clause-meant g c κs within =
+    let store = g.S.Store.seen c.args.store.now in
+    let named : Named = named_by c.args.asked.command c.args.asked.setup.now
+    c.args.asked.schedule.now in
+    let setup = c.args.job.now.setup in
+    first_meant store.to_read named setup c.in-Send.is
+    (names_meant store.held store.to_read named setup (g.met.S.Store.untold_reads c.args.store.now)
+    c.requires.reads c.requires.job.setup)
+
+pub returns-in_ok-report-in-Replay-clause-found : goal.returns-in_ok-report-in-Replay-clause-found
+returns-in_ok-report-in-Replay-clause-found g c = λ start loaded.
+    let named : Named = named_by c.args.asked.command c.args.asked.setup.now
+    c.args.asked.schedule.now in
+    let report = c.in_ok-report-in-Replay.report in (
+      c.in_ok-report-in-Replay.ensures.reported start named refl refl loaded,
+      counts_later (faults_in report.cpus) start _ _ loaded.texts.unfailed
+          c.in_ok-report-in-Replay.ensures.faults,
+      subst (λ (sent : Bool). IsSentBy sent c.args.job.now.setup report None)
+          (sym (replays_unsent named.command c.in-Replay.is)) tt,
+      refl,
+    )

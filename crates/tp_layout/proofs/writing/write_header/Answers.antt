@@ -1,8 +1,0 @@
-use Rattle.std.proofs.Common.{arith}
-use Rattle.tp_layout.proofs.Opens.{opened}
-use Rattle.tp_layout.proofs.writing.write_header.Goals as goal
-
-pub returns-clause-opened : goal.returns-clause-opened
-returns-clause-opened c =
-    rw (c.put_empty.ensures c.args.shape.now c.first-first.ensures.value)
-    (opened c.args.shape.now c.args.number c.args.block.now.bytes (omega (arith, c.ranges.number.fits)))
