@@ -12,6 +12,8 @@ A run is ended after 20 seconds, and a program that was ended twice in a row isn
 minutes. Files are written below bench/work. It ends with status 1 where PROGRAM was ended, or where beside the busy processes
 a capture takes more than 5 times as long as the replay, by the middle.
 """
+from __future__ import annotations
+
 import argparse
 import contextlib
 import math
@@ -22,8 +24,10 @@ import subprocess
 import sys
 import threading
 import time
+from collections.abc import Iterator
 
-import run
+from inputs import EACH, MIB, RINGS, SHARED, make_small_flows, write_setup
+from measurements import COMMANDS, PROGRAM, TOP, WORK, Asked, Words, remove_outputs
 
 LIMIT = 20
 MOST = 5
@@ -31,8 +35,8 @@ MOST = 5
 ROWS = [
     ("8 CPUs, one member", 8, ""),
     ("4 CPUs, one member", 4, ""),
-    ("4 CPUs, four members by hash", 4, run.SHARED["hash of four"](4)),
-    ("4 CPUs, a member each", 4, run.SHARED[run.EACH](4)),
+    ("4 CPUs, four members by hash", 4, SHARED["hash of four"](4)),
+    ("4 CPUs, a member each", 4, SHARED[EACH](4)),
 ]
 
 
@@ -41,7 +45,7 @@ BUSY = "import os, sys\nparent = int(sys.argv[1])\nwhile os.getppid() == parent:
 
 
 @contextlib.contextmanager
-def busy_processes(count):
+def busy_processes(count: int) -> Iterator[None]:
     """So many processes that never rest."""
     beside = [subprocess.Popen([sys.executable, "-c", BUSY, str(os.getpid())]) for _ in range(count)]
     try:
@@ -52,9 +56,9 @@ def busy_processes(count):
             process.wait()
 
 
-def time_of(words):
+def time_of(words: Words) -> float:
     """Seconds of a run, or infinity where it was ended. One that fails ends the benchmark."""
-    run.remove_outputs(words)
+    remove_outputs(words)
     start = time.monotonic()
     process = subprocess.Popen(words, stdout=subprocess.DEVNULL, stderr=subprocess.DEVNULL)
     timer = threading.Timer(LIMIT, process.kill)
@@ -67,9 +71,9 @@ def time_of(words):
     return taken if taken < LIMIT else math.inf
 
 
-def times_of_row(runs, count):
+def times_of_row(runs: dict[str, Words], count: int) -> dict[str, list[float]]:
     """The times of each run, by turns."""
-    times = {name: [] for name in runs}
+    times: dict[str, list[float]] = {name: [] for name in runs}
     for _ in range(count):
         for name, words in runs.items():
             if times[name][-2:] != [math.inf, math.inf]:
@@ -77,15 +81,15 @@ def times_of_row(runs, count):
     return times
 
 
-def shown(seconds):
+def shown(seconds: float) -> str:
     return f"more than {LIMIT}" if math.isinf(seconds) else f"{seconds:.3f}"
 
 
-def print_rows(runs, busy, asked):
+def print_rows(runs: dict[str, Words], busy: int, asked: Asked) -> bool:
     """Prints the rows beside so many busy processes, and gives whether PROGRAM takes too long."""
     too_long = False
     for name, cpus, group in ROWS:
-        run.write_setup("conf", run.RINGS["keeps"], cpus, group)
+        write_setup("conf", RINGS["keeps"], cpus, group)
         with busy_processes(busy):
             times = times_of_row(runs, asked.runs)
         middle = {one: statistics.median(taken) for one, taken in times.items()}
@@ -97,34 +101,34 @@ def print_rows(runs, busy, asked):
     return too_long
 
 
-def asked_for():
+def asked_for() -> Asked:
     """What the command line asks for."""
     words = argparse.ArgumentParser(description=__doc__, formatter_class=argparse.RawDescriptionHelpFormatter)
     words.add_argument("--runs", type=int, default=5)
     words.add_argument("--beside", type=os.path.abspath)
-    words.add_argument("program", nargs="?", default=run.PROGRAM, type=os.path.abspath)
-    return words.parse_args()
+    words.add_argument("program", nargs="?", default=PROGRAM, type=os.path.abspath)
+    return words.parse_args(namespace=Asked())
 
 
-def main():
+def main() -> None:
     asked = asked_for()
-    cores = len(os.sched_getaffinity(0)) if hasattr(os, "sched_getaffinity") else os.cpu_count()
-    runs = {"replay": [asked.program, *run.COMMANDS["replay"]], "capture": [asked.program, *run.COMMANDS["capture"]]}
+    cores = len(os.sched_getaffinity(0)) if hasattr(os, "sched_getaffinity") else os.cpu_count() or 1
+    runs = {"replay": [asked.program, *COMMANDS["replay"]], "capture": [asked.program, *COMMANDS["capture"]]}
     if asked.beside:
-        runs["other"] = [asked.beside, *run.COMMANDS["capture"]]
+        runs["other"] = [asked.beside, *COMMANDS["capture"]]
     heads = [cell for one in runs for cell in (f"{one.capitalize()}, s", "middle")]
     heads += [f"{one.capitalize()}, times" for one in runs if one != "replay"]
-    os.makedirs(run.WORK, exist_ok=True)
+    os.makedirs(WORK, exist_ok=True)
     try:
-        os.chdir(run.WORK)
+        os.chdir(WORK)
         open("sched", "wb").close()
-        run.make_small_flows("in.pcap", 4 * run.MIB)
+        make_small_flows("in.pcap", 4 * MIB)
         print(f"{cores} processors, load {os.getloadavg()[0]:.1f} at the start\n")
         print("| Group | Busy processes | " + " | ".join(heads) + " |\n|" + "---|" * (len(heads) + 2))
         too_long = [print_rows(runs, busy, asked) for busy in (0, cores)]
     finally:
-        os.chdir(run.TOP)
-        shutil.rmtree(run.WORK)
+        os.chdir(TOP)
+        shutil.rmtree(WORK)
     sys.exit(1 if any(too_long) else 0)
 
 

@@ -9,11 +9,14 @@ instructions without a jump, once additions alone and once one of each kind by t
 more than those of a filter that returns at once, so that reading, checking, starting and printing cancel. It needs valgrind, a C compiler and
 libpcap's headers. It ends with status 1 where ringtap takes more than MOST times libpcap's instructions.
 """
+from __future__ import annotations
+
 import os
 import shutil
 import subprocess
 import sys
 import tempfile
+from collections.abc import Callable, Sequence
 
 TOP = os.path.join(os.path.dirname(os.path.abspath(__file__)), "..")
 CRATE = os.path.join(TOP, "crates", "filter_table")
@@ -52,7 +55,7 @@ RETURNS = "1\n6 0 0 262144\n"
 KINDS = [(0x28, 12), (0x54, 255), (0x04, 7), (0x02, 3), (0x60, 3), (0x15, 5), (0x07, 0), (0x0C, 0)]
 
 
-def straight(kinds):
+def straight(kinds: Sequence[tuple[int, int]]) -> str:
     """A program of STRAIGHT instructions of these kinds by turns, the last of which keeps the packet."""
     lines = [f"{code} 0 0 {k}" for code, k in (kinds[at % len(kinds)] for at in range(STRAIGHT - 1))]
     return "\n".join([str(STRAIGHT), *lines, "6 0 0 262144", ""])
@@ -67,33 +70,33 @@ FILTERS = {
 }
 
 
-def count_of(words, lines=None):
+def count_of(words: list[str], lines: str | None = None) -> int:
     """The instructions of a run as valgrind counts them, which reads these lines."""
     tool = ["valgrind", "--tool=callgrind", "--callgrind-out-file=/dev/null"]
     ran = subprocess.run([*tool, *words], input=lines, capture_output=True, text=True, check=True)
     return next(int(line.split()[-1].replace(",", "")) for line in ran.stderr.splitlines() if "Collected" in line)
 
 
-def count_of_ours(program, text, count):
+def count_of_ours(program: str, text: str, count: int) -> int:
     """The instructions of ringtap for so many runs of a filter, with all that it takes to come to them."""
     frames = f"frame {len(FRAME)} {FRAME.hex()}\n" * count
     return count_of([program], f"{frames}filter it\n{text}end\n")
 
 
-def count_of_theirs(plain, text, count):
+def count_of_theirs(plain: str, text: str, count: int) -> int:
     """The same of libpcap."""
     with open("filter.ddd", "w", encoding="ascii") as file:
         file.write(text)
     return count_of([plain, "filter.ddd", FRAME.hex(), str(count)])
 
 
-def cost(counted, program, text, executed):
+def cost(counted: Callable[[str, str, int], int], program: str, text: str, executed: int) -> float:
     """The instructions for each instruction of a filter but the last, which returns."""
     more = [counted(program, one, MANY) - counted(program, one, FEW) for one in (text, RETURNS)]
     return (more[0] - more[1]) / (MANY - FEW) / (executed - 1)
 
 
-def built_plain():
+def built_plain() -> str | None:
     """Builds the program in C, or says what is missing, and gives its path."""
     compiler = shutil.which("cc") or shutil.which("gcc")
     if not compiler or not shutil.which("valgrind"):
@@ -107,7 +110,7 @@ def built_plain():
     return plain
 
 
-def costs_of_filters(program=PROGRAM):
+def costs_of_filters(program: str = PROGRAM) -> bool:
     """Prints the table of filters in the present folder, and gives whether one takes too much."""
     print("\n## Filters beside libpcap\n")
     plain = built_plain()
@@ -125,7 +128,7 @@ def costs_of_filters(program=PROGRAM):
     return too_much
 
 
-def main():
+def main() -> None:
     program = os.path.abspath(sys.argv[1]) if sys.argv[1:] else PROGRAM
     with tempfile.TemporaryDirectory() as room:
         os.chdir(room)

@@ -12,6 +12,8 @@ Times are seconds of one processor, for user and system. A process that ends bet
 so a check falls short by a second at most, and one of less than a second may be missing. Memory is the largest resident size
 of one process.
 """
+from __future__ import annotations
+
 import argparse
 import collections
 import filecmp
@@ -21,25 +23,34 @@ import os
 import signal
 import sys
 import time
+from typing import NamedTuple
 
 PROVER = "rattle"
 PARTS = ["proof", "tests", "seed", "edits"]
 TICK = os.sysconf("SC_CLK_TCK")
 
-Seen = collections.namedtuple("Seen", "crate part seconds kib")
 
 
-def text_of(pid, name):
+class Seen(NamedTuple):
+    """What a process of the prover took until now."""
+
+    crate: str
+    part: str
+    seconds: float
+    kib: int
+
+
+def text_of(pid: int, name: str) -> str:
     with open(f"/proc/{pid}/{name}", encoding="utf-8", errors="replace") as file:
         return file.read()
 
 
-def fields_of(pid):
+def fields_of(pid: int) -> list[str]:
     """The numbers of a process's stat file that stand after its name: its state is the first."""
     return text_of(pid, "stat").rpartition(")")[2].split()
 
 
-def top_of(pid):
+def top_of(pid: int) -> str:
     """The folder of the repository, which rt runs in: that of the nearest process above the prover's own."""
     while os.path.basename(text_of(pid, "cmdline").split("\0")[0]) == PROVER:
         pid = int(fields_of(pid)[1])
@@ -47,7 +58,7 @@ def top_of(pid):
 
 
 @functools.lru_cache(maxsize=None)
-def part_of(pid, begun, folder, crate, above):
+def part_of(pid: int, begun: str, folder: str, crate: str, above: str) -> str:
     """What a check in a copy of a crate is for. The one that the edits begin with has the crate's own files."""
     own, copy = f"{above}/crates/{crate}/src", f"{folder}/src"
     try:
@@ -57,7 +68,7 @@ def part_of(pid, begun, folder, crate, above):
         return "edits"
 
 
-def seen_of(pid, fields):
+def seen_of(pid: int, fields: list[str]) -> Seen | None:
     """What a process of the prover took until now; None for any other process."""
     words = text_of(pid, "cmdline").split("\0")
     if os.path.basename(words[0]) != PROVER or "--crate-name" not in words:
@@ -72,12 +83,12 @@ def seen_of(pid, fields):
     return Seen(crate, part, seconds, int(peak))
 
 
-def sample(seen, top):
+def sample(seen: dict[str, Seen], top: int | None) -> bool:
     """Notes what each process took, by its number and its start. Says whether the top one still runs."""
     stats = {}
     for name in filter(str.isdigit, os.listdir("/proc")):
         try:
-            stats[int(name)] = fields_of(name)
+            stats[int(name)] = fields_of(int(name))
         except OSError:
             continue
     for pid, fields in stats.items():
@@ -95,8 +106,10 @@ def sample(seen, top):
     return not top or stats.get(top, ["Z"])[0] != "Z"
 
 
-def watch(path, top):
-    seen, begun = {}, time.time()
+def watch(path: str, top: int | None) -> None:
+    """Notes what the processes take each second, until the top one ends or this one is told to."""
+    seen: dict[str, Seen] = {}
+    begun = time.time()
     signal.signal(signal.SIGTERM, signal.default_int_handler)
     try:
         while sample(seen, top):
@@ -107,16 +120,18 @@ def watch(path, top):
     write(path, seen, time.time() - begun)
 
 
-def write(path, seen, seconds):
+def write(path: str, seen: dict[str, Seen], seconds: float) -> None:
     with open(path + ".new", "w", encoding="utf-8") as file:
         json.dump({"seconds": seconds, "processes": sorted(seen.values())}, file)
     os.replace(path + ".new", path)
 
 
-def table(path):
+def table(path: str) -> None:
+    """Prints what was noted."""
     with open(path, encoding="utf-8") as file:
         told = json.load(file)
-    took, peak = collections.defaultdict(collections.Counter), collections.Counter()
+    took: dict[str, dict[str, float]] = collections.defaultdict(lambda: collections.defaultdict(float))
+    peak: dict[str, int] = collections.defaultdict(int)
     for crate, part, seconds, kib in told["processes"]:
         took[crate][part] += seconds
         took["all"][part] += seconds
@@ -129,7 +144,7 @@ def table(path):
     print(f"\n{told['seconds']:,.0f} seconds on the clock.")
 
 
-def main():
+def main() -> None:
     parser = argparse.ArgumentParser(description=__doc__, formatter_class=argparse.RawDescriptionHelpFormatter)
     parser.add_argument("--watch", metavar="OUT")
     parser.add_argument("--table", metavar="OUT")
