@@ -3,7 +3,7 @@
 
     captures.py PROGRAM [RUNS]
 
-What is tested of a run, with by_hand.py for what doesn't hang on the threads (frames, arrivals, verdicts, homes, bytes):
+What is tested of a run, with the second program for what doesn't hang on the threads (frames, arrivals, verdicts, homes, bytes):
 
 - The status, and the lines of the CPUs, are those of a `replay`, and so are the arrivals and the refused ones in the total.
 - Each frame that passes is in one output at most; what is in none is what the members dropped. Each record has the frame's
@@ -15,130 +15,140 @@ What is tested of a run, with by_hand.py for what doesn't hang on the threads (f
 
 Half of the setups have a pool of 1 to 8 workers, of which nothing of this may hang.
 
-Runs of by_hand.py with random schedules stand in front: each is an outcome that threads might have, so it has to pass. Then they
+Runs of the second program with random schedules stand in front: each is an outcome that threads might have, so it has to pass. Then they
 are made wrong in one thing each, and have to be refused.
 """
+from __future__ import annotations
+
 import os
 import random
 import struct
 import sys
 import threading
-from collections import namedtuple
+from collections.abc import Iterator, Sequence
+from typing import NamedTuple
 
-import by_hand
 import filter_verdicts
 import outcomes
+import second_runs
+from capture_bytes import NANOSECONDS, header, output, record
+from capture_frames import frames_of
 from hash_values import KEY
-from outcomes import outcome_of, passing, refused, save_alone, wrong_runs
-from replays import FILTERS, SIZES, datagram, frame, header, record, setup_text
+from outcomes import Outcome, outcome_of, passing, refused, save_alone, wrong_runs
+from replays import FILTERS, SIZES, Shape, datagram, frame, setup_text
+from second_frames import record_of
+from second_rings import Offer, Ring, need_of
+from second_runs import Files, Replay, made_frames
+from second_setup import Setup
 
-# A run: its setup, the captures of the CPUs from 0 up (None for one that isn't there), and the texts of its filter and moments.
-Case = namedtuple("Case", "setup captures listing moments")
-# A packet of an output or of the frames that pass: its CPU, its number there, its home where the mode fixes it, and its offer.
-Passing = namedtuple("Passing", "cpu index home offer")
 
-LARGE = [(65536, 16, 2048, 512), (8192, 256, 2048, 1024)]
+class Case(NamedTuple):
+    """A run: its setup, the captures of the CPUs from 0 up (None for one that isn't there), its filter's text and its moments."""
+
+    setup: str
+    captures: Sequence[bytes | None]
+    listing: str | None
+    moments: Sequence[int]
+
+
+class Passing(NamedTuple):
+    """A packet that passes: its CPU, its number there, its home where the mode fixes it, and its offer."""
+
+    cpu: int
+    index: int
+    home: int | None
+    offer: Offer
+
+    def record(self) -> bytes:
+        """The record of an output that holds it."""
+        frame = self.offer.frame
+        return record_of(frame._replace(data=frame.data[: self.offer.snap]))
+
+
+LARGE: list[Shape] = [(65536, 16, 2048, 512), (8192, 256, 2048, 1024)]
+SECOND = 1_000_000_000  # in nanoseconds
 TIMES = 8  # the seconds of CPU C's frames are C more than a multiple of this
 
 
-class Arriving(by_hand.Replay):
+class Arriving(Replay):
     """The arrivals of a run, CPU after CPU: the packets that pass, each with its home where that doesn't hang on the threads."""
 
-    def __init__(self, case):
-        self.passing = [[] for _ in case.captures]
-        setup = by_hand.Setup(case.setup)
+    def __init__(self, case: Case) -> None:
+        self.passing: list[list[Passing]] = [[] for _ in case.captures]
+        setup = Setup(case.setup)
         code = filter_verdicts.program(case.listing) if case.listing else None
-        super().__init__(setup, [capture or b"" for capture in case.captures], code, by_hand.Ring)
+        super().__init__(setup, [capture or b"" for capture in case.captures], code, Ring)
         self.ends = ["fault" if capture is None else end for capture, end in zip(case.captures, self.ends)]
-        for cpu, waiting in enumerate(self.waiting):
-            while waiting:
-                self.feed(cpu)
+        self.feed_rest()
 
-    def deliver(self, cpu, offer, home):
+    def deliver(self, cpu: int, offer: Offer, home: int) -> None:
         mode, cpus = self.setup.mode, len(self.passing)
         fixed = home if mode in ("hash", "cpu", "qm") or mode == "lb" and cpus == 1 else None
         self.passing[cpu].append(Passing(cpu, len(self.passing[cpu]), fixed, offer))
 
-    def rolls_over(self):
-        return self.setup.mode == "rollover" or "rollover" in self.setup.flags
-
-    def all(self):
+    def all(self) -> list[Passing]:
         return [packet for passing in self.passing for packet in passing]
 
-    def cpu_lines(self):
-        for cpu, verdicts in enumerate(self.verdicts):
-            yield f"cpu {cpu} frames {len(self.frames[cpu])} arrivals {len(verdicts)} end {self.ends[cpu]}"
-
-    def status(self):
+    def status(self) -> int:
         return 5 if "fault" in self.ends else 4 if set(self.ends) != {"ok"} else 0
 
 
-Numbers = namedtuple("Numbers", "packets drops freezes blocks")
+class Numbers(NamedTuple):
+    """What a member's line says."""
+
+    packets: int
+    drops: int
+    freezes: int
+    blocks: int
 
 
-def numbers_of(lines, run):
+def numbers_of(lines: str, run: Arriving) -> list[Numbers] | None:
     """The members' numbers, where the lines are of the right form."""
     cpus, members = len(run.passing), run.setup.members
-    found, words = lines.split("\n"), []
-    if found[:cpus] != list(run.cpu_lines()) or len(found) != cpus + members + 2 or found[-1]:
+    found, words = lines.splitlines(keepends=True), list[Numbers]()
+    if found[:cpus] != list(run.cpu_lines()) or len(found) != cpus + members + 1 or not lines.endswith("\n"):
         return None
-    for member, line in enumerate(found[cpus:-2]):
-        values = line.split(" ")
+    for member, line in enumerate(found[cpus:-1]):
+        values = line.removesuffix("\n").split(" ")
         if values[:2] != ["member", str(member)] or values[2::2] != ["packets", "drops", "freezes", "blocks"]:
             return None
         words.append(Numbers(*map(int, values[3::2])))
-    verdicts = [verdict for cpu in run.verdicts for verdict in cpu]
     drops = sum(member.drops for member in words)
     kept = sum(member.packets for member in words) - drops
-    total = f"total arrivals {len(verdicts)} filtered {verdicts.count(0)} kept {kept} drops {drops}"
-    return words if found[-2] == total and kept + drops == len(run.all()) else None
+    return words if found[-1] == run.total_line(kept, drops) and kept + drops == len(run.all()) else None
 
 
-def key_of(sec, nsec):
+def key_of(sec: int, nsec: int) -> tuple[int, int]:
     """What tells a frame of a run from all others: its CPU and its number there."""
     return sec % TIMES, nsec // 1000
 
 
-def record_of(packet):
-    """The record of an output that holds a packet."""
-    return by_hand.output_of([packet.offer.frame._replace(bytes=packet.offer.frame.bytes[: packet.offer.snap])])[24:]
+def output_packets(data: bytes, known: dict[tuple[int, int], Passing]) -> list[Passing] | None:
+    """The packets of an output, in order, or None where it isn't the file of known packets, byte for byte."""
+    frames, _ = frames_of(data)
+    found = [known.get(key_of(*divmod(frame.time, SECOND))) for frame in frames]
+    packets = [packet for packet in found if packet]
+    return packets if data == output(packet.record() for packet in packets) else None
 
 
-def output_packets(data, known):
-    """The packets of an output, in order, or None where it isn't one of known packets."""
-    if data[:24] != by_hand.output_of([]):
-        return None
-    packets, place = [], 24
-    while place < len(data):
-        if place + 16 > len(data):
-            return None
-        sec, nsec, size, _ = struct.unpack("<IIII", data[place : place + 16])
-        packet = known.get(key_of(sec, nsec))
-        if packet is None or data[place : place + 16 + size] != record_of(packet):
-            return None
-        packets.append(packet)
-        place += 16 + size
-    return packets
-
-
-def output_faults(run, outputs):
+def output_faults(run: Arriving, outputs: list[list[Passing]]) -> Iterator[str]:
     """What is wrong with the packets of the outputs: twice, out of order, or at a member that the mode doesn't allow."""
-    seen = set()
+    seen: set[tuple[int, int]] = set()
     for member, packets in enumerate(outputs):
-        last = {}
+        last: dict[int, int] = {}
         for packet in packets:
             name = packet.cpu, packet.index
             if name in seen:
                 yield f"packet {name} is there twice"
             if last.get(packet.cpu, -1) >= packet.index:
                 yield f"packet {name} stands after a later one at member {member}"
-            if not run.rolls_over() and packet.home not in (None, member):
+            if not run.setup.rolls_over() and packet.home not in (None, member):
                 yield f"packet {name} of member {packet.home} is at member {member}"
             seen.add(name)
             last[packet.cpu] = packet.index
 
 
-def dropped_homes(run, outputs):
+def dropped_homes(run: Arriving, outputs: list[list[Passing]]) -> Iterator[int | None]:
     """The home of each packet that is in no output, None where it hangs on the threads. In mode rollover it is the member that kept
     the packet of its CPU before it, at first 0."""
     holders = {(packet.cpu, packet.index): member for member, packets in enumerate(outputs) for packet in packets}
@@ -152,7 +162,9 @@ def dropped_homes(run, outputs):
                 yield present if run.setup.mode == "rollover" else packet.home
 
 
-def count_faults(run, outputs, numbers, moments):
+def count_faults(
+    run: Arriving, outputs: list[list[Passing]], numbers: list[Numbers], moments: Sequence[int]
+) -> Iterator[str]:
     """What is wrong with the members' numbers."""
     homes = list(dropped_homes(run, outputs))
     if len(homes) != sum(member.drops for member in numbers):
@@ -170,10 +182,10 @@ def count_faults(run, outputs, numbers, moments):
             yield f"member {member} drops though its ring has room for all"
 
 
-def lb_faults(run, numbers):
+def lb_faults(run: Arriving, numbers: list[Numbers]) -> Iterator[str]:
     """What is wrong with the packets of members that the arrivals of all CPUs are dealt out to."""
     arrivals = sum(map(len, run.verdicts))
-    if run.setup.mode != "lb" or run.rolls_over():
+    if run.setup.mode != "lb" or run.setup.rolls_over():
         return
     for member, found in enumerate(numbers):
         share = len(range(member, arrivals, run.setup.members))
@@ -181,18 +193,18 @@ def lb_faults(run, numbers):
             yield f"member {member} has {found.packets} of the {share} tickets that are its own"
 
 
-def holds_all(run, member, moments):
+def holds_all(run: Arriving, member: int, moments: Sequence[int]) -> bool:
     """Whether a member's ring has room for all packets that may come to it, with no block ever given back: two blocks, one after the
     other, hold more than one block has room for, and each moment may close one early."""
-    fixed = not run.rolls_over()
+    fixed = not run.setup.rolls_over()
     mine = [p for p in run.all() if not fixed or p.home in (None, member)]
-    needs = sum(by_hand.need_of(packet.offer.snap) for packet in mine)
+    needs = sum(need_of(packet.offer.snap) for packet in mine)
     return min(len(mine), 2 * needs // run.setup.room + 1) + len(moments) + 1 <= run.setup.block_nr
 
 
-def plain_ring(run, packets):
+def plain_ring(run: Arriving, packets: list[Passing]) -> Ring:
     """A ring that kept these packets and never lacked a block."""
-    ring = by_hand.Ring(run.setup)
+    ring = Ring(run.setup)
     ring.count = len(packets) + 2
     for packet in packets:
         ring.put(packet.offer)
@@ -200,7 +212,9 @@ def plain_ring(run, packets):
     return ring
 
 
-def block_faults(run, packets, found, moments, dump):
+def block_faults(
+    run: Arriving, packets: list[Passing], found: Numbers, moments: Sequence[int], dump: bytes | None
+) -> Iterator[str]:
     """What is wrong with the blocks of a member, and with its dump, if there is one."""
     if not moments and not found.drops and found.blocks != len(plain_ring(run, packets).done):
         yield f"{found.blocks} blocks"
@@ -227,15 +241,15 @@ def block_faults(run, packets, found, moments, dump):
         yield f"{len(ring.done)} blocks of {found.blocks}, and {len(left)} packets in none"
 
 
-def is_fixed(run, moments):
+def is_fixed(run: Arriving, moments: Sequence[int]) -> bool:
     """Whether nothing of a run hangs on the threads: each ring has room for all, and has the packets of one CPU."""
-    fixed = not run.rolls_over() and run.setup.mode in ("hash", "cpu", "qm")
+    fixed = not run.setup.rolls_over() and run.setup.mode in ("hash", "cpu", "qm")
     owners = [{p.cpu for p in run.all() if p.home == member} for member in range(run.setup.members)]
     alone = len(run.passing) == 1 or fixed and all(len(cpus) < 2 for cpus in owners)
     return alone and not moments and all(holds_all(run, member, moments) for member in range(run.setup.members))
 
 
-def faults(case, lines, files, status):
+def faults(case: Case, lines: str, files: Files, status: int) -> Iterator[str]:
     """What is wrong with a run: its status, its lines and the files that it saved."""
     run = Arriving(case)
     if status != run.status():
@@ -248,10 +262,13 @@ def faults(case, lines, files, status):
         yield f"printed {lines!r}, with the files {sorted(files)}"
         return
     known = {key_of(p.offer.frame.sec, p.offer.frame.nsec): p for p in run.all()}
-    outputs = [output_packets(files[name], known) for name in names]
-    if None in outputs:
-        yield f"{names[outputs.index(None)]} has a record that is no packet of the run"
-        return
+    outputs = []
+    for name in names:
+        packets = output_packets(files[name], known)
+        if packets is None:
+            yield f"{name} has a record that is no packet of the run"
+            return
+        outputs.append(packets)
     yield from output_faults(run, outputs)
     yield from count_faults(run, outputs, numbers, case.moments)
     yield from lb_faults(run, numbers)
@@ -260,13 +277,15 @@ def faults(case, lines, files, status):
         for why in block_faults(run, packets, found, case.moments, dump):
             yield f"member {member}: {why}"
     if is_fixed(run, case.moments) and run.status() < 5:
-        if (lines, files) != by_hand.replay(setup, "", case.captures, run.program):
+        captures = [capture or b"" for capture in case.captures]
+        if (lines, files) != second_runs.replay(setup, "", captures, run.program):
             yield "it isn't what a replay gives, though nothing hangs on the threads"
 
 
-def capture_of(numbers, cpu, most):
+def capture_of(numbers: random.Random, cpu: int, most: int) -> bytes:
     """A capture whose frames are told apart by their times."""
-    frames, step, size = [], numbers.choice([0, 0, 1, 4]), numbers.randrange(most)
+    frames: list[bytes] = []
+    step, size = numbers.choice([0, 0, 1, 4]), numbers.randrange(most)
     while len(frames) < size:
         if numbers.random() < 0.6:
             frames += datagram(numbers)
@@ -279,7 +298,7 @@ def capture_of(numbers, cpu, most):
     return data[: numbers.randrange(len(data))] if numbers.random() < 0.05 else data
 
 
-def random_case(numbers):
+def random_case(numbers: random.Random) -> Case:
     """A setup of up to eight CPUs and members, with its captures, filter and moments."""
     cpus, members = numbers.choice([1, 1, 2, 2, 3, 4, 8]), numbers.choice([1, 1, 2, 3, 4, 8])
     text = setup_text(numbers.choice([*SIZES, *LARGE]), cpus)
@@ -299,27 +318,27 @@ def random_case(numbers):
     workers = numbers.choice([0, numbers.randrange(9)])
     text += f"workers {workers}\n" if workers or numbers.random() < 0.1 else ""
     most = numbers.choice([3, 40, 200])
-    captures = [capture_of(numbers, cpu, most) for cpu in range(cpus)]
+    captures: list[bytes | None] = [capture_of(numbers, cpu, most) for cpu in range(cpus)]
     if numbers.random() < 0.05:
         captures[numbers.randrange(cpus)] = None
     return Case(text, captures, listing, moments)
 
 
-def sum_cases():
+def sum_cases() -> Iterator[Case]:
     """The largest made frames, written to two captures, for four members: 20,000 packets in all, kept or dropped."""
-    frames = list(by_hand.made_frames(1, 20_000))
+    frames = list(made_frames(1, 20_000))
     captures = []
     for cpu in range(2):
-        data = [frame.bytes for frame in frames[cpu::2]]
+        data = [frame.data for frame in frames[cpu::2]]
         times = ((TIMES * (at // 1000) + cpu, 1000 * at) for at in range(len(data)))
-        captures.append(header(magic=0xA1B23C4D) + b"".join(record(one, sec=s, fraction=n) for one, (s, n) in zip(data, times)))
+        captures.append(header(magic=NANOSECONDS) + b"".join(record(one, sec=s, fraction=n) for one, (s, n) in zip(data, times)))
     group = f"priv 16\nmembers 4\nmode hash\nkey {KEY}\nflag defrag\n"
     for size in ((65536, 64, 2048, 2048), (65536, 4, 2048, 128)):
         for pool in ("", "workers 2\n", "workers 8\n"):
             yield Case(setup_text(size, 2) + group + pool, captures, None, [])
 
 
-def inputs_of(case):
+def inputs_of(case: Case) -> Files:
     """The files that a run reads."""
     inputs = outcomes.inputs_of(case)
     if case.moments:
@@ -327,7 +346,7 @@ def inputs_of(case):
     return inputs
 
 
-def pour(name, data, numbers):
+def pour(name: str, data: bytes, numbers: random.Random) -> None:
     """Writes a capture into a pipe, a piece at a time, as long as somebody reads it."""
     try:
         with open(name, "wb", buffering=0) as pipe:
@@ -337,7 +356,7 @@ def pour(name, data, numbers):
         pass
 
 
-def make_pipes(inputs, numbers):
+def make_pipes(inputs: Files, numbers: random.Random) -> None:
     """Makes pipes of the captures, which threads of their own write to."""
     for name in [name for name in inputs if name.endswith(".pcap")]:
         os.remove(name)
@@ -345,7 +364,9 @@ def make_pipes(inputs, numbers):
         threading.Thread(target=pour, args=(name, inputs[name], numbers), daemon=True).start()
 
 
-def run_of(program, case, numbers, command="capture"):
+def run_of(
+    program: str, case: Case, numbers: random.Random, command: str = "capture"
+) -> tuple[Outcome | None, str | None]:
     """The outcome of a run in the present folder. Some have one processor, and some read their captures from pipes."""
     inputs, chance = inputs_of(case), numbers.random()
     save_alone(inputs)
@@ -356,10 +377,11 @@ def run_of(program, case, numbers, command="capture"):
     return outcome_of([program, command, "conf"], inputs, preexec_fn=limit)
 
 
-def some_outcome(case, numbers):
+def some_outcome(case: Case, numbers: random.Random) -> tuple[str, Files]:
     """An outcome that threads might have: that of a replay with some schedule, with the moments among its lines."""
-    cpus, members = len(case.captures), by_hand.Setup(case.setup).members
-    lines = [f"feed {numbers.randrange(cpus)}\n" for _ in range(sum(map(len, case.captures)) // 200)]
+    captures = [capture or b"" for capture in case.captures]
+    cpus, members = len(captures), Setup(case.setup).members
+    lines = [f"feed {numbers.randrange(cpus)}\n" for _ in range(sum(map(len, captures)) // 200)]
     reads = numbers.choice([0, 0.2, 1])
     lines += [f"read {numbers.randrange(members)}\n" for _ in range(int(reads * len(lines)))]
     numbers.shuffle(lines)
@@ -367,10 +389,10 @@ def some_outcome(case, numbers):
     for back, (place, ms) in enumerate(zip(places, case.moments)):
         lines.insert(place + back, f"tick {ms}\n")
     code = filter_verdicts.program(case.listing) if case.listing else None
-    return by_hand.replay(by_hand.Setup(case.setup), "".join(lines), case.captures, code)
+    return second_runs.replay(Setup(case.setup), "".join(lines), captures, code)
 
 
-def made_wrong(lines, files):
+def made_wrong(lines: str, files: Files) -> Iterator[tuple[str, str, Files, int]]:
     """The outcome, wrong in one thing each."""
     name, other = "out.0.pcap", "out.1.pcap"
     data = files[name]
@@ -395,19 +417,19 @@ def made_wrong(lines, files):
     yield "a line more", lines + "\n", files, 0
 
 
-def tests_differ():
-    """How many outcomes of by_hand.py are refused, and how many that were made wrong aren't."""
+def tests_differ() -> int:
+    """How many outcomes of the second program are refused, and how many that were made wrong aren't."""
     numbers = random.Random(5)
     cases = [case for case in (random_case(numbers) for _ in range(60)) if None not in case.captures]
     wrong = refused(faults, ((case, (*some_outcome(case, numbers), Arriving(case).status())) for case in cases))
     text = setup_text(SIZES[0], 2) + "members 2\nmode cpu\ndump yes\n"
     data = [header() + b"".join(record(frame(60, fill=at), sec=cpu, fraction=at) for at in range(9)) for cpu in range(2)]
     case = Case(text, data, None, [])
-    lines, files = by_hand.replay(by_hand.Setup(text), "", data)
+    lines, files = second_runs.replay(Setup(text), "", data)
     return wrong + passing(faults, case, made_wrong(lines, files))
 
 
-def main():
+def main() -> None:
     program, runs = os.path.abspath(sys.argv[1]), int(sys.argv[2]) if len(sys.argv) > 2 else 300
     numbers, wrong = random.Random(4), tests_differ()
     cases = [*sum_cases(), *(random_case(numbers) for _ in range(runs))]

@@ -1,5 +1,5 @@
 #!/usr/bin/env bash
-# The demo prints and saves what stands in demo/expected. That was worked out by by_hand.py, and is worked out again here
+# The demo prints and saves what stands in demo/expected. That was worked out by second_program.py, and is worked out again here
 # where python3 is there.
 set -u
 . "$(dirname "${BASH_SOURCE[0]}")/common.bash"
@@ -38,10 +38,10 @@ for name in setup small group make send capture; do
         same made "$name" 'the program gives something else'
     done
     if command -v python3 >/dev/null; then
-        rm -rf by_hand && mkdir by_hand
-        python3 -B "$top/checks/by_hand.py" "${words[@]}" by_hand >lines.txt
-        mv lines.txt by_hand
-        same by_hand "$name" 'by_hand.py gives something else'
+        rm -rf second && mkdir second
+        python3 -B "$top/checks/second_program.py" "${words[@]}" second >lines.txt
+        mv lines.txt second
+        same second "$name" 'second_program.py gives something else'
     fi
 done
 exit "$failed"

@@ -8,12 +8,15 @@
 
 It runs in the top folder of the repository.
 """
+from __future__ import annotations
+
 import os
 import pathlib
 import re
 import shutil
 import subprocess
 import sys
+from collections.abc import Callable, Iterator
 
 import runs
 
@@ -21,8 +24,11 @@ TOP = pathlib.Path.cwd()
 REFERENCE = TOP / "docs/reference.md"
 COLUMNS = 110  # of a line of README.md
 
+Found = tuple[int, list[str]]  # how many things were looked at, and what is wrong with some
+Step = tuple[str, list[str]]  # a command, and the lines that are shown below it
+
 # Where the program's words come from: a file, and what finds them there, each group a word or a line.
-WORDS = [
+WORDS: list[tuple[str, str, set[str]]] = [
     ("setup_text/src/setup_error.rt", r'=> "(\w+)"', {"memory"}),
     ("setup_text/src/text_error.rt", r'=> "(\w+)"', {"memory"}),
     ("setup_text/src/setup_words.rt", r'=> "(\w+)"', set()),
@@ -49,25 +55,25 @@ STATUSES, STATUS = "tap_engine/src/outcomes.rt", r"Status::\w+(?:\([^)]*\)| \{[^
 ENDINGS = ["tap_saving/src/members.rt", "tap_saving/src/names.rt"]
 
 
-def source(name):
+def source(name: str) -> str:
     """The text of a file of a crate, without its comments."""
     text = (TOP / "crates" / name).read_text(encoding="utf-8")
     return re.sub(r"//.*", "", text)
 
 
-def shown(text):
+def shown(text: str) -> str:
     """What a document shows as code: in backticks, in indented lines and in fenced blocks."""
     blocks = re.findall(r"^```.*?\n(.*?)^```", text, re.M | re.S) + re.findall(r"^    .*$", text, re.M)
     return "\n".join(re.findall(r"`([^`\n]+)`", text) + blocks).replace("\\|", "|")
 
 
-def stands(phrase, document):
+def stands(phrase: str, document: str) -> bool:
     """Whether a document shows a line of the program, with something in each place."""
     parts = [re.escape(part) for part in re.split(r"\{[^}]*\}", phrase.removesuffix("\\n"))]
     return re.search(r".+?".join(parts), document) is not None
 
 
-def printable(text):
+def printable(text: str) -> Iterator[tuple[str, str, set[str], str, Callable[[str], object]]]:
     """What the sources can print: where it stands, what finds it there, what of that is never printed, what it is, and whether the
     reference, whose text this is, has it."""
     document = shown(text)
@@ -80,9 +86,9 @@ def printable(text):
         yield name, r'"(\.[a-z.]+)"', set(), "the file", lambda ending: ending in document
 
 
-def words():
+def words() -> Found:
     """The words, lines, statuses and files of the sources that the reference lacks, and the sources in which none is found."""
-    found, wrong = 0, []
+    found, wrong = 0, list[str]()
     for name, pattern, never, what, has in printable(REFERENCE.read_text(encoding="utf-8")):
         texts = sorted(set(re.findall(pattern, source(name))) - never)
         found += len(texts)
@@ -92,7 +98,7 @@ def words():
     return found, wrong
 
 
-def documents():
+def documents() -> list[pathlib.Path]:
     """All documents of the repository."""
     return [
         TOP / "README.md",
@@ -103,13 +109,13 @@ def documents():
     ]
 
 
-def anchors(path):
+def anchors(path: pathlib.Path) -> set[str]:
     """The places of a document that a link can name."""
     headings = re.findall(r"^#+ (.*)$", path.read_text(encoding="utf-8"), re.M)
     return {re.sub(r"[^\w\- ]", "", heading.lower()).replace(" ", "-") for heading in headings}
 
 
-def links():
+def links() -> Found:
     """The links that lead nowhere, and the lines of README.md that are too long."""
     wrong = []
     found = 0
@@ -140,9 +146,9 @@ def links():
     return found, wrong
 
 
-def known_names():
+def known_names() -> set[str]:
     """Each name that stands in the sources, the scripts, the list of crates, or as a kernel's in the reference."""
-    names = set()
+    names: set[str] = set()
     for pattern in ("crates/*/src/**/*.rt", "crates/*/specs/**/*.antt", "crates/*/must-fail/*", "checks/*", "bench/*", "demo/*", "crates.txt", "docs/reference.md"):
         for path in TOP.glob(pattern):
             names.add(path.stem)
@@ -151,7 +157,7 @@ def known_names():
     return names
 
 
-def names():
+def names() -> Found:
     """The names in backticks of which no source knows anything."""
     known = known_names()
     wrong = []
@@ -177,7 +183,7 @@ def names():
 # ---- the commands of a document
 
 
-def steps(text):
+def steps(text: str) -> list[tuple[str, list[Step]]]:
     """The commands of a document, by its sections: each with the lines that are shown below it."""
     section = []
     for heading, body in re.findall(r"(?:^|^(## .*)$)(.*?)(?=^## |\Z)", text, re.M | re.S):
@@ -185,9 +191,9 @@ def steps(text):
     return [(heading, found) for heading, found in section if found]
 
 
-def steps_of(block):
+def steps_of(block: str) -> list[Step]:
     """The commands of one block. A here-document goes on up to its last word."""
-    found = []
+    found: list[tuple[list[str], list[str]]] = []
     end = None
     for line in block.rstrip("\n").split("\n"):
         if end is not None:
@@ -204,13 +210,13 @@ def steps_of(block):
     return [("\n".join(command), lines) for command, lines in found]
 
 
-def agrees(printed, expected):
+def agrees(printed: str, expected: list[str]) -> bool:
     """Whether lines are those that are expected; `...` stands for any lines."""
     pattern = "".join(r"(?:.*\n)*?" if line == "..." else re.escape(line) + "\n" for line in expected)
     return re.fullmatch(pattern, printed) is not None
 
 
-def lacks(command):
+def lacks(command: str) -> str | None:
     """A tool that a command uses and that isn't there."""
     for tool in ("tcpdump", "python3", "awk", "gzip"):
         if re.search(rf"\b{tool}\b", command) and not shutil.which(tool):
@@ -218,18 +224,18 @@ def lacks(command):
     return None
 
 
-def differs(command, expected, room, program):
+def differs(command: str, expected: list[str], room: str, program: str) -> str | None:
     """What is wrong with what a command prints on standard output, if something is."""
     path = f"{pathlib.Path(program).resolve().parent}:{os.environ['PATH']}"
     environment = {**os.environ, "PATH": path, "LC_ALL": "C.UTF-8", "TZ": "UTC"}
     done, why = runs.run(["bash", "-c", command], cwd=room, env=environment, stdin=subprocess.DEVNULL)
-    if why:
+    if done is None:
         return why
     printed, complained = done.stdout.decode("utf-8", "replace"), done.stderr.decode("utf-8", "replace")
     return None if agrees(printed, expected) else f"it printed\n{printed}{complained}in place of\n" + "\n".join(expected)
 
 
-def commands(program, room, name):
+def commands(program: str, room: str, name: str) -> Found:
     """The commands of a document that print something else. Where a tool is missing the rest of its section is left out."""
     wrong = []
     found = 0
@@ -246,9 +252,10 @@ def commands(program, room, name):
     return found, wrong
 
 
-def main():
+def main() -> None:
     what, *rest = sys.argv[1:]
-    found, wrong = {"words": words, "links": links, "names": names, "commands": commands}[what](*rest)
+    checks: dict[str, Callable[..., Found]] = {"words": words, "links": links, "names": names, "commands": commands}
+    found, wrong = checks[what](*rest)
     for line in wrong:
         print(line)
     print(f"{what}{' of ' + rest[-1] if rest else ''}: {found}, {len(wrong)} wrong")

@@ -4,15 +4,22 @@
 The programs and packets are read from the test of documented codes and from the table of filter_table; what an instruction
 does is written down here once more, from the documented meaning of its code. A difference is printed, and fails.
 """
+from __future__ import annotations
+
 import re
 import sys
+from collections.abc import Callable, Iterator
+from pathlib import Path
 
 TEST = "crates/group_tests/src/documented_codes.rt"
 TABLE = "crates/filter_table/stdin"
 ANSWERS = "crates/filter_table/stdout"
 WORD = 2**32
 
-OPERATIONS = {
+Program = list[tuple[int, ...]]  # instructions, each with its code, jt, jf and k
+Row = tuple[Program, "Packet", int, str]  # a program, a packet, the verdict that is expected, and a name
+
+OPERATIONS: dict[int, Callable[[int, int], int | None]] = {
     0x00: lambda a, b: (a + b) % WORD,
     0x10: lambda a, b: (a - b) % WORD,
     0x20: lambda a, b: (a * b) % WORD,
@@ -24,7 +31,7 @@ OPERATIONS = {
     0x90: lambda a, b: a % b if b else None,
     0xA0: lambda a, b: a ^ b,
 }
-TESTS = {
+TESTS: dict[int, Callable[[int, int], bool]] = {
     0x10: lambda a, b: a == b,
     0x20: lambda a, b: a > b,
     0x30: lambda a, b: a >= b,
@@ -36,15 +43,15 @@ SIZES = {0x00: 4, 0x08: 2, 0x10: 1}
 class Packet:
     """What a filter sees: the captured bytes, the length on the wire, and numbers by their ancillary offset."""
 
-    def __init__(self, data, wire, facts=None):
+    def __init__(self, data: bytes, wire: int, facts: dict[int, int] | None = None) -> None:
         self.data, self.wire, self.facts = data, wire, facts or {}
 
-    def read(self, place, size):
+    def read(self, place: int, size: int) -> int | None:
         return int.from_bytes(self.data[place:place + size], "big") if place + size <= len(self.data) else None
 
-    def load(self, code, place, x):
+    def load(self, code: int, place: int, x: int) -> int | None:
         """The number of a load that isn't from the memory words, or None past the bytes."""
-        mode, size = code & 0xE0, SIZES.get(code & 0x18)
+        mode, size = code & 0xE0, SIZES[code & 0x18]
         if mode == 0x00:
             return place
         if mode == 0x80:
@@ -57,7 +64,8 @@ class Packet:
         return self.facts.get(place - 0xFFFFF000, self.read(place, size))
 
 
-def verdict(code, packet):
+def verdict(code: Program, packet: Packet) -> int:
+    """What a program answers to a packet: how many of its bytes are kept, or 0."""
     a, x, memory, at = 0, 0, [0] * 16, 0
     while True:
         number, jt, jf, k = code[at]
@@ -84,31 +92,33 @@ def verdict(code, packet):
             a = x
 
 
-def program(text):
+def program(text: str) -> Program:
+    """The instructions of a text as tcpdump -ddd prints it."""
     return [tuple(map(int, line.split())) for line in text.splitlines()[1:]]
 
 
-def test_rows():
+def test_rows() -> Iterator[Row]:
     """The rows of the test's table: program, packet, what is expected, and a name."""
-    source = open(TEST).read()
+    source = Path(TEST).read_text(encoding="utf-8")
     start = source.index("static VERDICTS")
     table = source[start:source.index("];", start)]
-    count = int(re.search(r"; (\d+)\] =", table).group(1))
+    count = int(re.findall(r"; (\d+)\] =", table)[0])
     rows = re.findall(r'"([^"]*)",\s*(\d+),?\s*\)', table)
     if len(rows) != count:
-        sys.exit("%s: %d of %d rows were read" % (TEST, len(rows), count))
+        sys.exit(f"{TEST}: {len(rows)} of {count} rows were read")
     facts = {0: 0x0806, 4: 2, 8: 1, 24: 70001, 28: 1, 32: 0x51CCC178, 36: 5}
     packet = Packet(bytes.fromhex("123456789abcdef0"), 1500, facts)
     for text, expected in rows:
-        yield program(text.replace("\\n", "\n")), packet, int(expected), "%s: %s" % (TEST, text)
+        yield program(text.replace("\\n", "\n")), packet, int(expected), f"{TEST}: {text}"
 
 
-def table_rows():
+def table_rows() -> Iterator[Row]:
     """The same of the table, in which each program is run on each frame."""
-    packets, answers = [], iter(open(ANSWERS).read().splitlines())
+    packets: list[Packet] = []
+    answers = iter(Path(ANSWERS).read_text(encoding="ascii").splitlines())
     places = (0, 4, 24, 32, 36)
     text, name = "", ""
-    for line in open(TABLE).read().splitlines():
+    for line in Path(TABLE).read_text(encoding="ascii").splitlines():
         word, _, rest = line.partition(" ")
         if word == "frame":
             wire, _, data = rest.partition(" ")
@@ -121,17 +131,17 @@ def table_rows():
         elif line == "end":
             expected = next(answers)[len(name) + 1:].split()
             for number, packet in enumerate(packets):
-                yield program(text), packet, int(expected[number]), "%s: frame %d, %s" % (TABLE, number, name)
+                yield program(text), packet, int(expected[number]), f"{TABLE}: frame {number}, {name}"
         else:
             text += line + "\n"
 
 
-def main():
+def main() -> None:
     differences = 0
     for code, packet, expected, name in [*test_rows(), *table_rows()]:
         found = verdict(code, packet)
         if found != expected:
-            print("%s: %d, and not %d" % (name, found, expected))
+            print(f"{name}: {found}, and not {expected}")
             differences += 1
     sys.exit(differences != 0)
 

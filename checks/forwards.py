@@ -9,41 +9,40 @@ Without its own lines and files a run has to be one of `capture`, which captures
   are the records of `PREFIX.M.tx.pcap`, in order, each with time 0 and its own length as the length on the wire.
 - Its line `forward M sent N skipped K` stands after its `member` line, N of it are the sent ones and K all others.
 
-Before the runs outcomes of by_hand.py are tested, which have to pass, and then are made wrong in one thing each.
+Before the runs outcomes of the second program are tested, which have to pass, and then are made wrong in one thing each.
 """
+from __future__ import annotations
+
 import os
 import random
 import struct
 import sys
+from collections.abc import Iterator
 
-import by_hand
 import captures
+import second_runs
+from capture_bytes import header, record
+from capture_frames import frames_of
+from captures import Case
 from outcomes import passing, refused, wrong_runs
-from replays import SIZES, frame, header, record, setup_text
+from replays import SIZES, frame, setup_text
+from second_runs import LEAST_FRAME, Files, sent_file
+from second_setup import Setup
 
 
-def frames_in(output):
-    """The frames of an output, in order."""
-    frames, place = [], 24
-    while place + 16 <= len(output):
-        size = struct.unpack("<I", output[place + 8 : place + 12])[0]
-        frames.append(output[place + 16 : place + 16 + size])
-        place += 16 + size
-    return frames
-
-
-def sent_of(setup, output):
+def sent_of(setup: Setup, output: bytes) -> tuple[bytes, int, int]:
     """The file that a member's sender gives for an output, and the line's two numbers."""
-    frames = frames_in(output)
-    sent = [data for data in frames if 14 <= len(data) <= setup.slot_room]
-    records = (struct.pack("<IIII", 0, 0, len(data), len(data)) + data for data in sent)
-    return by_hand.output_of([]) + b"".join(records), len(sent), len(frames) - len(sent)
+    frames, _ = frames_of(output)
+    sent = [frame.data for frame in frames if LEAST_FRAME <= len(frame.data) <= setup.slot_room]
+    return sent_file(sent), len(sent), len(frames) - len(sent)
 
 
-def parted(setup, lines, files):
+def parted(setup: Setup, lines: str, files: Files) -> tuple[str, Files, list[tuple[str | None, str]], Files]:
     """The lines and files of `capture`, and those of `forward` alone, each line with the one before it."""
     sent = {f"{setup.prefix}.{member}.tx.pcap" for member in range(setup.members)}
-    plain, own, last = [], [], None
+    plain: list[str] = []
+    own: list[tuple[str | None, str]] = []
+    last = None
     for line in lines.split("\n"):
         if line.startswith("forward "):
             own.append((last, line))
@@ -54,9 +53,9 @@ def parted(setup, lines, files):
     return "\n".join(plain), rest, own, {name: data for name, data in files.items() if name in sent}
 
 
-def faults(case, lines, files, status):
+def faults(case: Case, lines: str, files: Files, status: int) -> Iterator[str]:
     """What is wrong with a run."""
-    setup = by_hand.Setup(case.setup)
+    setup = Setup(case.setup)
     plain, rest, own, sent = parted(setup, lines, files)
     yield from captures.faults(case, plain, rest, status)
     if len(own) != setup.members or len(sent) != setup.members:
@@ -72,14 +71,14 @@ def faults(case, lines, files, status):
             yield f"member {member}: what was sent isn't what fits of its output"
 
 
-def some_outcome(case, numbers):
-    """An outcome of `capture` by by_hand.py, with what is sent of it."""
-    setup = by_hand.Setup(case.setup)
+def some_outcome(case: Case, numbers: random.Random) -> tuple[str, Files]:
+    """An outcome of `capture` by the second program, with what is sent of it."""
+    setup = Setup(case.setup)
     lines, files = captures.some_outcome(case, numbers)
     return with_sent(setup, lines, files)
 
 
-def with_sent(setup, lines, files):
+def with_sent(setup: Setup, lines: str, files: Files) -> tuple[str, Files]:
     """An outcome of `capture` with the lines and files of `forward`."""
     found, files = [], dict(files)
     for line in lines.split("\n"):
@@ -92,7 +91,7 @@ def with_sent(setup, lines, files):
     return "\n".join(found), files
 
 
-def made_wrong(lines, files):
+def made_wrong(lines: str, files: Files) -> Iterator[tuple[str, str, Files]]:
     """The outcome, wrong in one thing each."""
     name, other = "out.0.tx.pcap", "out.1.tx.pcap"
     data, line = files[name], next(line for line in lines.split("\n") if line.startswith("forward 0 "))
@@ -110,20 +109,20 @@ def made_wrong(lines, files):
     yield "the line at the end", lines.replace(line + "\n", "") + line, files
 
 
-def tests_differ():
-    """How many outcomes of by_hand.py are refused, and how many that were made wrong aren't."""
+def tests_differ() -> int:
+    """How many outcomes of the second program are refused, and how many that were made wrong aren't."""
     numbers = random.Random(6)
     cases = [case for case in (captures.random_case(numbers) for _ in range(40)) if None not in case.captures]
     wrong = refused(faults, ((case, (*some_outcome(case, numbers), captures.Arriving(case).status())) for case in cases))
     text = setup_text(SIZES[0], 2) + "members 2\nmode cpu\ndump yes\n"
     long = record(frame(5000), sec=0, fraction=20)
     data = [header() + b"".join(record(frame(60, fill=at + 20 * cpu), sec=cpu, fraction=at) for at in range(9)) for cpu in range(2)]
-    case = captures.Case(text, [data[0] + long, data[1]], None, [])
-    lines, files = with_sent(by_hand.Setup(text), *by_hand.replay(by_hand.Setup(text), "", case.captures))
+    case = Case(text, [data[0] + long, data[1]], None, [])
+    lines, files = with_sent(Setup(text), *second_runs.replay(Setup(text), "", case.captures))
     return wrong + passing(faults, case, ((*outcome, 0) for outcome in made_wrong(lines, files)))
 
 
-def main():
+def main() -> None:
     program, runs = os.path.abspath(sys.argv[1]), int(sys.argv[2]) if len(sys.argv) > 2 else 200
     numbers, wrong = random.Random(7), tests_differ()
     cases = [*captures.sum_cases(), *(captures.random_case(numbers) for _ in range(runs))]

@@ -5,12 +5,17 @@ Each line is the path of a test and a text that must stand in it: `test_values.s
 reassembled datagram is that of its first fragment with the total length set, the more bit and the offset cleared and
 the checksum computed anew (RFC 791).
 """
+from __future__ import annotations
+
 import struct
 
 from frame_values import address, array, ones_sum, say
 
 
-def header(ident, flags, data, source, dest, ttl=64, protocol=17, options=b""):
+def header(
+    ident: int, flags: int, data: int, source: int, dest: int, ttl: int = 64, protocol: int = 17, options: bytes = b""
+) -> bytes:
+    """The header of a datagram with so many bytes of data."""
     length = 20 + len(options)
     head = struct.pack(">BBHHHBBHII", 0x40 + length // 4, 0, length + data, ident, flags, ttl, protocol, 0, source, dest)
     head += options

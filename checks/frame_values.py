@@ -3,10 +3,12 @@
 
 Each line is the path of a test and a text that must stand in it: `test_values.sh` looks for each.
 """
+from __future__ import annotations
+
 import struct
 
 
-def ones_sum(data):
+def ones_sum(data: bytes) -> int:
     """The ones' complement sum of 16-bit words with the carry brought round at each step (RFC 1071)."""
     total = 0
     for (word,) in struct.iter_unpack(">H", data):
@@ -16,7 +18,10 @@ def ones_sum(data):
     return total
 
 
-def built(to, source_mac, ident, source, dest, sport, dport, payload):
+def built(
+    to: bytes, source_mac: bytes, ident: int, source: int, dest: int, sport: int, dport: int, payload: bytes
+) -> bytes:
+    """A UDP datagram of IPv4 in an Ethernet frame."""
     udp = struct.pack(">HHHH", sport, dport, 8 + len(payload), 0)
     head = struct.pack(">BBHHHBBHII", 0x45, 0, 20 + len(udp) + len(payload), ident, 0x4000, 64, 17, 0, source, dest)
     checksum = 0xFFFF ^ ones_sum(head)
@@ -25,15 +30,15 @@ def built(to, source_mac, ident, source, dest, sport, dport, payload):
     return to + source_mac + b"\x08\x00" + head + udp + payload
 
 
-def array(data):
-    return "".join(f"{byte:02x}" for byte in data)
+def array(data: bytes) -> str:
+    return data.hex()
 
 
-def address(text):
+def address(text: str) -> int:
     return struct.unpack(">I", bytes(int(part) for part in text.split(".")))[0]
 
 
-def say(path, text):
+def say(path: str, text: str) -> None:
     print(f"{path}\t{text}")
 
 

@@ -3,6 +3,8 @@
 
 Each line is the path of a test and a text that must stand in it: `test_values.sh` looks for each.
 """
+from __future__ import annotations
+
 import ipaddress
 import struct
 
@@ -11,7 +13,7 @@ KEY = "6d5a56da255b0ec24167253d43a38fb0d0ca2bcbae7b30b477cb2da38030f20c6a42b73bb
 TESTS = "crates/frame_tests/src/flow_hashes.rt"
 
 
-def toeplitz(data):
+def toeplitz(data: bytes) -> int:
     """For each set bit the 32 key bits from its place on."""
     value, key = int.from_bytes(data, "big"), int(KEY, 16)
     size = 8 * len(data)
@@ -22,22 +24,20 @@ def toeplitz(data):
     return result
 
 
-def ends(source, dest, sport=None, dport=None):
+def ends(source: str, dest: str, sport: int, dport: int) -> bytes:
     """The two ends, the smaller first."""
-    near = (ipaddress.ip_address(source).packed, sport or 0)
-    far = (ipaddress.ip_address(dest).packed, dport or 0)
-    near, far = min(near, far), max(near, far)
-    ports = b"" if sport is None else struct.pack(">HH", near[1], far[1])
-    return near[0] + far[0] + ports
+    near, far = sorted([(ipaddress.ip_address(source).packed, sport), (ipaddress.ip_address(dest).packed, dport)])
+    return near[0] + far[0] + struct.pack(">HH", near[1], far[1])
 
 
-def raw(source, dest, *ports):
+def raw(source: str, dest: str, *ports: int) -> bytes:
+    """The addresses and the ports as they are published."""
     return ipaddress.ip_address(source).packed + ipaddress.ip_address(dest).packed + b"".join(
         struct.pack(">H", port) for port in ports
     )
 
 
-def say(value):
+def say(value: int) -> None:
     text = f"{value:08x}"
     print(f"{TESTS}\t0x{text[:4]}_{text[4:]}")
 

@@ -1,5 +1,5 @@
 #!/usr/bin/env python3
-"""Captures that somebody made to do harm: a program answers each of them with the end and the place that by_hand.py works out,
+"""Captures that somebody made to do harm: a program answers each of them with the end and the place that the second program works out,
 and by work that the bytes allow.
 
     hostile_captures.py PROGRAM [COUNT]
@@ -14,6 +14,8 @@ of MANY may take at most DEARER times the instructions of a fragment of a datagr
 
 A run on threads has a ring that holds everything, with the frames of one CPU for each member, so it gives what a replay gives.
 """
+from __future__ import annotations
+
 import ctypes
 import multiprocessing
 import os
@@ -23,19 +25,23 @@ import shutil
 import struct
 import sys
 import tempfile
+from collections.abc import Callable, Iterator
 
-import by_hand
 import replays
 import runs
+from capture_bytes import block, enhanced, header, interface, record, simple
+from capture_bytes import section as section_header
+from capture_frames import frames_of
 from outcomes import found_wrong
-from replays import SIZES, Case, frame, header, record, setup_text
+from replays import SIZES, Case, Shape, frame, setup_text
+from second_program import save
 
 EXTREMES = [0, 1, 13, 14, 17, 18, 262_143, 262_144, 262_145, 2**31 - 1, 2**31, 2**32 - 16, 2**32 - 1]
 
 COMMANDS = ["replay", "send", "capture", "replay2"]
 
 # A ring that holds all frames of a capture of less than 10,000 bytes.
-ROOMY = (65536, 16, 2048, 512)
+ROOMY: Shape = (65536, 16, 2048, 512)
 
 # The larger of the two sizes whose work is compared, the most that the work may grow by, and the pages by which it may grow in any
 # case, since a list that doubles touches more at once. A thread that waits works too, so of a run on threads only the end is tested.
@@ -45,38 +51,27 @@ LARGE, GROWTH, FEW_PAGES = 8_388_608, 2.2, 100
 FEW, MANY, FRAGMENTS, DEARER = 500, 8_000, 16_000, 3
 
 
-def base(order):
+def base(order: str) -> bytes:
     """A capture of some frames: plain, tagged, a fragment, a runt and an empty one."""
     fragment = frame(14) + bytes.fromhex("4500002812342000401100000a0000010a000002") + bytes(20)
     frames = [frame(60), frame(64, b"\x81\x00\x00\x64\x08\x00"), fragment, frame(13), b"", frame(590)]
     return header(order) + b"".join(record(data, order) for data in frames)
 
 
-def block(order, kind, body):
-    """A block of a pcapng capture."""
-    body += bytes(-len(body) % 4)
-    return struct.pack(order + "II", kind, 12 + len(body)) + body + struct.pack(order + "I", 12 + len(body))
-
-
-def section(order):
+def section(order: str) -> bytes:
     """A section with two interfaces, of microseconds and of nanoseconds, and packets of both, one of no interface, and another block."""
-    second = struct.pack(order + "HHI", 1, 0, 40) + struct.pack(order + "HHB3xHH", 9, 1, 9, 0, 0)
-    blocks = [block(order, by_hand.SECTION, struct.pack(order + "IHHq", 0x1A2B3C4D, 1, 0, -1))]
-    blocks += [block(order, by_hand.INTERFACE, struct.pack(order + "HHI", 1, 0, 0)), block(order, by_hand.INTERFACE, second)]
-    for name, data in [(0, frame(60)), (1, frame(64, b"\x81\x00\x00\x64\x08\x00")), (1, frame(13))]:
-        words = struct.pack(order + "5I", name, 1, 2_000_000_000, len(data), len(data))
-        blocks.append(block(order, by_hand.ENHANCED, words + data))
-    blocks.append(block(order, 0x0BAD, bytes(21)))
-    blocks.append(block(order, by_hand.SIMPLE, struct.pack(order + "I", 59) + frame(59)))
-    return b"".join(blocks)
+    blocks = [section_header(order), interface(order), interface(order, 9, 40)]
+    for number, data in [(0, frame(60)), (1, frame(64, b"\x81\x00\x00\x64\x08\x00")), (1, frame(13))]:
+        blocks.append(enhanced(order, number, (1 << 32) + 2_000_000_000, data))
+    return b"".join([*blocks, block(order, 0x0BAD, bytes(21)), simple(order, frame(59))])
 
 
-def pcapng(order):
+def pcapng(order: str) -> bytes:
     """A pcapng capture of two sections, the second of the other byte order."""
     return section(order) + section("<>"[order == "<"])
 
 
-def block_places(capture, order):
+def block_places(capture: bytes, order: str) -> Iterator[int]:
     """Where each block of the first section begins."""
     place = 0
     while place < len(section(order)):
@@ -84,7 +79,7 @@ def block_places(capture, order):
         place += struct.unpack(order + "I", capture[place + 4 : place + 8])[0]
 
 
-def places(capture, order):
+def places(capture: bytes, order: str) -> Iterator[int]:
     """Where each record of a capture begins."""
     place = 24
     while place < len(capture):
@@ -92,11 +87,11 @@ def places(capture, order):
         place += 16 + struct.unpack(order + "I", capture[place + 8 : place + 12])[0]
 
 
-def with_field(capture, place, order, number):
+def with_field(capture: bytes, place: int, order: str, number: int) -> bytes:
     return capture[:place] + struct.pack(order + "I", number) + capture[place + 4 :]
 
 
-def extremes():
+def extremes() -> Iterator[bytes]:
     """Each field of the file's header and of each record's, at its extremes."""
     for order in "<>":
         capture = base(order)
@@ -114,7 +109,7 @@ def extremes():
                     yield with_field(capture, place, order, number)
 
 
-def cuts():
+def cuts() -> Iterator[bytes]:
     """A capture that ends at each byte of each header, and at the first and the last byte of the data after it."""
     for order in "<>":
         capture = base(order)
@@ -128,7 +123,7 @@ def cuts():
             yield pcapng(order)[:end]
 
 
-def changed(count):
+def changed(count: int) -> Iterator[bytes]:
     """Captures of which some bytes are others."""
     numbers = random.Random(4)
     for _ in range(count):
@@ -140,7 +135,7 @@ def changed(count):
         yield bytes(capture)
 
 
-def case_of(command, capture, numbers):
+def case_of(command: str, capture: bytes, numbers: random.Random) -> Case:
     """A run of a command over a capture, with a setup that is drawn."""
     if command == "send":
         text = setup_text(numbers.choice(SIZES)) + numbers.choice(["", "skip_bad yes\n"])
@@ -153,7 +148,7 @@ def case_of(command, capture, numbers):
     return Case("capture", setup_text(ROOMY, cpus) + flags, captures=[capture, base("<")][:cpus])
 
 
-def cases(count):
+def cases(count: int) -> Iterator[Case]:
     numbers = random.Random(5)
     for capture in [*extremes(), *cuts()]:
         for command in COMMANDS:
@@ -162,14 +157,18 @@ def cases(count):
         yield case_of(COMMANDS[at % len(COMMANDS)], capture, numbers)
 
 
-def run_share(program, share, number):
+Answer = tuple[int, dict[str, int], list[str]]
+
+
+def run_share(program: str, share: list[Case], number: int) -> Answer:
     """Runs the cases whose number leaves this rest, in a folder of its own: how many, how their first captures end, and what is wrong."""
-    count, ends, wrong = 0, {}, []
+    ends: dict[str, int] = {}
+    count, wrong = 0, []
     with tempfile.TemporaryDirectory() as room:
         os.chdir(room)
         for case in share[number::WORKERS]:
             whys = found_wrong(replays.faults, case, lambda case: replays.run_of(program, case))
-            end = by_hand.frames_of(case.captures[0])[1].split()[0]
+            end = frames_of(case.captures[0])[1].split()[0]
             ends[end] = ends.get(end, 0) + 1
             count += 1
             if whys:
@@ -181,36 +180,36 @@ def run_share(program, share, number):
 WORKERS = min(4, os.cpu_count() or 1)
 
 
-def run_all(program, count):
+def run_all(program: str, count: int) -> int:
     """Runs all cases, and says how many are wrong."""
     share = list(cases(count))
     with multiprocessing.Pool(WORKERS) as pool:
         answers = pool.starmap(run_share, [(program, share, number) for number in range(WORKERS)])
-    ends = {}
+    ends: dict[str, int] = {}
     for _, shares, wrong in answers:
         for end, number in shares.items():
             ends[end] = ends.get(end, 0) + number
         for line in wrong:
             print(line)
-    wrong = sum(len(lines) for _, _, lines in answers)
+    faults = sum(len(lines) for _, _, lines in answers)
     told = ", ".join(f"{number} {end}" for end, number in sorted(ends.items()))
-    print(f"hostile_captures.py: {sum(count for count, _, _ in answers)} runs ({told}), {wrong} of them wrong")
-    return wrong
+    print(f"hostile_captures.py: {sum(count for count, _, _ in answers)} runs ({told}), {faults} of them wrong")
+    return faults
 
 
-def fragment(ident, offset, more, data):
+def fragment(ident: int, offset: int, more: bool, data: bytes) -> bytes:
     """A fragment of an IPv4 datagram: its offset in units of eight bytes, and whether more follow."""
     head = struct.pack(">BBHHHBBH", 0x45, 0, 20 + len(data), ident % 65536, offset + 0x2000 * more, 64, 17, 0)
     return frame(14) + head + bytes.fromhex("0a0000010a000002") + data
 
 
-def first_lost(count):
+def first_lost(count: int) -> Callable[[int], bytes]:
     """Datagrams of so many fragments of eight bytes, in order, each without its first: the frame of a number."""
     return lambda at: fragment(at // count, 1 + at % count, at % count < count - 1, bytes(8))
 
 
 # The forms that ask most of each byte of a capture: the frame of a number, and the lines of the setup.
-FORMS = {
+FORMS: dict[str, tuple[Callable[[int], bytes], str]] = {
     "records without a byte": (lambda at: b"", ""),
     "runts": (lambda at: frame(13), ""),
     "frames of 14 bytes for members that are full": (lambda at: frame(14), "members 8\nmode rollover\n"),
@@ -221,7 +220,7 @@ FORMS = {
 }
 
 
-def write_form(data_of):
+def write_form(data_of: Callable[[int], bytes]) -> None:
     """Writes a capture of at most LARGE bytes, and one of the records in its first half."""
     parts, place, half, at = [header()], 24, 0, 0
     while True:
@@ -232,38 +231,38 @@ def write_form(data_of):
         if place <= LARGE // 2:
             half = place
     whole = b"".join(parts[:-1])
-    by_hand.save(".", {"half.pcap": whole[:half], "whole.pcap": whole})
+    save(".", {"half.pcap": whole[:half], "whole.pcap": whole})
 
 
-def instructions_of(words):
+def instructions_of(words: list[str]) -> tuple[int | None, str | None]:
     """The instructions of a run as valgrind counts them, and None; or None, and what is wrong with how it ends."""
     tool = ["valgrind", "--tool=cachegrind", "--cache-sim=no", "--cachegrind-out-file=/dev/null", "--vgdb=no"]
     ran, why = runs.run([*tool, *words], text=True)
-    if why or ran.returncode:
-        return None, why or f"status {ran.returncode}"
+    if ran is None or ran.returncode:
+        return None, f"status {ran.returncode}" if ran else why
     counted = re.search(r"I\s+refs:\s+([\d,]+)", ran.stderr)
     return (int(counted[1].replace(",", "")), None) if counted else (None, "valgrind counts nothing of it")
 
 
-def pages_of(words):
+def pages_of(words: list[str]) -> int:
     """The pages of memory that a run touches first."""
     child = os.posix_spawn(words[0], words, os.environ, file_actions=[(os.POSIX_SPAWN_OPEN, 1, os.devnull, os.O_WRONLY, 0)])
     return os.wait4(child, 0)[2].ru_minflt
 
 
-def write_texts(capture, lines):
+def write_texts(capture: str, lines: str) -> None:
     text = setup_text(SIZES[0]).replace("in0.pcap", capture) + lines
-    by_hand.save(".", {"conf": text.encode(), "sched": b""})
+    save(".", {"conf": text.encode(), "sched": b""})
 
 
-def grows(program, command, name, lines):
+def grows(program: str, command: str, name: str, lines: str) -> str | None:
     """What is wrong with the work for a form, if something is."""
     counts, pages = [], []
     for capture in ("half.pcap", "whole.pcap"):
         write_texts(capture, lines)
         words = [program, command, "conf"] + ["sched"] * (command == "replay")
         count, why = instructions_of(words)
-        if why:
+        if count is None:
             return f"{name}, {command}: {why}"
         counts.append(count)
         pages.append(pages_of(words))
@@ -277,24 +276,24 @@ def grows(program, command, name, lines):
     return None
 
 
-def ends_on_threads(program, name, lines):
+def ends_on_threads(program: str, name: str, lines: str) -> str | None:
     """What is wrong with a form on threads, if something is."""
     write_texts("whole.pcap", lines)
     ran, why = runs.run([program, "capture", "conf"])
-    if why or ran.returncode:
-        return f"{name}, capture: {why or f'status {ran.returncode}'}"
+    if ran is None or ran.returncode:
+        return f"{name}, capture: {f'status {ran.returncode}' if ran else why}"
     return None
 
 
-def long_datagrams_cost(program):
+def long_datagrams_cost(program: str) -> str | None:
     """What is wrong with the instructions for fragments of long datagrams beside those for as many of short ones, if something is."""
     each = []
     for size in (FEW, MANY):
         frames = map(first_lost(size), range(FRAGMENTS))
-        by_hand.save(".", {"whole.pcap": header() + b"".join(map(record, frames))})
+        save(".", {"whole.pcap": header() + b"".join(map(record, frames))})
         write_texts("whole.pcap", "flag defrag\n")
         count, why = instructions_of([program, "replay", "conf", "sched"])
-        if why:
+        if count is None:
             return f"datagrams of {size:,} fragments, replay: {why}"
         each.append(count // FRAGMENTS)
     told = f"{each[0]:,} instructions for a fragment of a datagram of {FEW}, {each[1]:,} for one of {MANY:,}"
@@ -302,7 +301,7 @@ def long_datagrams_cost(program):
     return f"{told}: more than {DEARER} times as many" if each[1] > DEARER * each[0] else None
 
 
-def whys_of_forms(program, counts):
+def whys_of_forms(program: str, counts: bool) -> Iterator[str | None]:
     """What is wrong with the forms, of which each is written into the present folder; None where nothing is."""
     for name, (data_of, lines) in FORMS.items():
         write_form(data_of)
@@ -314,9 +313,9 @@ def whys_of_forms(program, counts):
         yield long_datagrams_cost(program)
 
 
-def growing(program):
+def growing(program: str) -> int:
     """How many forms take work that grows faster than their bytes, or than their fragments, or don't end on threads."""
-    counts = shutil.which("valgrind")
+    counts = shutil.which("valgrind") is not None
     if not counts:
         print("skipped: the growth of the work needs valgrind")
     wrong = 0
@@ -329,13 +328,13 @@ def growing(program):
     return wrong
 
 
-def refuse_huge_pages():
+def refuse_huge_pages() -> None:
     """Gives this process and those that it starts pages of one size alone. The system makes huge pages of as many as are free at the
     moment, so with them the pages that a run touches would be a matter of the machine's load."""
     ctypes.CDLL(None).prctl(41, 1, 0, 0, 0)  # PR_SET_THP_DISABLE, which processes that are started inherit
 
 
-def main():
+def main() -> None:
     refuse_huge_pages()
     program = os.path.abspath(sys.argv[1])
     count = int(sys.argv[2]) if len(sys.argv) > 2 else 10_000

@@ -1,6 +1,6 @@
 #!/usr/bin/env bash
 # Captures that somebody made to do harm (lengths at their extremes, cuts at each byte of a header, 10,000 captures with bytes
-# changed at random) give the status, the lines and the files that by_hand.py works out, and no form of input costs much more than
+# changed at random) give the status, the lines and the files that second_program.py works out, and no form of input costs much more than
 # a plain one of its size.
 set -u
 . "$(dirname "${BASH_SOURCE[0]}")/common.bash"

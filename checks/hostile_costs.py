@@ -20,17 +20,17 @@ import os
 import re
 import shutil
 import statistics
-import struct
 import subprocess
 import sys
 import tempfile
 from collections.abc import Callable, Iterator
 from dataclasses import dataclass
 
-import by_hand
-import runs
-from hostile_captures import block, fragment, instructions_of, refuse_huge_pages
-from replays import frame, header, record, setup_text
+import capture_bytes
+from capture_bytes import INTERFACE, SIMPLE, block, header, interface, record, section
+from hostile_captures import fragment, instructions_of, refuse_huge_pages
+from replays import frame, setup_text
+from second_program import save
 
 # The bytes of an input whose instructions are counted, and of one whose memory and time are compared.
 SIZE, LARGE = 1 << 20, 8 << 20
@@ -77,8 +77,7 @@ def capture_of(frame_at: Frames) -> Callable[[int], dict[str, bytes]]:
 
 def blocks_of(*parts: bytes) -> Callable[[int], dict[str, bytes]]:
     """A pcapng capture of at most so many bytes: a section, an interface, and these blocks again and again."""
-    section = block("<", by_hand.SECTION, struct.pack("<IHHq", 0x1A2B3C4D, 1, 0, -1))
-    start = section + block("<", by_hand.INTERFACE, struct.pack("<HHI", 1, 0, 262_144))
+    start = section("<") + interface("<", snap=262_144)
     round_ = b"".join(parts)
     return lambda size: {"in0.pcap": start + round_ * ((size - len(start)) // len(round_))}
 
@@ -115,12 +114,11 @@ def copies(at: int) -> bytes:
 
 
 def enhanced(data: bytes) -> bytes:
-    return block("<", by_hand.ENHANCED, struct.pack("<5I", 0, 0, 0, len(data), len(data)) + data)
+    return capture_bytes.enhanced("<", 0, 0, data)
 
 
 DEFRAG = "flag defrag\n"
 ALL = ("replay", "replay2", "send", "capture", "forward")
-SECTION = block("<", by_hand.SECTION, struct.pack("<IHHq", 0x1A2B3C4D, 1, 0, -1))
 TAG = b"\x81\x00\x00\x64\x08\x00"
 
 FORMS: dict[str, Form] = {
@@ -140,12 +138,12 @@ FORMS: dict[str, Form] = {
     "a late fragment of each datagram": Form(capture_of(lambda at: fragment(at, FULL_DATAGRAM - 1, True, bytes(8))), lines=DEFRAG, timed=True),
     "pcapng: packets of 60 bytes": Form(blocks_of(enhanced(frame(60))), commands=("replay", "send")),
     "pcapng: packets without a byte": Form(blocks_of(enhanced(b"")), commands=("replay", "send")),
-    "pcapng: simple packets without a byte": Form(blocks_of(block("<", by_hand.SIMPLE, bytes(4)))),
+    "pcapng: simple packets without a byte": Form(blocks_of(block("<", SIMPLE, bytes(4)))),
     "pcapng: skipped blocks of 12 bytes": Form(blocks_of(block("<", 0x0BAD, b""))),
     "pcapng: skipped blocks of 1 MB": Form(blocks_of(block("<", 0x0BAD, bytes(999_988)))),
-    "pcapng: interfaces": Form(blocks_of(block("<", by_hand.INTERFACE, struct.pack("<HHI", 1, 0, 0)))),
-    "pcapng: interfaces of 524,288 bytes": Form(blocks_of(block("<", by_hand.INTERFACE, struct.pack("<HHI", 1, 0, 0) + bytes(524_268)))),
-    "pcapng: sections": Form(blocks_of(SECTION)),
+    "pcapng: interfaces": Form(blocks_of(interface("<"))),
+    "pcapng: interfaces of 524,288 bytes": Form(blocks_of(block("<", INTERFACE, interface("<")[8:-4] + bytes(524_268)))),
+    "pcapng: sections": Form(blocks_of(section("<"))),
     # Each of the nine tries of a frame is a note of 96 bytes, as docs/reference.md tells.
     "rollover over 8 full members": Form(capture_of(lambda at: frame(60)), ring=DROPS, lines="members 8\nmode rollover\n", commands=("replay", "replay2")),
     "a schedule of feeds": Form(lines_of("sched", lambda at: "feed 0\n")),
@@ -175,7 +173,7 @@ def write(form: Form, size: int, command: str) -> None:
     text = re.sub(r"pcap 0$", "pcap", setup_text(ring), flags=re.M) + form.lines
     if command == "send":
         text += "skip_bad yes\n"
-    by_hand.save(".", {"sched": b"", "conf": text.encode(), **form.files(size)})
+    save(".", {"sched": b"", "conf": text.encode(), **form.files(size)})
 
 
 # Starts a run and prints its user time, its largest resident size and its status. It is a process of its own, and a small one, since

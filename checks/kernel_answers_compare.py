@@ -2,18 +2,17 @@
 """Compares a kernel's answers (kernel_answers.py) with what is told of them, and with ringtap's."""
 from __future__ import annotations
 
-import struct
 from pathlib import Path
 
 import runs
-from by_hand import frames_of
+from capture_bytes import OUTPUT_HEADER, output, record
+from capture_frames import frames_of
 from kernel_answers import Asked, Attached, Question, Sending
 from kernel_compare import Tally, Wrong
 from kernel_frames import untagged
 from kernel_sockets import V2, Request
 
 Answered = Asked | Attached | Question | Sending
-PCAP = struct.pack("<IHHiIII", 0xA1B23C4D, 2, 4, 0, 0, 262_144, 1)
 
 
 def setup_of(request: Request, more: str = "") -> str:
@@ -22,7 +21,7 @@ def setup_of(request: Request, more: str = "") -> str:
     return "".join(lines) + f"cpu in.pcap\n{more}"
 
 
-def run(program: str, room: Path, command: str, setup: str, capture: bytes = PCAP) -> str:
+def run(program: str, room: Path, command: str, setup: str, capture: bytes = OUTPUT_HEADER) -> str:
     """What ringtap prints."""
     (room / "conf").write_text(setup, encoding="ascii")
     (room / "sched").write_text("", encoding="ascii")
@@ -68,9 +67,9 @@ def compare_refusal(case: Asked | Attached, given: list[str], program: str, room
 def compare_sending(case: Sending, given: list[str], program: str, room: Path) -> None:
     """The frames that came out are those that ringtap sends, byte for byte, and the ring stops at the same frame. Where they come
     out the kernel takes a tag out of them."""
-    capture = PCAP + b"".join(struct.pack("<IIII", 0, 0, len(frame), len(frame)) + frame for frame in case.frames)
+    capture = output(record(frame, sec=0, fraction=0) for frame in case.frames)
     printed = run(program, room, "send", setup_of(case.request, "out out\n" + "skip_bad yes\n" * case.loss), capture)
-    ours = [untagged(frame.bytes) for frame in frames_of((room / "out.tx.pcap").read_bytes())[0]]
+    ours = [untagged(frame.data) for frame in frames_of((room / "out.tx.pcap").read_bytes())[0]]
     theirs = [bytes.fromhex(line) for line in given if " " not in line]
     if ours != theirs:
         raise Wrong(f"{len(theirs)} frames of the kernel and {len(ours)} of ringtap aren't the same")

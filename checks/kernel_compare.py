@@ -12,6 +12,7 @@ from dataclasses import dataclass, field, replace
 from pathlib import Path
 from typing import Callable, Iterator
 
+import capture_bytes
 import runs
 from kernel_frames import untagged
 from kernel_plans import V2, V3, Case, Feed, Member, Record
@@ -183,12 +184,11 @@ def captures_of(case: Case, record: Record) -> list[bytes]:
     """A capture for each CPU."""
     frames = frames_with_times(case, record)
     count = 1 + max([feed.cpu for _, _, feed in frames], default=0)
-    captures = [struct.pack("<IHHiIII", 0xA1B23C4D, 2, 4, 0, 0, 262_144, 1) for _ in range(count)]
+    captures = [capture_bytes.OUTPUT_HEADER] * count
     for second, nano, feed in frames:
         if feed.outgoing:
             continue
-        size = len(feed.frame)
-        captures[feed.cpu] += struct.pack("<IIII", second, nano, size, size) + feed.frame
+        captures[feed.cpu] += capture_bytes.record(feed.frame, sec=second, fraction=nano)
     return captures
 
 

@@ -8,36 +8,39 @@ the fragments in bytes, their order, and of what the kernel gives the header's l
 the time to live and the SHA-256 of the data; `kernel_fragments.txt` has these lines. Without the right to open a raw socket
 it ends with status 77.
 """
+from __future__ import annotations
+
 import hashlib
 import itertools
 import socket
 import struct
 import sys
+from collections.abc import Iterator, Sequence
 
 PROTOCOL = 253  # for experiments, RFC 3692
 HERE = socket.inet_aton("127.0.0.1")
 SECONDS = 60  # that a datagram may take, which the kernel gives at once
 
 
-def places(length):
+def places(length: int) -> bytes:
     """The data of a datagram: each byte is the remainder of its place by 251."""
     return bytes(place % 251 for place in range(length))
 
 
-def fragment(ident, ttl, options, at, data, more):
+def fragment(ident: int, ttl: int, options: bytes, at: int, data: bytes, more: bool) -> bytes:
     size = 20 + len(options)
     head = struct.pack(">BBHHHBBH", 0x40 + size // 4, 0, size + len(data), ident, at // 8 + 0x2000 * more, ttl, PROTOCOL, 0)
     return head + HERE + HERE + options + data
 
 
-def fragments(ident, ttl, options, sizes):
+def fragments(ident: int, ttl: int, options: bytes, sizes: Sequence[int]) -> Iterator[bytes]:
     whole, at = places(sum(sizes)), 0
     for size in sizes:
         yield fragment(ident, ttl, options, at, whole[at:at + size], at + size < len(whole))
         at += size
 
 
-def received(socket_in, ident):
+def received(socket_in: socket.socket, ident: int) -> bytes:
     """The datagram of an identification; others that came before are skipped."""
     while True:
         whole = socket_in.recv(65535)
@@ -45,7 +48,12 @@ def received(socket_in, ident):
             return whole
 
 
-def check(out, socket_in, ident, ttl, options, sizes, order):
+Case = tuple[int, bytes, list[int], tuple[int, ...]]  # the time to live, the options, the sizes and the order of the fragments
+
+
+def check(out: socket.socket, socket_in: socket.socket, ident: int, case: Case) -> None:
+    """Sends the fragments of a datagram, and prints what the kernel makes of them."""
+    ttl, options, sizes, order = case
     pieces = list(fragments(ident, ttl, options, sizes))
     for place in order:
         out.sendto(pieces[place], ("127.0.0.1", 0))
@@ -63,7 +71,7 @@ def check(out, socket_in, ident, ttl, options, sizes, order):
     print(*map("-".join, (map(str, sizes), map(str, order))), size, length, flags, whole[8], digest)
 
 
-def main():
+def main() -> None:
     try:
         out = socket.socket(socket.AF_INET, socket.SOCK_RAW, socket.IPPROTO_RAW)
         socket_in = socket.socket(socket.AF_INET, socket.SOCK_RAW, PROTOCOL)
@@ -71,12 +79,12 @@ def main():
         sys.exit(77)
     socket_in.settimeout(SECONDS)
     ident = 0x1234
-    cases = [(64, b"", [24, 16, 8, 5], order) for order in itertools.permutations(range(4))]
+    cases: list[Case] = [(64, b"", [24, 16, 8, 5], order) for order in itertools.permutations(range(4))]
     cases += [(119, b"", [256, 196], (0, 1)), (119, b"", [256, 196], (1, 0)), (64, b"", [8, 8, 4], (2, 0, 1))]
     cases += [(64, b"\x01" * 40, [65472, 3], (1, 0))]
     for case in cases:
         ident += 1
-        check(out, socket_in, ident, *case)
+        check(out, socket_in, ident, case)
 
 
 if __name__ == "__main__":

@@ -3,6 +3,10 @@
 
 Each line is the path of a test and a text that must stand in it: `test_values.sh` looks for each.
 """
+from __future__ import annotations
+
+from collections.abc import Iterator
+
 from frame_values import address, built
 
 TESTS = "crates/frame_tests/src/made_frames.rt"
@@ -10,13 +14,13 @@ TO = bytes.fromhex("020000000002")
 FROM = bytes.fromhex("020000000001")
 
 
-def draws(state):
+def draws(state: int) -> Iterator[int]:
     while True:
         state = (state * 6364136223846793005 + 1442695040888963407) % 2**64
         yield state >> 32
 
 
-def made(seed, count):
+def made(seed: int, count: int) -> Iterator[bytes]:
     numbers = draws(seed)
     for i in range(count):
         a, b, c, d = (next(numbers) for _ in range(4))
@@ -26,14 +30,14 @@ def made(seed, count):
         )
 
 
-def fnv(data, value=0x811C9DC5):
+def fnv(data: bytes, value: int = 0x811C9DC5) -> int:
     """FNV-1a of 32 bits."""
     for byte in data:
         value = (value ^ byte) * 0x01000193 % 2**32
     return value
 
 
-def number(value):
+def number(value: int) -> str:
     text = f"{value:08x}"
     return f"0x{text[:4]}_{text[4:]}"
 

@@ -7,6 +7,8 @@ files that it may have with threads.
 As root the program runs as a user who has no process else, since root has no such limit. The program and the folder that it runs in
 have to be of use to every user.
 """
+from __future__ import annotations
+
 import os
 import random
 import resource
@@ -14,11 +16,12 @@ import shutil
 import subprocess
 import sys
 import tempfile
+from collections.abc import Iterator
 
 import captures
 from captures import Case, capture_of, faults, inputs_of
 from hash_values import KEY
-from outcomes import outcome_of, save_alone, wrong_runs
+from outcomes import Outcome, outcome_of, save_alone, wrong_runs
 from replays import SIZES, setup_text
 
 NOBODY = 61_234  # a user who has no process
@@ -34,18 +37,18 @@ GROUPS = [
 ]
 
 
-def cases():
+def cases() -> Iterator[Case]:
     numbers = random.Random(6)
     for cpus in (1, 4):
         for size in (SIZES[0], captures.LARGE[1]):
             for group in GROUPS:
-                for moments in ([], [1, 9, 9, 40]):
+                for moments in ((), (1, 9, 9, 40)):
                     text = setup_text(size, cpus) + group + "ticks ticks.txt\n" * bool(moments)
                     data = [capture_of(numbers, cpu, 120) for cpu in range(cpus)]
                     yield Case(text, data, None, moments)
 
 
-def alone():
+def alone() -> None:
     """Makes this process one that can start neither a thread nor another process."""
     if os.getuid() == 0:
         os.setgroups([])
@@ -55,7 +58,7 @@ def alone():
         os.setuid(NOBODY)
 
 
-def try_alone():
+def try_alone() -> None:
     """Fails where a process that is limited so can start another."""
     alone()
     try:
@@ -68,7 +71,7 @@ def try_alone():
     raise ChildProcessError("there is no such limit")
 
 
-def is_alone():
+def is_alone() -> bool:
     """Whether a process can be limited so here."""
     try:
         return subprocess.run(["/bin/true"], preexec_fn=try_alone, check=False).returncode == 0
@@ -76,7 +79,7 @@ def is_alone():
         return False
 
 
-def run_alone(program, case):
+def run_alone(program: str, case: Case) -> tuple[Outcome | None, str | None]:
     """The outcome of a run without threads in the present folder, which is of use to every user."""
     os.chmod(".", 0o777)
     inputs = inputs_of(case)
@@ -84,7 +87,7 @@ def run_alone(program, case):
     return outcome_of([program, "capture", "conf"], inputs, preexec_fn=alone)
 
 
-def main():
+def main() -> None:
     if not is_alone():
         print("skipped: no_threads.py can't forbid a program to start threads here")
         return

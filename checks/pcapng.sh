@@ -33,11 +33,11 @@ for capture in micro nano cut merged comments sections lo; do
     tshark -n -r "$name" -T fields -e frame.time_epoch -e frame.cap_len -e frame.len 2>said.txt | tr '\t' ' ' >theirs.txt
     [ -s theirs.txt ] || wrong "$name: tshark prints nothing: $(cat said.txt)"
     editcap -F nsecpcap "$name" copy.pcap || wrong "$name: editcap doesn't read it"
-    python3 -B "$top/checks/by_hand.py" --frames copy.pcap >copy.txt
+    python3 -B "$top/checks/capture_frames.py" copy.pcap >copy.txt
     for program in "${programs[@]}"; do
         rm -f out.0.pcap
         in_time "$program" replay conf sched >lines.txt || wrong "$name ended with status $?: $(head -1 lines.txt)"
-        python3 -B "$top/checks/by_hand.py" --frames out.0.pcap >out.txt
+        python3 -B "$top/checks/capture_frames.py" out.0.pcap >out.txt
         cut -d ' ' -f 1-3 out.txt | cmp - theirs.txt || wrong "$name: other times or lengths than tshark's"
         cmp out.txt copy.txt || wrong "$name: other frames than editcap's"
     done

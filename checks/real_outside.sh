@@ -64,7 +64,7 @@ saved() {
 # What was sent of the demo's capture: the frames before the first one that doesn't fit into a slot.
 sent() {
     if command -v python3 >/dev/null; then
-        python3 -B "$top/checks/by_hand.py" send conf "$room" >/dev/null
+        python3 -B "$top/checks/second_program.py" send conf "$room" >/dev/null
         cmp -s out.tx.pcap "$room/out.tx.pcap" || wrong "$1: out.tx.pcap isn't what was to be sent"
     fi
 }
@@ -398,7 +398,7 @@ making() {
     [ "$(grep -c '^cpu [01] frames 50 arrivals 50 end ok$' "$said")" -eq 2 ] || wrong "a make: printed '$(cat "$said")'"
     if command -v python3 >/dev/null; then
         mkdir "$room/made"
-        python3 -B "$top/checks/by_hand.py" make conf "$room/made" | cmp -s - "$said" || wrong 'a make: other lines'
+        python3 -B "$top/checks/second_program.py" make conf "$room/made" | cmp -s - "$said" || wrong 'a make: other lines'
         for file in "$room"/made/*; do
             cmp -s "$file" "${file##*/}" || wrong "a make: another ${file##*/}"
         done

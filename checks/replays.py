@@ -1,45 +1,54 @@
 #!/usr/bin/env python3
 """Replays captures of many kinds with a program, over rings of blocks and of slots, sends them, and has it make frames, and
-compares its status, lines and files with those of by_hand.py.
+compares its status, lines and files with those of the second program.
 
     replays.py PROGRAM
 
-Tables of runs that were worked out with pencil and paper stand before them, so that by_hand.py is compared too.
+Tables of runs that were worked out with pencil and paper stand before them, so that the second program is compared too.
 """
+from __future__ import annotations
+
 import os
 import random
 import struct
 import sys
-from collections import namedtuple
+from collections.abc import Iterator, Sequence
+from typing import NamedTuple
 
-import by_hand
 import filter_verdicts
 import made_values
 import outcomes
+import second_runs
+from capture_bytes import MICROSECONDS, NANOSECONDS, header, record
 from hash_values import KEY
+from outcomes import Outcome
+from second_rings import Ring, SlotRing
+from second_runs import Files
+from second_setup import Setup
 
-# A run: its command, its setup and schedule, the captures of the CPUs from 0 up, and the text of its filter, if it has one.
-Case = namedtuple("Case", "command setup schedule captures listing", defaults=("", [], None))
-
-SIZES = [(4096, 2, 2048, 4), (4096, 3, 128, 96), (8192, 2, 2048, 8), (65536, 4, 2048, 128)]
-
-
-def header(order="<", magic=0xA1B2C3D4, version=(2, 4), link=1):
-    return struct.pack(order + "IHHiIII", magic, *version, 0, 0, 65535, link)
+Shape = tuple[int, int, int, int]  # of a ring: block_size, block_nr, frame_size and frame_nr
 
 
-def record(data, order="<", sec=1, fraction=2, captured=None, original=None):
-    length = len(data) if captured is None else captured
-    wire = len(data) if original is None else original
-    return struct.pack(order + "IIII", sec, fraction, length, wire) + data
+class Case(NamedTuple):
+    """A run: its command, its setup and schedule, the captures of the CPUs from 0 up, and the text of its filter, if it has one."""
+
+    command: str
+    setup: str
+    schedule: str = ""
+    captures: Sequence[bytes] = ()
+    listing: str | None = None
 
 
-def frame(size, kind=b"\x08\x00", fill=0):
+SIZES: list[Shape] = [(4096, 2, 2048, 4), (4096, 3, 128, 96), (8192, 2, 2048, 8), (65536, 4, 2048, 128)]
+
+
+def frame(size: int, kind: bytes = b"\x08\x00", fill: int = 0) -> bytes:
     """A frame of so many bytes, or the front of one."""
     return (bytes.fromhex("020000000002" "020000000001") + kind + bytes((fill + i) % 256 for i in range(size)))[:size]
 
 
-def small_captures():
+def small_captures() -> Iterator[bytes]:
+    """Captures of few frames: plain and tagged ones in each form, cut ones, and ones that are refused."""
     plain = [frame(size, fill=size) for size in (60, 590, 1514, 9000, 3966, 3967, 14, 13, 0, 15)]
     tagged = [
         frame(64, b"\x81\x00\x00\x64\x08\x00"),
@@ -49,7 +58,7 @@ def small_captures():
         frame(64, b"\x91\x00\x00\x64\x08\x00"),
     ]
     for order in "<>":
-        for magic in (0xA1B2C3D4, 0xA1B23C4D):
+        for magic in (MICROSECONDS, NANOSECONDS):
             yield header(order, magic) + b"".join(record(data, order) for data in plain + tagged)
     yield header() + record(frame(60), original=1514) + record(frame(60), original=10) + record(frame(60), fraction=10**6)
     yield header(link=0xF0000001) + record(frame(60), fraction=4_294_967_295)
@@ -84,7 +93,8 @@ WORKED = [
 ]
 
 
-def worked_cases():
+def worked_cases() -> Iterator[tuple[str, bytes, str, int]]:
+    """The table: a schedule, a capture, its lines and the length of its file."""
     for lengths, schedule, (kept, drops, freezes, blocks), length in WORKED:
         arrivals = sum(size >= 14 for size in lengths)
         lines = (
@@ -108,7 +118,8 @@ SLOTS_WORKED = [
 ]
 
 
-def slot_cases():
+def slot_cases() -> Iterator[tuple[Case, str, int]]:
+    """The table: a case, its lines and the length of its file."""
     for lengths, schedule, (kept, drops, slots), length in SLOTS_WORKED:
         arrivals = sum(size >= 14 for size in lengths)
         lines = (
@@ -120,14 +131,14 @@ def slot_cases():
         yield Case("replay2", setup_text(SIZES[0]), schedule, [capture]), lines, length
 
 
-def large_captures():
+def large_captures() -> Iterator[bytes]:
     """One of exactly the most bytes that a capture may have, and one of a byte more."""
     whole = header() + 127 * record(frame(262_144)) + record(frame(260_072))
     yield whole
     yield whole + b"\0"
 
 
-def random_capture(numbers):
+def random_capture(numbers: random.Random) -> bytes:
     records = []
     for _ in range(numbers.randrange(80)):
         kind = numbers.choice([b"\x08\x00", b"\x86\xdd", b"\x81\x00\x00\x01\x08\x00", b"\x88\xa8\x00\x01\x08\x00"])
@@ -138,8 +149,9 @@ def random_capture(numbers):
     return data[: numbers.randrange(len(data))] if numbers.random() < 0.2 else data
 
 
-def random_schedule(numbers, cpus=1, members=1):
-    reads, clock, lines = numbers.choice([0.05, 0.2, 0.5]), 0, []
+def random_schedule(numbers: random.Random, cpus: int = 1, members: int = 1) -> str:
+    lines: list[str] = []
+    reads, clock = numbers.choice([0.05, 0.2, 0.5]), 0
     for _ in range(numbers.randrange(160)):
         chance = numbers.random()
         if chance < reads:
@@ -152,7 +164,7 @@ def random_schedule(numbers, cpus=1, members=1):
     return "".join(lines)
 
 
-def datagram(numbers):
+def datagram(numbers: random.Random) -> list[bytes]:
     """A UDP datagram of IPv4, whole or in fragments, which may be out of order, lost, doubled or overlapping."""
     addresses = bytes([10, 0, 0, numbers.randrange(1, 4), 10, 0, 0, numbers.randrange(1, 4)])
     data = struct.pack(">HHHH", numbers.randrange(1024, 1028), 53, 0, 0) + bytes(numbers.randrange(200))
@@ -171,8 +183,8 @@ def datagram(numbers):
     return pieces
 
 
-def group_capture(numbers):
-    frames = []
+def group_capture(numbers: random.Random) -> bytes:
+    frames: list[bytes] = []
     while len(frames) < numbers.randrange(60):
         if numbers.random() < 0.7:
             frames += datagram(numbers)
@@ -195,7 +207,9 @@ GROUP_LINES = ("dump yes", "flag defrag", "mac 020000000002")
 BLOCK_LINES = ("features 1", "priv 13", "tov 5")
 
 
-def group_case(numbers, sizes=tuple(SIZES[:3]), further=BLOCK_LINES):
+def group_case(
+    numbers: random.Random, sizes: Sequence[Shape] = tuple(SIZES[:3]), further: Sequence[str] = BLOCK_LINES
+) -> tuple[str, str, list[bytes], str | None]:
     """A setup of several CPUs and members, with its schedule, captures and filter."""
     cpus, members = numbers.randrange(1, 4), numbers.randrange(2, 5)
     text = setup_text(numbers.choice(sizes), cpus)
@@ -214,13 +228,13 @@ def group_case(numbers, sizes=tuple(SIZES[:3]), further=BLOCK_LINES):
 
 
 # The rings of sent captures: a slot has 2000, 80, 4048, 32 or 1,048,528 bytes of room.
-SLOTS = [(4096, 2, 2048, 4), (4096, 3, 128, 96), (4096, 2, 4096, 2), (8192, 2, 80, 204), (1_048_576, 3, 1_048_576, 3)]
+SLOTS: list[Shape] = [(4096, 2, 2048, 4), (4096, 3, 128, 96), (4096, 2, 4096, 2), (8192, 2, 80, 204), (1_048_576, 3, 1_048_576, 3)]
 # Lines that say nothing to `send`, which reads none of these files.
 UNUSED = "members 3\nmode lb\nflag defrag\nfilter none.ddd\nticks none.txt\ndump yes\nout sent\ntov 0\npriv 0\n"
 
 # The lengths of the frames of a capture that is sent through slots of 2000 bytes of room, whether longer ones are skipped,
 # and what follows: how many are sent, how many are skipped, where the ring stops, and the lengths that are saved.
-SENT = [
+SENT: list[tuple[list[int], bool, tuple[int, int, int | str], list[int]]] = [
     ([60, 3000, 60], False, (1, 0, 1), [60]),
     ([60, 3000, 60], True, (2, 1, "none"), [60, 60]),
     ([], False, (0, 0, "none"), []),
@@ -232,7 +246,7 @@ SENT = [
 ]
 
 
-def sent_cases():
+def sent_cases() -> Iterator[tuple[Case, str, int]]:
     """The table: a case, its lines and the length of its file."""
     for lengths, skips, (sent, skipped, stop), saved in SENT:
         text = setup_text(SIZES[0]) + "skip_bad yes\n" * skips
@@ -241,7 +255,7 @@ def sent_cases():
         yield Case("send", text, captures=[capture]), lines, 24 + sum(16 + size for size in saved)
 
 
-def sends():
+def sends() -> Iterator[Case]:
     """Captures that are sent, with and without longer frames, runts, tags, cuts, and more frames than slots."""
     for case, _, _ in sent_cases():
         yield case
@@ -256,7 +270,7 @@ def sends():
         yield Case("send", setup_text(SLOTS[4]), captures=[capture])
 
 
-def makes():
+def makes() -> Iterator[Case]:
     """Frames that are made, for rings that keep them and rings that drop, and for counts round the 64 of its reads."""
     numbers = random.Random(3)
     for count in (1, 2, 7, 8, 63, 64, 65, 127, 128, 129, 500):
@@ -271,7 +285,7 @@ def makes():
     yield Case("make", LARGE)
 
 
-def slots():
+def slots() -> Iterator[Case]:
     """Replays over rings of TPACKET_V2: of one member and of groups, with slots that are small, and of the most slots."""
     for case, _, _ in slot_cases():
         yield case
@@ -295,7 +309,7 @@ LARGE = (
 )
 
 
-def cases():
+def cases() -> Iterator[Case]:
     for schedule, capture, _, _ in worked_cases():
         yield Case("replay", setup_text(SIZES[0]), schedule, [capture])
     for capture in small_captures():
@@ -313,44 +327,45 @@ def cases():
     yield from makes()
 
 
-def setup_text(size, cpus=1):
+def setup_text(size: Shape, cpus: int = 1) -> str:
+    """The lines of a ring and of its CPUs."""
     words = ("block_size", "block_nr", "frame_size", "frame_nr")
     names = (f"cpu in{cpu}.pcap {cpu * 5}\n" for cpu in range(cpus))
     return "".join(f"{word} {number}\n" for word, number in zip(words, size)) + "".join(names)
 
 
-def by_hand_differs():
-    """How many of the worked runs come out of by_hand.py in another way."""
+def second_differs() -> int:
+    """How many of the worked runs come out of the second program in another way."""
     wrong = 0
     for schedule, capture, lines, length in worked_cases():
-        printed, files = by_hand.replay(by_hand.Setup(setup_text(SIZES[0])), schedule, [capture])
+        printed, files = second_runs.replay(Setup(setup_text(SIZES[0])), schedule, [capture])
         if printed != lines or len(files["out.0.pcap"]) != length:
             wrong += 1
-            print(f"by_hand.py gives {printed!r} in place of {lines!r}")
+            print(f"the second program gives {printed!r} in place of {lines!r}")
     for case, lines, length in [*slot_cases(), *sent_cases()]:
         printed, files = worked_out(case)
         if printed != lines or [len(data) for data in files.values()] != [length]:
             wrong += 1
-            print(f"by_hand.py gives {printed!r} in place of {lines!r}")
-    if [frame.bytes for frame in by_hand.made_frames(7, 300)] != list(made_values.made(7, 300)):
+            print(f"the second program gives {printed!r} in place of {lines!r}")
+    if [frame.data for frame in second_runs.made_frames(7, 300)] != list(made_values.made(7, 300)):
         wrong += 1
-        print("by_hand.py and made_values.py make other frames")
+        print("the second program and made_values.py make other frames")
     return wrong
 
 
-def worked_out(case):
+def worked_out(case: Case) -> tuple[str, Files]:
     """The lines and the files of a run."""
-    setup = by_hand.Setup(case.setup)
+    setup = Setup(case.setup)
     code = filter_verdicts.program(case.listing) if case.listing else None
     if case.command == "send":
-        return by_hand.send(setup, case.captures[0])
+        return second_runs.send(setup, case.captures[0])
     if case.command == "make":
-        return by_hand.make(setup, code)
-    kind = by_hand.SlotRing if case.command == "replay2" else by_hand.Ring
-    return by_hand.replay(setup, case.schedule, case.captures, code, kind)
+        return second_runs.make(setup, code)
+    kind = SlotRing if case.command == "replay2" else Ring
+    return second_runs.replay(setup, case.schedule, case.captures, code, kind)
 
 
-def run_of(program, case):
+def run_of(program: str, case: Case) -> tuple[Outcome | None, str | None]:
     """The outcome of a run in the present folder, in which there are no more files than the command reads."""
     inputs, words = outcomes.inputs_of(case), [program, case.command, "conf"]
     if case.command in ("replay", "replay2"):
@@ -360,7 +375,7 @@ def run_of(program, case):
     return outcomes.outcome_of(words, inputs)
 
 
-def faults(case, lines, files, status):
+def faults(case: Case, lines: str, files: Files, status: int) -> Iterator[str]:
     """What is wrong with a run: its status, its lines and the files that it saved."""
     expected, wanted = worked_out(case)
     ends = {line.split(" end ")[1] for line in expected.splitlines() if line.startswith("cpu")}
@@ -375,9 +390,9 @@ def faults(case, lines, files, status):
             yield f"another {name}"
 
 
-def main():
+def main() -> None:
     program = os.path.abspath(sys.argv[1])
-    wrong = by_hand_differs() + outcomes.wrong_runs("runs", faults, cases(), lambda case: run_of(program, case))
+    wrong = second_differs() + outcomes.wrong_runs("runs", faults, cases(), lambda case: run_of(program, case))
     sys.exit(1 if wrong else 0)
 
 

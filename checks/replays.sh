@@ -1,7 +1,7 @@
 #!/usr/bin/env bash
 # Captures of many kinds, each replayed over rings of several sizes or sent through transmit rings, groups of several CPUs and
 # members, with filters, keys, fragments, ticks and dumps, and frames that are made from a number give the status, the lines
-# and the files that by_hand.py works out.
+# and the files that second_program.py works out.
 set -u
 . "$(dirname "${BASH_SOURCE[0]}")/common.bash"
 wants python3

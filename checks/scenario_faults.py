@@ -10,7 +10,7 @@ from __future__ import annotations
 from collections.abc import Iterator
 from dataclasses import dataclass
 
-import by_hand
+from capture_frames import frames_of
 from scenario_texts import Lines, Scenario
 
 WRITTEN = 50  # the bytes that one write takes where writes are counted
@@ -84,11 +84,11 @@ def is_damage(end: str) -> bool:
 def read_of(scenario: Scenario, name: str, data: bytes) -> Given:
     """What the reads of a capture give until one fails, or damage is found after which nothing is read."""
     piece, failing = piece_of(scenario, name), numbers(scenario, "fail", name)
-    if not failing and not is_damage(by_hand.frames_of(data)[1]):
+    if not failing and not is_damage(frames_of(data)[1]):
         return Given(data, False, len(data))
     for number in range(1, len(data) // piece + 3):
         before = data[: piece * (number - 1)]
-        if is_damage(by_hand.frames_of(before)[1]):
+        if is_damage(frames_of(before)[1]):
             return Given(before, False, len(before))
         if number in failing:
             return Given(before, True, len(before))

@@ -5,10 +5,12 @@ A `Scenario` gives what stands in its files before the command, and what comes o
 from __future__ import annotations
 
 import re
-import struct
 from collections.abc import Iterator
 from dataclasses import dataclass
 from pathlib import Path
+
+import capture_bytes
+from capture_bytes import record
 
 Lines = list[str]
 
@@ -35,10 +37,6 @@ def repeated_line(line: str) -> str:
 def bytes_of(words: Lines) -> bytes:
     """The bytes of hexadecimal digits, of which a word may be repeated."""
     return b"".join(bytes.fromhex(digits) for word in words for digits in repeated(word))
-
-
-def record(sec: int, part: int, data: bytes, wire: int) -> bytes:
-    return struct.pack("<IIII", sec, part, len(data), wire) + data
 
 
 @dataclass(frozen=True)
@@ -111,8 +109,7 @@ class Scenario:
     def whole_captures(self) -> Iterator[tuple[str, bytes]]:
         tails = self.named("tail")
         for name, frames in self.captures():
-            data = struct.pack("<IHHiIII", 0xA1B2C3D4, 2, 4, 0, 0, 0xFFFF, 1)
-            data += b"".join(record(1, 2, frame, len(frame)) for frame in frames)
+            data = capture_bytes.header() + b"".join(map(record, frames))
             yield name, data + bytes_of(tails.get(name, "").split())
         raw: dict[str, bytes] = {}
         for value in self.values("raw"):
@@ -171,15 +168,15 @@ class Scenario:
     def records(self, words: Lines, sec: int, nsec: int) -> bytes:
         """The file of these frames, each at this second and nanosecond."""
         captures = self.kept_frames()
-        data = struct.pack("<IHHiIII", 0xA1B23C4D, 2, 4, 0, 0, 262_144, 1)
+        records = []
         for word in words:
             frames, _, most = word.partition("/")
             capture, _, indices = frames.rpartition(".")
             first, _, last = indices.partition("-")
             for index in range(int(first), int(last or first) + 1):
                 frame = captures[int(capture or 0)][index]
-                data += record(sec, nsec, frame[: int(most or len(frame))], len(frame))
-        return data
+                records.append(record(frame[: int(most or len(frame))], sec=sec, fraction=nsec, original=len(frame)))
+        return capture_bytes.output(records)
 
     def members(self) -> list[Member]:
         found = []

@@ -1,7 +1,7 @@
 #!/usr/bin/env python3
 """Tests what the scenarios of whole runs say, apart from the code of crates/scenarios that carries them out in memory.
 
-    scenarios.py FILE..                     works out anew what they say, by by_hand.py
+    scenarios.py FILE..                     works out anew what they say, by the second program
     scenarios.py --program PROGRAM FILE..   and carries them out with a program as well, over real files
 
 Worked out are the status, the lines, the files, each block, the tries and the notes of each run that isn't refused, with the calls
@@ -17,19 +17,23 @@ from collections.abc import Iterator
 from dataclasses import dataclass
 from pathlib import Path
 
-import by_hand
 import filter_verdicts
 import forwards
+import second_runs
 from scenario_faults import Ended, Given, ended, given_by, has_unread_text, texts_of
 from scenario_texts import Cpu, Lines, Scenario, scenarios
+from second_frames import Frame
+from second_rings import V2_HEADER, Offer, Ring, RingKind, SlotRing
+from second_runs import Files, Replay
+from second_setup import Setup
 
-REFUSED = (1, 2, 3)  # the statuses of which by_hand.py works nothing out
+REFUSED = (1, 2, 3)  # the statuses of which the second program works nothing out
 
 
-class NotedRing(by_hand.Ring):
+class NotedRing(Ring):
     """A ring with the letters of its notes, as crates/report_text writes them."""
 
-    def __init__(self, setup: by_hand.Setup) -> None:
+    def __init__(self, setup: Setup) -> None:
         super().__init__(setup)
         self.notes = ""
 
@@ -38,15 +42,15 @@ class NotedRing(by_hand.Ring):
         number = len(self.done) + retired + 1 - self.count
         self.notes += letter + (str(number) if letter in "rdH" and number != 1 else "")
 
-    def try_put(self, offer: by_hand.Offer) -> bool:
-        kept: bool = super().try_put(offer)
+    def try_put(self, offer: Offer) -> bool:
+        kept = super().try_put(offer)
         if not kept:
             self.note("r", self.open is not None)
         return kept
 
-    def put(self, offer: by_hand.Offer) -> bool:
+    def put(self, offer: Offer) -> bool:
         fitted = self.fits(offer)
-        kept: bool = super().put(offer)
+        kept = super().put(offer)
         self.note("k" if fitted else "n" if kept else "d")
         return kept
 
@@ -56,10 +60,10 @@ class NotedRing(by_hand.Ring):
         self.note("t" if not is_due else "T" if self.open == [] else "H")
 
 
-class NotedSlots(by_hand.SlotRing):
+class NotedSlots(SlotRing):
     """A ring of slots with the letters of its notes; no tick is noted."""
 
-    def __init__(self, setup: by_hand.Setup) -> None:
+    def __init__(self, setup: Setup) -> None:
         super().__init__(setup)
         self.notes = ""
 
@@ -67,34 +71,36 @@ class NotedSlots(by_hand.SlotRing):
         number = len(self.done) + 1 - self.count
         self.notes += letter + (str(number) if letter in "rd" and number != 1 else "")
 
-    def try_put(self, offer: by_hand.Offer) -> bool:
-        kept: bool = super().try_put(offer)
+    def try_put(self, offer: Offer) -> bool:
+        kept = super().try_put(offer)
         self.note("n" if kept else "r")
         return kept
 
-    def put(self, offer: by_hand.Offer) -> None:
-        before = len(self.done)
-        super().put(offer)
-        if len(self.done) == before:
+    def put(self, offer: Offer) -> bool:
+        kept = super().put(offer)
+        if not kept:
             self.notes = self.notes[: self.notes.rindex("r")]
             self.note("d")
+        return kept
 
 
-class Logged(by_hand.Replay):
+class Logged(Replay):
     """A replay with the tries of each arrival, as crates/report_text writes them."""
 
-    def __init__(self, *given: object) -> None:
-        super().__init__(*given)
+    rings: list[NotedRing] | list[NotedSlots]
+
+    def __init__(self, setup: Setup, captures: list[bytes], program: filter_verdicts.Program | None, kind: RingKind) -> None:
+        super().__init__(setup, captures, program, kind)
         self.logs = [""] * len(self.frames)
 
-    def arrive(self, cpu: int, frame: by_hand.Frame) -> None:
+    def arrive(self, cpu: int, frame: Frame) -> None:
         if frame.index != len(self.verdicts[cpu]):
             self.logs[cpu] += f"@{frame.index} "
         self.logs[cpu] += str(self.ticket) if self.setup.mode == "lb" else ""
         super().arrive(cpu, frame)
         self.logs[cpu] += "."
 
-    def deliver(self, cpu: int, offer: by_hand.Offer, home: int) -> None:
+    def deliver(self, cpu: int, offer: Offer, home: int) -> None:
         before = [len(ring.notes) for ring in self.rings]
         super().deliver(cpu, offer, home)
         new = [ring.notes[length:] for ring, length in zip(self.rings, before)]
@@ -117,12 +123,12 @@ class Run:
     status: str
     fetches: int
     lines: str
-    files: dict[str, bytes]
+    files: Files
     cpus: list[Cpu]
     notes: Lines
 
 
-def with_forwards(setup: by_hand.Setup, lines: str, files: dict[str, bytes]) -> tuple[str, dict[str, bytes]]:
+def with_forwards(setup: Setup, lines: str, files: Files) -> tuple[str, Files]:
     """The lines and the files of a run of `capture`, with what each member sends of it."""
     told, saved = "", {}
     for line in lines.splitlines(keepends=True):
@@ -146,20 +152,18 @@ def held_schedule(scenario: Scenario, count: int) -> str:
     return schedule
 
 
-def sources(scenario: Scenario, setup: by_hand.Setup) -> tuple[list[Given], str]:
+def sources(scenario: Scenario, setup: Setup) -> tuple[list[Given], str]:
     """What the captures of a run's CPUs give, and its schedule."""
     if scenario.first_word() != "make":
         schedule = scenario.inputs()["sched"].decode() if scenario.first_word() in ("replay", "replay2") else ""
         if scenario.values("hold"):
             schedule = held_schedule(scenario, len(scenario.captures()[0][1]))
         return given_by(scenario, [name for name, _ in setup.cpus]), schedule
-    seed, count = setup.made
-    frames = list(by_hand.made_frames(seed, count))
-    made = [by_hand.output_of(frames[cpu :: len(setup.cpus)]) for cpu in range(len(setup.cpus))]
-    return [Given(data, False, len(data)) for data in made], by_hand.made_schedule(count, len(setup.cpus), setup.members)
+    made = second_runs.made_captures(setup)
+    return [Given(data, False, len(data)) for data in made], second_runs.made_schedule(setup)
 
 
-def replayed(scenario: Scenario, setup: by_hand.Setup, given: list[Given], schedule: str) -> Logged:
+def replayed(scenario: Scenario, setup: Setup, given: list[Given], schedule: str) -> Logged:
     """The replay of what captures give."""
     code = filter_verdicts.program(scenario.text("filter")) if setup.filter else None
     kind = NotedSlots if scenario.first_word() == "replay2" else NotedRing
@@ -184,7 +188,7 @@ def status_of(given: list[Given], ends: Lines) -> str:
     return f"4 Damaged {{ cpu: {cpu}, fault: {word.title().replace('_', '')}{at} }}"
 
 
-def worked_run(scenario: Scenario, setup: by_hand.Setup) -> Run:
+def worked_run(scenario: Scenario, setup: Setup) -> Run:
     """A run of members. Ticks on threads are left out, as they are where such runs are compared."""
     given, schedule = sources(scenario, setup)
     replay = replayed(scenario, setup, given, schedule)
@@ -197,10 +201,10 @@ def worked_run(scenario: Scenario, setup: by_hand.Setup) -> Run:
     return Run(status_of(given, replay.ends), fetches, lines, files, cpus, notes)
 
 
-def sent_run(scenario: Scenario, setup: by_hand.Setup) -> Run:
+def sent_run(scenario: Scenario, setup: Setup) -> Run:
     """A run of `send`."""
     (given,) = given_by(scenario, [setup.cpus[0][0]])
-    lines, files = by_hand.send(setup, given.data)
+    lines, files = second_runs.send(setup, given.data)
     first, rest = lines.split("\n", 1)
     front, end = first.split(" end ")
     return Run(status_of([given], [end]), 2, f"{front} end {'fault' if given.is_fault else end}\n{rest}", files, [], [])
@@ -209,7 +213,7 @@ def sent_run(scenario: Scenario, setup: by_hand.Setup) -> Run:
 def worked_out(scenario: Scenario) -> Run:
     if has_unread_text(scenario):
         return Run("5 ReadFault", len(texts_of(scenario)), "read fault\n", {}, [], [])
-    setup = by_hand.Setup(scenario.text("conf", "with") + "dump yes\n")
+    setup = Setup(scenario.text("conf", "with") + "dump yes\n")
     return sent_run(scenario, setup) if scenario.first_word() == "send" else worked_run(scenario, setup)
 
 
@@ -222,7 +226,7 @@ def end_of(scenario: Scenario, run: Run) -> Ended:
 
 def parts_of(dump: bytes, is_slots: bool) -> Iterator[tuple[int, int]]:
     """The status and the length of each block of a dump, or of each slot up to the end of its packet."""
-    status_at, length_at, more = (0, 8, by_hand.V2_HEADER) if is_slots else (8, 20, 0)
+    status_at, length_at, more = (0, 8, V2_HEADER) if is_slots else (8, 20, 0)
     while dump:
         status = int.from_bytes(dump[status_at : status_at + 4], "little")
         length = int.from_bytes(dump[length_at : length_at + 4], "little") + more
@@ -240,7 +244,7 @@ def same_lines(said: str, found: str) -> bool:
     return same and said.count("\n") == found.count("\n")
 
 
-def other_files(scenario: Scenario, files: dict[str, bytes]) -> Iterator[str]:
+def other_files(scenario: Scenario, files: Files) -> Iterator[str]:
     """The files that are there and must not be, or hold other bytes than is said, as far as they have to be there."""
     parts, absent = scenario.parts(), scenario.absent()
     yield from (f"{name} is there" for name in absent if name in files)
@@ -251,7 +255,7 @@ def other_files(scenario: Scenario, files: dict[str, bytes]) -> Iterator[str]:
             yield f"another {name}"
 
 
-def other_blocks(scenario: Scenario, files: dict[str, bytes]) -> Iterator[str]:
+def other_blocks(scenario: Scenario, files: Files) -> Iterator[str]:
     """The dumps, where they are there, that aren't made of the blocks that are said."""
     for at, member in enumerate(scenario.members()):
         dump = files.get(f"out.{at}.blk")
@@ -260,7 +264,7 @@ def other_blocks(scenario: Scenario, files: dict[str, bytes]) -> Iterator[str]:
             yield f"blocks {parts} of out.{at}.blk"
 
 
-def other_bytes(scenario: Scenario, files: dict[str, bytes]) -> Iterator[str]:
+def other_bytes(scenario: Scenario, files: Files) -> Iterator[str]:
     """The places of files, where they are there, at which other bytes stand."""
     for value in scenario.values("file"):
         name, at, *digits = value.split()
@@ -279,7 +283,7 @@ def other_report(scenario: Scenario, run: Run) -> Iterator[str]:
         yield "a report that isn't there, or one that isn't said"
 
 
-def by_hand_differs(scenario: Scenario) -> Iterator[str]:
+def second_differs(scenario: Scenario) -> Iterator[str]:
     """What is worked out in another way."""
     run = worked_out(scenario)
     end = end_of(scenario, run)
@@ -330,7 +334,7 @@ def can_be_carried_out(scenario: Scenario) -> bool:
 
 def differences(scenario: Scenario, program: Path | None) -> Iterator[str]:
     if can_be_worked_out(scenario):
-        yield from ("by hand: " + what for what in by_hand_differs(scenario))
+        yield from ("the second program: " + what for what in second_differs(scenario))
     if program and can_be_carried_out(scenario):
         yield from ("the program: " + what for what in program_differs(scenario, program, ""))
         if scenario.values("member") and "dump yes" not in scenario.text("conf", "with"):

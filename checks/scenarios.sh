@@ -1,5 +1,5 @@
 #!/usr/bin/env bash
-# What the scenarios of whole runs say, and those of a capture that is cut at each of its lengths, is what by_hand.py works out and
+# What the scenarios of whole runs say, and those of a capture that is cut at each of its lengths, is what second_program.py works out and
 # what each built program does over real files; and the program that carries them out in memory notices each number of theirs that
 # is changed, and keeps the whole records of each capture that is cut.
 set -u

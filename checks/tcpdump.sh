@@ -26,9 +26,9 @@ for name in setup small; do
 
         # tcpdump reads the file and writes what it read.
         tcpdump -n -r out.0.pcap --time-stamp-precision=nano -w copy.pcap 2>said.txt || wrong "tcpdump: $(cat said.txt)"
-        python3 -B "$top/checks/by_hand.py" --frames copy.pcap >copy.txt
-        python3 -B "$top/checks/by_hand.py" --frames out.0.pcap >out.txt
-        python3 -B "$top/checks/by_hand.py" --frames demo/lo.pcap >in.txt
+        python3 -B "$top/checks/capture_frames.py" copy.pcap >copy.txt
+        python3 -B "$top/checks/capture_frames.py" out.0.pcap >out.txt
+        python3 -B "$top/checks/capture_frames.py" demo/lo.pcap >in.txt
         count=$(wc -l <copy.txt)
         [ "$count" -eq "$kept" ] || wrong "$name: tcpdump reads $count frames, and ringtap kept $kept"
         cmp copy.txt out.txt || wrong "$name: tcpdump reads other frames"
@@ -42,7 +42,7 @@ for name in setup small; do
         if [ "$(total drops)" = 0 ]; then
             cmp in.txt out.txt || wrong "$name: frames that were kept differ from the input's"
         else
-            python3 -B "$top/checks/among.py" in.txt out.txt || wrong "$name: frames that aren't the input's"
+            python3 -B "$top/checks/capture_frames.py" --among demo/lo.pcap out.0.pcap || wrong "$name: frames that aren't the input's"
         fi
     done
 done
@@ -50,7 +50,7 @@ done
 # The frames that tcpdump reads in a file, of those that pass a filter, are as many.
 reads() {
     tcpdump -n -r "$1" --time-stamp-precision=nano -w copy.pcap "$3" 2>said.txt || wrong "tcpdump: $(cat said.txt)"
-    python3 -B "$top/checks/by_hand.py" --frames copy.pcap >copy.txt
+    python3 -B "$top/checks/capture_frames.py" copy.pcap >copy.txt
     [ "$(wc -l <copy.txt)" -eq "$2" ] || wrong "$1: tcpdump reads $(wc -l <copy.txt) frames, and not $2"
 }
 
@@ -59,7 +59,7 @@ for program in "${programs[@]}"; do
     in_time "$program" send demo/send.txt >lines.txt || wrong "send ended with status $?"
     count=$(sed -n 's/^send sent \([0-9]*\) .*/\1/p' lines.txt)
     reads lo.tx.pcap "${count:-0}" 'greater 0'
-    python3 -B "$top/checks/by_hand.py" --frames lo.tx.pcap >out.txt
+    python3 -B "$top/checks/capture_frames.py" lo.tx.pcap >out.txt
     cmp copy.txt out.txt || wrong 'send: tcpdump reads other frames'
     in_time "$program" make demo/make.txt >lines.txt || wrong "make ended with status $?"
     for member in 0 1; do

@@ -5,79 +5,26 @@
 
 Sums stand beside the tests: a frame of 60 bytes takes 144 bytes of a block, of which one of 4096 bytes has 4048 for packets, so 28 frames.
 """
+from __future__ import annotations
+
 import gzip
 import json
 import os
 import re
-import struct
 import subprocess
 import sys
 import time
-import xml.etree.ElementTree
 from pathlib import Path
 
-import runs
+from capture_bytes import header
+from tool_comparisons import (
+    BLOCK, TOP, answer, capture, expect, frame, main, program, refuses, room, saved, text, tool, with_program,
+)
 
-program, room = Path(sys.argv[1]).resolve(), Path(sys.argv[2]).resolve()
-TOP = Path(__file__).resolve().parent.parent
 TOOLS = sorted(path.name for path in (TOP / "tools").glob("*.py") if "    run_main(main" in path.read_text(encoding="utf-8"))
-BLOCK = "block_size 4096\nblock_nr 2\nframe_size 2048\nframe_nr 4\n"
-failures = tests = 0
 
 
-def expect(what, given, wanted):
-    global failures, tests
-    tests += 1
-    if given != wanted:
-        failures += 1
-        print(f"{what}: {given!r} in place of {wanted!r}")
-
-
-def answer(words, folder=room):
-    """What a run prints, what it says on standard error, and its status or that it doesn't end."""
-    done, why = runs.run(words, cwd=folder, text=True)
-    return (done.stdout, done.stderr, done.returncode) if done else ("", "", why)
-
-
-def tool(name, *words):
-    return answer([sys.executable, "-B", TOP / "tools" / name, *map(str, words)])
-
-
-def with_program(name, *words):
-    return tool(name, *words, "--program", program)
-
-
-def refuses(what, wanted, name, *words):
-    """A tool that ends with status 1 and this sentence."""
-    expect(what, tool(name, *words), ("", f"{name}: {wanted}\n", 1))
-
-
-def capture(name, frames, damage=b""):
-    """Writes a capture of frames, each with its time in microseconds."""
-    parts = [struct.pack("<IHHiIII", 0xA1B2C3D4, 2, 4, 0, 0, 65535, 1)]
-    for time, frame in frames:
-        parts += [struct.pack("<IIII", 1000 + time // 1_000_000, time % 1_000_000, len(frame), len(frame)), frame]
-    (room / name).write_bytes(b"".join(parts) + damage)
-
-
-def text(name, words):
-    (room / name).write_text(words)
-    return name
-
-
-def frame(number, size=60):
-    """A frame of its own number, of no known protocol."""
-    return (bytes(12) + b"\x88\xb5" + number.to_bytes(4, "big")).ljust(size, b"\0")
-
-
-def datagram(ident, offset, is_last, data):
-    """A fragment of a UDP datagram; its place is in bytes."""
-    flags = offset // 8 | (0 if is_last else 0x2000)
-    head = struct.pack(">BBHHHBBH", 0x45, 0, 20 + len(data), ident, flags, 64, 17, 0) + bytes([10, 0, 0, 1, 10, 0, 0, 2])
-    return bytes(12) + b"\x08\x00" + head + data
-
-
-def test_help():
+def test_help() -> None:
     """Help within 80 columns with an example, a version, and one line of usage before what is wrong with the words."""
     for name in TOOLS:
         printed, said, status = tool(name, "--help")
@@ -90,7 +37,7 @@ def test_help():
         expect(f"{name}: wrong words", (said.count("\n"), said.startswith(f"usage: {name} "), status), (2, True, 125 if name == "run.py" else 2))
 
 
-def test_endings():
+def test_endings() -> None:
     """A disk that is full is a sentence, and a tool that is told to end leaves nothing."""
     capture("few.pcap", [(number, frame(number)) for number in range(100)])
     text("few.txt", BLOCK + "cpu few.pcap\n")
@@ -120,7 +67,7 @@ def test_endings():
         expect(f"{name} after SIGTERM", (process.returncode, list((room / "temporary").iterdir())), (143, []))
 
 
-def test_bytes():
+def test_bytes() -> None:
     """1M bytes a second are 256 blocks of 4096, so one each 3.90625 ms, of which 10 ms have two."""
     capture("apart.pcap", [(0, frame(0)), (10_000, frame(1))])
     text("apart.txt", BLOCK + "cpu apart.pcap\n")
@@ -130,7 +77,7 @@ def test_bytes():
     expect("--bytes 1X", "'1X' is no number, as 250, 64K or 1M" in tool("schedule.py", "apart.txt", "--bytes", "1X")[1], True)
 
 
-def test_schedule():
+def test_schedule() -> None:
     """Three frames of CPU 0 and two of CPU 1, in milliseconds: 0, 10, 20 and 5, 10. The time-out is 8 ms."""
     capture("a.pcap", [(0, frame(0)), (10_000, frame(1)), (20_000, frame(2))])
     capture("b.pcap", [(5_000, frame(3)), (10_000, frame(4))])
@@ -158,7 +105,7 @@ def test_schedule():
     expect("the program takes it", (printed.split("\n")[-2:], said, status), (["total arrivals 5 filtered 0 kept 4 drops 1", ""], "", 0))
 
 
-def test_old_frames():
+def test_old_frames() -> None:
     """A frame that is older than the one before it comes right after that one, and the order of a CPU stays."""
     capture("old.pcap", [(10_000, frame(0)), (5_000, frame(1)), (20_000, frame(2))])
     capture("new.pcap", [(12_000, frame(3))])
@@ -167,20 +114,14 @@ def test_old_frames():
     expect("older frames", printed, "feed 0\nfeed 0\nfeed 1\nfeed 0\n")
 
 
-def titles(name):
-    """What the marks of a picture stand for."""
-    tree = xml.etree.ElementTree.parse(room / name)
-    return [title.text for title in tree.iter("{http://www.w3.org/2000/svg}title")]
-
-
-def test_sentences():
+def test_sentences() -> None:
     """What is wrong with an input is said with its file and its place."""
     capture("many.pcap", [(number, frame(number)) for number in range(100)])
     text("many.txt", BLOCK + "cpu many.pcap\n")
-    (room / "next.pcap").write_bytes(b"\x0a\x0d\x0d\x0a" + bytes(40))
-    (room / "link.pcap").write_bytes(struct.pack("<IHHiIII", 0xA1B2C3D4, 2, 4, 0, 0, 65535, 113))
-    (room / "short.pcap").write_bytes(bytes(10))
-    (room / "none.pcap").write_bytes(bytes(24))
+    saved("next.pcap", b"\x0a\x0d\x0d\x0a" + bytes(40))
+    saved("link.pcap", header(link=113))
+    saved("short.pcap", bytes(10))
+    saved("none.pcap", bytes(24))
     sentences = {
         "cpu next.pcap": "next.pcap, byte 8: is no byte-order magic of pcapng",
         "cpu link.pcap": "link.pcap, byte 20: has link type 113, and ringtap reads Ethernet, which is 1",
@@ -215,13 +156,14 @@ def test_sentences():
     expect("too long", "has more than 1,048,576 bytes at" in tool("schedule.py", "long.txt")[1], True)
 
 
-def test_documents():
+def test_documents() -> None:
     expect("man page and completion", tool("make_man.py", "--check"), ("", "", 0))
 
 
-def examples(document):
+def examples(document: Path) -> list[tuple[list[str], str]]:
     """The commands of a document, each with the lines that stand below it up to the next command or the end of the indented lines."""
-    found, lines = [], None
+    found: list[tuple[list[str], list[str]]] = []
+    lines: list[str] | None = None
     for line in document.read_text().split("\n"):
         if line.startswith("    $ "):
             lines = []
@@ -235,7 +177,7 @@ def examples(document):
     return [(words, "\n".join(lines).rstrip("\n")) for words, lines in found]
 
 
-def test_examples():
+def test_examples() -> None:
     """The commands of docs/tools.md print what is shown below them; of a schedule, a timeline and a dump the first lines."""
     here = room / "examples"
     here.mkdir()
@@ -247,27 +189,17 @@ def test_examples():
     (here / "cluster.txt").write_text(BLOCK + "cpu in.0.pcap\nmode cluster_flow\n")
     (here / "packed.txt").write_text(BLOCK + "cpu lo.pcap.gz\n")
     (here / "lo.pcap.gz").write_bytes(gzip.compress((TOP / "demo" / "lo.pcap").read_bytes()))
-    for words, wanted in examples(TOP / "docs" / "tools.md"):
-        what = " ".join(words)
-        if words[0] == "python3":
-            has_program = words[1] in ("tools/ring_size.py", "tools/lost.py", "tools/timeline.py", "tools/run.py")
-            words = [sys.executable, "-B", TOP / words[1], *words[2:], *["--program", program] * has_program]
+    for shown, wanted in examples(TOP / "docs" / "tools.md"):
+        what, words = " ".join(shown), list[str | Path](shown)
+        if shown[0] == "python3":
+            has_program = shown[1] in ("tools/ring_size.py", "tools/lost.py", "tools/timeline.py", "tools/run.py")
+            words = [sys.executable, "-B", TOP / shown[1], *shown[2:], *["--program", program] * has_program]
         printed, said, status = answer(words, here)
         given = (printed + said).rstrip("\n") if isinstance(status, int) else status
         if any(tool in what for tool in ("schedule.py", "timeline.py", "blocks.py")):
             given = "\n".join(given.split("\n")[: wanted.count("\n") + 1])
         expect(what, given, wanted)
     expect("examples", len(examples(TOP / "docs" / "tools.md")) >= 8, True)
-
-
-def main(names):
-    """Makes the tests among some names."""
-    for name, test in list(names.items()):
-        if name.startswith("test_"):
-            test()
-    if failures:
-        print(f"{Path(sys.argv[0]).name}: {failures} of {tests} comparisons fail")
-    sys.exit(failures > 0)
 
 
 if __name__ == "__main__":

@@ -4,57 +4,39 @@ what the guard of inputs refuses.
 
     tools_captures.py PROGRAM FOLDER
 """
+from __future__ import annotations
+
 import gzip
 import json
 import os
 import random
 import re
 import shutil
-import struct
 import sys
+from collections.abc import Iterable
 from pathlib import Path
 
-import tools
-from tools import BLOCK, TOP, answer, capture, expect, frame, program, room, text, tool
+import tool_modules  # noqa: F401
 
-sys.path.insert(0, str(TOP / "tools"))
+from capture_bytes import (
+    MICROSECONDS, NANOSECONDS, block, enhanced, header, interface, record, section, simple,
+)
+from ringtap_captures import CaptureStream
+from ringtap_files import Fault
+from tool_comparisons import (
+    BLOCK, TOP, answer, capture, expect, frame, main, program, room, saved, text, tool,
+)
 
-from ringtap_captures import CaptureStream  # noqa: E402
-from ringtap_files import Fault  # noqa: E402
-
-MAGICS = {"<": (0xA1B2C3D4, 0xA1B23C4D), ">": (0xA1B2C3D4, 0xA1B23C4D)}
-
-
-def saved(name, data):
-    (room / name).write_bytes(data)
-    return name
+Frames = list[tuple[int, int, bytes]]  # the time, the length on the wire and the bytes of each
 
 
-def pcap(order, magic, records):
+def pcap(order: str, magic: int, records: Iterable[tuple[int, int, bytes, int]]) -> bytes:
     """A pcap file; a record is seconds, fraction, captured bytes and length on the wire."""
-    parts = [struct.pack(order + "IHHiIII", magic, 2, 4, 0, 0, 65535, 1)]
-    return b"".join(parts + [struct.pack(order + "IIII", sec, part, len(data), wire) + data for sec, part, data, wire in records])
+    parts = (record(data, order, sec, part, original=wire) for sec, part, data, wire in records)
+    return header(order, magic) + b"".join(parts)
 
 
-def block(order, kind, body):
-    size = 12 + (len(body) + 3) // 4 * 4
-    return struct.pack(order + "II", kind, size) + body.ljust(size - 12, b"\0") + struct.pack(order + "I", size)
-
-
-def section(order, minor=0):
-    return block(order, 0x0A0D0D0A, struct.pack(order + "IHHq", 0x1A2B3C4D, 1, minor, -1))
-
-
-def interface(order, resolution=None, snap=0, link=1):
-    options = b"" if resolution is None else struct.pack(order + "HHB3xHH", 9, 1, resolution, 0, 0)
-    return block(order, 1, struct.pack(order + "HHI", link, 0, snap) + options)
-
-
-def enhanced(order, number, time, data, wire):
-    return block(order, 6, struct.pack(order + "IIIII", number, time >> 32, time & 0xFFFFFFFF, len(data), wire) + data)
-
-
-def read(name):
+def read(name: str) -> tuple[Frames, str] | str:
     """Time, length and bytes of each frame, and how the capture ends; or the sentence that refuses it."""
     stream = CaptureStream(room / name, name=Path(name))
     try:
@@ -64,10 +46,10 @@ def read(name):
     return frames, stream.end
 
 
-def test_pcap():
+def test_pcap() -> None:
     """Four magics: a half and 1.000007 seconds, as micro- and nanoseconds; a fraction of a second or more, and a wire length that is too small."""
-    for order, magics in MAGICS.items():
-        for magic, unit in zip(magics, (1000, 1)):
+    for order in "<>":
+        for magic, unit in ((MICROSECONDS, 1000), (NANOSECONDS, 1)):
             records = [(0, 500_000_000 // unit, frame(0), 60), (1, 7000 // unit, frame(1), 90), (2, 4_000_000_000 // unit, frame(2), 3)]
             wanted = [(500_000_000, 60, frame(0)), (1_000_007_000, 90, frame(1)), (2_999_999_999, 60, frame(2))]
             name = saved("four.pcap", pcap(order, magic, records))
@@ -76,7 +58,7 @@ def test_pcap():
             expect(f"gzip of {order}{magic:x}", read("four.gz"), (wanted, "ok"))
 
 
-def test_pcapng():
+def test_pcapng() -> None:
     """Time 3 times 2^32 and 5, in units of a microsecond (without the option), a nanosecond, a millisecond, 2^-20 and 10^-12 of a second."""
     ticks = (3 << 32) + 5
     units = {None: ticks * 1000, 9: ticks, 3: ticks * 1_000_000, 0x80 | 20: ticks * 10**9 // 2**20, 12: ticks // 1000}
@@ -86,7 +68,7 @@ def test_pcapng():
             expect(f"pcapng {order}{resolution}", read(name), ([(wanted, 61, frame(0))], "ok"))
     both = section("<") + interface("<", 9) + interface("<", 6) + block("<", 5, bytes(40)) + enhanced("<", 1, 8, frame(0), 60)
     both += enhanced("<", 0, 8, frame(1), 60) + block("<", 2, bytes(28) + frame(7)) + section(">", 2) + interface(">", None, 20)
-    both += block(">", 3, struct.pack(">I", 60) + frame(2)[:20]) + enhanced(">", 0, 9, frame(3), 70)
+    both += simple(">", frame(2)[:20], 60) + enhanced(">", 0, 9, frame(3), 70)
     wanted = [(8000, 60, frame(0)), (8, 60, frame(1)), (0, 60, frame(2)[:20]), (9000, 70, frame(3))]
     expect("two sections", read(saved("both.pcapng", both)), (wanted, "ok"))
     # Seconds above 4,294,967,295 count as that, and the rest of a second stays: 5 * 10^15 milliseconds and 7.
@@ -95,12 +77,12 @@ def test_pcapng():
     expect("gzip in two members", read(saved("both.gz", gzip.compress(both[:100]) + gzip.compress(both[100:]))), (wanted, "ok"))
 
 
-def test_damage():
+def test_damage() -> None:
     """How captures end that are damaged or cut, and the frames before that, are what the program says: eight captures a run."""
     draw = random.Random(11)
-    whole = pcap("<", 0xA1B2C3D4, [(n, n, frame(n), 60) for n in range(5)])
+    whole = pcap("<", MICROSECONDS, [(n, n, frame(n), 60) for n in range(5)])
     next_ = section("<") + interface("<", 9) + b"".join(enhanced("<", 0, n, frame(n), 60) for n in range(4)) + block("<", 4, bytes(20))
-    next_ += section(">") + interface(">") + block(">", 3, struct.pack(">I", 60) + frame(9))
+    next_ += section(">") + interface(">") + simple(">", frame(9))
     files = []
     for whole_one in (whole, next_):
         files += [whole_one[: draw.randrange(28, len(whole_one))] for _ in range(16)]
@@ -127,14 +109,14 @@ def test_damage():
     expect("kinds of damage", {"ok", "truncated", "bad_length", "bad_interface"} <= kinds, True)
 
 
-def test_limits():
+def test_limits() -> None:
     """33,554,432 bytes count: the 128 records before that, of 16 and 262,128 bytes after 24, make 33,554,456, so 127 are whole."""
     record = (0, 0, bytes(262_128), 262_128)
-    saved("large.pcap", pcap("<", 0xA1B2C3D4, [record] * 128))
+    saved("large.pcap", pcap("<", MICROSECONDS, [record] * 128))
     frames, end = read("large.pcap")
     expect("too large", (len(frames), end), (127, "too_large 33554432"))
-    expect("a record that is too long", read(saved("long.pcap", pcap("<", 0xA1B2C3D4, [(0, 0, bytes(262_145), 262_145)])))[1], "bad_length 24")
-    data = gzip.compress(pcap("<", 0xA1B2C3D4, [(0, 0, frame(0), 60), (1, 0, random.Random(1).randbytes(1400), 1400)]))
+    expect("a record that is too long", read(saved("long.pcap", pcap("<", MICROSECONDS, [(0, 0, bytes(262_145), 262_145)])))[1], "bad_length 24")
+    data = gzip.compress(pcap("<", MICROSECONDS, [(0, 0, frame(0), 60), (1, 0, random.Random(1).randbytes(1400), 1400)]))
     expect("gzip that is cut", read(saved("cut.gz", data[:-300]))[1], "truncated 100")
     expect("gzip without its end", read(saved("cut.gz", data[:-8]))[1], "truncated 1516")
     damaged = bytearray(data)
@@ -142,7 +124,7 @@ def test_limits():
     expect("gzip that is damaged", "its gzip is damaged" in read(saved("bad.gz", bytes(damaged))), True)
 
 
-def test_tshark():
+def test_tshark() -> None:
     """Times and lengths as tshark gives them, where it is there, of the demo's capture in each form."""
     if not shutil.which("tshark") or not shutil.which("editcap"):
         print("tools_captures.py: nothing was compared with tshark, which isn't here")
@@ -162,7 +144,7 @@ def test_tshark():
             expect(f"tshark of {name}", given, theirs)
 
 
-def test_tools_read_all():
+def test_tools_read_all() -> None:
     """A setup may name pcapng and gzip: the tool unpacks what the program can't read, and a pipe can be read once."""
     saved("lo.gz", gzip.compress((TOP / "demo" / "lo.pcap").read_bytes()))
     small = (TOP / "demo" / "small.txt").read_text().replace("demo/lo.pcap", "lo.gz")
@@ -173,7 +155,7 @@ def test_tools_read_all():
     expect("a pipe", (json.loads(printed)["least"]["kept"], said, status), (52, "", 0))
 
 
-def test_busiest():
+def test_busiest() -> None:
     """Ten frames 100 ms apart, and after a second five that are 2 ms apart. A frame of 60 bytes takes 144 bytes of a block and 76 of a file."""
     capture("busy.pcap", [(100_000 * n, frame(n)) for n in range(10)] + [(2_000_000 + 2000 * n, frame(10 + n)) for n in range(5)])
     printed, said, status = tool("busiest.py", "busy.pcap", "--ms", "50", "-o", "cut.pcap")
@@ -196,12 +178,12 @@ def test_busiest():
            ("", "busiest.py: busy.pcap: would take the place of the input busy.pcap: choose another name\n", 1))
 
 
-def test_memory():
+def test_memory() -> None:
     """A capture of 96 MiB is read in 64 MiB of memory. A frame of 262,144 bytes takes 262,232 of a block."""
     with open(room / "wide.pcap", "wb") as file:
-        file.write(pcap("<", 0xA1B2C3D4, []))
+        file.write(pcap("<", MICROSECONDS, []))
         for number in range(384):
-            file.write(struct.pack("<IIII", 1000 * number, 0, 262_144, 262_144) + bytes(262_144))
+            file.write(record(bytes(262_144), sec=1000 * number, fraction=0))
     command = f"ulimit -v 65536; exec {sys.executable} -B {TOP}/tools/busiest.py wide.pcap -o cut.pcap"
     printed, said, status = answer(["bash", "-c", command])
     expect("96 MiB", (printed.split("\n")[0], said, status),
@@ -209,7 +191,7 @@ def test_memory():
     (room / "wide.pcap").unlink()
 
 
-def test_guard():
+def test_guard() -> None:
     """No output takes the place of an input, of a link to one or of a file that a setup names; what was there stays."""
     capture("safe.pcap", [(0, frame(0))])
     text("safe.ddd", "1\n6 0 0 65535\n")
@@ -231,7 +213,7 @@ def test_guard():
     expect("all stay", {name: (room / name).read_bytes() for name in before} == before, True)
 
 
-def test_written():
+def test_written() -> None:
     """An output takes its name when it is whole: through a link, with the rights that were there, and nothing is left beside it."""
     setup = text("safe.txt", BLOCK + "cpu safe.pcap\n")
     text("target", "old\n")
@@ -247,4 +229,4 @@ def test_written():
 
 
 if __name__ == "__main__":
-    tools.main(globals())
+    main(globals())

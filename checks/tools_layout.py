@@ -6,42 +6,38 @@
 The places are those of <linux/if_packet.h>, by which walk.c is compiled: a block's descriptor has 48 bytes, a packet's header 48, its address 20,
 and the data of an Ethernet frame begins at 82; in a slot of TPACKET_V2 these are 32, 20 and 66.
 """
+from __future__ import annotations
+
 import json
 import shutil
 import struct
-import sys
 
-import tools
-from tools import TOP, answer, expect, refuses, room, text, tool
+from tool_comparisons import BLOCK, TOP, answer, expect, main, program, refuses, room, saved, text, tool
 
 ADDRESS = struct.pack("<H", 17) + struct.pack(">H", 0x86DD) + struct.pack("<iHBB", 1, 1, 3, 6) + bytes.fromhex("0200000000aa0000")
 
 
-def packet(following, data, tag=None):
+def packet(following: int, data: bytes, tag: int | None = None) -> bytes:
     """A packet of a block, without what pads it."""
     status, tci, tpid = (81, tag, 0x8100) if tag else (1, 0, 0)
     head = struct.pack("<IIIIIIHHIIHH8x", following, 7, 9, len(data), 200, status, 82, 96, 0xABCD, tci, tpid, 0)
     return head + ADDRESS + bytes(14) + data
 
 
-def block(number=3, status=37, count=2, first=48, offset=104):
+def block(number: int = 3, status: int = 37, count: int = 2, first: int = 48, offset: int = 104) -> bytes:
     """A block of two packets of 20 and 5 bytes: 82 and 20 end at 102, so the second begins 104 further on, and ends at 239, padded to 240."""
     packets = packet(offset, b"\x11" * 20, 0x6064).ljust(104, b"\0") + packet(0, b"\x22" * 5).ljust(88, b"\0")
     size = 48 + len(packets)
     return struct.pack("<IIIIIIQIIII", 2, 48, status, count, first, size, number, 7, 9, 8, 10) + packets
 
 
-def slot(status=1, data=b"\x33" * 30):
+def slot(status: int = 1, data: bytes = b"\x33" * 30) -> bytes:
+    """A slot of TPACKET_V2, up to the end of its packet."""
     head = struct.pack("<IIIHHIIHH4x", status, 60, len(data), 66, 80, 7, 9, 0, 0)
     return head + ADDRESS + bytes(14) + data
 
 
-def saved(name, data):
-    (room / name).write_bytes(data)
-    return name
-
-
-def fields(printed):
+def fields(printed: str) -> list[tuple[int, int, str, str, str]]:
     """Each line of a field: its place in the file, its place in the struct, its bytes and its name, and the value."""
     return [
         (int(line[4:12], 16), int(line[15:18]), line[19:42].strip(), line[44:72].strip(), line[74:])
@@ -49,7 +45,7 @@ def fields(printed):
     ]
 
 
-def test_fields():
+def test_fields() -> None:
     """Each field of the second block of a file, 240 bytes after the first one's begin."""
     printed, said, status = tool("blocks.py", saved("two.blk", block(1) + block(2)), "--only", "2", "--data", "4")
     found = {name: (place, inside, shown, value) for place, inside, shown, name, value in fields(printed)[:24]}
@@ -83,7 +79,7 @@ def test_fields():
     expect("its sums", (lines[-2], said, status), ("2 blocks, 4 packets, 50 bytes of them kept", "", 0))
 
 
-def test_json():
+def test_json() -> None:
     printed, said, status = tool("blocks.py", saved("one.blk", block()), "--json")
     made = json.loads(printed)
     expect("blocks as JSON", (made["kind"], made["packets"], made["bytes"], said, status), ("TPACKET_V3", 2, 25, "", 0))
@@ -99,7 +95,7 @@ def test_json():
            (1, "cut.blk, byte 240: a block's descriptor has 48 bytes, and the file ends after 30 of them"))
 
 
-def test_damage():
+def test_damage() -> None:
     """What precedes the damage is printed, and the damage has its file and its byte."""
     sentences = {
         "pcap": (bytes.fromhex("4d3cb2a1") + bytes(20), "byte 0: 4d 3c b2 a1 is neither the version of a block, which is 2, nor the status of a slot: "
@@ -122,17 +118,17 @@ def test_damage():
     refuses("no such file", "gone.blk: can't be read: No such file or directory", "blocks.py", "gone.blk")
 
 
-def test_walk():
-    """walk.c, which knows <linux/if_packet.h> alone, prints what blocks.py does: of the demo's dumps, which by_hand.py laid out, of the files
+def test_walk() -> None:
+    """walk.c, which knows <linux/if_packet.h> alone, prints what blocks.py does: of the demo's dumps, which the second program laid out, of the files
     above, and of a run over slots."""
     if not shutil.which("cc"):
         print("tools_layout.py: no cc, so examples/walk.c wasn't compiled")
         return
     words = ["cc", "-std=c11", "-O2", "-Wall", "-Wextra", "-Werror", "-o", "walk", TOP / "examples" / "walk.c"]
     expect("walk.c", answer(words), ("", "", 0))
-    text("slots.txt", f"{tools.BLOCK}cpu {room}/lo.pcap\ndump yes\nout slots\n")
+    text("slots.txt", f"{BLOCK}cpu {room}/lo.pcap\ndump yes\nout slots\n")
     shutil.copy(TOP / "demo" / "lo.pcap", room)
-    answer([tools.program, "replay2", "slots.txt", "/dev/null"])
+    answer([program, "replay2", "slots.txt", "/dev/null"])
     saved("both.blk", slot() + slot(85))
     for path in [TOP / "demo/expected/group/group.0.blk", TOP / "demo/expected/group/group.1.blk", "two.blk", "both.blk", "slots.0.blk", "empty.blk"]:
         walked = answer(["./walk", path])
@@ -144,4 +140,4 @@ def test_walk():
 
 
 if __name__ == "__main__":
-    tools.main(globals())
+    main(globals())

@@ -6,30 +6,34 @@
 A frame of 60 bytes takes 144 bytes of a block, of which one of 4096 bytes has 4048 for packets, so 28 frames; two blocks that nobody reads keep
 frames 0 to 55 of a capture.
 """
+from __future__ import annotations
+
 import json
 import struct
 import subprocess
 import sys
 
-import tools
-from tools import BLOCK, TOP, answer, capture, datagram, expect, frame, program, room, text, titles, with_program
+from capture_bytes import output, record
+from tool_comparisons import (
+    BLOCK, TOP, answer, capture, datagram, expect, frame, main, program, room, text, titles, with_program,
+)
 
 COUNTED = "frames count from 1, as Wireshark's do; --first 0 counts as ringtap does"
 
 
-def parts(printed):
+def parts(printed: str) -> list[list[str]]:
     """The tables of what is printed, each as its lines, and each line as its words joined by one blank."""
     return [[" ".join(line.split()) for line in part.split("\n")] for part in printed.strip("\n").split("\n\n")]
 
 
-def udp(left, right, size):
+def udp(left: tuple[int, int], right: tuple[int, int], size: int) -> bytes:
     """A UDP datagram between two ends, each the last byte of an address and a port; `right` gets it."""
     data = bytes(size)
     head = struct.pack(">BBHHHBBH", 0x45, 0, 28 + size, 0, 0, 64, 17, 0) + bytes([10, 0, 0, left[0], 10, 0, 0, right[0]])
     return bytes(12) + b"\x08\x00" + head + struct.pack(">HHHH", left[1], right[1], 8 + size, 0) + data
 
 
-def test_lost():
+def test_lost() -> None:
     """Frames 0 to 55 are kept, so in Wireshark's numbers 57 to 100 are lost."""
     capture("many.pcap", [(number, frame(number)) for number in range(100)])
     text("many.txt", BLOCK + "cpu many.pcap\n")
@@ -42,9 +46,8 @@ def test_lost():
     # 100 microseconds in two: 50 frames in each, of which 6 more are kept.
     expect("bins", [line.split(maxsplit=1)[1] for line in found[4][1:]], ["50 0", "6 44"])
     expect("lost.svg", [title.split(": ")[-1] for title in titles("lost.svg")], ["50 kept", "6 kept", "44 lost"])
-    wanted = [struct.pack("<IHHiIII", 0xA1B23C4D, 2, 4, 0, 0, 262144, 1)]
-    wanted += [struct.pack("<IIII", 1000, 1000 * number, 60, 60) + frame(number) for number in range(56, 100)]
-    expect("what is saved", (room / "lost.pcap").read_bytes() == b"".join(wanted), True)
+    wanted = output(record(frame(number), sec=1000, fraction=1000 * number) for number in range(56, 100))
+    expect("what is saved", (room / "lost.pcap").read_bytes() == wanted, True)
     printed, _, _ = with_program("lost.py", "many.txt", "none.sched", "--frames", "--first", "0")
     lines = parts(printed)[1][1:]
     expect("frame by frame", (len(lines), lines[0]), (44, "0 56 1000.000056000 0.000056000 60"))
@@ -52,7 +55,7 @@ def test_lost():
     expect("as JSON", (made["cpus"][0]["lost"], made["ranges"][0]["first"], made["ranges"][0]["last"], made["flows"][0]["bytes_lost"]), (44, 57, 100, 2640))
 
 
-def test_ranges():
+def test_ranges() -> None:
     """The demo loses frames 31 and 44 to 51, as docs/guide.md goes through it; the schedule comes in any way."""
     wanted = ["0 32 1 0.972874000 0.972874000 88", "0 45-52 8 0.973485000 1.210211000 5232"]
     words = f"{sys.executable} -I -B tools/lost.py demo/small.txt %s --program {program}"
@@ -66,7 +69,7 @@ def test_ranges():
     expect("an empty schedule", parts(printed)[1][1].split()[:3], ["0", "32-52", "21"])
 
 
-def test_flows():
+def test_flows() -> None:
     """Flows in both directions, of which each packet of 100 bytes of data takes 82 and 142 bytes, so 224: a block has room for 18."""
     near, far, other = (1, 4000), (2, 53), (3, 5000)
     frames = [udp(near, far, 100) if number % 2 else udp(far, near, 100) for number in range(30)] + [udp(other, far, 100) for _ in range(20)]
@@ -79,7 +82,7 @@ def test_flows():
     expect("both directions", found[2][1:], ["UDP 10.0.0.1:4000 10.0.0.2:53 16 14 1988"])
 
 
-def test_two_cpus():
+def test_two_cpus() -> None:
     """Two CPUs with one capture: which frames of which are kept is exact, since the run is made here."""
     text("even.ddd", "4\n48 0 0 17\n69 1 0 1\n6 0 0 65535\n6 0 0 0\n")  # keeps what has an even number in its eighteenth byte
     text("both.txt", BLOCK + "cpu many.pcap\ncpu many.pcap\nfilter even.ddd\n")
@@ -90,7 +93,7 @@ def test_two_cpus():
     expect("sums of both", found[3][1:], ["0 100 100 50 28 22", "1 100 100 50 28 22"])
 
 
-def test_earlier():
+def test_earlier() -> None:
     """The outputs of a run on its own, with two CPUs, a filter and frames alike."""
     setup = text("even.txt", BLOCK + "cpu many.pcap\ncpu many.pcap\nfilter even.ddd\nout even\n")
     said = with_program("lost.py", setup)[1]
@@ -109,7 +112,7 @@ def test_earlier():
            "lost.py: even.0.pcap, packet 0 from 0: is no frame of the captures that passes: is it of another run?\n")
 
 
-def test_datagram():
+def test_datagram() -> None:
     """Three datagrams of two fragments each; a ring of blocks that one datagram fills, of which nobody reads one, loses the third."""
     frames = []
     for ident in range(3):
@@ -124,7 +127,7 @@ def test_datagram():
     expect("its sums", found[3][1], "0 6 3 0 2 1")
 
 
-def test_one_time():
+def test_one_time() -> None:
     """Frames of one time and one length, as a capture without times has them, take no more than linear time."""
     capture("timeless.pcap", [(0, frame(0))] * 40_000)
     text("timeless.txt", BLOCK + "cpu timeless.pcap\nout timeless\n")
@@ -135,4 +138,4 @@ def test_one_time():
 
 
 if __name__ == "__main__":
-    tools.main(globals())
+    main(globals())

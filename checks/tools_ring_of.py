@@ -3,6 +3,8 @@
 
     tools_ring_of.py PROGRAM FOLDER
 """
+from __future__ import annotations
+
 import ctypes
 import json
 import mmap
@@ -10,19 +12,19 @@ import os
 import socket
 import struct
 
-import tools
 from hash_values import KEY
-from tools import TOP, answer, expect, program, room, text, tool
+from tool_comparisons import TOP, Answer, answer, expect, main, program, room, text, tool
 
 SOL_PACKET, PACKET_RX_RING, PACKET_VERSION, PACKET_RESERVE = 263, 5, 10, 12
 ETH_P_ALL, TPACKET_V3, SO_ATTACH_FILTER = 3, 2, 26
 
 
-def ring_of(*words):
+def ring_of(*words: object) -> Answer:
+    """What ring_of.py answers of the sockets that ss printed."""
     return tool("ring_of.py", "x.pcap", "--from", TOP / "checks" / "packet_sockets.txt", *words)
 
 
-def test_ring_of():
+def test_ring_of() -> None:
     """What ss of iproute2 6.1.0 printed of tcpdump and of sockets that a script opened, on a kernel 6.18."""
     printed, said, status = ring_of("--name", "tcpdump", "--inode", "137704", "-o", "dump.txt")
     wanted = "block_size 262144\nblock_nr 8\nframe_size 262144\nframe_nr 8\ntov 1000\nfeatures 0\ncpu x.pcap\nfilter dump.txt.ddd\n"
@@ -55,7 +57,7 @@ def test_ring_of():
                                   "frame_size 208", "frame_nr 4864", "cpu x.pcap", ""])
 
 
-def test_live_ring():
+def test_live_ring() -> None:
     """A ring of this process, where it may open one and ss is there."""
     try:
         with socket.socket(socket.AF_PACKET, socket.SOCK_RAW, socket.htons(ETH_P_ALL)) as live:
@@ -72,7 +74,7 @@ def test_live_ring():
            ["block_size 8192", "block_nr 4", "frame_size 2048", "frame_nr 16", "tov 70", "features 0"])
 
 
-def test_other_sockets():
+def test_other_sockets() -> None:
     """A ring of cooked packets, as that of `tcpdump -i any`, is warned of."""
     printed, said, status = ring_of("--inode", "590612", "-o", "any.txt")
     expect("-i any", (printed, said, status), ("", "ring_of.py: inode 590612: has packets without an Ethernet header (SOCK_DGRAM, as of `-i any`), and "
@@ -81,7 +83,7 @@ def test_other_sockets():
     expect("as JSON", (made["setup"]["tov"], made["setup"]["block_nr"], made["filter"], made["warnings"]), (250, 8, ["6 0 0 262144"], []))
 
 
-def test_reserve():
+def test_reserve() -> None:
     """What the note on libpcap says, beside this kernel: a block of 262144 bytes has 1820 packets of 62 bytes, and 1724 with 4 bytes reserved."""
     # 262144 less 48 is 262096; with 82 and 62 a packet takes 144, with 86 and 62 it takes 152.
     expect("its sum", [262096 // 144, 262096 // 152], [1820, 1724])
@@ -94,7 +96,7 @@ def test_reserve():
         expect(f"a block with {reserve} bytes reserved", found, (count, place))
 
 
-def full_block(reserve):
+def full_block(reserve: int) -> tuple[int, int]:
     """The packets of a block that is filled with frames of 62 bytes, and the place of the first one's data."""
     frames = bytes(12) + b"\x88\xb5" + bytes(48)
     # Packets of type 0x88b5 alone: a half word at 12 is compared.
@@ -137,11 +139,11 @@ pcap:
 """
 
 
-def suricata(*words):
+def suricata(*words: object) -> Answer:
     return tool("ring_of.py", "a.pcap", "b.pcap", "--suricata", "s.yaml", *words)
 
 
-def test_suricata():
+def test_suricata() -> None:
     """A packet of 1514 bytes makes a frame of 1514 + 96 - 14 = 1596 bytes, so 1600: 82 are rounded up to 96, of which 14 are the packet's."""
     text("s.yaml", YAML)
     lines = suricata()[0].split("\n")
@@ -163,12 +165,12 @@ def test_suricata():
     expect("no section", suricata()[1], "ring_of.py: s.yaml: has no section `af-packet` with an interface\n")
 
 
-def lines_of(setup):
+def lines_of(setup: str) -> list[str]:
     """The lines of a setup that aren't comments, without those that name files."""
     return [line for line in setup.split("\n") if line and line.split()[0] not in ("#", "out", "cpu", "filter")]
 
 
-def test_examples():
+def test_examples() -> None:
     """The program takes each setup of examples/; those of tcpdump and dumpcap are what ss showed, and Suricata's what its yaml asks for."""
     folder = TOP / "examples"
     for path in sorted(folder.glob("*.txt")):
@@ -184,4 +186,4 @@ def test_examples():
 
 
 if __name__ == "__main__":
-    tools.main(globals())
+    main(globals())

@@ -5,32 +5,33 @@
 
 A frame of 60 bytes takes 144 bytes of a block, of which one of 4096 bytes has 4048 for packets, so 28 frames.
 """
+from __future__ import annotations
+
 import csv
 import json
 import re
-import struct
 import xml.etree.ElementTree
-from pathlib import Path
 
-import tools
-from tools import BLOCK, capture, expect, frame, program, room, text, titles, with_program
+from tool_comparisons import (
+    BLOCK, answer, capture, expect, frame, main, program, room, text, titles, tool, with_program,
+)
 
 SVG = "{http://www.w3.org/2000/svg}"
 
 
-def rows_of(printed):
+def rows_of(printed: str) -> list[str]:
     """The rows of the first table, between commas."""
     lines = printed.split("\n")
     return [",".join(line.split()) for line in lines[3 : lines.index("", 3)]]
 
 
-def below(printed):
+def below(printed: str) -> list[str]:
     """The lines below the first table."""
     lines = printed.split("\n")
     return lines[lines.index("", 3) + 1 :]
 
 
-def test_grid():
+def test_grid() -> None:
     """100 frames at once, and nobody reads: n blocks keep 28 n of them. The timer doesn't run out before they are all there."""
     capture("many.pcap", [(number, frame(number)) for number in range(100)])
     setup = text("many.txt", BLOCK + "cpu many.pcap\n")
@@ -55,7 +56,7 @@ def test_grid():
     expect("its title", "many.pcap: 100 frames in 0.000 s; nobody reads before all frames are fed" in words, True)
 
 
-def test_halving():
+def test_halving() -> None:
     """1,000 frames at once take 36 blocks: 35 have 980. So 2 to 64 by doubling, once more, and then 48, 40, 36, 34, 35."""
     capture("thousand.pcap", [(number, frame(number)) for number in range(1000)])
     setup = text("thousand.txt", BLOCK + "cpu thousand.pcap\n")
@@ -64,11 +65,11 @@ def test_halving():
     expect("35 blocks", [row for row in rows_of(printed) if ",4096,35," in row], ["cpu,1,0,4096,35,143360,0,980,20,1,35,20"])
     expect("36 are the least", (below(printed)[0], status),
            ("the least ring that loses nothing: 36 blocks of 4096 bytes, time-out 8 ms; 144 KiB in all", 0))
-    expect("a ready setup", tools.answer([program, "replay", "least.txt", "/dev/null"])[0].split("\n")[2],
+    expect("a ready setup", answer([program, "replay", "least.txt", "/dev/null"])[0].split("\n")[2],
            "total arrivals 1000 filtered 0 kept 1000 drops 0")
 
 
-def test_none_suffices():
+def test_none_suffices() -> None:
     setup = text("thousand.txt", BLOCK + "cpu thousand.pcap\n")
     printed, said, status = with_program("ring_size.py", setup, "--block-nr", "2,3", "--tick", "0", "-o", "none.txt")
     expect("none suffices", (below(printed)[:2], said, status, (room / "none.txt").exists()), (
@@ -76,7 +77,7 @@ def test_none_suffices():
          "the fewest: 916 of 1,000, by 3 blocks of 4096 bytes, time-out 8 ms"], "", 3, False))
 
 
-def test_phases():
+def test_phases() -> None:
     """Frame n of 112 comes n ms after the first: 28 fill a block, and nobody reads from two blocks. The timer runs out every 56 ms. Started with the
     first frame it runs out at 56, when both blocks are full with frames 0 to 55; started 28 ms before, at 28, when the first one is. Started 42 ms
     before it runs out at 14, when the first block has 14 frames; the second one has the next 28, so 42 are kept. Started 14 ms before it runs out
@@ -88,12 +89,12 @@ def test_phases():
     expect("drops by phase", ring["drops_by_phase"], [56, 70, 56, 70])
     expect("the worst counts", (ring["kept"], ring["drops"], ring["phase"], ring["fewest"]), (42, 70, 14, 56))
     for phase, kept in {0: 56, 14: 42, 28: 56, 42: 42}.items():
-        tools.tool("schedule.py", setup, "--phase", phase, "-o", "phase.sched")
-        printed = tools.answer([program, "replay", setup, "phase.sched"])[0]
+        tool("schedule.py", setup, "--phase", phase, "-o", "phase.sched")
+        printed = answer([program, "replay", setup, "phase.sched"])[0]
         expect(f"phase {phase}", printed.split("\n")[2], f"total arrivals 112 filtered 0 kept {kept} drops {112 - kept}")
 
 
-def test_captures():
+def test_captures() -> None:
     """Captures in place of a setup: two CPUs with a member each; 3,000 frames of 60 bytes fit into 2 blocks of 262,144 bytes, of which one has
     262,096 / 144 = 1,820."""
     for name, count in (("one.pcap", 100), ("two.pcap", 3000)):
@@ -116,7 +117,7 @@ def test_captures():
     expect("many frames", with_program("ring_size.py", "two.pcap", "--speed", "1000", "--stall", "0:500")[2], 0)
 
 
-def test_libpcap():
+def test_libpcap() -> None:
     """1,820 packets of 144 bytes fill a block of ringtap's, and libpcap's 152 let it have 1,724: of 3,600 frames two blocks hold all or lose 152."""
     capture("full.pcap", [(number, frame(number)) for number in range(3600)])
     printed, _, _ = with_program("ring_size.py", "full.pcap", "--phases", "1", "--json")
@@ -131,7 +132,7 @@ def test_libpcap():
     expect("libpcap has less room behind a filter", (found["least"]["block_nr"], found["tcpdump"]), (2, "tcpdump -B 768"))
 
 
-def test_modes():
+def test_modes() -> None:
     """Of 100 frames of one CPU, lb gives each of two members 50 and cpu the first all; 28 fit into a block, and a reader takes none."""
     setup = text("modes.txt", BLOCK + "cpu many.pcap\n")
     printed, _, _ = with_program("ring_size.py", setup, "--block-nr", "2", "--members", "2", "--mode", "lb,cpu,rollover,cpu+rollover",
@@ -156,20 +157,20 @@ def test_modes():
     expect("members in table.csv", [(row["member"], row["kept"]) for row in table], [("all", "100"), ("0", "56"), ("1", "44")])
 
 
-def test_slots():
+def test_slots() -> None:
     """TPACKET_V2: 100 frames at once fill 100 slots; a block of 4096 bytes has two of 2048."""
     setup = text("slots.txt", BLOCK + "cpu many.pcap\n")
     printed, _, status = with_program("ring_size.py", setup, "--replay2", "-o", "slots-least.txt")
     expect("slots", (below(printed)[0], status),
            ("the least ring that loses nothing: 100 slots of 2048 bytes, in 50 blocks of 4096 bytes; 200 KiB in all", 0))
     expect("49 blocks", below(printed)[1], "with 49 blocks 2 of 100 packets are lost")
-    expect("its setup", tools.answer([program, "replay2", "slots-least.txt", "/dev/null"])[0].split("\n")[2],
+    expect("its setup", answer([program, "replay2", "slots-least.txt", "/dev/null"])[0].split("\n")[2],
            "total arrivals 100 filtered 0 kept 100 drops 0")
     expect("no time-out", with_program("ring_size.py", setup, "--replay2", "--tov", "8")[1],
            "ring_size.py: --tov: a ring of TPACKET_V2 has no time-out\n")
 
 
-def test_many_lines():
+def test_many_lines() -> None:
     """Nine lines are too many for one picture: each mode has a panel of its own."""
     setup = text("panels.txt", BLOCK + "cpu many.pcap\n")
     with_program("ring_size.py", setup, "--block-nr", "2", "--members", "1,2,3", "--mode", "lb,cpu,rollover", "--phases", "1", "--pictures", "panels")
@@ -181,7 +182,7 @@ def test_many_lines():
     expect("all points", len(titles("panels/drops.svg")), 9)
 
 
-def test_refused():
+def test_refused() -> None:
     """What is wrong is said before anything is run."""
     setup = text("wrong.txt", BLOCK + "cpu many.pcap\n")
     before = (room / "many.pcap").read_bytes()
@@ -206,4 +207,4 @@ def test_refused():
 
 
 if __name__ == "__main__":
-    tools.main(globals())
+    main(globals())

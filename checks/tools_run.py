@@ -5,29 +5,37 @@
 
 What is wrong with each text and capture was made so here, and its sentence was written by hand.
 """
+from __future__ import annotations
+
 import gzip
 import json
 import os
 import signal
-import struct
 import subprocess
 import sys
 import time
+from pathlib import Path
 
-import tools
+import tool_modules  # noqa: F401
+
+import ringtap_refusals as refusals
+from capture_bytes import header, record
 from hash_values import KEY
-from tools import BLOCK, TOP, answer, capture, expect, frame, program, room, text, with_program
+from tool_comparisons import (
+    BLOCK, TOP, Answer, answer, capture, expect, frame, main, program, room, saved, text, with_program,
+)
 
 SETUP = BLOCK + "cpu one.pcap\n"
 DONE = "ringtap: status 0: done; outputs are in {}\n"
 SETUP_REFUSED, TEXT_REFUSED = "ringtap: status 2: the setup is refused\n", "ringtap: status 3: a filter, moments or a schedule is refused\n"
 
 
-def run(*words):
+def run(*words: object) -> Answer:
+    """What run.py answers."""
     return with_program("run.py", *words)
 
 
-def explained(what, words, wanted, folder=room):
+def explained(what: str, words: list[str], wanted: str, folder: Path = room) -> None:
     """A run by the tool has the program's lines and status; the first line on standard error is the explanation."""
     printed, _, status = answer([program, *words], folder)
     given = run(*words, "--here")
@@ -35,7 +43,7 @@ def explained(what, words, wanted, folder=room):
     expect(what, given[1].split("\n")[0], wanted)
 
 
-def test_files():
+def test_files() -> None:
     """Lines and statuses are the program's, and files land in a new folder."""
     capture("one.pcap", [(number, frame(number)) for number in range(100)])
     text("one.txt", "# \u00e9t\u00e9\n" + SETUP)
@@ -63,7 +71,7 @@ def test_files():
     expect("as JSON", (made["status"], made["folder"], "\n".join(made["lines"]) + "\n", made["report"]["drops"]), (0, "object", lines, 44))
 
 
-def test_clash():
+def test_clash() -> None:
     """An output that is an input, by its name or by a link, is refused, and the input stays."""
     capture("in.0.pcap", [(0, frame(0))])
     before = (room / "in.0.pcap").read_bytes()
@@ -115,7 +123,7 @@ RINGS = [
 ]
 
 
-def test_setups():
+def test_setups() -> None:
     for lines, wanted in LINES:
         text("bad.txt", SETUP + lines + "\n")
         explained(f"setup: {lines}", ["replay", "bad.txt", "none.sched"], f"bad.txt, {wanted}")
@@ -132,11 +140,8 @@ def test_setups():
     explained("a large setup", ["check", "bad.txt"], "bad.txt: has more than 1,048,576 bytes, and a text has no more")
 
 
-def test_every_word():
+def test_every_word() -> None:
     """Each word that the program prints of a refusal has its row in the reference, which is said where no better sentence is known."""
-    sys.path.append(str(TOP / "tools"))
-    import ringtap_refusals as refusals
-
     for kind in ("bad_jump", "bad_constant", "bad_memory", "no_return", "bad_code", "too_large", "request private", "group too_many", "missing cpu"):
         told = refusals.from_table(refusals.Refusal("filter", 2, kind))
         expect(f"a row for {kind}", told != kind and ";" in told, True)
@@ -161,7 +166,7 @@ FILTERS = [
 ]
 
 
-def test_texts():
+def test_texts() -> None:
     setup = text("three.txt", SETUP + "members 3\n")
     for lines, wanted in SCHEDULES:
         text("bad.sched", lines)
@@ -185,7 +190,7 @@ def test_texts():
         explained(f"moments: {lines}", ["capture", "ticked.txt"], f"t.txt, {wanted}")
 
 
-def test_words():
+def test_words() -> None:
     cases = [
         (["replay", "one.txt"], '"replay one.txt": replay needs CONF and SCHED; /dev/null is a schedule without a line'),
         (["repaly", "one.txt", "none.sched"], '"repaly": no such command; "replay" is meant?'),
@@ -193,10 +198,6 @@ def test_words():
     ]
     for words, wanted in cases:
         explained(" ".join(words), words, wanted)
-
-
-def header(link=1, minor=4):
-    return struct.pack("<IHHiIII", 0xA1B2C3D4, 2, minor, 0, 0, 65535, link)
 
 
 # The bytes of a file, and what it is said to be; {} is its name.
@@ -207,25 +208,24 @@ CAPTURES = [
     ("14:00:00 IP 10.0.0.1.80 > 10.0.0.2.1024: tcp 0, \u00e9\n".encode(), "{} is a text, and ringtap reads pcap and pcapng"),
     (b"\x01\x02\x03\x04" * 20, "{} is of a kind that isn't known here, and ringtap reads pcap and pcapng"),
     (bytes(100), "{} is nothing but zeros at its begin: a file whose disk was full, or that was never written, and ringtap reads pcap and pcapng"),
-    (header(127), "{} has link type 127 (802.11 radiotap), and ringtap reads Ethernet, which is 1: capture on one Ethernet device"),
-    (header(113), "{} has link type 113 (Linux cooked, as of `tcpdump -i any`), and ringtap reads Ethernet, which is 1: capture on one Ethernet device"),
-    (header(minor=3), "{} is of version 2.3, and ringtap reads 2.4: `tcpdump -r {} -w NEW.pcap` writes 2.4"),
+    (header(link=127), "{} has link type 127 (802.11 radiotap), and ringtap reads Ethernet, which is 1: capture on one Ethernet device"),
+    (header(link=113), "{} has link type 113 (Linux cooked, as of `tcpdump -i any`), and ringtap reads Ethernet, which is 1: capture on one Ethernet device"),
+    (header(version=(2, 3)), "{} is of version 2.3, and ringtap reads 2.4: `tcpdump -r {} -w NEW.pcap` writes 2.4"),
     (b"", "{} is empty"),
     (header()[:20], "{} has 20 bytes, and the header of a capture has more"),
     # A record of 60 bytes, of which 43 are there.
-    (header() + struct.pack("<IIII", 1, 0, 60, 60) + bytes(43), "{} ends within the record at byte 24, of which 17 bytes aren't there; what precedes it was run"),
-    (header() + struct.pack("<IIII", 1, 0, 300_000, 300_000) + bytes(99),
+    (header() + record(bytes(43), fraction=0, captured=60, original=60), "{} ends within the record at byte 24, of which 17 bytes aren't there; what precedes it was run"),
+    (header() + record(bytes(99), fraction=0, captured=300_000, original=300_000),
      "{} has a record at byte 24 that says 300,000 bytes, of at most 262,144; what precedes it was run"),
 ]
 
 
-def test_captures():
+def test_captures() -> None:
     text("refused.txt", BLOCK + "cpu one.pcap\ncpu a.pcap.gz\n")
     for data, wanted in CAPTURES:
-        (room / "a.pcap.gz").write_bytes(data)
+        saved("a.pcap.gz", data)
         explained(f"capture: {data[:20]!r}", ["replay", "refused.txt", "none.sched"], f"refused.txt, line 6: {wanted.replace('{}', 'a.pcap.gz')}")
-    record = struct.pack("<IIII", 1, 0, 262_144, 262_144) + bytes(262_144)
-    (room / "a.pcap.gz").write_bytes(header() + 128 * record)  # 24 bytes and 128 times 262,160
+    saved("a.pcap.gz", header() + 128 * record(bytes(262_144), fraction=0))  # 24 bytes and 128 times 262,160
     explained("a large capture", ["replay", "refused.txt", "none.sched"], "refused.txt, line 6: a.pcap.gz has 33,556,504 bytes, of which the first "
               "33,554,432 were run: `tcpdump -r a.pcap.gz -C 33 -w part.pcap` makes parts of it")
     text("runts.txt", BLOCK + "cpu runts.pcap\n")
@@ -234,7 +234,7 @@ def test_captures():
               "runts.txt: of 3 frames none arrived: each has fewer than 14 bytes, or is a fragment whose others aren't there")
 
 
-def test_faults():
+def test_faults() -> None:
     """Files that can't be read or written, with the system's reason."""
     gone = "No such file or directory"
     text("gone.txt", BLOCK + "cpu one.pcap\ncpu gone.pcap\ncpu run-1\n")
@@ -256,7 +256,7 @@ def test_faults():
     expect("a full disk", (done.returncode, done.stderr.split("\n")[0]), (alone, "standard output: nobody takes the lines"))
 
 
-def test_signals():
+def test_signals() -> None:
     """A run that is stopped is said to be, and the tool's own folders go when it is told to end."""
     slow = room / "slow"
     slow.write_text("#!/bin/sh\nexec sleep 60\n")
@@ -279,4 +279,4 @@ def test_signals():
 
 
 if __name__ == "__main__":
-    tools.main(globals())
+    main(globals())

@@ -7,30 +7,33 @@ Captures of the repository and made ones, with silences and bursts, are replayed
 every tick and every step of the readers, made here from the moments alone. Printed lines, captures and dumps have to be the same byte for
 byte. It runs in the top folder of the repository.
 """
+from __future__ import annotations
+
 import itertools
 import random
 import struct
 import sys
+from collections.abc import Sequence
 from fractions import Fraction
 from pathlib import Path
 
+import tool_modules  # noqa: F401
+
 import runs
+from capture_bytes import header, record
 from hash_values import KEY
+from ringtap_captures import CaptureStream
+from ringtap_clock import Pace, Shape
+from ringtap_files import Fault
+from schedule import Fed, feeds, schedule_of
 
 program, room = Path(sys.argv[1]).resolve(), Path(sys.argv[2]).resolve()
-TOP = Path.cwd()
-sys.path.insert(0, str(TOP / "tools"))
-
-from ringtap_captures import CaptureStream  # noqa: E402
-from ringtap_clock import Pace, Shape  # noqa: E402
-from ringtap_files import Fault  # noqa: E402
-from schedule import feeds, schedule_of  # noqa: E402
 
 MS = 1_000_000
 LARGEST = 1_048_576
 
 
-def whole(fed, pace, shape):
+def whole(fed: Fed, pace: Pace, shape: Shape) -> str:
     """Every tick, step and count up to the last frame, in the order of docs/tools.md."""
     events = [(time, 1, f"feed {cpu}\n") for time, cpu in zip(fed.times, fed.cpus)]
     every = shape.timeout if pace.tick is None else pace.tick
@@ -65,7 +68,7 @@ def whole(fed, pace, shape):
     return "".join(text for _, _, text in events)
 
 
-def frame(draw, number):
+def frame(draw: random.Random, number: int) -> bytes:
     """A UDP datagram between hosts and ports of few, or something else."""
     size = draw.choice([0, 18, 18, 200, 600, 1400])
     if draw.random() < 0.1:
@@ -75,18 +78,17 @@ def frame(draw, number):
     return bytes(12) + b"\x08\x00" + head + bytes([10, 0, 0, draw.randrange(4), 10, 1, 0, 1]) + ports + bytes(size)
 
 
-def made(path, draw, count):
+def made(path: Path, draw: random.Random, count: int) -> Path:
     """A capture of bursts and silences, a few frames of which go back in time."""
-    time, parts = 5_000_000, [struct.pack("<IHHiIII", 0xA1B2C3D4, 2, 4, 0, 0, 65535, 1)]
+    time, parts = 5_000_000, [header()]
     for number in range(count):
         time += draw.choice([0, 0, 1, 50, 300, 2_000, 2_000, 20_000, 90_000, 700_000, -400])
-        bytes_ = frame(draw, number)
-        parts.append(struct.pack("<IIII", time // 1_000_000, time % 1_000_000, len(bytes_), len(bytes_)) + bytes_)
+        parts.append(record(frame(draw, number), sec=time // 1_000_000, fraction=time % 1_000_000))
     path.write_bytes(b"".join(parts))
     return path
 
 
-def paces(draw):
+def paces(draw: random.Random) -> Pace:
     """A pace of each kind, of which some have the whole schedule only as often as a silence asks for it."""
     reader = draw.choice([{}, {"blocks": Fraction(draw.choice([3, 40, 900]))}, {"bytes": Fraction(draw.choice([9_000, 400_000]))},
                           {"pause": Fraction(draw.choice([1, 15, 400]))}, {"pause": Fraction(7)}])
@@ -97,7 +99,7 @@ def paces(draw):
     )
 
 
-def setups(draw, names):
+def setups(draw: random.Random, names: Sequence[Path]) -> tuple[str, Shape, str]:
     """The lines of a setup for captures, its shape, and the command."""
     is_v2 = draw.random() < 0.2
     size, count, timeout, members = draw.choice([4096, 8192]), draw.choice([2, 3, 5, 16]), draw.choice([1, 8, 20, 100]), draw.choice([1, 1, 2, 3])
@@ -109,7 +111,7 @@ def setups(draw, names):
     return "\n".join(lines) + "\n", shape, "replay2" if is_v2 else "replay"
 
 
-def outcome(command, setup, schedule, prefix):
+def outcome(command: str, setup: str, schedule: str, prefix: str) -> tuple[str, int, dict[str, bytes]] | str | None:
     """What a run prints and saves."""
     (room / "setup").write_text(setup + f"out {prefix}\n")
     (room / "schedule").write_text(schedule)
@@ -120,7 +122,7 @@ def outcome(command, setup, schedule, prefix):
     return (done.stdout, done.returncode, files) if done else why
 
 
-def main():
+def main() -> None:
     draw = random.Random(7)
     ours = sorted(path.resolve() for path in [Path("demo/lo.pcap"), *Path("demo/expected").rglob("*.pcap")])
     captures = [made(room / f"made{number}.pcap", draw, draw.choice([1, 3, 40, 200])) for number in range(12)]
@@ -146,8 +148,7 @@ def main():
     # Frames of a year apart: a schedule as long as a silence would never end.
     apart = room / "apart.pcap"
     made(apart, draw, 3)
-    record = struct.pack("<IIII", 40_000_000, 0, 60, 60) + bytes(60)
-    apart.write_bytes(apart.read_bytes() + record)
+    apart.write_bytes(apart.read_bytes() + record(bytes(60), sec=40_000_000, fraction=0))
     long = schedule_of(feeds([CaptureStream(apart)], Fraction(1)), Pace(pause=Fraction(1)), Shape(1, 4096, 2, 8))
     if len(long.split("\n")) > 40:
         unlike += 1

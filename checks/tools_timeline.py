@@ -5,17 +5,20 @@
 
 A frame of 60 bytes takes 144 bytes of a block, of which one of 4096 bytes has 4048 for packets, so 28 frames.
 """
+from __future__ import annotations
+
 import json
 import random
 import subprocess
 import sys
 
-import tools
 from hash_values import KEY
-from tools import BLOCK, TOP, capture, datagram, expect, frame, program, room, text, titles, with_program
+from tool_comparisons import (
+    BLOCK, TOP, answer, capture, datagram, expect, frame, main, program, text, titles, with_program,
+)
 
 
-def rows(printed):
+def rows(printed: str) -> list[tuple[str, str, str]]:
     """The events: line, what the reader has, and what happened."""
     found = []
     for line in printed.split("\n\n")[0].split("\n")[1:]:
@@ -24,7 +27,7 @@ def rows(printed):
     return found
 
 
-def test_story():
+def test_story() -> None:
     """Frames 0 to 27 fill block 1 and 28 to 55 block 2, as none is read; frame 57 finds block 1 given back."""
     capture("many.pcap", [(1000 * number, frame(number)) for number in range(100)])
     setup = text("many.txt", BLOCK + "cpu many.pcap\ntov 50\n")
@@ -57,7 +60,7 @@ def test_story():
            ("frame 29 doesn't fit: block 1 is retired, block 2 is opened", 0.028, 14, 0.056))
 
 
-def test_demo():
+def test_demo() -> None:
     """The demo's small ring, as docs/guide.md goes through it; from a pipe too."""
     words = [sys.executable, "-I", "-B", str(TOP / "tools/timeline.py"), "demo/small.txt", "-", "--program", str(program)]
     with open(TOP / "demo/schedule.txt", "rb") as given:
@@ -69,7 +72,7 @@ def test_demo():
     ))
 
 
-def test_rollover():
+def test_rollover() -> None:
     """Where member 0 has no room its packets go to member 1, and where none has they are dropped at home."""
     setup = text("rolling.txt", BLOCK + "cpu many.pcap\ncpu many.pcap\nmembers 2\nmode cpu\nflag rollover\n")
     text("rolling.sched", "feed 0\n" * 100 + "feed 1\n" * 100)
@@ -80,7 +83,7 @@ def test_rollover():
     expect("nowhere", "frame 13 of CPU 1 to frame 99 of CPU 1 are dropped, 87 in all" in words, True)
 
 
-def made_setup(draw):
+def made_setup(draw: random.Random) -> tuple[str, str]:
     """A setup of two CPUs and some group, and a schedule; of each kind something."""
     mode = draw.choice(["hash", "lb", "cpu", "qm", "rollover"])
     lines = [f"block_size {draw.choice([4096, 8192])}", f"block_nr {draw.choice([2, 3])}"]
@@ -96,7 +99,7 @@ def made_setup(draw):
     return "\n".join(lines) + "\n", "\n".join(steps) + "\n"
 
 
-def test_as_the_program():
+def test_as_the_program() -> None:
     """Over runs of all modes and flags the steps have the counts that the program prints: else the tool ends with a sentence. The status
     and the sums of its table are compared besides."""
     draw = random.Random(7)
@@ -114,11 +117,11 @@ def test_as_the_program():
         text("made.sched", schedule)
         printed, said, status = with_program("timeline.py", "made.txt", "made.sched", "--json")
         expect(f"run {number}", (said, status), ("", 0))
-        lines = tools.answer([program, "replay", "made.txt", "made.sched"])[0].split("\n")
+        lines = answer([program, "replay", "made.txt", "made.sched"])[0].split("\n")
         told = [[int(word) for word in line.split()[3::2]] for line in lines if line.startswith("member")]
         members = json.loads(printed)["members"] if status == 0 else []
         expect(f"counts of run {number}", [[one["kept"] + one["drops"], one["drops"], one["freezes"], one["blocks"]] for one in members], told)
 
 
 if __name__ == "__main__":
-    tools.main(globals())
+    main(globals())

@@ -1,7 +1,7 @@
 #!/bin/sh
 # Makes the capture of this folder anew: ICMP, DNS and TCP traffic on the loopback device, made on the spot, as
 # tcpdump captures it. It wants Linux, tcpdump, ping, python3, and the right to capture. What ringtap makes of it is
-# in expected/, which `python3 checks/by_hand.py` makes anew.
+# in expected/, which `python3 checks/second_program.py` makes anew.
 set -eu
 cd "$(dirname "$0")"
 log=$(mktemp)

@@ -55,6 +55,14 @@ class Interface(NamedTuple):
     unit: tuple[int, int]  # nanoseconds of a unit, as a fraction
 
 
+class RefusedHeader(Fault):
+    """The first header of a capture is refused; `end` is how ringtap prints that."""
+
+    def __init__(self, end: str, sentence: str) -> None:
+        super().__init__(sentence)
+        self.end = end
+
+
 class Unpacker(io.RawIOBase):
     """The bytes of a gzip file, member by member. One that is cut gives what is there, and `is_cut` says so."""
 
@@ -131,9 +139,8 @@ def unpacked(path: Path) -> io.RawIOBase:
 class Pieces:
     """The bytes of a capture from a place on. Those past the limit don't count; `is_longer` says whether there are any."""
 
-    def __init__(self, path: Path, limit: int | None, name: Path) -> None:
-        self.path, self.limit = name, limit
-        self.file = unpacked(path)
+    def __init__(self, file: BinaryIO | io.RawIOBase, limit: int | None, name: Path) -> None:
+        self.file, self.limit, self.path = file, limit, name
         self.data, self.at = b"", 0  # what is in memory, and where in it the present place is
         self.start = 0  # the place of its first byte
         self.is_longer = self.has_ended = False
@@ -185,12 +192,14 @@ class Pieces:
 
 
 class CaptureStream:
-    """The frames of a capture, once. `end` is there after the last of them."""
+    """The frames of a capture, once, by its path or of an open file. `end` is there after the last of them."""
 
-    def __init__(self, path: Path, limit: int | None = LARGEST_CAPTURE, name: Path | None = None) -> None:
+    def __init__(
+        self, path: Path, limit: int | None = LARGEST_CAPTURE, name: Path | None = None, file: BinaryIO | None = None
+    ) -> None:
         self.path = name or path  # as it is named in sentences
         self.limit = limit
-        self.pieces = Pieces(path, limit, self.path)
+        self.pieces = Pieces(file or unpacked(path), limit, self.path)
         self.end = "ok"
 
     def __iter__(self) -> Iterator[Frame]:
@@ -236,18 +245,19 @@ def pcap_header(stream: CaptureStream) -> tuple[str, int]:
     """The byte order of a pcap file, and how many nanoseconds a fraction counts."""
     path, pieces = stream.path, stream.pieces
     if not pieces.has(PCAP_HEADER):
-        raise Fault(f"{path}: has {pieces.left} bytes, and the header of a pcap file has {PCAP_HEADER}")
+        raise RefusedHeader("truncated 0", f"{path}: has {pieces.left} bytes, and the header of a pcap file has {PCAP_HEADER}")
     for order in "<>":
         unit = PCAP_UNITS.get(struct.unpack_from(order + "I", pieces.data)[0])
         if unit:
             break
     else:
-        raise Fault(f"{path}, byte 0: is neither pcap nor pcapng")
+        raise RefusedHeader("bad_magic 0", f"{path}, byte 0: is neither pcap nor pcapng")
     major, minor, _, _, _, link = struct.unpack_from(order + "HHiIII", pieces.data, 4)
     if (major, minor) != (2, 4):
-        raise Fault(f"{path}, byte 4: is of version {major}.{minor}, and ringtap reads 2.4")
+        raise RefusedHeader("bad_version 0", f"{path}, byte 4: is of version {major}.{minor}, and ringtap reads 2.4")
     if link & 0xFFFF != ETHERNET:
-        raise Fault(f"{path}, byte 20: has link type {link & 0xFFFF}, and ringtap reads Ethernet, which is {ETHERNET}")
+        sentence = f"{path}, byte 20: has link type {link & 0xFFFF}, and ringtap reads Ethernet, which is {ETHERNET}"
+        raise RefusedHeader("bad_link 0", sentence)
     pieces.at = PCAP_HEADER
     return order, unit
 
@@ -314,7 +324,7 @@ class PcapngFrames:
     def refuse(self, damage: str, sentence: str | None = None) -> None:
         """Ends the capture; before its first interface a header that is refused is a fault."""
         if sentence and not self.index and not self.interfaces:
-            raise Fault(f"{self.stream.path}, {sentence}")
+            raise RefusedHeader(damage, f"{self.stream.path}, {sentence}")
         self.stream.stop(damage)
 
     def damage_of(self, kind: int, length: int, place: int) -> tuple[str, str | None] | None:
