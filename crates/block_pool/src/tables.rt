@@ -57,7 +57,7 @@ impl PieceTable {
         for place in self.places {
             let Some(piece) = place else { unreachable!() };
             walked.append(&mut piece.packets.into_vec())?;
-            dump.append(&mut piece.text.into_vec())?;
+            dump.extend_from_slice(piece.text.as_slice())?;
         }
         Ok(Outputs {
             walked: Packets::from_vec(walked),

@@ -1,19 +1,12 @@
 -- A VLAN tag taken out of a frame, and put back.
-use Rattle.std.specs.Prelude.{ℕ, ◌-◌, Bool, false, ◌||◌, List, ◌++◌, length, take, drop, nat_lt}
-use Rattle.std.specs.Prelude.{◌==◌, if◌then◌else◌, Option, None, Some}
+use Rattle.std.specs.Prelude.{ℕ, ◌-◌, List, ◌++◌, length, take, drop, nat_lt}
+use Rattle.std.specs.Prelude.{if◌then◌else◌, Option, None, Some}
 use Rattle.std.specs.Int.{to_be_bytes, w16}
 use Rattle.frame_view.specs.Headers.{u16_at}
+pub use Rattle.frame_view.specs.Tags.{is_tagged, is_tpid}
 use Rattle.frame_view.specs.declared.frames.Frame.{Frame}
 use Rattle.frame_view.specs.declared.frames.Packet.{Packet}
 use Rattle.frame_view.specs.declared.frames.Tag.{Tag}
-
--- the identifiers of a customer tag (IEEE 802.1Q) and of a service tag (IEEE 802.1ad)
-abbrev pub is_tpid : ℕ → Bool
-is_tpid tpid = (tpid == 0x8100) || (tpid == 0x88a8)
-
--- whether the bytes have room for a tag and a type after it, and begin with one
-abbrev pub is_tagged : List ℕ → Bool
-is_tagged bytes = if nat_lt (length bytes) 18 then false else is_tpid (u16_at 12 bytes)
 
 -- the tag that follows the addresses
 abbrev pub tag_of : List ℕ → Tag

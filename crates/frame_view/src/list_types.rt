@@ -1,6 +1,6 @@
 //! One list type, which contracts see as a list, and the names that it has for its items.
 ghost use Rattle.std.specs.Prelude.{◌≡◌, ◌+◌, ◌^◌, ◌<◌, ◌≤◌, ◌↔◌, [], ◌∷◌, ◌++◌, length, take};
-ghost use Rattle.std.specs.Prelude.{drop, slice_get, IsTrue, OnOk, OnErr, option_copied};
+ghost use Rattle.std.specs.Prelude.{slice_get, IsTrue, OnOk, OnErr, option_copied};
 
 use crate::Memory;
 use std::alloc::Global;
@@ -12,9 +12,6 @@ use std::marker::Model;
 pub struct ItemList<T> {
     items: Vec<T>,
 }
-
-/// Bytes, in order.
-pub type ByteList = ItemList<u8>;
 
 /// Numbers of moments or of calls, in order.
 pub type MomentList = ItemList<u64>;
@@ -96,17 +93,5 @@ impl<T: Drop> ItemList<T> {
         ensures { self.new ≡ take len self.old }
     {
         self.items.truncate(len);
-    }
-}
-
-impl ItemList<u8> {
-    /// Removes the four bytes from a place on, in place.
-    pub(crate) fn cut_four_at(&mut self, at: usize)
-        requires { at + 4 ≤ length self.old }
-        ensures { self.new ≡ take at self.old ++ drop (at + 4) self.old }
-    {
-        let end = self.items.len() - 4;
-        self.items.copy_within(at + 4.., at);
-        self.items.truncate(end);
     }
 }

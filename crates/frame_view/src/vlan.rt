@@ -27,12 +27,13 @@ pub fn untag(frame: &mut Frame)
         tpid: u16_at(frame.bytes.as_slice(), 12),
         tci: u16_at(frame.bytes.as_slice(), 14),
     };
-    frame.bytes.cut_four_at(12);
+    frame.bytes.cut_tag();
     frame.wire -= 4;
     frame.tag = Some(tag);
 }
 
-fn begins_tagged(bytes: &[u8]) -> bool
+/// Whether the bytes begin with a tag that `untag` takes out.
+pub(crate) fn begins_tagged(bytes: &[u8]) -> bool
     ensures { result ≡ is_tagged bytes.now }
 {
     if bytes.len() < 18 {
