@@ -1,3 +1,4 @@
+pub mod RecordCopies
 pub mod Lists
 pub mod Records
 pub mod Steps

@@ -1,3 +1,4 @@
+pub mod Batches
 pub mod Pcap
 pub mod Capture
 pub mod Output

@@ -2,6 +2,7 @@
 //! file of packets.
 #![tactic(auto)]
 
+mod batches;
 mod cpu_end;
 mod decoder;
 mod endings;

@@ -1,4 +1,6 @@
-//! Records read from bytes, in one pass: each whole record's bytes are copied once, into its frame.
+//! Records read from bytes, in one pass: each whole record's bytes are copied once, those of a large
+//! one into its frame, those of small ones that follow one another into a piece that their frames
+//! share.
 ghost use Rattle.std.specs.Prelude.{◌≡◌, ◌+◌, ◌*◌, ◌-◌, ◌≤◌, ◌<◌, ◌⊎◌, [], ◌++◌, false, true};
 ghost use Rattle.std.specs.Prelude.{length, take, drop, IfOk, OnOk, OnErr, IfSome, MatchOption};
 ghost use Rattle.capture_file.specs.Pcap.{begins_whole, begins_oversized, record_size};
@@ -6,8 +8,10 @@ ghost use Rattle.capture_file.specs.Pcap.{frame_of_record};
 ghost use Rattle.capture_file.specs.Feeds.{BeginsWith, place_behind, read_from, IsPart};
 ghost use Rattle.capture_file.specs.Feeds.{Completes, IsRead, Comes, Begins, Feeds, IsSoundAt};
 ghost use Rattle.capture_file.specs.Feeds.{kept_at};
+ghost use Rattle.capture_file.specs.Batches.{IsFrontOf};
 
 use crate::CaptureError;
+use crate::batches::Batch;
 use crate::format::{Format, HEADER_SIZE, Order, read_header};
 use crate::stage::Stage;
 use frame_view::{ByteList, Frame, Frames, Memory};
@@ -18,6 +22,14 @@ pub(crate) const RECORD_HEADER_SIZE: usize = 16;
 
 /// The largest number of captured bytes of a record.
 const LARGEST_RECORD: u32 = 262_144;
+
+/// The largest number of bytes of a record that shares a piece, with its header: this project's own
+/// choice.
+const LARGEST_SHARED: usize = 272;
+
+/// The number of bytes from which on no further record is copied into a piece: this project's own
+/// choice. A piece lives as long as any of its frames.
+const PIECE: usize = 2048;
 
 /// The greatest number of nanoseconds within a second.
 const LAST_NANOSECOND: u64 = 999_999_999;
@@ -206,34 +218,75 @@ impl Reader {
     {
         let mut next = next;
         let mut rest = bytes;
+        let mut batch = Batch::new();
         while let Some((record, behind)) = first_record(self.format.order, rest) {
-            into.push(self.frame(next.index, record)?)?;
+            let captured = self.data_of(&mut batch, rest, record.len())?;
+            into.push(self.frame(next.index, record, captured))?;
             next = next.behind(record);
             rest = behind;
         }
         Ok((next, rest))
     }
 
-    /// The frame of a whole record.
+    /// The data of the whole record of this size that the bytes begin with, given the front of them
+    /// that was copied with the records before it. A large record's is copied on its own, as is a
+    /// small one's before a large one; another small one's with those of the records behind it.
+    #[tactic(auto, using(crate::proofs::RecordCopies::record_in_front, crate::proofs::RecordCopies::front_behind))]
+    fn data_of(self, batch: &mut Batch, bytes: &[u8], size: usize) -> Result<ByteList, Memory>
+        requires header { 16 ≤ size }
+        requires whole { size ≤ length bytes.now }
+        requires few { length bytes.now ≤ 33554432 }
+        requires front { IsFrontOf batch.old bytes.now }
+        ensures value { IfOk result (λ list. list ≡ drop 16 (take size bytes.now)) }
+        ensures front { OnOk result (IsFrontOf batch.new (drop size bytes.now)) }
+    {
+        if batch.len() < size {
+            let (front, _) = bytes.split_at(small_records(self.format.order, bytes));
+            if front.len() <= size {
+                let (record, _) = bytes.split_at(size);
+                let (_, data) = record.split_at(RECORD_HEADER_SIZE);
+                *batch = Batch::new();
+                return Ok(ByteList::from_vec(data.to_vec(self.alloc)?));
+            }
+            *batch = Batch::of(self.alloc, front)?;
+        }
+        batch.next_data(self.alloc, size)
+    }
+
+    /// The frame of a whole record with this data.
     #[tactic(auto, unfolding(crate::specs::Pcap::frame_of_record))]
-    fn frame(self, index: u32, bytes: &[u8]) -> Result<Frame, Memory>
-        requires { 16 ≤ length bytes.now }
-        ensures { IfOk result (λ frame.
-            frame ≡ frame_of_record self.cpu self.format index bytes.now) }
+    fn frame(self, index: u32, bytes: &[u8], captured: ByteList) -> Frame
+        requires whole { 16 ≤ length bytes.now }
+        requires behind { captured ≡ drop 16 bytes.now }
+        ensures { result ≡ frame_of_record self.cpu self.format index bytes.now }
     {
         let order = self.format.order;
         let fraction = order.u32_at(bytes, 4) as u64 * self.format.unit as u64;
-        let (_, data) = bytes.split_at(RECORD_HEADER_SIZE);
-        Ok(Frame {
+        Frame {
             cpu: self.cpu,
             index,
             sec: order.u32_at(bytes, 0),
             nsec: fraction.min(LAST_NANOSECOND) as u32,
             wire: order.u32_at(bytes, 8).max(order.u32_at(bytes, 12)),
-            bytes: ByteList::from_vec(data.to_vec(self.alloc)?),
+            bytes: captured,
             tag: None,
-        })
+        }
     }
+}
+
+/// The number of bytes of the whole small records that bytes begin with, up to one that ends beyond
+/// what a piece has.
+fn small_records(order: Order, bytes: &[u8]) -> usize
+    ensures { result ≤ length bytes.now }
+{
+    let mut rest = bytes;
+    while bytes.len() - rest.len() < PIECE {
+        match first_record(order, rest) {
+            Some((record, behind)) if record.len() <= LARGEST_SHARED => rest = behind,
+            _ => break,
+        }
+    }
+    bytes.len() - rest.len()
 }
 
 impl Place {

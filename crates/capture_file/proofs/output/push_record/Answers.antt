@@ -1,4 +1,4 @@
-use Rattle.std.proofs.Common.{◌≡◌, List, ◌++◌, ℕ, ap, ◌∙◌, refl, sym}
+use Rattle.std.proofs.Common.{List, ◌++◌, ℕ, ap, ◌∙◌, refl}
 use Rattle.std.proofs.lemmas.Result.{on_ok_weaker}
 use Rattle.frame_view.specs.Vlan.{frame_of}
 use Rattle.capture_file.specs.Output.{record_text, four_bytes}

@@ -1,4 +1,5 @@
 use Rattle.std.proofs.Common.{◌≡◌, ◌+◌, ◌*◌, ◌≤◌, length, take}
+use Rattle.capture_file.specs.Batches.{IsFrontOf}
 use Rattle.capture_file.specs.Feeds.{read_from}
 use Rattle.capture_file.proofs.record_reader.Reader.read_records.Given as goal
 
@@ -10,6 +11,7 @@ invariant-loop-record l = record {
   count : 16 * l.next.index ≤ l.next.stop;
   places : l.next.stop + length l.rest ≡ l.fn.next.stop + length l.bytes;
   fewer : length l.rest ≤ length l.bytes;
+  copied : IsFrontOf l.batch l.rest;
 }
 
 abbrev pub decreases-loop-record : goal.decreases-loop-record
