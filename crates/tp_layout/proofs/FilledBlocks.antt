@@ -46,6 +46,16 @@ lawful_offer shape offer h =
     let kept = length-take-le offer.snap offer.frame.bytes sound.captured in
     record { some = rw kept sound.some; captured = rw kept sound.wire; nsec = sound.nsec; pkttype = sound.pkttype; tag = sound.tag; typed = h.typed }
 
+-- what a write of an offer's packet leaves of an open block
+pub packet_held : (shape : RingRequest) (number at : ℕ) (packets : List Packet) (offer : Offer) (bytes new : List ℕ) → IsOffer shape offer
+    → new ≡ put at (packet_text (need_of offer.snap) (packet_of (fills_hash shape) offer)) bytes
+    → IsOpen shape number packets bytes → at ≡ end_of shape packets → IsOpen shape number (packets ++ packet_of (fills_hash shape) offer ∷ []) new
+packet_held shape number at packets offer bytes new h so is_open here =
+    let packet = packet_of (fills_hash shape) offer in
+    let kept = length-take-le offer.snap offer.frame.bytes h.writable.captured in
+    let whole : new ≡ put at (packet_text (need_of_packet packet) packet) bytes = so ∙ rw kept refl in
+    rw whole (held shape number at packets packet bytes is_open here (lawful_offer shape offer h))
+
 needs-append : (packets : List Packet) (packet : Packet) → needs_of (packets ++ packet ∷ []) ≡ needs_of packets + need_of_packet packet
 needs-append [] packet = omega (arith, needs-cons packet [])
 needs-append (first ∷ packets) packet =

@@ -1,6 +1,6 @@
 -- How a block is filled: in an open block each packet says where the next one will be, and at the
 -- end the block is closed.
-use Rattle.std.specs.Prelude.{◌≡◌, ℕ, ◌+◌, ◌^◌, ◌<◌, ◌≤◌, IfSome, IsTrue, List, [], ◌∷◌, ◌++◌}
+use Rattle.std.specs.Prelude.{◌≡◌, ℕ, ◌+◌, ◌-◌, ◌^◌, ◌<◌, ◌≤◌, IfSome, IsTrue, List, [], ◌∷◌, ◌++◌}
 use Rattle.std.specs.Prelude.{length, take, drop, replicate}
 use Rattle.std.specs.List.{AllByRecursion, flat_map}
 use Rattle.byteorder.specs.Endian.{little_bytes}
@@ -22,6 +22,10 @@ pub record ShapedBytes : Type 0 where
 abbrev pub bytes_or_zeros : ℕ → List ℕ → List ℕ
 bytes_or_zeros size [] = replicate size 0
 bytes_or_zeros size (byte ∷ bytes) = byte ∷ bytes
+
+-- bytes with zeros after them, up to this size
+abbrev pub padded : ℕ → List ℕ → List ℕ
+padded size bytes = bytes ++ replicate (size - length bytes) 0
 
 -- the bytes with others written over them from a place on
 abbrev pub put : ℕ → List ℕ → List ℕ → List ℕ

@@ -5,6 +5,7 @@ pub mod Rows
 pub mod Packets
 pub mod Blocks
 pub mod BlocksInside
+pub mod WritersInside
 pub mod Faults
 pub mod BlockWrites
 pub mod Readers

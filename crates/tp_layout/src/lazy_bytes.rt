@@ -1,18 +1,22 @@
 //! The bytes of a block or of a slot, which cost nothing until they are written.
-ghost use Rattle.std.specs.Prelude.{◌≡◌, ◌≤◌, ℕ, [], length, replicate, IfOk};
+ghost use Rattle.std.specs.Prelude.{◌≡◌, ◌+◌, ◌<◌, ◌≤◌, ℕ, [], length, replicate, IfOk};
 ghost use Rattle.std.specs.Arc.{arc_value};
 ghost use Rattle.std.specs.Vec.{vec_capacity};
-ghost use Rattle.tp_layout.specs.BlockWrites.{bytes_or_zeros};
+ghost use Rattle.tp_layout.specs.BlockWrites.{bytes_or_zeros, padded};
 
 use frame_view::Memory;
 use std::alloc::Global;
 use std::mem;
 use std::sync::Arc;
 
+/// How many bytes `grow` makes writable beyond those that are asked for, so that most calls of it
+/// find enough.
+const AHEAD: usize = 1024;
+
 /// Bytes that are zeros until the first write.
 #[derive(Debug, Drop)]
 pub struct LazyBytes {
-    /// The bytes. Until the first write there are none.
+    /// The bytes. Until the first write there are none; `grow` adds them little by little.
     pub written: Vec<u8>,
     /// The same number of zeros, which all blocks or slots of a ring share: they are the bytes
     /// until the first write.
@@ -87,6 +91,39 @@ impl LazyBytes {
     {
         take_room(&mut self.written, room, size);
     }
+
+    /// Makes the bytes up to this place writable. They are `size` bytes in all: those that are
+    /// there, and zeros after them, for which there is memory.
+    pub(crate) fn grow(&mut self, end: u32, size: u32)
+        requires order { end ≤ size }
+        requires fits { length self.old.written.items ≤ size }
+        requires room { length self.old.written.items < size
+            → size ≤ vec_capacity self.old.written }
+        ensures same { padded size self.new.written.items ≡ padded size self.old.written.items }
+        ensures enough { end ≤ length self.new.written.items }
+        ensures fits { length self.new.written.items ≤ size }
+        ensures room { length self.new.written.items < size
+            → size ≤ vec_capacity self.new.written }
+        ensures zeros { arc_value self.new.zeros ≡ arc_value self.old.zeros }
+    {
+        let end = end as usize;
+        if self.written.len() < end {
+            zeros_after(&mut self.written, (end + AHEAD).min(size as usize));
+        }
+    }
+}
+
+/// Adds zeros up to this number of bytes.
+fn zeros_after(bytes: &mut Vec<u8>, size: usize)
+    requires fits { length bytes.old.items ≤ size }
+    requires room { size ≤ vec_capacity bytes.old }
+    ensures items { bytes.new.items ≡ padded size bytes.old.items }
+    ensures room { vec_capacity bytes.old ≤ vec_capacity bytes.new }
+{
+    match bytes.resize(size, 0) {
+        Ok(()) => {}
+        Err(_) => unreachable!(),
+    }
 }
 
 /// Fills bytes that were never written with zeros.
@@ -95,10 +132,7 @@ fn zeros_first(bytes: &mut Vec<u8>, size: u32)
     ensures { bytes.new.items ≡ bytes_or_zeros size bytes.old.items }
 {
     if bytes.is_empty() {
-        match bytes.resize(size as usize, 0) {
-            Ok(()) => {}
-            Err(_) => unreachable!(),
-        }
+        zeros_after(bytes, size as usize);
     }
 }
 

@@ -30,5 +30,5 @@ pub use lazy_bytes::{LazyBytes, zeros};
 pub use packet_refs::{PacketRef, tpid_may};
 pub use packet_walks::PacketWalk;
 pub use requests::RingRequest;
-pub use ring_blocks::{Block, blocks};
+pub use ring_blocks::{Block, BlockWriter, blocks};
 pub use shapes::{Shape, a_shape_is_sound};

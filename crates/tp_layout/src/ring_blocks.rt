@@ -8,9 +8,12 @@ ghost use Rattle.tp_layout.specs.Requests.{IsShape, first_of};
 ghost use Rattle.tp_layout.specs.BlockWrites.{IsWritable, closed, open_header, put, zero_block};
 ghost use Rattle.tp_layout.specs.declared.requests.RingRequest.{RingRequest};
 
+mod block_writers;
+
 use crate::block_headers::{put_closing, put_empty};
 use crate::packet_fields::put_packet;
 use crate::{Closing, LazyBytes, Shape, zeros};
+pub use block_writers::BlockWriter;
 use frame_view::Memory;
 use ring_model::Offer;
 use std::alloc::Global;
