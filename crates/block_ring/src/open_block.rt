@@ -12,14 +12,12 @@ ghost use Rattle.tp_layout.specs.BlockWrites.{IsWritable};
 ghost use Rattle.block_ring.specs.OpenBlocks.{Holds, OpenText, with_packet};
 
 use ring_model::{Offer, need};
-use tp_layout::{
-    Block, Closing, Shape, a_shape_is_sound, close_header, write_header, write_packet,
-};
+use tp_layout::{Block, BlockWriter, Closing, Shape, a_shape_is_sound};
 
 /// A block that packets are written into.
 #[derive(Drop)]
 pub(crate) struct OpenBlock {
-    block: Block,
+    block: BlockWriter,
     /// What its close will write, except the status. Its `length` is the place of the next packet,
     /// in bytes.
     closing: Closing,
@@ -27,14 +25,13 @@ pub(crate) struct OpenBlock {
 
 impl OpenBlock {
     /// Opens a block with a number.
-    pub(crate) fn new(mut block: Block, shape: &Shape, number: u64) -> OpenBlock
+    pub(crate) fn new(block: Block, shape: &Shape, number: u64) -> OpenBlock
         requires { block.shape ≡ shape.now }
         ensures { Holds shape.now (record { number = number; offers = [] }) result }
     {
-        write_header(&mut block, shape, number);
         let first = shape.first();
         OpenBlock {
-            block,
+            block: BlockWriter::new(block, shape, number),
             closing: Closing {
                 status: 0,
                 packets: 0,
@@ -79,7 +76,7 @@ impl OpenBlock {
         a_shape_is_sound(shape);
         let at = self.closing.length;
         let (first_sec, first_nsec) = self.first_time(offer);
-        write_packet(&mut self.block, shape, at, offer);
+        self.block.write(shape, at, offer);
         self.closing = Closing {
             status: 0,
             packets: self.closing.packets + 1,
@@ -109,9 +106,7 @@ impl OpenBlock {
             status,
             ..self.closing
         };
-        let mut block = self.block;
-        close_header(&mut block, shape, &closing);
-        block
+        self.block.close(shape, &closing)
     }
 
     /// The time of the first packet, if an offer's packet comes after those that are there.
