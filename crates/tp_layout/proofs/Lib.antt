@@ -10,3 +10,4 @@ pub mod ReaderAnswers
 pub mod FilledBlocks
 pub mod LawfulReads
 pub mod OneShape
+pub mod Copies

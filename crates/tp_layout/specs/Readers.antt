@@ -1,5 +1,6 @@
 -- How the readers of blocks report their answers.
-use Rattle.std.specs.Prelude.{◌≡◌, ℕ, List, Option, None, Some, Result, Ok, Err}
+use Rattle.std.specs.Prelude.{◌≡◌, ℕ, List, [], ◌∷◌, ◌++◌, Option, None, Some}
+use Rattle.std.specs.Prelude.{Result, Ok, Err}
 use Rattle.frame_view.specs.declared.frames.Packet.{Packet}
 use Rattle.tp_layout.specs.declared.requests.RingRequest.{RingRequest}
 use Rattle.tp_layout.specs.declared.error.LayoutError.{LayoutError}
@@ -32,3 +33,8 @@ seen packet = record {
   bytes = packet.bytes.now;
   tag = packet.tag;
 }
+
+-- the data of packets, one after another
+unfoldable pub data_of : List Packet → List ℕ
+data_of [] = []
+data_of (packet ∷ packets) = packet.bytes ++ data_of packets

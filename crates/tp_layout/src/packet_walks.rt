@@ -1,11 +1,12 @@
 //! The packets of a block that passed its tests, one after another.
-ghost use Rattle.std.specs.Prelude.{◌≡◌, ◌≤◌, ◌++◌, length, take, OnOk};
+ghost use Rattle.std.specs.Prelude.{◌≡◌, ◌≤◌, ◌++◌, length, take, IfOk, OnOk};
 ghost use Rattle.tp_layout.specs.Faults.{packets_in};
 ghost use Rattle.tp_layout.specs.Checks.{PassesTests};
+ghost use Rattle.tp_layout.specs.Readers.{data_of, seen};
 
 use crate::fields::u32_at;
 use crate::packet_refs::{PacketRef, packet_at};
-use frame_view::{Memory, Packet};
+use frame_view::{ByteList, Memory, Packet, Piece};
 use ring_model::need;
 use std::alloc::Global;
 use std::marker::Model;
@@ -43,15 +44,80 @@ impl<'a> PacketWalk<'a> {
         PacketWalk { left, rest }
     }
 
-    /// Appends copies of all packets. After `Memory` some of them follow those that were there.
+    /// Appends copies of all packets. After `Memory` some of them follow those that were there. The
+    /// data of two or more copies share one piece of memory, which lives as long as any of them.
     pub fn push_copies(self, alloc: Global, into: &mut Vec<Packet>) -> Result<(), Memory>
         ensures copies { OnOk result (into.new.items ≡ into.old.items ++ self.entry) }
         ensures front { take (length into.old.items) into.new.items ≡ into.old.items }
     {
+        if self.left > 1 {
+            let piece = Piece::new(alloc, data_of(alloc, self.left, self.rest)?)?;
+            return self.push_parts(alloc, &piece, into);
+        }
         for packet in self {
             into.push(packet.to_packet(alloc)?)?;
         }
         Ok(())
+    }
+
+    /// Appends all packets, whose data are parts of this piece. After `Memory` some of them follow
+    /// those that were there.
+    fn push_parts(self, alloc: Global, piece: &Piece, into: &mut Vec<Packet>) -> Result<(), Memory>
+        requires joined { piece.now ≡ data_of self }
+        requires small { length piece.now ≤ 1048576 }
+        ensures copies { OnOk result (into.new.items ≡ into.old.items ++ self.entry) }
+        ensures front { take (length into.old.items) into.new.items ≡ into.old.items }
+    {
+        into.reserve(self.left as usize)?;
+        let mut from = 0;
+        for packet in self {
+            let count = packet.bytes.len() as u32;
+            let bytes = piece.part(alloc, from, count)?;
+            into.push_reserved(with_bytes(&packet, bytes));
+            from += count;
+        }
+        Ok(())
+    }
+}
+
+/// The data of the packets of bytes that passed the tests, one after another.
+fn data_of(alloc: Global, count: u32, bytes: &[u8]) -> Result<Vec<u8>, Memory>
+    requires { PassesTests count bytes.now }
+    ensures joined { IfOk result (λ all. all.items ≡ data_of (packets_in count bytes.now)) }
+    ensures small { IfOk result (λ all. length all.items ≤ 1048576) }
+{
+    // Each packet has a header of 82 bytes beside its data, so this is room for all of it.
+    let room = bytes.len().saturating_sub(count as usize * 82);
+    let mut data = Vec::with_capacity(alloc, room)?;
+    let mut rest = bytes;
+    let mut left = count;
+    while left > 0 {
+        let snap = u32_at(rest, 12);
+        let (_, behind) = rest.split_at(82);
+        let (captured, _) = behind.split_at(snap as usize);
+        data.extend_from_slice(captured)?;
+        let (_, tail) = rest.split_at(need(snap) as usize);
+        rest = tail;
+        left -= 1;
+    }
+    Ok(data)
+}
+
+/// A packet that was read in place, with these bytes as its data.
+fn with_bytes(packet: &PacketRef<'_>, bytes: ByteList) -> Packet
+    requires { bytes ≡ packet.now.bytes.now }
+    ensures { result ≡ seen packet.now }
+{
+    Packet {
+        sec: packet.sec,
+        nsec: packet.nsec,
+        wire: packet.wire,
+        rxhash: packet.rxhash,
+        protocol: packet.protocol,
+        pkttype: packet.pkttype,
+        addr: packet.addr,
+        bytes,
+        tag: packet.tag,
     }
 }
 
