@@ -4,6 +4,7 @@ pub mod Turns
 pub mod Moves
 pub mod Requests
 pub mod Takings
+pub mod Gathered
 pub mod Sends
 pub mod Splits
 pub mod Runs

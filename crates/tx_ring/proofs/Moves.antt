@@ -1,15 +1,15 @@
 -- What a ring keeps as slots are placed, taken and refused.
-use Rattle.std.proofs.Common.{◌≡◌, ℕ, suc, ◌+◌, ◌-◌, ◌%◌, ◌<◌, ◌≤◌, Bool, false, true, ◌⊎◌, List, [], ◌∷◌, ◌++◌, length, set, replicate, Option, None, Some, IfSome, true≢false, refl, sym, ap, subst, ◌∙◌, inl, inr, arith}
+use Rattle.std.proofs.Common.{◌≡◌, ℕ, suc, ◌+◌, ◌-◌, ◌%◌, ◌<◌, ◌≤◌, Bool, false, true, ◌⊎◌, List, [], ◌∷◌, ◌++◌, length, drop, set, replicate, Option, None, Some, IfSome, true≢false, refl, sym, ap, subst, ◌∙◌, inl, inr, arith}
 use Rattle.std.specs.Prelude.{◌||◌, ◌==◌}
 use Rattle.std.proofs.lemmas.Bool.{cases_eq, eq-eqb, false_from_ne_true, eqb-true}
 use Rattle.std.proofs.lemmas.List.{get_or-set_same, get_or-set_other, get_or-replicate, length-set, length-replicate}
 use Rattle.std.proofs.Math.Nat.{mod-lt}
 use Rattle.tp_layout.specs.declared.requests.RingRequest.{RingRequest}
 use Rattle.tx_ring.specs.KeptSlots.{HasStopped, BeginsBad, Keeps, requests_in, state_in}
-use Rattle.tx_ring.specs.Rings.{TxState, is_among, new_ring, room_of, status_by, status_of, with_request}
-use Rattle.tx_ring.specs.Sends.{after_taking, is_good, front_of}
+use Rattle.tx_ring.specs.Rings.{TxState, is_among, new_ring, room_of, slot_of, status_by, status_of, with_request}
+use Rattle.tx_ring.specs.Sends.{after_taking, is_good, front_of, request_at}
 use Rattle.tx_ring.specs.Slots.{Request, SlotState, empty_slot, slot_at}
-use Rattle.tx_ring.proofs.Turns.{among_more, first_is_past, length-requests_in, next_is_free, other_requests, requests_more, same_requests}
+use Rattle.tx_ring.proofs.Turns.{among_more, drop-requests_in, first_is_past, length-requests_in, next_is_free, other_requests, requests_more, same_requests}
 
 -- a fact holds of each slot if it holds of the one that changed and of the others as they were
 pub each_slot : (P : ℕ → SlotState → Type 0) (slots : List SlotState) (at : ℕ) (slot : SlotState) → at < length slots → P at slot
@@ -105,6 +105,22 @@ behind_first placed taken some = omega arith
 pub front_request : (places : ℕ) (slots : List SlotState) (placed taken : ℕ) → taken < placed
     → front_of (requests_in places slots taken (placed - taken)) ≡ (slot_at slots (taken % places)).request
 front_request places slots placed taken some = rw (behind_first placed taken some) refl
+
+-- the request at a place is that of its slot
+pub request_there : (shape : RingRequest) (skip : Bool) (slots : List SlotState) (placed taken : ℕ) (stopped : Option ℕ) (ring : TxState) (place at : ℕ)
+    → state_in shape skip slots placed taken stopped ≡ ring → taken ≤ placed → place < length ring.requests
+    → at ≡ slot_of ring.shape (placed - (length ring.requests - place)) → (slot_at slots at).request ≡ request_at place ring.requests
+request_there shape skip slots placed taken stopped ring place at view order less slot =
+    let there = requests_in shape.frame_nr slots taken (placed - taken) in
+    let count = ap (λ (r : TxState). length r.requests) (sym view) ∙ length-requests_in shape.frame_nr slots taken (placed - taken) in
+    let left : placed - taken ≡ place + suc (placed - taken - place - 1) = omega (arith, count, less) in
+    let rest : drop place there ≡ requests_in shape.frame_nr slots (taken + place) (suc (placed - taken - place - 1)) =
+    ap (λ (n : ℕ). drop place (requests_in shape.frame_nr slots taken n)) left
+    ∙ drop-requests_in shape.frame_nr slots taken place (suc (placed - taken - place - 1)) in
+    let number : placed - (length ring.requests - place) ≡ taken + place = omega (arith, count, less, order) in
+    ap (λ (k : ℕ). (slot_at slots k).request) (slot ∙ ap (slot_of ring.shape) number ∙ ap (λ (r : TxState). slot_of r.shape (taken + place)) (sym view))
+    ∙ sym (ap front_of rest)
+    ∙ ap (λ (r : TxState). request_at place r.requests) view
 
 -- the mark of the slot that is taken
 taken_here : (places placed taken : ℕ) → taken < placed → placed ≤ taken + places

@@ -1,5 +1,5 @@
 -- The slots of a ring in turn: numbers that are less than one round apart have slots of their own.
-use Rattle.std.proofs.Common.{◌≡◌, ℕ, zero, suc, ◌+◌, ◌-◌, ◌*◌, ◌/◌, ◌%◌, ◌<◌, ◌≤◌, Bool, false, true, List, [], ◌∷◌, ◌++◌, length, set, refl, sym, ap, ◌∙◌, inl, inr, arith}
+use Rattle.std.proofs.Common.{◌≡◌, ℕ, zero, suc, ◌+◌, ◌-◌, ◌*◌, ◌/◌, ◌%◌, ◌<◌, ◌≤◌, Bool, false, true, List, [], ◌∷◌, ◌++◌, length, drop, set, refl, sym, ap, ◌∙◌, inl, inr, arith}
 use Rattle.std.specs.Prelude.{◌||◌, ◌==◌}
 use Rattle.std.proofs.lemmas.Bool.{cases_lt, eqb-true, eqb-false, false_from_ne_true}
 use Rattle.std.proofs.lemmas.List.{get_or-set_other}
@@ -96,3 +96,14 @@ other_requests places slots at slot from zero past = refl
 other_requests places slots at slot from (suc count) past =
     let here : from % places ≡ at → ⊥ = eqb-false (from % places) at (or_left _ _ past) in
     rw (get_or-set_other slots at (from % places) slot (empty_slot 0) here, other_requests places slots at slot (from + 1) count (or_right (from % places == at) _ past)) refl
+
+-- the requests from a place on are those of the slots from there on
+pub drop-requests_in : (places : ℕ) (slots : List SlotState) (from place left : ℕ)
+    → drop place (requests_in places slots from (place + left)) ≡ requests_in places slots (from + place) left
+drop-requests_in places slots from zero left =
+    let all : 0 + left ≡ left = omega arith in
+    rw (all, add-zero from) refl
+drop-requests_in places slots from (suc place) left =
+    let one : suc place + left ≡ suc (place + left) = omega arith in
+    let next : (from + 1) + place ≡ from + suc place = omega arith in
+    rw one (drop-requests_in places slots (from + 1) place left ∙ ap (λ (n : ℕ). requests_in places slots n left) next)

@@ -2,6 +2,7 @@ pub mod Slots
 pub mod SlotsInside
 pub mod Rings
 pub mod Sends
+pub mod Outgoing
 pub mod KeptSlots
 pub mod Transmission
 pub mod Laws

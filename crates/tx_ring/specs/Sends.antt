@@ -29,6 +29,10 @@ abbrev pub front_of : List Request → Request
 front_of [] = no_request
 front_of (request ∷ requests) = request
 
+-- the request at a place
+abbrev pub request_at : ℕ → List Request → Request
+request_at place requests = front_of (drop place requests)
+
 -- the packets of the good ones among requests
 abbrev pub packets_of : ℕ → List Request → List Packet
 packets_of room [] = []

@@ -13,6 +13,7 @@ ghost use Rattle.tp_layout.specs.Requests.{transmit_fault};
 ghost use Rattle.tx_ring.specs.Rings.{after_place, new_ring, place_answer, request_of, room_of};
 ghost use Rattle.tx_ring.specs.Rings.{slot_of, status_at, whole_request, with_request};
 
+mod outgoing;
 mod sends;
 
 use crate::TxError;

@@ -1,16 +1,18 @@
 //! How the requested slots of a ring are sent, from the start.
 ghost use Rattle.std.specs.Prelude.{◌≡◌, ◌+◌, ◌^◌, ◌<◌, ◌≤◌, ◌++◌, ℕ, false, true, None, Some};
-ghost use Rattle.std.specs.Prelude.{IfOk, Err, length};
+ghost use Rattle.std.specs.Prelude.{IfOk, IfSome, Err, is_some, length};
+ghost use Rattle.tx_ring.specs.Outgoing.{Holds, frames_in};
 ghost use Rattle.tx_ring.specs.Rings.{front_slot, room_of};
 ghost use Rattle.tx_ring.specs.Sends.{FrontTaken, IsBrokenOff, OnMemory, UnlessMemory};
 ghost use Rattle.tx_ring.specs.Sends.{after_send, after_taking, counted, front_of, is_good};
-ghost use Rattle.tx_ring.specs.Sends.{packet_of, packets_sent, send_answer};
+ghost use Rattle.tx_ring.specs.Sends.{frame_of, packets_sent, request_at, send_answer};
 ghost use Rattle.tx_ring.specs.declared.error.SendError.TheVariants as errors;
 
+use super::outgoing::Outgoing;
 use super::{Sent, TxRing};
 use crate::SendError;
 use crate::slot_fields::{AVAILABLE, WRONG_FORMAT};
-use frame_view::{ByteList, Memory, Packet, Packets};
+use frame_view::{Memory, Packets, Piece};
 use std::alloc::Global;
 use std::mem;
 use tp_layout::a_shape_is_sound;
@@ -39,8 +41,9 @@ impl TxRing {
             skipped: 0,
         };
         reserve(self.alloc, out, self.requested() as usize);
+        let mut frames = self.outgoing();
         for _ in 0..self.requested() {
-            let is_sent = self.take_front(out)?;
+            let is_sent = self.take_front(&mut frames, out)?;
             counts = count_one(counts, is_sent);
         }
         Ok(counts)
@@ -54,14 +57,62 @@ impl TxRing {
         (self.placed - self.taken) as u32
     }
 
+    /// The frames of all good requests, in one piece. A piece takes two allocations, so that one
+    /// request alone makes none; and if there is no memory for it there may still be enough for
+    /// those that are sent.
+    fn outgoing(&self) -> Outgoing
+        ensures { Holds result (frames_in (room_of self.now.shape) self.now.requests) }
+    {
+        let piece = if self.requested() > 1 {
+            self.piece_of_frames().ok()
+        } else {
+            None
+        };
+        Outgoing::new(piece)
+    }
+
+    /// The bytes of the frames of all good requests, one after another.
+    fn piece_of_frames(&self) -> Result<Piece, Memory>
+        ensures value { IfOk result (λ piece.
+            piece ≡ frames_in (room_of self.now.shape) self.now.requests) }
+        ensures short { IfOk result (λ piece. length piece < 2 ^ 32) }
+    {
+        let mut bytes = Vec::with_capacity(self.alloc, self.length_of_frames())?;
+        for place in 0..self.requested() {
+            if let Some(frame) = self.good_frame(place) {
+                bytes.extend_from_slice(frame)?;
+            }
+        }
+        Piece::new(self.alloc, bytes)
+    }
+
+    /// How many bytes the frames of all good requests have.
+    fn length_of_frames(&self) -> usize
+        ensures value { result
+            ≡ length (frames_in (room_of self.now.shape) self.now.requests) }
+        ensures short { result < 2 ^ 32 }
+    {
+        a_shape_is_sound(&self.shape);
+        let mut length = 0;
+        for place in 0..self.requested() {
+            if let Some(frame) = self.good_frame(place) {
+                length += frame.len();
+            }
+        }
+        length
+    }
+
     /// Takes the first requested slot: sends it, skips it, or stops the ring there. It reports
     /// whether it was sent.
-    fn take_front(&mut self, out: &mut Packets) -> Result<bool, SendError>
+    fn take_front(&mut self, frames: &mut Outgoing, out: &mut Packets) -> Result<bool, SendError>
         requires some { 0 < length self.old.requests }
-        ensures { FrontTaken self.old self.new out.old out.new result }
+        requires frames { Holds frames.old (frames_in (room_of self.old.shape) self.old.requests) }
+        ensures taken { FrontTaken self.old self.new out.old out.new result }
+        ensures frames { IfOk result (λ _.
+            Holds frames.new (frames_in (room_of self.new.shape) self.new.requests)) }
     {
-        if self.front_is_good() {
-            let packet = self.front_packet()?;
+        if let Some(frame) = self.good_frame(0) {
+            let packet = frames.next_packet(self.alloc, frame)?;
             out.push(packet)?;
             self.free_front();
             return Ok(true);
@@ -73,24 +124,24 @@ impl TxRing {
         Err(SendError::BadSlot(self.stop_front()))
     }
 
-    /// Whether the first requested slot is good.
-    fn front_is_good(&self) -> bool
-        requires some { 0 < length self.now.requests }
-        ensures { result ≡ is_good (room_of self.now.shape) (front_of self.now.requests) }
+    /// The frame of the request at a place among those that weren't taken yet, if it is good.
+    fn good_frame(&self, place: u32) -> Option<&[u8]>
+        requires { place < length self.now.requests }
+        ensures good { is_some result
+            ≡ is_good (room_of self.now.shape) (request_at place self.now.requests) }
+        ensures value { IfSome result (λ frame.
+            frame.now ≡ frame_of (request_at place self.now.requests)) }
+        ensures short { IfSome result (λ frame. length frame.now < 2 ^ 32) }
+        ensures whole { IfSome result (λ frame. 14 ≤ length frame.now) }
     {
-        let at = self.slot_of(self.taken);
+        // The requests that weren't taken are the last ones that were placed.
+        let at = self.slot_of(self.placed - u64::from(self.requested() - place));
         let asked = self.slots.asked(at) as usize;
-        self.slots.next_offset(at) == 0 && LEAST <= asked && asked <= self.room()
-    }
-
-    /// The packet of the first requested slot, which is good.
-    fn front_packet(&self) -> Result<Packet, Memory>
-        requires some { 0 < length self.now.requests }
-        requires good { is_good (room_of self.now.shape) (front_of self.now.requests) ≡ true }
-        ensures { IfOk result (λ packet. packet ≡ packet_of (front_of self.now.requests)) }
-    {
-        let frame = Vec::from_slice(self.alloc, self.slots.frame(self.slot_of(self.taken)))?;
-        Ok(Packet::plain(ByteList::from_vec(frame)))
+        if self.slots.next_offset(at) == 0 && LEAST <= asked && asked <= self.room() {
+            Some(self.slots.frame(at))
+        } else {
+            None
+        }
     }
 
     /// Makes the first requested slot available, whose request was taken.
