@@ -31,7 +31,7 @@ REFUSED = (1, 2, 3)  # the statuses of which the second program works nothing ou
 
 
 class NotedRing(Ring):
-    """A ring with the letters of its notes, as crates/report_text writes them."""
+    """A ring with the letters of its notes, as report_text of crates/scenarios writes them."""
 
     def __init__(self, setup: Setup) -> None:
         super().__init__(setup)
@@ -85,7 +85,7 @@ class NotedSlots(SlotRing):
 
 
 class Logged(Replay):
-    """A replay with the tries of each arrival, as crates/report_text writes them."""
+    """A replay with the tries of each arrival, as report_text of crates/scenarios writes them."""
 
     rings: list[NotedRing] | list[NotedSlots]
 

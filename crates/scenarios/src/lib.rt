@@ -8,6 +8,7 @@ mod expected;
 mod files;
 mod gates;
 mod lines;
+mod reports;
 mod runs;
 mod saved;
 mod scripted;

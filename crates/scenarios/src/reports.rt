@@ -87,7 +87,7 @@ fn push_cpu(text: &mut String, log: &CpuLog) -> Result<(), Memory> {
 /// tries with the result and the member of each; and how many bytes its capture gave. A member's is
 /// the letters of its notes, and the numbers of the packets and of the blocks that its reader
 /// walked.
-pub fn report_text(alloc: Global, report: &RunReport) -> Result<String, Memory> {
+pub(crate) fn report_text(alloc: Global, report: &RunReport) -> Result<String, Memory> {
     let mut text = String::new(alloc);
     for log in report.cpus.as_slice() {
         push_cpu(&mut text, log)?;
