@@ -1,6 +1,5 @@
 //! A run of a scenario, and what fails in it.
 use crate::lines::{Scenario, call_number, number, parted};
-use frame_view::{Memory, MomentList};
 use std::alloc::Global;
 
 /// The most bytes that one read of a file gives.
@@ -89,20 +88,11 @@ impl<'a> Case<'a> {
             piece => number(piece).max(1),
         }
     }
-
-    /// The numbers of the calls of a kind, or of the reads of a file, that the scenario lets fail.
-    pub(crate) fn failing(&self, what: &str) -> Result<MomentList, Memory> {
-        let mut numbers = Vec::new(self.alloc);
-        for word in self.scenario.value_named("fail", what).split_whitespace() {
-            numbers.push(call_number(word))?;
-        }
-        Ok(MomentList::from_vec(numbers))
-    }
 }
 
-/// Whether a scenario needs a store or a sink that follows a script, because those in memory can't
-/// fail in that way.
-pub(crate) fn is_scripted(scenario: &Scenario<'_>) -> bool {
+/// Whether a scenario has other faults than fetches, saves and reads that fail, or a file without
+/// an end.
+fn has_other_faults(scenario: &Scenario<'_>) -> bool {
     let half = scenario.says("half") || scenario.says("faults");
     let poor = scenario.says("poor") || scenario.says("endless");
     half || poor || scenario.names("fail", "write")
@@ -110,12 +100,12 @@ pub(crate) fn is_scripted(scenario: &Scenario<'_>) -> bool {
 
 /// Whether something fails in a scenario, or a thread is held.
 pub(crate) fn is_faulty(scenario: &Scenario<'_>) -> bool {
-    is_scripted(scenario) || scenario.says("fail") || scenario.says("hold")
+    has_other_faults(scenario) || scenario.says("fail") || scenario.says("hold")
 }
 
 /// Whether a scenario is carried out a second time with its blocks dumped: an additional line of
 /// the setup and an additional save don't change what fails.
 pub(crate) fn is_dumped_too(scenario: &Scenario<'_>) -> bool {
     let saves = scenario.names("fail", "save") || scenario.names("fail", "conf");
-    scenario.says("member") && !is_scripted(scenario) && !saves
+    scenario.says("member") && !has_other_faults(scenario) && !saves
 }

@@ -1,7 +1,7 @@
 //! The files that a scenario gives, and the stores that have them.
 use crate::cases::Case;
 use crate::lines::parted;
-use frame_view::Memory;
+use frame_view::{Memory, MomentList};
 use tap_outside::{MemStore, SureStore};
 
 /// A line, and how often it is repeated: as often as its last word says, if that is `xN`.
@@ -84,14 +84,14 @@ impl<'a> Case<'a> {
         Ok(())
     }
 
-    /// The files in a store in memory, whose calls fail as the scenario says.
+    /// The files in a store in memory.
     pub(crate) fn memory_store(&self) -> Result<MemStore, Memory> {
-        let fetches = self.failing("fetch")?;
-        let mut store = MemStore::new(self.alloc, fetches, self.failing("save")?);
+        let (fetches, saves) = (MomentList::new(self.alloc), MomentList::new(self.alloc));
+        let mut store = MemStore::new(self.alloc, fetches, saves);
         for name in self.names()?.as_slice() {
             let bytes = self.file_bytes(name)?;
-            let (piece, failing) = (self.piece(name).max(1), self.failing(name)?);
-            store.put(name.as_bytes(), bytes.as_slice(), piece, failing)?;
+            let failing = MomentList::new(self.alloc);
+            store.put(name.as_bytes(), bytes.as_slice(), 1, failing)?;
         }
         Ok(store)
     }

@@ -1,7 +1,7 @@
 //! A command, carried out over a store that means every name: its answer as texts.
 ghost use Rattle.std.specs.Prelude.{List, ℕ, IsTrue};
 
-use crate::cases::{Case, is_scripted};
+use crate::cases::Case;
 use crate::gates::ScriptGate;
 use crate::lines::{Scenario, parted};
 use crate::reports::report_text;
@@ -134,24 +134,8 @@ impl<'a> Case<'a> {
         answer_of(self.alloc, &outcome)
     }
 
-    /// Carries out the command over a store and a sink in memory.
-    fn run_in_memory<R: Threads + Wait + Sync>(
-        &self,
-        rt: &R,
-        gate: &ScriptGate,
-    ) -> Result<Ran, Memory> {
-        let mut files = self.memory_store()?;
-        let mut out = MemSink::new(self.alloc, MomentList::new(self.alloc));
-        Ok(Ran {
-            answer: self.carry_out(rt, &mut files, &mut out, gate)?,
-            printed: text_of(self.alloc, out.written())?,
-            files,
-            calls: Calls::none(self.alloc),
-        })
-    }
-
-    /// Carries out the command over a store and a sink that follow the script.
-    pub(crate) fn run_scripted<R: Threads + Wait + Sync>(
+    /// Carries out the command over a store and a sink that fail as the scenario says.
+    pub(crate) fn run<R: Threads + Wait + Sync>(
         &self,
         rt: &R,
         gate: &ScriptGate,
@@ -164,19 +148,6 @@ impl<'a> Case<'a> {
             files: store.files,
             calls: store.calls,
         })
-    }
-
-    /// Carries out the command as the scenario asks for.
-    pub(crate) fn run<R: Threads + Wait + Sync>(
-        &self,
-        rt: &R,
-        gate: &ScriptGate,
-    ) -> Result<Ran, Memory> {
-        if is_scripted(&self.scenario) {
-            self.run_scripted(rt, gate)
-        } else {
-            self.run_in_memory(rt, gate)
-        }
     }
 
     /// Carries out the command over a store that has no fault: its answer, and what it prints.

@@ -5,7 +5,6 @@ use crate::cases::{Case, has_number};
 use crate::files::push_line;
 use crate::lines::{call_number, number};
 use frame_view::{Memory, MomentList};
-use std::alloc::Global;
 use std::str;
 use tap_outside::{Failed, History, MemStore, OutError, Sink, Source, Store};
 
@@ -92,15 +91,6 @@ pub(crate) struct ScriptStore<'a> {
 }
 
 impl Calls {
-    /// No call.
-    pub(crate) fn none(alloc: Global) -> Calls {
-        Calls {
-            fetched: String::new(alloc),
-            reads: Vec::new(alloc),
-            saved: String::new(alloc),
-        }
-    }
-
     /// How many saves there were.
     pub(crate) fn saves(&self) -> usize {
         self.saved.as_str().lines().count()
@@ -128,7 +118,11 @@ impl<'a> ScriptStore<'a> {
         ScriptStore {
             case,
             files,
-            calls: Calls::none(case.alloc),
+            calls: Calls {
+                fetched: String::new(case.alloc),
+                reads: Vec::new(case.alloc),
+                saved: String::new(case.alloc),
+            },
             read_faults: 0,
             closed: History::new(),
             save_faults: call_number(case.scenario.value_named("faults", "save")),

@@ -52,7 +52,7 @@ fn check<R: Threads + Wait + Sync>(
     wanted: &Wanted<'_>,
 ) -> Result<Calls, Memory> {
     let mut wrong = String::new(case.alloc);
-    let ran = case.run_scripted(rt, &ScriptGate::new(case)?)?;
+    let ran = case.run(rt, &ScriptGate::new(case)?)?;
     case.push_wrong(&mut wrong, wanted, &ran)?;
     counted.push(case, wrong.as_str())?;
     Ok(ran.calls)
