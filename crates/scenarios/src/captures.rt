@@ -17,8 +17,12 @@ fn repeated(word: &str) -> (&str, usize) {
 
 /// The number of words, each repeated as often as it says.
 pub(crate) fn count_of(words: &str) -> usize {
-    let times = words.split_whitespace().map(|word| repeated(word).1);
-    times.fold(0, |sum: usize, more| sum.saturating_add(more))
+    let mut count: usize = 0;
+    for word in words.split_whitespace() {
+        let (_, times) = repeated(word);
+        count = count.saturating_add(times);
+    }
+    count
 }
 
 /// The word at an index, each repeated as often as it says; empty after the last one.

@@ -46,9 +46,12 @@ pub(crate) struct Case<'a> {
 
 /// Whether the number of a call is one of these words.
 pub(crate) fn has_number(words: &str, number: u64) -> bool {
-    words
-        .split_whitespace()
-        .any(|word| call_number(word) == number)
+    for word in words.split_whitespace() {
+        if call_number(word) == number {
+            return true;
+        }
+    }
+    false
 }
 
 impl<'a> Case<'a> {

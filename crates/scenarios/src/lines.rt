@@ -61,7 +61,12 @@ fn base_of<'a>(text: &'a str, lines: &str) -> &'a str {
 
 /// Whether a word is one of these.
 pub(crate) fn is_among(words: &str, word: &str) -> bool {
-    words.split_whitespace().any(|other| other == word)
+    for other in words.split_whitespace() {
+        if other == word {
+            return true;
+        }
+    }
+    false
 }
 
 /// The words with which a line may begin.

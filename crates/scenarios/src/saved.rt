@@ -124,10 +124,12 @@ impl<'a> After<'a> {
 
     /// Whether no file of these names is there.
     fn has_none(&self, names: &str) -> bool {
-        let files = self.files;
-        !names
-            .split_whitespace()
-            .any(|name| files.file(name.as_bytes()).is_some())
+        for name in names.split_whitespace() {
+            if self.files.file(name.as_bytes()).is_some() {
+                return false;
+            }
+        }
+        true
     }
 
     /// Whether it is so what a line says of files.

@@ -104,11 +104,12 @@ impl Calls {
 
     /// How many fetches there were before the first one of a name.
     pub(crate) fn first_fetch(&self, name: &str) -> usize {
-        self.fetched
-            .as_str()
-            .lines()
-            .position(|line| line == name)
-            .unwrap_or(0)
+        for (fetch, line) in self.fetched.as_str().lines().enumerate() {
+            if line == name {
+                return fetch;
+            }
+        }
+        0
     }
 }
 
