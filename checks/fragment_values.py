@@ -26,7 +26,7 @@ def header(
 
 
 if __name__ == "__main__":
-    TESTS = "crates/frame_tests/src/datagrams.rt"
+    TESTS = "crates/group_tests/src/datagrams.rt"
     HERE, THERE = address("10.0.0.1"), address("10.0.0.2")
 
     # Three fragments of 8, 8 and 4 bytes.

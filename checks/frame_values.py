@@ -45,7 +45,7 @@ def say(path: str, text: str) -> None:
 if __name__ == "__main__":
     TO = bytes.fromhex("020000000002")
     FROM = bytes.fromhex("020000000001")
-    VIEW = "crates/frame_tests/src/built_frames.rt"
+    VIEW = "crates/group_tests/src/built_frames.rt"
 
     small = built(TO, FROM, 0x1234, address("10.0.0.1"), address("10.1.0.2"), 1024, 53, b"hello")
     say(VIEW, array(small[:14]))

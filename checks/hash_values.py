@@ -10,7 +10,7 @@ import struct
 
 # The key that was published with the verification suite of receive side scaling.
 KEY = "6d5a56da255b0ec24167253d43a38fb0d0ca2bcbae7b30b477cb2da38030f20c6a42b73bbeac01fa"
-TESTS = "crates/frame_tests/src/flow_hashes.rt"
+TESTS = "crates/group_tests/src/flow_hashes.rt"
 
 
 def toeplitz(data: bytes) -> int:

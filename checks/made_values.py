@@ -9,7 +9,7 @@ from collections.abc import Iterator
 
 from frame_values import address, built
 
-TESTS = "crates/frame_tests/src/made_frames.rt"
+TESTS = "crates/group_tests/src/made_frames.rt"
 TO = bytes.fromhex("020000000002")
 FROM = bytes.fromhex("020000000001")
 

@@ -3,8 +3,8 @@ use Rattle.std.proofs.Common.{◌≡◌, ℕ, zero, suc, ◌<◌, List, [], ◌�
 use Rattle.std.specs.Prelude.{true}
 use Rattle.std.specs.List.{AllByRecursion}
 use Rattle.std.proofs.lemmas.List.{get_or-map, length-map}
-use Rattle.capture_model.specs.Seats as seats
-use Rattle.capture_model.specs.Ticks.{NoneCounted, ticks_of}
+use Rattle.capture_reports.specs.Seats as seats
+use Rattle.capture_reports.specs.Ticks.{NoneCounted, ticks_of}
 use Rattle.member_turns.specs.Closings.{AreClosedNotes, HasOwn, IsOfSeat}
 use Rattle.member_turns.specs.Entries.{may_add, may_note}
 use Rattle.member_turns.specs.Seats.{Lock, Seat, own_of}

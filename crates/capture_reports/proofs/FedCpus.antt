@@ -3,7 +3,7 @@ use Rattle.std.proofs.Common.{◌≡◌, ℕ, zero, suc, ◌+◌, ◌<◌, List,
 use Rattle.std.specs.Prelude.{map, ⊤}
 use Rattle.std.specs.List.{AllByRecursion}
 use Rattle.capture_file.specs.Capture.{frames_of}
-use Rattle.capture_model.specs.Threads.{logged_at}
+use Rattle.capture_reports.specs.Threads.{logged_at}
 use Rattle.cpu_feed.specs.ClosedCpus.{AllClose, bytes_of, ends_of}
 use Rattle.cpu_feed.specs.CpuFeeds.{Closes, Feeding, frames_in}
 use Rattle.fanout_group.specs.Arrivals.{arrivals_at, arrivals_of}

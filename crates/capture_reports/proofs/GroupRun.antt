@@ -4,8 +4,8 @@ use Rattle.std.specs.Prelude.{map, All}
 use Rattle.std.specs.List.{AllByRecursion}
 use Rattle.std.proofs.lemmas.List.{get_or-map, length-map}
 use Rattle.std.proofs.lemmas.List.Elements.{All-cons, All-nil}
-use Rattle.capture_model.specs.Seats as runs
-use Rattle.capture_model.specs.Threads.{AreThreads, HaveTickets, logged_at, notes_at}
+use Rattle.capture_reports.specs.Seats as runs
+use Rattle.capture_reports.specs.Threads.{AreThreads, HaveTickets, logged_at, notes_at}
 use Rattle.cpu_feed.specs.ClosedCpus.{AllClose, bytes_of, ends_of}
 use Rattle.fanout_group.specs.Arrivals.{somes}
 use Rattle.fanout_group.specs.Joined.{AreNotesOf, Logged, attempts_at}

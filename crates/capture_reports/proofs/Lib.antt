@@ -1,3 +1,7 @@
+pub mod OwnNotes
+pub mod Attempts
+pub mod TicketCounts
+pub mod Joint
 mod FedCpus
 mod ClosedMembers
 mod GroupRun

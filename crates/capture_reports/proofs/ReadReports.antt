@@ -17,7 +17,7 @@ use Rattle.run_reports.specs.Blocks.{read_of, taken_from}
 use Rattle.run_reports.specs.Members.{IsMember, dump_where}
 use Rattle.run_reports.specs.Reports.{notes_of}
 use Rattle.run_reports.proofs.KeptPackets.{as_many, kept_in_blocks, texts_are, walked_are}
-use Rattle.setup_text.specs.declared.reports.MemberReport.{MemberReport}
+use Rattle.run_reports.specs.declared.reports.MemberReport.{MemberReport}
 use Rattle.tp_layout.specs.Blocks.{BeginsWith}
 use Rattle.tp_layout.specs.Dump.{dump_of, packets_of_offers}
 use Rattle.tp_layout.specs.Requests.{fills_hash, size_of}

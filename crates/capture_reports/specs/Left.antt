@@ -1,7 +1,7 @@
 -- What the threads of a run leave once all have been joined and all members closed.
 use Rattle.std.specs.Prelude.{◌≡◌, ℕ, ◌<◌, List, [], ◌∷◌, ◌++◌, length, map, slice_index_or, All}
 use Rattle.std.specs.List.{AllByRecursion}
-use Rattle.capture_model.specs.Threads.{DrewNone}
+use Rattle.capture_reports.specs.Threads.{DrewNone}
 use Rattle.cpu_feed.specs.CpuFeeds.{Feeding}
 use Rattle.member_turns.specs.Seats.{Seat}
 use Rattle.setup_text.specs.declared.jobs.Job.{Job}

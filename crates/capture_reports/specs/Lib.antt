@@ -1,3 +1,7 @@
+pub mod Seats
+pub mod Ticks
+pub mod Tried
+pub mod Threads
 pub mod Timers
 pub mod Feeders
 pub mod Closed

@@ -1,6 +1,6 @@
 -- What the timer of a run has reported to its members.
 use Rattle.std.specs.Prelude.{◌≡◌, ℕ, ◌<◌, List, length, slice_index_or}
-use Rattle.capture_model.specs.Ticks.{NoneCounted, ticks_of}
+use Rattle.capture_reports.specs.Ticks.{NoneCounted, ticks_of}
 use Rattle.member_turns.specs.Seats.{IsReady, Lock, Seat, own_of}
 use Rattle.ring_model.specs.declared.notes.Note.{Note}
 

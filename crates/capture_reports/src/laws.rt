@@ -13,7 +13,7 @@ ghost use Rattle.ring_words.specs.Rings.{Entry};
 ghost use Rattle.run_reports.specs.Reports.{IsRunReport};
 ghost use Rattle.setup_text.specs.Runnable.{IsRunnable};
 ghost use Rattle.setup_text.specs.declared.jobs.Job.{Job};
-ghost use Rattle.setup_text.specs.declared.reports.RunReport.{RunReport};
+ghost use Rattle.run_reports.specs.declared.reports.RunReport.{RunReport};
 ghost use Rattle.tap_outside.specs.Seen.{SourceSeen};
 ghost use Rattle.ticket_dealer.specs.Seats.{SeatValue};
 ghost use Rattle.tp_layout.specs.BlockWrites.{ShapedBytes};
@@ -22,8 +22,8 @@ ghost use Rattle.capture_reports.specs.Left.{AreLeft, CpuLeft, feeds_of};
 ghost use Rattle.capture_reports.specs.Reported.{AreReported, IsCaptured, IsGroupRun};
 ghost use Rattle.capture_reports.specs.Reported.{taken_of_notes};
 
+use crate::group_laws::{the_timer_s_ticks_are_all, threads_report_a_group};
 use capture_file::frames_are_numbered;
-use capture_model::{the_timer_s_ticks_are_all, threads_report_a_group};
 use reader_walk::a_text_is_read_as_it_was_written;
 use run_reports::a_group_s_report_is_that_of_a_run;
 

@@ -5,7 +5,7 @@ use Rattle.std.specs.Prelude.{All, IsSome, flat_map, map, replicate}
 use Rattle.std.specs.List.{AllByRecursion, AllZip}
 use Rattle.std.proofs.lemmas.List.{length-map}
 use Rattle.std.proofs.lemmas.List.Elements.{All-cons, All-nil}
-use Rattle.capture_model.specs.Threads.{DrewNone}
+use Rattle.capture_reports.specs.Threads.{DrewNone}
 use Rattle.capture_reading.specs.Sources.{AllGave}
 use Rattle.capture_reports.specs.Closed.{IsClosedOver, IsLockOf, MemberLeft, locks_of, notes_of_members, rings_of}
 use Rattle.capture_reports.specs.Feeders.{HasFed}

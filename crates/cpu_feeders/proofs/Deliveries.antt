@@ -2,7 +2,7 @@
 use Rattle.std.proofs.Common.{◌≡◌, inl, inr, ◌<◌, ℕ, Bool, true, false, cond, eqb, List, [], ◌∷◌, ◌++◌, length, append-nil, get_or, Option, None, Some, refl, sym, ap, ◌∙◌, subst, arith}
 use Rattle.std.proofs.lemmas.List.Elements.{filter_map-append}
 use Rattle.std.specs.Prelude.{option_to_list}
-use Rattle.capture_model.specs.Tried.{IsDelivered}
+use Rattle.capture_reports.specs.Tried.{IsDelivered}
 use Rattle.cpu_feed.specs.Feeds.{GivesUp}
 use Rattle.fanout_group.specs.Deliveries.{AreTriesOf, HasDrawn, Received}
 use Rattle.fanout_group.specs.Joined.{AreNotesOf, attempts_at, tickets_of}

@@ -3,7 +3,7 @@ use Rattle.std.proofs.Common.{◌≡◌, ◌<◌, ◌+◌, ℕ, zero, suc, false
 use Rattle.std.specs.Prelude.{map, replicate}
 use Rattle.std.specs.List.{AllByRecursion, AllZip}
 use Rattle.std.proofs.lemmas.List.{get_or-map, length-map, length-replicate}
-use Rattle.capture_model.specs.Ticks.{ticks_of}
+use Rattle.capture_reports.specs.Ticks.{ticks_of}
 use Rattle.capture_reports.specs.Timers.{AreTimed, IsTimed}
 use Rattle.cpu_feed.specs.CpuFeeds.{Feeding}
 use Rattle.member_turns.specs.Entries.{may_note}

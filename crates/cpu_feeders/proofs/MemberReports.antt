@@ -7,7 +7,7 @@ use Rattle.cpu_feeders.specs.Reports.{AreOutputsOf, member_report, member_report
 use Rattle.reader_walk.specs.declared.outputs.Outputs.{Outputs}
 use Rattle.ring_model.specs.declared.notes.Note.{Note}
 use Rattle.ring_words.specs.Pendings.{Pends}
-use Rattle.setup_text.specs.declared.reports.MemberReport.{MemberReport}
+use Rattle.run_reports.specs.declared.reports.MemberReport.{MemberReport}
 use Rattle.tp_layout.specs.BlockWrites.{ShapedBytes}
 use Rattle.tp_layout.specs.declared.requests.RingRequest.{RingRequest}
 

@@ -1,6 +1,6 @@
 -- A moment that the timer reports to each member, one after another.
 use Rattle.std.proofs.Common.{◌≡◌, ◌<◌, ◌≤◌, ℕ, zero, suc, List, [], ◌∷◌, ◌++◌, length, take, refl, ap, ◌∙◌, subst, arith, get_or, length-append}
-use Rattle.capture_model.specs.Ticks.{ticks_of}
+use Rattle.capture_reports.specs.Ticks.{ticks_of}
 use Rattle.member_turns.specs.Seats.{IsReady, Lock, Seat, moment_from, moment_of, own_of}
 use Rattle.member_turns.specs.TurnEffects.{IsTickTurn}
 use Rattle.ring_model.specs.declared.notes.Found.{Found}

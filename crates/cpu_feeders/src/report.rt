@@ -15,7 +15,7 @@ use frame_view::Memory;
 use reader_walk::Outputs;
 use ring_model::Notes;
 use ring_words::Pending;
-use setup_text::{MemberList, MemberReport, RunReport};
+use run_reports::{MemberList, MemberReport, RunReport};
 use std::alloc::Global;
 use std::collections::VecDeque;
 use tp_layout::Block;

@@ -4,9 +4,9 @@ use Rattle.std.specs.Prelude.{if◌then◌else◌, ◌==◌}
 use Rattle.std.specs.List.{flat_map, range_with_len}
 use Rattle.std.proofs.lemmas.Grind.{flat_map-append}
 use Rattle.std.proofs.lemmas.List.{append-nil}
-use Rattle.schedule_lines.specs.TickOrder.{AreAscending, IsSchedule}
-use Rattle.schedule_lines.specs.declared.lines.Line.{Line}
-use Rattle.schedule_lines.specs.declared.lines.Line.TheVariants.{Feed, Read}
+use Rattle.setup_text.specs.TickOrder.{AreAscending, IsSchedule}
+use Rattle.setup_text.specs.declared.lines.Line.{Line}
+use Rattle.setup_text.specs.declared.lines.Line.TheVariants.{Feed, Read}
 use Rattle.made_captures.specs.Made.{feed_lines, made_lines, read_lines}
 
 -- ---- the loops

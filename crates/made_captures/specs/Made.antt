@@ -7,8 +7,8 @@ use Rattle.frame_maker.specs.Made.{made}
 use Rattle.frame_view.specs.PlainPacket.{plain_of}
 use Rattle.frame_view.specs.declared.frames.Frame.{Frame}
 use Rattle.frame_view.specs.declared.frames.Packet.{Packet}
-use Rattle.schedule_lines.specs.declared.lines.Line.{Line}
-use Rattle.schedule_lines.specs.declared.lines.Line.TheVariants.{Feed, Read}
+use Rattle.setup_text.specs.declared.lines.Line.{Line}
+use Rattle.setup_text.specs.declared.lines.Line.TheVariants.{Feed, Read}
 
 -- those of frames, the first of which has number i, that a CPU gets: those whose number modulo the
 -- number of CPUs is its own

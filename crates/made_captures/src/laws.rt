@@ -4,7 +4,7 @@ ghost use Rattle.capture_file.specs.Capture.{frames_of, end_of};
 ghost use Rattle.frame_maker.specs.Made.{made};
 ghost use Rattle.made_captures.specs.Made.{as_captured, capture_for, given_to, made_captures};
 ghost use Rattle.made_captures.specs.Made.{made_lines};
-ghost use Rattle.schedule_lines.specs.TickOrder.{IsSchedule};
+ghost use Rattle.setup_text.specs.TickOrder.{IsSchedule};
 
 /// Each made capture is whole, and gives back the frames of the seed that its CPU was given, in
 /// order, with the CPU's number and with their places.

@@ -3,7 +3,7 @@ ghost use Rattle.std.specs.Prelude.{◌≡◌, ◌<◌, ◌++◌, IfOk, OnOk};
 ghost use Rattle.made_captures.specs.Made.{made_lines, feed_lines, read_lines};
 
 use frame_view::Memory;
-use schedule_lines::{Line, Schedule};
+use setup_text::{Line, Schedule};
 use std::alloc::Global;
 
 /// The schedule of `count` made frames: CPU i modulo the number of CPUs is fed for each i, and

@@ -1,3 +1,14 @@
+pub mod Noted
+pub mod KeptOpen
+pub mod Places
+pub mod Rings
+pub mod AddedNotes
+pub mod Tries
+pub mod ReplayStates
+pub mod LogTickets
+pub mod KeptArrivals
+pub mod FedLines
+pub mod ReplayEnds
 mod WaitingBlocks
 mod BlockCalls
 mod SlotCalls

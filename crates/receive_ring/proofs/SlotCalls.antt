@@ -23,7 +23,7 @@ use Rattle.slot_layout.specs.SlotDump.{slot_packet_of}
 use Rattle.slot_layout.specs.SlotLayouts.{slot_taken, slot_taken_in}
 use Rattle.slot_layout.specs.SlotShapes.{zero_slot}
 use Rattle.slot_layout.specs.SlotTexts.{SlotBegins}
-use Rattle.slot_model.specs.SlotSteps.{slot_state_of}
+use Rattle.slot_layout.specs.SlotSteps.{slot_state_of}
 use Rattle.tp_layout.specs.Layouts.{Taken}
 use Rattle.tp_layout.specs.Requests.{numbers_of}
 use Rattle.tp_layout.specs.declared.requests.RingRequest.{RingRequest}

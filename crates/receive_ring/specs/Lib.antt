@@ -1,3 +1,7 @@
+pub mod RingSteps
+pub mod Replay
+pub mod Reports
+pub mod TakenOffers
 pub mod Rings
 pub mod BlockRings
 pub mod BlockLaws

@@ -13,8 +13,8 @@ use Rattle.ring_words.specs.PlainRings.{PlainState, Took}
 use Rattle.slot_layout.specs.SlotDump.{slot_packet_of}
 use Rattle.slot_layout.specs.SlotLayouts.{slot_taken}
 use Rattle.slot_layout.specs.SlotShapes.{slot_size_of}
-use Rattle.slot_model.proofs.Runs.{slot_counted, slot_state_push}
-use Rattle.slot_model.specs.SlotSteps.{SlotState, slot_after, slot_state_of, slot_status}
+use Rattle.slot_layout.proofs.Runs.{slot_counted, slot_state_push}
+use Rattle.slot_layout.specs.SlotSteps.{SlotState, slot_after, slot_state_of, slot_status}
 use Rattle.tp_layout.specs.declared.requests.RingRequest.{RingRequest}
 use Rattle.v2_ring.specs.SlotProducers.{SlotProducing}
 use Rattle.v2_ring.specs.SlotWalkerSteps.{SlotStaysBy, SlotTookBy}

@@ -1,7 +1,7 @@
 -- A receive ring of slots (TPACKET_V2).
 use Rattle.std.specs.Prelude.{ℕ, List, length, map, None}
 use Rattle.receive_ring.specs.Rings.{Receiving}
-use Rattle.replay_model.specs.RingSteps.{RingSteps}
+use Rattle.receive_ring.specs.RingSteps.{RingSteps}
 use Rattle.ring_model.specs.Ring.{Size}
 use Rattle.ring_model.specs.declared.notes.Note.{Note}
 use Rattle.ring_model.specs.declared.notes.Offer.{Offer}
@@ -9,9 +9,9 @@ use Rattle.ring_words.specs.PlainRings.{PlainState}
 use Rattle.slot_layout.specs.SlotDump.{slot_packet_of}
 use Rattle.slot_layout.specs.SlotLayouts.{slot_taken}
 use Rattle.slot_layout.specs.SlotShapes.{slot_size_of}
-use Rattle.slot_model.specs.SlotReleases.{slot_look}
-use Rattle.slot_model.specs.SlotRings.{slot_state}
-use Rattle.slot_model.specs.SlotSteps.{slot_state_of}
+use Rattle.slot_layout.specs.SlotReleases.{slot_look}
+use Rattle.slot_layout.specs.SlotRings.{slot_state}
+use Rattle.slot_layout.specs.SlotSteps.{slot_state_of}
 use Rattle.tp_layout.specs.Layouts.{Taken}
 use Rattle.tp_layout.specs.declared.requests.RingRequest.{RingRequest}
 use Rattle.v2_ring.specs.SlotProducers.{SlotProducing}

@@ -1,8 +1,8 @@
 //! What a replay asks of the rings of its group, whatever their layout.
 ghost use Rattle.std.specs.Prelude.{◌≡◌, ◌^◌, ◌<◌, ◌≤◌, ℕ, List, [], ◌∷◌, ◌++◌, length, IfErr};
 ghost use Rattle.std.specs.Prelude.{IfOk, OnErr, OnOk};
-ghost use Rattle.replay_model.specs.RingSteps.{RingSteps, ticked};
-ghost use Rattle.replay_model.specs.TakenOffers.{Takes};
+ghost use Rattle.receive_ring.specs.RingSteps.{RingSteps, ticked};
+ghost use Rattle.receive_ring.specs.TakenOffers.{Takes};
 ghost use Rattle.receive_ring.specs.Rings.{Becomes, Closes, Grows, IsRoomOf, Opens, Receiving};
 ghost use Rattle.receive_ring.specs.Rings.{StaysThere, TookOne, note_of_put, note_of_try};
 ghost use Rattle.receive_ring.specs.Rings.{ring_in};

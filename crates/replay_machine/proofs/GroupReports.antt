@@ -9,18 +9,18 @@ use Rattle.fanout_group.specs.Once.{IsGroupReport}
 use Rattle.fanout_group.specs.Plans.{has_defrag}
 use Rattle.capture_file.specs.declared.cpu_end.CpuEnd.{CpuEnd}
 use Rattle.frame_view.specs.declared.frames.Frame.{Frame}
-use Rattle.replay_model.specs.Replay.{Cpu, Replay}
-use Rattle.replay_model.specs.Reports.{IsReplayReport, logged_of, notes_of}
-use Rattle.replay_model.specs.RingSteps.{RingSteps}
+use Rattle.receive_ring.specs.Replay.{Cpu, Replay}
+use Rattle.receive_ring.specs.Reports.{IsReplayReport, logged_of, notes_of}
+use Rattle.receive_ring.specs.RingSteps.{RingSteps}
 use Rattle.ring_model.specs.Rings.{Ring}
 use Rattle.ring_model.specs.declared.notes.Note.{Note}
 use Rattle.run_reports.specs.Jobs.{arriving_of, captures_from, rules_of}
 use Rattle.run_reports.specs.Logs.{AreLogsFrom}
 use Rattle.run_reports.specs.Reports.{logged, notes_of as notes_in}
 use Rattle.run_reports.proofs.ArrivalOrder.{count_from}
-use Rattle.schedule_lines.specs.declared.lines.Line.{Line}
+use Rattle.setup_text.specs.declared.lines.Line.{Line}
 use Rattle.setup_text.specs.declared.jobs.Job.{Job}
-use Rattle.setup_text.specs.declared.reports.MemberReport.{MemberReport}
+use Rattle.run_reports.specs.declared.reports.MemberReport.{MemberReport}
 use Rattle.replay_machine.specs.Runs.{logs_from, replay_over, report_with}
 
 -- ---- logs and notes

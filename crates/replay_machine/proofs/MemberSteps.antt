@@ -6,8 +6,8 @@ use Rattle.std.proofs.lemmas.List.{append-nil}
 use Rattle.reader_walk.specs.Readers.{ComesFrom, ReaderValue, Reads, new_reader, outputs_by}
 use Rattle.reader_walk.specs.declared.outputs.Outputs.{Outputs}
 use Rattle.receive_ring.specs.Rings.{Becomes, Closes, Grows, Opens, Receiving, StaysThere, TookOne, Waits, ring_by, ring_in}
-use Rattle.replay_model.specs.RingSteps.{RingSteps, read_by, ticked_by}
-use Rattle.replay_model.specs.TakenOffers.{Takes}
+use Rattle.receive_ring.specs.RingSteps.{RingSteps, read_by, ticked_by}
+use Rattle.receive_ring.specs.TakenOffers.{Takes}
 use Rattle.ring_model.specs.Rings.{Ring, fresh, noted}
 use Rattle.ring_model.specs.declared.notes.Found.{Found}
 use Rattle.ring_model.specs.declared.notes.Note.{Note}
@@ -15,7 +15,7 @@ use Rattle.ring_model.specs.declared.notes.Note.TheVariants.{Finished, Ticked}
 use Rattle.ring_model.specs.declared.notes.Offer.{Offer}
 use Rattle.ring_words.specs.PlainRings.{PlainState, has_block, walk_of}
 use Rattle.ring_words.specs.Rings.{Walk}
-use Rattle.setup_text.specs.declared.reports.MemberReport.{MemberReport}
+use Rattle.run_reports.specs.declared.reports.MemberReport.{MemberReport}
 use Rattle.tp_layout.specs.Layouts.{Taken}
 use Rattle.tp_layout.specs.Requests.{numbers_of}
 use Rattle.tp_layout.specs.declared.requests.RingRequest.{RingRequest}

@@ -11,9 +11,9 @@ use Rattle.fanout_group.specs.declared.logs.ArrivalLog.{ArrivalLog}
 use Rattle.fanout_group.specs.declared.logs.Try.{Try}
 use Rattle.fanout_group.specs.declared.modes.Mode.{Mode}
 use Rattle.frame_view.specs.declared.frames.Frame.{Frame}
-use Rattle.replay_model.specs.Replay.{Cpu, Replay, Tried, arrived, cpu_at, next_ticket, no_ring, routed, ticket_of, tries_of}
-use Rattle.replay_model.specs.TakenOffers.{Takes}
-use Rattle.replay_model.specs.RingSteps.{RingSteps}
+use Rattle.receive_ring.specs.Replay.{Cpu, Replay, Tried, arrived, cpu_at, next_ticket, no_ring, routed, ticket_of, tries_of}
+use Rattle.receive_ring.specs.TakenOffers.{Takes}
+use Rattle.receive_ring.specs.RingSteps.{RingSteps}
 use Rattle.ring_model.specs.Offers.{IsSound, offer_of}
 use Rattle.ring_model.specs.Ring.{Size}
 use Rattle.ring_model.specs.Rings.{Ring, noted}

@@ -5,7 +5,7 @@ use Rattle.std.specs.List.{AllByRecursion}
 use Rattle.std.proofs.lemmas.Bool.{cases_lt}
 use Rattle.std.proofs.lemmas.List.{set_past}
 use Rattle.std.proofs.lemmas.List.Elements.{All-map, All-replicate, All-set}
-use Rattle.replay_model.specs.RingSteps.{RingSteps, read_by, ticked, ticked_by}
+use Rattle.receive_ring.specs.RingSteps.{RingSteps, read_by, ticked, ticked_by}
 use Rattle.cpu_feed.specs.Fed.{FedOne}
 use Rattle.cpu_feed.specs.CpuFeeds.{Feeding}
 use Rattle.fanout_group.proofs.Rounds.{length-refused_from}
@@ -17,8 +17,8 @@ use Rattle.fanout_group.specs.declared.logs.Try.{Try}
 use Rattle.fanout_group.specs.declared.modes.Mode.{Mode}
 use Rattle.fanout_group.specs.declared.modes.Mode.TheVariants.{Hash, Lb, Cpu, Rollover, Qm}
 use Rattle.frame_view.specs.declared.frames.Frame.{Frame}
-use Rattle.replay_model.specs.Replay.{next_ticket, no_ring, noted_at}
-use Rattle.replay_model.proofs.KeptOpen.{read_notes}
+use Rattle.receive_ring.specs.Replay.{next_ticket, no_ring, noted_at}
+use Rattle.receive_ring.proofs.KeptOpen.{read_notes}
 use Rattle.ring_model.specs.Rings.{Ring, fresh, noted}
 use Rattle.ring_model.specs.declared.notes.Found.{Found}
 use Rattle.ring_model.specs.declared.notes.Note.{Note}

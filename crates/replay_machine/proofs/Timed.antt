@@ -14,13 +14,13 @@ use Rattle.ring_model.specs.declared.notes.Found.TheVariants.{NotAsked, Free, He
 use Rattle.ring_model.specs.declared.notes.Note.{Note}
 use Rattle.ring_model.specs.declared.notes.Note.TheVariants.{Kept, Refused, Dropped, Ticked, Counted, Finished}
 use Rattle.ring_model.specs.declared.notes.Offer.{Offer}
-use Rattle.replay_model.specs.Replay.{no_ring}
-use Rattle.replay_model.specs.RingSteps.{RingSteps, read_by, ticked, ticked_by}
-use Rattle.replay_model.specs.TakenOffers.{MayCome}
-use Rattle.replay_model.proofs.KeptOpen.{read_notes}
-use Rattle.schedule_lines.specs.TickOrder.{AreAscending}
-use Rattle.schedule_lines.specs.declared.lines.Line.{Line}
-use Rattle.schedule_lines.specs.declared.lines.Line.TheVariants.{Feed, Read, Tick, Stats}
+use Rattle.receive_ring.specs.Replay.{no_ring}
+use Rattle.receive_ring.specs.RingSteps.{RingSteps, read_by, ticked, ticked_by}
+use Rattle.receive_ring.specs.TakenOffers.{MayCome}
+use Rattle.receive_ring.proofs.KeptOpen.{read_notes}
+use Rattle.setup_text.specs.TickOrder.{AreAscending}
+use Rattle.setup_text.specs.declared.lines.Line.{Line}
+use Rattle.setup_text.specs.declared.lines.Line.TheVariants.{Feed, Read, Tick, Stats}
 use Rattle.replay_machine.specs.Deliveries.{AreTried, ChangedByTries, IsNoteOf, IsTried}
 use Rattle.replay_machine.specs.inside.RunEffects.{MembersAfter}
 

@@ -10,16 +10,16 @@ use Rattle.fanout_group.specs.Rules.{Rules}
 use Rattle.capture_file.specs.declared.cpu_end.CpuEnd.{CpuEnd}
 use Rattle.fanout_group.specs.declared.runs.CpuLog.{CpuLog}
 use Rattle.frame_view.specs.declared.frames.Frame.{Frame}
-use Rattle.replay_model.specs.Replay.{Cpu, Replay, closed, done_line, done_lines, feed_from, replayed, started}
-use Rattle.replay_model.specs.RingSteps.{RingSteps}
-use Rattle.schedule_lines.specs.TickOrder.{IsSchedule}
-use Rattle.schedule_lines.specs.declared.lines.Line.{Line}
-use Rattle.schedule_lines.specs.declared.lines.Line.TheVariants.{Feed}
+use Rattle.receive_ring.specs.Replay.{Cpu, Replay, closed, done_line, done_lines, feed_from, replayed, started}
+use Rattle.receive_ring.specs.RingSteps.{RingSteps}
+use Rattle.setup_text.specs.TickOrder.{IsSchedule}
+use Rattle.setup_text.specs.declared.lines.Line.{Line}
+use Rattle.setup_text.specs.declared.lines.Line.TheVariants.{Feed}
 use Rattle.replay_machine.proofs.Timed.{IsTimed, drop_line, timed-started, timed_after}
 use Rattle.ring_model.specs.Rings.{Ring, fresh}
 use Rattle.setup_text.specs.declared.jobs.Job.{Job}
-use Rattle.setup_text.specs.declared.reports.MemberReport.{MemberReport}
-use Rattle.setup_text.specs.declared.reports.RunReport.{RunReport}
+use Rattle.run_reports.specs.declared.reports.MemberReport.{MemberReport}
+use Rattle.run_reports.specs.declared.reports.RunReport.{RunReport}
 use Rattle.cpu_feed.specs.ClosedCpus.{AllClose}
 use Rattle.cpu_feed.specs.CpuFeeds.{Closes, Feeding, frames_in}
 use Rattle.cpu_feed.proofs.ClosedOnes.{all_gave, closed_many}

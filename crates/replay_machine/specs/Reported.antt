@@ -3,7 +3,7 @@ use Rattle.std.specs.Prelude.{ℕ, Bool, List, length, None}
 use Rattle.reader_walk.specs.Readers.{kept_texts, walked_of}
 use Rattle.ring_model.specs.Rings.{Ring}
 use Rattle.ring_model.specs.declared.notes.Note.{Note}
-use Rattle.setup_text.specs.declared.reports.MemberReport.{MemberReport}
+use Rattle.run_reports.specs.declared.reports.MemberReport.{MemberReport}
 use Rattle.tp_layout.specs.Layouts.{Taken}
 use Rattle.tp_layout.specs.declared.requests.RingRequest.{RingRequest}
 

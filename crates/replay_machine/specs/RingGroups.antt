@@ -1,9 +1,9 @@
 -- The members of a group on one thread, and the next ticket: what tries and draws make of them.
 use Rattle.std.specs.Prelude.{◌≡◌, ℕ, ◌+◌, ◌^◌, ◌<◌, ◌≤◌, List, length, slice_index_or, All}
 use Rattle.fanout_group.specs.declared.logs.Try.{Try}
-use Rattle.replay_model.specs.Replay.{no_ring}
-use Rattle.replay_model.specs.RingSteps.{RingSteps}
-use Rattle.replay_model.specs.TakenOffers.{Takes}
+use Rattle.receive_ring.specs.Replay.{no_ring}
+use Rattle.receive_ring.specs.RingSteps.{RingSteps}
+use Rattle.receive_ring.specs.TakenOffers.{Takes}
 use Rattle.ring_model.specs.Rings.{Ring}
 use Rattle.ring_model.specs.declared.notes.Offer.{Offer}
 use Rattle.replay_machine.specs.Deliveries.{AreTried}

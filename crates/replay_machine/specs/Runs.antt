@@ -4,14 +4,14 @@ use Rattle.capture_file.specs.Capture.{frames_of}
 use Rattle.capture_file.specs.declared.cpu_end.CpuEnd.{CpuEnd}
 use Rattle.capture_reading.specs.Sources.{AllGave}
 use Rattle.fanout_group.specs.declared.runs.CpuLog.{CpuLog}
-use Rattle.replay_model.specs.Replay.{Cpu, Replay, replayed}
-use Rattle.replay_model.specs.RingSteps.{RingSteps}
+use Rattle.receive_ring.specs.Replay.{Cpu, Replay, replayed}
+use Rattle.receive_ring.specs.RingSteps.{RingSteps}
 use Rattle.ring_model.specs.Rings.{Ring}
 use Rattle.run_reports.specs.Jobs.{arriving_of, rules_of}
-use Rattle.schedule_lines.specs.declared.lines.Line.{Line}
+use Rattle.setup_text.specs.declared.lines.Line.{Line}
 use Rattle.setup_text.specs.declared.jobs.Job.{Job}
-use Rattle.setup_text.specs.declared.reports.MemberReport.{MemberReport}
-use Rattle.setup_text.specs.declared.reports.RunReport.{RunReport}
+use Rattle.run_reports.specs.declared.reports.MemberReport.{MemberReport}
+use Rattle.run_reports.specs.declared.reports.RunReport.{RunReport}
 use Rattle.tap_outside.specs.Seen.{SourceSeen}
 
 -- the replay of a job over rings that do these steps

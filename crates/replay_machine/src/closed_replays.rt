@@ -1,7 +1,7 @@
 //! A replay after its last frame: what it reports, and the sources that it returns.
 ghost use Rattle.std.specs.Prelude.{◌≡◌, map, option_map, IfOk, IsSome};
 ghost use Rattle.std.specs.List.{AllByRecursion};
-ghost use Rattle.replay_model.specs.Replay.{finished_ring};
+ghost use Rattle.receive_ring.specs.Replay.{finished_ring};
 ghost use Rattle.replay_machine.specs.Reported.{reported_by};
 ghost use Rattle.replay_machine.specs.inside.RunEffects.{Finishes};
 
@@ -11,7 +11,7 @@ use crate::replay_run::ReplayRun;
 use cpu_feed::close_cpus;
 use frame_view::Memory;
 use receive_ring::ReceiveRing;
-use setup_text::{MemberList, Ran, RunReport};
+use run_reports::{MemberList, Ran, RunReport};
 use std::alloc::Global;
 use tap_outside::Source;
 

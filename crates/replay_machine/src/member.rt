@@ -5,9 +5,9 @@
 //! back. The close reads until none waits.
 ghost use Rattle.std.specs.Prelude.{◌≡◌, ◌^◌, ◌<◌, ◌≤◌, length, IfErr, IfOk, OnErr, OnOk};
 ghost use Rattle.replay_machine.specs.Reported.{reported_by};
-ghost use Rattle.replay_model.specs.Replay.{finished_ring};
-ghost use Rattle.replay_model.specs.RingSteps.{put_note, read_by, ticked, try_note};
-ghost use Rattle.replay_model.specs.TakenOffers.{Takes};
+ghost use Rattle.receive_ring.specs.Replay.{finished_ring};
+ghost use Rattle.receive_ring.specs.RingSteps.{put_note, read_by, ticked, try_note};
+ghost use Rattle.receive_ring.specs.TakenOffers.{Takes};
 ghost use Rattle.ring_model.specs.Rings.{fresh, noted};
 ghost use Rattle.ring_model.specs.Told.{put_told, try_told};
 ghost use Rattle.ring_model.specs.Unreleased.{last_moment};
@@ -18,7 +18,7 @@ use frame_view::Memory;
 use reader_walk::RingReader;
 use receive_ring::ReceiveRing;
 use ring_model::{Offer, Put, Tried, Unput};
-use setup_text::MemberReport;
+use run_reports::MemberReport;
 use std::alloc::Global;
 use std::marker::{Model, PhantomData};
 use tp_layout::Shape;

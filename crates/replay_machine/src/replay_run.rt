@@ -1,7 +1,7 @@
 //! A running replay: its CPUs and its group, and what each line does to them.
 ghost use Rattle.std.specs.Prelude.{◌<◌, length, IfOk, OnOk};
-ghost use Rattle.schedule_lines.specs.declared.lines.Line.TheVariants.{Feed};
-ghost use Rattle.replay_model.specs.TakenOffers.{MayCome};
+ghost use Rattle.setup_text.specs.declared.lines.Line.TheVariants.{Feed};
+ghost use Rattle.receive_ring.specs.TakenOffers.{MayCome};
 ghost use Rattle.setup_text.specs.Runnable.{IsRunnable};
 ghost use Rattle.setup_text.specs.declared.jobs.Job.{Job as GivenJob};
 ghost use Rattle.receive_ring.specs.Rings.{IsRoomOf};
@@ -17,8 +17,7 @@ use cpu_feed::CpuFeed;
 use fanout_group::ArrivalRules;
 use frame_view::Memory;
 use receive_ring::ReceiveRing;
-use schedule_lines::Line;
-use setup_text::Job;
+use setup_text::{Job, Line};
 use std::alloc::Global;
 use std::marker::Model;
 use tap_outside::Source;

@@ -1,7 +1,7 @@
 //! The replay of a job over the rings of its members: its sources are read as its schedule asks for
 //! their frames.
 ghost use Rattle.std.specs.Prelude.{◌≡◌, ◌^◌, ◌<◌, length, map, option_map, IfOk};
-ghost use Rattle.schedule_lines.specs.TickOrder.{IsSchedule};
+ghost use Rattle.setup_text.specs.TickOrder.{IsSchedule};
 ghost use Rattle.setup_text.specs.Runnable.{IsRunnable};
 ghost use Rattle.replay_machine.specs.Reported.{reported_by};
 ghost use Rattle.replay_machine.specs.Runs.{IsReplayedOver};
@@ -11,8 +11,8 @@ use crate::closed_replays::finish;
 use crate::new_replays::start;
 use frame_view::Memory;
 use receive_ring::ReceiveRing;
-use schedule_lines::Schedule;
-use setup_text::{Job, Ran};
+use run_reports::Ran;
+use setup_text::{Job, Schedule};
 use std::alloc::Global;
 use std::marker::Brand;
 use tap_outside::Source;

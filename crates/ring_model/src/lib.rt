@@ -1,12 +1,15 @@
-//! The notes of a receive ring, what they speak of, and the definitions of the ring.
+//! The notes of a receive ring, what they speak of, and the definitions of the ring; and what a
+//! ring has to know of its blocks.
 #![tactic(auto)]
 
+mod content;
 mod laws;
 mod notes;
 mod packet_notes;
 mod sizes;
 mod tally;
 
+pub use content::Content;
 pub use laws::{
     a_block_noted_as_held_is_unreleased, a_ring_with_blocks_left_drops_nothing, puts_may_follow,
     statistics_count_each_packet, the_clock_is_that_of_the_last_tick, ticks_may_follow,

@@ -1,4 +1,4 @@
--- Blocks that are all alike have one kind.
+-- Blocks or slots that are all alike have one kind.
 use Rattle.std.proofs.Common.{◌≡◌, ℕ, zero, suc, replicate, refl}
 use Rattle.std.specs.List.{AllByRecursion}
 use Rattle.tp_layout.specs.Requests.{numbers_of}

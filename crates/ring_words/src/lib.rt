@@ -12,11 +12,11 @@ mod plain_ring;
 mod tables;
 mod walker;
 
-pub use block_content::Content;
 pub use closing_ring::ClosingRing;
 pub use ends::{BothEnds, FeederEnd, Next, WalkerEnd};
 pub use feeder::TableFeeder;
 pub use pending_blocks::{Pending, finish};
 pub use plain_ring::{PlainRing, ownership_holds};
+pub use ring_model::Content;
 pub use tables::{table_front_holds, table_looks_hold, table_ownership_holds, table_ring};
 pub use walker::TableWalker;

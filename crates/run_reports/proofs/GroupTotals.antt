@@ -32,8 +32,8 @@ use Rattle.run_reports.specs.Reports.{logged, notes_of}
 use Rattle.run_reports.specs.Totals.{TotalsAddUp, drops_in, kept_in}
 use Rattle.run_reports.proofs.ArrivalOrder.{count_from}
 use Rattle.setup_text.specs.declared.jobs.Job.{Job}
-use Rattle.setup_text.specs.declared.reports.MemberReport.{MemberReport}
-use Rattle.setup_text.specs.declared.reports.RunReport.{RunReport}
+use Rattle.run_reports.specs.declared.reports.MemberReport.{MemberReport}
+use Rattle.run_reports.specs.declared.reports.RunReport.{RunReport}
 
 abbrev pub settled : Note → ℕ
 settled (Kept offer found) = 1

@@ -6,7 +6,7 @@ use Rattle.ring_model.specs.Fates.{drops_of, kept_of, totals_of}
 use Rattle.ring_model.specs.Ring.{Size}
 use Rattle.ring_model.specs.declared.notes.Note.{Note}
 use Rattle.setup_text.specs.declared.jobs.Job.{Job}
-use Rattle.setup_text.specs.declared.reports.RunReport.{RunReport}
+use Rattle.run_reports.specs.declared.reports.RunReport.{RunReport}
 use Rattle.tp_layout.specs.Requests.{room_of, size_of}
 use Rattle.run_reports.specs.Reports.{IsRunReport}
 use Rattle.run_reports.specs.Totals.{TotalsAddUp}

@@ -4,7 +4,7 @@ use Rattle.ring_model.specs.Fates.{drops_of, kept_of}
 use Rattle.ring_model.specs.Offers.{packet_of}
 use Rattle.ring_model.specs.Ring.{IsWholeRun, state_of}
 use Rattle.ring_model.specs.declared.notes.Note.{Note}
-use Rattle.setup_text.specs.declared.reports.MemberReport.{MemberReport}
+use Rattle.run_reports.specs.declared.reports.MemberReport.{MemberReport}
 use Rattle.tp_layout.specs.Dump.{dump_of}
 use Rattle.tp_layout.specs.Requests.{fills_hash, size_of}
 use Rattle.tp_layout.specs.declared.requests.RingRequest.{RingRequest}

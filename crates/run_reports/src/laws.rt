@@ -15,7 +15,7 @@ ghost use Rattle.run_reports.specs.Reports.{IsReport, IsRunReport};
 ghost use Rattle.run_reports.specs.Totals.{TotalsAddUp};
 ghost use Rattle.setup_text.specs.Runnable.{IsRunnable};
 ghost use Rattle.setup_text.specs.declared.jobs.Job.{Job};
-ghost use Rattle.setup_text.specs.declared.reports.RunReport.{RunReport};
+ghost use Rattle.run_reports.specs.declared.reports.RunReport.{RunReport};
 ghost use Rattle.tp_layout.specs.Requests.{size_of};
 
 use fanout_group::each_frame_appears_exactly_once;

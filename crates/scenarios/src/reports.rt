@@ -2,7 +2,7 @@
 use fanout_group::{ArrivalLog, CpuLog, Fate, Try};
 use frame_view::Memory;
 use ring_model::{Found, Note};
-use setup_text::{MemberReport, RunReport};
+use run_reports::{MemberReport, RunReport};
 use std::alloc::Global;
 
 /// One of the letters for what was found of the next block: it wasn't looked at, it was free, or it

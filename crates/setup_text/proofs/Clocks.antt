@@ -4,9 +4,9 @@ use Rattle.std.specs.Prelude.{All, nat_lt, if◌then◌else◌}
 use Rattle.std.specs.List.{fold}
 use Rattle.std.proofs.lemmas.Bool.{ltb-true, ltb-false}
 use Rattle.std.proofs.lemmas.List.Elements.{All-nil, All-push}
-use Rattle.schedule_lines.specs.TickOrder.{AreAscending}
-use Rattle.schedule_lines.specs.declared.lines.Line.{Line}
-use Rattle.schedule_lines.specs.declared.lines.Line.TheVariants as line
+use Rattle.setup_text.specs.TickOrder.{AreAscending}
+use Rattle.setup_text.specs.declared.lines.Line.{Line}
+use Rattle.setup_text.specs.declared.lines.Line.TheVariants as line
 use Rattle.text_lines.specs.Numbers.{number_of}
 use Rattle.text_lines.specs.Words.{is_plain, words_of}
 use Rattle.text_lines.proofs.Small.{number_of-small}

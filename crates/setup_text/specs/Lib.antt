@@ -1,3 +1,4 @@
+pub mod TickOrder
 pub mod Answers
 pub mod Drafts
 pub mod FilterFaults

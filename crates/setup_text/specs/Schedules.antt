@@ -2,8 +2,8 @@
 use Rattle.std.specs.Prelude.{ℕ, List, [], ◌∷◌, codes, bytes_eq, nat_lt, if◌then◌else◌, Option}
 use Rattle.std.specs.Prelude.{None, Some, Result, Ok, Err}
 use Rattle.std.specs.List.{fold}
-use Rattle.schedule_lines.specs.declared.lines.Line.{Line}
-use Rattle.schedule_lines.specs.declared.lines.Line.TheVariants as line
+use Rattle.setup_text.specs.declared.lines.Line.{Line}
+use Rattle.setup_text.specs.declared.lines.Line.TheVariants as line
 use Rattle.text_lines.specs.Numbers.{number_of}
 use Rattle.text_lines.specs.Words.{is_plain, words_of}
 use Rattle.setup_text.specs.Moments.{items_of, only_of}

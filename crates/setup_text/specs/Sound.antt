@@ -2,9 +2,9 @@
 use Rattle.std.specs.Prelude.{◌≡◌, ℕ, ◌<◌, ◌≤◌, List, [], ◌∷◌, length, is_some, All, Option, None}
 use Rattle.std.specs.Prelude.{Some}
 use Rattle.fanout_group.specs.Plans.{fault_of}
-use Rattle.schedule_lines.specs.TickOrder.{AreAscending}
-use Rattle.schedule_lines.specs.declared.lines.Line.{Line}
-use Rattle.schedule_lines.specs.declared.lines.Line.TheVariants as line
+use Rattle.setup_text.specs.TickOrder.{AreAscending}
+use Rattle.setup_text.specs.declared.lines.Line.{Line}
+use Rattle.setup_text.specs.declared.lines.Line.TheVariants as line
 use Rattle.tp_layout.specs.Requests.{receive_fault}
 use Rattle.setup_text.specs.declared.cpu_setups.CpuSetup.{CpuSetup}
 use Rattle.setup_text.specs.declared.setups.Setup.{Setup}

@@ -1,6 +1,6 @@
 //! The CPUs of a setup.
 use frame_view::ItemList;
-use text_lines::Word;
+use tap_outside::Word;
 
 /// What a setup says about a CPU.
 #[derive(Debug, Drop)]

@@ -13,7 +13,8 @@ use crate::{CpuSetup, CpuSetupList, SetupKind};
 use fanout_group::Mode;
 use flow_hash::Key;
 use std::alloc::Global;
-use text_lines::{Word, is_plain, next_word};
+use tap_outside::Word;
+use text_lines::{is_plain, next_word};
 
 /// The most CPUs, by this project's own choice.
 const MOST_CPUS: usize = 8;

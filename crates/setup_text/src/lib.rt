@@ -1,4 +1,4 @@
-//! The texts of a run: the setup, the moments and the schedule, and what a run reports.
+//! The texts of a run: the setup, the filter, the moments and the schedule.
 #![tactic(auto)]
 
 mod commands;
@@ -7,9 +7,9 @@ mod drafts;
 mod filters;
 mod jobs;
 mod laws;
+mod lines;
 mod made_frames;
 mod moments;
-mod reports;
 mod schedules;
 mod setup_error;
 mod setup_words;
@@ -25,9 +25,8 @@ pub use laws::{
     a_setup_with_cpus_can_be_run, a_written_setup_is_read_back, lines_may_change_places,
     the_first_fault_answers,
 };
+pub use lines::{Line, Schedule};
 pub use moments::read_ticks;
-pub use reports::{Forwards, MemberList, MemberReport, Ran, RunReport};
-pub use schedule_lines::{Line, Schedule};
 pub use schedules::read_schedule;
 pub use setup_error::{Needed, SetupError, SetupKind};
 pub use setups::{Setup, read_setup};

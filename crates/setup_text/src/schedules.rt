@@ -8,9 +8,9 @@ ghost use Rattle.setup_text.specs.Sound.{IsScheduleFor};
 ghost use Rattle.setup_text.specs.Schedules.{clock_after, clock_of, line_in, line_with};
 ghost use Rattle.setup_text.specs.Schedules.{schedule_of, valued, verb_named};
 
+use crate::lines::{Line, Schedule};
 use crate::moments::only_word;
 use crate::{TextError, TextKind, Which};
-use schedule_lines::{Line, Schedule};
 use std::alloc::Global;
 use text_lines::{LARGEST_TEXT, is_passed_over, is_plain, next_line, next_word, number};
 

@@ -18,7 +18,8 @@ use fanout_group::{Mode, Plan, PlanError};
 use flow_hash::Key;
 use frame_view::Memory;
 use std::alloc::Global;
-use text_lines::{LARGEST_TEXT, Word, is_passed_over, next_line};
+use tap_outside::Word;
+use text_lines::{LARGEST_TEXT, is_passed_over, next_line};
 use tp_layout::{RequestError, RingRequest, Shape};
 
 /// A setup: the ring and the group of a run, its captures, and what is written of it.

@@ -9,7 +9,7 @@ use fanout_group::Mode;
 use flow_hash::Key;
 use hex::FromHex;
 use std::alloc::Global;
-use text_lines::Word;
+use tap_outside::Word;
 
 /// The most bytes that the name of a file may have, by this project's own choice.
 const LONGEST_NAME: usize = 255;

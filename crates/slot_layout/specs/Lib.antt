@@ -1,3 +1,7 @@
+pub mod SlotSteps
+pub mod SlotReleases
+pub mod SlotRings
+pub mod SlotFates
 pub mod SlotShapes
 pub mod SlotTexts
 pub mod SlotFaults

@@ -4,7 +4,7 @@ use Rattle.ring_model.specs.Offers.{packet_of}
 use Rattle.ring_model.specs.declared.notes.Note.{Note}
 use Rattle.ring_model.specs.declared.notes.Offer.{Offer}
 use Rattle.frame_view.specs.declared.frames.Packet.{Packet}
-use Rattle.slot_model.specs.SlotSteps.{slot_state_of}
+use Rattle.slot_layout.specs.SlotSteps.{slot_state_of}
 use Rattle.slot_layout.specs.SlotTexts.{slot_text}
 
 -- the packet that an offer becomes in a slot, which has no hash

@@ -1,7 +1,7 @@
 -- The shape of a ring of TPACKET_V2, and its size as notes see it.
 use Rattle.std.specs.Prelude.{◌≡◌, ◌≤◌, None, replicate}
 use Rattle.ring_model.specs.Ring.{Size}
-use Rattle.slot_model.specs.SlotRings.{room_of_slots}
+use Rattle.slot_layout.specs.SlotRings.{room_of_slots}
 use Rattle.tp_layout.specs.Requests.{slot_fault}
 use Rattle.tp_layout.specs.BlockWrites.{ShapedBytes}
 use Rattle.tp_layout.specs.declared.requests.RingRequest.{RingRequest}

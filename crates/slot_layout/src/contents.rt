@@ -1,7 +1,7 @@
 //! A slot as a ring hands it over: its bytes are what a reader sees, its shape is what all slots
 //! of a ring share.
 use crate::Slot;
-use block_content::Content;
+use ring_model::Content;
 
 impl Content for Slot {
     ghost use Rattle.slot_layout.specs.SlotTexts.{SlotBeginsLawfully};

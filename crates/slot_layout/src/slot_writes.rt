@@ -3,7 +3,7 @@ ghost use Rattle.std.specs.Prelude.{◌≡◌, ◌+◌, ◌≤◌, IsTrue, if◌
 ghost use Rattle.std.specs.Vec.{vec_capacity};
 ghost use Rattle.slot_layout.specs.SlotDump.{slot_packet_of};
 ghost use Rattle.slot_layout.specs.SlotTexts.{SlotBegins, slot_status_may, slot_text};
-ghost use Rattle.slot_model.specs.SlotSteps.{status_of_slot};
+ghost use Rattle.slot_layout.specs.SlotSteps.{status_of_slot};
 ghost use Rattle.tp_layout.specs.BlockWrites.{IsWritable, put};
 
 use crate::Slot;

@@ -18,7 +18,7 @@ use Rattle.setup_text.specs.declared.commands.Command.{Command}
 use Rattle.setup_text.specs.declared.commands.Command.TheVariants.{Capture, Check, Forward, Make, Replay, Replay2, Send}
 use Rattle.setup_text.specs.declared.cpu_setups.CpuSetup.{CpuSetup}
 use Rattle.setup_text.specs.declared.jobs.Job.{Job}
-use Rattle.setup_text.specs.declared.reports.RunReport.{RunReport}
+use Rattle.run_reports.specs.declared.reports.RunReport.{RunReport}
 use Rattle.setup_text.specs.declared.setups.Setup.{Setup}
 use Rattle.setup_text.specs.declared.text_error.TextError.{TextError}
 use Rattle.tap_outside.specs.Contents.{Contents}

@@ -10,8 +10,8 @@ use Rattle.run_reports.specs.Members.{AreShort, DropsNoneBelow}
 use Rattle.run_reports.specs.Once.{EachArrivalAppearsOnce}
 use Rattle.run_reports.specs.Reports.{logged, notes_of}
 use Rattle.setup_text.specs.declared.jobs.Job.{Job}
-use Rattle.setup_text.specs.declared.reports.MemberReport.{MemberReport}
-use Rattle.setup_text.specs.declared.reports.RunReport.{RunReport}
+use Rattle.run_reports.specs.declared.reports.MemberReport.{MemberReport}
+use Rattle.run_reports.specs.declared.reports.RunReport.{RunReport}
 use Rattle.tap_printing.specs.declared.ring_kind.RingKind.{RingKind}
 use Rattle.tap_printing.specs.declared.ring_kind.RingKind.TheVariants.{Blocks, Slots}
 use Rattle.tap_engine.specs.Headline.{IsReportBy, places_by}

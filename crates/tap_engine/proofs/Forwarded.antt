@@ -10,9 +10,9 @@ use Rattle.std.proofs.lemmas.List.Elements.{All-map, All-weaker, filter_passes}
 use Rattle.frame_view.specs.Vlan.{frame_of}
 use Rattle.frame_view.specs.declared.frames.Packet.{Packet}
 use Rattle.setup_text.specs.Sound.{IsSetup}
-use Rattle.setup_text.specs.declared.reports.Forwards.{Forwards}
-use Rattle.setup_text.specs.declared.reports.MemberReport.{MemberReport}
-use Rattle.setup_text.specs.declared.reports.RunReport.{RunReport}
+use Rattle.run_reports.specs.declared.reports.Forwards.{Forwards}
+use Rattle.run_reports.specs.declared.reports.MemberReport.{MemberReport}
+use Rattle.run_reports.specs.declared.reports.RunReport.{RunReport}
 use Rattle.setup_text.specs.declared.setups.Setup.{Setup}
 use Rattle.tap_forward.specs.Bridges.{sent_for}
 use Rattle.tap_forward.specs.Forwards.{as_sent, is_sendable, sent_of}

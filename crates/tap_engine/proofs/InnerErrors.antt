@@ -14,7 +14,7 @@ use Rattle.fanout_group.specs.declared.runs.CpuLog.{CpuLog}
 use Rattle.setup_text.specs.declared.commands.Command.{Command}
 use Rattle.setup_text.specs.declared.commands.Command.TheVariants.{Capture, Check, Forward, Make, Replay, Replay2, Send}
 use Rattle.setup_text.specs.declared.cpu_setups.CpuSetup.{CpuSetup}
-use Rattle.setup_text.specs.declared.reports.RunReport.{RunReport}
+use Rattle.run_reports.specs.declared.reports.RunReport.{RunReport}
 use Rattle.setup_text.specs.declared.setups.Setup.{Setup}
 use Rattle.tap_outside.specs.Contents.{Contents}
 use Rattle.tap_outside.specs.Seen.{SinkSeen, StoreSeen}

@@ -15,12 +15,12 @@ use Rattle.fanout_group.specs.declared.runs.CpuLog.{CpuLog}
 use Rattle.made_captures.specs.Made.{made_captures, made_lines}
 use Rattle.made_captures.proofs.Texts.{count_sources}
 use Rattle.made_captures.proofs.Whole.{captures-end}
-use Rattle.schedule_lines.specs.declared.lines.Line.{Line}
+use Rattle.setup_text.specs.declared.lines.Line.{Line}
 use Rattle.setup_text.specs.Sound.{IsSetup}
 use Rattle.setup_text.specs.declared.commands.Command.{Command}
 use Rattle.setup_text.specs.declared.commands.Command.TheVariants.{Make}
 use Rattle.setup_text.specs.declared.jobs.Job.{Job}
-use Rattle.setup_text.specs.declared.reports.RunReport.{RunReport}
+use Rattle.run_reports.specs.declared.reports.RunReport.{RunReport}
 use Rattle.tap_outside.specs.Contents.{Contents}
 use Rattle.tap_outside.specs.Counts.{Rose}
 use Rattle.tap_outside.specs.Seen.{SourceSeen, StoreSeen, unread_source}

@@ -3,7 +3,7 @@ use Rattle.std.specs.Prelude.{◌≡◌, ◌⊎◌, ℕ, List, [], length, ⊤, 
 use Rattle.std.specs.List.{AllByRecursion}
 use Rattle.bpf_filter.specs.declared.insn.Insn.{Insn}
 use Rattle.capture_file.specs.Capture.{end_of}
-use Rattle.schedule_lines.specs.declared.lines.Line.{Line}
+use Rattle.setup_text.specs.declared.lines.Line.{Line}
 use Rattle.setup_text.specs.Filters.{filter_of}
 use Rattle.setup_text.specs.Moments.{moments_of}
 use Rattle.setup_text.specs.Schedules.{schedule_of}

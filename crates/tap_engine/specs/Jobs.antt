@@ -3,7 +3,7 @@
 use Rattle.std.specs.Prelude.{◌≡◌, ◌⊎◌, ℕ, true, List, [], length, ⊤, Option, None, Some, Result}
 use Rattle.std.specs.Prelude.{Ok}
 use Rattle.bpf_filter.specs.declared.insn.Insn.{Insn}
-use Rattle.schedule_lines.specs.declared.lines.Line.{Line}
+use Rattle.setup_text.specs.declared.lines.Line.{Line}
 use Rattle.setup_text.specs.Answers.{is_setup_want, is_text_want}
 use Rattle.setup_text.specs.Filters.{filter_of}
 use Rattle.setup_text.specs.Moments.{moments_of}

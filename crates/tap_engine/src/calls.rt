@@ -22,8 +22,7 @@ use frame_view::Memory;
 use std::alloc::Global;
 use std::sync::Wait;
 use std::thread::Threads;
-use tap_outside::{Sink, Store, write_whole};
-use text_lines::Word;
+use tap_outside::{Sink, Store, Word, write_whole};
 
 /// Carries out a command over a store and a sink.
 ///

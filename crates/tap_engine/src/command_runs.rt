@@ -19,14 +19,14 @@ use crate::sent_captures::{Sending, send_capture};
 use crate::threaded_runs::{ThreadedRun, run_timed};
 use cpu_feeders::Gate;
 use frame_view::Memory;
-use setup_text::{Command, Job, RunReport, Setup};
+use run_reports::RunReport;
+use setup_text::{Command, Job, Setup};
 use std::alloc::Global;
 use std::sync::Wait;
 use std::thread::Threads;
-use tap_outside::Store;
+use tap_outside::{Store, Word};
 use tap_printing::RingKind;
 use tap_reading::Stop;
-use text_lines::Word;
 
 /// Finds what the words ask for, on threads if they are `capture CONF` or `forward CONF`. The store
 /// is only read.

@@ -4,8 +4,8 @@ ghost use Rattle.tap_engine.specs.Commands.{command_of, is_threaded, lone_comman
 ghost use Rattle.tap_engine.specs.Commands.{plain_command, rings_of, scheduled_command, sends};
 
 use setup_text::Command;
+use tap_outside::Word;
 use tap_printing::RingKind;
-use text_lines::Word;
 
 /// A command with the names of its texts.
 #[derive(Clone, Copy)]

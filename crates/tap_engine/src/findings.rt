@@ -8,7 +8,8 @@ use crate::sent_captures::Sending;
 use capture_file::CpuEnd;
 use fanout_group::CpuLog;
 use frame_view::{ByteList, Memory};
-use setup_text::{Forwards, RunReport, Setup, SetupError, TextError};
+use run_reports::{Forwards, RunReport};
+use setup_text::{Setup, SetupError, TextError};
 use std::alloc::Global;
 use tap_printing::{RingKind, send_lines, setup_refusal, summary, text_refusal};
 

@@ -1,7 +1,7 @@
 //! What a command needs: its texts, read and accepted.
 ghost use Rattle.std.specs.Prelude.{◌≡◌, ◌≤◌, None, Ok, IfErr, IfOk, IfSome, IsTrue, OnOk, length};
 ghost use Rattle.std.specs.Prelude.{option_map};
-ghost use Rattle.schedule_lines.specs.TickOrder.{IsSchedule};
+ghost use Rattle.setup_text.specs.TickOrder.{IsSchedule};
 ghost use Rattle.setup_text.specs.Setups.{request_fault};
 ghost use Rattle.setup_text.specs.Sound.{AreMoments, IsSetup};
 ghost use Rattle.setup_text.specs.declared.jobs.Job.{Job};
@@ -16,12 +16,10 @@ ghost use Rattle.tap_engine.specs.Names.{AreMeantToRead, filter_for, ticks_for};
 use crate::commands::Asked;
 use bpf_filter::Program;
 use frame_view::MomentList;
-use schedule_lines::Schedule;
-use setup_text::{Command, Job, Setup};
+use setup_text::{Command, Job, Schedule, Setup};
 use std::alloc::Global;
-use tap_outside::Store;
+use tap_outside::{Store, Word};
 use tap_reading::{Stop, load_filter, load_schedule, load_setup, load_ticks};
-use text_lines::Word;
 
 /// Reads the setup of a command, and the filter that it names, if the command reads one.
 pub(crate) fn load_job<S: Store>(

@@ -9,8 +9,7 @@ ghost use Rattle.tap_outside.specs.Seen.{StoreSeen};
 ghost use Rattle.tap_engine.specs.Commands.{Named, rings_of};
 ghost use Rattle.tap_engine.specs.Headline.{IsHeadline, places_by};
 
-use run_reports::a_member_with_blocks_left_dropped_nothing;
-use setup_text::RunReport;
+use run_reports::{RunReport, a_member_with_blocks_left_dropped_nothing};
 use v2_replay::a_member_with_slots_left_dropped_nothing;
 
 /// In a report that fulfils the headline each arrival whose verdict isn't 0 appears once among what

@@ -3,7 +3,8 @@ ghost use Rattle.std.specs.Prelude.{◌≡◌};
 ghost use Rattle.tap_engine.specs.Numbers.{number_of};
 
 use capture_file::CaptureError;
-use setup_text::{RunReport, SetupError, TextError};
+use run_reports::RunReport;
+use setup_text::{SetupError, TextError};
 
 /// How a call ended.
 #[derive(Clone, Copy, Debug, PartialEq, Eq)]

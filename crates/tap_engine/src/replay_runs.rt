@@ -2,7 +2,7 @@
 //! made.
 ghost use Rattle.std.specs.Prelude.{◌≡◌, ◌≤◌, ◌<◌, ◌^◌, true, ℕ, None, Some, length, map};
 ghost use Rattle.std.specs.Prelude.{option_map, All, IfErr, IfOk, IsTrue};
-ghost use Rattle.schedule_lines.specs.TickOrder.{IsSchedule};
+ghost use Rattle.setup_text.specs.TickOrder.{IsSchedule};
 ghost use Rattle.setup_text.specs.Setups.{request_fault};
 ghost use Rattle.setup_text.specs.Sound.{IsSetup};
 ghost use Rattle.setup_text.specs.declared.commands.Command.TheVariants.{Make};
@@ -19,8 +19,8 @@ use crate::jobs::load_lines;
 use crate::sources::{close_captures, fetch_captures};
 use frame_view::Memory;
 use made_captures::{made_schedule, made_sources};
-use schedule_lines::Schedule;
-use setup_text::{Command, Job, Ran, RunReport, a_setup_with_cpus_can_be_run};
+use run_reports::{Ran, RunReport};
+use setup_text::{Command, Job, Schedule, a_setup_with_cpus_can_be_run};
 use std::alloc::Global;
 use tap_outside::{Source, Store};
 use tap_printing::RingKind;

@@ -1,7 +1,7 @@
 -- What is sent of a run.
 use Rattle.std.specs.Prelude.{ℕ, List}
 use Rattle.frame_view.specs.declared.frames.Packet.{Packet}
-use Rattle.setup_text.specs.declared.reports.MemberReport.{MemberReport}
+use Rattle.run_reports.specs.declared.reports.MemberReport.{MemberReport}
 use Rattle.tp_layout.specs.declared.requests.RingRequest.{RingRequest}
 use Rattle.tap_forward.specs.Forwards.{sent_of, skipped_of}
 

@@ -1,8 +1,10 @@
 //! The outside as the program sees it: sources that are read, sinks that are written and stores of
-//! named files, each with a count of its faults; in memory, on disk, and standard output.
+//! named files, each with a count of its faults; in memory, on disk, and standard output; and the
+//! words of a command, which may be names.
 #![tactic(auto)]
 
 mod causes;
+mod command_words;
 mod disk_files;
 mod history;
 mod memory_files;
@@ -16,6 +18,7 @@ mod store;
 mod sure_store;
 
 pub use causes::{Failed, OutError};
+pub use command_words::Word;
 pub use disk_files::{DiskSource, DiskStore};
 pub use history::History;
 pub use memory_sink::MemSink;
@@ -26,4 +29,3 @@ pub use source::Source;
 pub use standard_output::StdSink;
 pub use store::Store;
 pub use sure_store::{SureSource, SureStore};
-pub use text_lines::Word;

@@ -6,9 +6,9 @@ use Rattle.ring_model.specs.Fates.{counts_of, stretches_from, sum_of, totals_of}
 use Rattle.ring_model.specs.Ring.{Size, first_state}
 use Rattle.ring_model.specs.declared.notes.Note.{Note}
 use Rattle.ring_model.specs.declared.notes.Stats.{Stats}
-use Rattle.slot_model.specs.SlotFates.{without_freezes}
-use Rattle.slot_model.specs.SlotSteps.{first_slot_state}
-use Rattle.slot_model.proofs.Counts.{counts_alike, stretches_alike, sums_alike}
+use Rattle.slot_layout.specs.SlotFates.{without_freezes}
+use Rattle.slot_layout.specs.SlotSteps.{first_slot_state}
+use Rattle.slot_layout.proofs.Counts.{counts_alike, stretches_alike, sums_alike}
 use Rattle.tap_printing.specs.Statistics.{counts_by, seen_by, totals_by}
 use Rattle.tap_printing.specs.declared.ring_kind.RingKind.{RingKind}
 use Rattle.tap_printing.specs.declared.ring_kind.RingKind.TheVariants.{Blocks, Slots}

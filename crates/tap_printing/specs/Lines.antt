@@ -14,9 +14,9 @@ use Rattle.capture_file.specs.declared.cpu_end.CpuEnd.{CpuEnd}
 use Rattle.capture_file.specs.declared.cpu_end.CpuEnd.TheVariants.{Whole, Fault, Damaged}
 use Rattle.fanout_group.specs.declared.runs.CpuLog.{CpuLog}
 use Rattle.frame_view.specs.declared.frames.Packet.{Packet}
-use Rattle.setup_text.specs.declared.reports.Forwards.{Forwards}
-use Rattle.setup_text.specs.declared.reports.MemberReport.{MemberReport}
-use Rattle.setup_text.specs.declared.reports.RunReport.{RunReport}
+use Rattle.run_reports.specs.declared.reports.Forwards.{Forwards}
+use Rattle.run_reports.specs.declared.reports.MemberReport.{MemberReport}
+use Rattle.run_reports.specs.declared.reports.RunReport.{RunReport}
 -- the sums are those that add up by a law of reports
 pub use Rattle.run_reports.specs.Totals.{arrivals_in, drops_in, filtered_in, kept_in}
 use Rattle.tap_printing.specs.Statistics.{counts_by, totals_by}

@@ -4,7 +4,7 @@ use Rattle.ring_model.specs.Fates.{counts_of, totals_of}
 use Rattle.ring_model.specs.Ring.{Size}
 use Rattle.ring_model.specs.declared.notes.Note.{Note}
 use Rattle.ring_model.specs.declared.notes.Stats.{Stats}
-use Rattle.slot_model.specs.SlotFates.{slot_counts_of, slot_totals_of, without_freezes}
+use Rattle.slot_layout.specs.SlotFates.{slot_counts_of, slot_totals_of, without_freezes}
 use Rattle.tap_printing.specs.declared.ring_kind.RingKind.{RingKind}
 use Rattle.tap_printing.specs.declared.ring_kind.RingKind.TheVariants.{Blocks, Slots}
 

@@ -11,7 +11,7 @@ use crate::lines::push_line;
 use crate::ring_kind::RingKind;
 use frame_view::Memory;
 use ring_model::{Stats, Tally, tally_notes};
-use setup_text::{Forwards, MemberReport};
+use run_reports::{Forwards, MemberReport};
 use std::alloc::Global;
 
 /// Numbers of packets over several members.

@@ -8,7 +8,7 @@ use crate::lines::push_line;
 use crate::member_lines::{Passed, push_members};
 use crate::ring_kind::RingKind;
 use frame_view::{ByteList, Memory};
-use setup_text::{Forwards, RunReport};
+use run_reports::{Forwards, RunReport};
 use std::alloc::Global;
 
 /// The lines of a run, each ended by a line feed: those of the CPUs from 0 up, those of the

@@ -1,6 +1,6 @@
 -- The outcome of reading a text.
 use Rattle.std.specs.Prelude.{◌≡◌, ℕ, List, Bool, false, if◌then◌else◌, Option, Result, Err}
-use Rattle.schedule_lines.specs.declared.lines.Line.{Line}
+use Rattle.setup_text.specs.declared.lines.Line.{Line}
 use Rattle.setup_text.specs.Answers.{is_setup_want, is_text_want}
 use Rattle.setup_text.specs.Schedules.{schedule_of}
 use Rattle.setup_text.specs.Setups.{setup_of}

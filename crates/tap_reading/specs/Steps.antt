@@ -1,6 +1,6 @@
 -- What one line adds to the ticks and to a schedule, as a step of the reading of their lines.
 use Rattle.std.specs.Prelude.{ℕ, List, Result}
-use Rattle.schedule_lines.specs.declared.lines.Line.{Line}
+use Rattle.setup_text.specs.declared.lines.Line.{Line}
 use Rattle.setup_text.specs.Moments.{added, latest, moment_in}
 use Rattle.setup_text.specs.Schedules.{clock_of, line_in}
 use Rattle.setup_text.specs.declared.text_error.TextKind.{TextKind}

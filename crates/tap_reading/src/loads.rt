@@ -13,8 +13,7 @@ use crate::stops::Stop;
 use crate::texts::read_text;
 use bpf_filter::Program;
 use frame_view::MomentList;
-use schedule_lines::Schedule;
-use setup_text::{Command, Setup, read_filter, read_schedule, read_setup, read_ticks};
+use setup_text::{Command, Schedule, Setup, read_filter, read_schedule, read_setup, read_ticks};
 use std::alloc::Global;
 use tap_outside::Store;
 

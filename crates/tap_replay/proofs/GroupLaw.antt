@@ -4,9 +4,9 @@ use Rattle.capture_file.specs.declared.cpu_end.CpuEnd.{CpuEnd}
 use Rattle.frame_view.specs.declared.frames.Frame.{Frame}
 use Rattle.fanout_group.specs.Rules.{Rules}
 use Rattle.replay_machine.proofs.GroupReports.{group_is, logs_are as logs_of_replay, members_are}
-use Rattle.replay_model.specs.Replay.{replayed}
-use Rattle.replay_model.specs.Reports.{AreArrivals, IsReplayReport, IsRingReport}
-use Rattle.replay_model.specs.RingSteps.{RingSteps, block_steps}
+use Rattle.receive_ring.specs.Replay.{replayed}
+use Rattle.receive_ring.specs.Reports.{AreArrivals, IsReplayReport, IsRingReport}
+use Rattle.receive_ring.specs.RingSteps.{RingSteps, block_steps}
 use Rattle.ring_model.specs.Ring.{Size, state_of}
 use Rattle.ring_model.specs.Rings.{Ring}
 use Rattle.run_reports.specs.Jobs.{arriving_of, rules_of}
@@ -14,8 +14,8 @@ use Rattle.run_reports.specs.Logs.{AreLogsFrom}
 use Rattle.run_reports.specs.Members.{IsMember}
 use Rattle.run_reports.specs.Reports.{IsReport}
 use Rattle.run_reports.proofs.ArrivalOrder.{AreNumbered, arrive}
-use Rattle.schedule_lines.specs.TickOrder.{IsSchedule}
-use Rattle.schedule_lines.specs.declared.lines.Line.{Line}
+use Rattle.setup_text.specs.TickOrder.{IsSchedule}
+use Rattle.setup_text.specs.declared.lines.Line.{Line}
 use Rattle.setup_text.specs.Runnable.{IsRunnable}
 use Rattle.setup_text.specs.declared.jobs.Job.{Job}
 use Rattle.tp_layout.specs.Requests.{size_of}

@@ -4,7 +4,7 @@ use Rattle.frame_view.specs.declared.frames.Packet.{Packet}
 use Rattle.reader_walk.specs.Readers.{dump_by, walked_of}
 use Rattle.receive_ring.specs.BlockRings.{block_reads}
 use Rattle.replay_machine.specs.Reported.{reported_by}
-use Rattle.replay_model.specs.Reports.{IsRingReport}
+use Rattle.receive_ring.specs.Reports.{IsRingReport}
 use Rattle.ring_model.specs.Fates.{kept_of}
 use Rattle.ring_model.specs.Offers.{packet_of}
 use Rattle.ring_model.specs.Ring.{Size, state_of}
@@ -13,7 +13,7 @@ use Rattle.ring_model.specs.declared.notes.Note.{Note}
 use Rattle.ring_model.specs.declared.notes.Offer.{Offer}
 use Rattle.run_reports.proofs.KeptPackets.{as_many, kept_in_blocks, texts_are, walked_are}
 use Rattle.run_reports.specs.Members.{dump_where}
-use Rattle.setup_text.specs.declared.reports.MemberReport.{MemberReport}
+use Rattle.run_reports.specs.declared.reports.MemberReport.{MemberReport}
 use Rattle.tp_layout.specs.Dump.{dump_of}
 use Rattle.tp_layout.specs.Layouts.{text_of_taken}
 use Rattle.tp_layout.specs.Requests.{fills_hash, size_of}

@@ -6,13 +6,13 @@ use Rattle.receive_ring.specs.BlockRings.{block_reads, steps_of_blocks}
 use Rattle.replay_machine.proofs.GroupReports.{same_reports}
 use Rattle.replay_machine.specs.Reported.{reported_by}
 use Rattle.replay_machine.specs.Runs.{IsReplayedOver}
-use Rattle.replay_model.specs.Reports.{IsRingReport}
+use Rattle.receive_ring.specs.Reports.{IsRingReport}
 use Rattle.ring_model.specs.Rings.{Ring}
 use Rattle.run_reports.specs.Reports.{IsRunReport}
-use Rattle.schedule_lines.specs.declared.lines.Line.{Line}
+use Rattle.setup_text.specs.declared.lines.Line.{Line}
 use Rattle.setup_text.specs.declared.jobs.Job.{Job}
-use Rattle.setup_text.specs.declared.reports.MemberReport.{MemberReport}
-use Rattle.setup_text.specs.declared.reports.RunReport.{RunReport}
+use Rattle.run_reports.specs.declared.reports.MemberReport.{MemberReport}
+use Rattle.run_reports.specs.declared.reports.RunReport.{RunReport}
 use Rattle.tap_outside.specs.Seen.{SourceSeen}
 use Rattle.tp_layout.specs.Layouts.{text_of_taken}
 use Rattle.tp_layout.specs.Requests.{size_of}

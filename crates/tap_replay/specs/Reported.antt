@@ -6,7 +6,7 @@ use Rattle.ring_model.specs.Rings.{Ring, state}
 use Rattle.run_reports.specs.Members.{dump_where}
 use Rattle.tp_layout.specs.Requests.{fills_hash}
 use Rattle.tp_layout.specs.declared.requests.RingRequest.{RingRequest}
-use Rattle.setup_text.specs.declared.reports.MemberReport.{MemberReport}
+use Rattle.run_reports.specs.declared.reports.MemberReport.{MemberReport}
 
 -- what is reported of a closed ring of blocks of this shape: the packets of the offers that it
 -- kept, its dump if that is asked for, and the number of retired blocks; one thread ran it

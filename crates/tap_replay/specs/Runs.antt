@@ -4,12 +4,12 @@ use Rattle.capture_reading.specs.Sources.{AllGave}
 use Rattle.tap_outside.specs.Seen.{SourceSeen}
 use Rattle.capture_file.specs.declared.cpu_end.CpuEnd.{CpuEnd}
 use Rattle.replay_machine.specs.Runs.{replay_over, report_with}
-use Rattle.replay_model.specs.Replay.{Replay}
-use Rattle.replay_model.specs.RingSteps.{block_steps}
+use Rattle.receive_ring.specs.Replay.{Replay}
+use Rattle.receive_ring.specs.RingSteps.{block_steps}
 use Rattle.run_reports.specs.Reports.{IsRunReport}
-use Rattle.schedule_lines.specs.declared.lines.Line.{Line}
+use Rattle.setup_text.specs.declared.lines.Line.{Line}
 use Rattle.setup_text.specs.declared.jobs.Job.{Job}
-use Rattle.setup_text.specs.declared.reports.RunReport.{RunReport}
+use Rattle.run_reports.specs.declared.reports.RunReport.{RunReport}
 use Rattle.tp_layout.specs.Requests.{size_of}
 use Rattle.tap_replay.specs.Reported.{member_of}
 

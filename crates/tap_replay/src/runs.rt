@@ -1,24 +1,23 @@
 //! The replay of a job: its sources are read as its schedule asks for their frames.
 ghost use Rattle.std.specs.Prelude.{◌≡◌, ◌^◌, ◌<◌, ℕ, List, length, map, option_map, All, IfOk};
 ghost use Rattle.capture_file.specs.declared.cpu_end.CpuEnd.{CpuEnd};
-ghost use Rattle.schedule_lines.specs.declared.lines.Line.{Line};
-ghost use Rattle.schedule_lines.specs.TickOrder.{IsSchedule};
+ghost use Rattle.setup_text.specs.declared.lines.Line.{Line};
+ghost use Rattle.setup_text.specs.TickOrder.{IsSchedule};
 ghost use Rattle.run_reports.specs.Reports.{IsRunReport};
 ghost use Rattle.setup_text.specs.Runnable.{IsRunnable};
 ghost use Rattle.setup_text.specs.declared.jobs.Job.{Job};
-ghost use Rattle.replay_model.specs.Reports.{IsRingReport};
+ghost use Rattle.receive_ring.specs.Reports.{IsRingReport};
 ghost use Rattle.tp_layout.specs.Requests.{size_of};
 ghost use Rattle.tap_replay.specs.Runs.{IsReplayed, replay_of, report_of};
 
 use block_ring::Producer;
 use capture_file::frames_are_numbered;
 use frame_view::Memory;
+use receive_ring::a_replay_reports_a_group;
 use replay_machine::replay_over;
-use replay_model::a_replay_reports_a_group;
 use ring_words::PlainRing;
-use run_reports::a_group_s_report_is_that_of_a_run;
-use schedule_lines::Schedule;
-use setup_text::{Job, Ran};
+use run_reports::{Ran, a_group_s_report_is_that_of_a_run};
+use setup_text::{Job, Schedule};
 use std::alloc::Global;
 use tap_outside::Source;
 use tp_layout::{Block, a_shape_is_sound};

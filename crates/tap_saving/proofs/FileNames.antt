@@ -6,8 +6,8 @@ use Rattle.std.specs.List.{AllByRecursion}
 use Rattle.std.proofs.Math.Seq.{drop-append_seam}
 use Rattle.std.proofs.lemmas.Fmt.{decimal_digit}
 use Rattle.frame_view.specs.declared.frames.Packet.{Packet}
-use Rattle.setup_text.specs.declared.reports.Forwards.{Forwards}
-use Rattle.setup_text.specs.declared.reports.MemberReport.{MemberReport}
+use Rattle.run_reports.specs.declared.reports.Forwards.{Forwards}
+use Rattle.run_reports.specs.declared.reports.MemberReport.{MemberReport}
 use Rattle.setup_text.specs.declared.setups.Setup.{Setup}
 use Rattle.tap_saving.specs.Files.{File, blocks_file, file_name, files_at, files_from, forward_file}
 use Rattle.tap_saving.specs.Files.{forward_name, names_at, names_from, output_files, output_names}

@@ -6,8 +6,8 @@ use Rattle.std.proofs.lemmas.List.{append-nil}
 use Rattle.std.proofs.lemmas.Option.{get_or_from_slice_get, slice_get_within}
 use Rattle.std.specs.Prelude.{All, IfSome, Option, None, Some, slice_get}
 use Rattle.frame_view.specs.declared.frames.Packet.{Packet}
-use Rattle.setup_text.specs.declared.reports.Forwards.{Forwards}
-use Rattle.setup_text.specs.declared.reports.MemberReport.{MemberReport}
+use Rattle.run_reports.specs.declared.reports.Forwards.{Forwards}
+use Rattle.run_reports.specs.declared.reports.MemberReport.{MemberReport}
 use Rattle.setup_text.specs.declared.setups.Setup.{Setup}
 use Rattle.tap_saving.specs.Files.{CanBeOutput, File, files_at, files_from, sent_by}
 

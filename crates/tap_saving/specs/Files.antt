@@ -5,8 +5,8 @@ use Rattle.std.specs.Prelude.{length, codes, if◌then◌else◌, slice_get, Opt
 use Rattle.std.specs.Fmt.{decimal}
 use Rattle.capture_file.specs.Output.{output_of}
 use Rattle.frame_view.specs.declared.frames.Packet.{Packet}
-use Rattle.setup_text.specs.declared.reports.Forwards.{Forwards}
-use Rattle.setup_text.specs.declared.reports.MemberReport.{MemberReport}
+use Rattle.run_reports.specs.declared.reports.Forwards.{Forwards}
+use Rattle.run_reports.specs.declared.reports.MemberReport.{MemberReport}
 use Rattle.setup_text.specs.declared.setups.Setup.{Setup}
 
 -- a file: what its name has to hold

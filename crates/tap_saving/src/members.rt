@@ -9,7 +9,8 @@ use crate::names::file_name;
 use crate::planned_file::PlannedFile;
 use crate::saves::save_files;
 use frame_view::{Memory, Packets};
-use setup_text::{Forwards, MemberReport, Setup};
+use run_reports::{Forwards, MemberReport};
+use setup_text::Setup;
 use std::alloc::Global;
 use tap_outside::Store;
 

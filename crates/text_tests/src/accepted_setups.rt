@@ -3,8 +3,8 @@ use crate::answers::NEEDED;
 use frame_view::Memory;
 use setup_text::{Command, CpuSetup, Setup, read_setup};
 use std::alloc::Global;
+use tap_outside::Word;
 use tap_printing::setup_refusal;
-use text_lines::Word;
 
 /// Appends words, each followed by a number.
 fn push_numbers(text: &mut String, parts: &[(&str, u64)]) -> Result<(), Memory> {

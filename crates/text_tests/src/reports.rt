@@ -3,7 +3,7 @@ use capture_file::CpuEnd;
 use fanout_group::{ArrivalList, ArrivalLog, CpuLog, CpuLogList, TryList};
 use frame_view::{ByteList, Frame, ItemList, Memory, Packet, Packets};
 use ring_model::{Found, Note, Notes, Offer};
-use setup_text::{Forwards, MemberList, MemberReport, RunReport};
+use run_reports::{Forwards, MemberList, MemberReport, RunReport};
 use std::alloc::Global;
 use tap_printing::{RingKind, summary};
 

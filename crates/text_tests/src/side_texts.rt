@@ -2,8 +2,7 @@
 //! read as.
 use crate::answers::{Reading, Row, check_rows};
 use frame_view::Memory;
-use schedule_lines::Line;
-use setup_text::{TextError, Which, read_filter, read_schedule, read_ticks};
+use setup_text::{Line, TextError, Which, read_filter, read_schedule, read_ticks};
 
 /// Texts of moments, and the first fault.
 static MOMENTS: [Row; 7] = [

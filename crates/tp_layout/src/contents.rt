@@ -1,7 +1,7 @@
 //! A block as a ring hands it over: its bytes are what a reader sees, its shape is what all blocks
 //! of a ring share.
 use crate::Block;
-use block_content::Content;
+use ring_model::Content;
 
 impl Content for Block {
     ghost use Rattle.tp_layout.specs.Blocks.{BeginsLawfully};

@@ -6,8 +6,8 @@ ghost use Rattle.tp_layout.specs.declared.requests.RingRequest.{RingRequest};
 
 use crate::fields::{u32_at, u64_at};
 use crate::{Block, a_shape_is_sound, packets_of, text_of};
-use block_content::Content;
 use frame_view::{Memory, Packet};
+use ring_model::Content;
 use std::alloc::Global;
 
 /// A block or a slot of a ring, whose packets can be read where it may be retired. Contracts see

@@ -6,9 +6,9 @@ use Rattle.fanout_group.specs.Once.{IsGroupReport}
 use Rattle.fanout_group.specs.Rules.{Rules}
 use Rattle.replay_machine.proofs.GroupReports.{group_is, logs_are, members_are}
 use Rattle.replay_machine.specs.Runs.{report_with}
-use Rattle.replay_model.proofs.ReplayEnds.{report_is}
-use Rattle.replay_model.specs.Reports.{IsReplayReport}
-use Rattle.replay_model.specs.RingSteps.{RingSteps}
+use Rattle.receive_ring.proofs.ReplayEnds.{report_is}
+use Rattle.receive_ring.specs.Reports.{IsReplayReport}
+use Rattle.receive_ring.specs.RingSteps.{RingSteps}
 use Rattle.ring_model.specs.Ring.{Size}
 use Rattle.ring_model.specs.Rings.{Ring}
 use Rattle.ring_model.specs.declared.notes.Note.{Note}
@@ -17,11 +17,11 @@ use Rattle.run_reports.specs.Once.{EachArrivalAppearsOnce}
 use Rattle.run_reports.specs.Reports.{logged}
 use Rattle.run_reports.proofs.Shorts.{short_members}
 use Rattle.run_reports.proofs.ArrivalOrder.{AreNumbered, arrive}
-use Rattle.schedule_lines.specs.TickOrder.{IsSchedule}
-use Rattle.schedule_lines.specs.declared.lines.Line.{Line}
+use Rattle.setup_text.specs.TickOrder.{IsSchedule}
+use Rattle.setup_text.specs.declared.lines.Line.{Line}
 use Rattle.setup_text.specs.Runnable.{IsRunnable}
 use Rattle.setup_text.specs.declared.jobs.Job.{Job}
-use Rattle.setup_text.specs.declared.reports.RunReport.{RunReport}
+use Rattle.run_reports.specs.declared.reports.RunReport.{RunReport}
 use Rattle.slot_layout.proofs.SlotBounds.{slot_bounds}
 use Rattle.slot_layout.specs.SlotShapes.{IsSlotShape, slot_size_of}
 use Rattle.tp_layout.specs.declared.requests.RingRequest.{RingRequest}

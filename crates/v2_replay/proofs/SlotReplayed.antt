@@ -7,10 +7,10 @@ use Rattle.replay_machine.proofs.GroupReports.{same_reports}
 use Rattle.replay_machine.specs.Reported.{reported_by}
 use Rattle.replay_machine.specs.Runs.{IsReplayedOver}
 use Rattle.ring_model.specs.Rings.{Ring}
-use Rattle.schedule_lines.specs.declared.lines.Line.{Line}
+use Rattle.setup_text.specs.declared.lines.Line.{Line}
 use Rattle.setup_text.specs.declared.jobs.Job.{Job}
-use Rattle.setup_text.specs.declared.reports.MemberReport.{MemberReport}
-use Rattle.setup_text.specs.declared.reports.RunReport.{RunReport}
+use Rattle.run_reports.specs.declared.reports.MemberReport.{MemberReport}
+use Rattle.run_reports.specs.declared.reports.RunReport.{RunReport}
 use Rattle.slot_layout.specs.SlotLayouts.{text_of_slot}
 use Rattle.slot_layout.specs.SlotShapes.{slot_size_of}
 use Rattle.tap_outside.specs.Seen.{SourceSeen}

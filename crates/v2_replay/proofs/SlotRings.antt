@@ -1,20 +1,20 @@
 -- The steps of rings of slots keep a ring open until it is closed.
 use Rattle.std.proofs.Common.{◌≡◌, ℕ, ◌+◌, ◌≤◌, Bool, true, false, cond, List, [], ◌∷◌, ◌++◌, length, refl, subst, arith}
 use Rattle.std.specs.Prelude.{nat_lt}
-use Rattle.replay_model.proofs.KeptOpen.{KeepOpen}
-use Rattle.replay_model.proofs.Rings.{releases_later, releases_more}
-use Rattle.replay_model.specs.Reports.{AreReleases}
-use Rattle.replay_model.specs.RingSteps.{put_note, read_by, try_note}
+use Rattle.receive_ring.proofs.KeptOpen.{KeepOpen}
+use Rattle.receive_ring.proofs.Rings.{releases_later, releases_more}
+use Rattle.receive_ring.specs.Reports.{AreReleases}
+use Rattle.receive_ring.specs.RingSteps.{put_note, read_by, try_note}
 use Rattle.ring_model.specs.Ring.{Size}
 use Rattle.ring_model.specs.Rings.{Ring, noted}
 use Rattle.ring_model.specs.Unreleased.{IsUnreleased}
 use Rattle.ring_model.specs.declared.notes.Note.{Note}
 use Rattle.ring_model.specs.declared.notes.Note.TheVariants.{Counted, Finished}
 use Rattle.ring_model.specs.declared.notes.Offer.{Offer}
-use Rattle.slot_model.proofs.Looks.{slot_put_may_follow, slot_put_unreleased, slot_try_may_follow, slot_try_unreleased}
-use Rattle.slot_model.proofs.Runs.{slot_goes_put, slot_goes_try, slot_run_closed, slot_run_push}
-use Rattle.slot_model.specs.SlotRings.{slot_state}
-use Rattle.slot_model.specs.SlotSteps.{IsOpenSlotRun, IsWholeSlotRun, SlotGoesOn, SlotMayFollow, first_slot_state}
+use Rattle.slot_layout.proofs.Looks.{slot_put_may_follow, slot_put_unreleased, slot_try_may_follow, slot_try_unreleased}
+use Rattle.slot_layout.proofs.Runs.{slot_goes_put, slot_goes_try, slot_run_closed, slot_run_push}
+use Rattle.slot_layout.specs.SlotRings.{slot_state}
+use Rattle.slot_layout.specs.SlotSteps.{IsOpenSlotRun, IsWholeSlotRun, SlotGoesOn, SlotMayFollow, first_slot_state}
 use Rattle.receive_ring.specs.SlotRings.{slot_steps}
 use Rattle.v2_replay.specs.SlotReports.{IsSlotRingReport}
 

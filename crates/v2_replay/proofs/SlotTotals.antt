@@ -10,9 +10,9 @@ use Rattle.run_reports.specs.Totals.{TotalsAddUp}
 use Rattle.run_reports.proofs.GroupTotals.{CountsSettled, kept_and_dropped, totals_add_up}
 use Rattle.run_reports.proofs.Totals.{CountsDrops, CountsEach}
 use Rattle.setup_text.specs.declared.jobs.Job.{Job}
-use Rattle.setup_text.specs.declared.reports.RunReport.{RunReport}
-use Rattle.slot_model.specs.SlotFates.{slot_totals_of, without_freezes}
-use Rattle.slot_model.specs.SlotRings.{room_of_slots}
+use Rattle.run_reports.specs.declared.reports.RunReport.{RunReport}
+use Rattle.slot_layout.specs.SlotFates.{slot_totals_of, without_freezes}
+use Rattle.slot_layout.specs.SlotRings.{room_of_slots}
 use Rattle.v2_replay.specs.SlotReports.{IsSlotRunReport}
 
 -- a ring of slots counts as a ring of blocks

@@ -9,12 +9,12 @@ use Rattle.ring_model.specs.Fates.{kept_of}
 use Rattle.ring_model.specs.Rings.{Ring}
 use Rattle.ring_model.specs.declared.notes.Note.{Note}
 use Rattle.ring_model.specs.declared.notes.Offer.{Offer}
-use Rattle.setup_text.specs.declared.reports.MemberReport.{MemberReport}
+use Rattle.run_reports.specs.declared.reports.MemberReport.{MemberReport}
 use Rattle.slot_layout.specs.SlotDump.{slot_dump_of, slot_packet_of, slot_texts_of}
 use Rattle.slot_layout.specs.SlotLayouts.{slot_taken, text_of_slot}
 use Rattle.slot_layout.specs.SlotTexts.{slot_text}
-use Rattle.slot_model.proofs.Kept.{kept_from, offers_in}
-use Rattle.slot_model.specs.SlotSteps.{first_slot_state, slot_state_of}
+use Rattle.slot_layout.proofs.Kept.{kept_from, offers_in}
+use Rattle.slot_layout.specs.SlotSteps.{first_slot_state, slot_state_of}
 use Rattle.tp_layout.specs.declared.requests.RingRequest.{RingRequest}
 use Rattle.v2_replay.specs.SlotReplays.{slot_dump_where, slot_member_of}
 

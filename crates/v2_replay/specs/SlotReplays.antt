@@ -3,9 +3,9 @@ use Rattle.std.specs.Prelude.{ℕ, Bool, List, [], length, map, if◌then◌else
 use Rattle.ring_model.specs.Fates.{kept_of}
 use Rattle.ring_model.specs.Rings.{Ring}
 use Rattle.ring_model.specs.declared.notes.Note.{Note}
-use Rattle.setup_text.specs.declared.reports.MemberReport.{MemberReport}
+use Rattle.run_reports.specs.declared.reports.MemberReport.{MemberReport}
 use Rattle.slot_layout.specs.SlotDump.{slot_dump_of, slot_packet_of}
-use Rattle.slot_model.specs.SlotRings.{slot_state}
+use Rattle.slot_layout.specs.SlotRings.{slot_state}
 
 -- the dump of notes, if it is asked for
 abbrev pub slot_dump_where : Bool → List Note → List ℕ

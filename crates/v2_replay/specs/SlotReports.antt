@@ -3,7 +3,7 @@ use Rattle.std.specs.Prelude.{◌≡◌, ℕ, Bool, List, length, map, All}
 use Rattle.capture_file.specs.declared.cpu_end.CpuEnd.{CpuEnd}
 use Rattle.fanout_group.specs.Once.{IsGroupReport}
 use Rattle.ring_model.specs.Fates.{kept_of}
-use Rattle.replay_model.specs.Reports.{AreReleases}
+use Rattle.receive_ring.specs.Reports.{AreReleases}
 use Rattle.ring_model.specs.Ring.{Size}
 use Rattle.ring_model.specs.Rings.{Ring}
 use Rattle.run_reports.specs.Jobs.{arriving_of, rules_of}
@@ -12,11 +12,11 @@ use Rattle.run_reports.specs.Members.{AreShort}
 use Rattle.run_reports.specs.Once.{EachArrivalAppearsOnce}
 use Rattle.run_reports.specs.Reports.{logged, notes_of}
 use Rattle.setup_text.specs.declared.jobs.Job.{Job}
-use Rattle.setup_text.specs.declared.reports.MemberReport.{MemberReport}
-use Rattle.setup_text.specs.declared.reports.RunReport.{RunReport}
+use Rattle.run_reports.specs.declared.reports.MemberReport.{MemberReport}
+use Rattle.run_reports.specs.declared.reports.RunReport.{RunReport}
 use Rattle.slot_layout.specs.SlotDump.{slot_packet_of}
-use Rattle.slot_model.specs.SlotRings.{room_of_slots}
-use Rattle.slot_model.specs.SlotSteps.{IsWholeSlotRun, slot_state_of}
+use Rattle.slot_layout.specs.SlotRings.{room_of_slots}
+use Rattle.slot_layout.specs.SlotSteps.{IsWholeSlotRun, slot_state_of}
 use Rattle.tp_layout.specs.declared.requests.RingRequest.{RingRequest}
 use Rattle.v2_replay.specs.SlotReplays.{slot_dump_where}
 

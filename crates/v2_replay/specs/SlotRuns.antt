@@ -3,10 +3,10 @@ use Rattle.std.specs.Prelude.{◌≡◌, ℕ, List, Option}
 use Rattle.capture_file.specs.declared.cpu_end.CpuEnd.{CpuEnd}
 use Rattle.capture_reading.specs.Sources.{AllGave}
 use Rattle.replay_machine.specs.Runs.{replay_over, report_with}
-use Rattle.replay_model.specs.Replay.{Replay}
-use Rattle.schedule_lines.specs.declared.lines.Line.{Line}
+use Rattle.receive_ring.specs.Replay.{Replay}
+use Rattle.setup_text.specs.declared.lines.Line.{Line}
 use Rattle.setup_text.specs.declared.jobs.Job.{Job}
-use Rattle.setup_text.specs.declared.reports.RunReport.{RunReport}
+use Rattle.run_reports.specs.declared.reports.RunReport.{RunReport}
 use Rattle.slot_layout.specs.SlotShapes.{slot_size_of}
 use Rattle.tap_outside.specs.Seen.{SourceSeen}
 use Rattle.receive_ring.specs.SlotRings.{slot_steps}

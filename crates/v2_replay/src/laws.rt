@@ -4,12 +4,12 @@ ghost use Rattle.capture_file.specs.declared.cpu_end.CpuEnd.{CpuEnd};
 ghost use Rattle.run_reports.specs.Members.{DropsNoneBelow};
 ghost use Rattle.run_reports.specs.Totals.{TotalsAddUp};
 ghost use Rattle.setup_text.specs.declared.jobs.Job.{Job};
-ghost use Rattle.setup_text.specs.declared.reports.RunReport.{RunReport};
-ghost use Rattle.slot_model.specs.SlotFates.{slot_totals_of};
+ghost use Rattle.run_reports.specs.declared.reports.RunReport.{RunReport};
+ghost use Rattle.slot_layout.specs.SlotFates.{slot_totals_of};
 ghost use Rattle.v2_replay.specs.SlotReports.{IsSlotRunReport};
 
 use ring_model::statistics_count_each_packet;
-use slot_model::{a_ring_with_slots_left_drops_nothing, a_slot_ring_counts_as_a_ring_of_blocks};
+use slot_layout::{a_ring_with_slots_left_drops_nothing, a_slot_ring_counts_as_a_ring_of_blocks};
 
 /// In the report of a run over rings of slots the arrivals are those that the filter refused, those
 /// that members kept and those that they dropped.

@@ -1,8 +1,8 @@
 //! The replay of a job over rings of slots.
 ghost use Rattle.std.specs.Prelude.{◌≡◌, ◌^◌, ◌<◌, ℕ, List, length, map, option_map, All, IfOk};
 ghost use Rattle.capture_file.specs.declared.cpu_end.CpuEnd.{CpuEnd};
-ghost use Rattle.schedule_lines.specs.TickOrder.{IsSchedule};
-ghost use Rattle.schedule_lines.specs.declared.lines.Line.{Line};
+ghost use Rattle.setup_text.specs.TickOrder.{IsSchedule};
+ghost use Rattle.setup_text.specs.declared.lines.Line.{Line};
 ghost use Rattle.setup_text.specs.Runnable.{IsRunnable};
 ghost use Rattle.setup_text.specs.declared.jobs.Job.{Job};
 ghost use Rattle.slot_layout.specs.SlotShapes.{IsSlotShape, slot_size_of};
@@ -13,9 +13,8 @@ use capture_file::frames_are_numbered;
 use frame_view::Memory;
 use replay_machine::replay_over;
 use ring_words::PlainRing;
-use run_reports::each_arrival_appears_exactly_once;
-use schedule_lines::Schedule;
-use setup_text::{Job, Ran};
+use run_reports::{Ran, each_arrival_appears_exactly_once};
+use setup_text::{Job, Schedule};
 use std::alloc::Global;
 use tap_outside::Source;
 use v2_ring::{Slot, SlotProducer};

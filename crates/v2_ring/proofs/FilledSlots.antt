@@ -6,7 +6,7 @@ use Rattle.ring_model.specs.declared.notes.Offer.{Offer}
 use Rattle.ring_words.specs.Rings.{Entry, Feed}
 use Rattle.slot_layout.specs.SlotDump.{slot_packet_of}
 use Rattle.slot_layout.specs.SlotTexts.{SlotBegins}
-use Rattle.slot_model.specs.SlotSteps.{SlotState, slot_after, slot_status}
+use Rattle.slot_layout.specs.SlotSteps.{SlotState, slot_after, slot_status}
 use Rattle.tp_layout.specs.declared.requests.RingRequest.{RingRequest}
 use Rattle.v2_ring.specs.SlotContents.{AreSlotTexts, RepresentsSlots}
 use Rattle.v2_ring.specs.SlotMachines.{IsSlotAt}

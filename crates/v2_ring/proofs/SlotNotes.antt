@@ -3,8 +3,8 @@ use Rattle.std.proofs.Common.{◌≡◌, ℕ, ◌+◌, ◌^◌, ◌<◌, ◌≤�
 use Rattle.ring_model.specs.declared.notes.Found.{Found}
 use Rattle.ring_model.specs.declared.notes.Note.{Note}
 use Rattle.ring_words.specs.Rings.{Feed}
-use Rattle.slot_model.specs.SlotSteps.{SlotGoesOn, SlotMayFollow, SlotState, slot_after, slot_state_of}
-use Rattle.slot_model.proofs.Runs.{slot_counted, slot_run_push, slot_state_push}
+use Rattle.slot_layout.specs.SlotSteps.{SlotGoesOn, SlotMayFollow, SlotState, slot_after, slot_state_of}
+use Rattle.slot_layout.proofs.Runs.{slot_counted, slot_run_push, slot_state_push}
 use Rattle.v2_ring.specs.SlotMachines.{IsReserved, IsSlotAt, IsSlotFew, KeepsSlotEnd}
 use Rattle.v2_ring.specs.SlotProducers.{SlotAdds, SlotKeeps, SlotLooks, SlotProducing, slots_filled}
 use Rattle.v2_ring.specs.declared.machine.SlotMachine.{SlotMachine}

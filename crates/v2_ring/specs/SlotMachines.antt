@@ -2,7 +2,7 @@
 use Rattle.std.specs.Prelude.{◌≡◌, ℕ, ◌+◌, ◌^◌, ◌<◌, ◌≤◌, [], length}
 use Rattle.ring_words.specs.Rings.{Feed}
 use Rattle.slot_layout.specs.SlotShapes.{IsSlotShape}
-use Rattle.slot_model.specs.SlotSteps.{SlotState}
+use Rattle.slot_layout.specs.SlotSteps.{SlotState}
 use Rattle.tp_layout.specs.Requests.{numbers_of}
 use Rattle.tp_layout.specs.declared.requests.RingRequest.{RingRequest}
 use Rattle.v2_ring.specs.SlotContents.{RepresentsSlots}

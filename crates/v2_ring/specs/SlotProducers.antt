@@ -9,9 +9,9 @@ use Rattle.ring_model.specs.declared.notes.Put.{Put}
 use Rattle.ring_model.specs.declared.notes.Tried.{Tried}
 use Rattle.ring_words.specs.Counts.{Rose}
 use Rattle.ring_words.specs.Rings.{Feed}
-use Rattle.slot_model.specs.SlotReleases.{slot_look}
-use Rattle.slot_model.specs.SlotSteps.{IsOpenSlotRun, SlotMayFollow, SlotState, first_slot_state}
-use Rattle.slot_model.specs.SlotSteps.{slot_state_of}
+use Rattle.slot_layout.specs.SlotReleases.{slot_look}
+use Rattle.slot_layout.specs.SlotSteps.{IsOpenSlotRun, SlotMayFollow, SlotState, first_slot_state}
+use Rattle.slot_layout.specs.SlotSteps.{slot_state_of}
 use Rattle.tp_layout.specs.declared.requests.RingRequest.{RingRequest}
 use Rattle.v2_ring.specs.SlotContents.{RepresentsSlots}
 use Rattle.v2_ring.specs.SlotMachines.{IsSlotAt, KeepsSlotEnd}

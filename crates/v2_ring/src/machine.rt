@@ -10,9 +10,9 @@ ghost use Rattle.ring_model.specs.KnownReleases.{put_by, try_by};
 ghost use Rattle.ring_model.specs.declared.notes.Found.TheVariants as found;
 ghost use Rattle.ring_model.specs.declared.notes.Note.TheVariants as notes;
 ghost use Rattle.slot_layout.specs.SlotShapes.{IsSlotShape};
-ghost use Rattle.slot_model.specs.SlotFates.{slot_stats_of};
-ghost use Rattle.slot_model.specs.SlotSteps.{SlotMayFollow, SlotState, first_slot_state};
-ghost use Rattle.slot_model.specs.SlotSteps.{slot_after};
+ghost use Rattle.slot_layout.specs.SlotFates.{slot_stats_of};
+ghost use Rattle.slot_layout.specs.SlotSteps.{SlotMayFollow, SlotState, first_slot_state};
+ghost use Rattle.slot_layout.specs.SlotSteps.{slot_after};
 ghost use Rattle.tp_layout.specs.Requests.{numbers_of};
 ghost use Rattle.tp_layout.specs.BlockWrites.{IsWritable};
 

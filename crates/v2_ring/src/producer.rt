@@ -4,8 +4,8 @@ ghost use Rattle.std.specs.Prelude.{OnErr};
 ghost use Rattle.ring_model.specs.declared.notes.Found.{Found};
 ghost use Rattle.ring_model.specs.declared.notes.Note.TheVariants.{Counted, Finished};
 ghost use Rattle.slot_layout.specs.SlotShapes.{IsSlotShape};
-ghost use Rattle.slot_model.specs.SlotFates.{slot_stats_of};
-ghost use Rattle.slot_model.specs.SlotSteps.{IsWholeSlotRun, slot_state_of};
+ghost use Rattle.slot_layout.specs.SlotFates.{slot_stats_of};
+ghost use Rattle.slot_layout.specs.SlotSteps.{IsWholeSlotRun, slot_state_of};
 ghost use Rattle.tp_layout.specs.BlockWrites.{IsWritable};
 
 use crate::machine::SlotMachine;

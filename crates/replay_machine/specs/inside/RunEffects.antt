@@ -4,17 +4,17 @@ use Rattle.std.specs.Prelude.{slice_set, Option, None, IsSome}
 use Rattle.std.specs.List.{AllByRecursion}
 use Rattle.fanout_group.specs.Paths.{first_path}
 use Rattle.fanout_group.specs.Plans.{Shape}
-use Rattle.replay_model.specs.Replay.{Replay, cpu_at, done_line, feed_from, feed_times, no_ring}
-use Rattle.replay_model.specs.Replay.{noted_at}
-use Rattle.schedule_lines.specs.declared.lines.Line.{Line}
-use Rattle.schedule_lines.specs.declared.lines.Line.TheVariants as line
-use Rattle.replay_model.specs.RingSteps.{RingSteps, read_by, ticked}
+use Rattle.receive_ring.specs.Replay.{Replay, cpu_at, done_line, feed_from, feed_times, no_ring}
+use Rattle.receive_ring.specs.Replay.{noted_at}
+use Rattle.setup_text.specs.declared.lines.Line.{Line}
+use Rattle.setup_text.specs.declared.lines.Line.TheVariants as line
+use Rattle.receive_ring.specs.RingSteps.{RingSteps, read_by, ticked}
 use Rattle.ring_model.specs.Rings.{Ring, fresh}
 use Rattle.ring_model.specs.declared.notes.Note.TheVariants.{Counted}
 use Rattle.setup_text.specs.declared.jobs.Job.{Job}
-use Rattle.setup_text.specs.declared.reports.MemberReport.{MemberReport}
-use Rattle.setup_text.specs.declared.reports.RunReport.{RunReport}
-use Rattle.replay_model.specs.Replay.{finished_ring}
+use Rattle.run_reports.specs.declared.reports.MemberReport.{MemberReport}
+use Rattle.run_reports.specs.declared.reports.RunReport.{RunReport}
+use Rattle.receive_ring.specs.Replay.{finished_ring}
 use Rattle.replay_machine.specs.Deliveries.{ChangedByTries}
 use Rattle.cpu_feed.specs.Fed.{IsAtItsEnd}
 use Rattle.cpu_feed.specs.ClosedCpus.{AllClose}

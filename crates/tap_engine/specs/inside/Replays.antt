@@ -2,9 +2,9 @@
 use Rattle.std.specs.Prelude.{◌≡◌, ℕ, List, Option}
 use Rattle.capture_file.specs.declared.cpu_end.CpuEnd.{CpuEnd}
 use Rattle.capture_reading.specs.Sources.{AllGave}
-use Rattle.schedule_lines.specs.declared.lines.Line.{Line}
+use Rattle.setup_text.specs.declared.lines.Line.{Line}
 use Rattle.setup_text.specs.declared.jobs.Job.{Job}
-use Rattle.setup_text.specs.declared.reports.RunReport.{RunReport}
+use Rattle.run_reports.specs.declared.reports.RunReport.{RunReport}
 use Rattle.tap_outside.specs.Seen.{SourceSeen}
 use Rattle.tap_printing.specs.declared.ring_kind.RingKind.{RingKind}
 use Rattle.tap_engine.specs.Headline.{IsReportBy, replay_by}

@@ -1,6 +1,6 @@
 use Rattle.std.proofs.Common.{◌≡◌, ◌++◌}
 use Rattle.std.specs.Prelude.{map}
-use Rattle.replay_model.specs.Replay.{finished_ring}
+use Rattle.receive_ring.specs.Replay.{finished_ring}
 use Rattle.replay_machine.specs.Reported.{reported_by}
 use Rattle.replay_machine.proofs.closed_replays.close_members.Given as goal
 

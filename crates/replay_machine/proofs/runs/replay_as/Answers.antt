@@ -1,9 +1,9 @@
 use Rattle.std.proofs.Common.{◌<◌, ◌≤◌, get_or, length, map, rules, subst, sym, arith, List}
 use Rattle.std.specs.Prelude.{option_map}
 use Rattle.std.proofs.lemmas.List.{length-map}
-use Rattle.replay_model.specs.TakenOffers.{MayCome}
-use Rattle.schedule_lines.specs.declared.lines.Line.{Line}
-use Rattle.schedule_lines.specs.declared.lines.Line.TheVariants.{Feed}
+use Rattle.receive_ring.specs.TakenOffers.{MayCome}
+use Rattle.setup_text.specs.declared.lines.Line.{Line}
+use Rattle.setup_text.specs.declared.lines.Line.TheVariants.{Feed}
 use Rattle.replay_machine.proofs.Timed.{may-next}
 use Rattle.tap_outside.specs.Seen.{SourceSeen}
 use Rattle.replay_machine.specs.Reported.{reported_by}

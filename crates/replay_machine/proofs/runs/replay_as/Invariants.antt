@@ -1,6 +1,6 @@
 use Rattle.std.proofs.Common.{◌≡◌, List, drop}
 use Rattle.frame_view.specs.declared.frames.Frame.{Frame}
-use Rattle.replay_model.specs.Replay.{done_lines}
+use Rattle.receive_ring.specs.Replay.{done_lines}
 use Rattle.replay_machine.proofs.Timed.{IsTimed}
 use Rattle.replay_machine.specs.RunStates.{AreAllOf, IsCounted, IsRun, firsts_of, whole}
 use Rattle.run_reports.specs.Jobs.{rules_of}

@@ -2,7 +2,7 @@ use Rattle.std.proofs.Common.{ap, sym, ◌∙◌, arith, [], Err, refl}
 use Rattle.setup_text.specs.Answers.{is_kind_want}
 use Rattle.std.specs.Prelude.{ℕ, List, Result}
 use Rattle.text_lines.proofs.Readings.{reads_all, reads_fault, reads_more, reads_over}
-use Rattle.schedule_lines.specs.declared.lines.Line.{Line}
+use Rattle.setup_text.specs.declared.lines.Line.{Line}
 use Rattle.setup_text.specs.Moments.{added}
 use Rattle.setup_text.specs.Schedules.{clock_of, line_in, schedule_of}
 use Rattle.setup_text.specs.declared.text_error.TextKind.{TextKind}

@@ -1,7 +1,7 @@
 use Rattle.std.proofs.Common.{◌<◌, ◌^◌, List, arith, length, sym, subst}
 use Rattle.made_captures.proofs.Scheduled.{made_lines_ascend, made_lines_few}
-use Rattle.schedule_lines.specs.TickOrder.{IsSchedule}
-use Rattle.schedule_lines.specs.declared.lines.Line.{Line}
+use Rattle.setup_text.specs.TickOrder.{IsSchedule}
+use Rattle.setup_text.specs.declared.lines.Line.{Line}
 use Rattle.tap_engine.proofs.MadeRuns.{made_run}
 use Rattle.tap_engine.proofs.replay_runs.replay_made.Goals as goal
 

@@ -4,8 +4,8 @@ use Rattle.std.specs.Prelude.{map}
 use Rattle.cpu_feeders.proofs.ReadOut.{rings_many}
 use Rattle.cpu_feeders.specs.Reports.{AreOutputsOf, member_reports}
 use Rattle.reader_walk.specs.declared.outputs.Outputs.{Outputs}
-use Rattle.setup_text.specs.declared.reports.MemberReport.{MemberReport}
-use Rattle.setup_text.specs.declared.reports.RunReport.{RunReport}
+use Rattle.run_reports.specs.declared.reports.MemberReport.{MemberReport}
+use Rattle.run_reports.specs.declared.reports.RunReport.{RunReport}
 use Rattle.tx_ring.specs.Rings.{room_of}
 use Rattle.tap_forward.specs.Bridges.{sent_for, skipped_for}
 use Rattle.tap_forward.proofs.Bridged.{all_sent, all_skipped, have_ended, one_room, outputs_left}

@@ -1,6 +1,6 @@
 use Rattle.std.proofs.Common.{◌≡◌, ◌-◌, ◌<◌, ℕ, List, length}
 use Rattle.frame_view.specs.declared.frames.Frame.{Frame}
-use Rattle.replay_model.specs.Replay.{feed_from}
+use Rattle.receive_ring.specs.Replay.{feed_from}
 use Rattle.cpu_feed.specs.Fed.{IsAtItsEnd}
 use Rattle.replay_machine.specs.RunStates.{AreAllOf, HasCount, IsRun, cpu_in, firsts_of, whole}
 use Rattle.run_reports.specs.Jobs.{rules_of}

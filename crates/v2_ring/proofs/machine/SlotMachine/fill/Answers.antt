@@ -2,7 +2,7 @@ use Rattle.std.proofs.Common.{ℕ, ap, subst, ◌∙◌}
 use Rattle.std.specs.Prelude.{nat_lt}
 use Rattle.slot_layout.specs.SlotDump.{slot_packet_of}
 use Rattle.slot_layout.specs.SlotTexts.{SlotBegins}
-use Rattle.slot_model.specs.SlotSteps.{status_of_slot}
+use Rattle.slot_layout.specs.SlotSteps.{status_of_slot}
 use Rattle.v2_ring.proofs.FilledSlots.{filled_at}
 use Rattle.tp_layout.proofs.OneShape.{one_shape}
 use Rattle.v2_ring.proofs.machine.SlotMachine.fill.Goals as goal

@@ -1,6 +1,6 @@
 use Rattle.std.proofs.Common.{ap, subst, sym}
 use Rattle.ring_model.specs.declared.notes.Note.TheVariants.{Finished}
-use Rattle.slot_model.proofs.Runs.{slot_run_closed, slot_state_push}
+use Rattle.slot_layout.proofs.Runs.{slot_run_closed, slot_state_push}
 use Rattle.v2_ring.specs.SlotContents.{RepresentsSlots}
 use Rattle.v2_ring.specs.SlotProducers.{SlotProducing}
 use Rattle.v2_ring.proofs.producer.SlotProducer.finish.Goals as goal

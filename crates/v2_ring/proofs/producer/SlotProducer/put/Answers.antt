@@ -1,8 +1,8 @@
 use Rattle.std.proofs.Common.{◌≡◌, ◌+◌, ◌^◌, ◌<◌, ◌≤◌, ◌∷◌, ◌++◌, [], ap, arith, length, refl, subst, sym}
 use Rattle.ring_model.specs.KnownReleases.{put_by}
 use Rattle.slot_layout.proofs.SlotBounds.{slot_bounds}
-use Rattle.slot_model.specs.SlotSteps.{slot_state_of}
-use Rattle.slot_model.proofs.Runs.{slot_goes_put}
+use Rattle.slot_layout.specs.SlotSteps.{slot_state_of}
+use Rattle.slot_layout.proofs.Runs.{slot_goes_put}
 use Rattle.tp_layout.specs.declared.requests.RingRequest.{RingRequest}
 use Rattle.v2_ring.specs.SlotProducers.{SlotProducing}
 use Rattle.v2_ring.proofs.SlotNotes.{Stepped, added, adds_given, at_reserved, few_before, keeps_reserved, kept_on, looks_given}

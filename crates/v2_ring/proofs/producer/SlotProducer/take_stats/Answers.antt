@@ -1,7 +1,7 @@
 use Rattle.std.proofs.Common.{List, ap, arith, refl, subst}
 use Rattle.ring_model.specs.declared.notes.Note.{Note}
 use Rattle.ring_model.specs.declared.notes.Note.TheVariants.{Counted}
-use Rattle.slot_model.specs.SlotSteps.{slot_after, slot_state_of}
+use Rattle.slot_layout.specs.SlotSteps.{slot_after, slot_state_of}
 use Rattle.v2_ring.specs.SlotMachines.{IsSlotAt}
 use Rattle.v2_ring.proofs.SlotNotes.{Stepped, added, adds_given, kept_with, same_end}
 use Rattle.v2_ring.proofs.producer.SlotProducer.take_stats.Goals as goal

@@ -1,4 +1,4 @@
-use Rattle.slot_model.specs.SlotSteps.{slot_state_of}
+use Rattle.slot_layout.specs.SlotSteps.{slot_state_of}
 use Rattle.v2_ring.proofs.producer.SlotProducer.take_stats.Given as goal
 
 abbrev pub ghost-take_stats : goal.ghost-take_stats

@@ -1,4 +1,0 @@
-pub mod OwnNotes
-pub mod Attempts
-pub mod TicketCounts
-pub mod Joint

@@ -1,4 +1,0 @@
-pub mod Seats
-pub mod Ticks
-pub mod Tried
-pub mod Threads

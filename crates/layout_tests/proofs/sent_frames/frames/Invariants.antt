@@ -1,6 +1,0 @@
-use Rattle.std.proofs.Common.{◌≡◌, length}
-use Rattle.layout_tests.proofs.sent_frames.frames.Given as goal
-
--- one frame for each length so far
-abbrev pub invariant-loop-index : goal.invariant-loop-index
-invariant-loop-index l = length l.frames ≡ l.index

@@ -1,6 +1,0 @@
-use Rattle.std.proofs.Common.{◌≡◌}
-use Rattle.outside_tests.proofs.in_memory.given_by.Given as goal
-
--- the bytes are what the source gave so far
-abbrev pub invariant-reading : goal.invariant-reading
-invariant-reading g l = (g.I.Source.seen l.input).given ≡ l.bytes.items

@@ -1,9 +1,0 @@
-use Rattle.replay_model.proofs.ReplayEnds.{report_is}
-use Rattle.replay_model.proofs.Rings.{IsOpen, blocks_keep, closed_run}
-use Rattle.replay_model.specs.Reports.{IsRingReport}
-use Rattle.replay_model.specs.RingSteps.{block_steps}
-use Rattle.replay_model.proofs.laws.a_replay_reports_a_group.Goals as goal
-
-pub returns : goal.returns
-returns c = λ rules size arriving lines.
-    report_is (IsOpen size) rules (block_steps size) (blocks_keep size) (IsRingReport size) (closed_run size) arriving lines

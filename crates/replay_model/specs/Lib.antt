@@ -1,4 +1,0 @@
-pub mod RingSteps
-pub mod Replay
-pub mod Reports
-pub mod TakenOffers

@@ -1,6 +1,0 @@
-use Rattle.slot_model.specs.SlotSteps.{first_slot_state}
-use Rattle.slot_model.proofs.Kept.{kept_from}
-use Rattle.slot_model.proofs.laws.the_filled_slots_are_the_kept_packets.Goals as goal
-
-pub returns : goal.returns
-returns c notes = kept_from first_slot_state notes

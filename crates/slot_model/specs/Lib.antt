@@ -1,4 +1,0 @@
-pub mod SlotSteps
-pub mod SlotReleases
-pub mod SlotRings
-pub mod SlotFates
