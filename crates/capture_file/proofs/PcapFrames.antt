@@ -10,9 +10,10 @@ use Rattle.byteorder.specs.Numbers.{little_from-lt, big_from-lt}
 use Rattle.frame_view.specs.declared.frames.Frame.{Frame}
 use Rattle.capture_file.specs.declared.error.CaptureError.{CaptureError}
 use Rattle.capture_file.specs.declared.format.Format.{Format}
-use Rattle.capture_file.specs.declared.format.Order.{Order}
-use Rattle.capture_file.specs.declared.format.Order.TheVariants.{Little, Big}
-use Rattle.capture_file.specs.Pcap.{number_at, captured, record_size, begins_whole, header_of, counted, records_in, frame_of_record, frames_from, frames_of}
+use Rattle.pcapng_blocks.specs.declared.byte_order.Order.{Order}
+use Rattle.pcapng_blocks.specs.declared.byte_order.Order.TheVariants.{Little, Big}
+use Rattle.pcapng_blocks.specs.Numbers.{number_at}
+use Rattle.capture_file.specs.Pcap.{captured, record_size, begins_whole, header_of, counted, records_in, frame_of_record, frames_from, frames_of}
 use Rattle.capture_file.specs.Feeds.{Reached, read_from, first_place}
 use Rattle.capture_file.specs.Laws.{IsNumbered, IsCaptured, FitsFrame}
 use Rattle.capture_file.proofs.Records.{number_at-append, header_of-append, whole_has, length_record, records_in-none, records_in-step, read_from-frames, accounts}

@@ -10,9 +10,10 @@ use Rattle.frame_view.specs.declared.frames.Frame.{Frame}
 use Rattle.frame_view.specs.declared.frames.Packet.{Packet}
 use Rattle.frame_view.specs.declared.frames.Tag.{Tag}
 use Rattle.capture_file.specs.declared.format.Format.{Format}
-use Rattle.capture_file.specs.declared.format.Order.TheVariants.{Little}
+use Rattle.pcapng_blocks.specs.declared.byte_order.Order.TheVariants.{Little}
 use Rattle.capture_file.specs.declared.record_reader.Place.{Place}
-use Rattle.capture_file.specs.Pcap.{number_at, captured, record_size, begins_whole, header_of, counted, frame_of_record, frames_of, stop_of, damage_of, end_of}
+use Rattle.pcapng_blocks.specs.Numbers.{number_at}
+use Rattle.capture_file.specs.Pcap.{captured, record_size, begins_whole, header_of, counted, frame_of_record, frames_of, stop_of, damage_of, end_of}
 use Rattle.capture_file.specs.Output.{four_bytes, output_header, tag_size, original, record_text, output_of}
 use Rattle.capture_file.specs.Feeds.{Reached, place_behind, read_from, first_place}
 use Rattle.capture_file.specs.Laws.{IsWritable, frames_back}

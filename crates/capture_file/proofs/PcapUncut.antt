@@ -1,7 +1,8 @@
 -- The damage of a pcap capture is never a cut.
 use Rattle.std.proofs.Common.{◌≡◌, ℕ, Bool, true, false, List, length, drop, ◌%◌, ap}
 use Rattle.std.specs.Prelude.{◌≢◌, Option, None, Some, Result, Ok, Err, nat_lt, if◌then◌else◌, ◌==◌, ◌&&◌}
-use Rattle.capture_file.specs.Pcap.{begins_oversized, checked, counted, damage_behind, damage_of, header_of, number_at, stop_of}
+use Rattle.pcapng_blocks.specs.Numbers.{number_at}
+use Rattle.capture_file.specs.Pcap.{begins_oversized, checked, counted, damage_behind, damage_of, header_of, stop_of}
 use Rattle.capture_file.specs.declared.error.CaptureError.{CaptureError}
 use Rattle.capture_file.specs.declared.error.CaptureError.TheVariants.{BadLength, BadLink, BadVersion, TooLarge, Truncated}
 use Rattle.capture_file.specs.declared.format.Format.{Format}

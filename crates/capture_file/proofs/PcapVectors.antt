@@ -4,7 +4,8 @@ use Rattle.std.proofs.Common.{◌≡◌, ℕ, List, [], ◌∷◌, Some, None, O
 use Rattle.frame_view.specs.declared.frames.Frame.{Frame}
 use Rattle.capture_file.specs.declared.error.CaptureError.{CaptureError}
 use Rattle.capture_file.specs.declared.error.CaptureError.TheVariants.{BadMagic, BadVersion, BadLink, BadLength, Truncated}
-use Rattle.capture_file.specs.Pcap.{frames_of, damage_of, end_of, stop_of, header_of, number_at, records_within, records_in, begins_whole, begins_oversized, frame_of_record}
+use Rattle.pcapng_blocks.specs.Numbers.{number_at}
+use Rattle.capture_file.specs.Pcap.{frames_of, damage_of, end_of, stop_of, header_of, records_within, records_in, begins_whole, begins_oversized, frame_of_record}
 use Rattle.capture_file.specs.Output.{output_of, record_text, output_header, four_bytes}
 
 -- what a capture says

@@ -8,10 +8,11 @@ use Rattle.std.proofs.lemmas.List.{append-nil, drop-append-le, take-append-le, l
 use Rattle.byteorder.specs.Numbers.{little_from-append, big_from-append}
 use Rattle.frame_view.specs.declared.frames.Frame.{Frame}
 use Rattle.capture_file.specs.declared.format.Format.{Format}
-use Rattle.capture_file.specs.declared.format.Order.{Order}
-use Rattle.capture_file.specs.declared.format.Order.TheVariants.{Little, Big}
+use Rattle.pcapng_blocks.specs.declared.byte_order.Order.{Order}
+use Rattle.pcapng_blocks.specs.declared.byte_order.Order.TheVariants.{Little, Big}
 use Rattle.capture_file.specs.declared.record_reader.Place.{Place}
-use Rattle.capture_file.specs.Pcap.{number_at, format_in, checked, header_of, captured, record_size, begins_whole, begins_oversized, records_within, records_in, frame_of_record, frames_from}
+use Rattle.pcapng_blocks.specs.Numbers.{number_at}
+use Rattle.capture_file.specs.Pcap.{format_in, checked, header_of, captured, record_size, begins_whole, begins_oversized, records_within, records_in, frame_of_record, frames_from}
 use Rattle.capture_file.specs.Feeds.{Reached, left_in, place_behind, read_from}
 
 -- ---- numbers

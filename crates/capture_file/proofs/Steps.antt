@@ -8,12 +8,13 @@ use Rattle.capture_file.specs.declared.error.CaptureError.{CaptureError}
 use Rattle.capture_file.specs.declared.error.CaptureError.TheVariants.{BadLength, Memory}
 use Rattle.capture_file.specs.declared.stage.Stage.TheVariants.{Records, Damaged}
 use Rattle.capture_file.specs.declared.format.Format.{Format}
-use Rattle.capture_file.specs.declared.format.Order.{Order}
+use Rattle.pcapng_blocks.specs.declared.byte_order.Order.{Order}
 use Rattle.capture_file.specs.declared.record_reader.Place.{Place}
 use Rattle.capture_file.specs.declared.record_reader.Progress.{Progress}
 use Rattle.std.specs.Option.{option_or}
-use Rattle.capture_file.specs.declared.format.Order.TheVariants.{Little, Big}
-use Rattle.capture_file.specs.Pcap.{number_at, format_in, checked, header_of, captured, record_size, begins_whole, begins_oversized, frame_of_record}
+use Rattle.pcapng_blocks.specs.declared.byte_order.Order.TheVariants.{Little, Big}
+use Rattle.pcapng_blocks.specs.Numbers.{number_at}
+use Rattle.capture_file.specs.Pcap.{format_in, checked, header_of, captured, record_size, begins_whole, begins_oversized, frame_of_record}
 use Rattle.capture_file.specs.Feeds.{Reached, place_behind, read_from, stage_at, IsPart, Completes, IsRead, Comes, start}
 use Rattle.capture_file.specs.Feeds.{first_place, ComesBehind, Begins, kept_at, IsSoundAt}
 use Rattle.capture_file.proofs.Records.{number_at-append, header_of-append, whole_has, has_whole, has_oversized, oversized-append, oversized_not_whole, whole_not_oversized, read_from-none, read_from-step, read_from-append, accounts}

@@ -8,7 +8,7 @@ use Rattle.capture_file.specs.declared.error.CaptureError.{CaptureError}
 use Rattle.capture_file.specs.declared.error.CaptureError.TheVariants.{BadLength, Truncated}
 use Rattle.capture_file.specs.declared.error.CaptureError.TheVariants.{TooLarge, Memory}
 use Rattle.capture_file.specs.declared.format.Format.{Format}
-use Rattle.capture_file.specs.declared.format.Order.{Order}
+use Rattle.pcapng_blocks.specs.declared.byte_order.Order.{Order}
 use Rattle.capture_file.specs.declared.record_reader.Place.{Place}
 use Rattle.capture_file.specs.declared.record_reader.Progress.{Progress}
 use Rattle.capture_file.specs.declared.stage.Stage.{Stage}

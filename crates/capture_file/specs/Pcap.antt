@@ -5,20 +5,15 @@ use Rattle.std.specs.Prelude.{max, if◌then◌else◌, List, [], ◌∷◌, len
 use Rattle.std.specs.Prelude.{Some, Result, Ok, Err, option_map}
 use Rattle.std.specs.Option.{option_or}
 use Rattle.std.specs.List.{concat}
-use Rattle.byteorder.specs.Endian.{little_number, big_number}
+use Rattle.pcapng_blocks.specs.Numbers.{number_at}
 use Rattle.frame_view.specs.declared.frames.Frame.{Frame}
 use Rattle.capture_file.specs.declared.error.CaptureError.{CaptureError}
 use Rattle.capture_file.specs.declared.error.CaptureError.TheVariants.{BadMagic, BadVersion}
 use Rattle.capture_file.specs.declared.error.CaptureError.TheVariants.{BadLink, BadLength}
 use Rattle.capture_file.specs.declared.error.CaptureError.TheVariants.{Truncated, TooLarge}
 use Rattle.capture_file.specs.declared.format.Format.{Format}
-use Rattle.capture_file.specs.declared.format.Order.{Order}
-use Rattle.capture_file.specs.declared.format.Order.TheVariants.{Little, Big}
-
--- the number in the n bytes from a place, in a byte order
-unfoldable pub number_at : Order → ℕ → ℕ → List ℕ → ℕ
-number_at Little n at bytes = little_number n (drop at bytes)
-number_at Big n at bytes = big_number n (drop at bytes)
+use Rattle.pcapng_blocks.specs.declared.byte_order.Order.{Order}
+use Rattle.pcapng_blocks.specs.declared.byte_order.Order.TheVariants.{Little, Big}
 
 -- the nanoseconds of one unit of a fraction of a second, by the magic: microseconds or nanoseconds
 abbrev pub unit_of : ℕ → Option ℕ

@@ -1,9 +1,9 @@
 //! The header of a capture, and how the numbers after it are read (pcap 2.4).
-ghost use Rattle.std.specs.Prelude.{◌≡◌, ◌+◌, ◌≤◌, length};
-ghost use Rattle.capture_file.specs.Pcap.{number_at, header_of, format_in, unit_of};
+ghost use Rattle.std.specs.Prelude.{◌≡◌, ◌≤◌, length};
+ghost use Rattle.capture_file.specs.Pcap.{header_of, format_in, unit_of};
 
 use crate::CaptureError;
-use byteorder::{BigEndian, ByteOrder, LittleEndian};
+use pcapng_blocks::Order;
 
 /// The number of bytes of a capture's header.
 pub(crate) const HEADER_SIZE: usize = 24;
@@ -16,43 +16,6 @@ const NANOSECONDS: u32 = 0xa1b2_3c4d;
 
 /// LINKTYPE_ETHERNET of the registry of link types, in the low 16 bits of the link field.
 const ETHERNET: u32 = 1;
-
-/// The order of the bytes of a number.
-#[derive(Clone, Copy, Debug)]
-pub(crate) enum Order {
-    /// The lowest byte first.
-    Little,
-    /// The highest byte first.
-    Big,
-}
-
-impl Order {
-    /// The number in the four bytes from a place.
-    #[tactic(auto, unfolding(crate::specs::Pcap::number_at))]
-    pub(crate) fn u32_at(self, bytes: &[u8], at: usize) -> u32
-        requires { at + 4 ≤ length bytes.now }
-        ensures { result ≡ number_at self 4 at bytes.now }
-    {
-        let (_, field) = bytes.split_at(at);
-        match self {
-            Order::Little => LittleEndian::read_u32(field),
-            Order::Big => BigEndian::read_u32(field),
-        }
-    }
-
-    /// The number in the two bytes from a place.
-    #[tactic(auto, unfolding(crate::specs::Pcap::number_at))]
-    fn u16_at(self, bytes: &[u8], at: usize) -> u16
-        requires { at + 2 ≤ length bytes.now }
-        ensures { result ≡ number_at self 2 at bytes.now }
-    {
-        let (_, field) = bytes.split_at(at);
-        match self {
-            Order::Little => LittleEndian::read_u16(field),
-            Order::Big => BigEndian::read_u16(field),
-        }
-    }
-}
 
 /// How the numbers of a capture are read.
 #[derive(Clone, Copy, Debug)]

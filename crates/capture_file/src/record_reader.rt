@@ -12,9 +12,10 @@ ghost use Rattle.capture_file.specs.Batches.{IsFrontOf};
 
 use crate::CaptureError;
 use crate::batches::Batch;
-use crate::format::{Format, HEADER_SIZE, Order, read_header};
+use crate::format::{Format, HEADER_SIZE, read_header};
 use crate::stage::Stage;
 use frame_view::{ByteList, Frame, Frames, Memory};
+use pcapng_blocks::Order;
 use std::alloc::Global;
 
 /// The number of bytes of a record's header.

@@ -4,7 +4,8 @@ use Rattle.std.proofs.lemmas.Bool.{cases_lt}
 use Rattle.std.proofs.lemmas.List.{append_assoc, drop-append-le, drop-drop, drop-replicate, drop_at, get_or-append_right, get_or-replicate, get_or_append_left, length-append, length-drop, length-replicate, length-take-le, nil_from_length, replicate-append-replicate, set-append_left, take-append-le, take-replicate, take_at}
 use Rattle.std.proofs.Math.Nat.{mul-le-mul_left, mul-le-mul_right}
 use Rattle.std.proofs.Math.Seq.{take-add}
-use Rattle.tx_ring.specs.Slots.{IsSlot, IsSound, SlotState, empty_slot, number_at, put_slot, slot_at, slot_in, slot_text}
+use Rattle.tp_layout.specs.Rows.{number_at}
+use Rattle.tx_ring.specs.Slots.{IsSlot, IsSound, SlotState, empty_slot, put_slot, slot_at, slot_in, slot_text}
 use Rattle.tx_ring.specs.SlotsInside.{AreSlots, IsKept, slots_by, slots_in}
 use Rattle.tx_ring.proofs.Texts.{length-slot_text, lent, told, zeros_empty}
 use Rattle.tx_ring.proofs.Texts.{written as written_text}
@@ -282,7 +283,7 @@ each_size size count written at room bytes kept less =
     ]
 
 -- a number in zeros
-zero_number : (place more : ℕ) → number_at place (replicate (place + (4 + more)) 0) ≡ 0
+zero_number : (place more : ℕ) → number_at 4 place (replicate (place + (4 + more)) 0) ≡ 0
 unfolding number_at
 zero_number place more =
     let rest : place + (4 + more) - place ≡ suc (suc (suc (suc more))) = omega arith in
@@ -290,13 +291,13 @@ zero_number place more =
 
 -- a number in the header of a slot that wasn't written
 pub unwritten_number : (size count written at room place : ℕ) (bytes : List ℕ) → IsKept size count written room bytes → written ≤ at → at < count
-    → place + 4 ≤ 48 → 0 ≡ number_at place (slot_text (slot_at (slots_by size count written bytes) at))
+    → place + 4 ≤ 48 → 0 ≡ number_at 4 place (slot_text (slot_at (slots_by size count written bytes) at))
 unwritten_number size count written at room place bytes kept past less header =
     let least = kept.least in
     let sum : place + (4 + (size - (place + 4))) ≡ size = omega (arith, least) in
-    sym (ap (λ (slot : SlotState). number_at place (slot_text slot)) (unwritten_slot size count written at bytes past less)
-    ∙ ap (number_at place) (sym (zeros_empty size least))
-    ∙ ap (λ (n : ℕ). number_at place (replicate n 0)) (sym sum)
+    sym (ap (λ (slot : SlotState). number_at 4 place (slot_text slot)) (unwritten_slot size count written at bytes past less)
+    ∙ ap (number_at 4 place) (sym (zeros_empty size least))
+    ∙ ap (λ (n : ℕ). number_at 4 place (replicate n 0)) (sym sum)
     ∙ zero_number place (size - (place + 4)))
 
 -- a slot that asks for something was written

@@ -6,7 +6,8 @@ use Rattle.std.proofs.Math.ListN.{drop_of_length-le}
 use Rattle.std.proofs.Math.Seq.{drop-append_seam, take-append_seam, take-length}
 use Rattle.byteorder.specs.Endian.{little_bytes}
 use Rattle.byteorder.specs.Numbers.{little_number-reads_back}
-use Rattle.tx_ring.specs.Slots.{IsSlot, IsSound, SlotState, empty_slot, header_text, number_at, slot_in, slot_text}
+use Rattle.tp_layout.specs.Rows.{number_at}
+use Rattle.tx_ring.specs.Slots.{IsSlot, IsSound, SlotState, empty_slot, header_text, slot_in, slot_text}
 
 -- there are as many bytes as the slot says
 pub length-slot_text : (slot : SlotState) → 48 + length slot.request.bytes ≤ slot.size → length (slot_text slot) ≡ slot.size
@@ -72,14 +73,14 @@ data_of slot count sound fits =
 
 -- after the bytes that were given, which the slot counts, there are zeros
 pub zeros_after : (slot : List ℕ) → IsSlot slot
-    → (48 + number_at 12 slot ≤ length slot) × (drop (number_at 12 slot) (drop 48 slot) ≡ replicate (length slot - (48 + number_at 12 slot)) 0)
+    → (48 + number_at 4 12 slot ≤ length slot) × (drop (number_at 4 12 slot) (drop 48 slot) ≡ replicate (length slot - (48 + number_at 4 12 slot)) 0)
 unfolding slot_text header_text number_at
 zeros_after slot is =
     let state = slot_in slot in
     let given = state.request.bytes in
     let sound = is.sound in
-    let count : number_at 12 slot ≡ length given =
-    ap (number_at 12) is.text ∙ little_number-reads_back 4 (length given) (drop 16 (slot_text state)) sound.given in
+    let count : number_at 4 12 slot ≡ length given =
+    ap (number_at 4 12) is.text ∙ little_number-reads_back 4 (length given) (drop 16 (slot_text state)) sound.given in
     let rest : drop (length given) (drop 48 slot) ≡ replicate (length slot - (48 + length given)) 0 =
     ap (λ (bytes : List ℕ). drop (length given) (drop 48 bytes)) is.text
     ∙ drop-append_seam given (replicate (length slot - (48 + length given)) 0) in

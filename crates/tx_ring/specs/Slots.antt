@@ -2,7 +2,8 @@
 -- Sizes and places are in bytes.
 use Rattle.std.specs.Prelude.{◌≡◌, ℕ, ◌+◌, ◌-◌, ◌^◌, ◌<◌, ◌≤◌, List, [], ◌++◌, length, take, drop}
 use Rattle.std.specs.Prelude.{replicate, slice_index_or}
-use Rattle.byteorder.specs.Endian.{little_bytes, little_number}
+use Rattle.byteorder.specs.Endian.{little_bytes}
+use Rattle.tp_layout.specs.Rows.{number_at}
 
 -- what a slot asks for: the offset to a next frame, the length of the frame and the bytes that it
 -- begins with
@@ -42,19 +43,15 @@ slot_text slot =
     header_text slot.status slot.request
     ++ (slot.request.bytes ++ replicate (slot.size - (48 + length slot.request.bytes)) 0)
 
--- the number in the four bytes from a place, the lowest byte first
-unfoldable pub number_at : ℕ → List ℕ → ℕ
-number_at at bytes = little_number 4 (drop at bytes)
-
 -- what the bytes of a slot say
 abbrev pub slot_in : List ℕ → SlotState
 slot_in bytes = record {
   size = length bytes;
-  status = number_at 20 bytes;
+  status = number_at 4 20 bytes;
   request = record {
-    next_offset = number_at 0 bytes;
-    length = number_at 16 bytes;
-    bytes = take (number_at 12 bytes) (drop 48 bytes);
+    next_offset = number_at 4 0 bytes;
+    length = number_at 4 16 bytes;
+    bytes = take (number_at 4 12 bytes) (drop 48 bytes);
   };
 }
 

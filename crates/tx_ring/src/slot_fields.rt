@@ -5,7 +5,7 @@
 //! other fields are 0. After it come the bytes that were given, and zeros up to the slot's end.
 ghost use Rattle.std.specs.Prelude.{◌≡◌, ◌+◌, ◌-◌, ◌≤◌, ◌++◌, length, drop, replicate, take};
 ghost use Rattle.byteorder.specs.Endian.{little_bytes};
-ghost use Rattle.tx_ring.specs.Slots.{SlotState, header_text, number_at, slot_text};
+ghost use Rattle.tx_ring.specs.Slots.{SlotState, header_text, slot_text};
 
 use byteorder::{ByteOrder, LittleEndian};
 
@@ -32,16 +32,6 @@ pub(crate) const SEND_REQUEST: u32 = 1;
 
 /// TP_STATUS_WRONG_FORMAT of `linux/if_packet.h`.
 pub(crate) const WRONG_FORMAT: u32 = 4;
-
-/// The number in the four bytes from a place.
-#[tactic(auto, unfolding(crate::specs::Slots::number_at))]
-pub(crate) fn read_u32(bytes: &[u8], at: usize) -> u32
-    requires { at + 4 ≤ length bytes.now }
-    ensures { result ≡ number_at at bytes.now }
-{
-    let (_, field) = bytes.split_at(at);
-    LittleEndian::read_u32(field)
-}
 
 /// Writes a number of four bytes at a place.
 pub(crate) fn write_u32(bytes: &mut [u8], at: usize, number: u32)

@@ -3,16 +3,18 @@ ghost use Rattle.std.specs.Prelude.{◌≡◌, ◌+◌, ◌-◌, ◌*◌, ◌^�
 ghost use Rattle.std.specs.Prelude.{replicate, set, take};
 ghost use Rattle.std.specs.Vec.{vec_capacity};
 ghost use Rattle.tx_ring.specs.Sends.{frame_of};
-ghost use Rattle.tx_ring.specs.Slots.{IsSlot, IsSound, SlotState, empty_slot, number_at, put_slot};
+ghost use Rattle.tp_layout.specs.Rows.{number_at};
+ghost use Rattle.tx_ring.specs.Slots.{IsSlot, IsSound, SlotState, empty_slot, put_slot};
 ghost use Rattle.tx_ring.specs.Slots.{slot_at, slot_in, slot_text};
 
 use crate::slot_fields::{
-    HEADER, LENGTH, NEXT_OFFSET, SNAPLEN, STATUS, read_u32, write_data, write_header, write_u32,
+    HEADER, LENGTH, NEXT_OFFSET, SNAPLEN, STATUS, write_data, write_header, write_u32,
 };
 use frame_view::Memory;
 use std::alloc::Global;
 use std::marker::Model;
 use tp_layout::Shape;
+use tp_layout::fields::u32_at;
 
 /// The slots of a ring. Contracts see a list of slots, each by its size, its status and what it
 /// asks for. A slot holds nothing else: after the bytes that were given there are zeros.
@@ -133,12 +135,12 @@ impl Slots {
     fn field(&self, at: usize, place: usize) -> u32
         requires within { at < length self.now }
         requires header { place + 4 ≤ 48 }
-        ensures value { result ≡ number_at place (slot_text (slot_at self.now at)) }
+        ensures value { result ≡ number_at 4 place (slot_text (slot_at self.now at)) }
         ensures sound { IsSound (slot_at self.now at) }
     {
         let size = self.shape.frame_size() as usize;
         if at < self.written {
-            read_u32(piece_of(self.bytes.as_slice(), at * size, size), place)
+            u32_at(piece_of(self.bytes.as_slice(), at * size, size), place)
         } else {
             0
         }
@@ -199,7 +201,7 @@ fn write_slot(
 {
     let (_, rest) = bytes.split_at_mut(from);
     let (slot, _) = rest.split_at_mut(size);
-    let earlier = read_u32(slot, SNAPLEN) as usize;
+    let earlier = u32_at(slot, SNAPLEN) as usize;
     let (header, data) = slot.split_at_mut(HEADER);
     write_header(header, next_offset, asked, given.len() as u32);
     write_data(data, given, earlier);

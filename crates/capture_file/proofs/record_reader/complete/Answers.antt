@@ -1,5 +1,6 @@
 use Rattle.std.proofs.Common.{◌≡◌, ap, ◌∙◌, arith}
-use Rattle.capture_file.specs.Pcap.{number_at, captured}
+use Rattle.pcapng_blocks.specs.Numbers.{number_at}
+use Rattle.capture_file.specs.Pcap.{captured}
 use Rattle.capture_file.proofs.Steps.{completes_header, completes_oversized, completes_record_if}
 use Rattle.capture_file.proofs.record_reader.complete.Goals as goal
 

@@ -1,6 +1,7 @@
 use Rattle.std.proofs.Common.{◌≡◌, ◌+◌, ◌-◌, ◌≤◌, ℕ, List, length, drop, replicate, take, refl, sym, subst, ap, ◌∙◌, arith}
 use Rattle.std.proofs.lemmas.List.{drop-drop}
-use Rattle.tx_ring.specs.Slots.{IsSlot, header_text, number_at, slot_text}
+use Rattle.tp_layout.specs.Rows.{number_at}
+use Rattle.tx_ring.specs.Slots.{IsSlot, header_text, slot_text}
 use Rattle.tx_ring.proofs.Texts.{zeros_after}
 use Rattle.tx_ring.proofs.slots.write_slot.Goals as goal
 
@@ -11,7 +12,7 @@ write_data-requires-clause-within c =
     let after = zeros_after c.split_at_mut-slot.result.0.now (subst IsSlot (sym held) c.requires.slot) in
     let slot_size = c.split_at_mut-slot.ensures.front_len in
     let data_size = c.split_at_mut-header.ensures.back_len in
-    omega (arith, after.0, slot_size, data_size, c.read_u32-earlier.ensures)
+    omega (arith, after.0, slot_size, data_size, c.u32_at-earlier.ensures)
 
 pub write_data-requires-clause-zeros : goal.write_data-requires-clause-zeros
 write_data-requires-clause-zeros c =
@@ -21,8 +22,8 @@ write_data-requires-clause-zeros c =
     let after = zeros_after slot (subst IsSlot (sym held) c.requires.slot) in
     let slot_size = c.split_at_mut-slot.ensures.front_len in
     let data_size = c.split_at_mut-header.ensures.back_len in
-    let left : length slot - (48 + number_at 12 slot) ≡ length c.split_at_mut-header.result.1.now - number_at 12 slot = omega (arith, slot_size, data_size) in
-    rw (c.read_u32-earlier.ensures, c.split_at_mut-header.ensures.back) (after.1 ∙ ap (λ (n : ℕ). replicate {A = ℕ} n 0) (left ∙ ap (λ (bytes : List ℕ). length bytes - number_at 12 slot) c.split_at_mut-header.ensures.back))
+    let left : length slot - (48 + number_at 4 12 slot) ≡ length c.split_at_mut-header.result.1.now - number_at 4 12 slot = omega (arith, slot_size, data_size) in
+    rw (c.u32_at-earlier.ensures, c.split_at_mut-header.ensures.back) (after.1 ∙ ap (λ (n : ℕ). replicate {A = ℕ} n 0) (left ∙ ap (λ (bytes : List ℕ). length bytes - number_at 4 12 slot) c.split_at_mut-header.ensures.back))
 
 pub returns : goal.returns
 unfolding slot_text header_text

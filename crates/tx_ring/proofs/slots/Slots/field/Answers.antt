@@ -1,6 +1,7 @@
 use Rattle.std.proofs.Common.{◌≡◌, ◌*◌, ◌<◌, List, ℕ, length, take, drop, ap, subst, ◌∙◌, arith}
 use Rattle.std.specs.Vec.{vec_capacity}
-use Rattle.tx_ring.specs.Slots.{IsSound, SlotState, number_at, slot_at, slot_text}
+use Rattle.tp_layout.specs.Rows.{number_at}
+use Rattle.tx_ring.specs.Slots.{IsSound, SlotState, slot_at, slot_text}
 use Rattle.tx_ring.proofs.Pieces.{each_sound, less_of, places_fit, shown, unwritten_number, within_bytes}
 use Rattle.tx_ring.proofs.slots.Slots.field.Goals as goal
 
@@ -25,9 +26,9 @@ returns-then-at-self-clause-value c =
     let there : c.piece_of.result.now ≡ take inside.shape.frame_size (drop (c.args.at * inside.shape.frame_size) inside.bytes.items) =
     c.piece_of.ensures ∙ ap (λ (n : ℕ). take n (drop (c.args.at * n) c.as_slice.result.now)) size
     ∙ ap (λ (bytes : List ℕ). take inside.shape.frame_size (drop (c.args.at * inside.shape.frame_size) bytes)) c.as_slice.ensures.value in
-    c.read_u32.ensures
-    ∙ ap (number_at c.args.place) (there ∙ shown inside.shape.frame_size inside.shape.frame_nr inside.written c.args.at (vec_capacity inside.bytes) inside.bytes.items c.self.invariant (omega arith))
-    ∙ ap (λ (slots : List SlotState). number_at c.args.place (slot_text (slot_at slots c.args.at))) c.self.view_is
+    c.u32_at.ensures
+    ∙ ap (number_at 4 c.args.place) (there ∙ shown inside.shape.frame_size inside.shape.frame_nr inside.written c.args.at (vec_capacity inside.bytes) inside.bytes.items c.self.invariant (omega arith))
+    ∙ ap (λ (slots : List SlotState). number_at 4 c.args.place (slot_text (slot_at slots c.args.at))) c.self.view_is
 
 pub returns-then-at-self-clause-sound : goal.returns-then-at-self-clause-sound
 returns-then-at-self-clause-sound c =
@@ -42,7 +43,7 @@ returns-else-at-self-clause-value c =
     let inside = c.self.inside in
     let less = less_of inside.shape.frame_size inside.shape.frame_nr inside.written c.args.at inside.bytes.items c.args.self.now c.self.invariant.few c.self.view_is c.requires.within in
     unwritten_number inside.shape.frame_size inside.shape.frame_nr inside.written c.args.at (vec_capacity inside.bytes) c.args.place inside.bytes.items c.self.invariant (omega arith) less c.requires.header
-    ∙ ap (λ (slots : List SlotState). number_at c.args.place (slot_text (slot_at slots c.args.at))) c.self.view_is
+    ∙ ap (λ (slots : List SlotState). number_at 4 c.args.place (slot_text (slot_at slots c.args.at))) c.self.view_is
 
 pub returns-else-at-self-clause-sound : goal.returns-else-at-self-clause-sound
 returns-else-at-self-clause-sound c =

@@ -1,5 +1,6 @@
 use Rattle.std.proofs.Common.{ap, ◌∙◌}
-use Rattle.tx_ring.specs.Slots.{SlotState, number_at, slot_at}
+use Rattle.tp_layout.specs.Rows.{number_at}
+use Rattle.tx_ring.specs.Slots.{SlotState, slot_at}
 use Rattle.tx_ring.proofs.Texts.{told}
 use Rattle.tx_ring.proofs.slots.Slots.next_offset.Goals as goal
 
