@@ -100,6 +100,7 @@ impl<E: FeederEnd<Block> + Drop> Machine<E> {
 
     /// Puts a packet: reports that no next block was needed, or what the look at it found. If it
     /// was held the packet is dropped, and the ring is frozen.
+    #[inline(always)]
     pub(crate) fn put(&mut self, offer: &Offer) -> Found
         ghost state: { State }
         requires at { IsAt E.feed 0 state self.old }

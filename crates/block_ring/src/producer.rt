@@ -105,6 +105,7 @@ impl<E: FeederEnd<Block> + Drop> Producer<E> {
     /// Keeps a packet, or drops it if there is no room for it in the open block and the next block
     /// is still the reader's; an open block is then retired, and the ring is frozen. The offer
     /// keeps at least one byte of what was captured, no more than fits into a block, and is sound.
+    #[inline(always)]
     pub fn put(&mut self, offer: Offer) -> Result<Put, Unput>
         requires room { 82 + offer.snap ≤ room_of self.old.shape }
         requires sound { IsWritable offer }

@@ -45,6 +45,7 @@ const HEADERS: u32 = 82;
 impl ArrivalRules<'_> {
     /// Judges an arrival of the CPU, with its ticket if it drew one: its flow hash, then the
     /// filter's verdict on it, then the offer that it makes. It takes no memory.
+    #[inline(always)]
     pub fn judge(&self, alloc: Global, arrival: Frame, ticket: Option<u64>) -> Judged
         requires arrival { IsArrival arrival }
         requires room { 82 < self.now.room }
@@ -69,6 +70,7 @@ impl ArrivalRules<'_> {
     }
 
     /// The flow hash of an arrival, 0 without a key.
+    #[inline(always)]
     fn hash(&self, arrival: &Frame) -> u32
         ensures { result ≡ hash_by (option_copied self.now.key) arrival.now }
     {
@@ -79,6 +81,7 @@ impl ArrivalRules<'_> {
     }
 
     /// How many bytes of an arrival the filter keeps.
+    #[inline(always)]
     fn verdict(&self, arrival: &Frame, pkttype: u8, hash: u32) -> u32
         requires no_runt { 14 ≤ length arrival.now.bytes }
         requires pkttype { pkttype ≡ packet_type_of arrival.now.bytes self.now.own }
@@ -100,6 +103,7 @@ impl ArrivalRules<'_> {
 
     /// What an arrival offers to a member: as many bytes as the least of its captured length, its
     /// verdict, and what a block has room for. Nothing if its verdict is 0.
+    #[inline(always)]
     fn offer(&self, arrival: Frame, pkttype: u8, hash: u32, verdict: u32) -> Option<Offer>
         requires arrival { IsArrival arrival }
         requires room { 82 < self.now.room }

@@ -113,6 +113,7 @@ impl TryList {
 
     /// Gives an offer to a member of a desk, which keeps it or drops it. Memory for the try is
     /// reserved first.
+    #[inline(always)]
     pub(crate) fn put_at<D: Desk>(
         &mut self,
         desk: &mut D,

@@ -73,6 +73,7 @@ impl<R: ReceiveRing, K: Setting> Member<R, K> {
 
     /// Keeps a packet, or drops it if there is no room. After `Unput` the ring is as before, and
     /// the offer comes back.
+    #[inline(always)]
     pub(crate) fn put(&mut self, offer: Offer) -> Result<Put, Unput>
         requires takes { Takes offer self.old }
         requires few { length self.old.notes < 2 ^ 39 }

@@ -45,6 +45,7 @@ impl<R: ReceiveRing, K: Setting> Desk for RingGroup<R, K> {
         self.members[member as usize].try_put(offer)
     }
 
+    #[inline(always)]
     fn put(&mut self, member: u32, offer: Offer) -> Result<Put, Unput> {
         self.members[member as usize].put(offer)
     }
