@@ -26,16 +26,16 @@ import threading
 import time
 from collections.abc import Iterator
 
-from inputs import EACH, MIB, RINGS, SHARED, make_small_flows, write_setup
+from inputs import EACH, HASH, MIB, ONE, RINGS, SHARED, make_small_flows, write_setup
 from measurements import COMMANDS, PROGRAM, TOP, WORK, Asked, Words, remove_outputs
 
 LIMIT = 20
 MOST = 5
 # The name, the number of CPUs and the group of each row.
 ROWS = [
-    ("8 CPUs, one member", 8, ""),
-    ("4 CPUs, one member", 4, ""),
-    ("4 CPUs, four members by hash", 4, SHARED["hash of four"](4)),
+    ("8 CPUs, one member", 8, SHARED[ONE](8)),
+    ("4 CPUs, one member", 4, SHARED[ONE](4)),
+    ("4 CPUs, four members by hash", 4, SHARED[HASH](4)),
     ("4 CPUs, a member each", 4, SHARED[EACH](4)),
 ]
 

@@ -39,16 +39,18 @@ GROUPS = {
     "defrag": f"members 4\nmode hash\nkey {KEY}\nflag defrag\n",
 }
 # The groups of captures on threads, by the number of CPUs.
-EACH = "a member each"
+HASH, LB, EACH, ONE = "hash of four", "lb of four", "a member each", "one member"
 SHARED: dict[str, Callable[[int], str]] = {
-    "hash of four": lambda cpus: f"members 4\nmode hash\nkey {KEY}\n",
-    "lb of four": lambda cpus: "members 4\nmode lb\n",
+    HASH: lambda cpus: f"members 4\nmode hash\nkey {KEY}\n",
+    LB: lambda cpus: "members 4\nmode lb\n",
     EACH: lambda cpus: f"members {cpus}\nmode cpu\n",
+    ONE: lambda cpus: "",
 }
 # What is compared with the program in C: the lengths of the frames or the kind of the flows, what the
 # group is, and the words of that program.
+SMALL = "60 bytes"
 CASES: dict[str, tuple[str | list[int], str, Words]] = {
-    "60 bytes": (FRAMES["60"], "", []),
+    SMALL: (FRAMES["60"], "", []),
     "60, 590 and 1514 bytes": (FRAMES["mixed"], "", []),
     "1514 bytes": (FRAMES["1514"], "", []),
     "hash of four, 60 bytes": ("small", f"members 4\nmode hash\nkey {KEY}\nfeatures 1\n", ["4", "key", KEY]),

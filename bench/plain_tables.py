@@ -9,7 +9,8 @@ import subprocess
 import sys
 from typing import NamedTuple
 
-from inputs import CASES, EACH, MAKERS, MIB, PASSES_LARGE, RINGS, SHARED, SMALL_BLOCKS, Ring, make_case, write_setup
+from bounds import CASES_NEAR_C, INSTRUCTIONS, NEAR_C, Figures, memory_of, time_of
+from inputs import CASES, EACH, MAKERS, MIB, PASSES_LARGE, RINGS, SHARED, SMALL, SMALL_BLOCKS, Ring, make_case, write_setup
 from measurements import COMMANDS, TOP, WORK, Asked, Words, faults_of, instructions_of, measure
 
 
@@ -70,12 +71,24 @@ def row_beside_plain(program: str, plain: str, case: str, asked: Asked) -> Row:
     return Row(count, times, list(faults), [size / MIB for size in memory], instructions)
 
 
-def times_of_plain(program: str, asked: Asked) -> None:
-    """Prints the tables of the program in C, without records and with them, and how many times its time each case takes."""
+def figures_of(rows: dict[str, Row]) -> Figures:
+    """What has bounds of the cases."""
+    to_bare = sorted(row.times[0] / row.times[1] for row in rows.values())
+    found = {NEAR_C: to_bare[CASES_NEAR_C - 1]}
+    for case, row in rows.items():
+        found[time_of(case)] = row.times[0] / row.times[2]
+        found[memory_of(case)] = row.memory[0] / row.memory[2]
+    number = rows[SMALL].instructions[0]
+    return {**found, INSTRUCTIONS: number} if number else found
+
+
+def times_of_plain(program: str, asked: Asked) -> Figures:
+    """Prints the tables of the program in C, without records and with them, and how many times its time each case takes. What has bounds
+    is given back, nothing where there is no C compiler."""
     print("\n## Beside a plain C program\n")
     plain = built_plain()
     if not plain:
-        return
+        return {}
     with open("large.ddd", "w", encoding="ascii") as file:
         file.write(PASSES_LARGE)
     rows = {case: row_beside_plain(program, plain, case, asked) for case in CASES}
@@ -88,6 +101,7 @@ def times_of_plain(program: str, asked: Asked) -> None:
     for case, (_, _, *counts) in rows.items():
         numbers = [f"{number:,.0f}" if number else "-" for count in counts for number in count]
         print(f"| {case} | " + " | ".join(numbers) + " |", flush=True)
+    return figures_of(rows)
 
 
 def times_of_plain_threads(program: str, asked: Asked) -> None:

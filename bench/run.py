@@ -14,12 +14,13 @@ must print the same. With --threads the captures on threads, the forwards and th
 written into bench/results too, with date, commit and machine, but with --no-results.
 
 The tables are in replay_tables.py, thread_tables.py, plain_tables.py and settings_table.py, the captures and setups in inputs.py,
-and what is taken of a run in measurements.py.
+what is taken of a run in measurements.py, and what figures may be in bounds.py.
 
-The captures on threads have 1, 2, 4 and 8 CPUs with 4 MiB each. Of each row all times are taken by turns with a replay whose schedule is
-empty; the least and the middle one are printed, since with threads they lie apart, and the fewest and the most drops. Only rings that
-keep all frames can be compared in time: a frame that is dropped costs less than one that is kept. A table before them has how long one to
-four replays of one CPU take at the same time, each a process of its own: the processors of a virtual machine may share what they stand on.
+The captures on threads have 1, 2, 4 and 8 CPUs with 4 MiB each, and on one member 8. Of each row all times are taken by turns with a
+replay whose schedule is empty; the least and the middle one are printed, since with threads they lie apart, and the fewest and the most
+drops. Only rings that keep all frames can be compared in time: a frame that is dropped costs less than one that is kept. A table before
+them has how long one to four replays of one CPU take at the same time, each a process of its own: the processors of a virtual machine may
+share what they stand on.
 
 Where there is a C compiler, seven replays of 32 MiB are run by turns with bench/plain_ring.c, which does the same with arrays, once without
 notes and once with what a replay's report holds of each frame. All must save the same files. Page faults are those of one run; instructions
@@ -34,8 +35,11 @@ it would take the time too that the system needs to empty them.
 
 It ends with status 1 where a run fails, where CPU time or memory grows by more than 2.2 times from 16 to 32 MiB or from 10,000
 to 20,000 made frames, where memory grows by more than 256 bytes for each frame that a filter refuses, where an instruction of a filter
-takes more than 1.5 times what it takes of libpcap (bench/filters.py), or where a capture on threads that keeps all frames, with a member for
-each CPU, takes more than 2.5 times the CPU time of the replay.
+takes more than 1.5 times what it takes of libpcap (bench/filters.py), where a capture on threads that keeps all frames, with a member for
+each CPU, takes more than 2.5 times the CPU time of the replay, or where a figure passes its bound in bench/bounds.py by more than a tenth.
+The bounds are of the seven replays beside C, their time, memory and instructions, and of captures on threads of small frames beside replays.
+The last table has each of them with what was measured, and below it stand those that fail; what there is no compiler or no valgrind for
+isn't measured and fails nothing. With --threads the bounds of captures on threads alone are tested, with --beside none.
 """
 from __future__ import annotations
 
@@ -51,6 +55,7 @@ from collections.abc import Iterator
 from typing import TextIO
 
 import filters
+from bounds import BESIDE_C, ON_THREADS, Figures, passes_bounds
 from measurements import PROGRAM, TOP, WORK, Asked
 from plain_tables import times_of_plain, times_of_plain_threads
 from replay_tables import (
@@ -58,7 +63,9 @@ from replay_tables import (
     times_of_sent, times_of_slots,
 )
 from settings_table import times_of_settings
-from thread_tables import times_of_forwards, times_of_pools, times_of_processes, times_of_threads
+from thread_tables import (
+    figures_of_threads, takes_too_much, times_of_forwards, times_of_pools, times_of_processes, times_of_threads,
+)
 
 RESULTS = os.path.join(TOP, "bench", "results")
 
@@ -120,36 +127,38 @@ def copied(asked: Asked) -> Iterator[None]:
             yield
 
 
-def all_times_on_threads(program: str, asked: Asked) -> bool:
-    """Prints the tables of captures on threads and of what stands beside them, and gives whether one takes too much CPU time."""
+def all_times_on_threads(program: str, asked: Asked) -> tuple[bool, Figures]:
+    """Prints the tables of captures on threads and of what stands beside them. Gives whether one takes too much CPU time, and what has bounds."""
     times_of_processes(program, asked)
     times_of_plain_threads(program, asked)
-    too_much = times_of_threads(program, asked)
+    rows = times_of_threads(program, asked)
     times_of_forwards(program, asked)
     times_of_pools(program, asked)
-    return too_much
+    return takes_too_much(rows), figures_of_threads(rows)
 
 
-def all_times(program: str, asked: Asked) -> bool:
-    """Prints all tables, and gives whether something takes or grows too much."""
+def all_times(program: str, asked: Asked) -> tuple[bool, Figures]:
+    """Prints all tables. Gives whether something takes or grows too much, and what has bounds."""
     found = times_of_replays(program, asked)
     times_of_blocks(program, asked)
     for times in (times_of_groups, times_of_made, times_of_sent, times_of_slots):
         found.update(times(program, asked))
-    too_much = all_times_on_threads(program, asked)
-    times_of_plain(program, asked)
+    too_much, figures = all_times_on_threads(program, asked)
+    figures.update(times_of_plain(program, asked))
     times_of_settings(program, asked)
     is_large = memory_of_refused(program, asked)
     is_dear = filters.costs_of_filters()
-    return grows(found) or is_large or is_dear or too_much
+    return grows(found) or is_large or is_dear or too_much, figures
 
 
 def tables_of(asked: Asked) -> bool:
-    """Prints the tables that are asked for, and gives whether something takes or grows too much."""
+    """Prints the tables that are asked for, and gives whether something takes or grows too much, or passes its bound."""
     if asked.beside:
         times_beside(asked.program, asked.beside, asked)
         return False
-    return all_times_on_threads(asked.program, asked) if asked.threads else all_times(asked.program, asked)
+    times, bounds = (all_times_on_threads, ON_THREADS) if asked.threads else (all_times, {**BESIDE_C, **ON_THREADS})
+    too_much, figures = times(asked.program, asked)
+    return passes_bounds(bounds, figures) or too_much
 
 
 def main() -> None:

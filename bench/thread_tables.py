@@ -7,13 +7,45 @@ import statistics
 import subprocess
 import sys
 import time
-from collections.abc import Callable, Iterator
+from collections.abc import Iterator
+from typing import NamedTuple
 
-from inputs import EACH, MAKERS, RINGS, SHARED, SMALL_BLOCKS, Ring, write_setup
+from bounds import Figures, capture_of
+from inputs import EACH, MAKERS, ONE, RINGS, SHARED, SMALL_BLOCKS, Ring, write_setup
 from measurements import COMMANDS, Asked, Times, one_run, remove_outputs, total_of
 
 POOLS = (0, 1, 2, 4)
 MOST_CPU = 2.5
+CPUS = (1, 2, 4, 8)
+
+
+class Taken(NamedTuple):
+    """What some runs took, in seconds: the least time, the middle one, and the least CPU time."""
+
+    least: float
+    middle: float
+    cpu: float
+
+
+class Row(NamedTuple):
+    """A capture on threads and a replay of the same setup."""
+
+    group: str
+    kind: str  # the bytes of a frame
+    cpus: int
+    ring: str
+    replay: Taken
+    capture: Taken
+
+    @property
+    def keeps(self) -> bool:
+        """Whether the ring keeps all frames, so that times can be compared."""
+        return self.ring != "drops"
+
+
+def taken_by(times: Times) -> Taken:
+    least, cpu = map(min, zip(*times))
+    return Taken(least, statistics.median(taken for taken, _ in times), cpu)
 
 
 def times_of_row(
@@ -34,13 +66,13 @@ def times_of_row(
     return times[first], times[second], drops
 
 
-def rows_of_threads() -> Iterator[tuple[str, Ring, str, Callable[[int], str]]]:
-    """A ring's name and shape, and a group's name and what makes its lines, for each of the captures on threads."""
+def rows_of_threads() -> Iterator[tuple[str, Ring, str, int]]:
+    """A ring's name and shape, a group's name and a number of CPUs, for each of the captures on threads."""
     for ring, shape in RINGS.items():
-        for group, of in SHARED.items():
-            yield ring, shape, group, of
+        for group in SHARED:
+            yield from ((ring, shape, group, cpus) for cpus in CPUS if group != ONE or cpus == max(CPUS))
         if ring == "keeps":
-            yield "keeps, 64 KiB", SMALL_BLOCKS, EACH, SHARED[EACH]
+            yield from (("keeps, 64 KiB", SMALL_BLOCKS, EACH, cpus) for cpus in CPUS)
 
 
 def time_at_once(program: str, count: int) -> float:
@@ -70,31 +102,42 @@ def times_of_processes(program: str, asked: Asked) -> None:
         print(f"| {kind} | " + " | ".join(f"{taken:.3f}" for taken in times) + f" | {times[3] / 4 / times[0]:.2f} |", flush=True)
 
 
-def times_of_threads(program: str, asked: Asked) -> bool:
-    """Prints the tables of captures on threads, and gives whether one of them takes too much CPU time."""
+def cells_of(row: Row) -> list[str]:
+    """The times of a row, and how many times those of the replay the capture takes."""
+    cells = [f"{seconds:.3f}" for seconds in row.replay + row.capture]
+    return cells + [f"{new / old:.2f}" if row.keeps else "-" for old, new in zip(row.replay, row.capture)]
+
+
+def times_of_threads(program: str, asked: Asked) -> list[Row]:
+    """Prints the table of captures on threads, and gives its rows."""
     print("\n## Captures on threads\n")
     cores = len(os.sched_getaffinity(0)) if hasattr(os, "sched_getaffinity") else os.cpu_count()
     print(f"\n{cores} processors, load {os.getloadavg()[0]:.1f} before the captures on threads; a run has a thread for each CPU and each")
     print("member and one for the timer, so more than there are processors where CPUs and members together are as many or more.")
     print("\n| Group | Frames of | CPUs | Ring | Frames | Replay, s | middle | CPU | Capture, s | middle | CPU | Times | middle | CPU times | Drops |")
     print("|---|---|---|---|---|---|---|---|---|---|---|---|---|---|---|")
-    too_much = False
+    rows = []
     for kind, maker in MAKERS.items():
         each = maker()
-        for ring, shape, group, of in rows_of_threads():
-            for cpus in (1, 2, 4, 8):
-                write_setup("conf", shape, cpus, of(cpus))
-                old, new, drops = times_of_row(program, each * cpus, ring, asked, "replay", "capture")
-                (least, cpu), (least_new, cpu_new) = (map(min, zip(*times)) for times in (old, new))
-                middle, middle_new = (statistics.median(taken for taken, _ in times) for times in (old, new))
-                too_much = too_much or ring != "drops" and group == EACH and cpu_new > MOST_CPU * cpu
-                times = f"{least_new / least:.2f} | {middle_new / middle:.2f} | {cpu_new / cpu:.2f}" if ring != "drops" else "- | - | -"
-                print(
-                    f"| {group} | {kind} | {cpus} | {ring} | {each * cpus:,} | {least:.3f} | {middle:.3f} | {cpu:.3f} | {least_new:.3f}"
-                    f" | {middle_new:.3f} | {cpu_new:.3f} | {times} | {min(drops):,} to {max(drops):,} |",
-                    flush=True,
-                )
-    return too_much
+        for ring, shape, group, cpus in rows_of_threads():
+            write_setup("conf", shape, cpus, SHARED[group](cpus))
+            old, new, drops = times_of_row(program, each * cpus, ring, asked, "replay", "capture")
+            row = Row(group, kind, cpus, ring, taken_by(old), taken_by(new))
+            rows.append(row)
+            cells = [group, kind, str(cpus), ring, f"{each * cpus:,}", *cells_of(row), f"{min(drops):,} to {max(drops):,}"]
+            print(f"| {' | '.join(cells)} |", flush=True)
+    return rows
+
+
+def takes_too_much(rows: list[Row]) -> bool:
+    """Whether a capture that keeps all frames, with a member for each CPU, takes too much CPU time."""
+    return any(row.capture.cpu > MOST_CPU * row.replay.cpu for row in rows if row.keeps and row.group == EACH)
+
+
+def figures_of_threads(rows: list[Row]) -> Figures:
+    """How many times the middle replay the middle capture takes, where frames are small and all are kept."""
+    small = [row for row in rows if row.keeps and row.kind == "60"]
+    return {capture_of(row.group, row.cpus, row.ring): row.capture.middle / row.replay.middle for row in small}
 
 
 def times_of_forwards(program: str, asked: Asked) -> None:
@@ -107,13 +150,10 @@ def times_of_forwards(program: str, asked: Asked) -> None:
         for cpus in (1, 2, 4):
             write_setup("conf", RINGS["keeps"], cpus, SHARED[EACH](cpus))
             old, new, _ = times_of_row(program, each * cpus, "keeps", asked, "capture", "forward")
-            (least, cpu), (least_new, cpu_new) = (map(min, zip(*times)) for times in (old, new))
-            middle, middle_new = (statistics.median(taken for taken, _ in times) for times in (old, new))
-            print(
-                f"| {kind} | {cpus} | {each * cpus:,} | {least:.3f} | {middle:.3f} | {cpu:.3f} | {least_new:.3f} | {middle_new:.3f}"
-                f" | {cpu_new:.3f} | {middle_new / middle:.2f} | {cpu_new / cpu:.2f} |",
-                flush=True,
-            )
+            capture, forward = taken_by(old), taken_by(new)
+            cells = [kind, str(cpus), f"{each * cpus:,}", *(f"{seconds:.3f}" for seconds in capture + forward)]
+            cells += [f"{forward.middle / capture.middle:.2f}", f"{forward.cpu / capture.cpu:.2f}"]
+            print(f"| {' | '.join(cells)} |", flush=True)
 
 
 def runs_with_pools(program: str, count: int, ring: str, asked: Asked) -> dict[int, list[tuple[float, float, int]]]:
