@@ -1,19 +1,22 @@
 """The table of runs for which the C library is told something by a word of the environment."""
 from __future__ import annotations
 
+import sys
+from pathlib import Path
+
 from inputs import EACH, FRAMES, MAKERS, MIB, RINGS, SHARED, SMALL_BLOCKS, make_capture, write_setup
 from measurements import COMMANDS, Asked, Times, Words, faults_of, measure
 
-# What the C library can be told by a word of the environment: to grow its heap by 16 MiB at a time and to keep there what is given back, but
-# for pieces of 4 MiB and more; and to ask the system for large pages.
-KEPT = "glibc.malloc.top_pad=16777216:glibc.malloc.mmap_threshold=4194304:glibc.malloc.trim_threshold=268435456"
-LARGE = "glibc.malloc.hugetlb=1"
-SETTINGS: dict[str, Words] = {"as it is": [], "large pages": [LARGE], "kept heap": [KEPT], "both": [LARGE, KEPT]}
+sys.path.append(str(Path(__file__).resolve().parent.parent / "tools"))
+
+from ringtap_memory import KEPT_HEAP, LARGE_PAGES, TOLD  # noqa: E402
+
+SETTINGS: dict[str, Words] = {"as it is": [], "large pages": [LARGE_PAGES], "kept heap": [KEPT_HEAP], "both": [LARGE_PAGES, KEPT_HEAP]}
 
 
 def row_of_settings(name: str, words: Words, asked: Asked) -> None:
     """Prints what a run takes under each setting of the C library, by turns."""
-    runs = {setting: ["env", *(["GLIBC_TUNABLES=" + ":".join(told)] if told else []), *words] for setting, told in SETTINGS.items()}
+    runs = {setting: ["env", *([f"{TOLD}=" + ":".join(told)] if told else []), *words] for setting, told in SETTINGS.items()}
     times: dict[str, Times] = {setting: [] for setting in runs}
     for _ in range(asked.runs):
         for setting, one in runs.items():

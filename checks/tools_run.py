@@ -19,8 +19,10 @@ from pathlib import Path
 import tool_modules  # noqa: F401
 
 import ringtap_refusals as refusals
+import runs
 from capture_bytes import header, record
 from hash_values import KEY
+from ringtap_memory import KEPT_HEAP, LARGE_PAGES, TOLD
 from tool_comparisons import (
     BLOCK, TOP, Answer, answer, capture, expect, frame, main, program, room, saved, text, with_program,
 )
@@ -83,6 +85,50 @@ def test_clash() -> None:
     said = "run.py: alias.txt: the output alias.0.pcap would take the place of the input in.0.pcap: choose another `out`\n"
     expect("a link", run("replay", setup, "none.sched", "--here"), ("", said, 125))
     expect("the input stays", (room / "in.0.pcap").read_bytes() == before, True)
+
+
+def told(given: str | None, name: str, *words: object) -> tuple[list[str], str]:
+    """What the runs of a tool have in the word of the environment where the user has given it a value, and what the tool prints."""
+    telling = room / "telling"
+    telling.write_text(f'#!/bin/sh\necho "${TOLD}" >>{room}/told.txt\nexec {program} "$@"\n')
+    telling.chmod(0o755)
+    (room / "told.txt").write_text("")
+    environment = {word: value for word, value in os.environ.items() if word != TOLD} | ({} if given is None else {TOLD: given})
+    command = [sys.executable, "-B", TOP / "tools" / name, *words, "--program", telling]
+    done, why = runs.run(command, cwd=room, env=environment, text=True)
+    return sorted(set((room / "told.txt").read_text().splitlines())), done.stdout if done else why
+
+
+def test_memory() -> None:
+    """What the C library is told: for replays of 1 MiB and more whose rings have at most twice as many bytes to use large pages and to keep
+    its heap, for captures on threads of frames of 512 bytes and more to keep its heap, and what the user has told it in any case. Printed
+    and saved is the same."""
+    wide = [(number, frame(number, 512)) for number in range(2000)]  # of 528 bytes with their headers, so 1,056,024 with that of the file
+    capture("wide.pcap", wide)
+    capture("less.pcap", wide[:1980])  # 1,045,464 bytes
+    capture("thin.pcap", [(number, frame(number, 511)) for number in range(2000)])
+    for name in ("wide", "less", "thin"):
+        text(f"{name}.txt", BLOCK + f"cpu {name}.pcap\n")
+    ring = "block_size 65536\nframe_size 2048\nblock_nr {}\nframe_nr {}\ncpu wide.pcap\nmembers {}\nmode lb\n"
+    text("enough.txt", ring.format(16, 512, 2))  # 2,097,152 bytes, and 2,112,048 are twice those of the capture
+    text("too_large.txt", ring.format(17, 544, 2))
+    text("gone.txt", BLOCK + "cpu gone.pcap\n")
+    text("pair.txt", BLOCK + "cpu less.pcap\ncpu less.pcap\n")
+    both = f"{LARGE_PAGES}:{KEPT_HEAP}"
+    rows = [("replay", "wide", both), ("replay2", "wide", both), ("replay", "less", ""), ("replay", "pair", both), ("replay", "thin", both),
+            ("replay", "enough", both), ("replay", "too_large", ""), ("replay", "gone", ""), ("capture", "wide", KEPT_HEAP),
+            ("forward", "wide", KEPT_HEAP), ("capture", "thin", ""), ("capture", "less", ""), ("send", "wide", ""), ("check", "wide", "")]
+    for command, name, wanted in rows:
+        words = [command, f"{name}.txt", *["none.sched"] * command.startswith("replay"), "--here"]
+        expect(f"{command} {name}: what the C library is told", told(None, "run.py", *words)[0], [wanted])
+    for given in ("", "glibc.malloc.hugetlb=0"):
+        expect(f"by the user: {given!r}", told(given, "run.py", "replay", "wide.txt", "none.sched", "--here")[0], [given])
+    alone, kept = told("", "run.py", "replay", "enough.txt", "none.sched", "--here")[1], (room / "out.0.pcap").read_bytes()
+    expect("printed", told(None, "run.py", "replay", "enough.txt", "none.sched", "--here")[1], alone)
+    expect("saved", (room / "out.0.pcap").read_bytes() == kept, True)
+    for name, wanted in (("wide", both), ("less", "")):
+        given, printed = told(None, "ring_size.py", f"{name}.txt", "--block-nr", "2", "--phases", "2")
+        expect(f"ring_size.py {name}", (given, printed), ([wanted], told("", "ring_size.py", f"{name}.txt", "--block-nr", "2", "--phases", "2")[1]))
 
 
 # Lines after SETUP, the line that is wrong, and what is said of it.

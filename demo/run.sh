@@ -4,7 +4,8 @@
 # and three members, a filter and a dump; make, whose frames are made from a number; send, a capture that is sent through a
 # transmit ring; or capture, two CPUs that are fed on threads.
 #
-# Where demo/build.sh has built the program, that runs. Else `rt try` compiles it unproved, which takes about a minute.
+# Where demo/build.sh has built the program, that runs. Else `rt try` compiles it unproved, which takes about a minute. The C library is told
+# nothing of large pages, by which tools/run.py makes runs of large captures faster: on captures as small as these a run would take longer.
 set -eu
 cd "$(dirname "$0")/.."
 name=${1:-setup}

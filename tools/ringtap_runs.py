@@ -2,6 +2,7 @@
 from __future__ import annotations
 
 import argparse
+import itertools
 import os
 import re
 import subprocess
@@ -11,12 +12,18 @@ from dataclasses import dataclass, field
 from pathlib import Path
 
 from ringtap_captures import CaptureStream, copy_unpacked, is_plain
-from ringtap_files import AT_SIGNAL, LARGEST_TEXT, Fault, Setup
+from ringtap_files import AT_SIGNAL, LARGEST_TEXT, MOST_MEMBERS, Fault, Setup, read_setup
+from ringtap_memory import KEPT_HEAP, LARGE_PAGES, TOLD
 from ringtap_outputs import write_text
 
 HERE = Path(__file__).resolve().parent
 LINK = HERE.parent / "bin" / "ringtap"  # demo/build.sh makes it
 INSTALLED = HERE.parent.parent / "bin" / "ringtap"  # where install.sh puts it, the tools being in lib/ringtap
+
+# Where a run takes less time if the C library is told how to get memory: captures of so many bytes together; for large pages, with which
+# all of a ring is touched at once, rings of at most so many times these bytes; for the heaps of threads, frames of so many bytes.
+LEAST_CAPTURES, MOST_RING, LARGE_FRAME = 1_048_576, 2, 512
+FIRST_FRAMES = 100  # so many of each capture are looked at
 
 STATUSES = {
     0: "done",
@@ -31,7 +38,8 @@ STATUSES = {
 
 
 def add_program(parser: argparse.ArgumentParser) -> None:
-    parser.add_argument("--program", metavar="PATH", help="the ringtap to run (bin/ringtap, which demo/build.sh makes)")
+    told = f"of large captures with large pages, unless {TOLD} is set"
+    parser.add_argument("--program", metavar="PATH", help=f"the ringtap to run (bin/ringtap, which demo/build.sh makes), {told}")
 
 
 def program_of(path: str | None) -> Path:
@@ -46,6 +54,41 @@ def program_of(path: str | None) -> Path:
 def status_words(status: int) -> str:
     """What an exit status means. The program was stopped by a signal where it is negative."""
     return f"stopped by signal {-status}" if status < 0 else STATUSES.get(status, "no status of ringtap's")
+
+
+def environment_of(command: str, setup: Path, folder: Path = Path()) -> dict[str, str]:
+    """The environment of a run in a folder, in which the C library is told what makes such a run take less time. It is told nothing
+    where the user has told it something, or where the setup isn't one, which the program says itself."""
+    try:
+        told = [] if TOLD in os.environ else words_for(command, read_setup(setup), folder)
+    except (Fault, OSError):
+        told = []
+    return {**os.environ, TOLD: ":".join(told)} if told else dict(os.environ)
+
+
+def words_for(command: str, setup: Setup, folder: Path) -> list[str]:
+    """What the C library is told for a run. A capture that comes through a pipe doesn't count."""
+    captures = [path for name in setup.capture_paths() if (path := folder / name).is_file()]
+    size = sum(path.stat().st_size for path in captures)
+    if size < LEAST_CAPTURES:
+        return []
+    if command in ("replay", "replay2"):
+        return [LARGE_PAGES, KEPT_HEAP] if ring_bytes(setup) <= MOST_RING * size else []
+    if command in ("capture", "forward"):
+        return [KEPT_HEAP] if mean_length(captures) >= LARGE_FRAME else []
+    return []
+
+
+def ring_bytes(setup: Setup) -> int:
+    """The bytes of the blocks of all members."""
+    return setup.number("block_size") * setup.number("block_nr") * min(setup.number("members", 1), MOST_MEMBERS)
+
+
+def mean_length(captures: list[Path]) -> float:
+    """The mean length of the first frames of captures, as they were captured."""
+    frames = itertools.chain.from_iterable(itertools.islice(CaptureStream(path, None), FIRST_FRAMES) for path in captures)
+    lengths = [len(frame.data) for frame in frames]
+    return sum(lengths) / max(len(lengths), 1)
 
 
 @dataclass(frozen=True)
@@ -180,7 +223,8 @@ class Room:
 
     def replay(self, setup: str, schedule: str, command: str = "replay") -> Report:
         """Makes a run, and returns what it printed. A capture with damage is no fault: it is run up to there."""
-        done = run_program(self.program, [command, setup, schedule], self.folder)
+        told = environment_of(command, self.folder / setup, self.folder)
+        done = run_program(self.program, [command, setup, schedule], self.folder, told)
         if done.returncode not in (0, 4):
             said = done.stdout.strip() or "it printed nothing"
             where = self.texts.get(said.split()[0], self.setup.path)
@@ -188,11 +232,12 @@ class Room:
         return report_of(done.stdout)
 
 
-def run_program(program: Path, words: list[str], folder: Path | None = None) -> subprocess.CompletedProcess:
+def run_program(program: Path, words: list[str], folder: Path, environment: dict[str, str]) -> subprocess.CompletedProcess:
     """Runs the program to its end, and keeps what it printed."""
     pipe = subprocess.PIPE
+    how = {"cwd": folder, "env": environment, "stdout": pipe, "stderr": pipe}
     try:
-        run = subprocess.Popen([program, *words], cwd=folder, stdout=pipe, stderr=pipe, text=True, encoding="utf-8", errors="replace")
+        run = subprocess.Popen([program, *words], **how, text=True, encoding="utf-8", errors="replace")
     except OSError as error:
         raise Fault(f"{program}: can't be started: {error.strerror}") from None
     RUNNING.add(run)

@@ -22,7 +22,7 @@ from ringtap_files import LARGEST_NAME, LARGEST_TEXT, Fault, Setup, output_names
 from ringtap_kinds import explain_end, why_of
 from ringtap_outputs import is_device, is_same, named_by, write_bytes, write_text
 from ringtap_refusals import Place, all_filtered, explain, meant, read_lines, refusal_of
-from ringtap_runs import Report, add_program, program_of, report_of, status_words
+from ringtap_runs import Report, add_program, environment_of, program_of, report_of, status_words
 from ringtap_words import ToolParser, add_json, print_json
 
 LINES, SETUP = "lines.txt", "setup.txt"
@@ -157,8 +157,9 @@ def clear(folder: Path) -> None:
 
 
 def run(program: Path, words: list[str]) -> Done:
+    told = environment_of(words[0], Path(words[1]))
     try:
-        done = subprocess.run([program, *words], capture_output=True, close_fds=False)  # a name may be /dev/fd/63, as of <(..)
+        done = subprocess.run([program, *words], capture_output=True, env=told, close_fds=False)  # a name may be /dev/fd/63, as of <(..)
     except OSError as error:
         raise Fault(f"{program}: can't be started: {error.strerror}") from None
     return Done(done.returncode, done.stdout, done.stderr)
