@@ -9,8 +9,8 @@ is compared with that of a plain form of the same command, a capture of SIZE byt
 instructions as valgrind counts them, and the largest resident size of a run of LARGE bytes. A ring that differs in the size of its blocks or slots alone is compared with one of
 the same command. On threads valgrind counts how long threads wait, so there the middle of three user times is compared.
 
-A form may take at most DEARER times the instructions and the memory of the plain one, where it says no other limit, and one of sizes
-at most ALIKE times. Where a form has the program fill memory with zeros its time is compared, since valgrind counts a fill by the byte.
+A form may take at most DEARER times the instructions and the memory of the plain one, where it says no other limit, one of sizes at
+most ALIKE times, and one that can't share memory as the plain one does at most UNSHARED times. Where a form has the program fill memory with zeros its time is compared, since valgrind counts a fill by the byte.
 --table prints the ratios as a table.
 """
 from __future__ import annotations
@@ -36,6 +36,8 @@ from second_program import save
 SIZE, LARGE = 1 << 20, 8 << 20
 # How many times the cost of the plain form one may take, of another input and of another size of a ring alone.
 DEARER, ALIKE = 3.0, 1.5
+# Of a form whose frames can't share memory with others, as those of a plain capture do, and of one that keeps a note for each try alone.
+UNSHARED = 4.0
 # Below these costs a difference is that of starting a process: MiB, and seconds.
 FEW_MIB, FEW_SECONDS = 24, 0.15
 
@@ -127,14 +129,15 @@ FORMS: dict[str, Form] = {
     "records without a byte": Form(capture_of(lambda at: b""), commands=ALL),
     "runts": Form(capture_of(lambda at: frame(13)), commands=ALL),
     "frames of 14 bytes": Form(capture_of(lambda at: frame(14)), commands=ALL),
-    "a VLAN tag in every frame": Form(capture_of(lambda at: frame(18, TAG)), commands=ALL),
+    "a VLAN tag in every frame": Form(capture_of(lambda at: frame(18, TAG)), commands=tuple(command for command in ALL if command != "send")),
+    "a VLAN tag in every frame that is sent": Form(capture_of(lambda at: frame(18, TAG)), limit=UNSHARED, commands=("send",)),
     "fragments in order": Form(capture_of(lambda at: lost_first(at, lambda place: place)), lines=DEFRAG),
     "fragments, the last first": Form(capture_of(lambda at: lost_first(at, lambda place: place - 1 if place else FULL_DATAGRAM - 1)), lines=DEFRAG),
     "fragments in reverse": Form(capture_of(lambda at: lost_first(at, lambda place: FULL_DATAGRAM - 1 - place)), lines=DEFRAG),
     "fragments by turned round digits": Form(capture_of(lambda at: lost_first(at, reversed_bits)), lines=DEFRAG),
     "copies of the last fragment": Form(capture_of(copies), lines=DEFRAG),
     "fragments that overlap": Form(capture_of(lambda at: fragment(at // 3, at % 3, True, bytes(16))), lines=DEFRAG),
-    "datagrams that never end": Form(capture_of(lambda at: fragment(at, 1, True, bytes(8))), lines=DEFRAG),
+    "datagrams that never end": Form(capture_of(lambda at: fragment(at, 1, True, bytes(8))), lines=DEFRAG, limit=UNSHARED),
     "a late fragment of each datagram": Form(capture_of(lambda at: fragment(at, FULL_DATAGRAM - 1, True, bytes(8))), lines=DEFRAG, timed=True),
     "pcapng: packets of 60 bytes": Form(blocks_of(enhanced(frame(60))), commands=("replay", "send")),
     "pcapng: packets without a byte": Form(blocks_of(enhanced(b"")), commands=("replay", "send")),
@@ -144,8 +147,10 @@ FORMS: dict[str, Form] = {
     "pcapng: interfaces": Form(blocks_of(interface("<"))),
     "pcapng: interfaces of 524,288 bytes": Form(blocks_of(block("<", INTERFACE, interface("<")[8:-4] + bytes(524_268)))),
     "pcapng: sections": Form(blocks_of(section("<"))),
-    # Each of the nine tries of a frame is a note of 96 bytes, as docs/reference.md tells.
-    "rollover over 8 full members": Form(capture_of(lambda at: frame(60)), ring=DROPS, lines="members 8\nmode rollover\n", commands=("replay", "replay2")),
+    # Each of the nine tries of a frame is a note of 104 bytes, as docs/reference.md tells.
+    "rollover over 8 full members": Form(
+        capture_of(lambda at: frame(60)), ring=DROPS, lines="members 8\nmode rollover\n", limit=UNSHARED, commands=("replay", "replay2")
+    ),
     "a schedule of feeds": Form(lines_of("sched", lambda at: "feed 0\n")),
     "a schedule of reads": Form(lines_of("sched", lambda at: "read 0\n")),
     "a schedule of statistics": Form(lines_of("sched", lambda at: "stats 0\n")),
