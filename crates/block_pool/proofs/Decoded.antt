@@ -10,8 +10,10 @@ use Rattle.cpu_feeders.proofs.OneMore.{zip_more}
 use Rattle.work_queue.specs.Passes.{PassValue, QueueValue, has_fetched}
 use Rattle.work_queue.specs.declared.works.Work.{Work}
 
-pub decoded_more : (dumps : Bool) (queue : QueueValue) (before after now : PoolWorker) (work : Work) (piece : Piece) → HasDecoded dumps queue before after → after.full ≡ false
-    → now.pass ≡ has_fetched after.pass work → now.fetches ≡ after.fetches + 1 → now.pieces.items ≡ after.pieces.items ++ piece ∷ [] → IsPieceOf dumps work piece
+pub decoded_more : (dumps : Bool) (queue : QueueValue) (before after now : PoolWorker) (work : Work) (piece : Piece)
+    → HasDecoded dumps queue before after → after.full ≡ false
+    → now.pass ≡ has_fetched after.pass work → now.fetches ≡ after.fetches + 1
+    → now.pieces.items ≡ after.pieces.items ++ piece ∷ [] → IsPieceOf dumps work piece
     → HasDecoded dumps queue before now
 decoded_more dumps queue before after now work piece is free passed fetched kept of = record {
   own = (ap (λ (p : PassValue). p.queue) passed ∙ is.own.0, ap (λ (p : PassValue). p.of) passed ∙ is.own.1);
@@ -23,7 +25,8 @@ decoded_more dumps queue before after now work piece is free passed fetched kept
 }
 
 -- what holds if an answer is Ok holds if it isn't Err
-pub kept_of : {X E : Type 0} (answer : Result X E) (is : Bool) (P : Type 0) → is ≡ is_err answer → is ≡ false → OnOk answer P → P
+pub kept_of : {X E : Type 0} (answer : Result X E) (is : Bool) (P : Type 0) → is ≡ is_err answer → is ≡ false
+    → OnOk answer P → P
 kept_of (Ok x) is P told free holds = holds
 kept_of (Err fault) is P told free holds = let never : true ≡ false = sym told ∙ free in absurd cc
 

@@ -1,5 +1,6 @@
 -- The works of members: each is at the place of its number.
-use Rattle.std.proofs.Common.{◌≡◌, ℕ, zero, suc, ◌+◌, inl, inr, List, [], ◌∷◌, ◌++◌, length, length-append, refl, sym, ap, ◌∙◌, subst, ⊎_elim, arith}
+use Rattle.std.proofs.Common.{◌≡◌, ℕ, zero, suc, ◌+◌, inl, inr, List, [], ◌∷◌, ◌++◌, length, length-append, refl, sym, ap, ◌∙◌}
+use Rattle.std.proofs.Common.{subst, ⊎_elim, arith}
 use Rattle.std.specs.Prelude.{map, ⊤}
 use Rattle.std.specs.List.{AllByRecursion}
 use mathlib.Core.Option.{some, some-injective, some-ne-none}
@@ -28,7 +29,8 @@ pub record IsWorkAt (works : List Work) (first : ℕ) (member : ℕ) (shape : Ri
   pub at : get_elem? works place ≡ some work
   pub is_of : IsWorkOf member shape (first + place) work
 
-among_works : (member : ℕ) (shape : RingRequest) (first : ℕ) (works : List Work) (work : Work) → AreNumbered member shape first works → IsAmong work works
+among_works : (member : ℕ) (shape : RingRequest) (first : ℕ) (works : List Work) (work : Work)
+    → AreNumbered member shape first works → IsAmong work works
     → IsWorkAt works first member shape work
 among_works member shape first [] work numbered among = absurd among
 among_works member shape first (w ∷ works) work numbered among = ⊎_elim
@@ -59,7 +61,8 @@ pub record IsPlaced (all : List (List Work)) (first : ℕ) (shape : RingRequest)
 
 -- a work that was handed with the pass of one of these takers, or with one of others, which handed
 -- none
-pub placed : (member : ℕ) (shape : RingRequest) (takers : List HandingValue) (others : List PassValue) (work : Work) → AreMembers member shape takers
+pub placed : (member : ℕ) (shape : RingRequest) (takers : List HandingValue) (others : List PassValue) (work : Work)
+    → AreMembers member shape takers
     → AllByRecursion (λ (pass : PassValue). pass.handed ≡ []) others
     → WasHanded work (passes_of takers ++ others) → IsPlaced (handed_of takers) member shape work
 placed member shape [] [] work members none was = absurd was
@@ -100,36 +103,46 @@ at_among (w ∷ works) zero work at = inl (some-injective w work at)
 at_among (w ∷ works) (suc place) work at = inr (at_among works place work at)
 
 pub was_handed : (takers : List HandingValue) (others : List PassValue) (index place : ℕ) (works : List Work) (work : Work)
-    → get_elem? (handed_of takers) index ≡ some works → get_elem? works place ≡ some work → WasHanded work (passes_of takers ++ others)
+    → get_elem? (handed_of takers) index ≡ some works → get_elem? works place ≡ some work
+    → WasHanded work (passes_of takers ++ others)
 was_handed [] others index place works work at is_there = absurd (some-ne-none works (sym at))
 was_handed (taker ∷ takers) others zero place works work at is_there =
     inl (subst (IsAmong work) (sym (some-injective taker.pass.handed works at)) (at_among works place work is_there))
-was_handed (taker ∷ takers) others (suc index) place works work at is_there = inr (was_handed takers others index place works work at is_there)
+was_handed (taker ∷ takers) others (suc index) place works work at is_there =
+    inr (was_handed takers others index place works work at is_there)
 
 -- its member's number and its own are those of the place
-pub number_at_place : (member : ℕ) (shape : RingRequest) (first place : ℕ) (works : List Work) (work : Work) → AreNumbered member shape first works
+pub number_at_place : (member : ℕ) (shape : RingRequest) (first place : ℕ) (works : List Work) (work : Work)
+    → AreNumbered member shape first works
     → get_elem? works place ≡ some work → IsWorkOf member shape (first + place) work
 number_at_place member shape first place [] work numbered is_there = absurd (some-ne-none work (sym is_there))
 number_at_place member shape first zero (w ∷ works) work numbered is_there =
     let e : first ≡ first + 0 = omega arith in
-    subst (λ (n : ℕ). IsWorkOf member shape n work) e (subst (IsWorkOf member shape first) (some-injective w work is_there) numbered.0)
+    subst (λ (n : ℕ). IsWorkOf member shape n work) e
+    (subst (IsWorkOf member shape first) (some-injective w work is_there) numbered.0)
 number_at_place member shape first (suc place) (w ∷ works) work numbered is_there =
     let e : first + 1 + place ≡ first + suc place = omega arith in
-    subst (λ (n : ℕ). IsWorkOf member shape n work) e (number_at_place member shape (first + 1) place works work numbered.1 is_there)
+    subst (λ (n : ℕ). IsWorkOf member shape n work) e
+    (number_at_place member shape (first + 1) place works work numbered.1 is_there)
 
-pub numbered_at : (member : ℕ) (shape : RingRequest) (takers : List HandingValue) (index place : ℕ) (works : List Work) (work : Work) → AreMembers member shape takers
-    → get_elem? (handed_of takers) index ≡ some works → get_elem? works place ≡ some work → IsWorkOf (member + index) shape (1 + place) work
+pub numbered_at : (member : ℕ) (shape : RingRequest) (takers : List HandingValue) (index place : ℕ) (works : List Work)
+    (work : Work) → AreMembers member shape takers
+    → get_elem? (handed_of takers) index ≡ some works → get_elem? works place ≡ some work
+    → IsWorkOf (member + index) shape (1 + place) work
 numbered_at member shape [] index place works work members at is_there = absurd (some-ne-none works (sym at))
 numbered_at member shape (taker ∷ takers) zero place works work members at is_there =
     let e : member ≡ member + 0 = omega arith in
     subst (λ (n : ℕ). IsWorkOf n shape (1 + place) work) e
-    (number_at_place member shape 1 place works work (subst (AreNumbered member shape 1) (some-injective taker.pass.handed works at) members.0.0) is_there)
+    (number_at_place member shape 1 place works work
+    (subst (AreNumbered member shape 1) (some-injective taker.pass.handed works at) members.0.0) is_there)
 numbered_at member shape (taker ∷ takers) (suc index) place works work members at is_there =
     let e : member + 1 + index ≡ member + suc index = omega arith in
-    subst (λ (n : ℕ). IsWorkOf n shape (1 + place) work) e (numbered_at (member + 1) shape takers index place works work members.1 at is_there)
+    subst (λ (n : ℕ). IsWorkOf n shape (1 + place) work) e
+    (numbered_at (member + 1) shape takers index place works work members.1 at is_there)
 
 -- a work that was fetched was fetched by one of the others
-pub fetched_else : (member : ℕ) (shape : RingRequest) (takers : List HandingValue) (others : List PassValue) (work : Work) → AreMembers member shape takers
+pub fetched_else : (member : ℕ) (shape : RingRequest) (takers : List HandingValue) (others : List PassValue) (work : Work)
+    → AreMembers member shape takers
     → WasFetched work (passes_of takers ++ others) → WasFetched work others
 fetched_else member shape [] others work members was = was
 fetched_else member shape (taker ∷ takers) others work members was = ⊎_elim
@@ -138,7 +151,8 @@ fetched_else member shape (taker ∷ takers) others work members was = ⊎_elim
     was
 
 -- a work that one of some passes fetched, among all that they fetched
-pub fetched_among : (passes : List PassValue) (work : Work) → WasFetched work passes → (works : List Work) × (pass_at : ℕ) × (pass : PassValue)
+pub fetched_among : (passes : List PassValue) (work : Work) → WasFetched work passes
+    → (works : List Work) × (pass_at : ℕ) × (pass : PassValue)
     × (get_elem? passes pass_at ≡ some pass) × IsAmong work pass.fetched
 fetched_among [] work was = absurd was
 fetched_among (pass ∷ passes) work was = ⊎_elim
@@ -148,16 +162,21 @@ fetched_among (pass ∷ passes) work was = ⊎_elim
 
 -- ---- one more work
 
-numbered_more : (member : ℕ) (shape : RingRequest) (first : ℕ) (works : List Work) (work : Work) → AreNumbered member shape first works
+numbered_more : (member : ℕ) (shape : RingRequest) (first : ℕ) (works : List Work) (work : Work)
+    → AreNumbered member shape first works
     → IsWorkOf member shape (first + length works) work → AreNumbered member shape first (works ++ work ∷ [])
 numbered_more member shape first [] work numbered is =
     let e : first + 0 ≡ first = omega arith in (subst (λ (n : ℕ). IsWorkOf member shape n work) e is, tt)
 numbered_more member shape first (w ∷ works) work numbered is =
-    let e : first + length (w ∷ works) ≡ first + 1 + length works = omega arith in
-    (numbered.0, numbered_more member shape (first + 1) works work numbered.1 (subst (λ (n : ℕ). IsWorkOf member shape n work) e is))
+    let e : first + length (w ∷ works) ≡ first + 1 + length works = omega arith in (
+      numbered.0,
+      numbered_more member shape (first + 1) works work numbered.1
+          (subst (λ (n : ℕ). IsWorkOf member shape n work) e is),
+    )
 
 -- a taker after it has handed the next work
-pub handed_more : (queue : QueueValue) (pass now : PassValue) (member : ℕ) (shape : RingRequest) (handed : ℕ) (work : Work) → IsHanding queue pass member shape handed
+pub handed_more : (queue : QueueValue) (pass now : PassValue) (member : ℕ) (shape : RingRequest) (handed : ℕ) (work : Work)
+    → IsHanding queue pass member shape handed
     → now ≡ has_handed pass work → IsWorkOf member shape (handed + 1) work → IsHanding queue now member shape (handed + 1)
 handed_more queue pass now member shape handed work is now_is of =
     let count = is.counted in
@@ -166,6 +185,7 @@ handed_more queue pass now member shape handed work is now_is of =
     subst (λ (p : PassValue). IsHanding queue p member shape (handed + 1)) (sym now_is) (record {
       own = is.own;
       counted = omega (arith, count, long);
-      numbered = numbered_more member shape 1 pass.handed work is.numbered (subst (λ (n : ℕ). IsWorkOf member shape n work) e of);
+      numbered = numbered_more member shape 1 pass.handed work is.numbered
+          (subst (λ (n : ℕ). IsWorkOf member shape n work) e of);
       none_fetched = is.none_fetched;
     })

@@ -1,5 +1,6 @@
 -- Pieces are put into the places of their numbers, until each place has the piece of its work.
-use Rattle.std.proofs.Common.{◌≡◌, ℕ, zero, suc, ◌+◌, ◌-◌, ◌<◌, Bool, List, [], ◌∷◌, length, get_or, set, Option, None, Some, refl, sym, ap, ◌∙◌, subst, arith}
+use Rattle.std.proofs.Common.{◌≡◌, ℕ, zero, suc, ◌+◌, ◌-◌, ◌<◌, Bool, List, [], ◌∷◌, length, get_or, set, Option, None, Some}
+use Rattle.std.proofs.Common.{refl, sym, ap, ◌∙◌, subst, arith}
 use Rattle.std.specs.Prelude.{map, replicate, ⊤}
 use Rattle.std.specs.List.{AllByRecursion, AllZip}
 use Rattle.std.proofs.lemmas.List.{length-map}
@@ -31,7 +32,8 @@ empty_held dumps [] = tt
 empty_held dumps (work ∷ works) = (tt, empty_held dumps works)
 
 -- empty tables
-pub all_empty : (dumps : Bool) (all : List (List Work)) → AllZip (AllZip (IsHeldAs dumps)) all (map (λ (works : List Work). empty_table (length works)) all)
+pub all_empty : (dumps : Bool) (all : List (List Work))
+    → AllZip (AllZip (IsHeldAs dumps)) all (map (λ (works : List Work). empty_table (length works)) all)
 all_empty dumps [] = tt
 all_empty dumps (works ∷ all) = (empty_held dumps works, all_empty dumps all)
 
@@ -60,13 +62,16 @@ module _ (dumps : Bool) (all : List (List Work)) (shape : RingRequest) where
 
     module _ (tables : PieceTables) (held : AllZip (AllZip (IsHeldAs dumps)) all tables) where
       table_long : length is.works ≡ length (get_or tables is.index [])
-      table_long = zip_long (IsHeldAs dumps) is.works (get_or tables is.index []) (zip_at (AllZip (IsHeldAs dumps)) all tables is.index is.works [] held is.at)
+      table_long = zip_long (IsHeldAs dumps) is.works (get_or tables is.index [])
+          (zip_at (AllZip (IsHeldAs dumps)) all tables is.index is.works [] held is.at)
 
       index_below : is.index < length tables
-      index_below = let below = at_below all is.index is.works is.at in let long = zip_long (AllZip (IsHeldAs dumps)) all tables held in omega (arith, below, long)
+      index_below = let below = at_below all is.index is.works is.at in let long =
+          zip_long (AllZip (IsHeldAs dumps)) all tables held in omega (arith, below, long)
 
       place_below : is.place < length (get_or tables is.index [])
-      place_below = let below = at_below is.works is.place work is.is_there in let long = table_long in omega (arith, below, long)
+      place_below = let below = at_below is.works is.place work is.is_there in let long = table_long in
+          omega (arith, below, long)
 
       fits : HasPlaceIn (counts_of tables) piece
       fits =
@@ -84,8 +89,10 @@ module _ (dumps : Bool) (all : List (List Work)) (shape : RingRequest) where
           }
 
       put_held : AllZip (AllZip (IsHeldAs dumps)) all (put_one tables piece)
-      put_held = subst (λ (s : PieceTables). AllZip (AllZip (IsHeldAs dumps)) all s) (sym (put_is tables piece is.index is.place member number))
-          (zip_set (AllZip (IsHeldAs dumps)) all tables is.index is.works (set (get_or tables is.index []) is.place (Some piece)) held is.at
+      put_held = subst (λ (s : PieceTables). AllZip (AllZip (IsHeldAs dumps)) all s)
+          (sym (put_is tables piece is.index is.place member number))
+          (zip_set (AllZip (IsHeldAs dumps)) all tables is.index is.works
+          (set (get_or tables is.index []) is.place (Some piece)) held is.at
           (zip_set (IsHeldAs dumps) is.works (get_or tables is.index []) is.place work (Some piece)
           (zip_at (AllZip (IsHeldAs dumps)) all tables is.index is.works [] held is.at) is.is_there of))
 
@@ -98,7 +105,8 @@ module _ (dumps : Bool) (all : List (List Work)) (shape : RingRequest) where
           let new : PieceTables = set tables is.index (set (get_or tables is.index []) is.place (Some piece)) in
           record {
             piece = piece;
-            is = ap (λ (s : PieceTables). get_or (get_or s work.member []) (work.number - 1) None) (put_is tables piece is.index is.place member number)
+            is = ap (λ (s : PieceTables). get_or (get_or s work.member []) (work.number - 1) None)
+                (put_is tables piece is.index is.place member number)
                 ∙ ap (λ (k : ℕ). get_or (get_or new k []) (work.number - 1) None) m
                 ∙ ap (λ (k : ℕ). get_or (get_or new is.index []) k None) n
                 ∙ ap (λ (table : List (Option Piece)). get_or table is.place None)
@@ -131,11 +139,13 @@ module _ (dumps : Bool) (all : List (List Work)) (shape : RingRequest) where
           }))
           (λ (m : ¬ (other.member ≡ is.index)). record {
             piece = there.piece;
-            is = ap (λ (s : List (Option Piece)). get_or s (other.number - 1) None) (set_by tables is.index other.member put [] m) ∙ there.is;
+            is = ap (λ (s : List (Option Piece)). get_or s (other.number - 1) None)
+                (set_by tables is.index other.member put [] m) ∙ there.is;
           }))
 
   -- all pieces, of works of the members
-  pub all_fit : (works : List Work) (pieces : List Piece) (tables : PieceTables) → AllByRecursion (IsPlaced all 0 shape) works → AllZip (IsPieceOf dumps) works pieces
+  pub all_fit : (works : List Work) (pieces : List Piece) (tables : PieceTables) → AllByRecursion (IsPlaced all 0 shape) works
+      → AllZip (IsPieceOf dumps) works pieces
       → AllZip (AllZip (IsHeldAs dumps)) all tables → AllByRecursion (HasPlaceIn (counts_of tables)) pieces
   all_fit [] [] tables placed of held = tt
   all_fit [] (piece ∷ pieces) tables placed of held = absurd of
@@ -143,7 +153,8 @@ module _ (dumps : Bool) (all : List (List Work)) (shape : RingRequest) where
   all_fit (work ∷ works) (piece ∷ pieces) tables placed of held =
       (fits work placed.0 piece of.0 tables held, all_fit works pieces tables placed.1 of.1 held)
 
-  pub all_held : (works : List Work) (pieces : List Piece) (tables : PieceTables) → AllByRecursion (IsPlaced all 0 shape) works → AllZip (IsPieceOf dumps) works pieces
+  pub all_held : (works : List Work) (pieces : List Piece) (tables : PieceTables) → AllByRecursion (IsPlaced all 0 shape) works
+      → AllZip (IsPieceOf dumps) works pieces
       → AllZip (AllZip (IsHeldAs dumps)) all tables → AllZip (AllZip (IsHeldAs dumps)) all (put_each tables pieces)
   all_held [] [] tables placed of held = held
   all_held [] (piece ∷ pieces) tables placed of held = absurd of
@@ -151,8 +162,10 @@ module _ (dumps : Bool) (all : List (List Work)) (shape : RingRequest) where
   all_held (work ∷ works) (piece ∷ pieces) tables placed of held =
       all_held works pieces (put_one tables piece) placed.1 of.1 (put_held work placed.0 piece of.0 tables held)
 
-  all_keep : (works : List Work) (pieces : List Piece) (tables : PieceTables) → AllByRecursion (IsPlaced all 0 shape) works → AllZip (IsPieceOf dumps) works pieces
-      → AllZip (AllZip (IsHeldAs dumps)) all tables → (other : Work) → IsThere tables other → IsThere (put_each tables pieces) other
+  all_keep : (works : List Work) (pieces : List Piece) (tables : PieceTables) → AllByRecursion (IsPlaced all 0 shape) works
+      → AllZip (IsPieceOf dumps) works pieces
+      → AllZip (AllZip (IsHeldAs dumps)) all tables → (other : Work) → IsThere tables other
+      → IsThere (put_each tables pieces) other
   all_keep [] [] tables placed of held other there = there
   all_keep [] (piece ∷ pieces) tables placed of held other there = absurd of
   all_keep (work ∷ works) [] tables placed of held other there = absurd of
@@ -160,7 +173,8 @@ module _ (dumps : Bool) (all : List (List Work)) (shape : RingRequest) where
       all_keep works pieces (put_one tables piece) placed.1 of.1 (put_held work placed.0 piece of.0 tables held) other
       (put_keeps work placed.0 piece of.0 tables held other there)
 
-  pub all_there : (works : List Work) (pieces : List Piece) (tables : PieceTables) → AllByRecursion (IsPlaced all 0 shape) works → AllZip (IsPieceOf dumps) works pieces
+  pub all_there : (works : List Work) (pieces : List Piece) (tables : PieceTables) → AllByRecursion (IsPlaced all 0 shape) works
+      → AllZip (IsPieceOf dumps) works pieces
       → AllZip (AllZip (IsHeldAs dumps)) all tables → AllByRecursion (IsThere (put_each tables pieces)) works
   all_there [] [] tables placed of held = tt
   all_there [] (piece ∷ pieces) tables placed of held = absurd of

@@ -1,12 +1,14 @@
 -- The takers and the workers of a run after the joins, and what is put together of their works.
-use Rattle.std.proofs.Common.{◌≡◌, ℕ, ◌+◌, ◌-◌, ◌⊎◌, inl, inr, Bool, false, List, [], ◌∷◌, ◌++◌, length, get_or, Option, None, refl, ap, ◌∙◌, subst, ⊎_elim, arith}
+use Rattle.std.proofs.Common.{◌≡◌, ℕ, ◌+◌, ◌-◌, ◌⊎◌, inl, inr, Bool, false, List, [], ◌∷◌, ◌++◌, length, get_or, Option, None}
+use Rattle.std.proofs.Common.{refl, ap, ◌∙◌, subst, ⊎_elim, arith}
 use Rattle.std.specs.Prelude.{map, flat_map}
 use Rattle.std.specs.List.{AllByRecursion, AllZip}
 use mathlib.Core.Option.{some}
 use lib.ListN.{get_elem?}
 use Rattle.block_pool.specs.Pieces.{IsPieceOf}
 use Rattle.block_pool.specs.inside.PieceTables.{AreFull, HasPlaceIn, counts_of, empty_table, put_each, read_of}
-use Rattle.block_pool.specs.Takers.{AreNumbered, HandingValue, HasNumbered, first_takers, handing_base, handing_taken, handing_value}
+use Rattle.block_pool.specs.Takers.{AreNumbered, HandingValue, HasNumbered, first_takers, handing_base, handing_taken}
+use Rattle.block_pool.specs.Takers.{handing_value}
 use Rattle.block_pool.specs.Workers.{HasDecoded}
 use Rattle.block_pool.specs.declared.pieces.Piece.{Piece}
 use Rattle.block_pool.specs.declared.workers.PoolWorker.{PoolWorker}
@@ -31,15 +33,18 @@ abbrev further : Base → List ℕ
 further b = b.further
 
 -- a taker whose base is that of a first one
-same_member : (taker : HandingValue) (member : ℕ) (shape : RingRequest) (pass : PassValue) → handing_base taker ≡ handing_base (handing_value member shape pass)
+same_member : (taker : HandingValue) (member : ℕ) (shape : RingRequest) (pass : PassValue)
+    → handing_base taker ≡ handing_base (handing_value member shape pass)
     → taker.member ≡ member
 same_member taker member shape pass same = let e = ap further same in cc
 
-same_of : (taker : HandingValue) (member : ℕ) (shape : RingRequest) (pass : PassValue) → handing_base taker ≡ handing_base (handing_value member shape pass)
+same_of : (taker : HandingValue) (member : ℕ) (shape : RingRequest) (pass : PassValue)
+    → handing_base taker ≡ handing_base (handing_value member shape pass)
     → taker.pass.of ≡ pass.of
 same_of taker member shape pass same = let e = ap further same in cc
 
-same_queue : (taker : HandingValue) (member : ℕ) (shape : RingRequest) (pass : PassValue) → handing_base taker ≡ handing_base (handing_value member shape pass)
+same_queue : (taker : HandingValue) (member : ℕ) (shape : RingRequest) (pass : PassValue)
+    → handing_base taker ≡ handing_base (handing_value member shape pass)
     → taker.pass.queue ≡ pass.queue
 same_queue taker member shape pass same =
     let e = ap further same in
@@ -49,7 +54,8 @@ same_queue taker member shape pass same =
 
 module _ (shape : RingRequest) where
   pub members_are : (member : ℕ) (notes : List (List Note)) (passes : List PassValue) (takers : List HandingValue)
-      → AreTakersOf handing_base handing_taken shape notes (first_takers shape member passes) takers → AllByRecursion HasNumbered takers → AreMembers member shape takers
+      → AreTakersOf handing_base handing_taken shape notes (first_takers shape member passes) takers
+      → AllByRecursion HasNumbered takers → AreMembers member shape takers
   members_are member [] [] [] are numbered = tt
   members_are member [] [] (taker ∷ takers) are numbered = absurd are
   members_are member [] (pass ∷ passes) takers are numbered = absurd are
@@ -61,14 +67,17 @@ module _ (shape : RingRequest) where
       let s : taker.shape ≡ shape = ap (λ (b : Base). b.shape) base in
       let is = numbered.0 in (
         (
-          subst (λ (k : ℕ). AreNumbered k shape 1 taker.pass.handed) m (subst (λ (r : RingRequest). AreNumbered taker.member r 1 taker.pass.handed) s is.numbered),
+          subst (λ (k : ℕ). AreNumbered k shape 1 taker.pass.handed) m
+              (subst (λ (r : RingRequest). AreNumbered taker.member r 1 taker.pass.handed) s is.numbered),
           is.none_fetched,
         ),
         members_are (member + 1) notes passes takers are.1 numbered.1,
       )
 
-  pub takers_own : (queue : QueueValue) (member : ℕ) (notes : List (List Note)) (passes : List PassValue) (takers : List HandingValue)
-      → AreTakersOf handing_base handing_taken shape notes (first_takers shape member passes) takers → AllByRecursion (IsPassOf queue) passes
+  pub takers_own : (queue : QueueValue) (member : ℕ) (notes : List (List Note)) (passes : List PassValue)
+      (takers : List HandingValue)
+      → AreTakersOf handing_base handing_taken shape notes (first_takers shape member passes) takers
+      → AllByRecursion (IsPassOf queue) passes
       → AllByRecursion (IsPassOf queue) (passes_of takers)
   takers_own queue member [] [] [] are own = tt
   takers_own queue member [] [] (taker ∷ takers) are own = absurd are
@@ -82,7 +91,8 @@ module _ (shape : RingRequest) where
       )
 
   pub takers_many : (member : ℕ) (notes : List (List Note)) (passes : List PassValue) (takers : List HandingValue)
-      → AreTakersOf handing_base handing_taken shape notes (first_takers shape member passes) takers → length (passes_of takers) ≡ length passes
+      → AreTakersOf handing_base handing_taken shape notes (first_takers shape member passes) takers
+      → length (passes_of takers) ≡ length passes
   takers_many member [] [] [] are = refl
   takers_many member [] [] (taker ∷ takers) are = absurd are
   takers_many member [] (pass ∷ passes) takers are = absurd are
@@ -92,9 +102,11 @@ module _ (shape : RingRequest) where
       let rest = takers_many (member + 1) notes passes takers are.1 in omega (arith, rest)
 
   -- what is read from the members' tables is what their notes retired
-  pub outputs_are : (dumps : Bool) (member : ℕ) (notes : List (List Note)) (first takers : List HandingValue) (tables : List (List (Option Piece)))
+  pub outputs_are : (dumps : Bool) (member : ℕ) (notes : List (List Note)) (first takers : List HandingValue)
+      (tables : List (List (Option Piece)))
       → AreTakersOf handing_base handing_taken shape notes first takers → AreMembers member shape takers
-      → AllZip (AllZip (IsFilled dumps)) (handed_of takers) tables → AllZip (AreOutputsOf shape dumps) notes (map read_of tables)
+      → AllZip (AllZip (IsFilled dumps)) (handed_of takers) tables
+      → AllZip (AreOutputsOf shape dumps) notes (map read_of tables)
   outputs_are dumps member [] [] [] [] are members filled = tt
   outputs_are dumps member [] [] [] (table ∷ tables) are members filled = absurd filled
   outputs_are dumps member [] [] (taker ∷ takers) tables are members filled = absurd are
@@ -125,7 +137,8 @@ abbrev pub all_pieces : List PoolWorker → List Piece
 all_pieces pool_workers = flat_map (λ (pool_worker : PoolWorker). pool_worker.pieces.items) pool_workers
 
 module _ (dumps : Bool) (queue : QueueValue) where
-  pub workers_own : (before after : List PoolWorker) → AllZip (HasDecoded dumps queue) before after → AllByRecursion (IsPassOf queue) (worker_passes after)
+  pub workers_own : (before after : List PoolWorker) → AllZip (HasDecoded dumps queue) before after
+      → AllByRecursion (IsPassOf queue) (worker_passes after)
   workers_own [] [] are = tt
   workers_own [] (d ∷ after) are = absurd are
   workers_own (b ∷ before) [] are = absurd are
@@ -138,7 +151,8 @@ module _ (dumps : Bool) (queue : QueueValue) where
   none_handed (b ∷ before) [] are = absurd are
   none_handed (b ∷ before) (d ∷ after) are = (are.0.none_handed, none_handed before after are.1)
 
-  pub pieces_of_all : (before after : List PoolWorker) → AllZip (HasDecoded dumps queue) before after → AllByRecursion (λ (d : PoolWorker). d.full ≡ false) after
+  pub pieces_of_all : (before after : List PoolWorker) → AllZip (HasDecoded dumps queue) before after
+      → AllByRecursion (λ (d : PoolWorker). d.full ≡ false) after
       → AllZip (IsPieceOf dumps) (all_fetched after) (all_pieces after)
   pieces_of_all [] [] are full = tt
   pieces_of_all [] (d ∷ after) are full = absurd are
@@ -172,14 +186,16 @@ among_both work (x ∷ xs) ys among = ⊎_elim
     (λ rest. ⊎_elim (λ h. inl (inr h)) (λ h. inr h) (among_both work xs ys rest))
     among
 
-fetched_of_among : (pool_workers : List PoolWorker) (work : Work) → IsAmong work (all_fetched pool_workers) → WasFetched work (worker_passes pool_workers)
+fetched_of_among : (pool_workers : List PoolWorker) (work : Work) → IsAmong work (all_fetched pool_workers)
+    → WasFetched work (worker_passes pool_workers)
 fetched_of_among [] work among = absurd among
 fetched_of_among (d ∷ pool_workers) work among = ⊎_elim
     (λ here. inl here)
     (λ rest. inr (fetched_of_among pool_workers work rest))
     (among_both work d.pass.fetched (all_fetched pool_workers) among)
 
-among_of_fetched : (pool_workers : List PoolWorker) (work : Work) → WasFetched work (worker_passes pool_workers) → IsAmong work (all_fetched pool_workers)
+among_of_fetched : (pool_workers : List PoolWorker) (work : Work) → WasFetched work (worker_passes pool_workers)
+    → IsAmong work (all_fetched pool_workers)
 among_of_fetched [] work was = absurd was
 among_of_fetched (d ∷ pool_workers) work was = ⊎_elim
     (λ here. among_left work d.pass.fetched (all_fetched pool_workers) here)
@@ -196,11 +212,15 @@ fetched_with work (pass ∷ passes) others was = inr (fetched_with work passes o
 abbrev pub empty_for : List (List Work) → List (List (Option Piece))
 empty_for all = map (λ (ws : List Work). empty_table (length ws)) all
 
-module _ (shape : RingRequest) (dumps : Bool) (queue : QueueValue) (takers : List HandingValue) (before after : List PoolWorker) (left : List Work)
-    (members : AreMembers 0 shape takers) (decoded : AllZip (HasDecoded dumps queue) before after) (full : AllByRecursion (λ (d : PoolWorker). d.full ≡ false) after)
-    (h : IsHistory (passes_of takers ++ worker_passes after) left) (more : List Piece) (decoded_left : AllZip (IsPieceOf dumps) left more) where
+module _ (shape : RingRequest) (dumps : Bool) (queue : QueueValue) (takers : List HandingValue) (before after : List PoolWorker)
+    (left : List Work)
+    (members : AreMembers 0 shape takers) (decoded : AllZip (HasDecoded dumps queue) before after)
+    (full : AllByRecursion (λ (d : PoolWorker). d.full ≡ false) after)
+    (h : IsHistory (passes_of takers ++ worker_passes after) left) (more : List Piece)
+    (decoded_left : AllZip (IsPieceOf dumps) left more) where
   of_works : AllZip (IsPieceOf dumps) (all_fetched after ++ left) (all_pieces after ++ more)
-  of_works = zip_append (IsPieceOf dumps) (all_fetched after) left (all_pieces after) more (pieces_of_all dumps queue before after decoded full) decoded_left
+  of_works = zip_append (IsPieceOf dumps) (all_fetched after) left (all_pieces after) more
+      (pieces_of_all dumps queue before after decoded full) decoded_left
 
   all_placed : AllByRecursion (IsPlaced (handed_of takers) 0 shape) (all_fetched after ++ left)
   all_placed = all_among (IsPlaced (handed_of takers) 0 shape) (all_fetched after ++ left) (λ work among.
@@ -213,33 +233,41 @@ module _ (shape : RingRequest) (dumps : Bool) (queue : QueueValue) (takers : Lis
 
   -- each piece has a place
   pub pieces_fit : AllByRecursion (HasPlaceIn (counts_of (empty_for (handed_of takers)))) (all_pieces after ++ more)
-  pieces_fit = all_fit dumps (handed_of takers) shape (all_fetched after ++ left) (all_pieces after ++ more) (empty_for (handed_of takers)) all_placed of_works (all_empty dumps (handed_of takers))
+  pieces_fit = all_fit dumps (handed_of takers) shape (all_fetched after ++ left) (all_pieces after ++ more)
+      (empty_for (handed_of takers)) all_placed of_works (all_empty dumps (handed_of takers))
 
-  has_at : (index : ℕ) (ws : List Work) (place : ℕ) (work : Work) → get_elem? (handed_of takers) index ≡ some ws → get_elem? ws place ≡ some work
+  has_at : (index : ℕ) (ws : List Work) (place : ℕ) (work : Work) → get_elem? (handed_of takers) index ≡ some ws
+      → get_elem? ws place ≡ some work
       → HasAt (get_or (put_each (empty_for (handed_of takers)) (all_pieces after ++ more)) index []) place
   has_at index ws place work at is_there =
       let found = found_of_handed (passes_of takers ++ worker_passes after) left h work
       (was_handed takers (worker_passes after) index place ws work at is_there) in
       let among : IsAmong work (all_fetched after ++ left) = ⊎_elim
-      (λ was. among_left work (all_fetched after) left (among_of_fetched after work (fetched_else 0 shape takers (worker_passes after) work members was)))
+      (λ was. among_left work (all_fetched after) left
+      (among_of_fetched after work (fetched_else 0 shape takers (worker_passes after) work members was)))
       (λ there. among_right work (all_fetched after) left there)
       found in
-      let there = one_among (IsThere (put_each (empty_for (handed_of takers)) (all_pieces after ++ more))) (all_fetched after ++ left) work
-      (all_there dumps (handed_of takers) shape (all_fetched after ++ left) (all_pieces after ++ more) (empty_for (handed_of takers)) all_placed of_works (all_empty dumps (handed_of takers)))
+      let there = one_among (IsThere (put_each (empty_for (handed_of takers)) (all_pieces after ++ more)))
+      (all_fetched after ++ left) work
+      (all_there dumps (handed_of takers) shape (all_fetched after ++ left) (all_pieces after ++ more)
+      (empty_for (handed_of takers)) all_placed of_works (all_empty dumps (handed_of takers)))
       among in
       let is_of = numbered_at 0 shape takers index place ws work members at is_there in
       let m : index ≡ work.member = let e = is_of.member_is in omega (arith, e) in
       let n : place ≡ work.number - 1 = let e = is_of.number_is in omega (arith, e) in (
         there.piece,
         ap (λ (k : ℕ). get_or (get_or (put_each (empty_for (handed_of takers)) (all_pieces after ++ more)) k []) place None) m
-            ∙ ap (λ (k : ℕ). get_or (get_or (put_each (empty_for (handed_of takers)) (all_pieces after ++ more)) work.member []) k None) n
+            ∙ ap (λ (k : ℕ). get_or
+            (get_or (put_each (empty_for (handed_of takers)) (all_pieces after ++ more)) work.member []) k None) n
             ∙ there.is,
       )
 
   -- and each place then has the piece of its work
-  pub filled : AllZip (AllZip (IsFilled dumps)) (handed_of takers) (put_each (empty_for (handed_of takers)) (all_pieces after ++ more))
+  pub filled : AllZip (AllZip (IsFilled dumps)) (handed_of takers)
+      (put_each (empty_for (handed_of takers)) (all_pieces after ++ more))
   filled = filled_all dumps (handed_of takers) (put_each (empty_for (handed_of takers)) (all_pieces after ++ more))
-      (all_held dumps (handed_of takers) shape (all_fetched after ++ left) (all_pieces after ++ more) (empty_for (handed_of takers)) all_placed of_works (all_empty dumps (handed_of takers)))
+      (all_held dumps (handed_of takers) shape (all_fetched after ++ left) (all_pieces after ++ more)
+      (empty_for (handed_of takers)) all_placed of_works (all_empty dumps (handed_of takers)))
       has_at
 
   pub tables_full : AreFull (put_each (empty_for (handed_of takers)) (all_pieces after ++ more))

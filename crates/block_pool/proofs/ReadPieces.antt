@@ -1,5 +1,6 @@
 -- What is read out of tables in which each place has the piece of its work.
-use Rattle.std.proofs.Common.{◌≡◌, ℕ, suc, ◌+◌, Bool, true, false, List, [], ◌∷◌, ◌++◌, length, get_or, Option, None, Some, refl, sym, ap, ap₂, ◌∙◌, subst}
+use Rattle.std.proofs.Common.{◌≡◌, ℕ, suc, ◌+◌, Bool, true, false, List, [], ◌∷◌, ◌++◌, length, get_or, Option, None, Some}
+use Rattle.std.proofs.Common.{refl, sym, ap, ap₂, ◌∙◌, subst}
 use Rattle.std.specs.List.{AllZip}
 use Rattle.std.proofs.lemmas.List.{length-map}
 use mathlib.Core.Option.{some}
@@ -26,7 +27,8 @@ pub record IsFilled (dumps : Bool) (work : Work) (slot : Option Piece) : Type 0 
 abbrev pub HasAt : List (Option Piece) → ℕ → Type 0
 HasAt table place = (piece : Piece) × (get_or table place None ≡ Some piece)
 
-filled_one : (dumps : Bool) (work : Work) (slot : Option Piece) (piece : Piece) → IsHeldAs dumps work slot → slot ≡ Some piece → IsFilled dumps work slot
+filled_one : (dumps : Bool) (work : Work) (slot : Option Piece) (piece : Piece) → IsHeldAs dumps work slot → slot ≡ Some piece
+    → IsFilled dumps work slot
 filled_one dumps work slot piece held is = record { piece = piece; is = is; of = subst (IsHeldAs dumps work) is held }
 
 filled_row : (dumps : Bool) (works : List Work) (table : List (Option Piece)) → AllZip (IsHeldAs dumps) works table
@@ -39,8 +41,10 @@ filled_row dumps (work ∷ works) (slot ∷ table) held each =
     (filled_one dumps work slot here.0 held.0 here.1, filled_row dumps works table held.1 (λ place w at. each (suc place) w at))
 
 -- if each place of a work has a piece, it has that work's
-pub filled_all : (dumps : Bool) (all : List (List Work)) (tables : List (List (Option Piece))) → AllZip (AllZip (IsHeldAs dumps)) all tables
-    → ((index : ℕ) (works : List Work) (place : ℕ) (work : Work) → get_elem? all index ≡ some works → get_elem? works place ≡ some work
+pub filled_all : (dumps : Bool) (all : List (List Work)) (tables : List (List (Option Piece)))
+    → AllZip (AllZip (IsHeldAs dumps)) all tables
+    → ((index : ℕ) (works : List Work) (place : ℕ) (work : Work) → get_elem? all index ≡ some works
+    → get_elem? works place ≡ some work
     → HasAt (get_or tables index []) place) → AllZip (AllZip (IsFilled dumps)) all tables
 filled_all dumps [] [] held each = tt
 filled_all dumps [] (table ∷ tables) held each = absurd held
@@ -57,9 +61,11 @@ full_row : (dumps : Bool) (works : List Work) (table : List (Option Piece)) → 
 full_row dumps [] [] filled = tt
 full_row dumps [] (slot ∷ table) filled = absurd filled
 full_row dumps (work ∷ works) [] filled = absurd filled
-full_row dumps (work ∷ works) (slot ∷ table) filled = ((full_one slot filled.0.piece filled.0.is).0, full_row dumps works table filled.1)
+full_row dumps (work ∷ works) (slot ∷ table) filled =
+    ((full_one slot filled.0.piece filled.0.is).0, full_row dumps works table filled.1)
 
-pub full_all : (dumps : Bool) (all : List (List Work)) (tables : List (List (Option Piece))) → AllZip (AllZip (IsFilled dumps)) all tables → AreFull tables
+pub full_all : (dumps : Bool) (all : List (List Work)) (tables : List (List (Option Piece)))
+    → AllZip (AllZip (IsFilled dumps)) all tables → AreFull tables
 full_all dumps [] [] filled = tt
 full_all dumps [] (table ∷ tables) filled = absurd filled
 full_all dumps (works ∷ all) [] filled = absurd filled
@@ -67,10 +73,12 @@ full_all dumps (works ∷ all) (table ∷ tables) filled = (full_row dumps works
 
 -- ---- what is read of one member
 
-packets_first : (slot : Option Piece) (table : List (Option Piece)) (piece : Piece) → slot ≡ Some piece → packets_at (slot ∷ table) ≡ piece.packets ++ packets_at table
+packets_first : (slot : Option Piece) (table : List (Option Piece)) (piece : Piece) → slot ≡ Some piece
+    → packets_at (slot ∷ table) ≡ piece.packets ++ packets_at table
 packets_first slot table piece is = ap (λ (s : Option Piece). packets_at (s ∷ table)) is
 
-texts_first : (slot : Option Piece) (table : List (Option Piece)) (piece : Piece) → slot ≡ Some piece → texts_at (slot ∷ table) ≡ piece.text ++ texts_at table
+texts_first : (slot : Option Piece) (table : List (Option Piece)) (piece : Piece) → slot ≡ Some piece
+    → texts_at (slot ∷ table) ≡ piece.text ++ texts_at table
 texts_first slot table piece is = ap (λ (s : Option Piece). texts_at (s ∷ table)) is
 
 pub walked_row : (dumps : Bool) (works : List Work) (table : List (Option Piece)) → AllZip (IsFilled dumps) works table
@@ -91,7 +99,8 @@ none_dumped (work ∷ works) (slot ∷ table) filled =
     texts_first slot table filled.0.piece filled.0.is
     ∙ ap₂ (λ (a b : List ℕ). a ++ b) filled.0.of.text_is (none_dumped works table filled.1)
 
-all_dumped : (member : ℕ) (shape : RingRequest) (first : ℕ) (works : List Work) (table : List (Option Piece)) → AreNumbered member shape first works
+all_dumped : (member : ℕ) (shape : RingRequest) (first : ℕ) (works : List Work) (table : List (Option Piece))
+    → AreNumbered member shape first works
     → AllZip (IsFilled true) works table → texts_at table ≡ texts_of shape (works_taken works)
 unfolding texts_by
 all_dumped member shape first [] [] numbered filled = refl
@@ -103,10 +112,12 @@ all_dumped member shape first (work ∷ works) (slot ∷ table) numbered filled 
     (filled.0.of.text_is ∙ ap (λ (s : RingRequest). text_of_taken s (work_taken work)) numbered.0.shape_is)
     (all_dumped member shape (first + 1) works table numbered.1 filled.1)
 
-pub dumped_row : (dumps : Bool) (member : ℕ) (shape : RingRequest) (works : List Work) (table : List (Option Piece)) → AreNumbered member shape 1 works
+pub dumped_row : (dumps : Bool) (member : ℕ) (shape : RingRequest) (works : List Work) (table : List (Option Piece))
+    → AreNumbered member shape 1 works
     → AllZip (IsFilled dumps) works table → texts_at table ≡ dump_by dumps shape (works_taken works)
 dumped_row true member shape works table numbered filled = all_dumped member shape 1 works table numbered filled
 dumped_row false member shape works table numbered filled = none_dumped works table filled
 
-pub blocks_row : (dumps : Bool) (works : List Work) (table : List (Option Piece)) → AllZip (IsFilled dumps) works table → length table ≡ length (works_taken works)
+pub blocks_row : (dumps : Bool) (works : List Work) (table : List (Option Piece)) → AllZip (IsFilled dumps) works table
+    → length table ≡ length (works_taken works)
 blocks_row dumps works table filled = sym (zip_long (IsFilled dumps) works table filled) ∙ sym (length-map works work_taken)

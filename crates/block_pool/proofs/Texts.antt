@@ -15,12 +15,14 @@ use Rattle.work_queue.specs.Works.{IsLawfulText, IsTextWith}
 
 -- a block that begins with a lawful text is read as that text's number, status and packets
 abbrev pub IsRead : Type 0
-IsRead = (shape : RingRequest) (number status : ℕ) (packets : List Packet) (bytes : List ℕ) → shape.block_size ≤ 1048576 → BeginsWith shape number status packets bytes
+IsRead = (shape : RingRequest) (number status : ℕ) (packets : List Packet) (bytes : List ℕ) → shape.block_size ≤ 1048576
+    → BeginsWith shape number status packets bytes
     → taken_in shape bytes ≡ record { number = number; status = status; packets = packets }
 
 module _ (tells : IsRead) (shape : RingRequest) (text : List ℕ) (small : shape.block_size ≤ 1048576) where
   -- a text on its own begins a block
-  begins : (number status : ℕ) (packets : List Packet) → IsTextWith shape number status packets text → BeginsWith shape number status packets text
+  begins : (number status : ℕ) (packets : List Packet) → IsTextWith shape number status packets text
+      → BeginsWith shape number status packets text
   begins number status packets is = record {
     lawful = is.lawful;
     begins = subst (λ (t : List ℕ). take (length t) text ≡ t) is.text_is (take_all (length text) text (omega arith));
@@ -31,7 +33,8 @@ module _ (tells : IsRead) (shape : RingRequest) (text : List ℕ) (small : shape
   says_with number status packets is = tells shape number status packets text small (begins number status packets is)
 
   -- it fits into a block
-  within_with : (number status : ℕ) (packets : List Packet) → IsTextWith shape number status packets text → length text ≤ shape.block_size
+  within_with : (number status : ℕ) (packets : List Packet) → IsTextWith shape number status packets text
+      → length text ≤ shape.block_size
   within_with number status packets is =
       let long = ap length is.text_is ∙ length-block_text shape number status packets in
       let fits = is.lawful.fits in
@@ -60,8 +63,10 @@ module _ (tells : IsRead) (shape : RingRequest) (text : List ℕ) (small : shape
       (is.0, is.1, is.2.lawful, says t ∙ said)
 
 module _ (tells : IsRead) (shape : RingRequest) (bytes text : List ℕ) (small : shape.block_size ≤ 1048576)
-    (copied : (number status : ℕ) (packets : List Packet) → BeginsWith shape number status packets bytes → text ≡ block_text shape number status packets) where
-  copied_with : (number status : ℕ) (packets : List Packet) → BeginsWith shape number status packets bytes → IsTextWith shape number status packets text
+    (copied : (number status : ℕ) (packets : List Packet) → BeginsWith shape number status packets bytes
+    → text ≡ block_text shape number status packets) where
+  copied_with : (number status : ℕ) (packets : List Packet) → BeginsWith shape number status packets bytes
+      → IsTextWith shape number status packets text
   copied_with number status packets is = record { lawful = is.lawful; text_is = copied number status packets is }
 
   -- the copy of the text of a retired block is lawful
@@ -76,8 +81,11 @@ module _ (tells : IsRead) (shape : RingRequest) (bytes text : List ℕ) (small :
 
 -- the copy of a borrowed text, if the block has this shape
 pub copied_text : (shape other : RingRequest) (bytes text lent : List ℕ) → other ≡ shape → text ≡ lent
-    → ((number status : ℕ) (packets : List Packet) → BeginsWith other number status packets bytes → lent ≡ block_text other number status packets)
-    → (number status : ℕ) (packets : List Packet) → BeginsWith shape number status packets bytes → text ≡ block_text shape number status packets
+    → ((number status : ℕ) (packets : List Packet) → BeginsWith other number status packets bytes
+    → lent ≡ block_text other number status packets)
+    → (number status : ℕ) (packets : List Packet) → BeginsWith shape number status packets bytes
+    → text ≡ block_text shape number status packets
 copied_text shape other bytes text lent same is lends number status packets begins_with =
-    is ∙ lends number status packets (subst (λ (s : RingRequest). BeginsWith s number status packets bytes) (sym same) begins_with)
+    is ∙ lends number status packets
+    (subst (λ (s : RingRequest). BeginsWith s number status packets bytes) (sym same) begins_with)
     ∙ ap (λ (s : RingRequest). block_text s number status packets) same

@@ -1,19 +1,22 @@
 -- Two lists side by side, and changes at one place.
-use Rattle.std.proofs.Common.{◌≡◌, ◌≢◌, ℕ, zero, suc, ◌<◌, List, [], ◌∷◌, ◌++◌, length, get_or, set, refl, sym, ap, subst, arith}
+use Rattle.std.proofs.Common.{◌≡◌, ◌≢◌, ℕ, zero, suc, ◌<◌, List, [], ◌∷◌, ◌++◌, length, get_or, set, refl, sym, ap, subst}
+use Rattle.std.proofs.Common.{arith}
 use Rattle.std.specs.List.{AllByRecursion, AllZip}
 use mathlib.Core.Option.{some, some-injective, some-ne-none}
 use lib.ListN.{get_elem?}
 
 module _ {A B : Type 0} (R : A → B → Type 0) where
   -- the item beside an item
-  pub zip_at : (xs : List A) (ys : List B) (i : ℕ) (x : A) (d : B) → AllZip R xs ys → get_elem? xs i ≡ some x → R x (get_or ys i d)
+  pub zip_at : (xs : List A) (ys : List B) (i : ℕ) (x : A) (d : B) → AllZip R xs ys → get_elem? xs i ≡ some x
+      → R x (get_or ys i d)
   zip_at [] ys i x d all at = absurd (some-ne-none x (sym at))
   zip_at (z ∷ xs) [] i x d all at = absurd all
   zip_at (z ∷ xs) (y ∷ ys) zero x d all at = subst (λ (a : A). R a y) (some-injective z x at) all.0
   zip_at (z ∷ xs) (y ∷ ys) (suc i) x d all at = zip_at xs ys i x d all.1 at
 
   -- another item beside it
-  pub zip_set : (xs : List A) (ys : List B) (i : ℕ) (x : A) (y : B) → AllZip R xs ys → get_elem? xs i ≡ some x → R x y → AllZip R xs (set ys i y)
+  pub zip_set : (xs : List A) (ys : List B) (i : ℕ) (x : A) (y : B) → AllZip R xs ys → get_elem? xs i ≡ some x → R x y
+      → AllZip R xs (set ys i y)
   zip_set [] ys i x y all at now = absurd (some-ne-none x (sym at))
   zip_set (z ∷ xs) [] i x y all at now = absurd all
   zip_set (z ∷ xs) (w ∷ ys) zero x y all at now = (subst (λ (a : A). R a y) (sym (some-injective z x at)) now, all.1)
@@ -25,7 +28,8 @@ module _ {A B : Type 0} (R : A → B → Type 0) where
   zip_long (x ∷ xs) [] all = absurd all
   zip_long (x ∷ xs) (y ∷ ys) all = let rest = zip_long xs ys all.1 in omega (arith, rest)
 
-  pub zip_append : (xs more : List A) (ys later : List B) → AllZip R xs ys → AllZip R more later → AllZip R (xs ++ more) (ys ++ later)
+  pub zip_append : (xs more : List A) (ys later : List B) → AllZip R xs ys → AllZip R more later
+      → AllZip R (xs ++ more) (ys ++ later)
   zip_append [] more [] later all rest = rest
   zip_append [] more (y ∷ ys) later all rest = absurd all
   zip_append (x ∷ xs) more [] later all rest = absurd all

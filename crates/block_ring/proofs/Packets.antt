@@ -1,5 +1,6 @@
 -- What the close of a block writes, with one more packet.
-use Rattle.std.proofs.Common.{◌≡◌, ℕ, ◌+◌, ◌<◌, ◌≤◌, List, [], ◌∷◌, ◌++◌, length, refl, sym, ap, ◌∙◌, arith, length-append, length-take, add_assoc, Bool}
+use Rattle.std.proofs.Common.{◌≡◌, ℕ, ◌+◌, ◌<◌, ◌≤◌, List, [], ◌∷◌, ◌++◌, length, refl, sym, ap, ◌∙◌, arith, length-append}
+use Rattle.std.proofs.Common.{length-take, add_assoc, Bool}
 use Rattle.std.proofs.Math.Nat.{zero-add}
 use Rattle.std.specs.List.{AllByRecursion}
 use Rattle.std.proofs.lemmas.List.Sums.{sum_by-append, sum_by-cons}
@@ -19,7 +20,8 @@ pub packets_push : (shape : RingRequest) (offers : List Offer) (offer : Offer)
 packets_push shape [] offer = refl
 packets_push shape (first ∷ offers) offer = ap (λ ps. packet_of (fills_hash shape) first ∷ ps) (packets_push shape offers offer)
 
-pub writable_push : (offers : List Offer) (offer : Offer) → AllByRecursion IsWritable offers → IsWritable offer → AllByRecursion IsWritable (offers ++ offer ∷ [])
+pub writable_push : (offers : List Offer) (offer : Offer) → AllByRecursion IsWritable offers → IsWritable offer
+    → AllByRecursion IsWritable (offers ++ offer ∷ [])
 writable_push [] offer all one = (one, tt)
 writable_push (first ∷ offers) offer all one = (all.0, writable_push offers offer all.1 one)
 
@@ -33,7 +35,8 @@ snap_kept fill offer w = let kept = length-take offer.snap offer.frame.bytes in 
 pub need_kept : (fill : Bool) (offer : Offer) → IsWritable offer → need_of_packet (packet_of fill offer) ≡ need_of offer.snap
 need_kept fill offer w = ap need_of (snap_kept fill offer w)
 
-pub needs_are : (shape : RingRequest) (offers : List Offer) → AllByRecursion IsWritable offers → needs_of (packets_of_offers shape offers) ≡ used_by offers
+pub needs_are : (shape : RingRequest) (offers : List Offer) → AllByRecursion IsWritable offers
+    → needs_of (packets_of_offers shape offers) ≡ used_by offers
 needs_are shape [] all = refl
 needs_are shape (offer ∷ offers) all =
     let fill = fills_hash shape in
@@ -43,7 +46,8 @@ needs_are shape (offer ∷ offers) all =
     let rest = needs_are shape offers all.1 in
     first ∙ (ap (λ n. n + needs_of (packets_of_offers shape offers)) one ∙ (ap (λ n. need_of offer.snap + n) rest ∙ sym same))
 
-pub last_place_push : (at : ℕ) (packets : List Packet) (packet : Packet) → last_place at (packets ++ packet ∷ []) ≡ at + needs_of packets
+pub last_place_push : (at : ℕ) (packets : List Packet) (packet : Packet)
+    → last_place at (packets ++ packet ∷ []) ≡ at + needs_of packets
 last_place_push at [] packet = omega arith
 last_place_push at (p ∷ []) packet = ap (λ n. at + n) (sym (zero-add (need_of_packet p)))
 last_place_push at (p ∷ next ∷ packets) packet =
@@ -51,7 +55,8 @@ last_place_push at (p ∷ next ∷ packets) packet =
     last_place_push (at + need_of_packet p) (next ∷ packets) packet
     ∙ (add_assoc at (need_of_packet p) (needs_of (next ∷ packets)) ∙ ap (λ n. at + n) (sym first))
 
-pub last_time_push : (time : ℕ × ℕ) (packets : List Packet) (packet : Packet) → last_time_after time (packets ++ packet ∷ []) ≡ (packet.sec, packet.nsec)
+pub last_time_push : (time : ℕ × ℕ) (packets : List Packet) (packet : Packet)
+    → last_time_after time (packets ++ packet ∷ []) ≡ (packet.sec, packet.nsec)
 last_time_push time [] packet = refl
 last_time_push time (p ∷ packets) packet = last_time_push (p.sec, p.nsec) packets packet
 
@@ -60,8 +65,10 @@ pub need_least : (offer : Offer) → IsWritable offer → 88 ≤ need_of offer.s
 need_least offer w = let some = w.some in omega arith
 
 -- the last packet is not before the first place, and ends where the packets end
-pub last_place_within : (shape : RingRequest) (at : ℕ) (offers : List Offer) → AllByRecursion IsWritable offers → 0 < length offers
-    → (at ≤ last_place at (packets_of_offers shape offers)) × (last_place at (packets_of_offers shape offers) + 88 ≤ at + used_by offers)
+pub last_place_within : (shape : RingRequest) (at : ℕ) (offers : List Offer) → AllByRecursion IsWritable offers
+    → 0 < length offers
+    → (at ≤ last_place at (packets_of_offers shape offers))
+    × (last_place at (packets_of_offers shape offers) + 88 ≤ at + used_by offers)
 last_place_within shape at [] all some = absurd (omega arith)
 last_place_within shape at (offer ∷ []) all some = (omega arith, (let least = need_least offer all.0 in omega arith))
 last_place_within shape at (offer ∷ next ∷ offers) all some =
@@ -71,7 +78,8 @@ last_place_within shape at (offer ∷ next ∷ offers) all some =
     rw need (omega arith, omega arith)
 
 -- the close of a block with one more packet
-pub closing_push : (shape : RingRequest) (offers : List Offer) (offer : Offer) → AllByRecursion IsWritable offers → IsWritable offer
+pub closing_push : (shape : RingRequest) (offers : List Offer) (offer : Offer) → AllByRecursion IsWritable offers
+    → IsWritable offer
     → closing_of shape 0 (packets_of_offers shape (offers ++ offer ∷ [])) ≡ record {
       status = 0;
       packets = length (packets_of_offers shape offers) + 1;

@@ -1,5 +1,6 @@
 -- An end represents one more text.
-use Rattle.std.proofs.Common.{◌≡◌, ℕ, zero, suc, ◌+◌, ◌≤◌, List, [], ◌∷◌, ◌++◌, length, drop, refl, sym, subst, ap, ◌∙◌, arith, length-append, Bool, ◌^◌, Option, None, Some}
+use Rattle.std.proofs.Common.{◌≡◌, ℕ, zero, suc, ◌+◌, ◌≤◌, List, [], ◌∷◌, ◌++◌, length, drop, refl, sym, subst, ap, ◌∙◌, arith}
+use Rattle.std.proofs.Common.{length-append, Bool, ◌^◌, Option, None, Some}
 use Rattle.ring_model.specs.declared.notes.Offer.{Offer}
 use Rattle.ring_words.specs.Rings.{Entry, Feed}
 use Rattle.tp_layout.specs.Blocks.{BeginsWith}
@@ -12,12 +13,14 @@ use Rattle.block_ring.specs.OpenBlocks.{OpenText}
 use Rattle.block_ring.specs.declared.open_block.OpenBlock.{OpenBlock}
 use Rattle.block_ring.specs.Texts.{AreTexts, RepresentsTexts}
 
-drop_push : {X : Type 0} (count : ℕ) (all : List X) (x : X) → count ≤ length all → drop count (all ++ x ∷ []) ≡ drop count all ++ x ∷ []
+drop_push : {X : Type 0} (count : ℕ) (all : List X) (x : X) → count ≤ length all
+    → drop count (all ++ x ∷ []) ≡ drop count all ++ x ∷ []
 drop_push zero all x within = refl
 drop_push (suc count) [] x within = absurd (omega arith)
 drop_push (suc count) (y ∷ all) x within = drop_push count all x (omega arith)
 
-texts_push : (shape : RingRequest) (number last : ℕ) (entries : List Entry) (done : List (List Offer × ℕ)) (entry : Entry) (block : List Offer × ℕ)
+texts_push : (shape : RingRequest) (number last : ℕ) (entries : List Entry) (done : List (List Offer × ℕ)) (entry : Entry)
+    (block : List Offer × ℕ)
     → AreTexts shape number entries done → number + length done ≡ last
     → BeginsWith shape last block.1 (packets_of_offers shape block.0) entry.0 → entry.1 ≡ block.1
     → AreTexts shape number (entries ++ entry ∷ []) (done ++ block ∷ [])
@@ -29,7 +32,8 @@ texts_push shape number last (e ∷ entries) (b ∷ done) entry block all at tex
     (all.0, all.1, texts_push shape (number + 1) last entries done entry block all.2 (omega arith) text status)
 
 -- the end's list with the entry after it, given that the end reported retiring it
-pub represents_push : (shape : RingRequest) (done : List (List Offer × ℕ)) (before after : Feed) (entry : Entry) (block : List Offer × ℕ) (last : ℕ)
+pub represents_push : (shape : RingRequest) (done : List (List Offer × ℕ)) (before after : Feed) (entry : Entry)
+    (block : List Offer × ℕ) (last : ℕ)
     → RepresentsTexts shape done before → after.retired ≡ before.retired + 1 → after.passed ≡ before.passed
     → after.shown ≡ before.shown ++ entry ∷ [] → 1 + length done ≡ last
     → BeginsWith shape last block.1 (packets_of_offers shape block.0) entry.0 → entry.1 ≡ block.1
@@ -49,7 +53,8 @@ represents_push shape done before after entry block last (all, represents, texts
     )
 
 -- the open block is retired with its text
-pub retired_texts : (shape : RingRequest) (done : List (List Offer × ℕ)) (now : Option (List Offer)) (text : OpenText) (current : OpenBlock)
+pub retired_texts : (shape : RingRequest) (done : List (List Offer × ℕ)) (now : Option (List Offer)) (text : OpenText)
+    (current : OpenBlock)
     (before after : Feed) (content : List ℕ) (status : ℕ)
     → HoldsText shape text now (Some current) → RepresentsTexts shape done before
     → after ≡ record before { retired = before.retired + 1; shown = before.shown ++ (content, status) ∷ [] }
@@ -68,7 +73,8 @@ retired_texts shape done (Some offers) text current before after content status 
     )
 
 -- the machine has retired its open block
-pub retired_at : {E : Type 0} (feed : E → Feed) (in_hand : ℕ) (state : State) (machine : Machine E) (block : OpenBlock) (timed_out : Bool)
+pub retired_at : {E : Type 0} (feed : E → Feed) (in_hand : ℕ) (state : State) (machine : Machine E) (block : OpenBlock)
+    (timed_out : Bool)
     (after : E) (content : List ℕ) (status : ℕ)
     → IsAt feed in_hand state machine → machine.current ≡ Some block → status ≡ status_of timed_out state
     → feed after ≡ record (feed machine.end) {
@@ -80,7 +86,8 @@ pub retired_at : {E : Type 0} (feed : E → Feed) (in_hand : ℕ) (state : State
 retired_at feed in_hand state machine block timed_out after content status at current status_is retires begins =
     let holds : HoldsText machine.shape (text_of state) state.now (Some block) =
     subst (λ b. HoldsText machine.shape (text_of state) state.now b) current at.now_is in
-    let both = retired_texts machine.shape state.done state.now (text_of state) block (feed machine.end) (feed after) content status
+    let both = retired_texts machine.shape state.done state.now (text_of state) block (feed machine.end) (feed after)
+    content status
     holds at.texts retires begins in
     let texts = subst (λ s. RepresentsTexts machine.shape (retired state.done s state.now) (feed after)) status_is both.0 in
     let count = subst (λ s. length (retired state.done s state.now) ≡ length state.done + 1) status_is both.1 in

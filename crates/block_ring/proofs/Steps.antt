@@ -1,5 +1,6 @@
 -- One more note, and what the fields of a ring keep.
-use Rattle.std.proofs.Common.{◌≡◌, ℕ, ◌+◌, ◌-◌, ◌^◌, ◌<◌, ◌≤◌, List, [], ◌∷◌, ◌++◌, length, refl, sym, subst, ap, ◌∙◌, arith, length-append, Bool, true, false, Option, None, Some}
+use Rattle.std.proofs.Common.{◌≡◌, ℕ, ◌+◌, ◌-◌, ◌^◌, ◌<◌, ◌≤◌, List, [], ◌∷◌, ◌++◌, length, refl, sym, subst, ap, ◌∙◌, arith}
+use Rattle.std.proofs.Common.{length-append, Bool, true, false, Option, None, Some}
 use Rattle.std.specs.Prelude.{if◌then◌else◌, nat_lt}
 use Rattle.std.proofs.Common.{◌⊎◌, inl, inr}
 use Rattle.ring_model.specs.KnownReleases.{put_by, try_by}
@@ -23,7 +24,8 @@ use Rattle.block_ring.proofs.Notings.{counted, held_few, held_one, held_push, nu
 
 -- no count of a ring with one more note can overflow its type
 pub few_after : {E : Type 0} (feed : E → Feed) (before after_it : Machine E) (notes : List Note) (note : Note)
-    → Stepped feed (state_of (size_of before.shape) notes) note before after_it → length notes < 2 ^ 39 → after_it.clock ≤ 2 ^ 63 → IsFew after_it
+    → Stepped feed (state_of (size_of before.shape) notes) note before after_it → length notes < 2 ^ 39
+    → after_it.clock ≤ 2 ^ 63 → IsFew after_it
 few_after feed before after_it notes note step few clock =
     let all = counted (size_of before.shape) (notes ++ note ∷ []) in
     let at = subst (λ s. IsAt feed 0 s after_it) (sym (state_of-push (size_of before.shape) notes note)) step.at in
@@ -32,13 +34,16 @@ few_after feed before after_it notes note step few clock =
     record { opened = omega arith; packets = omega arith; freezes = omega arith; clock = clock }
 
 -- the end has looked as often as the notes report, the new one included
-pub looks_more : (notes : List Note) (note : Note) (before after : ℕ) → held_count notes ≤ before → length notes < 2 ^ 39 → before ≤ after
+pub looks_more : (notes : List Note) (note : Note) (before after : ℕ) → held_count notes ≤ before → length notes < 2 ^ 39
+    → before ≤ after
     → (held_in note ≡ 0) ⊎ Rose before after → held_count notes + held_in note ≤ after
 looks_more notes note before after looks few later (inl none) = omega arith
-looks_more notes note before after looks few later (inr rose) = let all = held_few notes in let one = held_one note in omega arith
+looks_more notes note before after looks few later (inr rose) = let all = held_few notes in let one =
+    held_one note in omega arith
 
 -- the same machine with another list of notes
-pub at_notes : {E : Type 0} (feed : E → Feed) (s : State) (machine : Machine E) (notes : _) → IsAt feed 0 s machine → IsAt feed 0 s (record machine { notes = notes })
+pub at_notes : {E : Type 0} (feed : E → Feed) (s : State) (machine : Machine E) (notes : _) → IsAt feed 0 s machine
+    → IsAt feed 0 s (record machine { notes = notes })
 at_notes feed s machine notes a = record {
   places = a.places;
   kind = a.kind;
@@ -75,20 +80,42 @@ module _ {E : Type 0} (feed : E → Feed) (given inside before after_it : Produc
         end = there.end;
       }
 
-  pub puts_given : (offer : Offer) (found : Found) (put : Put) → Puts feed inside after_it offer found put → Puts feed given after_it offer found put
+  pub puts_given : (offer : Offer) (found : Found) (put : Put) → Puts feed inside after_it offer found put
+      → Puts feed given after_it offer found put
   puts_given offer found put puts =
       let there = subst (λ p. Puts feed p after_it offer found put) same puts in
-      record { adds = adds_given (put_by offer found) puts.adds; told = puts.told; looked = there.looked; count = there.count; number = there.number; exact = there.exact }
+      record {
+        adds = adds_given (put_by offer found) puts.adds;
+        told = puts.told;
+        looked = there.looked;
+        count = there.count;
+        number = there.number;
+        exact = there.exact;
+      }
 
-  pub tries_given : (offer : Offer) (found : Found) (tried : Tried) → Tries feed inside after_it offer found tried → Tries feed given after_it offer found tried
+  pub tries_given : (offer : Offer) (found : Found) (tried : Tried) → Tries feed inside after_it offer found tried
+      → Tries feed given after_it offer found tried
   tries_given offer found tried tries =
       let there = subst (λ p. Tries feed p after_it offer found tried) same tries in
-      record { adds = adds_given (try_by offer found) tries.adds; told = tries.told; looked = there.looked; count = there.count; number = there.number; exact = there.exact }
+      record {
+        adds = adds_given (try_by offer found) tries.adds;
+        told = tries.told;
+        looked = there.looked;
+        count = there.count;
+        number = there.number;
+        exact = there.exact;
+      }
 
   pub ticks_given : (ms : ℕ) (found : Found) → Ticks feed inside after_it ms found → Ticks feed given after_it ms found
   ticks_given ms found ticks =
       let there = subst (λ p. Ticks feed p after_it ms found) same ticks in
-      record { adds = adds_given (Ticked ms found) ticks.adds; looked = there.looked; count = there.count; number = there.number; exact = there.exact }
+      record {
+        adds = adds_given (Ticked ms found) ticks.adds;
+        looked = there.looked;
+        count = there.count;
+        number = there.number;
+        exact = there.exact;
+      }
 
 module _ {E : Type 0} (feed : E → Feed) (before after_it : Machine E) (notes : List Note) (note : Note) (room room_after : ℕ)
     (keeps : Keeps feed before notes room) (step : Stepped feed (state_of (size_of before.shape) notes) note before after_it)
@@ -103,7 +130,8 @@ module _ {E : Type 0} (feed : E → Feed) (before after_it : Machine E) (notes :
       (subst (λ s. IsAt feed 0 s after_it) (sym (state_of-push (size_of before.shape) notes note)) step.at)
 
   -- what the fields keep, with the note
-  pub kept_on : (new_notes : _) (items : List Note) → items ≡ notes ++ note ∷ [] → length notes + 1 < room_after → IsFew after_it
+  pub kept_on : (new_notes : _) (items : List Note) → items ≡ notes ++ note ∷ [] → length notes + 1 < room_after
+      → IsFew after_it
       → Keeps feed (record after_it { notes = new_notes }) items room_after
   kept_on new_notes items pushed last few = rw pushed (record {
     at = at_notes feed _ after_it new_notes at_after;
@@ -131,17 +159,20 @@ module _ {E : Type 0} (feed : E → Feed) (before after_it : Machine E) (notes :
   })
 
 -- what a put and a try found, and how often the end looked
-pub put_looked : (offer : Offer) (found : Found) (before after : ℕ) → WasHeld found (Rose before after) → (held_in (put_by offer found) ≡ 0) ⊎ Rose before after
+pub put_looked : (offer : Offer) (found : Found) (before after : ℕ) → WasHeld found (Rose before after)
+    → (held_in (put_by offer found) ≡ 0) ⊎ Rose before after
 put_looked offer NotAsked before after rose = inl refl
 put_looked offer Free before after rose = inl refl
 put_looked offer (Held number) before after rose = inr rose
 
-pub try_looked : (offer : Offer) (found : Found) (before after : ℕ) → WasHeld found (Rose before after) → (held_in (try_by offer found) ≡ 0) ⊎ Rose before after
+pub try_looked : (offer : Offer) (found : Found) (before after : ℕ) → WasHeld found (Rose before after)
+    → (held_in (try_by offer found) ≡ 0) ⊎ Rose before after
 try_looked offer NotAsked before after rose = inl refl
 try_looked offer Free before after rose = inl refl
 try_looked offer (Held number) before after rose = inr rose
 
-pub tick_looked : (ms : ℕ) (found : Found) (before after : ℕ) → WasHeld found (Rose before after) → (held_in (Ticked ms found) ≡ 0) ⊎ Rose before after
+pub tick_looked : (ms : ℕ) (found : Found) (before after : ℕ) → WasHeld found (Rose before after)
+    → (held_in (Ticked ms found) ≡ 0) ⊎ Rose before after
 tick_looked ms NotAsked before after rose = inl refl
 tick_looked ms Free before after rose = inl refl
 tick_looked ms (Held number) before after rose = inr rose

@@ -1,5 +1,6 @@
 -- What a loop over the instructions of a program has checked.
-use Rattle.std.proofs.Common.{◌≡◌, ℕ, ◌+◌, ◌-◌, ◌<◌, ◌≤◌, Bool, true, false, List, [], ◌∷◌, length, drop, get_or, refl, ap, sym, ◌∙◌, subst, arith, Some, None, Option, add-one}
+use Rattle.std.proofs.Common.{◌≡◌, ℕ, ◌+◌, ◌-◌, ◌<◌, ◌≤◌, Bool, true, false, List, [], ◌∷◌, length, drop, get_or, refl, ap, sym}
+use Rattle.std.proofs.Common.{◌∙◌, subst, arith, Some, None, Option, add-one}
 use Rattle.std.specs.Option.{option_or}
 use Rattle.std.proofs.lemmas.Grind.{common_steps}
 use Rattle.std.proofs.Math.Seq.{drop-cons, drop-length}
@@ -11,7 +12,8 @@ use Rattle.std.specs.Prelude.{Result, Ok, Err, if◌then◌else◌, is_some, nat
 use Rattle.std.proofs.lemmas.Option.{none-some}
 use Rattle.bpf_filter.specs.Answers.{Refuses}
 use Rattle.bpf_filter.specs.Codes.{is_code}
-use Rattle.bpf_filter.specs.Programs.{program_of, program_after, fault_of, fault_of_known, first_fault, ends_with_return, is_among, has_bad_constant, has_bad_word, has_bad_place, has_bad_jump}
+use Rattle.bpf_filter.specs.Programs.{program_of, program_after, fault_of, fault_of_known, first_fault, ends_with_return}
+use Rattle.bpf_filter.specs.Programs.{is_among, has_bad_constant, has_bad_word, has_bad_place, has_bad_jump}
 use Rattle.bpf_filter.proofs.Leads.{AllFit, Fits, is_return}
 
 -- no instruction before the place has a fault
@@ -22,7 +24,9 @@ pub checked_none : (code : List Insn) → Checked code 0
 checked_none code = record { before = refl }
 
 -- the fault of the instruction at the place, with the faults after it
-fault_here : (code : List Insn) (at : ℕ) (d : Insn) → at < length code → first_fault at (drop at code) ≡ option_or (fault_of at (length code - at - 1) (get_or code at d)) (first_fault (at + 1) (drop (at + 1) code))
+fault_here : (code : List Insn) (at : ℕ) (d : Insn) → at < length code
+    → first_fault at (drop at code) ≡ option_or (fault_of at (length code - at - 1) (get_or code at d))
+    (first_fault (at + 1) (drop (at + 1) code))
 fault_here code at d l =
     let here : drop at code ≡ get_or code at d ∷ drop (at + 1) code = rw add-one (drop-cons code at d l) in
     let behind : length (drop (at + 1) code) ≡ length code - at - 1 = omega (arith, length-drop (at + 1) code) in
@@ -49,10 +53,12 @@ checked_all code at c e =
     let none : drop at code ≡ [] = ap (λ n. drop n code) e ∙ drop-length code in
     sym (c.before ∙ ap (first_fault at) none)
 
-last_behind : (i j : Insn) (code : List Insn) (d : Insn) → get_or (j ∷ code) (length (j ∷ code) - 1) d ≡ get_or (i ∷ j ∷ code) (length (i ∷ j ∷ code) - 1) d
+last_behind : (i j : Insn) (code : List Insn) (d : Insn)
+    → get_or (j ∷ code) (length (j ∷ code) - 1) d ≡ get_or (i ∷ j ∷ code) (length (i ∷ j ∷ code) - 1) d
 last_behind i j code d = grind (arith, common_steps)
 
-pub ends_by_last : (code : List Insn) (d : Insn) → 0 < length code → ends_with_return code ≡ is_among (0x06 ∷ 0x16 ∷ []) (get_or code (length code - 1) d).code
+pub ends_by_last : (code : List Insn) (d : Insn) → 0 < length code
+    → ends_with_return code ≡ is_among (0x06 ∷ 0x16 ∷ []) (get_or code (length code - 1) d).code
 ends_by_last [] d l = absurd (omega arith)
 ends_by_last (i ∷ []) d l = refl
 ends_by_last (i ∷ j ∷ code) d l =
@@ -60,14 +66,16 @@ ends_by_last (i ∷ j ∷ code) d l =
 
 -- if no fault is found, no test of the chain holds
 no_test_holds : (a b c d : Bool) (w x y z : FilterError)
-    → (if a then Some w else if b then Some x else if c then Some y else if d then Some z else None) ≡ None → (b ≡ false) × (d ≡ false)
+    → (if a then Some w else if b then Some x else if c then Some y else if d then Some z else None) ≡ None
+    → (b ≡ false) × (d ≡ false)
 no_test_holds true b c d w x y z h = absurd (none-some w (sym h))
 no_test_holds false true c d w x y z h = absurd (none-some x (sym h))
 no_test_holds false false true d w x y z h = absurd (none-some y (sym h))
 no_test_holds false false false true w x y z h = absurd (none-some z (sym h))
 no_test_holds false false false false w x y z h = (refl, refl)
 
-no_bad : (at behind : ℕ) (i : Insn) → fault_of_known at behind i ≡ None → (has_bad_word i ≡ false) × (has_bad_jump behind i ≡ false)
+no_bad : (at behind : ℕ) (i : Insn) → fault_of_known at behind i ≡ None
+    → (has_bad_word i ≡ false) × (has_bad_jump behind i ≡ false)
 no_bad at behind i h = no_test_holds (has_bad_constant i) (has_bad_word i) (has_bad_place i) (has_bad_jump behind i) _ _ _ _ h
 
 -- if no instruction has a fault, and the last one returns, each fits its place
@@ -75,7 +83,8 @@ one_fits : (at behind : ℕ) (i : Insn) → fault_of at behind i ≡ None → (b
 unfolding fault_of
 one_fits at behind i h last = by_test (is_code i.code) refl h
   where
-    by_test : (known : Bool) → is_code i.code ≡ known → (if known then fault_of_known at behind i else Some (BadCode at)) ≡ None → Fits behind i
+    by_test : (known : Bool) → is_code i.code ≡ known → (if known then fault_of_known at behind i else Some (BadCode at)) ≡ None
+        → Fits behind i
     by_test true is h =
         let none = no_bad at behind i h in
         record { runnable = record { known = is; word = none.0 }; jump = none.1; last = last }
@@ -114,17 +123,22 @@ program_of-small code h =
     let short : nat_lt 4096 (length code) ≡ false = grind arith in
     not_too_many _ _ _ short
 
-refuses_after : (error : FilterError) (fault : Option FilterError) (code : List Insn) → fault ≡ Some error → Refuses error (program_after fault code)
+refuses_after : (error : FilterError) (fault : Option FilterError) (code : List Insn) → fault ≡ Some error
+    → Refuses error (program_after fault code)
 refuses_after Memory fault code h = tt
 refuses_after error fault code h = ap (λ fault. program_after fault code) h
 
-pub refuses_fault : (error : FilterError) (code : List Insn) → length code ≤ 4096 → first_fault 0 code ≡ Some error → Refuses error (program_of code)
-refuses_fault error code l h = subst (Refuses error) (sym (program_of-small code l)) (refuses_after error (first_fault 0 code) code h)
+pub refuses_fault : (error : FilterError) (code : List Insn) → length code ≤ 4096 → first_fault 0 code ≡ Some error
+    → Refuses error (program_of code)
+refuses_fault error code l h =
+    subst (Refuses error) (sym (program_of-small code l)) (refuses_after error (first_fault 0 code) code h)
 
-pub program_of-no_return : (code : List Insn) → length code ≤ 4096 → first_fault 0 code ≡ None → ends_with_return code ≡ false → program_of code ≡ Err NoReturn
+pub program_of-no_return : (code : List Insn) → length code ≤ 4096 → first_fault 0 code ≡ None → ends_with_return code ≡ false
+    → program_of code ≡ Err NoReturn
 program_of-no_return code l h e = program_of-small code l ∙ ap (λ fault. program_after fault code) h ∙ rw e refl
 
-pub program_of-good : (code : List Insn) → length code ≤ 4096 → first_fault 0 code ≡ None → ends_with_return code ≡ true → program_of code ≡ Ok code
+pub program_of-good : (code : List Insn) → length code ≤ 4096 → first_fault 0 code ≡ None → ends_with_return code ≡ true
+    → program_of code ≡ Ok code
 program_of-good code l h e = program_of-small code l ∙ ap (λ fault. program_after fault code) h ∙ rw e refl
 
 -- ---- what is known of a program that was accepted
@@ -133,7 +147,8 @@ pub record Parts (fault : Option FilterError) (code : List Insn) : Type 0 where
   pub none : fault ≡ None
   pub ends : ends_with_return code ≡ true
 
-ends_with : (ends : Bool) (code : List Insn) → ◌≡◌ {A = Result (List Insn) FilterError} (if ends then Ok code else Err NoReturn) (Ok code) → ends ≡ true
+ends_with : (ends : Bool) (code : List Insn)
+    → ◌≡◌ {A = Result (List Insn) FilterError} (if ends then Ok code else Err NoReturn) (Ok code) → ends ≡ true
 ends_with true code h = refl
 ends_with false code h = cc
 
@@ -145,7 +160,8 @@ parts_of : (code : List Insn) → program_of code ≡ Ok code → Parts (first_f
 unfolding program_of
 parts_of code h = by_test (nat_lt 4096 (length code)) h
   where
-    by_test : (long : Bool) → ◌≡◌ {A = Result (List Insn) FilterError} (if long then Err BadCount else program_after (first_fault 0 code) code) (Ok code) → Parts (first_fault 0 code) code
+    by_test : (long : Bool) → ◌≡◌ {A = Result (List Insn) FilterError}
+        (if long then Err BadCount else program_after (first_fault 0 code) code) (Ok code) → Parts (first_fault 0 code) code
     by_test true h = cc
     by_test false h = parts_after (first_fault 0 code) code h
 
@@ -165,6 +181,8 @@ pub accepted_small : (code : List Insn) → program_of code ≡ Ok code → leng
 unfolding program_of
 accepted_small code h = by_test (nat_lt 4096 (length code)) refl h
   where
-    by_test : (long : Bool) → nat_lt 4096 (length code) ≡ long → ◌≡◌ {A = Result (List Insn) FilterError} (if long then Err BadCount else program_after (first_fault 0 code) code) (Ok code) → length code ≤ 4096
+    by_test : (long : Bool) → nat_lt 4096 (length code) ≡ long
+        → ◌≡◌ {A = Result (List Insn) FilterError} (if long then Err BadCount else program_after (first_fault 0 code) code)
+        (Ok code) → length code ≤ 4096
     by_test true l h = cc
     by_test false l h = grind arith

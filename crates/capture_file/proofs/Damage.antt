@@ -50,20 +50,23 @@ too_many_as true bytes many = some_fault (pcapng.damage_of bytes) (blocks.too_ma
 too_many_as false bytes many = records.too_many bytes many
 
 pub too_many : (bytes : List ℕ) → 33554432 < length bytes → IsSome (damage_of bytes)
-too_many bytes many = subst (λ (damage : Option CaptureError). IsSome damage) (sym (damage_is bytes)) (too_many_as (is_pcapng bytes) bytes many)
+too_many bytes many = subst (λ (damage : Option CaptureError). IsSome damage) (sym (damage_is bytes))
+    (too_many_as (is_pcapng bytes) bytes many)
 
 -- ---- damage is never a cut
 
-fault_uncut : (fault : Option BlockError) (place : ℕ) → fault ≢ Some (faults.Truncated place) → option_map error_from fault ≢ Some (Truncated place)
+fault_uncut : (fault : Option BlockError) (place : ℕ) → fault ≢ Some (faults.Truncated place)
+    → option_map error_from fault ≢ Some (Truncated place)
 fault_uncut None place uncut e = cc
 fault_uncut (Some faults.BadMagic) place uncut e = cc
 fault_uncut (Some faults.BadVersion) place uncut e = cc
 fault_uncut (Some (faults.BadLink link)) place uncut e = cc
 fault_uncut (Some (faults.BadLength other)) place uncut e = cc
 fault_uncut (Some (faults.BadInterface other)) place uncut e = cc
-fault_uncut (Some (faults.Truncated other)) place uncut e = uncut (ap (λ (p : ℕ). Some (faults.Truncated p)) (same_place e)) where
-  same_place : ◌≡◌ {A = Option CaptureError} (Some (Truncated other)) (Some (Truncated place)) → other ≡ place
-  same_place e = cc
+fault_uncut (Some (faults.Truncated other)) place uncut e =
+    uncut (ap (λ (p : ℕ). Some (faults.Truncated p)) (same_place e)) where
+      same_place : ◌≡◌ {A = Option CaptureError} (Some (Truncated other)) (Some (Truncated place)) → other ≡ place
+      same_place e = cc
 fault_uncut (Some faults.TooLarge) place uncut e = cc
 
 uncut_as : (kind : Bool) (bytes : List ℕ) (place : ℕ) → damage_as kind bytes ≢ Some (Truncated place)

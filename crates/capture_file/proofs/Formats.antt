@@ -1,5 +1,6 @@
 -- The format of a capture, and what its bytes say in it.
-use Rattle.std.proofs.Common.{◌≡◌, ℕ, ◌+◌, ◌-◌, ◌≤◌, ◌<◌, Bool, true, false, List, [], ◌∷◌, ◌++◌, length, take, drop, refl, sym, ap, subst, ◌∙◌, inl, inr, arith, append_assoc}
+use Rattle.std.proofs.Common.{◌≡◌, ℕ, ◌+◌, ◌-◌, ◌≤◌, ◌<◌, Bool, true, false, List, [], ◌∷◌, ◌++◌, length, take, drop, refl, sym}
+use Rattle.std.proofs.Common.{ap, subst, ◌∙◌, inl, inr, arith, append_assoc}
 use Rattle.std.specs.Prelude.{nat_lt, bytes_eq, Option, None, Some, option_map, if◌then◌else◌}
 use Rattle.std.specs.Option.{option_or}
 use Rattle.std.proofs.lemmas.Bool.{cases_Bool, lt-ltb}
@@ -43,20 +44,25 @@ few_not_pcapng bytes few =
     ]
 
 -- four bytes are enough to know the format
-pub other_format : (bytes magic : List ℕ) → length bytes ≡ 4 → magic ≡ section_type → false ≡ bytes_eq bytes magic → false ≡ is_pcapng bytes
+pub other_format : (bytes magic : List ℕ) → length bytes ≡ 4 → magic ≡ section_type → false ≡ bytes_eq bytes magic
+    → false ≡ is_pcapng bytes
 unfolding is_pcapng
 other_format bytes magic four same other =
-    other ∙ ap (bytes_eq bytes) same ∙ ap (λ (xs : List ℕ). bytes_eq xs section_type) (sym (take_all 4 bytes (omega (arith, four))))
+    other ∙ ap (bytes_eq bytes) same ∙ ap (λ (xs : List ℕ). bytes_eq xs section_type)
+    (sym (take_all 4 bytes (omega (arith, four))))
 
 word_alone : (rest : List ℕ) → numbers.number_at orders.Little 4 0 (pcapng.counted (section_type ++ rest)) ≡ 0x0a0d0d0a
 unfolding numbers.number_at
 word_alone rest = refl
 
 -- the first word of a pcapng capture
-pub first_word : (bytes : List ℕ) → is_pcapng bytes ≡ true → numbers.number_at orders.Little 4 0 (pcapng.counted bytes) ≡ 0x0a0d0d0a
+pub first_word : (bytes : List ℕ) → is_pcapng bytes ≡ true
+    → numbers.number_at orders.Little 4 0 (pcapng.counted bytes) ≡ 0x0a0d0d0a
 first_word bytes h =
-    let all : section_type ++ drop 4 bytes ≡ bytes = ap (λ (xs : List ℕ). xs ++ drop 4 bytes) (sym (begins_so bytes h)) ∙ take-append-drop 4 bytes in
-    subst (λ (xs : List ℕ). numbers.number_at orders.Little 4 0 (pcapng.counted xs) ≡ 0x0a0d0d0a) all (word_alone (drop 4 bytes))
+    let all : section_type ++ drop 4 bytes ≡ bytes =
+    ap (λ (xs : List ℕ). xs ++ drop 4 bytes) (sym (begins_so bytes h)) ∙ take-append-drop 4 bytes in
+    subst (λ (xs : List ℕ). numbers.number_at orders.Little 4 0 (pcapng.counted xs) ≡ 0x0a0d0d0a) all
+    (word_alone (drop 4 bytes))
 
 -- ---- what a capture says, in its format
 
@@ -68,18 +74,24 @@ pub damage_is : (bytes : List ℕ) → damage_of bytes ≡ damage_as (is_pcapng 
 unfolding damage_of
 damage_is bytes = refl
 
-map_or : (damage cut : Option BlockError) → option_map error_from (option_or damage cut) ≡ option_or (option_map error_from damage) (option_map error_from cut)
+map_or : (damage cut : Option BlockError) → option_map error_from (option_or damage cut)
+    ≡ option_or (option_map error_from damage) (option_map error_from cut)
 map_or (Some error) cut = refl
 map_or None cut = refl
 
-map_cut : (cut : Bool) (stop : ℕ) → option_map error_from (if cut then Some (faults.Truncated stop) else None) ≡ (if cut then Some (Truncated stop) else None)
+map_cut : (cut : Bool) (stop : ℕ) → option_map error_from (if cut then Some (faults.Truncated stop) else None)
+    ≡ (if cut then Some (Truncated stop) else None)
 map_cut true stop = refl
 map_cut false stop = refl
 
 end_by : (blocks : Bool) (bytes : List ℕ) → is_pcapng bytes ≡ blocks → end_of bytes ≡ end_as blocks bytes
 unfolding end_of damage_of stop_of pcap.end_of
 end_by true bytes h =
-    rw (h, map_or (pcapng.damage_of bytes) (pcapng.cut_of bytes), map_cut (nat_lt (pcapng.stop_of bytes) (length bytes)) (pcapng.stop_of bytes)) refl
+    rw (
+      h,
+      map_or (pcapng.damage_of bytes) (pcapng.cut_of bytes),
+      map_cut (nat_lt (pcapng.stop_of bytes) (length bytes)) (pcapng.stop_of bytes),
+    ) refl
 end_by false bytes h = rw h refl
 
 pub end_is : (bytes : List ℕ) → end_of bytes ≡ end_as (is_pcapng bytes) bytes
@@ -111,18 +123,22 @@ brief cpu bytes few =
 
 -- ---- collecting the first four bytes
 
-module _ (start piece new fed : List ℕ) (few : length start < 4) (same : start ≡ fed) (all : new ≡ start ++ take (4 - length start) piece) where
+module _ (start piece new fed : List ℕ) (few : length start < 4) (same : start ≡ fed)
+    (all : new ≡ start ++ take (4 - length start) piece) where
   -- fewer than four are all that were fed
   pub gathers : length new < 4 → new ≡ fed ++ piece
   gathers less =
-      let long : length new ≡ length start + length (take (4 - length start) piece) = ap length all ∙ length-append start (take (4 - length start) piece) in
-      let whole : take (4 - length start) piece ≡ piece = take_all (4 - length start) piece (omega (arith, length-take (4 - length start) piece)) in
+      let long : length new ≡ length start + length (take (4 - length start) piece) =
+      ap length all ∙ length-append start (take (4 - length start) piece) in
+      let whole : take (4 - length start) piece ≡ piece =
+      take_all (4 - length start) piece (omega (arith, length-take (4 - length start) piece)) in
       all ∙ ap (λ (xs : List ℕ). start ++ xs) whole ∙ ap (λ (xs : List ℕ). xs ++ piece) same
 
   -- otherwise they are four, and the rest of the piece is after them
   pub gathers_four : 4 ≤ length new → length new ≡ 4
   gathers_four full =
-      let long : length new ≡ length start + length (take (4 - length start) piece) = ap length all ∙ length-append start (take (4 - length start) piece) in
+      let long : length new ≡ length start + length (take (4 - length start) piece) =
+      ap length all ∙ length-append start (take (4 - length start) piece) in
       omega (arith, length-take (4 - length start) piece)
 
   pub gathers_all : new ++ drop (4 - length start) piece ≡ fed ++ piece

@@ -1,5 +1,6 @@
 -- What holds of the frames of a capture, in either format.
-use Rattle.std.proofs.Common.{◌≡◌, ℕ, ◌^◌, ◌≤◌, ◌<◌, Bool, true, false, List, ◌++◌, length, refl, sym, ap, subst, ◌∙◌, inl, inr, arith}
+use Rattle.std.proofs.Common.{◌≡◌, ℕ, ◌^◌, ◌≤◌, ◌<◌, Bool, true, false, List, ◌++◌, length, refl, sym, ap, subst, ◌∙◌, inl, inr}
+use Rattle.std.proofs.Common.{arith}
 use Rattle.std.specs.Prelude.{slice_get, get_or, All, Option, None, Some, IfSome}
 use Rattle.std.proofs.lemmas.Option.{slice_get-get_or}
 use Rattle.std.specs.List.{sum_by}
@@ -26,30 +27,37 @@ frames_by P number bytes as_blocks as_records = subst P (sym (frames_are number 
 
 -- ---- more bytes
 
-append_as : (kind : Bool) (number : ℕ) (bytes more : List ℕ) → (new : List Frame) × (frames_as kind number (bytes ++ more) ≡ frames_as kind number bytes ++ new)
+append_as : (kind : Bool) (number : ℕ) (bytes more : List ℕ)
+    → (new : List Frame) × (frames_as kind number (bytes ++ more) ≡ frames_as kind number bytes ++ new)
 append_as true number bytes more = blocks.frames_append number bytes more
 append_as false number bytes more = records.frames_append number bytes more
 
-pub frames_append : (number : ℕ) (bytes more : List ℕ) → (new : List Frame) × (frames_of number (bytes ++ more) ≡ frames_of number bytes ++ new)
+pub frames_append : (number : ℕ) (bytes more : List ℕ)
+    → (new : List Frame) × (frames_of number (bytes ++ more) ≡ frames_of number bytes ++ new)
 frames_append number bytes more =
     elim (cases_lt (length bytes) 4) [
       | inl few ↦ (frames_of number (bytes ++ more), rw ((brief number bytes few).frames) refl)
       | inr full ↦
           let told = append_as (is_pcapng bytes) number bytes more in
           let now : frames_of number (bytes ++ more) ≡ frames_as (is_pcapng bytes) number (bytes ++ more) =
-          frames_are number (bytes ++ more) ∙ ap (λ (kind : Bool). frames_as kind number (bytes ++ more)) (format_stays bytes more full) in
+          frames_are number (bytes ++ more) ∙ ap (λ (kind : Bool). frames_as kind number (bytes ++ more))
+          (format_stays bytes more full) in
           (told.0, now ∙ told.1 ∙ ap (λ (frames : List Frame). frames ++ told.0) (sym (frames_are number bytes)))
     ]
 
 -- ---- each frame
 
-numbered_block : (frame : Option Frame) (number index : ℕ) → IfSome frame (packets.IsPacketFrame number index) → IfSome frame (IsNumbered number index)
+numbered_block : (frame : Option Frame) (number index : ℕ) → IfSome frame (packets.IsPacketFrame number index)
+    → IfSome frame (IsNumbered number index)
 numbered_block None number index h = h
 numbered_block (Some frame) number index h = record { cpu = h.cpu; place = h.place; tag = h.tag }
 
-pub frames_numbered : (number index : ℕ) (bytes : List ℕ) → IfSome (slice_get (frames_of number bytes) index) (IsNumbered number index)
-frames_numbered number index bytes = frames_by (λ (frames : List Frame). IfSome (slice_get frames index) (IsNumbered number index)) number bytes
-    (λ h. numbered_block (slice_get (pcapng.frames_of number bytes) index) number index (blocks.frames_numbered number index bytes))
+pub frames_numbered : (number index : ℕ) (bytes : List ℕ)
+    → IfSome (slice_get (frames_of number bytes) index) (IsNumbered number index)
+frames_numbered number index bytes =
+    frames_by (λ (frames : List Frame). IfSome (slice_get frames index) (IsNumbered number index)) number bytes
+    (λ h. numbered_block (slice_get (pcapng.frames_of number bytes) index) number index
+    (blocks.frames_numbered number index bytes))
     (records.frames_numbered number index bytes)
 
 -- ---- how many
@@ -59,7 +67,8 @@ frames_few number bytes = frames_by (λ (frames : List Frame). length frames ≤
     (λ h. firsts.frames_few number bytes (first_word bytes h)) (records.frames_few number bytes)
 
 pub frames_within : (number : ℕ) (bytes : List ℕ) → sum_by (λ frame. length frame.bytes) (frames_of number bytes) ≤ length bytes
-frames_within number bytes = frames_by (λ (frames : List Frame). sum_by (λ frame. length frame.bytes) frames ≤ length bytes) number bytes
+frames_within number bytes =
+    frames_by (λ (frames : List Frame). sum_by (λ frame. length frame.bytes) frames ≤ length bytes) number bytes
     (λ h. let sum = blocks.frames_bytes number bytes in let stop = blocks.stop_within_bytes bytes in omega (arith, sum, stop))
     (records.frames_within number bytes)
 
@@ -80,7 +89,8 @@ pub frames_captured : (number : ℕ) (bytes : List ℕ) → All IsCaptured (fram
 frames_captured number bytes = frames_by (λ (frames : List Frame). All IsCaptured frames) number bytes
     (λ h. captured_blocks number bytes) (records.frames_captured number bytes)
 
-fitting_blocks : (number : ℕ) (bytes : List ℕ) → is_pcapng bytes ≡ true → number < 2 ^ 32 → All (λ byte. byte < 256) bytes → All FitsFrame (pcapng.frames_of number bytes)
+fitting_blocks : (number : ℕ) (bytes : List ℕ) → is_pcapng bytes ≡ true → number < 2 ^ 32 → All (λ byte. byte < 256) bytes
+    → All FitsFrame (pcapng.frames_of number bytes)
 fitting_blocks number bytes h small fits index default within =
     let told = block_at number index bytes default within in
     let numbers = fitting.frames_fitting number bytes fits index default within in
@@ -93,6 +103,7 @@ fitting_blocks number bytes h small fits index default within =
       bytes = numbers.bytes;
     }
 
-pub frames_fitting : (number : ℕ) (bytes : List ℕ) → number < 2 ^ 32 → All (λ byte. byte < 256) bytes → All FitsFrame (frames_of number bytes)
+pub frames_fitting : (number : ℕ) (bytes : List ℕ) → number < 2 ^ 32 → All (λ byte. byte < 256) bytes
+    → All FitsFrame (frames_of number bytes)
 frames_fitting number bytes small fits = frames_by (λ (frames : List Frame). All FitsFrame frames) number bytes
     (λ h. fitting_blocks number bytes h small fits) (records.frames_fitting number bytes small fits)

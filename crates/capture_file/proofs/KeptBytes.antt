@@ -17,7 +17,8 @@ use Rattle.capture_file.proofs.PcapFrames.{concat_within}
 
 -- ---- of records
 
-stop_behind_within : (header : Result Format CaptureError) (bytes : List ℕ) → 24 ≤ length bytes → pcap.stop_behind header bytes ≤ length bytes
+stop_behind_within : (header : Result Format CaptureError) (bytes : List ℕ) → 24 ≤ length bytes
+    → pcap.stop_behind header bytes ≤ length bytes
 stop_behind_within (Err damage) bytes full = omega arith
 stop_behind_within (Ok format) bytes full =
     let body = drop 24 (pcap.counted bytes) in
@@ -31,22 +32,26 @@ stop_within bytes =
       | inr full ↦ rw (le-ltb _ _ full) (stop_behind_within (pcap.header_of bytes) bytes full)
     ]
 
-kept_by_damage : (bytes : List ℕ) (damage : Option CaptureError) → pcap.stop_of bytes + length (records.kept_by damage bytes) ≤ length bytes
+kept_by_damage : (bytes : List ℕ) (damage : Option CaptureError)
+    → pcap.stop_of bytes + length (records.kept_by damage bytes) ≤ length bytes
 kept_by_damage bytes None = omega (arith, stop_within bytes, length-drop (pcap.stop_of bytes) bytes)
 kept_by_damage bytes (Some damage) = omega (arith, stop_within bytes)
 
 -- ---- of either format
 
-is_mapped : (fault : Option BlockError) (damage : Option CaptureError) → option_map error_from fault ≡ damage → IsSome damage → IsSome fault
+is_mapped : (fault : Option BlockError) (damage : Option CaptureError) → option_map error_from fault ≡ damage → IsSome damage
+    → IsSome fault
 is_mapped None damage e some = let no = rw (← e) at some in absurd cc
 is_mapped (Some error) damage e some = refl
 
-after_stop : (kind : Bool) (bytes : List ℕ) → is_pcapng bytes ≡ kind → stop_of bytes + length (kept_as kind bytes) ≤ length bytes
+after_stop : (kind : Bool) (bytes : List ℕ) → is_pcapng bytes ≡ kind
+    → stop_of bytes + length (kept_as kind bytes) ≤ length bytes
 unfolding stop_of
 after_stop true bytes h = rw h (blocks.kept_few bytes)
 after_stop false bytes h = rw h (kept_by_damage bytes (pcap.damage_of bytes))
 
-none_damaged : (kind : Bool) (bytes : List ℕ) (damage : Option CaptureError) → damage_as kind bytes ≡ damage → IsSome damage → length (kept_as kind bytes) ≡ 0
+none_damaged : (kind : Bool) (bytes : List ℕ) (damage : Option CaptureError) → damage_as kind bytes ≡ damage → IsSome damage
+    → length (kept_as kind bytes) ≡ 0
 none_damaged true bytes damage e some = blocks.kept_damaged bytes (is_mapped (pcapng.damage_of bytes) damage e some)
 none_damaged false bytes None e some = absurd cc
 none_damaged false bytes (Some damage) e some = rw e refl

@@ -21,20 +21,23 @@ record StaysAs (blocks : Bool) (number : ℕ) (bytes more : List ℕ) (damage : 
   same : damage_as blocks (bytes ++ more) ≡ Some damage
   frames : frames_as blocks number (bytes ++ more) ≡ frames_as blocks number bytes
 
-stays_blocks : (number : ℕ) (bytes more : List ℕ) (damage : CaptureError) (fault : Option BlockError) → pcapng.damage_of bytes ≡ fault → option_map error_from fault ≡ Some damage
+stays_blocks : (number : ℕ) (bytes more : List ℕ) (damage : CaptureError) (fault : Option BlockError)
+    → pcapng.damage_of bytes ≡ fault → option_map error_from fault ≡ Some damage
     → StaysAs true number bytes more damage
 stays_blocks number bytes more damage None e h = absurd cc
 stays_blocks number bytes more damage (Some fault) e h =
     let told = blocks.stays number bytes more fault e in
     record { same = rw told.damage h; frames = told.frames }
 
-stays_as : (kind : Bool) (number : ℕ) (bytes more : List ℕ) (damage : CaptureError) → damage_as kind bytes ≡ Some damage → StaysAs kind number bytes more damage
+stays_as : (kind : Bool) (number : ℕ) (bytes more : List ℕ) (damage : CaptureError) → damage_as kind bytes ≡ Some damage
+    → StaysAs kind number bytes more damage
 stays_as true number bytes more damage e = stays_blocks number bytes more damage (pcapng.damage_of bytes) refl e
 stays_as false number bytes more damage e =
     let told = records.stays number bytes more damage e in
     record { same = told.same; frames = told.frames }
 
-pub stays : (number : ℕ) (bytes more : List ℕ) (damage : CaptureError) → damage_of bytes ≡ Some damage → Stays number bytes more damage
+pub stays : (number : ℕ) (bytes more : List ℕ) (damage : CaptureError) → damage_of bytes ≡ Some damage
+    → Stays number bytes more damage
 stays number bytes more damage e =
     elim (cases_lt (length bytes) 4) [
       | inl few ↦ let none = (brief number bytes few).damage in absurd (cc (e, none))
@@ -43,10 +46,12 @@ stays number bytes more damage e =
           let told = stays_as (is_pcapng bytes) number bytes more damage (sym (damage_is bytes) ∙ e) in
           record {
             same = damage_is (bytes ++ more) ∙ ap (λ (kind : Bool). damage_as kind (bytes ++ more)) format ∙ told.same;
-            frames = frames_are number (bytes ++ more) ∙ ap (λ (kind : Bool). frames_as kind number (bytes ++ more)) format ∙ told.frames ∙ sym (frames_are number bytes);
+            frames = frames_are number (bytes ++ more) ∙ ap (λ (kind : Bool). frames_as kind number (bytes ++ more)) format
+                ∙ told.frames ∙ sym (frames_are number bytes);
           }
     ]
 
-pub stays_frames : (number : ℕ) (bytes more : List ℕ) (damage : Option CaptureError) → damage_of bytes ≡ damage → IsSome damage → frames_of number (bytes ++ more) ≡ frames_of number bytes
+pub stays_frames : (number : ℕ) (bytes more : List ℕ) (damage : Option CaptureError) → damage_of bytes ≡ damage → IsSome damage
+    → frames_of number (bytes ++ more) ≡ frames_of number bytes
 stays_frames number bytes more (Some damage) e some = (stays number bytes more damage e).frames
 stays_frames number bytes more None e some = absurd cc

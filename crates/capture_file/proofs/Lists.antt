@@ -9,7 +9,8 @@ front_more old new more h =
     take-append-le (length old) new more le ∙ h
 
 -- a prefix of a prefix is a prefix
-pub front_through : {A : Type 0} (old more mid new : List A) → mid ≡ old ++ more → take (length mid) new ≡ mid → take (length old) new ≡ old
+pub front_through : {A : Type 0} (old more mid new : List A) → mid ≡ old ++ more → take (length mid) new ≡ mid
+    → take (length old) new ≡ old
 front_through old more mid new m h =
     let le : length old ≤ length mid = omega (arith, length-append old more, ap length m) in
     sym (take-take (length old) (length mid) new le) ∙ rw (h, m) (take_at old more (length old) refl)

@@ -27,7 +27,8 @@ ways format bytes full passed =
           ]
     ]
 
-not_memory_by : (bytes : List ℕ) (header : Result Format CaptureError) → 24 ≤ length bytes → header_of bytes ≡ header → damage_of bytes ≢ Some Memory
+not_memory_by : (bytes : List ℕ) (header : Result Format CaptureError) → 24 ≤ length bytes → header_of bytes ≡ header
+    → damage_of bytes ≢ Some Memory
 not_memory_by bytes (Ok format) full e m =
     elim (ways format bytes full e) [
       | oversized d ↦ absurd (cc (d, m))
@@ -45,7 +46,8 @@ damage_not_memory bytes m =
       | inr full ↦ not_memory_by bytes (header_of bytes) full refl m
     ]
 
-or_not_memory : (damage : Option CaptureError) (bytes : List ℕ) → damage ≢ Some Memory → option_or damage (cut_of bytes) ≢ Some Memory
+or_not_memory : (damage : Option CaptureError) (bytes : List ℕ) → damage ≢ Some Memory
+    → option_or damage (cut_of bytes) ≢ Some Memory
 or_not_memory (Some damage) bytes not m = not m
 or_not_memory None bytes not m =
     elim (cases_lt (length bytes) 24) [
@@ -61,7 +63,8 @@ pub end_not_memory : (bytes : List ℕ) → end_of bytes ≢ Some Memory
 unfolding end_of
 end_not_memory bytes = or_not_memory (damage_of bytes) bytes (damage_not_memory bytes)
 
-too_many_by : (bytes : List ℕ) (header : Result Format CaptureError) → 33554432 < length bytes → header_of bytes ≡ header → IsSome (damage_of bytes)
+too_many_by : (bytes : List ℕ) (header : Result Format CaptureError) → 33554432 < length bytes → header_of bytes ≡ header
+    → IsSome (damage_of bytes)
 too_many_by bytes (Ok format) many e =
     elim (ways format bytes (omega arith) e) [
       | oversized d ↦ rw d refl

@@ -16,7 +16,8 @@ use Rattle.capture_file.proofs.PcapFeeds.{short, damage_is_error}
 use Rattle.capture_file.proofs.PcapOutcomes.{kept_none}
 
 -- a decoder that nothing was fed to
-pub represents_new : (number : ℕ) (kept : List ℕ) → kept ≡ [] → Represents number (record { cpu = number; stage = Header; stop = 0; index = 0; rest = kept }) []
+pub represents_new : (number : ℕ) (kept : List ℕ) → kept ≡ []
+    → Represents number (record { cpu = number; stage = Header; stop = 0; index = 0; rest = kept }) []
 represents_new number kept none =
     let told = short number [] (omega arith) in
     record {
@@ -31,7 +32,8 @@ behind_not_header : (header : Result Format CaptureError) → stage_behind heade
 behind_not_header (Ok format) e = cc
 behind_not_header (Err damage) e = cc
 
-module _ (number : ℕ) (decoder old : PcapValue) (fed : List ℕ) (view : decoder ≡ old) (represents : Represents number old fed) where
+module _ (number : ℕ) (decoder old : PcapValue) (fed : List ℕ) (view : decoder ≡ old)
+    (represents : Represents number old fed) where
   at : decoder.stage ≡ stage_of fed
   at = ap (λ (v : PcapValue). v.stage) view ∙ represents.stage
 
@@ -76,7 +78,8 @@ module _ (number : ℕ) (decoder old : PcapValue) (fed : List ℕ) (view : decod
       let few : length fed ≤ stop_of fed = omega (arith, length-drop (stop_of fed) fed, ap length left) in
       rw (good, le-ltb _ _ (records_full format e), le-ltb _ _ few) refl
 
-  pub end_cut : (format : Format) → decoder.stage ≡ Records format → (decoder.rest ≡ [] → ⊥) → Some (Truncated decoder.stop) ≡ end_of fed
+  pub end_cut : (format : Format) → decoder.stage ≡ Records format → (decoder.rest ≡ [] → ⊥)
+      → Some (Truncated decoder.stop) ≡ end_of fed
   unfolding end_of
   end_cut format e some =
       let good : damage_of fed ≡ None = error ∙ rw e refl in
@@ -86,7 +89,8 @@ module _ (number : ℕ) (decoder old : PcapValue) (fed : List ℕ) (view : decod
       ]
 
   -- the stage, its place and whether bytes are kept determine the end
-  pub end_told : (stage : Stage) (none : Bool) → decoder.stage ≡ stage → none ≡ eqb (length decoder.rest) 0 → end_at stage decoder.stop none ≡ end_of fed
+  pub end_told : (stage : Stage) (none : Bool) → decoder.stage ≡ stage → none ≡ eqb (length decoder.rest) 0
+      → end_at stage decoder.stop none ≡ end_of fed
   end_told Header none e kept = end_header e
   end_told (Damaged damage) none e kept = end_damaged damage e
   end_told (Records format) none e kept =
@@ -107,13 +111,19 @@ few_kept (Records format) kept told =
       | inl few ↦ omega arith
       | inr many ↦
           elim (cases_lt 262144 (captured format.order kept)) [
-            | inl large ↦ absurd (both_ways _ told.oversized (has_oversized format.order kept (record { header = omega arith; large = large })))
-            | inr small ↦ absurd (both_ways _ told.whole (has_whole format.order kept (record { header = omega arith; small = small; here = omega arith })))
+            | inl large ↦
+                absurd
+                (both_ways _ told.oversized (has_oversized format.order kept (record { header = omega arith; large = large })))
+            | inr small ↦
+                absurd
+                (both_ways _ told.whole
+                (has_whole format.order kept (record { header = omega arith; small = small; here = omega arith })))
           ]
     ]
 
 -- the end is never `Memory`
-pub end_sound : (answer : Option CaptureError) (stage : Stage) (stop : ℕ) (none : Bool) (kept : List ℕ) → answer ≡ end_at stage stop none → IsSoundStage stage kept → answer ≢ Some Memory
+pub end_sound : (answer : Option CaptureError) (stage : Stage) (stop : ℕ) (none : Bool) (kept : List ℕ)
+    → answer ≡ end_at stage stop none → IsSoundStage stage kept → answer ≢ Some Memory
 end_sound answer Header stop none kept e told m = absurd cc
 end_sound answer (Damaged damage) stop none kept e told m = told.0 (cc (e, m))
 end_sound answer (Records format) stop none kept e told m =

@@ -1,5 +1,6 @@
 -- What a feed leaves: a decoder that represents all bytes, and the frames that are new.
-use Rattle.std.proofs.Common.{◌≡◌, ℕ, ◌+◌, ◌-◌, ◌≤◌, ◌<◌, Bool, false, List, [], ◌++◌, length, take, drop, refl, sym, ap, subst, ◌∙◌, inl, inr, arith}
+use Rattle.std.proofs.Common.{◌≡◌, ℕ, ◌+◌, ◌-◌, ◌≤◌, ◌<◌, Bool, false, List, [], ◌++◌, length, take, drop, refl, sym, ap, subst}
+use Rattle.std.proofs.Common.{◌∙◌, inl, inr, arith}
 use Rattle.std.specs.Prelude.{min, nat_lt, Option, None, Some, Result, Ok, Err}
 use Rattle.std.proofs.lemmas.Bool.{cases_Bool, cases_lt, le-ltb, lt-ltb, ltb-false}
 use Rattle.std.proofs.lemmas.List.{append-nil, length-append, length-drop, length-take, take-append-drop, take_all, take_min}
@@ -21,7 +22,8 @@ use Rattle.capture_file.proofs.PcapFeeds.{stays}
 
 -- a stage, a place, kept bytes and frames are those of a capture, of which the first frames are
 -- `base`
-pub record Settles (number : ℕ) (base : List Frame) (bytes : List ℕ) (before after : List Frame) (stage : Stage) (next : Place) (rest : List ℕ) : Type 0 where
+pub record Settles (number : ℕ) (base : List Frame) (bytes : List ℕ) (before after : List Frame) (stage : Stage) (next : Place)
+    (rest : List ℕ) : Type 0 where
   pub at : stage ≡ stage_of bytes
   pub stop : next.stop ≡ stop_of bytes
   pub index : next.index ≡ length (frames_of number bytes)
@@ -38,25 +40,30 @@ pub record IsUndamaged (format : Format) (bytes : List ℕ) : Type 0 where
   pub small : length bytes ≤ 33554432
   pub all : counted bytes ≡ bytes
 
-pub undamaged : (format : Format) (bytes : List ℕ) → 24 ≤ length bytes → header_of bytes ≡ Ok format → damage_of bytes ≡ None → IsUndamaged format bytes
+pub undamaged : (format : Format) (bytes : List ℕ) → 24 ≤ length bytes → header_of bytes ≡ Ok format → damage_of bytes ≡ None
+    → IsUndamaged format bytes
 undamaged format bytes full passed none =
     elim (cases_Bool (begins_oversized format.order (drop (stop_of bytes) (counted bytes)))) [
       | inl over ↦ let some = damage_oversized format bytes full passed over in absurd (cc (some, none))
       | inr under ↦
           elim (cases_Bool (nat_lt 33554432 (length bytes))) [
             | inl large ↦ let some = damage_too_large format bytes full passed under large in absurd (cc (some, none))
-            | inr small ↦ record { under = under; small = ltb-false _ _ small; all = take_all 33554432 bytes (ltb-false _ _ small) }
+            | inr small ↦
+                record { under = under; small = ltb-false _ _ small; all = take_all 33554432 bytes (ltb-false _ _ small) }
           ]
     ]
 
 -- reading covered all of a capture, whose first frames are `base`, with `before` in their place
-pub settles_read : (number : ℕ) (format : Format) (next : Place) (base before : List Frame) (fresh bytes : List ℕ) (progress : Progress) (kept : List ℕ) (after : List Frame) (beyond : Bool)
+pub settles_read : (number : ℕ) (format : Format) (next : Place) (base before : List Frame) (fresh bytes : List ℕ)
+    (progress : Progress) (kept : List ℕ) (after : List Frame) (beyond : Bool)
     → 24 ≤ length bytes → header_of bytes ≡ Ok format → beyond ≡ nat_lt 33554432 (length bytes)
-    → read_from number format next base fresh ≡ all_of number bytes → Comes format (read_from number format next before fresh) progress kept after
+    → read_from number format next base fresh ≡ all_of number bytes
+    → Comes format (read_from number format next before fresh) progress kept after
     → Settles number base bytes before after (stage_with progress.stage beyond) progress.next (drop progress.cut kept)
 settles_read number format next base before fresh bytes progress kept after beyond full passed large read comes =
     let alone : Reached = read_from number format next [] fresh in
-    let all : record alone { frames = base ++ alone.frames } ≡ all_of number bytes = sym (read_from-frames number format next base fresh) ∙ read in
+    let all : record alone { frames = base ++ alone.frames } ≡ all_of number bytes =
+    sym (read_from-frames number format next base fresh) ∙ read in
     let place : alone.next ≡ (all_of number bytes).next = ap (λ (r : Reached). r.next) all in
     let left : alone.left ≡ drop (stop_of bytes) (counted bytes) = ap (λ (r : Reached). r.left) all in
     let mine : read_from number format next before fresh ≡ record (all_of number bytes) { frames = before ++ alone.frames } =
@@ -64,7 +71,8 @@ settles_read number format next base before fresh bytes progress kept after beyo
     ∙ ap (λ (n : Place). record { next = n; frames = before ++ alone.frames; left = alone.left }) place
     ∙ ap (λ (l : List ℕ). record { next = (all_of number bytes).next; frames = before ++ alone.frames; left = l }) left in
     let c = subst (λ (r : Reached). Comes format r progress kept after) mine comes in
-    let at : stage_with progress.stage beyond ≡ stage_of bytes = rw (c.stage, large) (sym (stage_whole format bytes full passed)) in
+    let at : stage_with progress.stage beyond ≡ stage_of bytes =
+    rw (c.stage, large) (sym (stage_whole format bytes full passed)) in
     record {
       at = at;
       stop = ap (λ (n : Place). n.stop) c.next;
@@ -81,10 +89,12 @@ settles_read number format next base before fresh bytes progress kept after beyo
 -- what is taken of the piece fills up the bytes that count
 taken_counts : (fed piece : List ℕ) → length fed ≤ 33554432 → fed ++ take (33554432 - length fed) piece ≡ counted (fed ++ piece)
 taken_counts fed piece within =
-    sym (counted-append fed piece ∙ ap (λ (xs : List ℕ). xs ++ take (33554432 - length fed) piece) (take_all 33554432 fed within))
+    sym (counted-append fed piece ∙ ap (λ (xs : List ℕ). xs ++ take (33554432 - length fed) piece)
+    (take_all 33554432 fed within))
 
 -- bytes are left exactly where there are too many
-left_beyond : (fed piece : List ℕ) → length fed ≤ 33554432 → nat_lt (33554432 - length fed) (length piece) ≡ nat_lt 33554432 (length (fed ++ piece))
+left_beyond : (fed piece : List ℕ) → length fed ≤ 33554432
+    → nat_lt (33554432 - length fed) (length piece) ≡ nat_lt 33554432 (length (fed ++ piece))
 left_beyond fed piece within =
     let len = length-append fed piece in
     elim (cases_lt (33554432 - length fed) (length piece)) [
@@ -97,7 +107,8 @@ left_beyond fed piece within =
 no_more : (before after : List Frame) → after ≡ before → after ≡ before ++ []
 no_more before after e = e ∙ sym (append-nil before)
 
-settles_waiting : (number : ℕ) (fed piece : List ℕ) (before after : List Frame) (kept : List ℕ) → length (fed ++ piece) < 24 → kept ≡ fed ++ piece → after ≡ before
+settles_waiting : (number : ℕ) (fed piece : List ℕ) (before after : List Frame) (kept : List ℕ) → length (fed ++ piece) < 24
+    → kept ≡ fed ++ piece → after ≡ before
     → Settles number (frames_of number fed) (fed ++ piece) before after Header start kept
 settles_waiting number fed piece before after kept less all same =
     let now = short number (fed ++ piece) less in
@@ -110,13 +121,17 @@ settles_waiting number fed piece before after kept less all same =
       frames = ([], no_more before after same, now.frames ∙ sym was.frames ∙ sym (append-nil (frames_of number fed)));
     }
 
-settles_header : (number : ℕ) (fed piece : List ℕ) (before after : List Frame) (progress : Progress) (kept : List ℕ) (beyond : Bool) (header : Result Format CaptureError)
-    → length fed < 24 → 24 ≤ length (fed ++ piece) → header_of (fed ++ piece) ≡ header → beyond ≡ nat_lt 33554432 (length (fed ++ piece))
+settles_header : (number : ℕ) (fed piece : List ℕ) (before after : List Frame) (progress : Progress) (kept : List ℕ)
+    (beyond : Bool) (header : Result Format CaptureError)
+    → length fed < 24 → 24 ≤ length (fed ++ piece) → header_of (fed ++ piece) ≡ header
+    → beyond ≡ nat_lt 33554432 (length (fed ++ piece))
     → ComesBehind number header (counted (fed ++ piece)) progress kept before after
-    → Settles number (frames_of number fed) (fed ++ piece) before after (stage_with progress.stage beyond) progress.next (drop progress.cut kept)
+    → Settles number (frames_of number fed) (fed ++ piece) before after (stage_with progress.stage beyond) progress.next
+    (drop progress.cut kept)
 settles_header number fed piece before after progress kept beyond (Ok format) less full e large comes =
     let was = short number fed less in
-    rw was.frames (settles_read number format first_place [] before (drop 24 (counted (fed ++ piece))) (fed ++ piece) progress kept after beyond full e large (all_read_from number format (fed ++ piece) full e) comes)
+    rw was.frames (settles_read number format first_place [] before (drop 24 (counted (fed ++ piece))) (fed ++ piece) progress
+    kept after beyond full e large (all_read_from number format (fed ++ piece) full e) comes)
 settles_header number fed piece before after progress kept beyond (Err damage) less full e large comes =
     let now = refused number (fed ++ piece) damage full e in
     let was = short number fed less in
@@ -128,9 +143,12 @@ settles_header number fed piece before after progress kept beyond (Err damage) l
       frames = ([], no_more before after comes.1, now.frames ∙ sym was.frames ∙ sym (append-nil (frames_of number fed)));
     })
 
-settles_begun : (number : ℕ) (fed piece : List ℕ) (before after : List Frame) (progress : Progress) (kept taken : List ℕ) (beyond : Bool) → length fed < 24
-    → taken ≡ take (33554432 - length fed) piece → beyond ≡ nat_lt (33554432 - length fed) (length piece) → Begins number (fed ++ taken) progress kept before after
-    → Settles number (frames_of number fed) (fed ++ piece) before after (stage_with progress.stage beyond) progress.next (drop progress.cut kept)
+settles_begun : (number : ℕ) (fed piece : List ℕ) (before after : List Frame) (progress : Progress) (kept taken : List ℕ)
+    (beyond : Bool) → length fed < 24
+    → taken ≡ take (33554432 - length fed) piece → beyond ≡ nat_lt (33554432 - length fed) (length piece)
+    → Begins number (fed ++ taken) progress kept before after
+    → Settles number (frames_of number fed) (fed ++ piece) before after (stage_with progress.stage beyond) progress.next
+    (drop progress.cut kept)
 settles_begun number fed piece before after progress kept taken beyond less part large begins =
     let bytes : fed ++ taken ≡ counted (fed ++ piece) = rw part (taken_counts fed piece (omega arith)) in
     let over : beyond ≡ nat_lt 33554432 (length (fed ++ piece)) = large ∙ left_beyond fed piece (omega arith) in
@@ -145,14 +163,17 @@ settles_begun number fed piece before after progress kept taken beyond less part
       | inr full ↦
           let w = rw (le-ltb (length (counted (fed ++ piece))) 24 (omega arith)) at h in
           let same : header_of (fed ++ piece) ≡ header_of (counted (fed ++ piece)) =
-          ap header_of (sym (take-append-drop 33554432 (fed ++ piece))) ∙ header_of-append (counted (fed ++ piece)) (drop 33554432 (fed ++ piece)) (omega arith) in
-          settles_header number fed piece before after progress kept beyond (header_of (counted (fed ++ piece))) less full same over w
+          ap header_of (sym (take-append-drop 33554432 (fed ++ piece)))
+          ∙ header_of-append (counted (fed ++ piece)) (drop 33554432 (fed ++ piece)) (omega arith) in
+          settles_header number fed piece before after progress kept beyond (header_of (counted (fed ++ piece))) less
+          full same over w
     ]
 
 -- ---- from a decoder that waits for a record
 
 -- the place of a capture that isn't damaged, and the bytes from there on, are all its bytes
-pub stop_accounts : (number : ℕ) (format : Format) (bytes : List ℕ) → 24 ≤ length bytes → header_of bytes ≡ Ok format → damage_of bytes ≡ None
+pub stop_accounts : (number : ℕ) (format : Format) (bytes : List ℕ) → 24 ≤ length bytes → header_of bytes ≡ Ok format
+    → damage_of bytes ≡ None
     → stop_of bytes + length (drop (stop_of bytes) bytes) ≡ length bytes
 stop_accounts number format bytes full passed none =
     let told = undamaged format bytes full passed none in
@@ -160,22 +181,28 @@ stop_accounts number format bytes full passed none =
     let sum = rw told.all at h in
     omega (arith, length-drop 24 bytes, sum)
 
-settles_more : (number : ℕ) (format : Format) (fed piece : List ℕ) (before after : List Frame) (progress : Progress) (kept taken : List ℕ) (beyond : Bool)
+settles_more : (number : ℕ) (format : Format) (fed piece : List ℕ) (before after : List Frame) (progress : Progress)
+    (kept taken : List ℕ) (beyond : Bool)
     → 24 ≤ length fed → header_of fed ≡ Ok format → damage_of fed ≡ None
     → taken ≡ take (33554432 - length fed) piece → beyond ≡ nat_lt (33554432 - length fed) (length piece)
-    → Comes format (read_from number format (all_of number fed).next before (drop (stop_of fed) fed ++ taken)) progress kept after
-    → Settles number (frames_of number fed) (fed ++ piece) before after (stage_with progress.stage beyond) progress.next (drop progress.cut kept)
+    → Comes format (read_from number format (all_of number fed).next before (drop (stop_of fed) fed ++ taken))
+    progress kept after
+    → Settles number (frames_of number fed) (fed ++ piece) before after (stage_with progress.stage beyond) progress.next
+    (drop progress.cut kept)
 settles_more number format fed piece before after progress kept taken beyond full passed none part large comes =
     let told = undamaged format fed full passed none in
     let wider : 24 ≤ length (fed ++ piece) = omega (arith, length-append fed piece) in
-    let read : read_from number format (all_of number fed).next (frames_of number fed) (drop (stop_of fed) fed ++ taken) ≡ all_of number (fed ++ piece) =
+    let read : read_from number format (all_of number fed).next (frames_of number fed) (drop (stop_of fed) fed ++ taken)
+    ≡ all_of number (fed ++ piece) =
     rw part (rw told.all at (all_append number format fed piece full passed)) in
-    settles_read number format (all_of number fed).next (frames_of number fed) before (drop (stop_of fed) fed ++ taken) (fed ++ piece) progress kept after beyond
+    settles_read number format (all_of number fed).next (frames_of number fed) before (drop (stop_of fed) fed ++ taken)
+    (fed ++ piece) progress kept after beyond
     wider (header_of-append fed piece full ∙ passed) (large ∙ left_beyond fed piece told.small) read comes
 
 -- ---- from any decoder
 
-settles_damaged : (number : ℕ) (fed piece : List ℕ) (before after : List Frame) (damage : CaptureError) (kept : List ℕ) → damage_of fed ≡ Some damage → after ≡ before
+settles_damaged : (number : ℕ) (fed piece : List ℕ) (before after : List Frame) (damage : CaptureError) (kept : List ℕ)
+    → damage_of fed ≡ Some damage → after ≡ before
     → Settles number (frames_of number fed) (fed ++ piece) before after (Damaged damage) (all_of number fed).next kept
 settles_damaged number fed piece before after damage kept e same =
     let now = stays number fed piece damage e in
@@ -188,32 +215,44 @@ settles_damaged number fed piece before after damage kept e same =
     }
 
 -- the stage, place and bytes of a decoder that represents undamaged bytes
-module _ (number : ℕ) (fed piece : List ℕ) (before after : List Frame) (progress : Progress) (kept taken : List ℕ) (beyond : Bool) (stage : Stage) (next : Place) (rest : List ℕ)
+module _ (number : ℕ) (fed piece : List ℕ) (before after : List Frame) (progress : Progress) (kept taken : List ℕ)
+    (beyond : Bool) (stage : Stage) (next : Place) (rest : List ℕ)
     (place : next ≡ (all_of number fed).next) (part : taken ≡ take (33554432 - (next.stop + length rest)) piece)
     (large : beyond ≡ nat_lt (33554432 - (next.stop + length rest)) (length piece)) where
-  settles_short : length fed < 24 → stage ≡ Header → rest ≡ fed → Feeds number stage next (rest ++ taken) progress kept before after
-      → Settles number (frames_of number fed) (fed ++ piece) before after (stage_with progress.stage beyond) progress.next (drop progress.cut kept)
+  settles_short : length fed < 24 → stage ≡ Header → rest ≡ fed
+      → Feeds number stage next (rest ++ taken) progress kept before after
+      → Settles number (frames_of number fed) (fed ++ piece) before after (stage_with progress.stage beyond) progress.next
+      (drop progress.cut kept)
   settles_short less at all feeds =
       let none : stop_of fed ≡ 0 = (short number fed less).stop in
       let size : next.stop + length rest ≡ length fed = rw (place, all, none) (omega arith) in
-      settles_begun number fed piece before after progress kept taken beyond less (rw size at part) (rw size at large) (rw (at, all) at feeds)
+      settles_begun number fed piece before after progress kept taken beyond less (rw size at part) (rw size at large)
+      (rw (at, all) at feeds)
 
-  settles_full : (format : Format) → 24 ≤ length fed → header_of fed ≡ Ok format → damage_of fed ≡ None → stage ≡ Records format → rest ≡ drop (stop_of fed) fed
+  settles_full : (format : Format) → 24 ≤ length fed → header_of fed ≡ Ok format → damage_of fed ≡ None → stage ≡ Records format
+      → rest ≡ drop (stop_of fed) fed
       → Feeds number stage next (rest ++ taken) progress kept before after
-      → Settles number (frames_of number fed) (fed ++ piece) before after (stage_with progress.stage beyond) progress.next (drop progress.cut kept)
+      → Settles number (frames_of number fed) (fed ++ piece) before after (stage_with progress.stage beyond) progress.next
+      (drop progress.cut kept)
   settles_full format full passed none at all feeds =
       let size : next.stop + length rest ≡ length fed = rw (place, all) (stop_accounts number format fed full passed none) in
-      settles_more number format fed piece before after progress kept taken beyond full passed none (rw size at part) (rw size at large) (rw (at, all, place) at feeds)
+      settles_more number format fed piece before after progress kept taken beyond full passed none (rw size at part)
+      (rw size at large) (rw (at, all, place) at feeds)
 
-  settles_by_header : (header : Result Format CaptureError) → 24 ≤ length fed → header_of fed ≡ header → damage_of fed ≡ None → stage ≡ stage_behind header → rest ≡ drop (stop_of fed) fed
+  settles_by_header : (header : Result Format CaptureError) → 24 ≤ length fed → header_of fed ≡ header → damage_of fed ≡ None
+      → stage ≡ stage_behind header → rest ≡ drop (stop_of fed) fed
       → Feeds number stage next (rest ++ taken) progress kept before after
-      → Settles number (frames_of number fed) (fed ++ piece) before after (stage_with progress.stage beyond) progress.next (drop progress.cut kept)
+      → Settles number (frames_of number fed) (fed ++ piece) before after (stage_with progress.stage beyond) progress.next
+      (drop progress.cut kept)
   settles_by_header (Ok format) full passed none at all feeds = settles_full format full passed none at all feeds
-  settles_by_header (Err damage) full passed none at all feeds = let some = (refused number fed damage full passed).damage in absurd (cc (some, none))
+  settles_by_header (Err damage) full passed none at all feeds = let some = (refused number fed damage full passed).damage in
+      absurd (cc (some, none))
 
-  settles_by_damage : (damage : Option CaptureError) → damage_of fed ≡ damage → stage ≡ stage_by damage fed → rest ≡ kept_by damage fed
+  settles_by_damage : (damage : Option CaptureError) → damage_of fed ≡ damage → stage ≡ stage_by damage fed
+      → rest ≡ kept_by damage fed
       → Feeds number stage next (rest ++ taken) progress kept before after
-      → Settles number (frames_of number fed) (fed ++ piece) before after (stage_with progress.stage beyond) progress.next (drop progress.cut kept)
+      → Settles number (frames_of number fed) (fed ++ piece) before after (stage_with progress.stage beyond) progress.next
+      (drop progress.cut kept)
   settles_by_damage (Some damage) e at all feeds =
       let f = rw at at feeds in
       rw (f.0, place) (settles_damaged number fed piece before after damage (drop 0 kept) e f.1)
@@ -230,11 +269,14 @@ module _ (number : ℕ) (fed piece : List ℕ) (before after : List Frame) (prog
       ]
 
 -- a decoder that represents bytes was fed
-pub settles : (number : ℕ) (fed piece : List ℕ) (decoder : PcapValue) (before after : List Frame) (progress : Progress) (kept taken : List ℕ) (beyond : Bool)
+pub settles : (number : ℕ) (fed piece : List ℕ) (decoder : PcapValue) (before after : List Frame) (progress : Progress)
+    (kept taken : List ℕ) (beyond : Bool)
     → Represents number decoder fed → taken ≡ take (33554432 - (decoder.stop + length decoder.rest)) piece
     → beyond ≡ nat_lt (33554432 - (decoder.stop + length decoder.rest)) (length piece)
-    → Feeds decoder.cpu decoder.stage (record { stop = decoder.stop; index = decoder.index }) (decoder.rest ++ taken) progress kept before after
-    → Settles number (frames_of number fed) (fed ++ piece) before after (stage_with progress.stage beyond) progress.next (drop progress.cut kept)
+    → Feeds decoder.cpu decoder.stage (record { stop = decoder.stop; index = decoder.index }) (decoder.rest ++ taken) progress
+    kept before after
+    → Settles number (frames_of number fed) (fed ++ piece) before after (stage_with progress.stage beyond) progress.next
+    (drop progress.cut kept)
 settles number fed piece decoder before after progress kept taken beyond represents part large feeds =
     let next : Place = record { stop = decoder.stop; index = decoder.index } in
     let place : next ≡ (all_of number fed).next = rw (represents.stop, represents.index) refl in
@@ -243,19 +285,26 @@ settles number fed piece decoder before after progress kept taken beyond represe
 
 -- the same by the steps of a feed: the room that is left, what was taken of the piece, and the
 -- stage with what is beyond
-pub settles_here : (number : ℕ) (fed piece : List ℕ) (old decoder : PcapValue) (before after : List Frame) (progress : Progress) (kept taken : List ℕ) (size count : ℕ) (stage : Stage)
-    → decoder ≡ old → Represents number old fed → size ≡ length decoder.rest → count ≡ min (33554432 - (decoder.stop + size)) (length piece) → taken ≡ take count piece
+pub settles_here : (number : ℕ) (fed piece : List ℕ) (old decoder : PcapValue) (before after : List Frame) (progress : Progress)
+    (kept taken : List ℕ) (size count : ℕ) (stage : Stage)
+    → decoder ≡ old → Represents number old fed → size ≡ length decoder.rest
+    → count ≡ min (33554432 - (decoder.stop + size)) (length piece) → taken ≡ take count piece
     → stage ≡ stage_with progress.stage (nat_lt (33554432 - (decoder.stop + size)) (length piece))
-    → Feeds decoder.cpu decoder.stage (record { stop = decoder.stop; index = decoder.index }) (decoder.rest ++ taken) progress kept before after
+    → Feeds decoder.cpu decoder.stage (record { stop = decoder.stop; index = decoder.index }) (decoder.rest ++ taken) progress
+    kept before after
     → Settles number (frames_of number fed) (fed ++ piece) before after stage progress.next (drop progress.cut kept)
-settles_here number fed piece old decoder before after progress kept taken size count stage view represents len room part with feeds =
+settles_here number fed piece old decoder before after progress kept taken size count stage view represents len room
+    part with feeds =
     let s = subst (λ (v : PcapValue). Represents number v fed) (sym view) represents in
-    let all : taken ≡ take (33554432 - (decoder.stop + size)) piece = part ∙ rw room (take_min (33554432 - (decoder.stop + size)) piece) in
+    let all : taken ≡ take (33554432 - (decoder.stop + size)) piece =
+    part ∙ rw room (take_min (33554432 - (decoder.stop + size)) piece) in
     rw with (settles number fed piece decoder before after progress kept taken _ s (rw len at all) (rw len refl) feeds)
 
 -- the decoder that is left represents all bytes
-module _ (number : ℕ) (base : List Frame) (fed bytes : List ℕ) (before after : List Frame) (old decoder : PcapValue) (stage : Stage) (next : Place) (rest kept : List ℕ)
-    (view : decoder ≡ old) (represents : Represents number old fed) (h : Settles number base bytes before after stage next rest) where
+module _ (number : ℕ) (base : List Frame) (fed bytes : List ℕ) (before after : List Frame) (old decoder : PcapValue)
+    (stage : Stage) (next : Place) (rest kept : List ℕ)
+    (view : decoder ≡ old) (represents : Represents number old fed)
+    (h : Settles number base bytes before after stage next rest) where
   same_cpu : decoder.cpu ≡ number
   same_cpu = ap (λ (v : PcapValue). v.cpu) view ∙ represents.cpu
 
@@ -270,9 +319,11 @@ module _ (number : ℕ) (base : List Frame) (fed bytes : List ℕ) (before after
       record { cpu = same_cpu; stage = h.at; stop = h.stop; index = h.index; rest = none ∙ sym (rw some refl) }
 
 -- the answer is the damage
-pub settles_damage : (number : ℕ) (base : List Frame) (bytes : List ℕ) (before after : List Frame) (stage : Stage) (next : Place) (rest : List ℕ) (damage : Option CaptureError)
+pub settles_damage : (number : ℕ) (base : List Frame) (bytes : List ℕ) (before after : List Frame) (stage : Stage)
+    (next : Place) (rest : List ℕ) (damage : Option CaptureError)
     → Settles number base bytes before after stage next rest → error_of stage ≡ damage → damage ≡ damage_of bytes
-settles_damage number base bytes before after stage next rest damage h e = sym e ∙ ap error_of h.at ∙ sym (damage_is_error bytes)
+settles_damage number base bytes before after stage next rest damage h e =
+    sym e ∙ ap error_of h.at ∙ sym (damage_is_error bytes)
 
 -- a stage that isn't damaged has no error
 pub no_error : (stage : Stage) → ((damage : CaptureError) → stage ≡ Damaged damage → ⊥) → error_of stage ≡ None

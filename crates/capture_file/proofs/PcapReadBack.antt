@@ -1,5 +1,6 @@
 -- An output file is a capture that gives its packets back.
-use Rattle.std.proofs.Common.{◌≡◌, ℕ, ◌+◌, ◌*◌, ◌^◌, ◌≤◌, ◌<◌, true, List, [], ◌∷◌, ◌++◌, length, take, drop, refl, sym, ap, subst, ◌∙◌, inl, inr, arith, append_assoc}
+use Rattle.std.proofs.Common.{◌≡◌, ℕ, ◌+◌, ◌*◌, ◌^◌, ◌≤◌, ◌<◌, true, List, [], ◌∷◌, ◌++◌, length, take, drop, refl, sym, ap}
+use Rattle.std.proofs.Common.{subst, ◌∙◌, inl, inr, arith, append_assoc}
 use Rattle.std.specs.Prelude.{min, max, Option, None, Some, Ok}
 use Rattle.std.specs.List.{flat_map, AllByRecursion}
 use Rattle.std.proofs.lemmas.Bool.{cases_lt, le-ltb, lt-ltb}
@@ -13,7 +14,8 @@ use Rattle.capture_file.specs.declared.format.Format.{Format}
 use Rattle.pcapng_blocks.specs.declared.byte_order.Order.TheVariants.{Little}
 use Rattle.capture_file.specs.declared.record_reader.Place.{Place}
 use Rattle.pcapng_blocks.specs.Numbers.{number_at}
-use Rattle.capture_file.specs.Pcap.{captured, record_size, begins_whole, header_of, counted, frame_of_record, frames_of, stop_of, damage_of, end_of}
+use Rattle.capture_file.specs.Pcap.{captured, record_size, begins_whole, header_of, counted, frame_of_record, frames_of}
+use Rattle.capture_file.specs.Pcap.{stop_of, damage_of, end_of}
 use Rattle.capture_file.specs.Output.{four_bytes, output_header, tag_size, original, record_text, output_of}
 use Rattle.capture_file.specs.Feeds.{Reached, place_behind, read_from, first_place}
 use Rattle.capture_file.specs.Laws.{IsWritable, frames_back}
@@ -35,7 +37,8 @@ unfolding number_at four_bytes
 number_back number rest fits = little_number-reads_back 4 number rest fits
 
 -- a number after one that was written
-number_behind : (number at : ℕ) (rest : List ℕ) → number_at Little 4 (4 + at) (four_bytes number ++ rest) ≡ number_at Little 4 at rest
+number_behind : (number at : ℕ) (rest : List ℕ) → number_at Little 4 (4 + at) (four_bytes number ++ rest)
+    ≡ number_at Little 4 at rest
 unfolding number_at
 number_behind number at rest =
     let skip : drop (4 + at) (four_bytes number ++ rest) ≡ drop at rest =
@@ -101,7 +104,8 @@ says packet h =
     let few = h.frame in
     record {
       sec = text_sec packet.sec packet.nsec (length (frame_of packet)) (original packet) (frame_of packet) h.sec;
-      nsec = text_nsec packet.sec packet.nsec (length (frame_of packet)) (original packet) (frame_of packet) (omega (arith, h.nsec));
+      nsec = text_nsec packet.sec packet.nsec (length (frame_of packet)) (original packet) (frame_of packet)
+          (omega (arith, h.nsec));
       size = text_size packet.sec packet.nsec (length (frame_of packet)) (original packet) (frame_of packet) (omega arith);
       wire = text_wire packet.sec packet.nsec (length (frame_of packet)) (original packet) (frame_of packet) (omega arith);
       frame = text_bytes packet.sec packet.nsec (length (frame_of packet)) (original packet) (frame_of packet);
@@ -111,22 +115,37 @@ says packet h =
 -- the frame of a packet's record
 frame_back : (cpu index : ℕ) (packet : Packet) → IsWritable packet
     → frame_of_record cpu format index (record_text packet)
-    ≡ record { cpu = cpu; index = index; sec = packet.sec; nsec = packet.nsec; wire = original packet; bytes = frame_of packet; tag = None }
+    ≡ record {
+      cpu = cpu;
+      index = index;
+      sec = packet.sec;
+      nsec = packet.nsec;
+      wire = original packet;
+      bytes = frame_of packet;
+      tag = None;
+    }
 unfolding frame_of_record
 frame_back cpu index packet h =
     let s = says packet h in
     let nsec : min 999999999 (packet.nsec * 1) ≡ packet.nsec = omega (arith, h.nsec) in
-    let wire : max (length (frame_of packet)) (original packet) ≡ original packet = omega (arith, tag_length packet.tag packet.bytes, h.whole, h.wire) in
+    let wire : max (length (frame_of packet)) (original packet) ≡ original packet =
+    omega (arith, tag_length packet.tag packet.bytes, h.whole, h.wire) in
     rw (s.sec, s.nsec, s.size, s.wire, s.frame, nsec, wire) refl
 
 -- a packet's record is whole, and no byte of what follows belongs to it
-record_whole : (packet : Packet) (rest : List ℕ) → IsWritable packet → (begins_whole Little (record_text packet ++ rest) ≡ true) × (record_size Little (record_text packet ++ rest) ≡ length (record_text packet))
+record_whole : (packet : Packet) (rest : List ℕ) → IsWritable packet
+    → (begins_whole Little (record_text packet ++ rest) ≡ true)
+    × (record_size Little (record_text packet ++ rest) ≡ length (record_text packet))
 record_whole packet rest h =
     let s = says packet h in
     let few = h.frame in
-    let size : captured Little (record_text packet ++ rest) ≡ length (frame_of packet) = number_at-append Little 4 8 (record_text packet) rest (omega (arith, s.long)) ∙ s.size in
-    let len = length-append (record_text packet) rest in
-    (has_whole Little (record_text packet ++ rest) (record { header = omega (arith, s.long); small = rw size few; here = rw size (omega (arith, s.long)) }), rw size (sym s.long))
+    let size : captured Little (record_text packet ++ rest) ≡ length (frame_of packet) =
+    number_at-append Little 4 8 (record_text packet) rest (omega (arith, s.long)) ∙ s.size in
+    let len = length-append (record_text packet) rest in (
+      has_whole Little (record_text packet ++ rest)
+          (record { header = omega (arith, s.long); small = rw size few; here = rw size (omega (arith, s.long)) }),
+      rw size (sym s.long),
+    )
 
 -- ---- all records
 
@@ -136,17 +155,24 @@ record ReadsBack (frames : List Frame) (reached : Reached) : Type 0 where
 
 reads_back : (cpu : ℕ) (next : Place) (frames : List Frame) (packets : List Packet) → AllByRecursion IsWritable packets
     → ReadsBack (frames ++ frames_back cpu next.index packets) (read_from cpu format next frames (flat_map record_text packets))
-reads_back cpu next frames [] h = rw (read_from-none cpu format next frames [] (empty_not_whole Little)) (record { all = sym (append-nil frames); left = refl })
+reads_back cpu next frames [] h =
+    rw (read_from-none cpu format next frames [] (empty_not_whole Little))
+    (record { all = sym (append-nil frames); left = refl })
 reads_back cpu next frames (packet ∷ packets) h =
     let text = record_text packet in
     let rest = flat_map record_text packets in
     let whole = record_whole packet rest h.0 in
-    let front : take (record_size Little (text ++ rest)) (text ++ rest) ≡ text = rw whole.1 (take_at text rest (length text) refl) in
-    let back : drop (record_size Little (text ++ rest)) (text ++ rest) ≡ rest = rw whole.1 (drop_at text rest (length text) refl) in
+    let front : take (record_size Little (text ++ rest)) (text ++ rest) ≡ text =
+    rw whole.1 (take_at text rest (length text) refl) in
+    let back : drop (record_size Little (text ++ rest)) (text ++ rest) ≡ rest =
+    rw whole.1 (drop_at text rest (length text) refl) in
     let step = read_from-step cpu format next frames (text ++ rest) whole.0 in
-    let read : read_from cpu format next frames (text ++ rest) ≡ read_from cpu format (place_behind next text) (frames ++ frame_of_record cpu format next.index text ∷ []) rest = step ∙ rw (front, back) refl in
+    let read : read_from cpu format next frames (text ++ rest)
+    ≡ read_from cpu format (place_behind next text) (frames ++ frame_of_record cpu format next.index text ∷ []) rest =
+    step ∙ rw (front, back) refl in
     let h2 = reads_back cpu (place_behind next text) (frames ++ frame_of_record cpu format next.index text ∷ []) packets h.1 in
-    let group = append_assoc frames (frame_of_record cpu format next.index text ∷ []) (frames_back cpu (next.index + 1) packets) in
+    let group = append_assoc frames (frame_of_record cpu format next.index text ∷ [])
+    (frames_back cpu (next.index + 1) packets) in
     rw read (record { all = h2.all ∙ group ∙ rw (frame_back cpu next.index packet h.0) refl; left = h2.left })
 
 -- ---- the whole file
@@ -179,7 +205,8 @@ module _ (packets : List Packet) (h : AllByRecursion IsWritable packets) (few : 
   output_read cpu =
       let body : drop 24 (counted (output_of packets)) ≡ flat_map record_text packets = ap (drop 24) output_all ∙ output_body in
       let read : read_from cpu format first_place [] (flat_map record_text packets) ≡ all_of cpu (output_of packets) =
-      ap (read_from cpu format first_place []) (sym body) ∙ all_read_from cpu format (output_of packets) output_full output_passed in
+      ap (read_from cpu format first_place []) (sym body)
+      ∙ all_read_from cpu format (output_of packets) output_full output_passed in
       subst (λ (r : Reached). ReadsBack (frames_back cpu 0 packets) r) read (reads_back cpu first_place [] packets h)
 
   pub output_frames : (cpu : ℕ) → frames_of cpu (output_of packets) ≡ frames_back cpu 0 packets
@@ -189,7 +216,8 @@ module _ (packets : List Packet) (h : AllByRecursion IsWritable packets) (few : 
   output_left = ap (drop (stop_of (output_of packets))) (sym output_all) ∙ (output_read 0).left
 
   output_sound : damage_of (output_of packets) ≡ None
-  output_sound = damage_none format (output_of packets) output_full output_passed (rw ((output_read 0).left) (empty_not_oversized Little)) (le-ltb _ _ few)
+  output_sound = damage_none format (output_of packets) output_full output_passed
+      (rw ((output_read 0).left) (empty_not_oversized Little)) (le-ltb _ _ few)
 
   pub output_end : end_of (output_of packets) ≡ None
   unfolding end_of

@@ -26,7 +26,9 @@ output_pcap packets = format_stays output_header (flat_map record_text packets) 
 module _ (packets : List Packet) (h : AllByRecursion IsWritable packets) (few : length (output_of packets) ≤ 33554432) where
   pub output_frames : (cpu : ℕ) → frames_of cpu (output_of packets) ≡ frames_back cpu 0 packets
   output_frames cpu =
-      frames_are cpu (output_of packets) ∙ ap (λ (kind : Bool). frames_as kind cpu (output_of packets)) (output_pcap packets) ∙ records.output_frames packets h few cpu
+      frames_are cpu (output_of packets) ∙ ap (λ (kind : Bool). frames_as kind cpu (output_of packets)) (output_pcap packets)
+      ∙ records.output_frames packets h few cpu
 
   pub output_end : end_of (output_of packets) ≡ None
-  output_end = end_is (output_of packets) ∙ ap (λ (kind : Bool). end_as kind (output_of packets)) (output_pcap packets) ∙ records.output_end packets h few
+  output_end = end_is (output_of packets) ∙ ap (λ (kind : Bool). end_as kind (output_of packets)) (output_pcap packets)
+      ∙ records.output_end packets h few

@@ -1,10 +1,12 @@
 -- Splitting bytes into records, record by record and piece by piece.
-use Rattle.std.proofs.Common.{◌≡◌, ℕ, zero, suc, ◌+◌, ◌*◌, ◌-◌, ◌≤◌, ◌<◌, true, false, List, [], ◌∷◌, ◌++◌, length, take, drop, refl, sym, ap, ◌∙◌, inl, inr, arith, append_assoc, add-zero}
+use Rattle.std.proofs.Common.{◌≡◌, ℕ, zero, suc, ◌+◌, ◌*◌, ◌-◌, ◌≤◌, ◌<◌, true, false, List, [], ◌∷◌, ◌++◌, length, take, drop}
+use Rattle.std.proofs.Common.{refl, sym, ap, ◌∙◌, inl, inr, arith, append_assoc, add-zero}
 use Rattle.std.specs.Prelude.{Option, None, Some}
 use Rattle.std.specs.Option.{option_or}
 use Rattle.std.specs.List.{concat}
 use Rattle.std.proofs.lemmas.Bool.{cases_Bool, both_ways, leb-true, le-leb, ltb-true, lt-ltb, and_parts, and_from}
-use Rattle.std.proofs.lemmas.List.{append-nil, drop-append-le, take-append-le, length-append, length-drop, length-take, drop-drop}
+use Rattle.std.proofs.lemmas.List.{append-nil, drop-append-le, take-append-le, length-append, length-drop, length-take}
+use Rattle.std.proofs.lemmas.List.{drop-drop}
 use Rattle.byteorder.specs.Numbers.{little_from-append, big_from-append}
 use Rattle.frame_view.specs.declared.frames.Frame.{Frame}
 use Rattle.capture_file.specs.declared.format.Format.{Format}
@@ -12,13 +14,15 @@ use Rattle.pcapng_blocks.specs.declared.byte_order.Order.{Order}
 use Rattle.pcapng_blocks.specs.declared.byte_order.Order.TheVariants.{Little, Big}
 use Rattle.capture_file.specs.declared.record_reader.Place.{Place}
 use Rattle.pcapng_blocks.specs.Numbers.{number_at}
-use Rattle.capture_file.specs.Pcap.{format_in, checked, header_of, captured, record_size, begins_whole, begins_oversized, records_within, records_in, frame_of_record, frames_from}
+use Rattle.capture_file.specs.Pcap.{format_in, checked, header_of, captured, record_size, begins_whole, begins_oversized}
+use Rattle.capture_file.specs.Pcap.{records_within, records_in, frame_of_record, frames_from}
 use Rattle.capture_file.specs.Feeds.{Reached, left_in, place_behind, read_from}
 
 -- ---- numbers
 
 -- a number doesn't depend on what comes after it
-pub number_at-append : (order : Order) (n at : ℕ) (xs ys : List ℕ) → at + n ≤ length xs → number_at order n at (xs ++ ys) ≡ number_at order n at xs
+pub number_at-append : (order : Order) (n at : ℕ) (xs ys : List ℕ) → at + n ≤ length xs
+    → number_at order n at (xs ++ ys) ≡ number_at order n at xs
 unfolding number_at
 number_at-append Little n at xs ys h =
     let le : at ≤ length xs = omega arith in
@@ -88,7 +92,8 @@ whole-append order xs ys e =
       here = rw same (omega (arith, h.here, length-append xs ys));
     })
 
-pub oversized-append : (order : Order) (xs ys : List ℕ) → begins_oversized order xs ≡ true → begins_oversized order (xs ++ ys) ≡ true
+pub oversized-append : (order : Order) (xs ys : List ℕ) → begins_oversized order xs ≡ true
+    → begins_oversized order (xs ++ ys) ≡ true
 oversized-append order xs ys e =
     let h = oversized_has order xs e in
     let same = number_at-append order 4 8 xs ys (omega (arith, h.header)) in
@@ -98,14 +103,16 @@ oversized-append order xs ys e =
     })
 
 -- an oversized record isn't whole
-pub oversized_not_whole : (order : Order) (bytes : List ℕ) → begins_oversized order bytes ≡ true → begins_whole order bytes ≡ false
+pub oversized_not_whole : (order : Order) (bytes : List ℕ) → begins_oversized order bytes ≡ true
+    → begins_whole order bytes ≡ false
 oversized_not_whole order bytes e =
     elim (cases_Bool (begins_whole order bytes)) [
       | inl w ↦ absurd (omega (arith, (whole_has order bytes w).small, (oversized_has order bytes e).large))
       | inr n ↦ n
     ]
 
-pub whole_not_oversized : (order : Order) (bytes : List ℕ) → begins_whole order bytes ≡ true → begins_oversized order bytes ≡ false
+pub whole_not_oversized : (order : Order) (bytes : List ℕ) → begins_whole order bytes ≡ true
+    → begins_oversized order bytes ≡ false
 whole_not_oversized order bytes w =
     elim (cases_Bool (begins_oversized order bytes)) [
       | inl over ↦ absurd (both_ways _ (oversized_not_whole order bytes over) w)
@@ -115,7 +122,8 @@ whole_not_oversized order bytes w =
 -- ---- the split
 
 -- a bound above the number of bytes changes nothing
-within_enough : (order : Order) (m n : ℕ) (bytes : List ℕ) → length bytes ≤ m → length bytes ≤ n → records_within m order bytes ≡ records_within n order bytes
+within_enough : (order : Order) (m n : ℕ) (bytes : List ℕ) → length bytes ≤ m → length bytes ≤ n
+    → records_within m order bytes ≡ records_within n order bytes
 unfolding records_within
 within_enough order zero zero bytes hm hn = refl
 within_enough order zero (suc n) bytes hm hn =
@@ -132,8 +140,10 @@ within_enough order (suc m) (suc n) bytes hm hn =
     elim (cases_Bool (begins_whole order bytes)) [
       | inl w ↦
           let h = whole_has order bytes w in
-          let shorter : length (drop (record_size order bytes) bytes) ≡ length bytes - record_size order bytes = length-drop (record_size order bytes) bytes in
-          let rest = within_enough order m n (drop (record_size order bytes) bytes) (omega (arith, h.here)) (omega (arith, h.here)) in
+          let shorter : length (drop (record_size order bytes) bytes) ≡ length bytes - record_size order bytes =
+          length-drop (record_size order bytes) bytes in
+          let rest = within_enough order m n (drop (record_size order bytes) bytes) (omega (arith, h.here))
+          (omega (arith, h.here)) in
           rw (w, rest) refl
       | inr not ↦ rw not refl
     ]
@@ -148,19 +158,23 @@ pub records_in-step : (order : Order) (bytes : List ℕ) → begins_whole order 
 unfolding records_in records_within
 records_in-step order bytes w =
     let h = whole_has order bytes w in
-    let shorter : length (drop (record_size order bytes) bytes) ≡ length bytes - record_size order bytes = length-drop (record_size order bytes) bytes in
-    let rest = within_enough order (length bytes) (length (drop (record_size order bytes) bytes)) (drop (record_size order bytes) bytes) (omega arith) (omega arith) in
+    let shorter : length (drop (record_size order bytes) bytes) ≡ length bytes - record_size order bytes =
+    length-drop (record_size order bytes) bytes in
+    let rest = within_enough order (length bytes) (length (drop (record_size order bytes) bytes))
+    (drop (record_size order bytes) bytes) (omega arith) (omega arith) in
     within_enough order (length bytes) (suc (length bytes)) bytes (omega arith) (omega arith) ∙ rw (w, rest) refl
 
 -- the length of a whole record
-pub length_record : (order : Order) (bytes : List ℕ) → begins_whole order bytes ≡ true → length (take (record_size order bytes) bytes) ≡ record_size order bytes
+pub length_record : (order : Order) (bytes : List ℕ) → begins_whole order bytes ≡ true
+    → length (take (record_size order bytes) bytes) ≡ record_size order bytes
 length_record order bytes w = omega (arith, length-take (record_size order bytes) bytes, (whole_has order bytes w).here)
 
 left_in-none : (order : Order) (bytes : List ℕ) → begins_whole order bytes ≡ false → left_in order bytes ≡ bytes
 unfolding left_in
 left_in-none order bytes not = rw (records_in-none order bytes not) refl
 
-left_in-step : (order : Order) (bytes : List ℕ) → begins_whole order bytes ≡ true → left_in order bytes ≡ left_in order (drop (record_size order bytes) bytes)
+left_in-step : (order : Order) (bytes : List ℕ) → begins_whole order bytes ≡ true
+    → left_in order bytes ≡ left_in order (drop (record_size order bytes) bytes)
 unfolding left_in
 left_in-step order bytes w =
     let size = length_record order bytes w in
@@ -180,13 +194,21 @@ frames_from-append cpu format index (r ∷ rs) ss =
     let at : index + 1 + length rs ≡ index + suc (length rs) = omega arith in
     rw (rest, at) refl
 
-pub read_from-none : (cpu : ℕ) (format : Format) (next : Place) (frames : List Frame) (bytes : List ℕ) → begins_whole format.order bytes ≡ false
+pub read_from-none : (cpu : ℕ) (format : Format) (next : Place) (frames : List Frame) (bytes : List ℕ)
+    → begins_whole format.order bytes ≡ false
     → read_from cpu format next frames bytes ≡ record { next = next; frames = frames; left = bytes }
 unfolding read_from
 read_from-none cpu format next frames bytes not =
-    rw (records_in-none format.order bytes not, left_in-none format.order bytes not, add-zero next.stop, add-zero next.index, append-nil) refl
+    rw (
+      records_in-none format.order bytes not,
+      left_in-none format.order bytes not,
+      add-zero next.stop,
+      add-zero next.index,
+      append-nil,
+    ) refl
 
-pub read_from-step : (cpu : ℕ) (format : Format) (next : Place) (frames : List Frame) (bytes : List ℕ) → begins_whole format.order bytes ≡ true
+pub read_from-step : (cpu : ℕ) (format : Format) (next : Place) (frames : List Frame) (bytes : List ℕ)
+    → begins_whole format.order bytes ≡ true
     → read_from cpu format next frames bytes
     ≡ read_from cpu format (place_behind next (take (record_size format.order bytes) bytes))
     (frames ++ frame_of_record cpu format next.index (take (record_size format.order bytes) bytes) ∷ [])
@@ -195,9 +217,11 @@ unfolding read_from
 read_from-step cpu format next frames bytes w =
     let first = take (record_size format.order bytes) bytes in
     let rest = records_in format.order (drop (record_size format.order bytes) bytes) in
-    let stop : next.stop + length (first ++ concat rest) ≡ next.stop + length first + length (concat rest) = omega (arith, length-append first (concat rest)) in
+    let stop : next.stop + length (first ++ concat rest) ≡ next.stop + length first + length (concat rest) =
+    omega (arith, length-append first (concat rest)) in
     let index : next.index + suc (length rest) ≡ next.index + 1 + length rest = omega arith in
-    let all = append_assoc frames (frame_of_record cpu format next.index first ∷ []) (frames_from cpu format (next.index + 1) rest) in
+    let all = append_assoc frames (frame_of_record cpu format next.index first ∷ [])
+    (frames_from cpu format (next.index + 1) rest) in
     rw (records_in-step format.order bytes w, left_in-step format.order bytes w, stop, index, all) refl
 
 -- ---- what holds of a whole reading, record by record
@@ -222,7 +246,9 @@ accounts_within (suc most) cpu format next frames bytes h =
           let has = whole_has format.order bytes w in
           let shorter : length (drop size bytes) ≡ length bytes - size = length-drop size bytes in
           let first : length (take size bytes) ≡ size = length_record format.order bytes w in
-          let rest = accounts_within most cpu format (place_behind next (take size bytes)) (frames ++ frame_of_record cpu format next.index (take size bytes) ∷ []) (drop size bytes) (omega (arith, has.here)) in
+          let rest = accounts_within most cpu format (place_behind next (take size bytes))
+          (frames ++ frame_of_record cpu format next.index (take size bytes) ∷ []) (drop size bytes)
+          (omega (arith, has.here)) in
           rw (read_from-step cpu format next frames bytes w) (record {
             stop = omega (arith, rest.stop, has.here);
             count = omega (arith, rest.count, has.header);
@@ -231,13 +257,15 @@ accounts_within (suc most) cpu format next frames bytes h =
       | inr not ↦ rw (read_from-none cpu format next frames bytes not) (record { stop = refl; count = omega arith; part = not })
     ]
 
-pub accounts : (cpu : ℕ) (format : Format) (next : Place) (frames : List Frame) (bytes : List ℕ) → Accounts format.order next bytes (read_from cpu format next frames bytes)
+pub accounts : (cpu : ℕ) (format : Format) (next : Place) (frames : List Frame) (bytes : List ℕ)
+    → Accounts format.order next bytes (read_from cpu format next frames bytes)
 accounts cpu format next frames bytes = accounts_within (length bytes) cpu format next frames bytes (omega arith)
 
 -- more bytes are read from where reading stopped
 append_within : (most cpu : ℕ) (format : Format) (next : Place) (frames : List Frame) (xs ys : List ℕ) → length xs ≤ most
     → read_from cpu format next frames (xs ++ ys)
-    ≡ read_from cpu format (read_from cpu format next frames xs).next (read_from cpu format next frames xs).frames ((read_from cpu format next frames xs).left ++ ys)
+    ≡ read_from cpu format (read_from cpu format next frames xs).next (read_from cpu format next frames xs).frames
+    ((read_from cpu format next frames xs).left ++ ys)
 append_within zero cpu format next frames xs ys h =
     elim (cases_Bool (begins_whole format.order xs)) [
       | inl w ↦ absurd (omega (arith, (whole_has format.order xs w).header))
@@ -248,17 +276,27 @@ append_within (suc most) cpu format next frames xs ys h =
       | inl w ↦
           let size = record_size format.order xs in
           let has = whole_has format.order xs w in
-          let same : record_size format.order (xs ++ ys) ≡ size = ap (λ (n : ℕ). 16 + n) (number_at-append format.order 4 8 xs ys (omega (arith, has.header))) in
+          let same : record_size format.order (xs ++ ys) ≡ size =
+          ap (λ (n : ℕ). 16 + n) (number_at-append format.order 4 8 xs ys (omega (arith, has.header))) in
           let shorter : length (drop size xs) ≡ length xs - size = length-drop size xs in
-          let rest = append_within most cpu format (place_behind next (take size xs)) (frames ++ frame_of_record cpu format next.index (take size xs) ∷ []) (drop size xs) ys (omega (arith, has.here)) in
+          let rest = append_within most cpu format (place_behind next (take size xs))
+          (frames ++ frame_of_record cpu format next.index (take size xs) ∷ []) (drop size xs) ys
+          (omega (arith, has.here)) in
           let whole = read_from-step cpu format next frames (xs ++ ys) (whole-append format.order xs ys w) in
-          rw (whole, same, take-append-le size xs ys has.here, drop-append-le size xs ys has.here, read_from-step cpu format next frames xs w) rest
+          rw (
+            whole,
+            same,
+            take-append-le size xs ys has.here,
+            drop-append-le size xs ys has.here,
+            read_from-step cpu format next frames xs w,
+          ) rest
       | inr not ↦ rw (read_from-none cpu format next frames xs not) refl
     ]
 
 pub read_from-append : (cpu : ℕ) (format : Format) (next : Place) (frames : List Frame) (xs ys : List ℕ)
     → read_from cpu format next frames (xs ++ ys)
-    ≡ read_from cpu format (read_from cpu format next frames xs).next (read_from cpu format next frames xs).frames ((read_from cpu format next frames xs).left ++ ys)
+    ≡ read_from cpu format (read_from cpu format next frames xs).next (read_from cpu format next frames xs).frames
+    ((read_from cpu format next frames xs).left ++ ys)
 read_from-append cpu format next frames xs ys = append_within (length xs) cpu format next frames xs ys (omega arith)
 
 -- the frames so far stay at the start, whatever comes after them
@@ -269,9 +307,12 @@ unfolding read_from
 read_from-frames cpu format next frames bytes = refl
 
 -- a reading goes on after its first record
-pub reads_on : (cpu : ℕ) (format : Format) (next : Place) (frames : List Frame) (bytes first behind : List ℕ) (reached : Reached)
-    → begins_whole format.order bytes ≡ true → first ≡ take (record_size format.order bytes) bytes → behind ≡ drop (record_size format.order bytes) bytes
+pub reads_on : (cpu : ℕ) (format : Format) (next : Place) (frames : List Frame) (bytes first behind : List ℕ)
+    (reached : Reached)
+    → begins_whole format.order bytes ≡ true → first ≡ take (record_size format.order bytes) bytes
+    → behind ≡ drop (record_size format.order bytes) bytes
     → read_from cpu format next frames bytes ≡ reached
-    → read_from cpu format (place_behind next first) (frames ++ frame_of_record cpu format next.index first ∷ []) behind ≡ reached
+    → read_from cpu format (place_behind next first) (frames ++ frame_of_record cpu format next.index first ∷ [])
+    behind ≡ reached
 reads_on cpu format next frames bytes first behind reached w f b e =
     rw (f, b) (sym (read_from-step cpu format next frames bytes w) ∙ e)

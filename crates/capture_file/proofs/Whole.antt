@@ -1,5 +1,6 @@
 -- A whole capture, and what more bytes after it change.
-use Rattle.std.proofs.Common.{◌≡◌, ℕ, suc, ◌+◌, ◌-◌, ◌≤◌, false, List, [], ◌∷◌, ◌++◌, length, take, drop, refl, sym, ap, subst, ◌∙◌, inl, inr, arith, zero-add}
+use Rattle.std.proofs.Common.{◌≡◌, ℕ, suc, ◌+◌, ◌-◌, ◌≤◌, false, List, [], ◌∷◌, ◌++◌, length, take, drop, refl, sym, ap, subst}
+use Rattle.std.proofs.Common.{◌∙◌, inl, inr, arith, zero-add}
 use Rattle.std.specs.Prelude.{nat_lt, Ok}
 use Rattle.std.specs.List.{concat}
 use Rattle.std.proofs.Math.Seq.{take-append-add}
@@ -17,7 +18,8 @@ counted-append xs ys =
       | inl within ↦
           let sum : 33554432 ≡ length xs + (33554432 - length xs) = omega arith in
           let all : counted xs ≡ xs = take_all 33554432 xs (omega arith) in
-          ap (λ (n : ℕ). take n (xs ++ ys)) sum ∙ take-append-add xs ys (33554432 - length xs) ∙ ap (λ (zs : List ℕ). zs ++ take (33554432 - length xs) ys) (sym all)
+          ap (λ (n : ℕ). take n (xs ++ ys)) sum ∙ take-append-add xs ys (33554432 - length xs)
+          ∙ ap (λ (zs : List ℕ). zs ++ take (33554432 - length xs) ys) (sym all)
       | inr beyond ↦
           let none : 33554432 - length xs ≡ 0 = omega arith in
           take-append-le 33554432 xs ys beyond ∙ rw none (sym (append-nil (counted xs)))
@@ -31,7 +33,8 @@ all_of number bytes = record {
   left = drop (stop_of bytes) (counted bytes);
 }
 
-pub length-frames_from : (number : ℕ) (format : Format) (index : ℕ) (records : List (List ℕ)) → length (frames_from number format index records) ≡ length records
+pub length-frames_from : (number : ℕ) (format : Format) (index : ℕ) (records : List (List ℕ))
+    → length (frames_from number format index records) ≡ length records
 length-frames_from number format index [] = refl
 length-frames_from number format index (r ∷ records) = ap suc (length-frames_from number format (index + 1) records)
 
@@ -60,7 +63,8 @@ module _ (number : ℕ) (format : Format) (bytes : List ℕ) (full : 24 ≤ leng
 
 -- more bytes are read from there on
 pub all_append : (number : ℕ) (format : Format) (bytes more : List ℕ) → 24 ≤ length bytes → header_of bytes ≡ Ok format
-    → read_from number format (all_of number bytes).next (all_of number bytes).frames ((all_of number bytes).left ++ take (33554432 - length bytes) more)
+    → read_from number format (all_of number bytes).next (all_of number bytes).frames
+    ((all_of number bytes).left ++ take (33554432 - length bytes) more)
     ≡ all_of number (bytes ++ more)
 all_append number format bytes more full passed =
     let wider : 24 ≤ length (bytes ++ more) = omega (arith, length-append bytes more) in
@@ -69,7 +73,10 @@ all_append number format bytes more full passed =
     rw (counted-append bytes more) (drop-append-le 24 (counted bytes) _ (omega (arith, length-take 33554432 bytes))) in
     let here = all_read_from number format bytes full passed in
     let step = read_from-append number format first_place [] (drop 24 (counted bytes)) (take (33554432 - length bytes) more) in
-    let goes_on : Reached → Type 0 = λ r. read_from number format r.next r.frames (r.left ++ take (33554432 - length bytes) more) ≡ all_of number (bytes ++ more) in
-    let whole : read_from number format first_place [] (drop 24 (counted bytes) ++ take (33554432 - length bytes) more) ≡ all_of number (bytes ++ more) =
+    let goes_on : Reached → Type 0 =
+    λ r. read_from number format r.next r.frames (r.left ++ take (33554432 - length bytes) more)
+    ≡ all_of number (bytes ++ more) in
+    let whole : read_from number format first_place [] (drop 24 (counted bytes) ++ take (33554432 - length bytes) more)
+    ≡ all_of number (bytes ++ more) =
     ap (read_from number format first_place []) (sym body) ∙ all_read_from number format (bytes ++ more) wider header in
     subst goes_on here (sym step ∙ whole)

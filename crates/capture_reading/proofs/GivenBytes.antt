@@ -1,5 +1,6 @@
 -- What holds of what a source gave, from one piece to the next.
-use Rattle.std.proofs.Common.{◌≡◌, ◌≢◌, ℕ, false, append-nil, append_assoc, subst, inl, inr, ◌≤◌, List, [], ◌++◌, length, Option, None, Some, refl, sym, ap, ◌∙◌, arith, length-append}
+use Rattle.std.proofs.Common.{◌≡◌, ◌≢◌, ℕ, false, append-nil, append_assoc, subst, inl, inr, ◌≤◌, List, [], ◌++◌, length}
+use Rattle.std.proofs.Common.{Option, None, Some, refl, sym, ap, ◌∙◌, arith, length-append}
 use Rattle.std.specs.Prelude.{Err, IsSome, ◌<◌}
 use Rattle.std.proofs.lemmas.Bool.{cases_lt}
 use Rattle.std.specs.Io.KnownBytes.{Consumes}
@@ -13,7 +14,8 @@ use Rattle.tap_outside.specs.Counts.{Rose}
 use Rattle.capture_reading.specs.Pieces.{ended_by, is_want}
 use Rattle.tap_outside.specs.Seen.{SourceSeen}
 use Rattle.tap_outside.proofs.Consumed.{Consumes-more, Consumes-none}
-use Rattle.capture_reading.specs.Sources.{EndsAtDamage, FailedToGive, GavePiece, Giving, UnlessFault, WhereEnded, WhereFault, end_by}
+use Rattle.capture_reading.specs.Sources.{EndsAtDamage, FailedToGive, GavePiece, Giving, UnlessFault, WhereEnded, WhereFault}
+use Rattle.capture_reading.specs.Sources.{end_by}
 
 -- the answer isn't `Memory`
 pub told : {P : Type 0} → (damage : CaptureError) → is_want damage ≡ false

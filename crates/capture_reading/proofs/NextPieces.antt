@@ -1,5 +1,6 @@
 -- A capture that is being read, from one piece to the next.
-use Rattle.std.proofs.Common.{◌≡◌, ℕ, ◌+◌, ◌≤◌, List, [], ◌++◌, length, Option, None, Some, sym, ap, ◌∙◌, subst, arith, length-append}
+use Rattle.std.proofs.Common.{◌≡◌, ℕ, ◌+◌, ◌≤◌, List, [], ◌++◌, length, Option, None, Some, sym, ap, ◌∙◌, subst, arith}
+use Rattle.std.proofs.Common.{length-append}
 use Rattle.std.specs.Prelude.{◌<◌, IsSome}
 use Rattle.capture_file.specs.Capture.{damage_of, end_of, frames_of}
 use Rattle.capture_file.specs.Decoders.{Represents}

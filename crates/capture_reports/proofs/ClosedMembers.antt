@@ -33,7 +33,8 @@ of_seats lock cpus (note ∷ notes) count all =
     ((all.0.0, subst (λ (n : ℕ). may_add n all.0.0 note ≡ true) count all.0.2), of_seats lock cpus notes count all.1)
 
 -- of a closed member with n CPUs
-pub seat_run : (lock : Lock) (cpus : ℕ) (member_seats : List Seat) (notes : List Note) → lock.base.cpus ≡ cpus → AreClosedNotes lock member_seats notes
+pub seat_run : (lock : Lock) (cpus : ℕ) (member_seats : List Seat) (notes : List Note) → lock.base.cpus ≡ cpus
+    → AreClosedNotes lock member_seats notes
     → seats.IsSeatRun cpus notes
 seat_run lock cpus member_seats notes count closed = record {
   history = closed.history;
@@ -47,11 +48,13 @@ last_has P [] last all = all.0
 last_has P (member_seat ∷ member_seats) last all = last_has P member_seats last all.1
 
 -- what the timer added there are the moments
-ticked : (ticks : Ticks) (counts : Counts) (moments : List ℕ) (lock : Lock) (member_seats : List Seat) (timer : Seat) (notes : List Note)
+ticked : (ticks : Ticks) (counts : Counts) (moments : List ℕ) (lock : Lock) (member_seats : List Seat) (timer : Seat)
+    (notes : List Note)
     → AreClosedNotes lock (member_seats ++ timer ∷ []) notes → IsTimed moments lock timer → IsTicked moments notes
 ticked ticks counts moments lock member_seats timer notes closed timed =
     let run = seat_run lock lock.base.cpus (member_seats ++ timer ∷ []) notes refl closed in
-    let mine : own (may_note lock.base) timer.number notes ≡ own_of lock timer = last_has (HasOwn lock notes) member_seats timer closed.each_seat in
+    let mine : own (may_note lock.base) timer.number notes ≡ own_of lock timer =
+    last_has (HasOwn lock notes) member_seats timer closed.each_seat in
     record {
       ticks = ticks lock.base.cpus notes run
           ∙ ap (λ (n : ℕ). ticks_of (own (may_note lock.base) n notes)) (sym timed.ready.number_is)
@@ -73,14 +76,17 @@ rings_are job moments [] all = tt
 rings_are job moments (member ∷ members) all = (all.0.ring, rings_are job moments members all.1)
 
 -- a fact about each element, by its place
-pub by_place : {A : Type 0} (P : A → Type 0) (xs : List A) → ((i : ℕ) (none : A) → i < length xs → P (get_or xs i none)) → AllByRecursion P xs
+pub by_place : {A : Type 0} (P : A → Type 0) (xs : List A) → ((i : ℕ) (none : A) → i < length xs → P (get_or xs i none))
+    → AllByRecursion P xs
 by_place P [] each = tt
-by_place P (x ∷ xs) each = (each zero x (omega arith), by_place P xs (λ i none within. each (suc i) none (omega (arith, within))))
+by_place P (x ∷ xs) each =
+    (each zero x (omega arith), by_place P xs (λ i none within. each (suc i) none (omega (arith, within))))
 
 abbrev lock_in : MemberLeft → Lock
 lock_in member = member.lock
 
-module _ (ticks : Ticks) (counts : Counts) (job : Job) (moments : List ℕ) (cpus : List CpuLeft) (members : List MemberLeft) (timer : List Seat)
+module _ (ticks : Ticks) (counts : Counts) (job : Job) (moments : List ℕ) (cpus : List CpuLeft) (members : List MemberLeft)
+    (timer : List Seat)
     (seats_drawn : List SeatValue) (number : ℕ) (left : AreLeft job moments cpus members timer seats_drawn number) where
   -- a member is there
   pub lock_at : (member : ℕ) (none : MemberLeft) → member < length members
@@ -90,7 +96,8 @@ module _ (ticks : Ticks) (counts : Counts) (job : Job) (moments : List ℕ) (cpu
   pub within_locks : (member : ℕ) → member < length members → member < length (locks_of members)
   within_locks member within = subst (λ (n : ℕ). member < n) (sym (length-map members lock_in)) within
 
-  member_left : (member : ℕ) (member_seat : Seat) (none : MemberLeft) → member < length members → IsMemberLeft job moments (get_or members member none)
+  member_left : (member : ℕ) (member_seat : Seat) (none : MemberLeft) → member < length members
+      → IsMemberLeft job moments (get_or members member none)
   member_left member member_seat none within =
       let closed = left.closed member member_seat none within in
       let there : member < length timer = subst (λ (n : ℕ). member < n) (sym left.timed.count) (within_locks member within) in
@@ -99,7 +106,8 @@ module _ (ticks : Ticks) (counts : Counts) (job : Job) (moments : List ℕ) (cpu
       (left.timed.each member none.lock member_seat there) in
       record {
         run = closed.run;
-        ticked = ticked ticks counts moments (get_or members member none).lock (member_seats_at member member_seat cpus) (get_or timer member member_seat)
+        ticked = ticked ticks counts moments (get_or members member none).lock (member_seats_at member member_seat cpus)
+            (get_or timer member member_seat)
             (get_or members member none).notes closed.notes timed;
         ring = closed.ring;
       }
@@ -111,4 +119,6 @@ module _ (ticks : Ticks) (counts : Counts) (job : Job) (moments : List ℕ) (cpu
 
   pub members_left : AllByRecursion (IsMemberLeft job moments) members
   members_left = by_place (IsMemberLeft job moments) members (λ member none within.
-      member_left member (some_member_seat member timer (subst (λ (n : ℕ). member < n) (sym left.timed.count) (within_locks member within))) none within)
+      member_left member
+      (some_member_seat member timer
+      (subst (λ (n : ℕ). member < n) (sym left.timed.count) (within_locks member within))) none within)

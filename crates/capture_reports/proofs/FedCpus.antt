@@ -1,5 +1,6 @@
 -- The logs of CPUs that were fed to their ends.
-use Rattle.std.proofs.Common.{◌≡◌, ℕ, zero, suc, ◌+◌, ◌<◌, List, [], ◌∷◌, ◌++◌, length, get_or, Option, refl, sym, ap, ◌∙◌, subst, arith}
+use Rattle.std.proofs.Common.{◌≡◌, ℕ, zero, suc, ◌+◌, ◌<◌, List, [], ◌∷◌, ◌++◌, length, get_or, Option, refl, sym, ap, ◌∙◌}
+use Rattle.std.proofs.Common.{subst, arith}
 use Rattle.std.specs.Prelude.{map, ⊤}
 use Rattle.std.specs.List.{AllByRecursion}
 use Rattle.capture_file.specs.Capture.{frames_of}
@@ -39,7 +40,8 @@ AllFed job locks at [] = ⊤
 AllFed job locks at (left ∷ cpus) = Fed job locks at left × AllFed job locks (at + 1) cpus
 
 pub all_fed : (job : Job) (locks : List Lock) (at : ℕ) (cpus : List CpuLeft)
-    → ((cpu : ℕ) (none : CpuLeft) → cpu < length cpus → Fed job locks (at + cpu) (get_or cpus cpu none)) → AllFed job locks at cpus
+    → ((cpu : ℕ) (none : CpuLeft) → cpu < length cpus → Fed job locks (at + cpu) (get_or cpus cpu none))
+    → AllFed job locks at cpus
 all_fed job locks at [] fed = tt
 all_fed job locks at (left ∷ cpus) fed =
     let here : at + 0 ≡ at = omega arith in (
@@ -59,8 +61,10 @@ log_of cpu feed now log number closes = record {
   end_is = refl;
 }
 
-pub logs_are : (job : Job) (locks : List Lock) (at : ℕ) (cpus : List CpuLeft) (nows : List (Option SourceSeen)) (logs : List CpuLog)
-    → AllFed job locks at cpus → AllClose (feeds_of cpus) nows logs → AreLogsFrom at (bytes_of (feeds_of cpus)) (ends_of logs) logs
+pub logs_are : (job : Job) (locks : List Lock) (at : ℕ) (cpus : List CpuLeft) (nows : List (Option SourceSeen))
+    (logs : List CpuLog)
+    → AllFed job locks at cpus → AllClose (feeds_of cpus) nows logs
+    → AreLogsFrom at (bytes_of (feeds_of cpus)) (ends_of logs) logs
 logs_are job locks at [] [] [] fed close = tt
 logs_are job locks at [] [] (log ∷ logs) fed close = absurd close
 logs_are job locks at [] (now ∷ nows) logs fed close = absurd close
@@ -82,14 +86,18 @@ beside arrivals entries = record { arrivals = arrivals; log = entries }
 
 logged_is : (job : Job) (cpu : ℕ) (feed : Feeding) (now : Option SourceSeen) (log : CpuLog) → feed.number ≡ cpu
     → feed.path.shape ≡ job.setup.plan → Closes feed now log
-    → beside (arrivals_of (has_defrag job.setup.plan.flags) (frames_of cpu feed.bytes)) log.arrivals ≡ beside (arrivals_in feed) feed.path.log
+    → beside (arrivals_of (has_defrag job.setup.plan.flags) (frames_of cpu feed.bytes)) log.arrivals
+    ≡ beside (arrivals_in feed) feed.path.log
 logged_is job cpu feed now log number shape closes =
-    ap (beside (arrivals_of (has_defrag job.setup.plan.flags) (frames_of cpu feed.bytes))) (ap (λ (l : CpuLog). l.arrivals) closes.log_is)
+    ap (beside (arrivals_of (has_defrag job.setup.plan.flags) (frames_of cpu feed.bytes)))
+    (ap (λ (l : CpuLog). l.arrivals) closes.log_is)
     ∙ ap (λ (n : ℕ). beside (arrivals_of (has_defrag job.setup.plan.flags) (frames_of n feed.bytes)) feed.path.log) (sym number)
     ∙ ap (λ (s : Shape). beside (arrivals_of (has_defrag s.flags) (frames_in feed)) feed.path.log) (sym shape)
 
-pub logged_are : (job : Job) (locks : List Lock) (at : ℕ) (cpus : List CpuLeft) (nows : List (Option SourceSeen)) (logs : List CpuLog)
-    → AllFed job locks at cpus → AllClose (feeds_of cpus) nows logs → logged (arriving_from job at cpus) logs ≡ map logged_of cpus
+pub logged_are : (job : Job) (locks : List Lock) (at : ℕ) (cpus : List CpuLeft) (nows : List (Option SourceSeen))
+    (logs : List CpuLog)
+    → AllFed job locks at cpus → AllClose (feeds_of cpus) nows logs
+    → logged (arriving_from job at cpus) logs ≡ map logged_of cpus
 logged_are job locks at [] [] [] fed close = refl
 logged_are job locks at [] [] (log ∷ logs) fed close = absurd close
 logged_are job locks at [] (now ∷ nows) logs fed close = absurd close
@@ -108,27 +116,36 @@ lawful_at job locks at [] cpu fed = tt
 lawful_at job locks at (left ∷ cpus) zero fed = fed.0.lawful.lawful
 lawful_at job locks at (left ∷ cpus) (suc cpu) fed = lawful_at job locks (at + 1) cpus cpu fed.1
 
-pub drawn_are : (job : Job) (locks : List Lock) (at : ℕ) (cpus : List CpuLeft) → AllFed job locks at cpus → job.setup.plan.mode ≡ Lb
-    → map (λ (logged : Logged). tickets_of logged.log) (map logged_of cpus) ≡ map (λ (seat : SeatValue). seat.drawn) (seats_of cpus)
+pub drawn_are : (job : Job) (locks : List Lock) (at : ℕ) (cpus : List CpuLeft) → AllFed job locks at cpus
+    → job.setup.plan.mode ≡ Lb
+    → map (λ (logged : Logged). tickets_of logged.log) (map logged_of cpus)
+    ≡ map (λ (seat : SeatValue). seat.drawn) (seats_of cpus)
 drawn_are job locks at [] fed lb = refl
 drawn_are job locks at (left ∷ cpus) fed lb =
-    ap (λ (tickets : List ℕ). tickets ∷ map (λ (logged : Logged). tickets_of logged.log) (map logged_of cpus)) (sym (fed.0.tickets lb))
+    ap (λ (tickets : List ℕ). tickets ∷ map (λ (logged : Logged). tickets_of logged.log) (map logged_of cpus))
+    (sym (fed.0.tickets lb))
     ∙ ap (λ (more : List (List ℕ)). left.seat.drawn ∷ more) (drawn_are job locks (at + 1) cpus fed.1 lb)
 
 -- the notes of a member that a CPU's seat may add are those of its log's tries there
-own_here : (job : Job) (locks : List Lock) (at member : ℕ) (left : CpuLeft) (lock : Lock) (member_seat : Seat) (notes : List Note)
-    → Fed job locks at left → member < length locks → HasOwn (get_or locks member lock) notes (get_or left.member_seats member member_seat)
+own_here : (job : Job) (locks : List Lock) (at member : ℕ) (left : CpuLeft) (lock : Lock) (member_seat : Seat)
+    (notes : List Note)
+    → Fed job locks at left → member < length locks
+    → HasOwn (get_or locks member lock) notes (get_or left.member_seats member member_seat)
     → AreNotesOf (room_of job.setup.shape) job.setup.mac (attempts_at member (arrivals_in left.feed) left.feed.path.log)
     (own (may_note (get_or locks member lock).base) at notes)
 own_here job locks at member left lock member_seat notes fed within has =
-    let there : IsFedAt job at member (arrivals_in left.feed) left.feed.path.log (get_or locks member lock) (get_or left.member_seats member member_seat) =
+    let there : IsFedAt job at member (arrivals_in left.feed) left.feed.path.log (get_or locks member lock)
+    (get_or left.member_seats member member_seat) =
     fed.each member lock member_seat (subst (λ (n : ℕ). member < n) (sym fed.count) within) in
-    subst (λ (n : ℕ). AreNotesOf (room_of job.setup.shape) job.setup.mac (attempts_at member (arrivals_in left.feed) left.feed.path.log)
+    subst (λ (n : ℕ). AreNotesOf (room_of job.setup.shape) job.setup.mac
+    (attempts_at member (arrivals_in left.feed) left.feed.path.log)
     (own (may_note (get_or locks member lock).base) n notes)) there.ready.number_is
-    (subst (λ (mine : List Note). AreNotesOf (room_of job.setup.shape) job.setup.mac (attempts_at member (arrivals_in left.feed) left.feed.path.log) mine)
+    (subst (λ (mine : List Note). AreNotesOf (room_of job.setup.shape) job.setup.mac
+    (attempts_at member (arrivals_in left.feed) left.feed.path.log) mine)
     (sym has) there.own)
 
-pub own_at : (job : Job) (locks : List Lock) (at : ℕ) (cpus : List CpuLeft) (cpu member : ℕ) (lock : Lock) (member_seat : Seat) (notes : List Note) (rest : List Seat)
+pub own_at : (job : Job) (locks : List Lock) (at : ℕ) (cpus : List CpuLeft) (cpu member : ℕ) (lock : Lock) (member_seat : Seat)
+    (notes : List Note) (rest : List Seat)
     → AllFed job locks at cpus → cpu < length cpus → member < length locks
     → AllByRecursion (HasOwn (get_or locks member lock) notes) (member_seats_at member member_seat cpus ++ rest)
     → AreNotesOf (room_of job.setup.shape) job.setup.mac
@@ -137,7 +154,8 @@ pub own_at : (job : Job) (locks : List Lock) (at : ℕ) (cpus : List CpuLeft) (c
 own_at job locks at [] cpu member lock member_seat notes rest fed below within has = absurd (omega (arith, below))
 own_at job locks at (left ∷ cpus) zero member lock member_seat notes rest fed below within has =
     let here : at ≡ at + 0 = omega arith in
-    subst (λ (n : ℕ). AreNotesOf (room_of job.setup.shape) job.setup.mac (attempts_at member (arrivals_in left.feed) left.feed.path.log)
+    subst (λ (n : ℕ). AreNotesOf (room_of job.setup.shape) job.setup.mac
+    (attempts_at member (arrivals_in left.feed) left.feed.path.log)
     (own (may_note (get_or locks member lock).base) n notes)) here
     (own_here job locks at member left lock member_seat notes fed.0 within has.0)
 own_at job locks at (left ∷ cpus) (suc cpu) member lock member_seat notes rest fed below within has =

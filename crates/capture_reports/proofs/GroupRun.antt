@@ -34,7 +34,8 @@ use Rattle.capture_reports.specs.Left.{AreLeft, CpuLeft, all_member_seats_at, fe
 use Rattle.capture_reports.specs.Reported.{IsGroupRun}
 use Rattle.capture_reports.specs.Timers.{IsTicked}
 use Rattle.capture_reports.proofs.FedCpus.{AllFed, Fed, all_fed, drawn_are, lawful_at, logged_are, logged_of, logs_are, own_at}
-use Rattle.capture_reports.proofs.ClosedMembers.{Counts, IsMemberLeft, Ticks, lock_at, members_left, rings_are, seat_run, within_locks}
+use Rattle.capture_reports.proofs.ClosedMembers.{Counts, IsMemberLeft, Ticks, lock_at, members_left, rings_are, seat_run}
+use Rattle.capture_reports.proofs.ClosedMembers.{within_locks}
 
 -- the law of the joint
 abbrev pub Joins : Type 0
@@ -42,7 +43,8 @@ Joins = (rules : Rules) (room : ℕ) (cpus : List Logged) (seats : List SeatValu
     → AreThreads rules room cpus seats number members → IsGroupReport rules room cpus members
 
 -- the arrivals of a CPU with a log are those that arrive there
-arrivals_of_log : (n : ℕ) (arriving : List (List (Option Frame))) (logs : List CpuLog) (cpu : ℕ) → AreOf n 0 (somes (get_or arriving cpu []))
+arrivals_of_log : (n : ℕ) (arriving : List (List (Option Frame))) (logs : List CpuLog) (cpu : ℕ)
+    → AreOf n 0 (somes (get_or arriving cpu []))
     → AreOf n 0 (logged_at (logged arriving logs) cpu).arrivals
 arrivals_of_log n [] logs cpu all = tt
 arrivals_of_log n (here ∷ arriving) [] cpu all = tt
@@ -52,9 +54,12 @@ arrivals_of_log n (here ∷ arriving) (log ∷ logs) (suc cpu) all = arrivals_of
 abbrev notes_in : MemberLeft → List Note
 notes_in member = member.notes
 
-module _ (numbered : AreNumbered) (ticks : Ticks) (counts : Counts) (joins : Joins) (job : Job) (moments : List ℕ) (cpus : List CpuLeft)
-    (members : List MemberLeft) (timer : List Seat) (seats : List SeatValue) (number : ℕ) (nows : List (Option SourceSeen)) (logs : List CpuLog)
-    (setup : IsRunnable job.setup) (left : AreLeft job moments cpus members timer seats number) (close : AllClose (feeds_of cpus) nows logs) where
+module _ (numbered : AreNumbered) (ticks : Ticks) (counts : Counts) (joins : Joins) (job : Job) (moments : List ℕ)
+    (cpus : List CpuLeft)
+    (members : List MemberLeft) (timer : List Seat) (seats : List SeatValue) (number : ℕ) (nows : List (Option SourceSeen))
+    (logs : List CpuLog)
+    (setup : IsRunnable job.setup) (left : AreLeft job moments cpus members timer seats number)
+    (close : AllClose (feeds_of cpus) nows logs) where
   fed : AllFed job (locks_of members) 0 cpus
   fed = all_fed job (locks_of members) 0 cpus (λ cpu none within.
       let same : cpu ≡ 0 + cpu = omega arith in
@@ -67,13 +72,15 @@ module _ (numbered : AreNumbered) (ticks : Ticks) (counts : Counts) (joins : Joi
   cpus_are = length-map cpus logged_of ∙ left.cpu_count
 
   -- the notes of a member, and its lock
-  notes_there : (member : ℕ) (none : MemberLeft) → member < length members → notes_at (notes_of_members members) member ≡ (get_or members member none).notes
+  notes_there : (member : ℕ) (none : MemberLeft) → member < length members
+      → notes_at (notes_of_members members) member ≡ (get_or members member none).notes
   notes_there member none within = get_or-map notes_in members member none [] within
 
   lock_there : (member : ℕ) (none : MemberLeft) → member < length members → IsLockOf job (get_or members member none).lock
   lock_there member none within =
       subst (IsLockOf job) (lock_at ticks counts job moments cpus members timer seats number left member none within)
-      (All-get_or (IsLockOf job) (locks_of members) member none.lock (within_locks ticks counts job moments cpus members timer seats number left member within) left.locks)
+      (All-get_or (IsLockOf job) (locks_of members) member none.lock
+      (within_locks ticks counts job moments cpus members timer seats number left member within) left.locks)
 
   run_at : (member : ℕ) (member_seat : Seat) (none : MemberLeft) → member < length members
       → runs.IsSeatRun (length (map logged_of cpus)) (notes_at (notes_of_members members) member)
@@ -81,21 +88,24 @@ module _ (numbered : AreNumbered) (ticks : Ticks) (counts : Counts) (joins : Joi
       let closed = left.closed member member_seat none within in
       let lock = lock_there member none within in
       subst (runs.IsSeatRun (length (map logged_of cpus))) (sym (notes_there member none within))
-      (seat_run (get_or members member none).lock (length (map logged_of cpus)) (all_member_seats_at member member_seat cpus timer)
+      (seat_run (get_or members member none).lock (length (map logged_of cpus))
+      (all_member_seats_at member member_seat cpus timer)
       (get_or members member none).notes (lock.cpus ∙ sym cpus_are) closed.notes)
 
   abbrev AreOwn : ℕ → ℕ → List Note → Type 0
   AreOwn cpu member mine = AreNotesOf (room_of job.setup.shape) job.setup.mac
       (attempts_at member (logged_at (map logged_of cpus) cpu).arrivals (logged_at (map logged_of cpus) cpu).log) mine
 
-  added_at : (cpu member : ℕ) (member_seat : Seat) (none : MemberLeft) → cpu < length (map logged_of cpus) → member < length members
+  added_at : (cpu member : ℕ) (member_seat : Seat) (none : MemberLeft) → cpu < length (map logged_of cpus)
+      → member < length members
       → AreOwn cpu member (own (may_add (length (map logged_of cpus))) cpu (notes_at (notes_of_members members) member))
   added_at cpu member member_seat none below within =
       let closed = left.closed member member_seat none within in
       let lock = lock_there member none within in
       let notes : List Note = (get_or members member none).notes in
       let same = lock_at ticks counts job moments cpus members timer seats number left member none within in
-      let each = subst (λ (l : Lock). AllByRecursion (HasOwn l notes) (all_member_seats_at member member_seat cpus timer)) (sym same) closed.notes.each_seat in
+      let each = subst (λ (l : Lock). AllByRecursion (HasOwn l notes) (all_member_seats_at member member_seat cpus timer))
+      (sym same) closed.notes.each_seat in
       let mine : AreOwn cpu member (own (may_note (get_or (locks_of members) member none.lock).base) (0 + cpu) notes) =
       own_at job (locks_of members) 0 cpus cpu member none.lock member_seat notes (get_or timer member member_seat ∷ []) fed
       (subst (λ (n : ℕ). cpu < n) (length-map cpus logged_of) below)
@@ -103,9 +113,11 @@ module _ (numbered : AreNumbered) (ticks : Ticks) (counts : Counts) (joins : Joi
       let here : 0 + cpu ≡ cpu = omega arith in
       let count : (get_or (locks_of members) member none.lock).base.cpus ≡ length (map logged_of cpus) =
       ap (λ (l : Lock). l.base.cpus) same ∙ lock.cpus ∙ sym cpus_are in
-      subst (λ (ns : List Note). AreOwn cpu member (own (may_add (length (map logged_of cpus))) cpu ns)) (sym (notes_there member none within))
+      subst (λ (ns : List Note). AreOwn cpu member (own (may_add (length (map logged_of cpus))) cpu ns))
+      (sym (notes_there member none within))
       (subst (λ (n : ℕ). AreOwn cpu member (own (may_add n) cpu notes)) count
-      (subst (λ (n : ℕ). AreOwn cpu member (own (may_note (get_or (locks_of members) member none.lock).base) n notes)) here mine))
+      (subst (λ (n : ℕ). AreOwn cpu member
+      (own (may_note (get_or (locks_of members) member none.lock).base) n notes)) here mine))
 
   have_tickets : job.setup.plan.mode ≡ Lb → HaveTickets (map logged_of cpus) seats number
   have_tickets lb = record {
@@ -120,7 +132,8 @@ module _ (numbered : AreNumbered) (ticks : Ticks) (counts : Counts) (joins : Joi
   frames_at : (cpu : ℕ) → AreOf cpu 0 (logged_at (map logged_of cpus) cpu).arrivals
   frames_at cpu =
       subst (λ (all : List Logged). AreOf cpu 0 (logged_at all cpu).arrivals) logged_is
-      (arrivals_of_log cpu (arriving_of job (bytes_of (feeds_of cpus))) logs cpu (arrive numbered job (bytes_of (feeds_of cpus)) cpu))
+      (arrivals_of_log cpu (arriving_of job (bytes_of (feeds_of cpus))) logs cpu
+      (arrive numbered job (bytes_of (feeds_of cpus)) cpu))
 
   -- a member's place is one of its notes' list
   within_notes : (member : ℕ) → member < length (notes_of_members members) → member < length members
@@ -145,23 +158,30 @@ module _ (numbered : AreNumbered) (ticks : Ticks) (counts : Counts) (joins : Joi
     count = length-map members notes_in ∙ left.member_count;
     frames = frames_at;
     lawful = λ cpu. lawful_at job (locks_of members) 0 cpus cpu fed;
-    runs = λ member within. let there = within_notes member within in run_at member (member_seat_of member there) (some_member member members there) there;
+    runs = λ member within. let there = within_notes member within in
+        run_at member (member_seat_of member there) (some_member member members there) there;
     added = λ cpu member below within.
-        let there = within_notes member within in added_at cpu member (member_seat_of member there) (some_member member members there) below there;
+        let there = within_notes member within in
+        added_at cpu member (member_seat_of member there) (some_member member members there) below there;
     tickets = have_tickets;
   }
 
-  group : IsGroupReport (rules_of job) (room_of job.setup.shape) (logged (arriving_of job (bytes_of (feeds_of cpus))) logs) (notes_of_members members)
-  group = subst (λ (all : List Logged). IsGroupReport (rules_of job) (room_of job.setup.shape) all (notes_of_members members)) (sym logged_is)
+  group : IsGroupReport (rules_of job) (room_of job.setup.shape) (logged (arriving_of job (bytes_of (feeds_of cpus))) logs)
+      (notes_of_members members)
+  group = subst (λ (all : List Logged). IsGroupReport (rules_of job) (room_of job.setup.shape) all (notes_of_members members))
+      (sym logged_is)
       (joins (rules_of job) (room_of job.setup.shape) (map logged_of cpus) seats number (notes_of_members members) threads)
 
   -- a fact about each member's notes
-  each_notes : (P : List Note → Type 0) (all : List MemberLeft) → ((member : MemberLeft) → IsMemberLeft job moments member → P member.notes)
+  each_notes : (P : List Note → Type 0) (all : List MemberLeft)
+      → ((member : MemberLeft) → IsMemberLeft job moments member → P member.notes)
       → AllByRecursion (IsMemberLeft job moments) all → All P (notes_of_members all)
   each_notes P [] has each = All-nil P
-  each_notes P (member ∷ all) has each = All-cons P member.notes (notes_of_members all) (has member each.0) (each_notes P all has each.1)
+  each_notes P (member ∷ all) has each =
+      All-cons P member.notes (notes_of_members all) (has member each.0) (each_notes P all has each.1)
 
-  pub group_run : IsGroupRun job moments (bytes_of (feeds_of cpus)) (ends_of logs) logs (notes_of_members members) (rings_of members)
+  pub group_run : IsGroupRun job moments (bytes_of (feeds_of cpus)) (ends_of logs) logs (notes_of_members members)
+      (rings_of members)
   group_run =
       let each = members_left ticks counts job moments cpus members timer seats number left in
       record {

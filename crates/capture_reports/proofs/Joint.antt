@@ -21,14 +21,17 @@ there_or_past cpu cpus false is = inr (ltb-false cpu cpus is)
 module _ (rules : Rules) (room : ℕ) (cpus : List Logged) (seats : List SeatValue) (number : ℕ) (members : List (List Note))
     (left : AreThreads rules room cpus seats number members) where
   each_note : (cpu member : ℕ) → member < length members → ((cpu < length cpus) ⊎ (length cpus ≤ cpu))
-      → AreNotesOf room rules.own (attempts_at member (logged_at cpus cpu).arrivals (logged_at cpus cpu).log) (frame_notes cpu (notes_at members member))
+      → AreNotesOf room rules.own (attempts_at member (logged_at cpus cpu).arrivals (logged_at cpus cpu).log)
+      (frame_notes cpu (notes_at members member))
   each_note cpu member within (inl there) =
       subst (AreNotesOf room rules.own (attempts_at member (logged_at cpus cpu).arrivals (logged_at cpus cpu).log))
       (own_frames (length cpus) cpu (notes_at members member) there) (left.added cpu member there within)
   each_note cpu member within (inr past) =
       let nothing : logged_at cpus cpu ≡ nothing_logged = get_or-eq_default cpus nothing_logged past in
-      subst (λ (logged : Logged). AreNotesOf room rules.own (attempts_at member logged.arrivals logged.log) (frame_notes cpu (notes_at members member))) (sym nothing)
-      (subst (AreNotesOf room rules.own []) (sym (none_beyond (length cpus) cpu (notes_at members member) past (left.runs member within))) tt)
+      subst (λ (logged : Logged). AreNotesOf room rules.own (attempts_at member logged.arrivals logged.log)
+      (frame_notes cpu (notes_at members member))) (sym nothing)
+      (subst (AreNotesOf room rules.own [])
+      (sym (none_beyond (length cpus) cpu (notes_at members member) past (left.runs member within))) tt)
 
   pub reports : IsGroupReport rules room cpus members
   reports = record {

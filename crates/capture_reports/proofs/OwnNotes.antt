@@ -1,5 +1,6 @@
 -- The notes that a CPU's seat may add are the notes about its frames.
-use Rattle.std.proofs.Common.{◌≡◌, ◌<◌, ◌≤◌, ℕ, Bool, true, false, List, [], ◌∷◌, ◌++◌, refl, sym, ap, ◌∙◌, subst, arith, append_assoc, eq-eqb, ne_eqb, if◌then◌else◌}
+use Rattle.std.proofs.Common.{◌≡◌, ◌<◌, ◌≤◌, ℕ, Bool, true, false, List, [], ◌∷◌, ◌++◌, refl, sym, ap, ◌∙◌, subst, arith}
+use Rattle.std.proofs.Common.{append_assoc, eq-eqb, ne_eqb, if◌then◌else◌}
 use Rattle.std.proofs.lemmas.Bool.{and_parts, eqb-true, false≢true, lt-ltb, ltb-true}
 use Rattle.std.specs.List.{AllByRecursion}
 use Rattle.std.specs.Prelude.{◌==◌, ◌&&◌, nat_lt}
@@ -38,13 +39,17 @@ not_timer cpus cpu note xs ys few same =
 pub own_frames : (cpus cpu : ℕ) (notes : List Note) → cpu < cpus → own (may_add cpus) cpu notes ≡ frame_notes cpu notes
 own_frames cpus cpu [] few = refl
 own_frames cpus cpu (Kept offer found ∷ notes) few =
-    frame_step cpus cpu offer.frame.cpu (Kept offer found) (own (may_add cpus) cpu notes) (frame_notes cpu notes) few (own_frames cpus cpu notes few)
+    frame_step cpus cpu offer.frame.cpu (Kept offer found) (own (may_add cpus) cpu notes) (frame_notes cpu notes) few
+    (own_frames cpus cpu notes few)
 own_frames cpus cpu (Refused of index need number ∷ notes) few =
-    frame_step cpus cpu of (Refused of index need number) (own (may_add cpus) cpu notes) (frame_notes cpu notes) few (own_frames cpus cpu notes few)
+    frame_step cpus cpu of (Refused of index need number) (own (may_add cpus) cpu notes) (frame_notes cpu notes) few
+    (own_frames cpus cpu notes few)
 own_frames cpus cpu (Dropped of index need number ∷ notes) few =
-    frame_step cpus cpu of (Dropped of index need number) (own (may_add cpus) cpu notes) (frame_notes cpu notes) few (own_frames cpus cpu notes few)
+    frame_step cpus cpu of (Dropped of index need number) (own (may_add cpus) cpu notes) (frame_notes cpu notes) few
+    (own_frames cpus cpu notes few)
 own_frames cpus cpu (Ticked ms found ∷ notes) few =
-    not_timer cpus cpu (Ticked ms found) (own (may_add cpus) cpu notes) (frame_notes cpu notes) few (own_frames cpus cpu notes few)
+    not_timer cpus cpu (Ticked ms found) (own (may_add cpus) cpu notes) (frame_notes cpu notes) few
+    (own_frames cpus cpu notes few)
 own_frames cpus cpu (Counted ∷ notes) few = own_frames cpus cpu notes few
 own_frames cpus cpu (Finished ∷ notes) few = own_frames cpus cpu notes few
 
@@ -66,7 +71,8 @@ none_of cpus cpu Finished past may = refl
 none_among : (cpus cpu : ℕ) (notes : List Note) → cpus ≤ cpu → AllByRecursion (IsOfSeat cpus) notes → frame_notes cpu notes ≡ []
 none_among cpus cpu [] past all = refl
 none_among cpus cpu (note ∷ notes) past all =
-    ap (λ (here : List Note). here ++ frame_notes cpu notes) (none_of cpus cpu note past all.0) ∙ none_among cpus cpu notes past all.1
+    ap (λ (here : List Note). here ++ frame_notes cpu notes) (none_of cpus cpu note past all.0)
+    ∙ none_among cpus cpu notes past all.1
 
 frames_on : (cpu : ℕ) (xs ys : List Note) → frame_notes cpu (xs ++ ys) ≡ frame_notes cpu xs ++ frame_notes cpu ys
 frames_on cpu [] ys = refl

@@ -1,5 +1,6 @@
 -- The tickets of the logs are those of the dealer.
-use Rattle.std.proofs.Common.{◌≡◌, ◌+◌, ℕ, zero, suc, List, [], ◌∷◌, ◌++◌, length, refl, sym, ap, ◌∙◌, subst, arith, get_or, if◌then◌else◌, Option, Some, None}
+use Rattle.std.proofs.Common.{◌≡◌, ◌+◌, ℕ, zero, suc, List, [], ◌∷◌, ◌++◌, length, refl, sym, ap, ◌∙◌, subst, arith, get_or}
+use Rattle.std.proofs.Common.{if◌then◌else◌, Option, Some, None}
 use Rattle.std.proofs.lemmas.Bool.{false≢true}
 use Rattle.std.proofs.lemmas.List.Sums.{sum_by-append, sum_by-cons}
 use Rattle.std.specs.List.{AllByRecursion, cons_option}
@@ -20,7 +21,8 @@ use Rattle.ticket_dealer.specs.Tickets.{Rises}
 sum_of : {A B : Type 0} (f : A → B) (weight : B → ℕ) (xs : List A) → sum_by (λ x. weight (f x)) xs ≡ sum_by weight (map f xs)
 sum_of f weight [] = refl
 sum_of f weight (x ∷ xs) =
-    sum_by-cons (λ z. weight (f z)) x xs ∙ ap (λ (rest : ℕ). weight (f x) + rest) (sum_of f weight xs) ∙ sym (sum_by-cons weight (f x) (map f xs))
+    sum_by-cons (λ z. weight (f z)) x xs ∙ ap (λ (rest : ℕ). weight (f x) + rest) (sum_of f weight xs)
+    ∙ sym (sum_by-cons weight (f x) (map f xs))
 
 abbrev tickets_in : Logged → List ℕ
 tickets_in logged = tickets_of logged.log
@@ -38,7 +40,8 @@ none_sum weight (seat ∷ others) nothing none =
     omega (arith, here, rest, all)
 
 -- a sum over the logs' tickets is that over the seats'
-same_sum : (cpus : List Logged) (seats : List SeatValue) (number : ℕ) (weight : List ℕ → ℕ) → weight [] ≡ 0 → HaveTickets cpus seats number
+same_sum : (cpus : List Logged) (seats : List SeatValue) (number : ℕ) (weight : List ℕ → ℕ) → weight [] ≡ 0
+    → HaveTickets cpus seats number
     → sum_by (λ (logged : Logged). weight (tickets_of logged.log)) cpus ≡ sum_by (λ (seat : SeatValue). weight seat.drawn) seats
 same_sum cpus seats number weight nothing have =
     let logs = sum_of tickets_in weight cpus in
@@ -90,11 +93,13 @@ tickets_once rules cpus seats number ticket lb lawful have =
     ∙ ap (λ (n : ℕ). if nat_lt ticket n then 1 else 0) long
 
 -- and they rise in each log
-front_rises : (feeders others : List SeatValue) → AllByRecursion RisesIn (feeders ++ others) → AllByRecursion (Rises 0) (map drawn_by feeders)
+front_rises : (feeders others : List SeatValue) → AllByRecursion RisesIn (feeders ++ others)
+    → AllByRecursion (Rises 0) (map drawn_by feeders)
 front_rises [] others rising = tt
 front_rises (seat ∷ feeders) others rising = (rising.0, front_rises feeders others rising.1)
 
-rises_at : (cpus : List Logged) (cpu : ℕ) → AllByRecursion (Rises 0) (map tickets_in cpus) → Rises 0 (tickets_of (get_or cpus cpu nothing_logged).log)
+rises_at : (cpus : List Logged) (cpu : ℕ) → AllByRecursion (Rises 0) (map tickets_in cpus)
+    → Rises 0 (tickets_of (get_or cpus cpu nothing_logged).log)
 rises_at [] cpu rising = tt
 rises_at (logged ∷ cpus) zero rising = rising.0
 rises_at (logged ∷ cpus) (suc cpu) rising = rises_at cpus cpu rising.1

@@ -7,17 +7,20 @@ use Rattle.fanout_group.specs.Rules.{Rules}
 use Rattle.cpu_feed.specs.CpuFeeds.{Feeding, HasRead, IsAllOfCpu, Pops, behind, frames_in}
 use Rattle.cpu_feed.specs.inside.Steps.{FeedsLawfully}
 
-take_suc : (n : ℕ) (xs ys : List Frame) (x : Frame) → Some x ≡ slice_get xs n → take (suc n) (xs ++ ys) ≡ take n (xs ++ ys) ++ x ∷ []
+take_suc : (n : ℕ) (xs ys : List Frame) (x : Frame) → Some x ≡ slice_get xs n
+    → take (suc n) (xs ++ ys) ≡ take n (xs ++ ys) ++ x ∷ []
 take_suc n [] ys x e = cc
 take_suc zero (y ∷ xs) ys x e = ap (λ (z : Frame). z ∷ []) (cc)
 take_suc (suc n) (y ∷ xs) ys x e = ap (λ (zs : List Frame). y ∷ zs) (take_suc n xs ys x e)
 
-take_next : (n : ℕ) (xs ys : List Frame) (x : Frame) → Some x ≡ slice_get xs n → take (n + 1) (xs ++ ys) ≡ take n (xs ++ ys) ++ x ∷ []
+take_next : (n : ℕ) (xs ys : List Frame) (x : Frame) → Some x ≡ slice_get xs n
+    → take (n + 1) (xs ++ ys) ≡ take n (xs ++ ys) ++ x ∷ []
 take_next n xs ys x e = let one : n + 1 ≡ suc n = omega arith in ap (λ k. take k (xs ++ ys)) one ∙ take_suc n xs ys x e
 
 -- what the receive path says of a frame
 abbrev pub Arrives : Frame → Option Frame → Path → Path → Type 0
-Arrives frame arrival old new = (rules : Rules) (frames : List Frame) → IsPath rules frames old → IsPathBehind rules (frames ++ frame ∷ []) arrival new
+Arrives frame arrival old new = (rules : Rules) (frames : List Frame) → IsPath rules frames old
+    → IsPathBehind rules (frames ++ frame ∷ []) arrival new
 
 module _ (old mid : Feeding) (read : HasRead old mid) where
   same_path : mid.path ≡ old.path
@@ -27,12 +30,16 @@ module _ (old mid : Feeding) (read : HasRead old mid) where
   same_fed = ap (λ (cpu : Feeding). cpu.fed) read.rest_is
 
   -- a frame was fed
-  pub frame_lawful : (frame : Frame) (popped new : Feeding) (came arrival : Option Frame) (path : Path) → Pops mid came popped → came ≡ Some frame
+  pub frame_lawful : (frame : Frame) (popped new : Feeding) (came arrival : Option Frame) (path : Path) → Pops mid came popped
+      → came ≡ Some frame
       → new ≡ record popped { path = path } → Arrives frame arrival popped.path new.path → FeedsLawfully old arrival new
   frame_lawful frame popped new came arrival path pops came_is new_is arrives rules all whole lawful =
-      let popped_is : popped ≡ record mid { fed = mid.fed + 1 } = pops.new_is ∙ ap (λ (o : Option Frame). behind o mid) came_is in
-      let is : new ≡ record mid { fed = mid.fed + 1; path = path } = new_is ∙ ap (λ (cpu : Feeding). record cpu { path = path }) popped_is in
-      let here : IsAllOfCpu all (record mid { fed = mid.fed + 1; path = path }) = subst (λ (cpu : Feeding). IsAllOfCpu all cpu) is whole in
+      let popped_is : popped ≡ record mid { fed = mid.fed + 1 } =
+      pops.new_is ∙ ap (λ (o : Option Frame). behind o mid) came_is in
+      let is : new ≡ record mid { fed = mid.fed + 1; path = path } =
+      new_is ∙ ap (λ (cpu : Feeding). record cpu { path = path }) popped_is in
+      let here : IsAllOfCpu all (record mid { fed = mid.fed + 1; path = path }) =
+      subst (λ (cpu : Feeding). IsAllOfCpu all cpu) is whole in
       let got : Some frame ≡ slice_get (frames_in mid) old.fed =
       sym came_is ∙ pops.frame_is ∙ ap (λ n. slice_get (frames_in mid) n) same_fed in
       let path_is : old.path ≡ popped.path = sym (ap (λ (cpu : Feeding). cpu.path) popped_is ∙ same_path) in
@@ -46,9 +53,11 @@ module _ (old mid : Feeding) (read : HasRead old mid) where
       subst (λ (fs : List Frame). IsPathBehind rules fs arrival new.path) taken next
 
   -- no frame was there
-  pub none_lawful : (popped : Feeding) (came : Option Frame) → Pops mid came popped → came ≡ None → FeedsLawfully old None popped
+  pub none_lawful : (popped : Feeding) (came : Option Frame) → Pops mid came popped → came ≡ None
+      → FeedsLawfully old None popped
   none_lawful popped came pops came_is rules all whole lawful =
       let now : popped ≡ mid = pops.new_is ∙ ap (λ (o : Option Frame). behind o mid) came_is in
       let fed : old.fed ≡ popped.fed = sym (ap (λ (cpu : Feeding). cpu.fed) now ∙ same_fed) in
       let path : old.path ≡ popped.path = sym (ap (λ (cpu : Feeding). cpu.path) now ∙ same_path) in
-      subst (λ n. IsPath rules (take n all) popped.path) fed (subst (λ (p : Path). IsPath rules (take old.fed all) p) path lawful)
+      subst (λ n. IsPath rules (take n all) popped.path) fed
+      (subst (λ (p : Path). IsPath rules (take old.fed all) p) path lawful)

@@ -1,5 +1,6 @@
 -- What holds of a CPU's source, its decoder and the frames that wait, from one piece to the next.
-use Rattle.std.proofs.Common.{◌≡◌, ℕ, append_assoc, subst, ◌+◌, ◌-◌, ◌<◌, ◌≤◌, List, [], ◌∷◌, ◌++◌, length, drop, zero, suc, Option, None, Some, refl, sym, ap, ◌∙◌, arith, length-append}
+use Rattle.std.proofs.Common.{◌≡◌, ℕ, append_assoc, subst, ◌+◌, ◌-◌, ◌<◌, ◌≤◌, List, [], ◌∷◌, ◌++◌, length, drop, zero, suc}
+use Rattle.std.proofs.Common.{Option, None, Some, refl, sym, ap, ◌∙◌, arith, length-append}
 use Rattle.std.specs.Prelude.{IsSome, ◌==◌, false, if◌then◌else◌, is_some, true}
 use Rattle.std.proofs.lemmas.Bool.{eqb-true}
 use Rattle.std.proofs.lemmas.List.{length-drop}
@@ -21,7 +22,8 @@ abbrev pub AreTooMany : Type 0
 AreTooMany = (bytes : List ℕ) → 33554432 < length bytes → IsSome (damage_of bytes)
 
 -- before the first piece
-pub begins : (number : ℕ) (first : Option SourceSeen) (decoder : DecoderValue) → Represents number decoder [] → frames_of number [] ≡ [] → damage_of [] ≡ None
+pub begins : (number : ℕ) (first : Option SourceSeen) (decoder : DecoderValue) → Represents number decoder []
+    → frames_of number [] ≡ [] → damage_of [] ≡ None
     → IsFed number first first [] None 0 0 decoder []
 begins number first decoder represents empty sound = record {
   represents = represents;
@@ -37,7 +39,8 @@ begins number first decoder represents empty sound = record {
 some_none : (end : CpuEnd) (P : Type 0) → ◌≡◌ {A = Option CpuEnd} (Some end) None → P
 some_none end P e = cc
 
-ended_so : (number : ℕ) (first now then_ : Option SourceSeen) (bytes : List ℕ) (fed given : ℕ) (decoder : DecoderValue) (waiting : List Frame) (end : CpuEnd)
+ended_so : (number : ℕ) (first now then_ : Option SourceSeen) (bytes : List ℕ) (fed given : ℕ) (decoder : DecoderValue)
+    (waiting : List Frame) (end : CpuEnd)
     → IsFed number first now bytes None fed given decoder waiting → Giving first then_ bytes (Some end)
     → IsFed number first then_ bytes (Some end) fed given decoder waiting
 ended_so number first now then_ bytes fed given decoder waiting end h giving = record {
@@ -50,13 +53,16 @@ ended_so number first now then_ bytes fed given decoder waiting end h giving = r
 }
 
 -- without a source
-pub no_source : (number : ℕ) (first : Option SourceSeen) (bytes : List ℕ) (fed given : ℕ) (decoder : DecoderValue) (waiting : List Frame)
-    → IsFed number first None bytes None fed given decoder waiting → IsFed number first None bytes (Some Fault) fed given decoder waiting
+pub no_source : (number : ℕ) (first : Option SourceSeen) (bytes : List ℕ) (fed given : ℕ) (decoder : DecoderValue)
+    (waiting : List Frame)
+    → IsFed number first None bytes None fed given decoder waiting
+    → IsFed number first None bytes (Some Fault) fed given decoder waiting
 no_source number first bytes fed given decoder waiting h =
     ended_so number first None None bytes fed given decoder waiting Fault h (none_gives first bytes h.giving)
 
 -- a read failed
-pub failed : AreTooMany → (number : ℕ) (first : Option SourceSeen) (old new : SourceSeen) (bytes : List ℕ) (fed given : ℕ) (decoder : DecoderValue) (waiting : List Frame)
+pub failed : AreTooMany → (number : ℕ) (first : Option SourceSeen) (old new : SourceSeen) (bytes : List ℕ) (fed given : ℕ)
+    (decoder : DecoderValue) (waiting : List Frame)
     → IsFed number first (Some old) bytes None fed given decoder waiting → FailedToGive old new
     → IsFed number first (Some new) bytes (Some Fault) fed given decoder waiting
 failed many number first old new bytes fed given decoder waiting h none =
@@ -64,27 +70,32 @@ failed many number first old new bytes fed given decoder waiting h none =
     (fault_gives first old new bytes (is_small bytes (h.sound refl) (many bytes)) h.giving none)
 
 -- a read gave no byte
-pub at_end : AreTooMany → (number : ℕ) (first : Option SourceSeen) (old new : SourceSeen) (bytes piece : List ℕ) (fed given : ℕ) (decoder : DecoderValue) (waiting : List Frame) (end : CpuEnd)
+pub at_end : AreTooMany → (number : ℕ) (first : Option SourceSeen) (old new : SourceSeen) (bytes piece : List ℕ) (fed given : ℕ)
+    (decoder : DecoderValue) (waiting : List Frame) (end : CpuEnd)
     → IsFed number first (Some old) bytes None fed given decoder waiting → GavePiece old new piece → piece ≡ []
     → ((cpu : ℕ) (fed : List ℕ) → Represents cpu decoder fed → end ≡ end_by (end_of fed))
     → IsFed number first (Some new) bytes (Some end) fed given decoder waiting
 at_end many number first old new bytes piece fed given decoder waiting end h gave empty is =
     ended_so number first (Some old) (Some new) bytes fed given decoder waiting end h
-    (end_gives first old new bytes piece end (is_small bytes (h.sound refl) (many bytes)) h.giving gave empty (is number bytes h.represents))
+    (end_gives first old new bytes piece end (is_small bytes (h.sound refl) (many bytes)) h.giving gave empty
+    (is number bytes h.represents))
 
 pub no_bytes : (bytes : List ℕ) → true ≡ (length bytes == 0) → bytes ≡ []
 no_bytes [] e = refl
 no_bytes (byte ∷ bytes) e = let none = eqb-true (length (byte ∷ bytes)) 0 (sym e) in absurd (omega (arith, none))
 
 -- the same, as the code has it
-pub ends_here : AreTooMany → (number : ℕ) (first now : Option SourceSeen) (old new : SourceSeen) (bytes piece : List ℕ) (ended : Option CpuEnd) (fed given : ℕ)
+pub ends_here : AreTooMany → (number : ℕ) (first now : Option SourceSeen) (old new : SourceSeen) (bytes piece : List ℕ)
+    (ended : Option CpuEnd) (fed given : ℕ)
     (decoder : DecoderValue) (waiting : List Frame) (end : CpuEnd)
-    → IsFed number first now bytes ended fed given decoder waiting → now ≡ Some old → ended ≡ None → GavePiece old new piece → piece ≡ []
+    → IsFed number first now bytes ended fed given decoder waiting → now ≡ Some old → ended ≡ None
+    → GavePiece old new piece → piece ≡ []
     → ((cpu : ℕ) (fed : List ℕ) → Represents cpu decoder fed → end ≡ end_by (end_of fed))
     → IsFed number first (Some new) bytes (Some end) fed given decoder waiting
 ends_here many number first now old new bytes piece ended fed given decoder waiting end h there unended gave empty is =
     let P : Option SourceSeen → Option CpuEnd → Type 0 = λ n e. IsFed number first n bytes e fed given decoder waiting in
-    let g : IsFed number first (Some old) bytes None fed given decoder waiting = subst (λ (e : Option CpuEnd). P (Some old) e) unended (subst (λ (n : Option SourceSeen). P n ended) there h) in
+    let g : IsFed number first (Some old) bytes None fed given decoder waiting =
+    subst (λ (e : Option CpuEnd). P (Some old) e) unended (subst (λ (n : Option SourceSeen). P n ended) there h) in
     at_end many number first old new bytes piece fed given decoder waiting end g gave empty is
 
 -- ---- one more piece
@@ -95,13 +106,15 @@ drop_front (suc n) [] ys e = absurd (omega (arith, e))
 drop_front zero (x ∷ xs) ys e = absurd (omega (arith, e))
 drop_front (suc n) (x ∷ xs) ys e = drop_front n xs ys (omega (arith, e))
 
-piece_more : (number : ℕ) (first : Option SourceSeen) (old new : SourceSeen) (bytes piece : List ℕ) (fed given : ℕ) (before decoder : DecoderValue) (waiting more : List Frame)
+piece_more : (number : ℕ) (first : Option SourceSeen) (old new : SourceSeen) (bytes piece : List ℕ) (fed given : ℕ)
+    (before decoder : DecoderValue) (waiting more : List Frame)
     (damage : Option CaptureError) → AreTooMany → IsTheEnd → IsUncut
     → IsFed number first (Some old) bytes None fed given before waiting → length (frames_of number bytes) ≤ fed
     → GavePiece old new piece → length piece ≤ 65536
     → ((cpu : ℕ) (fed : List ℕ) → Represents cpu before fed → Decodes cpu fed piece decoder more damage)
     → IsFed number first (Some new) (bytes ++ piece) (ended_by damage) fed (given + length piece) decoder more
-piece_more number first old new bytes piece fed given before decoder waiting more damage many the_end uncut h all took small decodes =
+piece_more number first old new bytes piece fed given before decoder waiting more damage many the_end uncut h all took
+    small decodes =
     let one : Decodes number bytes piece decoder more damage = decodes number bytes h.represents in
     let within = h.within in
     let given_is = h.given_is in
@@ -109,36 +122,52 @@ piece_more number first old new bytes piece fed given before decoder waiting mor
     record {
       represents = one.represents;
       waiting_is = sym (ap (λ (fs : List Frame). drop fed fs) one.frames ∙ drop_front fed (frames_of number bytes) more same);
-      within = omega (arith, within, ap (λ (fs : List Frame). length fs) one.frames, length-append (frames_of number bytes) more);
+      within = omega (
+        arith,
+        within,
+        ap (λ (fs : List Frame). length fs) one.frames,
+        length-append (frames_of number bytes) more,
+      );
       given_is = omega (arith, given_is, length-append bytes piece);
-      giving = piece_gives first old new bytes piece damage the_end uncut (is_small bytes (h.sound refl) (many bytes)) small h.giving took one.damage_is;
+      giving = piece_gives first old new bytes piece damage the_end uncut (is_small bytes (h.sound refl) (many bytes)) small
+          h.giving took one.damage_is;
       sound = λ e. sym one.damage_is ∙ none_shown damage e;
     }
 
 -- the same, as the code has it
-pub piece_taken : (number : ℕ) (first now : Option SourceSeen) (old new : SourceSeen) (bytes grown took piece : List ℕ) (ended after : Option CpuEnd) (fed given : ℕ) (before decoder : DecoderValue)
+pub piece_taken : (number : ℕ) (first now : Option SourceSeen) (old new : SourceSeen) (bytes grown took piece : List ℕ)
+    (ended after : Option CpuEnd) (fed given : ℕ) (before decoder : DecoderValue)
     (waiting more kept : List Frame) (damage : Option CaptureError) → AreTooMany → IsTheEnd → IsUncut
-    → IsFed number first now bytes ended fed given before waiting → now ≡ Some old → ended ≡ None → length (frames_of number bytes) ≤ fed
+    → IsFed number first now bytes ended fed given before waiting → now ≡ Some old → ended ≡ None
+    → length (frames_of number bytes) ≤ fed
     → GavePiece old new took → length took ≤ 65536 → piece ≡ took → grown ≡ bytes ++ took
-    → ((cpu : ℕ) (fed : List ℕ) → Represents cpu before fed → Decodes cpu fed piece decoder more damage) → kept ≡ more → after ≡ ended_by damage
+    → ((cpu : ℕ) (fed : List ℕ) → Represents cpu before fed → Decodes cpu fed piece decoder more damage) → kept ≡ more
+    → after ≡ ended_by damage
     → IsFed number first (Some new) grown after fed (given + length piece) decoder kept
-piece_taken number first now old new bytes grown took piece ended after fed given before decoder waiting more kept damage many the_end uncut h there unended all took_is small same grown_is decodes kept_is after_is =
+piece_taken number first now old new bytes grown took piece ended after fed given before decoder waiting more kept damage many
+    the_end uncut h there unended all took_is small same grown_is decodes kept_is after_is =
     let P : Option SourceSeen → Option CpuEnd → Type 0 = λ n e. IsFed number first n bytes e fed given before waiting in
-    let g : IsFed number first (Some old) bytes None fed given before waiting = subst (λ (e : Option CpuEnd). P (Some old) e) unended (subst (λ (n : Option SourceSeen). P n ended) there h) in
+    let g : IsFed number first (Some old) bytes None fed given before waiting =
+    subst (λ (e : Option CpuEnd). P (Some old) e) unended (subst (λ (n : Option SourceSeen). P n ended) there h) in
     let taken : GavePiece old new piece = subst (λ (p : List ℕ). GavePiece old new p) (sym same) took_is in
     let short : length piece ≤ 65536 = subst (λ (p : List ℕ). length p ≤ 65536) (sym same) small in
-    let next = piece_more number first old new bytes piece fed given before decoder waiting more damage many the_end uncut g all taken short decodes in
-    let Q : List ℕ → Option CpuEnd → List Frame → Type 0 = λ b e w. IsFed number first (Some new) b e fed (given + length piece) decoder w in
+    let next = piece_more number first old new bytes piece fed given before decoder waiting more damage many the_end uncut g all
+    taken short decodes in
+    let Q : List ℕ → Option CpuEnd → List Frame → Type 0 =
+    λ b e w. IsFed number first (Some new) b e fed (given + length piece) decoder w in
     subst (λ (w : List Frame). Q grown after w) (sym kept_is)
     (subst (λ (e : Option CpuEnd). Q grown e more) (sym after_is)
     (subst (λ (b : List ℕ). Q b (ended_by damage) more) (sym (grown_is ∙ ap (λ (p : List ℕ). bytes ++ p) (sym same))) next))
 
 -- the frames that are new
-pub piece_frames : (number : ℕ) (first now : Option SourceSeen) (bytes grown took piece : List ℕ) (ended : Option CpuEnd) (fed given : ℕ) (before decoder : DecoderValue)
-    (waiting more : List Frame) (damage : Option CaptureError) → IsFed number first now bytes ended fed given before waiting → piece ≡ took → grown ≡ bytes ++ took
+pub piece_frames : (number : ℕ) (first now : Option SourceSeen) (bytes grown took piece : List ℕ) (ended : Option CpuEnd)
+    (fed given : ℕ) (before decoder : DecoderValue)
+    (waiting more : List Frame) (damage : Option CaptureError) → IsFed number first now bytes ended fed given before waiting
+    → piece ≡ took → grown ≡ bytes ++ took
     → ((cpu : ℕ) (fed : List ℕ) → Represents cpu before fed → Decodes cpu fed piece decoder more damage)
     → frames_of number grown ≡ frames_of number bytes ++ more
-piece_frames number first now bytes grown took piece ended fed given before decoder waiting more damage h same grown_is decodes =
+piece_frames number first now bytes grown took piece ended fed given before decoder waiting more damage h same
+    grown_is decodes =
     let one : Decodes number bytes piece decoder more damage = decodes number bytes h.represents in
     ap (λ (b : List ℕ). frames_of number b) (grown_is ∙ ap (λ (p : List ℕ). bytes ++ p) (sym same)) ∙ one.frames
 
@@ -147,17 +176,20 @@ piece_frames number first now bytes grown took piece ended fed given before deco
 no_some : (P : Type 0) → IsSome {T = CpuEnd} None → P
 no_some P some = cc
 
-pub ends_all : (all frames : List Frame) (end : CpuEnd) (ended : Option CpuEnd) → ended ≡ None → IsAllOf all frames (Some end) → IsAllOf all frames ended
+pub ends_all : (all frames : List Frame) (end : CpuEnd) (ended : Option CpuEnd) → ended ≡ None → IsAllOf all frames (Some end)
+    → IsAllOf all frames ended
 ends_all all frames end None e h = (h.0, h.1, λ some. no_some _ some)
 ends_all all frames end (Some x) e h = cc
 
-pub grows_all : (all frames grown more : List Frame) (now before : Option CpuEnd) → before ≡ None → grown ≡ frames ++ more → IsAllOf all grown now → IsAllOf all frames before
+pub grows_all : (all frames grown more : List Frame) (now before : Option CpuEnd) → before ≡ None → grown ≡ frames ++ more
+    → IsAllOf all grown now → IsAllOf all frames before
 grows_all all frames grown more now None e is h =
     (more ++ h.0, h.1 ∙ ap (λ (fs : List Frame). fs ++ h.0) is ∙ append_assoc frames more h.0, λ some. no_some _ some)
 grows_all all frames grown more now (Some x) e is h = cc
 
 -- as many frames as were fed and wait
-pub few_wait : (number : ℕ) (first now : Option SourceSeen) (bytes : List ℕ) (ended : Option CpuEnd) (fed given : ℕ) (decoder : DecoderValue) (waiting : List Frame)
+pub few_wait : (number : ℕ) (first now : Option SourceSeen) (bytes : List ℕ) (ended : Option CpuEnd) (fed given : ℕ)
+    (decoder : DecoderValue) (waiting : List Frame)
     → IsFed number first now bytes ended fed given decoder waiting → fed + length waiting ≡ length (frames_of number bytes)
 few_wait number first now bytes ended fed given decoder waiting h =
     let within = h.within in
@@ -197,10 +229,13 @@ lower None None many few e more small = omega (arith, more, small)
 lower (Some end) None many few e more small = omega (arith, small)
 
 -- a piece of a byte or more leaves less
-pub reads_less : AreTooMany → (cpu now : Feeding) (grown took piece : List ℕ) (after : Option CpuEnd) → cpu ≡ now → cpu.ended ≡ None
+pub reads_less : AreTooMany → (cpu now : Feeding) (grown took piece : List ℕ) (after : Option CpuEnd) → cpu ≡ now
+    → cpu.ended ≡ None
     → damage_of cpu.bytes ≡ None → piece ≡ took → false ≡ (length piece == 0) → grown ≡ cpu.bytes ++ took
     → (if is_some after then 0 else 33554433 - length grown) < unread now
 reads_less many cpu now grown took piece after is unended sound same some grown_is =
-    let longer = ap (λ (b : List ℕ). length b) (grown_is ∙ ap (λ (p : List ℕ). cpu.bytes ++ p) (sym same)) ∙ length-append cpu.bytes piece in
+    let longer = ap (λ (b : List ℕ). length b) (grown_is ∙ ap (λ (p : List ℕ). cpu.bytes ++ p) (sym same))
+    ∙ length-append cpu.bytes piece in
     subst (λ (old : Feeding). (if is_some after then 0 else 33554433 - length grown) < unread old) is
-    (lower after cpu.ended (length grown) (length cpu.bytes) unended (omega (arith, longer, some_byte piece some)) (is_small cpu.bytes sound (many cpu.bytes)))
+    (lower after cpu.ended (length grown) (length cpu.bytes) unended (omega (arith, longer, some_byte piece some))
+    (is_small cpu.bytes sound (many cpu.bytes)))

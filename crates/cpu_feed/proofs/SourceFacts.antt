@@ -11,6 +11,9 @@ not_both true P e f = cc
 not_both false P e f = cc
 
 -- what is known if no piece was lost
-pub known : (stuck : Bool) (number : ℕ) (first now : Option SourceSeen) (bytes : List ℕ) (ended : Option CpuEnd) (fed given : ℕ) (decoder : DecoderValue) (waiting : List Frame)
-    → stuck ≡ false → IsFed number first now bytes ended fed given decoder waiting → IsKnown stuck number first now bytes ended fed given decoder waiting
-known stuck number first now bytes ended fed given decoder waiting free h = record { whole = λ e. h; lost = λ e. not_both stuck _ free e }
+pub known : (stuck : Bool) (number : ℕ) (first now : Option SourceSeen) (bytes : List ℕ) (ended : Option CpuEnd) (fed given : ℕ)
+    (decoder : DecoderValue) (waiting : List Frame)
+    → stuck ≡ false → IsFed number first now bytes ended fed given decoder waiting
+    → IsKnown stuck number first now bytes ended fed given decoder waiting
+known stuck number first now bytes ended fed given decoder waiting free h =
+    record { whole = λ e. h; lost = λ e. not_both stuck _ free e }

@@ -1,5 +1,6 @@
 -- A CPU whose source is read a piece at a time takes all its frames, one after another.
-use Rattle.std.proofs.Common.{◌≡◌, ℕ, ◌+◌, ◌<◌, ◌≤◌, zero, suc, List, [], ◌∷◌, ◌++◌, length, drop, append-nil, Option, None, Some, refl, sym, ap, ◌∙◌, subst, arith}
+use Rattle.std.proofs.Common.{◌≡◌, ℕ, ◌+◌, ◌<◌, ◌≤◌, zero, suc, List, [], ◌∷◌, ◌++◌, length, drop, append-nil, Option, None}
+use Rattle.std.proofs.Common.{Some, refl, sym, ap, ◌∙◌, subst, arith}
 use Rattle.std.specs.Prelude.{◌≢◌, IsSome, OnErr, Result, Ok, Err, slice_get}
 use Rattle.std.proofs.lemmas.List.{drop_all}
 use Rattle.frame_view.specs.declared.frames.Frame.{Frame}
@@ -46,7 +47,8 @@ fed_path cpu frame = record cpu {
   path = record cpu.path { held = held_behind (has_defrag cpu.path.shape.flags) cpu.path.held frame };
 }
 
-frame_taken : (all : List Frame) (cpu : Feeding) (frame : Frame) → IsAllOfCpu all cpu → Some frame ≡ slice_get (frames_in cpu) cpu.fed
+frame_taken : (all : List Frame) (cpu : Feeding) (frame : Frame) → IsAllOfCpu all cpu
+    → Some frame ≡ slice_get (frames_in cpu) cpu.fed
     → waiting_of all cpu
     ≡ arrival_at (has_defrag cpu.path.shape.flags) cpu.path.held frame ∷ waiting_of all (fed_path cpu frame)
 frame_taken all cpu frame h e =
@@ -70,38 +72,50 @@ module _ (all : List Frame) (old mid : Feeding) (read : HasRead old mid) where
       let same = same_waiting all old mid read in
       record {
         before = read.all all h;
-        waiting_is = sym (ap (λ (ws : List (Option Frame)). drop 1 ws) waits) ∙ ap (λ (ws : List (Option Frame)). drop 1 ws) same;
-        path_is = ap (λ (path : Path). record path { held = held_behind (has_defrag mid.path.shape.flags) mid.path.held frame }) (same_path old mid read);
+        waiting_is = sym (ap (λ (ws : List (Option Frame)). drop 1 ws) waits)
+            ∙ ap (λ (ws : List (Option Frame)). drop 1 ws) same;
+        path_is = ap (λ (path : Path). record path { held = held_behind (has_defrag mid.path.shape.flags) mid.path.held frame })
+            (same_path old mid read);
         arrival_is = is ∙ ap next_of (sym waits) ∙ ap next_of same;
       }
 
-  pub takes_frame : (frame : Frame) (popped new : Feeding) (came : Option Frame) (arrival : Option Frame) → Pops mid came popped → came ≡ Some frame
+  pub takes_frame : (frame : Frame) (popped new : Feeding) (came : Option Frame) (arrival : Option Frame) → Pops mid came popped
+      → came ≡ Some frame
       → arrival ≡ arrival_at (has_defrag popped.path.shape.flags) popped.path.held frame
-      → new ≡ record popped { path = record popped.path { held = held_behind (has_defrag popped.path.shape.flags) popped.path.held frame } }
+      → new ≡ record popped
+      { path = record popped.path { held = held_behind (has_defrag popped.path.shape.flags) popped.path.held frame } }
       → IsAllOfCpu all new → Takes all old arrival new
   takes_frame frame popped new came arrival pops came_is is new_is h =
-      let popped_is : popped ≡ record mid { fed = mid.fed + 1 } = pops.new_is ∙ ap (λ (o : Option Frame). behind o mid) came_is in
+      let popped_is : popped ≡ record mid { fed = mid.fed + 1 } =
+      pops.new_is ∙ ap (λ (o : Option Frame). behind o mid) came_is in
       let now : new ≡ fed_path mid frame =
-      new_is ∙ ap (λ (cpu : Feeding). record cpu { path = record cpu.path { held = held_behind (has_defrag cpu.path.shape.flags) cpu.path.held frame } }) popped_is in
+      new_is ∙ ap
+      (λ (cpu : Feeding). record cpu
+      { path = record cpu.path { held = held_behind (has_defrag cpu.path.shape.flags) cpu.path.held frame } }) popped_is in
       let arrives : arrival ≡ arrival_at (has_defrag mid.path.shape.flags) mid.path.held frame =
       is ∙ ap (λ (cpu : Feeding). arrival_at (has_defrag cpu.path.shape.flags) cpu.path.held frame) popped_is in
       let before : IsAllOfCpu all (fed_path mid frame) = subst (λ (cpu : Feeding). IsAllOfCpu all cpu) now h in
-      subst (λ (cpu : Feeding). Takes all old arrival cpu) (sym now) (takes_it frame arrival before (sym came_is ∙ pops.frame_is) arrives)
+      subst (λ (cpu : Feeding). Takes all old arrival cpu) (sym now)
+      (takes_it frame arrival before (sym came_is ∙ pops.frame_is) arrives)
 
-  pub takes_none : (popped : Feeding) (came : Option Frame) → Pops mid came popped → came ≡ None → IsReady mid → IsAllOfCpu all popped → Takes all old None popped
+  pub takes_none : (popped : Feeding) (came : Option Frame) → Pops mid came popped → came ≡ None → IsReady mid
+      → IsAllOfCpu all popped → Takes all old None popped
   takes_none popped came pops came_is ready h =
       let now : popped ≡ mid = pops.new_is ∙ ap (λ (o : Option Frame). behind o mid) came_is in
       let few = got_none mid.fed (frames_in mid) (sym came_is ∙ pops.frame_is) in
       let g : IsAllOfCpu all mid = subst (λ (cpu : Feeding). IsAllOfCpu all cpu) now h in
-      let whole : all ≡ frames_in mid = g.1 ∙ ap (λ (fs : List Frame). frames_in mid ++ fs) (g.2 (has_ended mid few ready)) ∙ append-nil (frames_in mid) in
+      let whole : all ≡ frames_in mid =
+      g.1 ∙ ap (λ (fs : List Frame). frames_in mid ++ fs) (g.2 (has_ended mid few ready)) ∙ append-nil (frames_in mid) in
       let none : waiting_of all mid ≡ [] =
       ap (λ (fs : List Frame). arrivals_from (has_defrag mid.path.shape.flags) mid.path.held fs)
       (ap (λ (fs : List Frame). drop mid.fed fs) whole ∙ drop_all mid.fed (frames_in mid) few) in
       let was : waiting_of all old ≡ [] = sym (same_waiting all old mid read) ∙ none in
       record {
         before = read.all all g;
-        waiting_is = ap (λ (cpu : Feeding). waiting_of all cpu) now ∙ none ∙ sym (ap (λ (ws : List (Option Frame)). drop 1 ws) was);
-        path_is = ap (λ (cpu : Feeding). cpu.path) now ∙ same_path old mid read ∙ ap (λ (held : List Frame). record old.path { held = held })
+        waiting_is = ap (λ (cpu : Feeding). waiting_of all cpu) now ∙ none
+            ∙ sym (ap (λ (ws : List (Option Frame)). drop 1 ws) was);
+        path_is = ap (λ (cpu : Feeding). cpu.path) now ∙ same_path old mid read
+            ∙ ap (λ (held : List Frame). record old.path { held = held })
             (ap (λ (path : Path). path.held) (sym (ap (λ (cpu : Feeding). cpu.path) now ∙ same_path old mid read)));
         arrival_is = sym (ap next_of was);
       }
@@ -113,24 +127,29 @@ at_end mid popped came pops came_is ready =
     subst (λ (cpu : Feeding). IsAtItsEnd cpu) (sym now) (record { ended = has_ended mid few ready; all = few })
 
 -- nothing more was fed
-pub none_fed : (old mid popped : Feeding) (came : Option Frame) → HasRead old mid → Pops mid came popped → came ≡ None → popped.fed ≡ old.fed
+pub none_fed : (old mid popped : Feeding) (came : Option Frame) → HasRead old mid → Pops mid came popped → came ≡ None
+    → popped.fed ≡ old.fed
 none_fed old mid popped came read pops came_is =
     let now : popped ≡ mid = pops.new_is ∙ ap (λ (o : Option Frame). behind o mid) came_is in
     ap (λ (cpu : Feeding). cpu.fed) now ∙ ap (λ (cpu : Feeding). cpu.fed) read.rest_is
 
-pub one_fed : (old mid popped new : Feeding) (frame : Frame) (came : Option Frame) → HasRead old mid → Pops mid came popped → came ≡ Some frame
+pub one_fed : (old mid popped new : Feeding) (frame : Frame) (came : Option Frame) → HasRead old mid → Pops mid came popped
+    → came ≡ Some frame
     → new.fed ≡ popped.fed → length (frames_in mid) ≤ 2097150 → FedOne old new
 one_fed old mid popped new frame came read pops came_is fed few =
-    let popped_is : popped.fed ≡ mid.fed + 1 = ap (λ (cpu : Feeding). cpu.fed) (pops.new_is ∙ ap (λ (o : Option Frame). behind o mid) came_is) in
+    let popped_is : popped.fed ≡ mid.fed + 1 =
+    ap (λ (cpu : Feeding). cpu.fed) (pops.new_is ∙ ap (λ (o : Option Frame). behind o mid) came_is) in
     let before : mid.fed ≡ old.fed = ap (λ (cpu : Feeding). cpu.fed) read.rest_is in
     let within = got_within mid.fed (frames_in mid) frame (sym came_is ∙ pops.frame_is) in
     record { one = omega (arith, fed, popped_is, before); few = omega (arith, fed, popped_is, within, few) }
 
 -- a frame came, so no read had failed
-pub still_reads : (old mid popped new : Feeding) (frame : Frame) (came : Option Frame) → (old.ended ≢ Some Fault → FailsFed mid) → Pops mid came popped
+pub still_reads : (old mid popped new : Feeding) (frame : Frame) (came : Option Frame) → (old.ended ≢ Some Fault → FailsFed mid)
+    → Pops mid came popped
     → came ≡ Some frame → new.ended ≡ popped.ended → HasNotFailed old new
 still_reads old mid popped new frame came failed pops came_is stays = λ before after.
-    let ended : popped.ended ≡ mid.ended = ap (λ (cpu : Feeding). cpu.ended) (pops.new_is ∙ ap (λ (o : Option Frame). behind o mid) came_is) in
+    let ended : popped.ended ≡ mid.ended =
+    ap (λ (cpu : Feeding). cpu.ended) (pops.new_is ∙ ap (λ (o : Option Frame). behind o mid) came_is) in
     let most = failed before (sym ended ∙ sym stays ∙ after) in
     let within = got_within mid.fed (frames_in mid) frame (sym came_is ∙ pops.frame_is) in
     omega (arith, most, within)

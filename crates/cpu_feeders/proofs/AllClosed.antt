@@ -47,7 +47,8 @@ module _ {T : Type 0} where
     abbrev pub Over : List Lock → List (List Seat) → List (Walker T) → List (Closed T) → Type 0
     Over locks rows walkers all = AllClosedWith base_of taken_by locks rows walkers all
 
-    pub locks_are : (locks : List Lock) (rows : List (List Seat)) (walkers : List (Walker T)) (all : List (Closed T)) → Over locks rows walkers all
+    pub locks_are : (locks : List Lock) (rows : List (List Seat)) (walkers : List (Walker T)) (all : List (Closed T))
+        → Over locks rows walkers all
         → locks_of (members_left locks all) ≡ locks
     locks_are [] rows walkers all over = refl
     locks_are (lock ∷ locks) [] walkers all over = absurd over
@@ -56,7 +57,8 @@ module _ {T : Type 0} where
     locks_are (lock ∷ locks) (row ∷ rows) (walker ∷ walkers) (closed ∷ all) over =
         ap (λ (ls : List Lock). lock ∷ ls) (locks_are locks rows walkers all over.1)
 
-    pub notes_are : (locks : List Lock) (rows : List (List Seat)) (walkers : List (Walker T)) (all : List (Closed T)) → Over locks rows walkers all
+    pub notes_are : (locks : List Lock) (rows : List (List Seat)) (walkers : List (Walker T)) (all : List (Closed T))
+        → Over locks rows walkers all
         → notes_of_members (members_left locks all) ≡ map notes_in all
     notes_are [] [] [] [] over = refl
     notes_are [] [] [] (closed ∷ all) over = absurd over
@@ -68,7 +70,8 @@ module _ {T : Type 0} where
     notes_are (lock ∷ locks) (row ∷ rows) (walker ∷ walkers) (closed ∷ all) over =
         ap (λ (ns : List (List Note)). closed.notes ∷ ns) (notes_are locks rows walkers all over.1)
 
-    pub rings_are : (locks : List Lock) (rows : List (List Seat)) (walkers : List (Walker T)) (all : List (Closed T)) → Over locks rows walkers all
+    pub rings_are : (locks : List Lock) (rows : List (List Seat)) (walkers : List (Walker T)) (all : List (Closed T))
+        → Over locks rows walkers all
         → rings_of (members_left locks all) ≡ map ring_in all
     rings_are [] [] [] [] over = refl
     rings_are [] [] [] (closed ∷ all) over = absurd over
@@ -81,8 +84,10 @@ module _ {T : Type 0} where
         ap (λ (rs : List (Pends ShapedBytes)). closed.ring ∷ rs) (rings_are locks rows walkers all over.1)
 
     -- each member was closed over its seats
-    pub closed_over : (job : Job) (locks : List Lock) (rows : List (List Seat)) (walkers : List (Walker T)) (all : List (Closed T))
-        → Over locks rows walkers all → AllByRecursion (IsMemberOf job) locks → (member : ℕ) (row : List Seat) (none : MemberLeft)
+    pub closed_over : (job : Job) (locks : List Lock) (rows : List (List Seat)) (walkers : List (Walker T))
+        (all : List (Closed T))
+        → Over locks rows walkers all → AllByRecursion (IsMemberOf job) locks
+        → (member : ℕ) (row : List Seat) (none : MemberLeft)
         → member < length (members_left locks all)
         → IsClosedOver job.setup.shape (get_or rows member row) (get_or (members_left locks all) member none)
     closed_over job [] rows walkers all over members member row none within = absurd (omega (arith, within))
@@ -107,11 +112,14 @@ module _ {T : Type 0} where
       seats_left (lock ∷ locks) (row ∷ rows) before [] all over outs = absurd over
       seats_left (lock ∷ locks) (row ∷ rows) before (walker ∷ walkers) [] over outs = absurd over
       seats_left (lock ∷ locks) (row ∷ rows) [] (walker ∷ walkers) (closed ∷ all) over outs = absurd outs
-      seats_left (lock ∷ locks) (row ∷ rows) (o ∷ before) (walker ∷ walkers) (closed ∷ all) over outs =
-          (subst (λ (seat : SeatValue). IsFreshOf dealer seat) (sym over.0.seat) outs.0.seat, seats_left locks rows before walkers all over.1 outs.1)
+      seats_left (lock ∷ locks) (row ∷ rows) (o ∷ before) (walker ∷ walkers) (closed ∷ all) over outs = (
+        subst (λ (seat : SeatValue). IsFreshOf dealer seat) (sym over.0.seat) outs.0.seat,
+        seats_left locks rows before walkers all over.1 outs.1,
+      )
 
       pub seats_many : (locks : List Lock) (rows : List (List Seat)) (before walkers : List (Walker T)) (all : List (Closed T))
-          → Over locks rows walkers all → AllZip (IsWalkedOut base_of taken_by dealer) before walkers → length (map seat_left all) ≡ length before
+          → Over locks rows walkers all → AllZip (IsWalkedOut base_of taken_by dealer) before walkers
+          → length (map seat_left all) ≡ length before
       seats_many [] [] [] [] [] over outs = refl
       seats_many [] [] (o ∷ before) [] [] over outs = absurd outs
       seats_many [] [] before [] (closed ∷ all) over outs = absurd over
@@ -130,10 +138,13 @@ module _ {T : Type 0} where
           → map (λ (entry : Entry). taken_in job.setup.shape entry.0) ring.retired ≡ taken_of_notes job.setup.shape notes
 
       -- each taker comes back with its base, and has read all blocks
-      pub takers_left : (reads : ReadsNotes) (locks : List Lock) (rows : List (List Seat)) (before walkers : List (Walker T)) (all : List (Closed T))
+      pub takers_left : (reads : ReadsNotes) (locks : List Lock) (rows : List (List Seat)) (before walkers : List (Walker T))
+          (all : List (Closed T))
           → Over locks rows walkers all → AllByRecursion (IsMemberOf job) locks
-          → AllByRecursion (IsFreshReader base_of taken_by job.setup.shape dealer) before → AllZip (IsWalkedOut base_of taken_by dealer) before walkers
-          → AreTakersOf base_of taken_by job.setup.shape (map notes_in all) (map (λ (w : Walker T). w.taker) before) (map taker_left all)
+          → AllByRecursion (IsFreshReader base_of taken_by job.setup.shape dealer) before
+          → AllZip (IsWalkedOut base_of taken_by dealer) before walkers
+          → AreTakersOf base_of taken_by job.setup.shape (map notes_in all) (map (λ (w : Walker T). w.taker) before)
+          (map taker_left all)
       takers_left reads [] [] [] [] [] over members fresh outs = tt
       takers_left reads [] [] (o ∷ before) [] [] over members fresh outs = absurd outs
       takers_left reads [] [] before [] (closed ∷ all) over members fresh outs = absurd over
@@ -150,7 +161,8 @@ module _ {T : Type 0} where
           subst (λ (s : RingRequest). IsRingOf s closed.notes closed.ring) members.0.is_lock.shape over.0.over.ring in (
             record {
               base_is = over.0.base ∙ base;
-              taken_is = over.0.read ∙ ap (λ (s : RingRequest). map (λ (entry : Entry). taken_in s entry.0) closed.ring.retired) shape
+              taken_is =
+                  over.0.read ∙ ap (λ (s : RingRequest). map (λ (entry : Entry). taken_in s entry.0) closed.ring.retired) shape
                   ∙ reads closed.notes closed.ring ring;
             },
             takers_left reads locks rows before walkers all over.1 members.1 fresh.1 outs.1,
@@ -158,15 +170,19 @@ module _ {T : Type 0} where
 
     -- ---- a loop that closes one after another
 
-    pub closed_next : (locks lockss : List Lock) (rows rowss : List (List Seat)) (walkers rest : List (Walker T)) (lock : Lock) (row : List Seat)
-        (walker : Walker T) (closed : Closed T) (more : List (Closed T)) → locks ≡ lock ∷ lockss → rows ≡ row ∷ rowss → walkers ≡ walker ∷ rest
-        → IsClosedWith base_of taken_by lock row walker closed → Over lockss rowss rest more → Over locks rows walkers (closed ∷ more)
+    pub closed_next : (locks lockss : List Lock) (rows rowss : List (List Seat)) (walkers rest : List (Walker T)) (lock : Lock)
+        (row : List Seat)
+        (walker : Walker T) (closed : Closed T) (more : List (Closed T)) → locks ≡ lock ∷ lockss → rows ≡ row ∷ rowss
+        → walkers ≡ walker ∷ rest
+        → IsClosedWith base_of taken_by lock row walker closed → Over lockss rowss rest more
+        → Over locks rows walkers (closed ∷ more)
     closed_next locks lockss rows rowss walkers rest lock row walker closed more lock_is row_is walker_is one over =
         subst (λ (ls : List Lock). Over ls rows walkers (closed ∷ more)) (sym lock_is)
         (subst (λ (rs : List (List Seat)). Over (lock ∷ lockss) rs walkers (closed ∷ more)) (sym row_is)
         (subst (λ (ws : List (Walker T)). Over (lock ∷ lockss) (row ∷ rowss) ws (closed ∷ more)) (sym walker_is) (one, over)))
 
-    pub at_end_long : (locks : List Lock) (rows : List (List Seat)) (walkers : List (Walker T)) → AllAtEnd base_of taken_by locks rows walkers
+    pub at_end_long : (locks : List Lock) (rows : List (List Seat)) (walkers : List (Walker T))
+        → AllAtEnd base_of taken_by locks rows walkers
         → (length locks ≡ length walkers) × (length rows ≡ length walkers)
     at_end_long [] [] [] ends = (refl, refl)
     at_end_long [] [] (walker ∷ walkers) ends = absurd ends
@@ -177,8 +193,10 @@ module _ {T : Type 0} where
         let rest = at_end_long locks rows walkers ends.1 in (ap suc rest.0, ap suc rest.1)
 
     -- the first of each list, and the others
-    pub at_end_next : (locks lockss : List Lock) (rows rowss : List (List Seat)) (walkers rest : List (Walker T)) (lock : Lock) (row : List Seat)
-        (walker : Walker T) → locks ≡ lock ∷ lockss → rows ≡ row ∷ rowss → walkers ≡ walker ∷ rest → AllAtEnd base_of taken_by locks rows walkers
+    pub at_end_next : (locks lockss : List Lock) (rows rowss : List (List Seat)) (walkers rest : List (Walker T)) (lock : Lock)
+        (row : List Seat)
+        (walker : Walker T) → locks ≡ lock ∷ lockss → rows ≡ row ∷ rowss → walkers ≡ walker ∷ rest
+        → AllAtEnd base_of taken_by locks rows walkers
         → AreAtEnd base_of taken_by lock row walker × AllAtEnd base_of taken_by lockss rowss rest
     at_end_next locks lockss rows rowss walkers rest lock row walker lock_is row_is walker_is ends =
         let both : AllAtEnd base_of taken_by (lock ∷ lockss) (row ∷ rowss) (walker ∷ rest) =
@@ -187,7 +205,8 @@ module _ {T : Type 0} where
         (subst (λ (ls : List Lock). AllAtEnd base_of taken_by ls rows walkers) lock_is ends)) in
         (both.0, both.1)
 
-    pub none_closed : (locks : List Lock) (rows : List (List Seat)) (walkers : List (Walker T)) → locks ≡ [] → rows ≡ [] → walkers ≡ []
+    pub none_closed : (locks : List Lock) (rows : List (List Seat)) (walkers : List (Walker T)) → locks ≡ [] → rows ≡ []
+        → walkers ≡ []
         → Over locks rows walkers []
     none_closed locks rows walkers no_lock no_row no_walker =
         subst (λ (ls : List Lock). Over ls rows walkers []) (sym no_lock)

@@ -1,5 +1,6 @@
 -- What arrived with the frames that were fed, one frame at a time.
-use Rattle.std.proofs.Common.{◌≡◌, ℕ, zero, suc, Bool, List, [], ◌∷◌, ◌++◌, length, take, drop, append_assoc, append-nil, Option, refl, sym, ap, ◌∙◌}
+use Rattle.std.proofs.Common.{◌≡◌, ℕ, zero, suc, Bool, List, [], ◌∷◌, ◌++◌, length, take, drop, append_assoc, append-nil}
+use Rattle.std.proofs.Common.{Option, refl, sym, ap, ◌∙◌}
 use Rattle.std.proofs.lemmas.List.{append_cancel_right}
 use Rattle.std.specs.Prelude.{option_to_list}
 use Rattle.cpu_feed.specs.CpuFeeds.{Feeding, IsAllOfCpu, Takes, frames_in, next_of, waiting_of}
@@ -24,15 +25,18 @@ split_from defrag held (frame ∷ frames) (suc n) =
     let one : List Frame = option_to_list (arrival_at defrag held frame) in
     let next : List Frame = held_behind defrag held frame in
     ap (λ (more : List Frame). one ++ more) (split_from defrag next frames n)
-    ∙ sym (append_assoc one (somes (arrivals_from defrag next (take n frames))) (somes (arrivals_from defrag (held_from defrag next (take n frames)) (drop n frames))))
+    ∙ sym (append_assoc one (somes (arrivals_from defrag next (take n frames)))
+    (somes (arrivals_from defrag (held_from defrag next (take n frames)) (drop n frames))))
 
 -- what arrived and what still arrives are all arrivals
-all_arrived : (all : List Frame) (feed : Feeding) → feed.path.held ≡ held_from (has_defrag feed.path.shape.flags) [] (take feed.fed all)
+all_arrived : (all : List Frame) (feed : Feeding)
+    → feed.path.held ≡ held_from (has_defrag feed.path.shape.flags) [] (take feed.fed all)
     → arrivals_of (has_defrag feed.path.shape.flags) all ≡ arrived_of all feed ++ somes (waiting_of all feed)
 all_arrived all feed held =
     let defrag : Bool = has_defrag feed.path.shape.flags in
     split_from defrag [] all feed.fed
-    ∙ ap (λ (fragments : List Frame). arrived_of all feed ++ somes (arrivals_from defrag fragments (drop feed.fed all))) (sym held)
+    ∙ ap (λ (fragments : List Frame). arrived_of all feed
+    ++ somes (arrivals_from defrag fragments (drop feed.fed all))) (sym held)
 
 first_waits : (waiting : List (Option Frame)) → somes waiting ≡ option_to_list (next_of waiting) ++ somes (drop 1 waiting)
 first_waits [] = refl
@@ -56,7 +60,8 @@ arrived_more all arrival old new takes before after =
     ∙ sym (append_assoc (arrived_of all old) (option_to_list arrival) rest))
 
 -- an entry for each arrival
-as_many : (rules : Rules) (present : ℕ) (arrivals : List Frame) (log : List ArrivalLog) → IsLawfulFrom rules present arrivals log
+as_many : (rules : Rules) (present : ℕ) (arrivals : List Frame) (log : List ArrivalLog)
+    → IsLawfulFrom rules present arrivals log
     → length arrivals ≡ length log
 as_many rules present [] [] lawful = refl
 as_many rules present [] (entry ∷ log) lawful = absurd lawful

@@ -1,5 +1,6 @@
 -- Members, their seats and their readers when all threads have ended.
-use Rattle.std.proofs.Common.{◌≡◌, ◌<◌, ℕ, zero, suc, false, List, [], ◌∷◌, ◌++◌, length, length-append, get_or, sym, ap, ◌∙◌, subst, arith}
+use Rattle.std.proofs.Common.{◌≡◌, ◌<◌, ℕ, zero, suc, false, List, [], ◌∷◌, ◌++◌, length, length-append, get_or, sym, ap, ◌∙◌}
+use Rattle.std.proofs.Common.{subst, arith}
 use Rattle.std.specs.Prelude.{map, replicate}
 use Rattle.std.specs.List.{AllByRecursion, AllZip}
 use Rattle.std.proofs.lemmas.List.{length-map, length-replicate}
@@ -28,19 +29,25 @@ pub by_places : {A B : Type 0} (R : A → B → Type 0) (xs : List A) (ys : List
 by_places R [] [] same each = tt
 by_places R [] (y ∷ ys) same each = absurd (omega (arith, same))
 by_places R (x ∷ xs) [] same each = absurd (omega (arith, same))
-by_places R (x ∷ xs) (y ∷ ys) same each =
-    (each zero x y (omega arith), by_places R xs ys (omega (arith, same)) (λ i d e below. each (suc i) d e (omega (arith, below))))
+by_places R (x ∷ xs) (y ∷ ys) same each = (
+  each zero x y (omega arith),
+  by_places R xs ys (omega (arith, same))
+      (λ i d e below. each (suc i) d e (omega (arith, below))),
+)
 
-pub at_place : {A : Type 0} (P : A → Type 0) (xs : List A) (i : ℕ) (d : A) → AllByRecursion P xs → i < length xs → P (get_or xs i d)
+pub at_place : {A : Type 0} (P : A → Type 0) (xs : List A) (i : ℕ) (d : A) → AllByRecursion P xs → i < length xs
+    → P (get_or xs i d)
 at_place P [] i d all within = absurd (omega (arith, within))
 at_place P (x ∷ xs) zero d all within = all.0
 at_place P (x ∷ xs) (suc i) d all within = at_place P xs i d all.1 (omega (arith, within))
 
-pub all_append : {A : Type 0} (P : A → Type 0) (xs ys : List A) → AllByRecursion P xs → AllByRecursion P ys → AllByRecursion P (xs ++ ys)
+pub all_append : {A : Type 0} (P : A → Type 0) (xs ys : List A) → AllByRecursion P xs → AllByRecursion P ys
+    → AllByRecursion P (xs ++ ys)
 all_append P [] ys left right = right
 all_append P (x ∷ xs) ys left right = (left.0, all_append P xs ys left.1 right)
 
-all_mapped : {A B : Type 0} (P : B → Type 0) (f : A → B) (xs : List A) → AllByRecursion (λ (x : A). P (f x)) xs → AllByRecursion P (map f xs)
+all_mapped : {A B : Type 0} (P : B → Type 0) (f : A → B) (xs : List A) → AllByRecursion (λ (x : A). P (f x)) xs
+    → AllByRecursion P (map f xs)
 all_mapped P f [] all = tt
 all_mapped P f (x ∷ xs) all = (all.0, all_mapped P f xs all.1)
 
@@ -59,13 +66,15 @@ columns_of feeders timer = map member_seats_in feeders ++ timer ∷ []
 abbrev pub rows_of : {S : Type 0} → ℕ → List (Feeder S) → List Seat → List (List Seat)
 rows_of members feeders timer = with_all (replicate members []) (columns_of feeders timer)
 
-module _ {S : Type 0} (job : Job) (dealer : DealerValue) (moments : List ℕ) (locks : List Lock) (before after : List (Feeder S)) (timer : List Seat)
+module _ {S : Type 0} (job : Job) (dealer : DealerValue) (moments : List ℕ) (locks : List Lock) (before after : List (Feeder S))
+    (timer : List Seat)
     (outs : Outs job locks dealer before after) (timed : AreTimed moments locks timer) where
   -- each user has a seat at each member
   columns_long : AllByRecursion (λ (column : List Seat). length column ≡ length locks) (columns_of after timer)
   columns_long =
       all_append (λ (column : List Seat). length column ≡ length locks) (map member_seats_in after) (timer ∷ [])
-      (all_mapped (λ (column : List Seat). length column ≡ length locks) member_seats_in after (member_seats_long job locks dealer before after outs)) (timed.count, tt)
+      (all_mapped (λ (column : List Seat). length column ≡ length locks) member_seats_in after
+      (member_seats_long job locks dealer before after outs)) (timed.count, tt)
 
   pub rows_long : length (rows_of (length locks) after timer) ≡ length locks
   rows_long = with_all_long (columns_of after timer) (replicate (length locks) []) ∙ length-replicate (length locks) []
@@ -74,20 +83,26 @@ module _ {S : Type 0} (job : Job) (dealer : DealerValue) (moments : List ℕ) (l
   pub row_is : (member : ℕ) (row : List Seat) (member_seat : Seat) → member < length locks
       → get_or (rows_of (length locks) after timer) member row ≡ items_at member member_seat (columns_of after timer)
   row_is member row member_seat within =
-      let many : length (replicate (length locks) (nothing {A = Seat})) ≡ length locks = length-replicate (length locks) nothing in
+      let many : length (replicate (length locks) (nothing {A = Seat})) ≡ length locks =
+      length-replicate (length locks) nothing in
       all_at (columns_of after timer) (replicate (length locks) []) member row member_seat (omega (arith, within, many))
-      (subst (λ (n : ℕ). AllByRecursion (λ (column : List Seat). length column ≡ n) (columns_of after timer)) (sym many) columns_long)
-      ∙ ap (λ (list : List Seat). list ++ items_at member member_seat (columns_of after timer)) (no_list (length locks) member row within)
+      (subst (λ (n : ℕ). AllByRecursion (λ (column : List Seat). length column ≡ n) (columns_of after timer))
+      (sym many) columns_long)
+      ∙ ap (λ (list : List Seat). list ++ items_at member member_seat (columns_of after timer))
+      (no_list (length locks) member row within)
 
   idle_columns : (member : ℕ) (lock : Lock) (member_seat : Seat) → member < length locks
-      → AllByRecursion (λ (column : List Seat). IsIdleSeatOf (get_or locks member lock) (get_or column member member_seat)) (columns_of after timer)
+      → AllByRecursion (λ (column : List Seat). IsIdleSeatOf (get_or locks member lock) (get_or column member member_seat))
+      (columns_of after timer)
   idle_columns member lock member_seat within =
       let count = timed.count in
-      all_append (λ (column : List Seat). IsIdleSeatOf (get_or locks member lock) (get_or column member member_seat)) (map member_seats_in after) (timer ∷ [])
+      all_append (λ (column : List Seat). IsIdleSeatOf (get_or locks member lock) (get_or column member member_seat))
+      (map member_seats_in after) (timer ∷ [])
       (idle_at job locks dealer before after member lock member_seat outs within)
       ((timed.each member lock member_seat (omega (arith, within, count))).ready.idle, tt)
 
-  handed_in : (member : ℕ) (lock : Lock) (row : List Seat) → AllByRecursion (IsMemberOf job) locks → length after ≡ length job.setup.cpus
+  handed_in : (member : ℕ) (lock : Lock) (row : List Seat) → AllByRecursion (IsMemberOf job) locks
+      → length after ≡ length job.setup.cpus
       → member < length locks → AreHandedIn (get_or locks member lock) (get_or (rows_of (length locks) after timer) member row)
   handed_in member lock row members count within =
       let count_timer = timed.count in
@@ -99,13 +114,16 @@ module _ {S : Type 0} (job : Job) (dealer : DealerValue) (moments : List ℕ) (l
       let fed = length-map after member_seats_in in
       subst (λ (member_seats : List Seat). AreHandedIn (get_or locks member lock) member_seats) (sym row_member_seats) (record {
         all = omega (arith, seats, long, users, fed, count);
-        own = all_mapped (IsIdleSeatOf (get_or locks member lock)) (λ (column : List Seat). get_or column member member_seat) (columns_of after timer)
+        own = all_mapped (IsIdleSeatOf (get_or locks member lock)) (λ (column : List Seat). get_or column member member_seat)
+            (columns_of after timer)
             (idle_columns member lock member_seat within);
       })
 
-  pub all_handed_in : AllByRecursion (IsMemberOf job) locks → length after ≡ length job.setup.cpus → AllZip AreHandedIn locks (rows_of (length locks) after timer)
+  pub all_handed_in : AllByRecursion (IsMemberOf job) locks → length after ≡ length job.setup.cpus
+      → AllZip AreHandedIn locks (rows_of (length locks) after timer)
   all_handed_in members count =
-      by_places AreHandedIn locks (rows_of (length locks) after timer) rows_long (λ member lock row within. handed_in member lock row members count within)
+      by_places AreHandedIn locks (rows_of (length locks) after timer) rows_long
+      (λ member lock row within. handed_in member lock row members count within)
 
 -- ---- the readers
 
@@ -137,7 +155,8 @@ module _ {T : Type 0} (base_of : T → Base) (taken_by : T → List Taken) where
   )
 
   module _ (job : Job) (dealer : DealerValue) where
-    one_back : (lock : Lock) (old new : Walker T) → IsMemberOf job lock → IsReaderAt lock old → IsFreshReader base_of taken_by job.setup.shape dealer old
+    one_back : (lock : Lock) (old new : Walker T) → IsMemberOf job lock → IsReaderAt lock old
+        → IsFreshReader base_of taken_by job.setup.shape dealer old
         → IsWalkedOut base_of taken_by dealer old new → new.full ≡ false → IsBack lock new
     one_back lock old new member at fresh out free = record {
       ring = ap table_numbers out.walked.ring ∙ at;
@@ -146,7 +165,8 @@ module _ {T : Type 0} (base_of : T → Base) (taken_by : T → List Taken) where
       full = free;
     }
 
-    pub all_back : (locks : List Lock) (before after : List (Walker T)) → AllByRecursion (IsMemberOf job) locks → AllZip IsReaderAt locks before
+    pub all_back : (locks : List Lock) (before after : List (Walker T)) → AllByRecursion (IsMemberOf job) locks
+        → AllZip IsReaderAt locks before
         → AllByRecursion (IsFreshReader base_of taken_by job.setup.shape dealer) before
         → AllZip (IsWalkedOut base_of taken_by dealer) before after → AllByRecursion (λ (w : Walker T). w.full ≡ false) after
         → AllZip IsBack locks after
@@ -155,5 +175,7 @@ module _ {T : Type 0} (base_of : T → Base) (taken_by : T → List Taken) where
     all_back [] (o ∷ before) after members at fresh outs free = absurd at
     all_back (lock ∷ locks) [] after members at fresh outs free = absurd at
     all_back (lock ∷ locks) (o ∷ before) [] members at fresh outs free = absurd outs
-    all_back (lock ∷ locks) (o ∷ before) (n ∷ after) members at fresh outs free =
-        (one_back lock o n members.0 at.0 fresh.0 outs.0 free.0, all_back locks before after members.1 at.1 fresh.1 outs.1 free.1)
+    all_back (lock ∷ locks) (o ∷ before) (n ∷ after) members at fresh outs free = (
+      one_back lock o n members.0 at.0 fresh.0 outs.0 free.0,
+      all_back locks before after members.1 at.1 fresh.1 outs.1 free.1,
+    )

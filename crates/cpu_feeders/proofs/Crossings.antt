@@ -60,7 +60,17 @@ trace_send : IsSend Trace.the_row
 trace_send = search (sendable, crosses) depth 40
 
 pub ring_send : IsSend MemberRing.the_row
-ring_send = search (sendable, crosses, seat.the_send, shared.the_send, shared.the_sync, lease.the_send, lease.the_sync, note_send, block_send) depth 60 fits 20000
+ring_send = search (
+  sendable,
+  crosses,
+  seat.the_send,
+  shared.the_send,
+  shared.the_sync,
+  lease.the_send,
+  lease.the_sync,
+  note_send,
+  block_send,
+) depth 60 fits 20000
 
 pub member_seat_send : IsSend MemberSeat.the_row
 member_seat_send = search (sendable, crosses, seat.the_send, ring_send) depth 60 fits 20000
@@ -75,7 +85,18 @@ pub timer_send : IsSend (Timer.the_field).row
 timer_send = search (sendable, crosses, member_seat_send) depth 60 fits 20000
 
 pub walker_send : (T : RattleType) → IsSend T → IsSend (Walker.the_field T).row
-walker_send T t = search (sendable, crosses, seat_send, seat.the_send, shared.the_send, shared.the_sync, lease.the_send, lease.the_sync, block_send) depth 60 fits 20000
+walker_send T t =
+    search (
+      sendable,
+      crosses,
+      seat_send,
+      seat.the_send,
+      shared.the_send,
+      shared.the_sync,
+      lease.the_send,
+      lease.the_sync,
+      block_send,
+    ) depth 60 fits 20000
 
 pub feeder_send : (S : RattleType) (g : source.Ghosts S.Denot) → IsSend S → IsSend (Feeder.the_field S g).row
 feeder_send S g s = search (sendable, crosses, seat_send, member_seat_send, buffer_send, feed_send) depth 60 fits 20000

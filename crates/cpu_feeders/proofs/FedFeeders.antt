@@ -1,5 +1,6 @@
 -- What the feeders of a run leave.
-use Rattle.std.proofs.Common.{◌≡◌, ◌<◌, ◌+◌, ℕ, zero, suc, false, List, [], ◌∷◌, ◌++◌, length, length-append, get_or, append_assoc, Option, refl, sym, ap, ◌∙◌, subst, arith}
+use Rattle.std.proofs.Common.{◌≡◌, ◌<◌, ◌+◌, ℕ, zero, suc, false, List, [], ◌∷◌, ◌++◌, length, length-append, get_or}
+use Rattle.std.proofs.Common.{append_assoc, Option, refl, sym, ap, ◌∙◌, subst, arith}
 use Rattle.std.specs.Prelude.{map, IsSome}
 use Rattle.std.specs.List.{AllByRecursion, AllZip}
 use Rattle.std.proofs.lemmas.List.{map-append}
@@ -18,11 +19,14 @@ use Rattle.cpu_feeders.specs.inside.FreshWorkers.{first_feed, first_feeds}
 use Rattle.cpu_feeders.specs.WorkerEffects.{IsFedOut}
 use Rattle.cpu_feeders.specs.declared.feeder.Feeder.{Feeder}
 
-pub firsts_are : (plan : Shape) (number : ℕ) (firsts : List (Option SourceSeen)) → firsts_of (first_feeds plan number firsts) ≡ firsts
+pub firsts_are : (plan : Shape) (number : ℕ) (firsts : List (Option SourceSeen))
+    → firsts_of (first_feeds plan number firsts) ≡ firsts
 firsts_are plan number [] = refl
-firsts_are plan number (first ∷ firsts) = ap (λ (fs : List (Option SourceSeen)). first ∷ fs) (firsts_are plan (number + 1) firsts)
+firsts_are plan number (first ∷ firsts) =
+    ap (λ (fs : List (Option SourceSeen)). first ∷ fs) (firsts_are plan (number + 1) firsts)
 
-pub firsts_long : (plan : Shape) (number : ℕ) (firsts : List (Option SourceSeen)) → length (first_feeds plan number firsts) ≡ length firsts
+pub firsts_long : (plan : Shape) (number : ℕ) (firsts : List (Option SourceSeen))
+    → length (first_feeds plan number firsts) ≡ length firsts
 firsts_long plan number [] = refl
 firsts_long plan number (first ∷ firsts) = ap suc (firsts_long plan (number + 1) firsts)
 
@@ -82,13 +86,15 @@ module _ {S : Type 0} where
     member_seats_long (o ∷ before) [] outs = absurd outs
     member_seats_long (o ∷ before) (n ∷ after) outs = (outs.0.fed.count, member_seats_long before after outs.1)
 
-    pub all_ended : (before after : List (Feeder S)) → Outs before after → AllByRecursion (λ (cpu : Feeding). IsSome cpu.ended) (map feed_in after)
+    pub all_ended : (before after : List (Feeder S)) → Outs before after
+        → AllByRecursion (λ (cpu : Feeding). IsSome cpu.ended) (map feed_in after)
     all_ended [] [] outs = tt
     all_ended [] (n ∷ after) outs = absurd outs
     all_ended (o ∷ before) [] outs = absurd outs
     all_ended (o ∷ before) (n ∷ after) outs = (outs.0.fed.ended, all_ended before after outs.1)
 
-    pub same_firsts : (before after : List (Feeder S)) → Outs before after → firsts_of (map feed_in after) ≡ firsts_of (map feed_in before)
+    pub same_firsts : (before after : List (Feeder S)) → Outs before after
+        → firsts_of (map feed_in after) ≡ firsts_of (map feed_in before)
     same_firsts [] [] outs = refl
     same_firsts [] (n ∷ after) outs = absurd outs
     same_firsts (o ∷ before) [] outs = absurd outs
@@ -97,18 +103,23 @@ module _ {S : Type 0} where
         ∙ ap (λ (firsts : List (Option SourceSeen)). o.feed.first ∷ firsts) (same_firsts before after outs.1)
 
     -- the seats at a member
-    pub idle_at : (before after : List (Feeder S)) (member : ℕ) (lock : Lock) (member_seat : Seat) → Outs before after → member < length locks
-        → AllByRecursion (λ (member_seats : List Seat). IsIdleSeatOf (get_or locks member lock) (get_or member_seats member member_seat)) (map member_seats_in after)
+    pub idle_at : (before after : List (Feeder S)) (member : ℕ) (lock : Lock) (member_seat : Seat) → Outs before after
+        → member < length locks
+        → AllByRecursion (λ (member_seats : List Seat). IsIdleSeatOf (get_or locks member lock)
+        (get_or member_seats member member_seat)) (map member_seats_in after)
     idle_at [] [] member lock member_seat outs within = tt
     idle_at [] (n ∷ after) member lock member_seat outs within = absurd outs
     idle_at (o ∷ before) [] member lock member_seat outs within = absurd outs
     idle_at (o ∷ before) (n ∷ after) member lock member_seat outs within =
-        let count = outs.0.fed.count in
-        ((outs.0.fed.each member lock member_seat (omega (arith, within, count))).ready.idle, idle_at before after member lock member_seat outs.1 within)
+        let count = outs.0.fed.count in (
+          (outs.0.fed.each member lock member_seat (omega (arith, within, count))).ready.idle,
+          idle_at before after member lock member_seat outs.1 within,
+        )
 
     -- each CPU was fed
     pub all_fed : (plan : Shape) (at : ℕ) (firsts : List (Option SourceSeen)) (before after : List (Feeder S))
-        → map feed_in before ≡ first_feeds plan at firsts → Outs before after → (cpu : ℕ) (none : CpuLeft) → cpu < length (map left_of after)
+        → map feed_in before ≡ first_feeds plan at firsts → Outs before after → (cpu : ℕ) (none : CpuLeft)
+        → cpu < length (map left_of after)
         → let left = get_or (map left_of after) cpu none in HasFed job locks (at + cpu) left.feed left.member_seats left.seat
     all_fed plan at firsts [] [] are outs cpu none within = absurd (omega (arith, within))
     all_fed plan at firsts [] (n ∷ after) are outs cpu none within = absurd outs
@@ -127,12 +138,15 @@ module _ {S : Type 0} where
 
 -- ---- feeders that are made one after another
 
-pub next_feed : {S X : Type 0} (seen : X → Option SourceSeen) (plan : Shape) (made now : List (Feeder S)) (rest after : List X) (all : List Feeding)
-    (source : X) (feeder : Feeder S) → rest ≡ source ∷ after → now ≡ made ++ feeder ∷ [] → feeder.feed ≡ first_feed plan (length made) (seen source)
+pub next_feed : {S X : Type 0} (seen : X → Option SourceSeen) (plan : Shape) (made now : List (Feeder S)) (rest after : List X)
+    (all : List Feeding)
+    (source : X) (feeder : Feeder S) → rest ≡ source ∷ after → now ≡ made ++ feeder ∷ []
+    → feeder.feed ≡ first_feed plan (length made) (seen source)
     → map feed_in made ++ first_feeds plan (length made) (map seen rest) ≡ all
     → map feed_in now ++ first_feeds plan (length now) (map seen after) ≡ all
 next_feed {S = S} {X = X} seen plan made now rest after all source feeder next now_is feed h =
-    let long : length now ≡ length made + 1 = ap (λ (fs : List (Feeder S)). length fs) now_is ∙ length-append made (feeder ∷ []) in
+    let long : length now ≡ length made + 1 =
+    ap (λ (fs : List (Feeder S)). length fs) now_is ∙ length-append made (feeder ∷ []) in
     let tail : List Feeding = first_feeds plan (length made + 1) (map seen after) in
     ap (λ (n : ℕ). map feed_in now ++ first_feeds plan n (map seen after)) long
     ∙ ap (λ (fs : List (Feeder S)). map feed_in fs ++ tail) now_is

@@ -23,8 +23,10 @@ writable room offer sound = record {
 }
 
 -- each member takes each sound offer of the feeder's CPU
-pub takes_each : (job : Job) (cpu turns room : ℕ) (locks : List Lock) (member_seats : List Seat) → AreMembersFor job cpu locks → AreMemberSeats cpu turns locks member_seats
-    → room ≡ room_of job.setup.shape → 82 < room → (member : ℕ) (offer : Offer) → member < job.setup.plan.members → offer.frame.cpu ≡ cpu → IsSound room offer
+pub takes_each : (job : Job) (cpu turns room : ℕ) (locks : List Lock) (member_seats : List Seat) → AreMembersFor job cpu locks
+    → AreMemberSeats cpu turns locks member_seats
+    → room ≡ room_of job.setup.shape → 82 < room → (member : ℕ) (offer : Offer) → member < job.setup.plan.members
+    → offer.frame.cpu ≡ cpu → IsSound room offer
     → TakesAt locks member_seats member offer
 takes_each job cpu turns room locks member_seats members are room_is some member offer inside place sound =
     let within : member < length locks = let count = members.count in omega (arith, inside, count) in
@@ -33,7 +35,8 @@ takes_each job cpu turns room locks member_seats members are room_is some member
       within = within;
       seated = seated;
       ready = λ lock member_seat.
-          subst (λ (n : ℕ). IsReady (get_or locks member lock) n (get_or member_seats member member_seat)) (sym place) (are.ready member lock member_seat seated);
+          subst (λ (n : ℕ). IsReady (get_or locks member lock) n (get_or member_seats member member_seat)) (sym place)
+          (are.ready member lock member_seat seated);
       cpu = λ lock. let below = members.cpu_is member lock within in omega (arith, place, below);
       room = λ lock.
           let shaped : room_of (get_or locks member lock).base.shape ≡ room =

@@ -4,7 +4,8 @@ use Rattle.std.specs.Prelude.{IfOk, OnOk, is_err}
 use Rattle.std.specs.declared.result.Result.{Result}
 
 -- two facts about it make one
-pub both_of : {T E : Type 0} (P Q : T → Type 0) (answer : Result T E) → IfOk answer P → IfOk answer Q → IfOk answer (λ x. P x × Q x)
+pub both_of : {T E : Type 0} (P Q : T → Type 0) (answer : Result T E) → IfOk answer P → IfOk answer Q
+    → IfOk answer (λ x. P x × Q x)
 both_of P Q (Ok x) h k = (h, k)
 both_of P Q (Err e) h k = tt
 

@@ -1,5 +1,6 @@
 -- A moment that the timer reports to each member, one after another.
-use Rattle.std.proofs.Common.{◌≡◌, ◌<◌, ◌≤◌, ℕ, zero, suc, List, [], ◌∷◌, ◌++◌, length, take, refl, ap, ◌∙◌, subst, arith, get_or, length-append}
+use Rattle.std.proofs.Common.{◌≡◌, ◌<◌, ◌≤◌, ℕ, zero, suc, List, [], ◌∷◌, ◌++◌, length, take, refl, ap, ◌∙◌, subst, arith}
+use Rattle.std.proofs.Common.{get_or, length-append}
 use Rattle.capture_reports.specs.Ticks.{ticks_of}
 use Rattle.member_turns.specs.Seats.{IsReady, Lock, Seat, moment_from, moment_of, own_of}
 use Rattle.member_turns.specs.TurnEffects.{IsTickTurn}
@@ -33,7 +34,8 @@ last_tick ms (Ticked now found ∷ notes) = last_tick now notes
 last_tick ms (Counted ∷ notes) = last_tick ms notes
 last_tick ms (Finished ∷ notes) = last_tick ms notes
 
-rises : (before : ℕ) (moments : List ℕ) (i d : ℕ) → AreRising before moments → i < length moments → last_from before (take i moments) ≤ get_or moments i d
+rises : (before : ℕ) (moments : List ℕ) (i d : ℕ) → AreRising before moments → i < length moments
+    → last_from before (take i moments) ≤ get_or moments i d
 rises before [] i d rising below = absurd (omega (arith, below))
 rises before (x ∷ moments) zero d rising below = rising.0
 rises before (x ∷ moments) (suc i) d rising below = rises x moments i d rising.2 (omega (arith, below))
@@ -46,7 +48,8 @@ not_before moments i d lock seat rising below timed =
     let next = rises 0 moments i d rising below in
     omega (arith, last, next)
 
-pub are_small : (before : ℕ) (moments : List ℕ) (i d : ℕ) → AreRising before moments → i < length moments → get_or moments i d ≤ 4294967295
+pub are_small : (before : ℕ) (moments : List ℕ) (i d : ℕ) → AreRising before moments → i < length moments
+    → get_or moments i d ≤ 4294967295
 are_small before [] i d rising below = absurd (omega (arith, below))
 are_small before (x ∷ moments) zero d rising below = rising.1
 are_small before (x ∷ moments) (suc i) d rising below = are_small x moments i d rising.2 (omega (arith, below))
@@ -61,12 +64,15 @@ ticks_on (Counted ∷ notes) ms found = ticks_on notes ms found
 ticks_on (Finished ∷ notes) ms found = ticks_on notes ms found
 
 -- one more moment
-pub timed_more : (moments : List ℕ) (ms : ℕ) (lock : Lock) (seat after : Seat) → IsTimed moments lock seat → IsTickTurn lock seat after ms
+pub timed_more : (moments : List ℕ) (ms : ℕ) (lock : Lock) (seat after : Seat) → IsTimed moments lock seat
+    → IsTickTurn lock seat after ms
     → IsTimed (moments ++ ms ∷ []) lock after
 timed_more moments ms lock seat after timed turn =
     let turned = turn.turned in
     record {
       ready = subst (λ (n : ℕ). IsReady lock n after) timed.ready.number_is turned.ready;
-      entered = let one = turned.entered in let sofar = timed.entered in let long = length-append moments (ms ∷ []) in omega (arith, one, sofar, long);
-      ticks = ap ticks_of turned.own ∙ ticks_on (own_of lock seat) ms turn.found ∙ ap (λ (told : List ℕ). told ++ ms ∷ []) timed.ticks;
+      entered = let one = turned.entered in let sofar = timed.entered in let long = length-append moments (ms ∷ []) in
+          omega (arith, one, sofar, long);
+      ticks = ap ticks_of turned.own ∙ ticks_on (own_of lock seat) ms turn.found
+          ∙ ap (λ (told : List ℕ). told ++ ms ∷ []) timed.ticks;
     }

@@ -1,5 +1,6 @@
 -- One try at a group: a turn of the feeder's seat at a member.
-use Rattle.std.proofs.Common.{◌≡◌, ◌≢◌, ◌⊎◌, inl, inr, ◌<◌, ◌≤◌, ◌+◌, ℕ, zero, suc, Bool, true, false, List, [], ◌∷◌, ◌++◌, length, refl, sym, ap, ◌∙◌, subst, arith, get_or, set, length-set, eq-eqb, ne_eqb, if◌then◌else◌}
+use Rattle.std.proofs.Common.{◌≡◌, ◌≢◌, ◌⊎◌, inl, inr, ◌<◌, ◌≤◌, ◌+◌, ℕ, zero, suc, Bool, true, false, List, [], ◌∷◌, ◌++◌}
+use Rattle.std.proofs.Common.{length, refl, sym, ap, ◌∙◌, subst, arith, get_or, set, length-set, eq-eqb, ne_eqb, if◌then◌else◌}
 use Rattle.std.proofs.lemmas.Bool.{eqb-true, eqb-false}
 use Rattle.std.proofs.lemmas.List.{get_or-set_same, get_or-set_other}
 use Rattle.std.specs.Prelude.{◌==◌}
@@ -32,7 +33,8 @@ here_or_not m at true is = inl (eqb-true m at is)
 here_or_not m at false is = inr (eqb-false m at is)
 
 -- a turn with the notes of some tries
-turned_tried : (offer : Offer) (came : List Fate) (lock : Lock) (seat after : Seat) (notes : List Note) → Turned lock seat after notes
+turned_tried : (offer : Offer) (came : List Fate) (lock : Lock) (seat after : Seat) (notes : List Note)
+    → Turned lock seat after notes
     → AreNotesOfTries offer came notes → Tried offer came lock seat after
 turned_tried offer came lock seat after notes turned are = record {
   ready = λ number ready. subst (λ (k : ℕ). IsReady lock k after) ready.number_is turned.ready;
@@ -46,10 +48,12 @@ fates_here : (at : ℕ) (fate : Fate) → fates_at at (a_try at fate ∷ []) ≡
 fates_here at fate = ap (λ (b : Bool). (if b then fate ∷ [] else []) ++ []) (eq-eqb at at refl)
 
 fates_elsewhere : (at m : ℕ) (fate : Fate) → m ≢ at → fates_at m (a_try at fate ∷ []) ≡ []
-fates_elsewhere at m fate other = ap (λ (b : Bool). (if b then fate ∷ [] else []) ++ []) (ne_eqb at m (λ same. other (sym same)))
+fates_elsewhere at m fate other =
+    ap (λ (b : Bool). (if b then fate ∷ [] else []) ++ []) (ne_eqb at m (λ same. other (sym same)))
 
 -- the note of a put, and of a try
-put_noted : (offer : Offer) (found : Found) (put : Put) → put ≡ put_told (put_by offer found) → IsNoteOfTry offer (fate_of_put put) (put_by offer found)
+put_noted : (offer : Offer) (found : Found) (put : Put) → put ≡ put_told (put_by offer found)
+    → IsNoteOfTry offer (fate_of_put put) (put_by offer found)
 put_noted offer NotAsked put told = (ap fate_of_put told, refl)
 put_noted offer Free put told = (ap fate_of_put told, refl)
 put_noted offer (Held number) put told = (ap fate_of_put told, refl, refl, refl)
@@ -60,7 +64,8 @@ try_noted offer NotAsked tried told = (ap fate_of_try told, refl)
 try_noted offer Free tried told = (ap fate_of_try told, refl)
 try_noted offer (Held number) tried told = (ap fate_of_try told, refl, refl, refl)
 
-module _ (locks : List Lock) (seats : List Seat) (at : ℕ) (lock : Lock) (seat after : Seat) (within : at < length locks) (seated : at < length seats)
+module _ (locks : List Lock) (seats : List Seat) (at : ℕ) (lock : Lock) (seat after : Seat) (within : at < length locks)
+    (seated : at < length seats)
     (lock_is : lock ≡ get_or locks at lock) (seat_is : seat ≡ get_or seats at seat) where
   lock_here : (l : Lock) → get_or locks at l ≡ lock
   lock_here l = one_place locks at l lock within ∙ sym lock_is
@@ -95,7 +100,8 @@ module _ (locks : List Lock) (seats : List Seat) (at : ℕ) (lock : Lock) (seat 
     each = λ m l s inside.
         of_each (λ k z before changed. Tried offer (fates_at k tries) z before changed)
         (turned_tried offer (fates_at at tries) lock seat after notes turned are)
-        (λ k z other differs. subst (λ (came : List Fate). Tried offer came z other other) (sym (elsewhere k differs)) (tried_none offer z other))
+        (λ k z other differs. subst (λ (came : List Fate). Tried offer came z other other) (sym (elsewhere k differs))
+        (tried_none offer z other))
         m l s;
   }
 
@@ -109,11 +115,13 @@ module _ (locks : List Lock) (seats : List Seat) (at : ℕ) (lock : Lock) (seat 
 
   pub put_tried : (offer : Offer) (put : Put) → IsPutTurn lock seat after offer put
       → AreTried offer (a_try at (fate_of_put put) ∷ []) locks seats (set seats at after)
-  put_tried offer put turn = one_tried offer (fate_of_put put) (put_by offer turn.found) turn.turned (put_noted offer turn.found put turn.told)
+  put_tried offer put turn =
+      one_tried offer (fate_of_put put) (put_by offer turn.found) turn.turned (put_noted offer turn.found put turn.told)
 
   pub try_tried : (offer : Offer) (tried : ring.Tried) → IsTryTurn lock seat after offer tried
       → AreTried offer (a_try at (fate_of_try tried) ∷ []) locks seats (set seats at after)
-  try_tried offer tried turn = one_tried offer (fate_of_try tried) (try_by offer turn.found) turn.turned (try_noted offer turn.found tried turn.told)
+  try_tried offer tried turn =
+      one_tried offer (fate_of_try tried) (try_by offer turn.found) turn.turned (try_noted offer turn.found tried turn.told)
 
   -- a turn without a note, since memory was refused
   pub none_tried : (offer : Offer) → Turned lock seat after [] → AreTried offer [] locks seats (set seats at after)
@@ -128,13 +136,15 @@ module _ (locks : List Lock) (seats : List Seat) (at : ℕ) (lock : Lock) (seat 
         m lock s (room m s (subst (λ (n : ℕ). m < n) (length-set seats at after) inside))
 
     module _ (number : ℕ) (ready : IsReady lock number seat) where
-      ready_after : (n m : ℕ) (l : Lock) (s : Seat) → IsReady (get_or locks m l) n (get_or seats m s) → IsReady (get_or locks m l) n (get_or (set seats at after) m s)
+      ready_after : (n m : ℕ) (l : Lock) (s : Seat) → IsReady (get_or locks m l) n (get_or seats m s)
+          → IsReady (get_or locks m l) n (get_or (set seats at after) m s)
       ready_after n m l s =
           of_each (λ k z before changed. IsReady z n before → IsReady z n changed)
           (λ before. subst (λ (k : ℕ). IsReady lock k after) before.number_is turned.ready)
           (λ k z other differs before. before) m l s
 
-      ready_before : (n m : ℕ) (l : Lock) (s : Seat) → IsReady (get_or locks m l) n (get_or (set seats at after) m s) → IsReady (get_or locks m l) n (get_or seats m s)
+      ready_before : (n m : ℕ) (l : Lock) (s : Seat) → IsReady (get_or locks m l) n (get_or (set seats at after) m s)
+          → IsReady (get_or locks m l) n (get_or seats m s)
       ready_before n m l s =
           of_each (λ k z before changed. IsReady z n changed → IsReady z n before)
           (λ changed. record { idle = ready.idle; number_is = sym turned.ready.number_is ∙ changed.number_is })

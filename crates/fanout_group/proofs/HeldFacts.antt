@@ -6,10 +6,12 @@ use Rattle.std.specs.List.{AllByRecursion, list_any}
 use Rattle.std.proofs.lemmas.List.Elements.{All-append, All-cons, All-filter, All-nil, recursion_from_All}
 use Rattle.frame_view.specs.declared.frames.Frame.{Frame}
 use Rattle.ip_defrag.specs.Datagrams.{completed, completed_at, covers_all, datagram_from, is_first}
-use Rattle.ip_defrag.specs.Fold.{Passed, conflicts, fresh, is_copy, is_named, is_stale, join, join_by, judge, kept_for, of_name, pass, without, without_first}
+use Rattle.ip_defrag.specs.Fold.{Passed, conflicts, fresh, is_copy, is_named, is_stale, join, join_by, judge, kept_for, of_name}
+use Rattle.ip_defrag.specs.Fold.{pass, without, without_first}
 use Rattle.ip_defrag.specs.Fragments.{is_last, name_of, takes_part, to_of}
 
-found_here : (P : Frame → Type 0) (test : Frame → Bool) (here : Bool) (frame : Frame) (rest : Option Frame) → P frame → IfSome rest P
+found_here : (P : Frame → Type 0) (test : Frame → Bool) (here : Bool) (frame : Frame) (rest : Option Frame) → P frame
+    → IfSome rest P
     → IfSome (cond here (Some frame) rest) P
 found_here P test true frame rest h all = h
 found_here P test false frame rest h all = all
@@ -45,7 +47,8 @@ module _ (P Q : Frame → Type 0) (newest : Frame) (made : IsMade P Q newest) wh
   unfolding completed
   completed_gives frames all = completed_by (find is_last frames) frames all
 
-  joined_by : (whole : Option Frame) (held : List Frame) (gone : ℕ) → All P held → IfSome whole Q → Gives P Q (join_by whole newest held gone)
+  joined_by : (whole : Option Frame) (held : List Frame) (gone : ℕ) → All P held → IfSome whole Q
+      → Gives P Q (join_by whole newest held gone)
   joined_by None held gone all h = record { held = all; whole = tt }
   joined_by (Some whole) held gone all h =
       record { held = All-filter (λ frame. not (is_named (name_of newest) frame)) P held all; whole = h }
@@ -55,7 +58,8 @@ module _ (P Q : Frame → Type 0) (newest : Frame) (made : IsMade P Q newest) wh
 
   judged_by : (copy conflict : Bool) (held : List Frame) (gone one two : ℕ) → All P held → P newest
       → Gives P Q (cond copy (record { held = held; whole = None; discarded = one })
-      (cond conflict (record { held = without (name_of newest) held; whole = None; discarded = two }) (join newest (held ++ newest ∷ []) gone)))
+      (cond conflict (record { held = without (name_of newest) held; whole = None; discarded = two })
+      (join newest (held ++ newest ∷ []) gone)))
   judged_by true conflict held gone one two all h = record { held = all; whole = tt }
   judged_by false true held gone one two all h =
       record { held = All-filter (λ frame. not (is_named (name_of newest) frame)) P held all; whole = tt }
@@ -78,7 +82,8 @@ module _ (P Q : Frame → Type 0) (newest : Frame) (made : IsMade P Q newest) wh
       → Gives P Q (cond takes (judge newest kept gone) (record { held = held; whole = Some newest; discarded = 0 }))
   passed_by false held kept gone all less h out = record { held = all; whole = out }
   passed_by true held kept gone all less h out =
-      judged_by (list_any (is_copy newest) (of_name (name_of newest) kept)) (list_any (conflicts newest) (of_name (name_of newest) kept))
+      judged_by (list_any (is_copy newest) (of_name (name_of newest) kept))
+      (list_any (conflicts newest) (of_name (name_of newest) kept))
       kept gone _ _ less h
 
   pub pass_gives : (held : List Frame) → All P held → P newest → Q newest → Gives P Q (pass held newest)

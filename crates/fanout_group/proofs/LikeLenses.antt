@@ -15,7 +15,8 @@ module _ (frame : Frame) (group lens : Lens) (agree : AgreesAt frame.cpu group l
   same_verdict : verdict_by group frame ≡ verdict_by lens frame
   same_verdict =
       ap (λ (key : Option (List ℕ)). verdict_by (lens_by key group.filter group.own (group.queue frame.cpu)) frame) agree.key
-      ∙ ap (λ (filter : Option (List Insn)). verdict_by (lens_by lens.key filter group.own (group.queue frame.cpu)) frame) agree.filter
+      ∙ ap (λ (filter : Option (List Insn)). verdict_by (lens_by lens.key filter group.own (group.queue frame.cpu))
+      frame) agree.filter
       ∙ ap (λ (own : Option (List ℕ)). verdict_by (lens_by lens.key lens.filter own (group.queue frame.cpu)) frame) agree.own
       ∙ ap (λ (queue : ℕ). verdict_by (lens_by lens.key lens.filter lens.own queue) frame) agree.queue
 
@@ -24,8 +25,10 @@ module _ (frame : Frame) (group lens : Lens) (agree : AgreesAt frame.cpu group l
 
   same_entry : (ticket : Option ℕ) → first_entry lens frame ticket ≡ first_entry group frame ticket
   same_entry ticket =
-      let entry : ℕ → ℕ → ArrivalLog = λ hash verdict. record (first_entry lens frame ticket) { hash = hash; verdict = verdict } in
-      ap (λ hash. entry hash (verdict_by lens frame)) (sym same_hash) ∙ ap (λ verdict. entry (hash_by group.key frame) verdict) (sym same_verdict)
+      let entry : ℕ → ℕ → ArrivalLog =
+      λ hash verdict. record (first_entry lens frame ticket) { hash = hash; verdict = verdict } in
+      ap (λ hash. entry hash (verdict_by lens frame)) (sym same_hash)
+      ∙ ap (λ verdict. entry (hash_by group.key frame) verdict) (sym same_verdict)
 
   same_offer : (room : ℕ) → offer_by lens room frame ≡ offer_by group room frame
   same_offer room =
@@ -33,7 +36,8 @@ module _ (frame : Frame) (group lens : Lens) (agree : AgreesAt frame.cpu group l
       ∙ ap (λ hash. offer_if room group.own hash (verdict_by lens frame) frame) (sym same_hash)
       ∙ ap (λ verdict. offer_if room group.own (hash_by group.key frame) verdict frame) (sym same_verdict)
 
-  pub judged_alike : (room : ℕ) (ticket : Option ℕ) (entry : ArrivalLog) (made : Option Offer) → entry ≡ first_entry lens frame ticket
+  pub judged_alike : (room : ℕ) (ticket : Option ℕ) (entry : ArrivalLog) (made : Option Offer)
+      → entry ≡ first_entry lens frame ticket
       → made ≡ offer_by lens room frame → IsJudged group room frame entry made
   judged_alike room ticket entry made e o =
       let drawn : ticket ≡ entry.ticket = sym (ap (λ (x : ArrivalLog). x.ticket) e) in

@@ -1,5 +1,6 @@
 -- A lawful log with one more arrival.
-use Rattle.std.proofs.Common.{◌≡◌, ℕ, Bool, true, false, cond, eqb, List, [], ◌∷◌, ◌++◌, refl, sym, ap, append_assoc, append-nil, ◌∙◌, subst}
+use Rattle.std.proofs.Common.{◌≡◌, ℕ, Bool, true, false, cond, eqb, List, [], ◌∷◌, ◌++◌, refl, sym, ap, append_assoc}
+use Rattle.std.proofs.Common.{append-nil, ◌∙◌, subst}
 use Rattle.std.specs.Prelude.{MatchBool, Option, None, Some, option_to_list, unwrap_or}
 use Rattle.frame_view.specs.declared.frames.Frame.{Frame}
 use Rattle.ring_model.specs.Offers.{offer_of}
@@ -30,7 +31,8 @@ present_more mode present [] entry = refl
 present_more mode present (first ∷ log) entry = present_more mode (present_after mode present first.tries) log entry
 
 -- if the arrival's entry is lawful, so is the log with it
-pub logs_one : (shape : Shape) (group : Lens) (frames : List Frame) (arrival : Frame) (entry : ArrivalLog) (path : Path) → path.shape ≡ shape
+pub logs_one : (shape : Shape) (group : Lens) (frames : List Frame) (arrival : Frame) (entry : ArrivalLog) (path : Path)
+    → path.shape ≡ shape
     → IsPathTo (rules_by shape group) frames arrival path → IsEntry (rules_by shape group) path.present arrival entry
     → IsPath (rules_by shape group) frames (logged entry path)
 logs_one shape group frames arrival entry path same to is =
@@ -44,7 +46,8 @@ logs_one shape group frames arrival entry path same to is =
       held_is = has.held_is;
       lawful = subst (λ (arrivals : List Frame). IsLawfulFrom rules 0 arrivals (path.log ++ entry ∷ [])) (sym to.1)
           (lawful_more rules 0 earlier path.log arrival entry has.lawful entry_there);
-      present_is = ap (λ (p : ℕ). present_after path.shape.mode p entry.tries) has.present_is ∙ sym (present_more path.shape.mode 0 path.log entry);
+      present_is = ap (λ (p : ℕ). present_after path.shape.mode p entry.tries) has.present_is
+          ∙ sym (present_more path.shape.mode 0 path.log entry);
     }
 
 -- an offer is made exactly if the verdict isn't 0
@@ -68,7 +71,8 @@ some_tries : (ended : Bool) (tries : List Try) (route : Type 0) → ended ≡ fa
 some_tries true tries route e way = cc
 some_tries false tries route e way = way
 
-pub passed_over : (shape : Shape) (group : Lens) (room present : ℕ) (arrival : Frame) (entry : ArrivalLog) → HasTicket shape.mode entry.ticket
+pub passed_over : (shape : Shape) (group : Lens) (room present : ℕ) (arrival : Frame) (entry : ArrivalLog)
+    → HasTicket shape.mode entry.ticket
     → IsJudged group room arrival entry None → IsEntry (rules_by shape group) present arrival entry
 passed_over shape group room present arrival entry ticket judged =
     subst (λ (e : ArrivalLog). IsEntry (rules_by shape group) present arrival e) (sym judged.entry_is) (record {
@@ -76,22 +80,27 @@ passed_over shape group room present arrival entry ticket judged =
       hash = refl;
       verdict = refl;
       ticket = ticket;
-      tries = no_try (eqb (verdict_by group arrival) 0) [] _ (not_made (eqb (verdict_by group arrival) 0) _ judged.offer_is) refl;
+      tries = no_try (eqb (verdict_by group arrival) 0) [] _
+          (not_made (eqb (verdict_by group arrival) 0) _ judged.offer_is) refl;
     })
 
-pub delivered : (shape : Shape) (group : Lens) (room present queue : ℕ) (arrival : Frame) (entry : ArrivalLog) (offer : Offer) (tries : List Try)
+pub delivered : (shape : Shape) (group : Lens) (room present queue : ℕ) (arrival : Frame) (entry : ArrivalLog) (offer : Offer)
+    (tries : List Try)
     → HasTicket shape.mode entry.ticket → group.queue arrival.cpu ≡ queue → IsJudged group room arrival entry (Some offer)
-    → IsRoute (rolls_over shape) shape.members (home_by shape.mode shape.members offer.hash (unwrap_or entry.ticket 0) offer.frame.cpu queue present) tries
+    → IsRoute (rolls_over shape) shape.members
+    (home_by shape.mode shape.members offer.hash (unwrap_or entry.ticket 0) offer.frame.cpu queue present) tries
     → IsEntry (rules_by shape group) present arrival (record entry { tries = tries })
 delivered shape group room present queue arrival entry offer tries ticket at judged route =
     let made = is_made (eqb (verdict_by group arrival) 0) _ offer judged.offer_is in
-    let home : Offer → ℕ → ℕ = λ o q. home_by shape.mode shape.members o.hash (unwrap_or entry.ticket 0) o.frame.cpu q present in
+    let home : Offer → ℕ → ℕ =
+    λ o q. home_by shape.mode shape.members o.hash (unwrap_or entry.ticket 0) o.frame.cpu q present in
     let its = offer_of room group.own (hash_by group.key arrival) (verdict_by group arrival) arrival in
     let by_offer : IsRoute (rolls_over shape) shape.members (home its queue) tries =
     subst (λ (o : Offer). IsRoute (rolls_over shape) shape.members (home o queue) tries) made.is route in
     let way : IsRoute (rolls_over shape) shape.members (home its (group.queue arrival.cpu)) tries =
     subst (λ (q : ℕ). IsRoute (rolls_over shape) shape.members (home its q) tries) (sym at) by_offer in
-    subst (λ (e : ArrivalLog). IsEntry (rules_by shape group) present arrival (record e { tries = tries })) (sym judged.entry_is) (record {
+    subst (λ (e : ArrivalLog). IsEntry (rules_by shape group) present arrival (record e { tries = tries }))
+    (sym judged.entry_is) (record {
       index = refl;
       hash = refl;
       verdict = refl;
@@ -113,7 +122,8 @@ arrivals_more defrag held (first ∷ frames) frame =
     let one = option_to_list (arrival_at defrag held first) in
     let rest = held_behind defrag held first in
     ap (λ (more : List Frame). one ++ more) (arrivals_more defrag rest frames frame)
-    ∙ sym (append_assoc one (somes (arrivals_from defrag rest frames)) (option_to_list (arrival_at defrag (held_from defrag rest frames) frame)))
+    ∙ sym (append_assoc one (somes (arrivals_from defrag rest frames))
+    (option_to_list (arrival_at defrag (held_from defrag rest frames) frame)))
 
 logged_behind : (rules : Rules) (earlier frames : List Frame) (arrival : Option Frame) (path : Path)
     → arrivals_of (has_defrag path.shape.flags) frames ≡ earlier ++ option_to_list arrival → HasLogged rules frames earlier path

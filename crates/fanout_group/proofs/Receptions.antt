@@ -25,9 +25,11 @@ no_refusal false members home = refl
 
 -- ---- a delivery
 
-module _ {D : Type 0} (made : Offer → List Try → D → D → Type 0) (shape : Shape) (offer : Offer) (ticket : Option ℕ) (queue present home : ℕ)
+module _ {D : Type 0} (made : Offer → List Try → D → D → Type 0) (shape : Shape) (offer : Offer) (ticket : Option ℕ)
+    (queue present home : ℕ)
     (home_is : home ≡ home_for shape offer ticket queue present) (told now : List Try) (before after : D) where
-  pub is_delivery : (mode : Mode) (next : ℕ) → AreListed made offer (IsRoute (rolls_over shape) shape.members home) told now before after
+  pub is_delivery : (mode : Mode) (next : ℕ)
+      → AreListed made offer (IsRoute (rolls_over shape) shape.members home) told now before after
       → mode ≡ shape.mode → next ≡ present_after mode present now
       → IsDelivery made shape offer ticket queue present next told now before after
   is_delivery mode next listed mode_is next_is = record {
@@ -41,7 +43,8 @@ module _ {D : Type 0} (made : Offer → List Try → D → D → Type 0) (shape 
   }
 
   -- the present member is one of the group
-  pub still_member : (next : ℕ) → IsDelivery made shape offer ticket queue present next told now before after → home < shape.members
+  pub still_member : (next : ℕ) → IsDelivery made shape offer ticket queue present next told now before after
+      → home < shape.members
       → present < shape.members → next < shape.members
   still_member next is at here =
       let route = subst (λ (from : ℕ). IsRoute (rolls_over shape) shape.members from is.more) (sym home_is) is.route in
@@ -50,9 +53,11 @@ module _ {D : Type 0} (made : Offer → List Try → D → D → Type 0) (shape 
 
 -- ---- an arrival
 
-module _ {G : Type 0} (made : Offer → List Try → G → G → Type 0) (drew : ℕ → G → G → Type 0) (rules : ArrivalRules) (arrival : Frame) (entry : ArrivalLog)
+module _ {G : Type 0} (made : Offer → List Try → G → G → Type 0) (drew : ℕ → G → G → Type 0) (rules : ArrivalRules)
+    (arrival : Frame) (entry : ArrivalLog)
     (offer : Option Offer) where
-  pub is_admitted : (shape : Shape) (mode : Mode) (ticket : Option ℕ) (before mid : G) → mode ≡ shape.mode → HasTicket mode ticket
+  pub is_admitted : (shape : Shape) (mode : Mode) (ticket : Option ℕ) (before mid : G) → mode ≡ shape.mode
+      → HasTicket mode ticket
       → HasDrawn drew ticket before mid → entry ≡ first_entry (lens_of rules) arrival ticket
       → ((group : Lens) → AgreesAt arrival.cpu group (lens_of rules) → IsJudged group rules.room arrival entry offer)
       → IsAdmitted drew rules shape arrival entry offer before mid
@@ -79,37 +84,49 @@ module _ {G : Type 0} (made : Offer → List Try → G → G → Type 0) (drew :
       tried = tried;
       new_is = new_is
           ∙ ap (λ (present : ℕ). record old { present = present; log = old.log ++ now ∷ [] }) next_is
-          ∙ ap (λ (e : ArrivalLog). record old { present = present_after old.shape.mode old.present now.tries; log = old.log ++ e ∷ [] }) now_is;
+          ∙ ap (λ (e : ArrivalLog). record old {
+            present = present_after old.shape.mode old.present now.tries;
+            log = old.log ++ e ∷ [];
+          }) now_is;
     }
 
-    pub is_given_up : (tries : List Try) → AreTriesOf IsBegun made old.shape entry.ticket rules.queue old.present offer tries mid after
+    pub is_given_up : (tries : List Try)
+        → AreTriesOf IsBegun made old.shape entry.ticket rules.queue old.present offer tries mid after
         → IsGivenUp made drew rules arrival old before after
     is_given_up tries tried =
         record { entry = entry; offer = offer; mid = mid; admitted = admitted; tries = tries; tried = tried }
 
 -- no try was made yet
-pub none_begun : {G : Type 0} (made : Offer → List Try → G → G → Type 0) (none_made : (offer : Offer) (group : G) → made offer [] group group)
+pub none_begun : {G : Type 0} (made : Offer → List Try → G → G → Type 0)
+    (none_made : (offer : Offer) (group : G) → made offer [] group group)
     (shape : Shape) (ticket : Option ℕ) (queue present : ℕ) (offer : Option Offer) (group : G)
     → AreTriesOf IsBegun made shape ticket queue present offer [] group group
 none_begun made none_made shape ticket queue present None group = (refl, refl)
-none_begun made none_made shape ticket queue present (Some offer) group = (no_refusal (rolls_over shape) shape.members _, none_made offer group)
+none_begun made none_made shape ticket queue present (Some offer) group =
+    (no_refusal (rolls_over shape) shape.members _, none_made offer group)
 
 -- ---- the log stays lawful
 
-module _ {G : Type 0} (made : Offer → List Try → G → G → Type 0) (drew : ℕ → G → G → Type 0) (rules : ArrivalRules) (arrival : Frame) (old new : Path)
-    (before after : G) (received : Received made drew rules arrival old new before after) (lens : Lens) (agrees : AgreesAt arrival.cpu lens (lens_of rules)) where
+module _ {G : Type 0} (made : Offer → List Try → G → G → Type 0) (drew : ℕ → G → G → Type 0) (rules : ArrivalRules)
+    (arrival : Frame) (old new : Path)
+    (before after : G) (received : Received made drew rules arrival old new before after) (lens : Lens)
+    (agrees : AgreesAt arrival.cpu lens (lens_of rules)) where
   entry_by : (offer : Option Offer) → IsJudged lens rules.room arrival received.entry offer
       → AreTriesOf IsRoute made old.shape received.entry.ticket rules.queue old.present offer received.tries received.mid after
       → IsEntry (rules_by old.shape lens) old.present arrival (record received.entry { tries = received.tries })
   entry_by None judged tried =
-      subst (λ (tries : List Try). IsEntry (rules_by old.shape lens) old.present arrival (record received.entry { tries = tries })) (sym tried.0)
-      (subst (λ (tries : List Try). IsEntry (rules_by old.shape lens) old.present arrival (record received.entry { tries = tries }))
+      subst (λ (tries : List Try). IsEntry (rules_by old.shape lens) old.present arrival
+      (record received.entry { tries = tries })) (sym tried.0)
+      (subst (λ (tries : List Try). IsEntry (rules_by old.shape lens) old.present arrival
+      (record received.entry { tries = tries }))
       (ap (λ (e : ArrivalLog). e.tries) judged.entry_is)
       (passed_over old.shape lens rules.room old.present arrival received.entry received.admitted.ticket judged))
   entry_by (Some offer) judged tried =
-      delivered old.shape lens rules.room old.present rules.queue arrival received.entry offer received.tries received.admitted.ticket agrees.queue judged tried.0
+      delivered old.shape lens rules.room old.present rules.queue arrival received.entry offer received.tries
+      received.admitted.ticket agrees.queue judged tried.0
 
-  pub stays_lawful : (frames : List Frame) → IsPathTo (rules_by old.shape lens) frames arrival old → IsPath (rules_by old.shape lens) frames new
+  pub stays_lawful : (frames : List Frame) → IsPathTo (rules_by old.shape lens) frames arrival old
+      → IsPath (rules_by old.shape lens) frames new
   stays_lawful frames to =
       subst (λ (path : Path). IsPath (rules_by old.shape lens) frames path) (sym received.new_is)
       (logs_one old.shape lens frames arrival (record received.entry { tries = received.tries }) old refl to

@@ -1,5 +1,6 @@
 -- Homes, present members and routes stay within the group, and a route settles its packet once.
-use Rattle.std.proofs.Common.{◌≡◌, ℕ, zero, suc, ◌+◌, ◌%◌, ◌<◌, Bool, true, false, not, eqb, ltb, List, [], ◌∷◌, ◌++◌, inl, inr, refl, sym, ap, append_assoc, ◌∙◌, arith}
+use Rattle.std.proofs.Common.{◌≡◌, ℕ, zero, suc, ◌+◌, ◌%◌, ◌<◌, Bool, true, false, not, eqb, ltb, List, [], ◌∷◌, ◌++◌, inl, inr}
+use Rattle.std.proofs.Common.{refl, sym, ap, append_assoc, ◌∙◌, arith}
 use Rattle.std.specs.Prelude.{sum_by, ◌&&◌, Option, unwrap_or, MatchBool}
 use Rattle.std.proofs.lemmas.Bool.{lt-ltb}
 use Rattle.std.proofs.lemmas.List.Sums.{sum_by-cons, sum_by-append}
@@ -24,10 +25,12 @@ home_below Cpu members hash ticket cpu queue present some at = omega arith
 home_below Qm members hash ticket cpu queue present some at = omega arith
 home_below Rollover members hash ticket cpu queue present some at = at
 
-pub home_is_member : (rules : Rules) (present : ℕ) (ticket : Option ℕ) (frame : Frame) → 0 < rules.members → present < rules.members
+pub home_is_member : (rules : Rules) (present : ℕ) (ticket : Option ℕ) (frame : Frame) → 0 < rules.members
+    → present < rules.members
     → home_of rules present ticket frame < rules.members
 home_is_member rules present ticket frame some at =
-    home_below rules.mode rules.members (rules.hash frame) (unwrap_or ticket 0) frame.cpu (rules.queue frame.cpu) present some at
+    home_below rules.mode rules.members (rules.hash frame) (unwrap_or ticket 0) frame.cpu (rules.queue frame.cpu)
+    present some at
 
 pub behind_below : (members at count : ℕ) → at < members → behind members at count < members
 behind_below members at zero h = h
@@ -41,7 +44,11 @@ refusals_settle_nothing : (members bound at count : ℕ) → sum_by (settles_in 
 refusals_settle_nothing members bound at zero = refl
 refusals_settle_nothing members bound at (suc count) =
     let next = (at + 1) % members in
-    omega (arith, sum_by-cons (settles_in bound) (a_try at Refused) (refused_from members next count), refusals_settle_nothing members bound next count)
+    omega (
+      arith,
+      sum_by-cons (settles_in bound) (a_try at Refused) (refused_from members next count),
+      refusals_settle_nothing members bound next count,
+    )
 
 settles_once : (members at : ℕ) (fate : Fate) → at < members → IsSettled fate → settles_in members (a_try at fate) ≡ 1
 settles_once members at Kept h settled = ap one_if (lt-ltb at members h)
@@ -54,7 +61,8 @@ ends_settled members from count at fate h settled =
     let both = sum_by-append (settles_in members) (refused_from members from count) (a_try at fate ∷ []) in
     omega (arith, both, refusals_settle_nothing members members from count, settles_once members at fate h settled)
 
-ends_at : (members from count at member : ℕ) (fate : Fate) → last_member member (refused_from members from count ++ a_try at fate ∷ []) ≡ at
+ends_at : (members from count at member : ℕ) (fate : Fate)
+    → last_member member (refused_from members from count ++ a_try at fate ∷ []) ≡ at
 ends_at members from zero at member fate = refl
 ends_at members from (suc count) at member fate = ends_at members ((from + 1) % members) count at from fate
 
@@ -98,22 +106,26 @@ entry_ends true rolls members home present tries h at none = record {
   last = rw none at;
 }
 entry_ends false rolls members home present tries h at route =
-    let settled = route_settles rolls members home present tries h route in record { settles = settled.once; last = settled.last }
+    let settled = route_settles rolls members home present tries h route in
+    record { settles = settled.once; last = settled.last }
 
 -- the same for an entry of a log
 pub tries_end : (rules : Rules) (present : ℕ) (frame : Frame) (entry : ArrivalLog) → 0 < rules.members → present < rules.members
     → IsEntry rules present frame entry → Ends (eqb entry.verdict 0) rules.members present entry.tries
 tries_end rules present frame entry some at is =
-    entry_ends (eqb entry.verdict 0) (rolls_over rules) rules.members (home_of rules present entry.ticket frame) present entry.tries
+    entry_ends (eqb entry.verdict 0) (rolls_over rules) rules.members (home_of rules present entry.ticket frame)
+    present entry.tries
     (home_is_member rules present entry.ticket frame some at) at is.tries
 
-pub present_is_member : (rules : Rules) (present : ℕ) (frame : Frame) (entry : ArrivalLog) → 0 < rules.members → present < rules.members
+pub present_is_member : (rules : Rules) (present : ℕ) (frame : Frame) (entry : ArrivalLog) → 0 < rules.members
+    → present < rules.members
     → IsEntry rules present frame entry → present_after rules.mode present entry.tries < rules.members
 present_is_member rules present frame entry some at is =
     present_stays rules.mode rules.members present entry.tries at (tries_end rules present frame entry some at is).last
 
 -- the same for a route
-pub present_after-route : (rolls : Bool) (mode : Mode) (members home present : ℕ) (tries : List Try) → home < members → present < members
+pub present_after-route : (rolls : Bool) (mode : Mode) (members home present : ℕ) (tries : List Try) → home < members
+    → present < members
     → IsRoute rolls members home tries → present_after mode present tries < members
 present_after-route rolls mode members home present tries h at route =
     present_stays mode members present tries at (route_settles rolls members home present tries h route).last
@@ -135,7 +147,8 @@ last_there present member told tries ends =
     ∙ ap (λ (all : List Try). last_member present all) (sym (append_assoc told ends.0 (last ∷ [])))
     ∙ last_appended present (told ++ ends.0) last
 
-route_ends : (rolls : Bool) (members home : ℕ) (tries : List Try) → IsRoute rolls members home tries → (member : ℕ) × EndsAt member tries
+route_ends : (rolls : Bool) (members home : ℕ) (tries : List Try) → IsRoute rolls members home tries
+    → (member : ℕ) × EndsAt member tries
 route_ends true members home tries (inl way) = (behind members home way.0, (refused_from members home way.0, Kept, way.2))
 route_ends true members home tries (inr put) = (home, (refused_from members home members, put.0, put.2))
 route_ends false members home tries one = (home, ([], one.0, one.2))
@@ -146,10 +159,12 @@ last_of_route rolls members home present told tries route =
     let ends = route_ends rolls members home tries route in
     last_there present ends.0 told tries ends.1 ∙ sym (last_there present ends.0 [] tries ends.1)
 
-pub present_of_route : (mode : Mode) (rolls : Bool) (members home present : ℕ) (told tries : List Try) → IsRoute rolls members home tries
+pub present_of_route : (mode : Mode) (rolls : Bool) (members home present : ℕ) (told tries : List Try)
+    → IsRoute rolls members home tries
     → present_after mode present (told ++ tries) ≡ present_after mode present tries
 present_of_route Hash rolls members home present told tries route = refl
 present_of_route Lb rolls members home present told tries route = refl
 present_of_route Cpu rolls members home present told tries route = refl
-present_of_route Rollover rolls members home present told tries route = last_of_route rolls members home present told tries route
+present_of_route Rollover rolls members home present told tries route =
+    last_of_route rolls members home present told tries route
 present_of_route Qm rolls members home present told tries route = refl

@@ -13,7 +13,8 @@ use Rattle.fanout_group.specs.declared.logs.Fate.TheVariants as fates
 use Rattle.fanout_group.proofs.Members.{one_if}
 
 -- a note about a frame of another CPU settles nothing for this one
-chosen : {X : Type 0} (f : X → ℕ) (x : X) (of here : Bool) → f x ≡ one_if (of && here) → one_if (of && here) ≡ sum_by f (cond of (x ∷ []) [])
+chosen : {X : Type 0} (f : X → ℕ) (x : X) (of here : Bool) → f x ≡ one_if (of && here)
+    → one_if (of && here) ≡ sum_by f (cond of (x ∷ []) [])
 chosen f x true here e = omega arith
 chosen f x false here e = refl
 
@@ -25,12 +26,14 @@ one_note : (cpu index : ℕ) (note : Note) → settles cpu index note ≡ sum_by
 one_note cpu index (Kept offer found) =
     chosen (settles cpu index) (Kept offer found) (eqb offer.frame.cpu cpu) (eqb offer.frame.index index) refl
 one_note cpu index (Refused of at need number) = unsettled (settles cpu index) (Refused of at need number) (eqb of cpu) refl
-one_note cpu index (Dropped of at need number) = chosen (settles cpu index) (Dropped of at need number) (eqb of cpu) (eqb at index) refl
+one_note cpu index (Dropped of at need number) =
+    chosen (settles cpu index) (Dropped of at need number) (eqb of cpu) (eqb at index) refl
 one_note cpu index (Ticked ms found) = refl
 one_note cpu index Counted = refl
 one_note cpu index Finished = refl
 
-pub settled_of : (cpu index : ℕ) (notes : List Note) → sum_by (settles cpu index) notes ≡ sum_by (settles cpu index) (frame_notes cpu notes)
+pub settled_of : (cpu index : ℕ) (notes : List Note)
+    → sum_by (settles cpu index) notes ≡ sum_by (settles cpu index) (frame_notes cpu notes)
 settled_of cpu index [] = refl
 settled_of cpu index (note ∷ notes) =
     let f : Note → ℕ = settles cpu index in

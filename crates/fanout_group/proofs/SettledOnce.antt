@@ -1,6 +1,7 @@
 -- Each arrival that passes is settled once by the tries of its entry, and so by the notes of all
 -- members.
-use Rattle.std.proofs.Common.{◌≡◌, ℕ, ◌+◌, ◌<◌, Bool, true, false, cond, not, ◌&&◌, ◌||◌, eqb, ltb, List, [], ◌∷◌, length, get_or, refl, sym, ap, ◌∙◌, arith}
+use Rattle.std.proofs.Common.{◌≡◌, ℕ, ◌+◌, ◌<◌, Bool, true, false, cond, not, ◌&&◌, ◌||◌, eqb, ltb, List, [], ◌∷◌, length}
+use Rattle.std.proofs.Common.{get_or, refl, sym, ap, ◌∙◌, arith}
 use Rattle.std.specs.Prelude.{sum_by}
 use Rattle.std.proofs.lemmas.Bool.{and_parts, eq-eqb, eqb-true, ne_eqb}
 use Rattle.std.proofs.lemmas.List.Sums.{sum_by-cons, sum_by-append}
@@ -13,7 +14,8 @@ use Rattle.fanout_group.specs.Routes.{present_after}
 use Rattle.fanout_group.specs.Rules.{Rules}
 use Rattle.fanout_group.specs.declared.logs.ArrivalLog.{ArrivalLog}
 use Rattle.fanout_group.specs.declared.logs.Try.{Try}
-use Rattle.fanout_group.proofs.Members.{one_if, sum_below, sum_below-add, sum_below-at, sum_below-same, sum_below-zero, sum_by-below}
+use Rattle.fanout_group.proofs.Members.{one_if, sum_below, sum_below-add, sum_below-at, sum_below-same, sum_below-zero}
+use Rattle.fanout_group.proofs.Members.{sum_by-below}
 use Rattle.fanout_group.proofs.RouteBounds.{present_is_member, settles_in, tries_end}
 use Rattle.fanout_group.proofs.SettledNotes.{is_settled, settled_by_tries, settled_of, try_settles}
 
@@ -59,7 +61,8 @@ module _ (cpu index members : ℕ) (frame : Frame) (entry : ArrivalLog) where
       ∙ ap (λ n. n + sum_below rest members) (sum_below-at t.member (f attempt) members)
 
   entry_settles : (tries : List Try) → is_it cpu index frame ≡ true
-      → sum_below (λ k. sum_by (try_settles cpu index) (attempts_in k frame entry tries)) members ≡ sum_by (settles_in members) tries
+      → sum_below (λ k. sum_by (try_settles cpu index) (attempts_in k frame entry tries)) members
+      ≡ sum_by (settles_in members) tries
   entry_settles [] it = sum_below-zero members
   entry_settles (t ∷ tries) it =
       let first = settled_below (is_settled t.fate) (ltb t.member members) (is_it cpu index frame) it in
@@ -73,7 +76,8 @@ module _ (cpu index members : ℕ) (frame : Frame) (entry : ArrivalLog) where
       omega (arith, first, tries_split t tries, entry_silent tries it)
 
   entry_appears : (it ended : Bool) → is_it cpu index frame ≡ it → sum_by (settles_in members) entry.tries ≡ one_if (not ended)
-      → sum_below (λ k. sum_by (try_settles cpu index) (attempts_in k frame entry entry.tries)) members ≡ one_if (it && not ended)
+      → sum_below (λ k. sum_by (try_settles cpu index) (attempts_in k frame entry entry.tries)) members
+      ≡ one_if (it && not ended)
   entry_appears true ended it once = entry_settles entry.tries it ∙ once
   entry_appears false ended it once = entry_silent entry.tries it
 
@@ -86,7 +90,8 @@ absent rules cpu index least present (frame ∷ frames) [] below of lawful = abs
 absent rules cpu index least present (frame ∷ frames) (entry ∷ log) below of lawful =
     let is = lawful.0 in
     let other : eqb entry.index index ≡ false = ne_eqb entry.index index (λ e. omega (arith, of.1, is.index)) in
-    rw other (absent rules cpu index (frame.index + 1) (present_after rules.mode present entry.tries) frames log (omega (arith, of.1)) of.2 lawful.1)
+    rw other (absent rules cpu index (frame.index + 1) (present_after rules.mode present entry.tries) frames log
+    (omega (arith, of.1)) of.2 lawful.1)
 
 either_once : (x y : Bool) → (x ≡ true → y ≡ false) → one_if x + one_if y ≡ one_if (x || y)
 either_once true y h = ap (λ b. 1 + one_if b) (h refl)
@@ -108,16 +113,20 @@ log_appears rules cpu index least present (frame ∷ frames) (entry ∷ log) som
     ap (λ b. b && eqb frame.index index) (eq-eqb frame.cpu cpu of.0) ∙ sym (ap (λ i. eqb i index) is.index) in
     let now = eqb entry.index index && not (eqb entry.verdict 0) in
     let first : sum_below here rules.members ≡ one_if now =
-    entry_appears cpu index rules.members frame entry (eqb entry.index index) (eqb entry.verdict 0) it (tries_end rules present frame entry some at is).settles in
-    let rest = log_appears rules cpu index (frame.index + 1) after frames log some (present_is_member rules present frame entry some at is) of.2 lawful.1 in
+    entry_appears cpu index rules.members frame entry (eqb entry.index index) (eqb entry.verdict 0) it
+    (tries_end rules present frame entry some at is).settles in
+    let rest = log_appears rules cpu index (frame.index + 1) after frames log some
+    (present_is_member rules present frame entry some at is) of.2 lawful.1 in
     let no_more : now ≡ true → passes index log ≡ false = λ yes.
     let same = eqb-true entry.index index (and_parts (eqb entry.index index) (not (eqb entry.verdict 0)) yes).0 in
     absent rules cpu index (frame.index + 1) after frames log (omega (arith, is.index)) of.2 lawful.1 in
-    sum_below-same _ (λ k. here k + later k) rules.members (λ k below. sum_by-append f (attempts_in k frame entry entry.tries) (attempts_at k frames log))
+    sum_below-same _ (λ k. here k + later k) rules.members
+    (λ k below. sum_by-append f (attempts_in k frame entry entry.tries) (attempts_at k frames log))
     ∙ sum_below-add here later rules.members ∙ ap (λ n. n + sum_below later rules.members) first ∙ ap (λ n. one_if now + n) rest
     ∙ either_once now (passes index log) no_more
 
-pub each_appears_once : (rules : Rules) (room : ℕ) (cpus : List Logged) (members : List (List Note)) → IsGroupReport rules room cpus members
+pub each_appears_once : (rules : Rules) (room : ℕ) (cpus : List Logged) (members : List (List Note))
+    → IsGroupReport rules room cpus members
     → EachAppearsOnce cpus members
 each_appears_once rules room cpus members report cpu index =
     let logged = get_or cpus cpu nothing_logged in

@@ -19,22 +19,29 @@ leaves : (defrag : Bool) (held : List Frame) (frame : Frame) → All IsUntagged 
     → Leaves frame (held_behind defrag held frame) (arrival_at defrag held frame)
 leaves false held frame all bare captured =
     let is = (untagged_is frame bare captured).untagged in
-    record { held = all; arrival = arrives_if (untagged frame) (Some (untagged frame)) (record { untagged = is; place = record { cpu = refl; index = refl } }) }
+    record {
+      held = all;
+      arrival = arrives_if (untagged frame) (Some (untagged frame))
+          (record { untagged = is; place = record { cpu = refl; index = refl } });
+    }
 leaves true held frame all bare captured =
     let gives = passes held (untagged frame) all (untagged_is frame bare captured).untagged in
     record { held = gives.held; arrival = arrives_if (untagged frame) (pass held (untagged frame)).whole gives.whole }
 
-one_more : (frame : Frame) (arrival : Option Frame) (rest : List Frame) → IfSome arrival (IsArrivalAt frame) → AllByRecursion IsArrival rest
+one_more : (frame : Frame) (arrival : Option Frame) (rest : List Frame) → IfSome arrival (IsArrivalAt frame)
+    → AllByRecursion IsArrival rest
     → AllByRecursion IsArrival (option_to_list arrival ++ rest)
 one_more frame None rest is all = all
 one_more frame (Some arrival) rest is all = (is.arrival, all)
 
-sound_from : (defrag : Bool) (held frames : List Frame) → All IsUntagged held → AllByRecursion (λ frame. frame.tag ≡ None) frames
+sound_from : (defrag : Bool) (held frames : List Frame) → All IsUntagged held
+    → AllByRecursion (λ frame. frame.tag ≡ None) frames
     → AllByRecursion IsCaptured frames → AllByRecursion IsArrival (somes (arrivals_from defrag held frames))
 sound_from defrag held [] all bare captured = tt
 sound_from defrag held (frame ∷ frames) all bare captured =
     let now = leaves defrag held frame all bare.0 captured.0 in
-    one_more (untagged frame) (arrival_at defrag held frame) (somes (arrivals_from defrag (held_behind defrag held frame) frames)) now.arrival
+    one_more (untagged frame) (arrival_at defrag held frame)
+    (somes (arrivals_from defrag (held_behind defrag held frame) frames)) now.arrival
     (sound_from defrag (held_behind defrag held frame) frames now.held bare.1 captured.1)
 
 pub arrivals_sound : (defrag : Bool) (frames : List Frame) → All (λ frame. frame.tag ≡ None) frames → All IsCaptured frames

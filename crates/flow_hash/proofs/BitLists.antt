@@ -1,5 +1,6 @@
 -- Lists of bits and the hash, a piece at a time.
-use Rattle.std.proofs.Common.{Bool, true, false, length-append, ◌≡◌, ℕ, zero, suc, ◌+◌, ◌*◌, List, [], ◌∷◌, ◌++◌, length, get_or, take, drop, ◌-◌, ◌<◌, refl, sym, ap, ◌∙◌, arith}
+use Rattle.std.proofs.Common.{Bool, true, false, length-append, ◌≡◌, ℕ, zero, suc, ◌+◌, ◌*◌, List, [], ◌∷◌, ◌++◌, length}
+use Rattle.std.proofs.Common.{get_or, take, drop, ◌-◌, ◌<◌, refl, sym, ap, ◌∙◌, arith}
 use Rattle.std.proofs.lemmas.List.{drop-drop, length-take-le, take_more}
 use Rattle.std.specs.Int.Bits.{bit_xor, xor_assoc, xor_zero_l, xor_zero_r}
 use Rattle.std.specs.Int.{bit_at}
@@ -7,7 +8,8 @@ use Rattle.flow_hash.specs.FlowHash.{ordered}
 use Rattle.flow_hash.specs.Toeplitz.{bits_of, bits_of_byte, toeplitz_of, share_of, hash_of}
 
 -- the hash of two lists of bits: the key of the second begins where the first ends
-pub toeplitz_of-append : (key xs ys : List ℕ) → toeplitz_of key (xs ++ ys) ≡ bit_xor (toeplitz_of key xs) (toeplitz_of (drop (length xs) key) ys)
+pub toeplitz_of-append : (key xs ys : List ℕ) → toeplitz_of key (xs ++ ys)
+    ≡ bit_xor (toeplitz_of key xs) (toeplitz_of (drop (length xs) key) ys)
 unfolding toeplitz_of
 toeplitz_of-append key [] ys = sym (xor_zero_l (toeplitz_of key ys))
 toeplitz_of-append key (x ∷ xs) ys =
@@ -43,7 +45,8 @@ take-bits_of (suc n) [] = rw eight_more refl
 take-bits_of (suc n) (x ∷ xs) = rw eight_more (ap (λ (rest : List ℕ). bits_of_byte x ++ rest) (take-bits_of n xs))
 
 -- the same for bytes
-pub hash_of-append : (key xs ys : List ℕ) → hash_of key (xs ++ ys) ≡ bit_xor (hash_of key xs) (hash_of (drop (length xs) key) ys)
+pub hash_of-append : (key xs ys : List ℕ) → hash_of key (xs ++ ys)
+    ≡ bit_xor (hash_of key xs) (hash_of (drop (length xs) key) ys)
 hash_of-append key xs ys =
     ap (toeplitz_of (bits_of key)) (bits_of-append xs ys) ∙ toeplitz_of-append (bits_of key) (bits_of xs) (bits_of ys)
     ∙ ap (λ (rest : List ℕ). bit_xor (hash_of key xs) (toeplitz_of rest (bits_of ys)))
@@ -73,34 +76,41 @@ bits_of_byte-at byte (suc (suc (suc (suc (suc (suc (suc (suc more)))))))) h = ab
 
 -- one more bit of a byte
 pub toeplitz_of-bit : (key : List ℕ) (byte bit : ℕ) → bit < 8
-    → toeplitz_of key (take (bit + 1) (bits_of_byte byte)) ≡ bit_xor (toeplitz_of key (take bit (bits_of_byte byte))) (share_of (drop bit key) (bit_at byte (7 - bit)))
+    → toeplitz_of key (take (bit + 1) (bits_of_byte byte))
+    ≡ bit_xor (toeplitz_of key (take bit (bits_of_byte byte))) (share_of (drop bit key) (bit_at byte (7 - bit)))
 unfolding toeplitz_of
 toeplitz_of-bit key byte bit h =
     let bits : List ℕ = bits_of_byte byte in
     let more : take (bit + 1) bits ≡ take bit bits ++ get_or bits bit 0 ∷ [] = take_more bits bit 0 h in
     ap (toeplitz_of key) (more ∙ ap (λ (b : ℕ). take bit bits ++ b ∷ []) (bits_of_byte-at byte bit h))
     ∙ toeplitz_of-append key (take bit bits) (bit_at byte (7 - bit) ∷ [])
-    ∙ ap (λ (n : ℕ). bit_xor (toeplitz_of key (take bit bits)) (bit_xor (share_of (drop n key) (bit_at byte (7 - bit))) 0)) (length-take-le bit bits (omega arith))
+    ∙ ap (λ (n : ℕ). bit_xor (toeplitz_of key (take bit bits)) (bit_xor (share_of (drop n key) (bit_at byte (7 - bit))) 0))
+    (length-take-le bit bits (omega arith))
     ∙ ap (bit_xor (toeplitz_of key (take bit bits))) (xor_zero_r (share_of (drop bit key) (bit_at byte (7 - bit))))
 
 -- one more byte
 pub hash_of-byte : (key input : List ℕ) (place : ℕ) → place < length input
-    → hash_of key (take (place + 1) input) ≡ bit_xor (hash_of key (take place input)) (toeplitz_of (bits_of (drop place key)) (bits_of_byte (get_or input place 0)))
+    → hash_of key (take (place + 1) input) ≡ bit_xor (hash_of key (take place input))
+    (toeplitz_of (bits_of (drop place key)) (bits_of_byte (get_or input place 0)))
 hash_of-byte key input place h =
     ap (hash_of key) (take_more input place 0 h) ∙ hash_of-append key (take place input) (get_or input place 0 ∷ [])
-    ∙ ap (λ (n : ℕ). bit_xor (hash_of key (take place input)) (hash_of (drop n key) (get_or input place 0 ∷ []))) (length-take-le place input (omega arith))
+    ∙ ap (λ (n : ℕ). bit_xor (hash_of key (take place input)) (hash_of (drop n key) (get_or input place 0 ∷ [])))
+    (length-take-le place input (omega arith))
     ∙ ap (bit_xor (hash_of key (take place input))) (hash_of_byte (drop place key) (get_or input place 0))
 
 -- ---- the same, with the key from a place on
 
-pub hash_of-both : (key a b : List ℕ) (at : ℕ) → hash_of (drop at key) (a ++ b) ≡ bit_xor (hash_of (drop at key) a) (hash_of (drop (at + length a) key) b)
+pub hash_of-both : (key a b : List ℕ) (at : ℕ) → hash_of (drop at key) (a ++ b)
+    ≡ bit_xor (hash_of (drop at key) a) (hash_of (drop (at + length a) key) b)
 hash_of-both key a b at =
     let both = hash_of-append (drop at key) a b in
     let rest = drop-drop (length a) at key in
     cc
 
 pub hash_of-place : (key input : List ℕ) (at place : ℕ) → place < length input
-    → hash_of (drop at key) (take (place + 1) input) ≡ bit_xor (hash_of (drop at key) (take place input)) (toeplitz_of (bits_of (drop (at + place) key)) (bits_of_byte (get_or input place 0)))
+    → hash_of (drop at key) (take (place + 1) input)
+    ≡ bit_xor (hash_of (drop at key) (take place input))
+    (toeplitz_of (bits_of (drop (at + place) key)) (bits_of_byte (get_or input place 0)))
 hash_of-place key input at place h =
     let more = hash_of-byte (drop at key) input place h in
     let rest = drop-drop place at key in
@@ -110,7 +120,9 @@ length-ordered : (first : Bool) (a b : List ℕ) → length (ordered first a b) 
 length-ordered true a b = length-append a b
 length-ordered false a b = length-append b a ∙ omega arith
 
-pub hash_of-ordered : (key a b rest : List ℕ) (first : Bool) → hash_of key (ordered first a b ++ rest) ≡ bit_xor (hash_of key (ordered first a b)) (hash_of (drop (length a + length b) key) rest)
+pub hash_of-ordered : (key a b rest : List ℕ) (first : Bool)
+    → hash_of key (ordered first a b ++ rest) ≡ bit_xor (hash_of key (ordered first a b))
+    (hash_of (drop (length a + length b) key) rest)
 hash_of-ordered key a b rest first =
     let both = hash_of-append key (ordered first a b) rest in
     let len = length-ordered first a b in

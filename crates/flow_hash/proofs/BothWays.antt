@@ -10,13 +10,15 @@ use Rattle.frame_view.specs.declared.headers.Headers.{Headers}
 use Rattle.frame_view.specs.declared.headers.Headers.TheVariants.{Runt, Plain, V4, V6}
 
 -- two ends in order, either of which may be the smaller
-ends_input-first : (w : Width) (from to : ℕ) (ports : Option (ℕ × ℕ)) → source_first from to ports ≡ true → source_first to from (ports_back ports) ≡ false
+ends_input-first : (w : Width) (from to : ℕ) (ports : Option (ℕ × ℕ)) → source_first from to ports ≡ true
+    → source_first to from (ports_back ports) ≡ false
     → ends_input w to from (ports_back ports) ≡ ends_input w from to ports
 unfolding ends_input
 ends_input-first w from to None there back = rw (there, back) refl
 ends_input-first w from to (Some (sport, dport)) there back = rw (there, back) refl
 
-ends_input-last : (w : Width) (from to : ℕ) (ports : Option (ℕ × ℕ)) → source_first from to ports ≡ false → source_first to from (ports_back ports) ≡ true
+ends_input-last : (w : Width) (from to : ℕ) (ports : Option (ℕ × ℕ)) → source_first from to ports ≡ false
+    → source_first to from (ports_back ports) ≡ true
     → ends_input w to from (ports_back ports) ≡ ends_input w from to ports
 unfolding ends_input
 ends_input-last w from to None there back = rw (there, back) refl
@@ -40,14 +42,19 @@ above_port at sport dport h = grind (arith, nat_tests)
 one_address : (w : Width) (at : ℕ) (ports : Option (ℕ × ℕ)) → ends_input w at at (ports_back ports) ≡ ends_input w at at ports
 one_address w at None = refl
 one_address w at (Some (sport, dport)) = elim (cases_order sport dport) [
-  | inl same ↦ let P : ℕ → Type 0 = λ (p : ℕ). ends_input w at at (Some (p, sport)) ≡ ends_input w at at (Some (sport, p)) in subst P same refl
-  | inr (inl less) ↦ ends_input-first w at at (Some (sport, dport)) (below_port at sport dport less) (above_port at dport sport less)
-  | inr (inr more) ↦ ends_input-last w at at (Some (sport, dport)) (above_port at sport dport more) (below_port at dport sport more)
+  | inl same ↦ let P : ℕ → Type 0 = λ (p : ℕ). ends_input w at at (Some (p, sport)) ≡ ends_input w at at (Some (sport, p)) in
+      subst P same refl
+  | inr (inl less) ↦ ends_input-first w at at (Some (sport, dport)) (below_port at sport dport less)
+      (above_port at dport sport less)
+  | inr (inr more) ↦ ends_input-last w at at (Some (sport, dport)) (above_port at sport dport more)
+      (below_port at dport sport more)
 ]
 
-ends_input-back : (w : Width) (from to : ℕ) (ports : Option (ℕ × ℕ)) → ends_input w to from (ports_back ports) ≡ ends_input w from to ports
+ends_input-back : (w : Width) (from to : ℕ) (ports : Option (ℕ × ℕ))
+    → ends_input w to from (ports_back ports) ≡ ends_input w from to ports
 ends_input-back w from to ports = elim (cases_order from to) [
-  | inl same ↦ let P : ℕ → Type 0 = λ (t : ℕ). ends_input w t from (ports_back ports) ≡ ends_input w from t ports in subst P same (one_address w from ports)
+  | inl same ↦ let P : ℕ → Type 0 = λ (t : ℕ). ends_input w t from (ports_back ports) ≡ ends_input w from t ports in
+      subst P same (one_address w from ports)
   | inr (inl less) ↦ ends_input-first w from to ports (below from to ports less) (above to from (ports_back ports) less)
   | inr (inr more) ↦ ends_input-last w from to ports (above from to ports more) (below to from (ports_back ports) more)
 ]

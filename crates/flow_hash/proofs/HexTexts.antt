@@ -9,7 +9,8 @@ use Rattle.flow_hash.specs.HexKey.{IsHex, key_error}
 use Rattle.flow_hash.specs.declared.hash_keys.KeyError.TheVariants.{NotHex, Memory}
 
 -- what doesn't decode, though memory didn't run out
-pub not_hex : (text : List ℕ) (error : FromHexError) → (error ≡ OutOfMemory) ⊎ (decode_of text ≡ Err error) → NotHex ≡ key_error error → ¬ IsHex text
+pub not_hex : (text : List ℕ) (error : FromHexError) → (error ≡ OutOfMemory) ⊎ (decode_of text ≡ Err error)
+    → NotHex ≡ key_error error → ¬ IsHex text
 not_hex text error (inl memory) kind hex = let same : key_error error ≡ Memory = ap key_error memory in cc
 not_hex text error (inr bad) kind hex =
     let read = decode_pairs-digits 0 text hex.0 hex.1 in

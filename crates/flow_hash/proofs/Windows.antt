@@ -1,5 +1,6 @@
 -- The 32 bits of a key that begin at a place, out of the number of its first 40.
-use Rattle.std.proofs.Common.{◌≡◌, ℕ, zero, suc, ◌+◌, ◌-◌, ◌*◌, ◌/◌, ◌%◌, ◌^◌, ◌<◌, ◌≤◌, List, [], ◌∷◌, ◌++◌, length, get_or, take, drop, refl, subst, sym, ap, ◌∙◌, arith, length-append, length-drop}
+use Rattle.std.proofs.Common.{◌≡◌, ℕ, zero, suc, ◌+◌, ◌-◌, ◌*◌, ◌/◌, ◌%◌, ◌^◌, ◌<◌, ◌≤◌, List, [], ◌∷◌, ◌++◌, length, get_or}
+use Rattle.std.proofs.Common.{take, drop, refl, subst, sym, ap, ◌∙◌, arith, length-append, length-drop}
 use Rattle.std.proofs.lemmas.List.{take-append-drop, drop-take, take-take, length-take-le}
 use Rattle.std.proofs.lemmas.Nat.{shr_high, mod_low, pow-add}
 use Rattle.std.proofs.Math.Nat.{pow-suc}
@@ -14,7 +15,10 @@ IsBits (bit ∷ rest) = (bit < 2) × IsBits rest
 IsBits-bits_of : (xs : List ℕ) → IsBits (bits_of xs)
 unfolding IsBits bits_of
 IsBits-bits_of [] = tt
-IsBits-bits_of (x ∷ xs) = (omega arith, (omega arith, (omega arith, (omega arith, (omega arith, (omega arith, (omega arith, (omega arith, IsBits-bits_of xs))))))))
+IsBits-bits_of (x ∷ xs) = (
+  omega arith,
+  (omega arith, (omega arith, (omega arith, (omega arith, (omega arith, (omega arith, (omega arith, IsBits-bits_of xs))))))),
+)
 
 IsBits-take : (n : ℕ) (xs : List ℕ) → IsBits xs → IsBits (take n xs)
 unfolding IsBits
@@ -43,11 +47,13 @@ unfolding number_of
 number_of-append [] ys = omega arith
 number_of-append (x ∷ xs) ys =
     let rest = number_of-append xs ys in
-    let len : 2 ^ length (xs ++ ys) ≡ 2 ^ length xs * 2 ^ length ys = ap (λ (n : ℕ). 2 ^ n) (length-append xs ys) ∙ pow-add 2 (length xs) (length ys) in
+    let len : 2 ^ length (xs ++ ys) ≡ 2 ^ length xs * 2 ^ length ys =
+    ap (λ (n : ℕ). 2 ^ n) (length-append xs ys) ∙ pow-add 2 (length xs) (length ys) in
     rw (len, rest) (omega arith)
 
 -- some bits from a place on, with k after them
-number_of_part : (j n k : ℕ) (xs : List ℕ) → IsBits xs → length xs ≡ j + (n + k) → number_of (take n (drop j xs)) ≡ number_of xs / 2 ^ k % 2 ^ n
+number_of_part : (j n k : ℕ) (xs : List ℕ) → IsBits xs → length xs ≡ j + (n + k)
+    → number_of (take n (drop j xs)) ≡ number_of xs / 2 ^ k % 2 ^ n
 number_of_part j n k xs h len =
     let front : List ℕ = take j xs in
     let part : List ℕ = take n (drop j xs) in
@@ -64,8 +70,12 @@ number_of_part j n k xs h len =
     let power : 2 ^ (n + k) ≡ 2 ^ n * 2 ^ k = pow-add 2 n k in
     let whole : number_of xs ≡ (number_of front * 2 ^ n + number_of part) * 2 ^ k + number_of rest =
     all ∙ rw (some, power) (omega arith) in
-    let low : number_of rest < 2 ^ k = subst (λ (m : ℕ). number_of rest < 2 ^ m) rest_len (number_of-lt rest (IsBits-drop n (drop j xs) (IsBits-drop j xs h))) in
-    let mid : number_of part < 2 ^ n = subst (λ (m : ℕ). number_of part < 2 ^ m) part_len (number_of-lt part (IsBits-take n (drop j xs) (IsBits-drop j xs h))) in
+    let low : number_of rest < 2 ^ k =
+    subst (λ (m : ℕ). number_of rest < 2 ^ m) rest_len
+    (number_of-lt rest (IsBits-drop n (drop j xs) (IsBits-drop j xs h))) in
+    let mid : number_of part < 2 ^ n =
+    subst (λ (m : ℕ). number_of part < 2 ^ m) part_len
+    (number_of-lt part (IsBits-take n (drop j xs) (IsBits-drop j xs h))) in
     sym (ap (λ (m : ℕ). m / 2 ^ k % 2 ^ n) whole
     ∙ ap (λ (m : ℕ). m % 2 ^ n) (shr_high (number_of front * 2 ^ n + number_of part) k (number_of rest) low)
     ∙ mod_low (number_of front) n (number_of part) mid)
@@ -74,7 +84,8 @@ number_of_byte : (byte : ℕ) → byte < 256 → number_of (bits_of_byte byte) �
 unfolding number_of
 number_of_byte byte h = omega arith
 
-number_of_more : (byte : ℕ) (rest : List ℕ) → byte < 256 → number_of (bits_of (byte ∷ rest)) ≡ byte * 2 ^ (8 * length rest) + number_of (bits_of rest)
+number_of_more : (byte : ℕ) (rest : List ℕ) → byte < 256
+    → number_of (bits_of (byte ∷ rest)) ≡ byte * 2 ^ (8 * length rest) + number_of (bits_of rest)
 unfolding bits_of
 number_of_more byte rest h =
     number_of-append (bits_of_byte byte) (bits_of rest)
@@ -96,12 +107,14 @@ number_of_five a b c d e ha hb hc hd he =
     let none = nothing in
     omega arith
 
-pub take_five : (key : List ℕ) → 5 ≤ length key → take 5 key ≡ get_or key 0 0 ∷ get_or key 1 0 ∷ get_or key 2 0 ∷ get_or key 3 0 ∷ get_or key 4 0 ∷ []
+pub take_five : (key : List ℕ) → 5 ≤ length key → take 5 key ≡ get_or key 0 0 ∷ get_or key 1 0 ∷ get_or key 2 0 ∷ get_or key 3 0
+    ∷ get_or key 4 0 ∷ []
 take_five (a ∷ b ∷ c ∷ d ∷ e ∷ rest) h = refl
 take_five key h = absurd (omega arith)
 
 -- what a bit at a place of a byte is combined with
-pub window_of : (key : List ℕ) (j : ℕ) → 5 ≤ length key → j < 8 → number_of (take 32 (drop j (bits_of key))) ≡ number_of (bits_of (take 5 key)) / 2 ^ (8 - j) % 2 ^ 32
+pub window_of : (key : List ℕ) (j : ℕ) → 5 ≤ length key → j < 8
+    → number_of (take 32 (drop j (bits_of key))) ≡ number_of (bits_of (take 5 key)) / 2 ^ (8 - j) % 2 ^ 32
 window_of key j long small =
     let bits : List ℕ = bits_of key in
     let window : take 40 bits ≡ bits_of (take 5 key) = take-bits_of 5 key in
@@ -109,7 +122,8 @@ window_of key j long small =
     let split : j + (40 - j) ≡ 40 = omega arith in
     let inside : drop j (take 40 bits) ≡ take (40 - j) (drop j bits) =
     ap (λ (n : ℕ). drop j (take n bits)) (sym split) ∙ drop-take j (40 - j) bits in
-    let same : take 32 (drop j (take 40 bits)) ≡ take 32 (drop j bits) = ap (take 32) inside ∙ take-take 32 (40 - j) (drop j bits) (omega arith) in
+    let same : take 32 (drop j (take 40 bits)) ≡ take 32 (drop j bits) =
+    ap (take 32) inside ∙ take-take 32 (40 - j) (drop j bits) (omega arith) in
     let fits : length (take 40 bits) ≡ j + (32 + (8 - j)) = len ∙ omega arith in
     ap number_of (sym same) ∙ number_of_part j 32 (8 - j) (take 40 bits) (IsBits-take 40 bits (IsBits-bits_of key)) fits
     ∙ ap (λ (b : List ℕ). number_of b / 2 ^ (8 - j) % 2 ^ 32) window

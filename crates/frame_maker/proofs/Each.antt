@@ -4,7 +4,8 @@ use Rattle.std.specs.List.{All}
 use Rattle.std.proofs.lemmas.List.Elements.{All-cons, All-nil}
 use Rattle.frame_view.specs.Built.{built}
 use Rattle.frame_view.proofs.Viewed.{length-built}
-use Rattle.frame_maker.specs.Made.{made, made_from, made_frame, made_parts, after_frame, parts_of, frame_with, payload_of, IsMade}
+use Rattle.frame_maker.specs.Made.{made, made_from, made_frame, made_parts, after_frame, parts_of, frame_with, payload_of}
+use Rattle.frame_maker.specs.Made.{IsMade}
 use Rattle.frame_maker.proofs.Steps.{length-payload_of}
 
 length-parts : (i a b c d : ℕ) → length (built (parts_of i a b c d)) ≡ 42 + d % 1401
@@ -24,7 +25,9 @@ IsMade-made_frame i state = IsMade-frame_with i _ _ _ _
 All-made_from : (n i state : ℕ) → All IsMade (made_from n i state)
 unfolding made_from
 All-made_from zero i state = All-nil IsMade
-All-made_from (suc n) i state = All-cons IsMade (made_frame i state) (made_from n (i + 1) (after_frame state)) (IsMade-made_frame i state) (All-made_from n (i + 1) (after_frame state))
+All-made_from (suc n) i state =
+    All-cons IsMade (made_frame i state) (made_from n (i + 1) (after_frame state)) (IsMade-made_frame i state)
+    (All-made_from n (i + 1) (after_frame state))
 
 length-made_from : (n i state : ℕ) → length (made_from n i state) ≡ n
 unfolding made_from

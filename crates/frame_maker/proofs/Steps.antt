@@ -13,11 +13,13 @@ length-payload_of i len = length-map-range_with_len (λ (j : ℕ). (i + j) % 256
 
 -- the frames so far, with what is still to be made
 pub made_from-more : (frames : List Frame) (count i state : ℕ) → i < count
-    → frames ++ made_from (count - i) i state ≡ (frames ++ made_frame i state ∷ []) ++ made_from (count - (i + 1)) (i + 1) (after_frame state)
+    → frames ++ made_from (count - i) i state ≡ (frames ++ made_frame i state ∷ [])
+    ++ made_from (count - (i + 1)) (i + 1) (after_frame state)
 unfolding made_from
 made_from-more frames count i state h =
     let next : count - i ≡ suc (count - (i + 1)) = omega arith in
-    ap (λ (n : ℕ). frames ++ made_from n i state) next ∙ sym (append_assoc frames (made_frame i state ∷ []) (made_from (count - (i + 1)) (i + 1) (after_frame state)))
+    ap (λ (n : ℕ). frames ++ made_from n i state) next
+    ∙ sym (append_assoc frames (made_frame i state ∷ []) (made_from (count - (i + 1)) (i + 1) (after_frame state)))
 
 pub made_from-none : (frames : List Frame) (n i state : ℕ) → n ≡ 0 → frames ++ made_from n i state ≡ frames
 unfolding made_from

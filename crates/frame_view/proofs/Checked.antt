@@ -22,7 +22,8 @@ bytes-ip_bytes : (p : Parts) (k : ℕ) → k < 2 ^ 16 → length p.payload ≤ 1
 unfolding ip_bytes
 bytes-ip_bytes p k small few = grind arith
 
-checksum_of-ip_bytes : (p : Parts) (k : ℕ) → k < 2 ^ 16 → length p.payload ≤ 1472 → checksum_of (ip_bytes p k) ≡ 0xffff - folded (folded (sum_of_words (ip_bytes p k)))
+checksum_of-ip_bytes : (p : Parts) (k : ℕ) → k < 2 ^ 16 → length p.payload ≤ 1472
+    → checksum_of (ip_bytes p k) ≡ 0xffff - folded (folded (sum_of_words (ip_bytes p k)))
 unfolding ip_bytes
 checksum_of-ip_bytes p k small few = checksum_of-words (ip_bytes p k) (bytes-ip_bytes p k small few) (omega arith)
 
@@ -42,5 +43,6 @@ ip_bytes-built : (p : Parts) → length p.to ≡ 6 → length p.from ≡ 6 → t
 unfolding built link_bytes ip_bytes
 ip_bytes-built p to from = rw (← address_of_six p.to to, ← address_of_six p.from from) refl
 
-pub checksum_of-built : (p : Parts) → length p.to ≡ 6 → length p.from ≡ 6 → length p.payload ≤ 1472 → checksum_of (take 20 (drop 14 (built p))) ≡ 0
+pub checksum_of-built : (p : Parts) → length p.to ≡ 6 → length p.from ≡ 6 → length p.payload ≤ 1472
+    → checksum_of (take 20 (drop 14 (built p))) ≡ 0
 checksum_of-built p to from few = ap checksum_of (ip_bytes-built p to from) ∙ checked-ip_bytes p few

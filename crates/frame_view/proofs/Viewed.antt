@@ -8,7 +8,8 @@ use Rattle.frame_view.specs.declared.frame_parts.Parts.{Parts}
 use Rattle.frame_view.specs.declared.headers.Headers.TheVariants.{V4}
 
 -- after a whole link header, an IPv4 header
-view_of_v4 : (bytes : List ℕ) → nat_lt (length bytes) 14 ≡ false → is_v4 bytes ≡ true → view_of bytes ≡ V4 (link_of bytes) (v4_of bytes)
+view_of_v4 : (bytes : List ℕ) → nat_lt (length bytes) 14 ≡ false → is_v4 bytes ≡ true
+    → view_of bytes ≡ V4 (link_of bytes) (v4_of bytes)
 view_of_v4 bytes whole v4 = rw (whole, v4) refl
 
 module _ (p : Parts) (to : length p.to ≡ 6) (from : length p.from ≡ 6) (few : length p.payload ≤ 1472) where
@@ -32,10 +33,23 @@ module _ (p : Parts) (to : length p.to ≡ 6) (from : length p.from ≡ 6) (few 
   unfolding built link_bytes ip_bytes udp_bytes
   link_of-built = rw (← address_of_six p.to to, ← address_of_six p.from from) (grind (arith, nat_tests))
 
-  v4_of-built : p.ident < 2 ^ 16 → p.source < 2 ^ 32 → p.dest < 2 ^ 32 → p.sport < 2 ^ 16 → p.dport < 2 ^ 16 → v4_of (built p) ≡ record { header = 20; total = 28 + length p.payload; ident = p.ident; more = false; offset = 0; next = 17; from = p.source; to = p.dest; ports = Some (p.sport, p.dport) }
+  v4_of-built : p.ident < 2 ^ 16 → p.source < 2 ^ 32 → p.dest < 2 ^ 32 → p.sport < 2 ^ 16 → p.dport < 2 ^ 16
+      → v4_of (built p) ≡ record {
+        header = 20;
+        total = 28 + length p.payload;
+        ident = p.ident;
+        more = false;
+        offset = 0;
+        next = 17;
+        from = p.source;
+        to = p.dest;
+        ports = Some (p.sport, p.dport);
+      }
   unfolding built link_bytes ip_bytes udp_bytes
-  v4_of-built ident source dest sport dport = rw (← address_of_six p.to to, ← address_of_six p.from from) (grind (arith, nat_tests))
+  v4_of-built ident source dest sport dport =
+      rw (← address_of_six p.to to, ← address_of_six p.from from) (grind (arith, nat_tests))
 
-  pub view_of-built : p.ident < 2 ^ 16 → p.source < 2 ^ 32 → p.dest < 2 ^ 32 → p.sport < 2 ^ 16 → p.dport < 2 ^ 16 → view_of (built p) ≡ headers_of p
+  pub view_of-built : p.ident < 2 ^ 16 → p.source < 2 ^ 32 → p.dest < 2 ^ 32 → p.sport < 2 ^ 16 → p.dport < 2 ^ 16
+      → view_of (built p) ≡ headers_of p
   view_of-built ident source dest sport dport =
       view_of_v4 (built p) whole-built is_v4-built ∙ cc (link_of-built, v4_of-built ident source dest sport dport)

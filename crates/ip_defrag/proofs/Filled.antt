@@ -1,5 +1,7 @@
 -- Data written to its places, one fragment after another.
-use Rattle.std.proofs.Common.{◌≡◌, ℕ, zero, suc, ◌+◌, ◌-◌, ◌<◌, ◌≤◌, Bool, true, false, ◌||◌, List, [], ◌∷◌, ◌++◌, length, map, take, drop, replicate, get_or, slice_index, cond, arith, refl, ap, ◌∙◌, sym, subst, length-append, length-take, length-drop, inl, inr}
+use Rattle.std.proofs.Common.{◌≡◌, ℕ, zero, suc, ◌+◌, ◌-◌, ◌<◌, ◌≤◌, Bool, true, false, ◌||◌, List, [], ◌∷◌, ◌++◌, length, map}
+use Rattle.std.proofs.Common.{take, drop, replicate, get_or, slice_index, cond, arith, refl, ap, ◌∙◌, sym, subst, length-append}
+use Rattle.std.proofs.Common.{length-take, length-drop, inl, inr}
 use Rattle.std.specs.List.{list_any}
 use Rattle.std.proofs.lemmas.List.{take_more, get_or_append_left, get_or-append_right, get_or-take, get_or-drop}
 use Rattle.std.proofs.lemmas.List.Folds.{list_any_at}
@@ -34,7 +36,8 @@ held_take [] (suc n) held = tt
 held_take (frame ∷ frames) (suc n) held = (held.0, none_take _ frames n held.1, held_take frames n held.2)
 
 -- a place of the last frame is in none before it
-pub last_alone : (frames : List Frame) (new : Frame) (place : ℕ) → AreHeld (frames ++ new ∷ []) → covers new place ≡ true → is_covered frames place ≡ false
+pub last_alone : (frames : List Frame) (new : Frame) (place : ℕ) → AreHeld (frames ++ new ∷ []) → covers new place ≡ true
+    → is_covered frames place ≡ false
 last_alone [] new place held here = refl
 last_alone (frame ∷ frames) new place held here =
     or_from _ _ (not_first (covers frame place) refl) (last_alone frames new place held.2 here)
@@ -43,7 +46,8 @@ last_alone (frame ∷ frames) new place held here =
     last_covered [] = ap (λ (b : Bool). b || false) here
     last_covered (other ∷ frames) = by_test (covers other place) (last_covered frames)
       where
-        by_test : (b : Bool) → is_covered (frames ++ new ∷ []) place ≡ true → (b || is_covered (frames ++ new ∷ []) place) ≡ true
+        by_test : (b : Bool) → is_covered (frames ++ new ∷ []) place ≡ true
+            → (b || is_covered (frames ++ new ∷ []) place) ≡ true
         by_test true e = refl
         by_test false e = e
 
@@ -52,16 +56,19 @@ last_alone (frame ∷ frames) new place held here =
     not_first true e =
         absurd (both_ways _ (first_alone frame (frames ++ new ∷ []) place held.0 held.1 held.2 e) (last_covered frames))
 
-byte_at_other : (frames : List Frame) (new : Frame) (place : ℕ) → covers new place ≡ false → byte_at (frames ++ new ∷ []) place ≡ byte_at frames place
+byte_at_other : (frames : List Frame) (new : Frame) (place : ℕ) → covers new place ≡ false
+    → byte_at (frames ++ new ∷ []) place ≡ byte_at frames place
 byte_at_other [] new place there = ap (λ (b : Bool). cond b (slice_index (data_of new) (place - from_of new)) 0) there
 byte_at_other (frame ∷ frames) new place there =
     ap (cond (covers frame place) (slice_index (data_of frame) (place - from_of frame))) (byte_at_other frames new place there)
 
-byte_at_new : (frames : List Frame) (new : Frame) (place : ℕ) → is_covered frames place ≡ false → covers new place ≡ true → byte_at (frames ++ new ∷ []) place ≡ slice_index (data_of new) (place - from_of new)
+byte_at_new : (frames : List Frame) (new : Frame) (place : ℕ) → is_covered frames place ≡ false → covers new place ≡ true
+    → byte_at (frames ++ new ∷ []) place ≡ slice_index (data_of new) (place - from_of new)
 byte_at_new [] new place none here = ap (λ (b : Bool). cond b (slice_index (data_of new) (place - from_of new)) 0) here
 byte_at_new (frame ∷ frames) new place none here =
     let parts = or_parts (covers frame place) (is_covered frames place) none in
-    ap (λ (b : Bool). cond b (slice_index (data_of frame) (place - from_of frame)) (byte_at (frames ++ new ∷ []) place)) parts.0 ∙ byte_at_new frames new place parts.1 here
+    ap (λ (b : Bool). cond b (slice_index (data_of frame) (place - from_of frame)) (byte_at (frames ++ new ∷ []) place)) parts.0
+    ∙ byte_at_new frames new place parts.1 here
 
 -- at the start zeros
 pub no_bytes : (from count : ℕ) → map (byte_at []) (places from count) ≡ replicate count 0
@@ -106,7 +113,16 @@ module _ (frames : List Frame) (new : Frame) (end : ℕ) (held : AreHeld (frames
   length-written : length (written new before) ≡ end
   unfolding before
   length-written =
-      omega (arith, front_length, data_length, length-before, some, length-append (take (from_of new) before) (data_of new ++ drop (to_of new) before), length-append (data_of new) (drop (to_of new) before), length-drop (to_of new) before)
+      omega (
+        arith,
+        front_length,
+        data_length,
+        length-before,
+        some,
+        length-append (take (from_of new) before) (data_of new ++ drop (to_of new) before),
+        length-append (data_of new) (drop (to_of new) before),
+        length-drop (to_of new) before,
+      )
 
   at_front : (k : ℕ) → k < from_of new → get_or (written new before) k 0 ≡ byte_at (frames ++ new ∷ []) k
   unfolding before
@@ -121,7 +137,8 @@ module _ (frames : List Frame) (new : Frame) (end : ℕ) (held : AreHeld (frames
   unfolding before
   at_data k low high =
       let here : covers new k ≡ true = grind (arith, nat_tests) in
-      get_or-append_right (take (from_of new) before) (data_of new ++ drop (to_of new) before) (from_of new) k 0 front_length low
+      get_or-append_right (take (from_of new) before) (data_of new ++ drop (to_of new) before) (from_of new) k 0
+      front_length low
       ∙ get_or_append_left (data_of new) (drop (to_of new) before) 0 (k - from_of new) (omega (arith, data_length))
       ∙ sym (byte_at_new frames new k (last_alone frames new k held here) here)
 
@@ -130,19 +147,24 @@ module _ (frames : List Frame) (new : Frame) (end : ℕ) (held : AreHeld (frames
   at_back k low high =
       let there : covers new k ≡ false = grind (arith, nat_tests) in
       let e : to_of new + (k - to_of new) ≡ k = omega arith in
-      get_or-append_right (take (from_of new) before) (data_of new ++ drop (to_of new) before) (from_of new) k 0 front_length (omega (arith, some))
-      ∙ get_or-append_right (data_of new) (drop (to_of new) before) (to_of new - from_of new) (k - from_of new) 0 data_length (omega (arith, some))
+      get_or-append_right (take (from_of new) before) (data_of new ++ drop (to_of new) before) (from_of new) k 0 front_length
+      (omega (arith, some))
+      ∙ get_or-append_right (data_of new) (drop (to_of new) before) (to_of new - from_of new) (k - from_of new) 0 data_length
+      (omega (arith, some))
       ∙ get_or-drop (to_of new) before (k - from_of new - (to_of new - from_of new)) 0
       ∙ ap (λ (j : ℕ). get_or before j 0) (omega (arith, some))
       ∙ get_or-map-below (byte_at frames) end k high
       ∙ sym (byte_at_other frames new k there)
 
-  pub filled_push : take (from_of new) (map (byte_at frames) (places 0 end)) ++ (data_of new ++ drop (to_of new) (map (byte_at frames) (places 0 end))) ≡ map (byte_at (frames ++ new ∷ [])) (places 0 end)
+  pub filled_push : take (from_of new) (map (byte_at frames) (places 0 end))
+      ++ (data_of new ++ drop (to_of new) (map (byte_at frames) (places 0 end)))
+      ≡ map (byte_at (frames ++ new ∷ [])) (places 0 end)
   unfolding before
   filled_push =
       same_number_lists (written new before) (map (byte_at (frames ++ new ∷ [])) (places 0 end))
       (length-written ∙ sym (length-map-places (byte_at (frames ++ new ∷ [])) 0 end))
-      (λ k h. at k (omega (arith, length-written)) ∙ sym (get_or-map-below (byte_at (frames ++ new ∷ [])) end k (omega (arith, length-written))))
+      (λ k h. at k (omega (arith, length-written))
+      ∙ sym (get_or-map-below (byte_at (frames ++ new ∷ [])) end k (omega (arith, length-written))))
     where
       at : (k : ℕ) → k < end → get_or (written new before) k 0 ≡ byte_at (frames ++ new ∷ []) k
       at k h = elim (cases_lt k (from_of new)) [
@@ -151,21 +173,30 @@ module _ (frames : List Frame) (new : Frame) (end : ℕ) (held : AreHeld (frames
       ]
 
 -- the same, as a step through some frames
-pub fill_more : (frames : List Frame) (i : ℕ) (frame : Frame) (end : ℕ) → AreHeld frames → to_of frame ≤ end → i < length frames → frame ≡ get_or frames i frame → take (from_of frame) (map (byte_at (take i frames)) (places 0 end)) ++ (data_of frame ++ drop (to_of frame) (map (byte_at (take i frames)) (places 0 end))) ≡ map (byte_at (take (i + 1) frames)) (places 0 end)
+pub fill_more : (frames : List Frame) (i : ℕ) (frame : Frame) (end : ℕ) → AreHeld frames → to_of frame ≤ end → i < length frames
+    → frame ≡ get_or frames i frame → take (from_of frame) (map (byte_at (take i frames)) (places 0 end))
+    ++ (data_of frame ++ drop (to_of frame) (map (byte_at (take i frames)) (places 0 end)))
+    ≡ map (byte_at (take (i + 1) frames)) (places 0 end)
 fill_more frames i frame end held within h is =
-    let more : take (i + 1) frames ≡ take i frames ++ frame ∷ [] = take_more frames i frame h ∙ ap (λ (f : Frame). take i frames ++ f ∷ []) (sym is) in
+    let more : take (i + 1) frames ≡ take i frames ++ frame ∷ [] =
+    take_more frames i frame h ∙ ap (λ (f : Frame). take i frames ++ f ∷ []) (sym is) in
     let these : AreHeld (take i frames ++ frame ∷ []) = subst AreHeld more (held_take frames (i + 1) held) in
     filled_push (take i frames) frame end these within ∙ ap (λ (fs : List Frame). map (byte_at fs) (places 0 end)) (sym more)
 
 -- each byte is that of any frame that has its place
-pub byte_of : (frames : List Frame) (at place : ℕ) (d : Frame) → AreHeld frames → at < length frames → covers (get_or frames at d) place ≡ true → byte_at frames place ≡ own_byte (get_or frames at d) place
+pub byte_of : (frames : List Frame) (at place : ℕ) (d : Frame) → AreHeld frames → at < length frames
+    → covers (get_or frames at d) place ≡ true → byte_at frames place ≡ own_byte (get_or frames at d) place
 byte_of [] at place d held h here = absurd (omega arith)
 byte_of (frame ∷ frames) zero place d held h here = ap (λ (b : Bool). cond b (own_byte frame place) (byte_at frames place)) here
-byte_of (frame ∷ frames) (suc at) place d held h here = by_test (byte_of frames at place d held.2 below here) (covers frame place) refl
+byte_of (frame ∷ frames) (suc at) place d held h here =
+    by_test (byte_of frames at place d held.2 below here) (covers frame place) refl
   where
     below : at < length frames
     below = omega arith
 
-    by_test : byte_at frames place ≡ own_byte (get_or frames at d) place → (b : Bool) → covers frame place ≡ b → cond (covers frame place) (own_byte frame place) (byte_at frames place) ≡ own_byte (get_or frames at d) place
-    by_test rest true e = absurd (both_ways _ (first_alone frame frames place held.0 held.1 held.2 e) (list_any_at (λ f. covers f place) frames at d below here))
+    by_test : byte_at frames place ≡ own_byte (get_or frames at d) place → (b : Bool) → covers frame place ≡ b
+        → cond (covers frame place) (own_byte frame place) (byte_at frames place) ≡ own_byte (get_or frames at d) place
+    by_test rest true e =
+        absurd (both_ways _ (first_alone frame frames place held.0 held.1 held.2 e)
+        (list_any_at (λ f. covers f place) frames at d below here))
     by_test rest false e = ap (λ (b : Bool). cond b (own_byte frame place) (byte_at frames place)) e ∙ rest

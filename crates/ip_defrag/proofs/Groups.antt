@@ -12,13 +12,16 @@ pub same_name_refl : (name : Name) → same_name name name ≡ true
 unfolding same_name
 same_name_refl name = grind (arith, nat_tests)
 
-same_parts : (a b c d a' b' c' d' : ℕ) → a ≡ a' → b ≡ b' → c ≡ c' → d ≡ d' → ◌≡◌ {A = Name} (record { source = a; dest = b; protocol = c; ident = d }) (record { source = a'; dest = b'; protocol = c'; ident = d' })
+same_parts : (a b c d a' b' c' d' : ℕ) → a ≡ a' → b ≡ b' → c ≡ c' → d ≡ d'
+    → ◌≡◌ {A = Name} (record { source = a; dest = b; protocol = c; ident = d })
+    (record { source = a'; dest = b'; protocol = c'; ident = d' })
 same_parts a b c d a' b' c' d' p q r s = cc
 
 pub same_name_is : (a b : Name) → same_name a b ≡ true → a ≡ b
 unfolding same_name
 same_name_is a b e =
-    same_parts a.source a.dest a.protocol a.ident b.source b.dest b.protocol b.ident (grind (arith, nat_tests)) (grind (arith, nat_tests)) (grind (arith, nat_tests)) (grind (arith, nat_tests))
+    same_parts a.source a.dest a.protocol a.ident b.source b.dest b.protocol b.ident (grind (arith, nat_tests))
+    (grind (arith, nat_tests)) (grind (arith, nat_tests)) (grind (arith, nat_tests))
 
 -- a name that differs from another isn't that one's
 pub same_name_sym : (a b : Name) → same_name a b ≡ same_name b a
@@ -33,18 +36,21 @@ pub filter_twice : {X : Type 0} (p q : X → Bool) (xs : List X) → filter p (f
 filter_twice p q [] = refl
 filter_twice {X} p q (x ∷ xs) = by_test (p x) refl (q x) refl (filter_twice p q xs)
   where
-    by_test : (a : Bool) → p x ≡ a → (b : Bool) → q x ≡ b → filter p (filter q xs) ≡ filter q (filter p xs) → filter p (cond (q x) (x ∷ filter q xs) (filter q xs)) ≡ filter q (cond (p x) (x ∷ filter p xs) (filter p xs))
+    by_test : (a : Bool) → p x ≡ a → (b : Bool) → q x ≡ b → filter p (filter q xs) ≡ filter q (filter p xs)
+        → filter p (cond (q x) (x ∷ filter q xs) (filter q xs)) ≡ filter q (cond (p x) (x ∷ filter p xs) (filter p xs))
     by_test true pa true qb rest = simp (pa, qb) (ap (λ (ys : List X). x ∷ ys) rest)
     by_test true pa false qb rest = simp (pa, qb) rest
     by_test false pa true qb rest = simp (pa, qb) rest
     by_test false pa false qb rest = simp (pa, qb) rest
 
 -- the stricter of two tests
-pub filter_within : {X : Type 0} (p q : X → Bool) → ((x : X) → p x ≡ true → q x ≡ true) → (xs : List X) → filter p (filter q xs) ≡ filter p xs
+pub filter_within : {X : Type 0} (p q : X → Bool) → ((x : X) → p x ≡ true → q x ≡ true) → (xs : List X)
+    → filter p (filter q xs) ≡ filter p xs
 filter_within p q less [] = refl
 filter_within {X} p q less (x ∷ xs) = by_test (p x) refl (q x) refl (filter_within p q less xs)
   where
-    by_test : (a : Bool) → p x ≡ a → (b : Bool) → q x ≡ b → filter p (filter q xs) ≡ filter p xs → filter p (cond (q x) (x ∷ filter q xs) (filter q xs)) ≡ cond (p x) (x ∷ filter p xs) (filter p xs)
+    by_test : (a : Bool) → p x ≡ a → (b : Bool) → q x ≡ b → filter p (filter q xs) ≡ filter p xs
+        → filter p (cond (q x) (x ∷ filter q xs) (filter q xs)) ≡ cond (p x) (x ∷ filter p xs) (filter p xs)
     by_test true pa true qb rest = simp (pa, qb) (ap (λ (ys : List X). x ∷ ys) rest)
     by_test true pa false qb rest = absurd (both_ways _ qb (less x pa))
     by_test false pa true qb rest = simp (pa, qb) rest
@@ -63,24 +69,40 @@ kept_differs keep other name lost is = by_same (same_name name other) refl
     by_same false e = ap not e
 
 -- names are kept or lost as their frames are
-pub names_filter : (keep : Name → Bool) (held : List Frame) → names_of (filter (by_name keep) held) ≡ filter keep (names_of held)
+pub names_filter : (keep : Name → Bool) (held : List Frame)
+    → names_of (filter (by_name keep) held) ≡ filter keep (names_of held)
 names_filter keep [] = refl
 names_filter keep (frame ∷ held) = by_test (names_filter keep held) (keep (name_of frame)) refl
   where
-    by_test : names_of (filter (by_name keep) held) ≡ filter keep (names_of held) → (b : Bool) → keep (name_of frame) ≡ b → names_of (cond (keep (name_of frame)) (frame ∷ filter (by_name keep) held) (filter (by_name keep) held)) ≡ cond (keep (name_of frame)) (name_of frame ∷ filter keep (filter (differs (name_of frame)) (names_of held))) (filter keep (filter (differs (name_of frame)) (names_of held)))
-    by_test rest true e = simp e (ap (λ (ns : List Name). name_of frame ∷ ns) (ap (filter (differs (name_of frame))) rest ∙ filter_twice (differs (name_of frame)) keep (names_of held)))
-    by_test rest false e = simp e (rest ∙ sym (filter_within keep (differs (name_of frame)) (λ name is. kept_differs keep (name_of frame) name e is) (names_of held)))
+    by_test : names_of (filter (by_name keep) held) ≡ filter keep (names_of held) → (b : Bool) → keep (name_of frame) ≡ b
+        → names_of (cond (keep (name_of frame)) (frame ∷ filter (by_name keep) held) (filter (by_name keep) held))
+        ≡ cond (keep (name_of frame)) (name_of frame ∷ filter keep (filter (differs (name_of frame)) (names_of held)))
+        (filter keep (filter (differs (name_of frame)) (names_of held)))
+    by_test rest true e =
+        simp e (ap (λ (ns : List Name). name_of frame ∷ ns)
+        (ap (filter (differs (name_of frame))) rest ∙ filter_twice (differs (name_of frame)) keep (names_of held)))
+    by_test rest false e =
+        simp e
+        (rest
+        ∙ sym (filter_within keep (differs (name_of frame)) (λ name is. kept_differs keep (name_of frame) name e is)
+        (names_of held)))
 
 -- a name that is kept has the same frames and the same time
-pub of_name_filter : (keep : Name → Bool) (name : Name) (held : List Frame) → keep name ≡ true → of_name name (filter (by_name keep) held) ≡ of_name name held
+pub of_name_filter : (keep : Name → Bool) (name : Name) (held : List Frame) → keep name ≡ true
+    → of_name name (filter (by_name keep) held) ≡ of_name name held
 of_name_filter keep name held is =
     filter_within (is_named name) (by_name keep) (λ frame e. ap keep (same_name_is (name_of frame) name e) ∙ is) held
 
-pub opened_filter : (keep : Name → Bool) (name : Name) (held : List Frame) → keep name ≡ true → opened_at name (filter (by_name keep) held) ≡ opened_at name held
+pub opened_filter : (keep : Name → Bool) (name : Name) (held : List Frame) → keep name ≡ true
+    → opened_at name (filter (by_name keep) held) ≡ opened_at name held
 opened_filter keep name [] is = refl
-opened_filter keep name (frame ∷ held) is = by_test (opened_filter keep name held is) (same_name (name_of frame) name) refl (keep (name_of frame)) refl
+opened_filter keep name (frame ∷ held) is =
+    by_test (opened_filter keep name held is) (same_name (name_of frame) name) refl (keep (name_of frame)) refl
   where
-    by_test : opened_at name (filter (by_name keep) held) ≡ opened_at name held → (a : Bool) → same_name (name_of frame) name ≡ a → (b : Bool) → keep (name_of frame) ≡ b → opened_at name (cond (keep (name_of frame)) (frame ∷ filter (by_name keep) held) (filter (by_name keep) held)) ≡ cond (same_name (name_of frame) name) frame.sec (opened_at name held)
+    by_test : opened_at name (filter (by_name keep) held) ≡ opened_at name held → (a : Bool)
+        → same_name (name_of frame) name ≡ a → (b : Bool) → keep (name_of frame) ≡ b
+        → opened_at name (cond (keep (name_of frame)) (frame ∷ filter (by_name keep) held) (filter (by_name keep) held))
+        ≡ cond (same_name (name_of frame) name) frame.sec (opened_at name held)
     by_test rest true e true h = simp (e, h)
     by_test rest true e false h = absurd (both_ways _ h (ap keep (same_name_is (name_of frame) name e) ∙ is))
     by_test rest false e true h = simp (e, h) rest
@@ -90,17 +112,24 @@ opened_filter keep name (frame ∷ held) is = by_test (opened_filter keep name h
 abbrev pub by_group : (Name → Bool) → Group → Bool
 by_group keep group = keep group.name
 
-kept_groups : (keep : Name → Bool) (held : List Frame) (names : List Name) → map (group_of (filter (by_name keep) held)) (filter keep names) ≡ filter (by_group keep) (map (group_of held) names)
+kept_groups : (keep : Name → Bool) (held : List Frame) (names : List Name)
+    → map (group_of (filter (by_name keep) held)) (filter keep names) ≡ filter (by_group keep) (map (group_of held) names)
 kept_groups keep held [] = refl
 kept_groups keep held (name ∷ names) = by_test (kept_groups keep held names) (keep name) refl
   where
     same : keep name ≡ true → group_of (filter (by_name keep) held) name ≡ group_of held name
     same e = let a = of_name_filter keep name held e in let b = opened_filter keep name held e in cc
 
-    by_test : map (group_of (filter (by_name keep) held)) (filter keep names) ≡ filter (by_group keep) (map (group_of held) names) → (b : Bool) → keep name ≡ b → map (group_of (filter (by_name keep) held)) (cond (keep name) (name ∷ filter keep names) (filter keep names)) ≡ cond (keep name) (group_of held name ∷ filter (by_group keep) (map (group_of held) names)) (filter (by_group keep) (map (group_of held) names))
+    by_test : map (group_of (filter (by_name keep) held)) (filter keep names)
+        ≡ filter (by_group keep) (map (group_of held) names) → (b : Bool) → keep name ≡ b
+        → map (group_of (filter (by_name keep) held)) (cond (keep name) (name ∷ filter keep names) (filter keep names))
+        ≡ cond (keep name) (group_of held name ∷ filter (by_group keep) (map (group_of held) names))
+        (filter (by_group keep) (map (group_of held) names))
     by_test rest true e = simp e (cc (same e, rest))
     by_test rest false e = simp e rest
 
-pub groups_filter : (keep : Name → Bool) (held : List Frame) → groups (filter (by_name keep) held) ≡ filter (by_group keep) (groups held)
+pub groups_filter : (keep : Name → Bool) (held : List Frame)
+    → groups (filter (by_name keep) held) ≡ filter (by_group keep) (groups held)
 unfolding groups
-groups_filter keep held = ap (map (group_of (filter (by_name keep) held))) (names_filter keep held) ∙ kept_groups keep held (names_of held)
+groups_filter keep held = ap (map (group_of (filter (by_name keep) held))) (names_filter keep held)
+    ∙ kept_groups keep held (names_of held)

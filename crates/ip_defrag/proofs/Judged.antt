@@ -1,6 +1,8 @@
 -- How a new frame relates to held ones: any one that it conflicts with decides it, and if it shares
 -- no place with any, its place and the end do.
-use Rattle.std.proofs.Common.{◌≡◌, ◌⊎◌, ℕ, zero, suc, ◌-◌, ◌*◌, ◌/◌, ◌<◌, ◌≤◌, max, Bool, true, false, ◌&&◌, ◌||◌, nat_lt, length, get_or, inl, inr, List, [], ◌∷◌, Option, None, Some, option_map, is_some, find, cond, if◌then◌else◌, arith, refl, ap, ◌∙◌, sym}
+use Rattle.std.proofs.Common.{◌≡◌, ◌⊎◌, ℕ, zero, suc, ◌-◌, ◌*◌, ◌/◌, ◌<◌, ◌≤◌, max, Bool, true, false, ◌&&◌, ◌||◌, nat_lt}
+use Rattle.std.proofs.Common.{length, get_or, inl, inr, List, [], ◌∷◌, Option, None, Some, option_map, is_some, find, cond}
+use Rattle.std.proofs.Common.{if◌then◌else◌, arith, refl, ap, ◌∙◌, sym}
 use Rattle.std.specs.List.{list_any, AllByRecursion}
 use Rattle.std.proofs.lemmas.Bool.{cases_lt, lt-ltb, or_parts, or_from, both_ways}
 use Rattle.std.proofs.lemmas.Bool.Decides.{nat_tests}
@@ -41,7 +43,8 @@ copy_conflicts new held taken e =
     let s = shares_is new held (omega (arith, a.from, a.to, some)) some in
     grind (arith, nat_tests)
 
-no_copy : (new held : Frame) (frames : List Frame) → list_any (λ later. conflicts later held) frames ≡ false → conflicts new held ≡ true → list_any (is_copy new) frames ≡ false
+no_copy : (new held : Frame) (frames : List Frame) → list_any (λ later. conflicts later held) frames ≡ false
+    → conflicts new held ≡ true → list_any (is_copy new) frames ≡ false
 no_copy new held [] none is = refl
 no_copy new held (frame ∷ frames) none is =
     let parts = or_parts (conflicts frame held) (list_any (λ later. conflicts later held) frames) none in
@@ -56,37 +59,44 @@ abbrev pub by_first : Frame → Option Frame → Judgement
 by_first new None = Fits
 by_first new (Some held) = if is_copy new held then Copy else Conflict
 
-pub judged : (new : Frame) (frames : List Frame) → AreHeld frames → judgement new frames ≡ by_first new (find (conflicts new) frames)
+pub judged : (new : Frame) (frames : List Frame) → AreHeld frames
+    → judgement new frames ≡ by_first new (find (conflicts new) frames)
 judged new [] held = refl
 judged new (frame ∷ frames) held = by_test (conflicts new frame) refl (is_copy new frame) refl (judged new frames held.2)
   where
-    by_test : (a : Bool) → conflicts new frame ≡ a → (b : Bool) → is_copy new frame ≡ b → judgement new frames ≡ by_first new (find (conflicts new) frames) → judgement new (frame ∷ frames) ≡ by_first new (cond (conflicts new frame) (Some frame) (find (conflicts new) frames))
+    by_test : (a : Bool) → conflicts new frame ≡ a → (b : Bool) → is_copy new frame ≡ b
+        → judgement new frames ≡ by_first new (find (conflicts new) frames)
+        → judgement new (frame ∷ frames) ≡ by_first new (cond (conflicts new frame) (Some frame) (find (conflicts new) frames))
     by_test true is true copies rest = simp (is, copies) refl
     by_test true is false copies rest = let none = no_copy new frame frames held.1 is in simp (is, copies, none) refl
     by_test false is true copies rest = absurd (both_ways _ is (copy_conflicts new frame held.0 copies))
     by_test false is false copies rest = simp (is, copies) rest
 
 -- a frame after another one
-after_one : (new frame : Frame) → takes_part frame ≡ true → from_of new < to_of new → to_of frame ≤ from_of new → (is_copy new frame ≡ false) × (conflicts new frame ≡ is_last frame)
+after_one : (new frame : Frame) → takes_part frame ≡ true → from_of new < to_of new → to_of frame ≤ from_of new
+    → (is_copy new frame ≡ false) × (conflicts new frame ≡ is_last frame)
 unfolding is_copy conflicts contradicts
 after_one new frame taken some after =
     let s = shares_is new frame some (has_data frame taken).0 in
     let d = (has_data frame taken).0 in
     (grind (arith, nat_tests), grind (arith, nat_tests))
 
-after_each : (new : Frame) (frames : List Frame) → AreHeld frames → from_of new < to_of new → reach_of frames ≤ from_of new → (list_any (is_copy new) frames ≡ false) × (list_any (conflicts new) frames ≡ is_some (find is_last frames))
+after_each : (new : Frame) (frames : List Frame) → AreHeld frames → from_of new < to_of new → reach_of frames ≤ from_of new
+    → (list_any (is_copy new) frames ≡ false) × (list_any (conflicts new) frames ≡ is_some (find is_last frames))
 after_each new [] held some after = (refl, refl)
 after_each new (frame ∷ frames) held some after =
     let one = after_one new frame held.0 some (omega (arith, after)) in
     let rest = after_each new frames held.2 some (omega (arith, after)) in
     (or_from _ _ one.0 rest.0, ap (λ (b : Bool). b || list_any (conflicts new) frames) one.1 ∙ by_test (is_last frame) rest.1)
   where
-    by_test : (b : Bool) → list_any (conflicts new) frames ≡ is_some (find is_last frames) → (b || list_any (conflicts new) frames) ≡ is_some (cond b (Some frame) (find is_last frames))
+    by_test : (b : Bool) → list_any (conflicts new) frames ≡ is_some (find is_last frames)
+        → (b || list_any (conflicts new) frames) ≡ is_some (cond b (Some frame) (find is_last frames))
     by_test true rest = refl
     by_test false rest = rest
 
 -- a frame after all
-pub after_all : (new : Frame) (frames : List Frame) (extent : Extent) → AreKept frames extent → from_of new < to_of new → extent.reach ≤ from_of new → judgement new frames ≡ (if is_some extent.end then Conflict else Fits)
+pub after_all : (new : Frame) (frames : List Frame) (extent : Extent) → AreKept frames extent → from_of new < to_of new
+    → extent.reach ≤ from_of new → judgement new frames ≡ (if is_some extent.end then Conflict else Fits)
 unfolding extent_of
 after_all new frames extent kept some after =
     let reach : extent.reach ≡ reach_of frames = ap (λ (e : Extent). e.reach) kept.counted in
@@ -99,7 +109,8 @@ after_all new frames extent kept some after =
     by_end (Some last) = refl
 
 -- a frame that shares no place with another one: after it, if that isn't last, and before it
-apart_after : (new frame : Frame) → takes_part frame ≡ true → from_of new < to_of new → to_of frame ≤ from_of new → is_last frame ≡ false
+apart_after : (new frame : Frame) → takes_part frame ≡ true → from_of new < to_of new → to_of frame ≤ from_of new
+    → is_last frame ≡ false
     → (is_copy new frame ≡ false) × (conflicts new frame ≡ (is_last new && nat_lt (to_of new) (to_of frame)))
 unfolding is_copy conflicts contradicts
 apart_after new frame taken some after more =
@@ -119,11 +130,13 @@ apart_before new frame taken some before =
 abbrev IsEarly : Frame → Frame → Type 0
 IsEarly new frame = is_last frame ≡ true → from_of new < to_of frame
 
-apart_one : (new frame : Frame) → takes_part frame ≡ true → from_of new < to_of new → (to_of frame ≤ from_of new) ⊎ (to_of new ≤ from_of frame) → IsEarly new frame
+apart_one : (new frame : Frame) → takes_part frame ≡ true → from_of new < to_of new
+    → (to_of frame ≤ from_of new) ⊎ (to_of new ≤ from_of frame) → IsEarly new frame
     → (is_copy new frame ≡ false) × (conflicts new frame ≡ (is_last new && nat_lt (to_of new) (to_of frame)))
 apart_one new frame taken some (inl after) early = by_last (is_last frame) refl
   where
-    by_last : (b : Bool) → is_last frame ≡ b → (is_copy new frame ≡ false) × (conflicts new frame ≡ (is_last new && nat_lt (to_of new) (to_of frame)))
+    by_last : (b : Bool) → is_last frame ≡ b → (is_copy new frame ≡ false)
+        × (conflicts new frame ≡ (is_last new && nat_lt (to_of new) (to_of frame)))
     by_last true is = let e = early is in absurd (omega (arith, e, after))
     by_last false is = apart_after new frame taken some after is
 apart_one new frame taken some (inr before) early = apart_before new frame taken some before
@@ -132,8 +145,10 @@ apart_one new frame taken some (inr before) early = apart_before new frame taken
 abbrev AreApart : Frame → List Frame → Type 0
 AreApart new frames = AllByRecursion (λ frame. (to_of frame ≤ from_of new) ⊎ (to_of new ≤ from_of frame)) frames
 
-apart_each : (new : Frame) (frames : List Frame) → AreHeld frames → from_of new < to_of new → AreApart new frames → AllByRecursion (IsEarly new) frames
-    → (list_any (is_copy new) frames ≡ false) × (list_any (conflicts new) frames ≡ (is_last new && nat_lt (to_of new) (reach_of frames)))
+apart_each : (new : Frame) (frames : List Frame) → AreHeld frames → from_of new < to_of new → AreApart new frames
+    → AllByRecursion (IsEarly new) frames
+    → (list_any (is_copy new) frames ≡ false)
+    × (list_any (conflicts new) frames ≡ (is_last new && nat_lt (to_of new) (reach_of frames)))
 apart_each new [] held some apart early = (refl, grind (arith, nat_tests))
 apart_each new (frame ∷ frames) held some apart early =
     let one = apart_one new frame held.0 some apart.0 early.0 in
@@ -153,14 +168,16 @@ reach_below : (frames : List Frame) (end : ℕ) → AllByRecursion (λ frame. to
 reach_below [] end within = omega arith
 reach_below (frame ∷ frames) end within = let rest = reach_below frames end within.1 in omega (arith, rest, within.0)
 
-last_reaches : (frames : List Frame) → AreHeld frames → AllByRecursion (λ frame. is_last frame ≡ true → reach_of frames ≤ to_of frame) frames
+last_reaches : (frames : List Frame) → AreHeld frames
+    → AllByRecursion (λ frame. is_last frame ≡ true → reach_of frames ≤ to_of frame) frames
 last_reaches [] held = tt
 last_reaches (first ∷ frames) held = (
   λ is. let rest = reach_below frames (to_of first) (all_past first frames held.1 is) in omega (arith, rest),
   more frames held.1 (last_reaches frames held.2),
 )
   where
-    more : (some : List Frame) → list_any (λ later. conflicts later first) some ≡ false → AllByRecursion (λ frame. is_last frame ≡ true → reach_of frames ≤ to_of frame) some
+    more : (some : List Frame) → list_any (λ later. conflicts later first) some ≡ false
+        → AllByRecursion (λ frame. is_last frame ≡ true → reach_of frames ≤ to_of frame) some
         → AllByRecursion (λ frame. is_last frame ≡ true → reach_of (first ∷ frames) ≤ to_of frame) some
     more [] none rest = tt
     more (frame ∷ some) none rest =
@@ -169,12 +186,15 @@ last_reaches (first ∷ frames) held = (
           more some parts.1 rest.1,
         )
 
-early_each : (new : Frame) (reach : ℕ) (frames : List Frame) → from_of new < reach → AllByRecursion (λ frame. is_last frame ≡ true → reach ≤ to_of frame) frames → AllByRecursion (IsEarly new) frames
+early_each : (new : Frame) (reach : ℕ) (frames : List Frame) → from_of new < reach
+    → AllByRecursion (λ frame. is_last frame ≡ true → reach ≤ to_of frame) frames → AllByRecursion (IsEarly new) frames
 early_each new reach [] before each = tt
-early_each new reach (frame ∷ frames) before each = (λ is. let ends = each.0 is in omega (arith, ends, before), early_each new reach frames before each.1)
+early_each new reach (frame ∷ frames) before each =
+    (λ is. let ends = each.0 is in omega (arith, ends, before), early_each new reach frames before each.1)
 
 -- a frame that begins before the end of all ends before it
-ends_before : (new : Frame) (frames : List Frame) → AreHeld frames → AreApart new frames → from_of new < reach_of frames → to_of new < reach_of frames
+ends_before : (new : Frame) (frames : List Frame) → AreHeld frames → AreApart new frames → from_of new < reach_of frames
+    → to_of new < reach_of frames
 ends_before new [] held apart before = absurd (omega arith)
 ends_before new (frame ∷ frames) held apart before =
     elim apart.0 [
@@ -186,8 +206,11 @@ ends_before new (frame ∷ frames) held apart before =
 apart_from : (new : Frame) (frames : List Frame) → from_of new < to_of new → AreHeld frames
     → ((unit : ℕ) → from_of new ≤ 8 * unit → 8 * unit < to_of new → is_covered frames (8 * unit) ≡ false) → AreApart new frames
 apart_from new [] some held none = tt
-apart_from new (frame ∷ frames) some held none =
-    (here, apart_from new frames some held.2 (λ unit low high. (or_parts (covers frame (8 * unit)) (is_covered frames (8 * unit)) (none unit low high)).1))
+apart_from new (frame ∷ frames) some held none = (
+  here,
+  apart_from new frames some held.2
+      (λ unit low high. (or_parts (covers frame (8 * unit)) (is_covered frames (8 * unit)) (none unit low high)).1),
+)
   where
     clear : (unit : ℕ) → from_of new ≤ 8 * unit → 8 * unit < to_of new → covers frame (8 * unit) ≡ false
     clear unit low high = (or_parts (covers frame (8 * unit)) (is_covered frames (8 * unit)) (none unit low high)).0
@@ -201,7 +224,8 @@ apart_from new (frame ∷ frames) some held none =
           | inl ends ↦ elim (cases_lt (from_of frame) (to_of new)) [
             | inr before ↦ inr before
             | inl begins ↦ elim (cases_lt (from_of frame) (from_of new)) [
-              | inl early ↦ let no = clear (from_of new / 8) (omega (arith, mine)) (omega (arith, mine, some)) in absurd (grind (arith, nat_tests))
+              | inl early ↦ let no = clear (from_of new / 8) (omega (arith, mine)) (omega (arith, mine, some)) in
+                  absurd (grind (arith, nat_tests))
               | inr late ↦ let no = clear (from_of frame / 8) (omega (arith, other, late)) (omega (arith, other, begins)) in
                   let other_some = (has_data frame held.0).0 in absurd (grind (arith, nat_tests))
             ]
@@ -209,16 +233,20 @@ apart_from new (frame ∷ frames) some held none =
         ]
 
 -- a frame that meets none, and begins before the end of all
-pub unmet : (new : Frame) (frames : List Frame) (extent : Extent) (marks : List ℕ) → AreKept frames extent → AreMarks marks frames → from_of new < to_of new → from_of new < extent.reach
-    → find (λ mark. nat_lt 0 mark) (own_marks new marks) ≡ None → judgement new frames ≡ (if is_last new then Conflict else Fits)
+pub unmet : (new : Frame) (frames : List Frame) (extent : Extent) (marks : List ℕ) → AreKept frames extent
+    → AreMarks marks frames → from_of new < to_of new → from_of new < extent.reach
+    → find (λ mark. nat_lt 0 mark) (own_marks new marks) ≡ None
+    → judgement new frames ≡ (if is_last new then Conflict else Fits)
 unfolding extent_of
 unmet new frames extent marks kept are some before none =
     let reach : extent.reach ≡ reach_of frames = ap (λ (e : Extent). e.reach) kept.counted in
     let early : from_of new < reach_of frames = omega (arith, reach, before) in
     let apart = apart_from new frames some kept.held (λ unit low high. none_met marks frames new unit are none low high) in
-    let each = apart_each new frames kept.held some apart (early_each new (reach_of frames) frames early (last_reaches frames kept.held)) in
+    let each = apart_each new frames kept.held some apart
+    (early_each new (reach_of frames) frames early (last_reaches frames kept.held)) in
     let past = lt-ltb (to_of new) (reach_of frames) (ends_before new frames kept.held apart early) in
-    let any : list_any (conflicts new) frames ≡ is_last new = each.1 ∙ ap (λ (b : Bool). is_last new && b) past ∙ same (is_last new) in
+    let any : list_any (conflicts new) frames ≡ is_last new =
+    each.1 ∙ ap (λ (b : Bool). is_last new && b) past ∙ same (is_last new) in
     ap (λ (b : Bool). cond b Copy (cond (list_any (conflicts new) frames) Conflict Fits)) each.0
     ∙ ap (λ (b : Bool). cond b Conflict Fits) any
   where
@@ -236,23 +264,27 @@ both_conflict a b taken_a taken_b =
     let t = shares_is b a some_b some_a in
     grind (arith, nat_tests)
 
-none_at : {X : Type 0} (p : X → Bool) (xs : List X) (at : ℕ) (d : X) → list_any p xs ≡ false → at < length xs → p (get_or xs at d) ≡ false
+none_at : {X : Type 0} (p : X → Bool) (xs : List X) (at : ℕ) (d : X) → list_any p xs ≡ false → at < length xs
+    → p (get_or xs at d) ≡ false
 none_at p [] at d none within = absurd (omega arith)
 none_at p (x ∷ xs) zero d none within = (or_parts (p x) (list_any p xs) none).0
 none_at p (x ∷ xs) (suc at) d none within = none_at p xs at d (or_parts (p x) (list_any p xs) none).1 (omega arith)
 
-taken_at : (frames : List Frame) (at : ℕ) (d : Frame) → AreHeld frames → at < length frames → takes_part (get_or frames at d) ≡ true
+taken_at : (frames : List Frame) (at : ℕ) (d : Frame) → AreHeld frames → at < length frames
+    → takes_part (get_or frames at d) ≡ true
 taken_at [] at d held within = absurd (omega arith)
 taken_at (frame ∷ frames) zero d held within = held.0
 taken_at (frame ∷ frames) (suc at) d held within = taken_at frames at d held.2 (omega arith)
 
 -- any one that a frame conflicts with decides
-pub decided : (new : Frame) (frames : List Frame) (at : ℕ) (d : Frame) → AreHeld frames → at < length frames → conflicts new (get_or frames at d) ≡ true
+pub decided : (new : Frame) (frames : List Frame) (at : ℕ) (d : Frame) → AreHeld frames → at < length frames
+    → conflicts new (get_or frames at d) ≡ true
     → judgement new frames ≡ (if is_copy new (get_or frames at d) then Copy else Conflict)
 decided new [] at d held within is = absurd (omega arith)
 decided new (frame ∷ frames) zero d held within is =
     judged new (frame ∷ frames) held ∙ ap (λ (b : Bool). by_first new (cond b (Some frame) (find (conflicts new) frames))) is
-decided new (frame ∷ frames) (suc at) d held within is = by_test (decided new frames at d held.2 (omega arith) is) (conflicts new frame) refl
+decided new (frame ∷ frames) (suc at) d held within is =
+    by_test (decided new frames at d held.2 (omega arith) is) (conflicts new frame) refl
   where
     below : at < length frames
     below = omega arith
@@ -266,13 +298,15 @@ decided new (frame ∷ frames) (suc at) d held within is = by_test (decided new 
     no_first : (b : Bool) → is_copy new frame ≡ b → is_copy new frame ≡ false
     no_first false e = e
     no_first true e =
-        absurd (both_ways _ none (both_conflict other frame (taken_at frames at d held.2 below) held.0 ∙ sym (alike_conflicts new frame other (alike new frame e)) ∙ is))
+        absurd (both_ways _ none (both_conflict other frame (taken_at frames at d held.2 below) held.0
+        ∙ sym (alike_conflicts new frame other (alike new frame e)) ∙ is))
 
     no_other : conflicts new frame ≡ true → (b : Bool) → is_copy new other ≡ b → is_copy new other ≡ false
     no_other here false e = e
     no_other here true e = absurd (both_ways _ none (sym (alike_conflicts new other frame (alike new other e)) ∙ here))
 
-    by_test : judgement new frames ≡ cond (is_copy new other) Copy Conflict → (b : Bool) → conflicts new frame ≡ b → judgement new (frame ∷ frames) ≡ cond (is_copy new other) Copy Conflict
+    by_test : judgement new frames ≡ cond (is_copy new other) Copy Conflict → (b : Bool) → conflicts new frame ≡ b
+        → judgement new (frame ∷ frames) ≡ cond (is_copy new other) Copy Conflict
     by_test rest true here =
         judged new (frame ∷ frames) held
         ∙ ap (λ (b : Bool). by_first new (cond b (Some frame) (find (conflicts new) frames))) here
@@ -285,21 +319,29 @@ decided new (frame ∷ frames) (suc at) d held within is = by_test (decided new 
         ∙ rest
 
 -- two frames that share a place conflict
-sharing : (new frame : Frame) → from_of new < to_of new → takes_part frame ≡ true → from_of new < to_of frame → from_of frame < to_of new → conflicts new frame ≡ true
+sharing : (new frame : Frame) → from_of new < to_of new → takes_part frame ≡ true → from_of new < to_of frame
+    → from_of frame < to_of new → conflicts new frame ≡ true
 unfolding conflicts
 sharing new frame some taken ends begins =
     let s = shares_is new frame some (has_data frame taken).0 in
     grind (arith, nat_tests)
 
 -- a frame with a marked unit
-pub met_one : (new : Frame) (frames : List Frame) (marks : List ℕ) (mark : ℕ) → AreHeld frames → AreMarks marks frames → from_of new < to_of new
+pub met_one : (new : Frame) (frames : List Frame) (marks : List ℕ) (mark : ℕ) → AreHeld frames → AreMarks marks frames
+    → from_of new < to_of new
     → find (λ mark. nat_lt 0 mark) (own_marks new marks) ≡ Some mark
-    → (0 < mark) × (mark - 1 < length frames) × ((d : Frame) → judgement new frames ≡ (if is_copy new (get_or frames (mark - 1) d) then Copy else Conflict))
+    → (0 < mark) × (mark - 1 < length frames)
+    × ((d : Frame) → judgement new frames ≡ (if is_copy new (get_or frames (mark - 1) d) then Copy else Conflict))
 met_one new frames marks mark held are some is =
-    let one = one_met marks frames new mark are is in
-    (one.some, one.within, λ d. decided new frames (mark - 1) d held one.within (shared one.unit one.low one.high d (one.covers_it d)))
+    let one = one_met marks frames new mark are is in (
+      one.some,
+      one.within,
+      λ d. decided new frames (mark - 1) d held one.within
+          (shared one.unit one.low one.high d (one.covers_it d)),
+    )
   where
-    shared : (unit : ℕ) → from_of new ≤ 8 * unit → 8 * unit < to_of new → (d : Frame) → covers (get_or frames (mark - 1) d) (8 * unit) ≡ true → conflicts new (get_or frames (mark - 1) d) ≡ true
+    shared : (unit : ℕ) → from_of new ≤ 8 * unit → 8 * unit < to_of new → (d : Frame)
+        → covers (get_or frames (mark - 1) d) (8 * unit) ≡ true → conflicts new (get_or frames (mark - 1) d) ≡ true
     shared unit low high d here =
         let ends : from_of new < to_of (get_or frames (mark - 1) d) = grind (arith, nat_tests) in
         let begins : from_of (get_or frames (mark - 1) d) < to_of new = grind (arith, nat_tests) in

@@ -1,5 +1,6 @@
 -- The extent of some frames, and of one more.
-use Rattle.std.proofs.Common.{◌≡◌, ◌+◌, ◌-◌, ◌≤◌, max, Bool, true, false, List, [], ◌∷◌, ◌++◌, Option, None, Some, option_map, find, cond, arith, refl, ap, ◌∙◌}
+use Rattle.std.proofs.Common.{◌≡◌, ◌+◌, ◌-◌, ◌≤◌, max, Bool, true, false, List, [], ◌∷◌, ◌++◌, Option, None, Some, option_map}
+use Rattle.std.proofs.Common.{find, cond, arith, refl, ap, ◌∙◌}
 use Rattle.std.specs.List.{list_any}
 use Rattle.std.specs.Option.{option_or}
 use Rattle.std.proofs.lemmas.List.Folds.{find-append}
@@ -25,7 +26,8 @@ end_push frames new = ap (option_map to_of) (find-append is_last frames (new ∷
     by_test true = refl
     by_test false = refl
 
-    by_found : (o : Option Frame) → option_map to_of (option_or o (cond (is_last new) (Some new) None)) ≡ end_with new (option_map to_of o)
+    by_found : (o : Option Frame) → option_map to_of (option_or o (cond (is_last new) (Some new) None))
+        ≡ end_with new (option_map to_of o)
     by_found None = by_test (is_last new)
     by_found (Some last) = refl
 
@@ -45,7 +47,8 @@ kept_most frames extent kept =
     omega (arith, counted, filled-most frames kept.held)
 
 -- one more frame, which conflicts with none
-pub kept_push : (frames : List Frame) (new : Frame) (extent : Extent) → AreKept frames extent → takes_part new ≡ true → list_any (conflicts new) frames ≡ false → AreKept (frames ++ new ∷ []) (extended new extent)
+pub kept_push : (frames : List Frame) (new : Frame) (extent : Extent) → AreKept frames extent → takes_part new ≡ true
+    → list_any (conflicts new) frames ≡ false → AreKept (frames ++ new ∷ []) (extended new extent)
 kept_push frames new extent kept taken none = record {
   held = held_push frames new kept.held taken none;
   counted = ap (extended new) kept.counted ∙ extent_push frames new;

@@ -1,10 +1,13 @@
 -- The marks of a datagram's units: what one says, and what is marked for one more frame.
-use Rattle.std.proofs.Common.{◌≡◌, ℕ, zero, suc, ◌+◌, ◌-◌, ◌*◌, ◌/◌, ◌<◌, ◌≤◌, max, min, Bool, true, false, ◌||◌, List, [], ◌∷◌, ◌++◌, length, take, drop, replicate, get_or, find, nat_lt, cond, None, Some, arith, refl, ap, sym, subst, ◌∙◌, inl, inr, length-append, length-drop}
+use Rattle.std.proofs.Common.{◌≡◌, ℕ, zero, suc, ◌+◌, ◌-◌, ◌*◌, ◌/◌, ◌<◌, ◌≤◌, max, min, Bool, true, false, ◌||◌, List, [], ◌∷◌}
+use Rattle.std.proofs.Common.{◌++◌, length, take, drop, replicate, get_or, find, nat_lt, cond, None, Some, arith, refl, ap, sym}
+use Rattle.std.proofs.Common.{subst, ◌∙◌, inl, inr, length-append, length-drop}
 use Rattle.std.proofs.lemmas.Bool.{cases_lt, or_parts, ltb-true, ltb-false}
 use Rattle.std.proofs.lemmas.Bool.Decides.{nat_tests}
 use Rattle.std.proofs.Math.ListN.{drop_of_length-le}
 use Rattle.std.proofs.Math.Seq.{take-length}
-use Rattle.std.proofs.lemmas.List.{append-nil, get_or_append_left, get_or-append_right, get_or-drop, get_or-replicate, get_or-take, length-replicate, length-take, length-take-le, take_more}
+use Rattle.std.proofs.lemmas.List.{append-nil, get_or_append_left, get_or-append_right, get_or-drop, get_or-replicate}
+use Rattle.std.proofs.lemmas.List.{get_or-take, length-replicate, length-take, length-take-le, take_more}
 use Rattle.std.proofs.lemmas.Option.{same_Some, none-some}
 use Rattle.frame_view.specs.declared.frames.Frame.{Frame}
 use Rattle.ip_defrag.specs.Datagrams.{covers, is_covered}
@@ -38,7 +41,8 @@ not_held : (before : ℕ) (frames : List Frame) (place : ℕ) → holder before 
 not_held before [] place none = refl
 not_held before (frame ∷ frames) place none = by_test (covers frame place) (not_held (before + 1) frames place) none
   where
-    by_test : (b : Bool) → (holder (before + 1) frames place ≡ 0 → is_covered frames place ≡ false) → cond b (before + 1) (holder (before + 1) frames place) ≡ 0
+    by_test : (b : Bool) → (holder (before + 1) frames place ≡ 0 → is_covered frames place ≡ false)
+        → cond b (before + 1) (holder (before + 1) frames place) ≡ 0
         → (b || is_covered frames place) ≡ false
     by_test true rest none = absurd (omega (arith, none))
     by_test false rest none = rest none
@@ -48,11 +52,14 @@ pub record Holds (before : ℕ) (frames : List Frame) (place mark : ℕ) : Type 
   pub within : mark - 1 - before < length frames
   pub covers_it : (d : Frame) → covers (get_or frames (mark - 1 - before) d) place ≡ true
 
-holds : (before : ℕ) (frames : List Frame) (place mark : ℕ) → holder before frames place ≡ mark → 0 < mark → Holds before frames place mark
+holds : (before : ℕ) (frames : List Frame) (place mark : ℕ) → holder before frames place ≡ mark → 0 < mark
+    → Holds before frames place mark
 holds before [] place mark is some = absurd (omega (arith, is, some))
-holds before (frame ∷ frames) place mark is some = by_test (covers frame place) refl (λ rest. holds (before + 1) frames place mark rest some) is
+holds before (frame ∷ frames) place mark is some =
+    by_test (covers frame place) refl (λ rest. holds (before + 1) frames place mark rest some) is
   where
-    by_test : (b : Bool) → covers frame place ≡ b → (holder (before + 1) frames place ≡ mark → Holds (before + 1) frames place mark)
+    by_test : (b : Bool) → covers frame place ≡ b
+        → (holder (before + 1) frames place ≡ mark → Holds (before + 1) frames place mark)
         → cond b (before + 1) (holder (before + 1) frames place) ≡ mark → Holds before (frame ∷ frames) place mark
     by_test true here rest is =
         let first : mark - 1 - before ≡ 0 = omega (arith, is) in
@@ -65,11 +72,14 @@ holds before (frame ∷ frames) place mark is some = by_test (covers frame place
         record { after = omega (arith, after); within = omega (arith, next, within); covers_it = λ d. rw next (h.covers_it d) }
 
 -- one more frame
-holder_other : (before : ℕ) (frames : List Frame) (new : Frame) (place : ℕ) → covers new place ≡ false → holder before (frames ++ new ∷ []) place ≡ holder before frames place
+holder_other : (before : ℕ) (frames : List Frame) (new : Frame) (place : ℕ) → covers new place ≡ false
+    → holder before (frames ++ new ∷ []) place ≡ holder before frames place
 holder_other before [] new place there = rw there refl
-holder_other before (frame ∷ frames) new place there = ap (cond (covers frame place) (before + 1)) (holder_other (before + 1) frames new place there)
+holder_other before (frame ∷ frames) new place there =
+    ap (cond (covers frame place) (before + 1)) (holder_other (before + 1) frames new place there)
 
-holder_new : (before : ℕ) (frames : List Frame) (new : Frame) (place : ℕ) → is_covered frames place ≡ false → covers new place ≡ true → holder before (frames ++ new ∷ []) place ≡ before + length frames + 1
+holder_new : (before : ℕ) (frames : List Frame) (new : Frame) (place : ℕ) → is_covered frames place ≡ false
+    → covers new place ≡ true → holder before (frames ++ new ∷ []) place ≡ before + length frames + 1
 holder_new before [] new place none here = rw here (omega arith)
 holder_new before (frame ∷ frames) new place none here =
     let parts = or_parts (covers frame place) (is_covered frames place) none in
@@ -80,7 +90,8 @@ reach_more [] new = omega arith
 reach_more (frame ∷ frames) new = let rest = reach_more frames new in omega (arith, rest)
 
 -- marks of units that nobody has
-pub wider : (marks : List ℕ) (frames : List Frame) (more : ℕ) → AreMarks marks frames → AreMarks (marks ++ replicate more 0) frames
+pub wider : (marks : List ℕ) (frames : List Frame) (more : ℕ) → AreMarks marks frames
+    → AreMarks (marks ++ replicate more 0) frames
 wider marks frames more are =
     let all = length-append marks (replicate more 0) in
     let count = length-replicate {A = ℕ} more 0 in
@@ -100,7 +111,8 @@ pub marks_none : AreMarks [] []
 marks_none = record { each = λ unit within. absurd (omega (arith, within)); all = omega arith }
 
 -- a number at each unit in which one more frame has places
-pub length-marked : (marks : List ℕ) (first last number : ℕ) → first ≤ last → last ≤ length marks → length (marked first last number marks) ≡ length marks
+pub length-marked : (marks : List ℕ) (first last number : ℕ) → first ≤ last → last ≤ length marks
+    → length (marked first last number marks) ≡ length marks
 length-marked marks first last number order within =
     let front = length-take-le first marks (omega (arith, order, within)) in
     let own = length-replicate {A = ℕ} (last - first) number in
@@ -109,7 +121,8 @@ length-marked marks first last number order within =
     let two = length-append (replicate (last - first) number) (drop last marks) in
     omega (arith, front, own, rest, all, two, order, within)
 
-pub marks_push : (marks : List ℕ) (frames : List Frame) (new : Frame) (first last : ℕ) → AreMarks marks frames → AreHeld (frames ++ new ∷ [])
+pub marks_push : (marks : List ℕ) (frames : List Frame) (new : Frame) (first last : ℕ) → AreMarks marks frames
+    → AreHeld (frames ++ new ∷ [])
     → 8 * first ≡ from_of new → from_of new < to_of new → to_of new ≤ 8 * last → 8 * last < to_of new + 8 → last ≤ length marks
     → AreMarks (marked first last (length frames + 1) marks) (frames ++ new ∷ [])
 marks_push marks frames new first last are held begins some ends tight within = record { each = each; all = all }
@@ -132,39 +145,50 @@ marks_push marks frames new first last are held begins some ends tight within = 
     own : length (replicate {A = ℕ} (last - first) (length frames + 1)) ≡ last - first
     own = length-replicate {A = ℕ} (last - first) (length frames + 1)
 
-    at_front : (unit : ℕ) → unit < first → get_or (marked first last (length frames + 1) marks) unit 0 ≡ holder 0 (frames ++ new ∷ []) (8 * unit)
+    at_front : (unit : ℕ) → unit < first → get_or (marked first last (length frames + 1) marks) unit 0
+        ≡ holder 0 (frames ++ new ∷ []) (8 * unit)
     at_front unit h =
         let there : covers new (8 * unit) ≡ false = grind (arith, nat_tests) in
-        get_or_append_left (take first marks) (replicate (last - first) (length frames + 1) ++ drop last marks) 0 unit (omega (arith, front, h))
+        get_or_append_left (take first marks) (replicate (last - first) (length frames + 1) ++ drop last marks) 0 unit
+        (omega (arith, front, h))
         ∙ get_or-take first marks unit 0 h
         ∙ are.each unit (omega (arith, order, within, h))
         ∙ sym (holder_other 0 frames new (8 * unit) there)
 
-    at_own : (unit : ℕ) → first ≤ unit → unit < last → get_or (marked first last (length frames + 1) marks) unit 0 ≡ holder 0 (frames ++ new ∷ []) (8 * unit)
+    at_own : (unit : ℕ) → first ≤ unit → unit < last
+        → get_or (marked first last (length frames + 1) marks) unit 0 ≡ holder 0 (frames ++ new ∷ []) (8 * unit)
     at_own unit low high =
         let here : covers new (8 * unit) ≡ true = grind (arith, nat_tests) in
         let whole : 0 + length frames + 1 ≡ length frames + 1 = omega arith in
-        get_or-append_right (take first marks) (replicate (last - first) (length frames + 1) ++ drop last marks) first unit 0 front low
-        ∙ get_or_append_left (replicate (last - first) (length frames + 1)) (drop last marks) 0 (unit - first) (omega (arith, own, low, high))
+        get_or-append_right (take first marks) (replicate (last - first) (length frames + 1) ++ drop last marks) first
+        unit 0 front low
+        ∙ get_or_append_left (replicate (last - first) (length frames + 1)) (drop last marks) 0 (unit - first)
+        (omega (arith, own, low, high))
         ∙ get_or-replicate (last - first) (unit - first) (length frames + 1) 0 (omega (arith, low, high))
         ∙ sym (holder_new 0 frames new (8 * unit) (last_alone frames new (8 * unit) held here) here ∙ whole)
 
-    at_back : (unit : ℕ) → last ≤ unit → unit < length marks → get_or (marked first last (length frames + 1) marks) unit 0 ≡ holder 0 (frames ++ new ∷ []) (8 * unit)
+    at_back : (unit : ℕ) → last ≤ unit → unit < length marks
+        → get_or (marked first last (length frames + 1) marks) unit 0 ≡ holder 0 (frames ++ new ∷ []) (8 * unit)
     at_back unit low high =
         let there : covers new (8 * unit) ≡ false = grind (arith, nat_tests) in
         let place : last + (unit - first - (last - first)) ≡ unit = omega (arith, order, low) in
-        get_or-append_right (take first marks) (replicate (last - first) (length frames + 1) ++ drop last marks) first unit 0 front (omega (arith, order, low))
-        ∙ get_or-append_right (replicate (last - first) (length frames + 1)) (drop last marks) (last - first) (unit - first) 0 own (omega (arith, order, low))
+        get_or-append_right (take first marks) (replicate (last - first) (length frames + 1) ++ drop last marks) first unit 0
+        front (omega (arith, order, low))
+        ∙ get_or-append_right (replicate (last - first) (length frames + 1)) (drop last marks) (last - first) (unit - first) 0
+        own (omega (arith, order, low))
         ∙ get_or-drop last marks (unit - first - (last - first)) 0
         ∙ ap (λ (j : ℕ). get_or marks j 0) place
         ∙ are.each unit high
         ∙ sym (holder_other 0 frames new (8 * unit) there)
 
-    each : (unit : ℕ) → unit < length (marked first last (length frames + 1) marks) → get_or (marked first last (length frames + 1) marks) unit 0 ≡ holder 0 (frames ++ new ∷ []) (8 * unit)
+    each : (unit : ℕ) → unit < length (marked first last (length frames + 1) marks)
+        → get_or (marked first last (length frames + 1) marks) unit 0 ≡ holder 0 (frames ++ new ∷ []) (8 * unit)
     each unit h =
         elim (cases_lt unit first) [
           | inl before ↦ at_front unit before
-          | inr after ↦ elim (cases_lt unit last) [ inl inside ↦ at_own unit after inside | inr behind ↦ at_back unit behind (omega (arith, h, same)) ]
+          | inr after ↦
+              elim (cases_lt unit last)
+              [ inl inside ↦ at_own unit after inside | inr behind ↦ at_back unit behind (omega (arith, h, same)) ]
         ]
 
 -- what is found among some marks
@@ -189,7 +213,8 @@ found_mark (first ∷ marks) mark e = by_test (nat_lt 0 first) refl (λ rest. fo
         let within = f.within in
         record { unit = suc f.unit; within = omega (arith, within); is = f.is; some = f.some }
 
-no_mark : (marks : List ℕ) → find (λ mark. nat_lt 0 mark) marks ≡ None → (unit : ℕ) → unit < length marks → get_or marks unit 0 ≡ 0
+no_mark : (marks : List ℕ) → find (λ mark. nat_lt 0 mark) marks ≡ None → (unit : ℕ) → unit < length marks
+    → get_or marks unit 0 ≡ 0
 no_mark [] e unit h = absurd (omega arith)
 no_mark (first ∷ marks) e unit h = by_test (nat_lt 0 first) refl e (λ rest unit h. no_mark marks rest unit h) unit h
   where
@@ -218,7 +243,8 @@ length-own marks frame unit h =
     (omega (arith, cut, rest, h), omega (arith, cut, rest, h))
 
 -- if no unit of a frame is marked, none of its places is held at a unit's first place
-pub none_met : (marks : List ℕ) (frames : List Frame) (new : Frame) (unit : ℕ) → AreMarks marks frames → find (λ mark. nat_lt 0 mark) (own_marks new marks) ≡ None
+pub none_met : (marks : List ℕ) (frames : List Frame) (new : Frame) (unit : ℕ) → AreMarks marks frames
+    → find (λ mark. nat_lt 0 mark) (own_marks new marks) ≡ None
     → from_of new ≤ 8 * unit → 8 * unit < to_of new → is_covered frames (8 * unit) ≡ false
 none_met marks frames new unit are none low high =
     let begins = unit_of_from new in
@@ -228,7 +254,8 @@ none_met marks frames new unit are none low high =
           let last : unit < units_to (to_of new) = omega (arith, high) in
           let cut = length-take (units_to (to_of new) - from_of new / 8) (drop (from_of new / 8) marks) in
           let rest = length-drop (from_of new / 8) marks in
-          let zero = no_mark (own_marks new marks) none (unit - from_of new / 8) (omega (arith, cut, rest, first, last, within)) in
+          let zero = no_mark (own_marks new marks) none (unit - from_of new / 8)
+          (omega (arith, cut, rest, first, last, within)) in
           not_held 0 frames (8 * unit) (sym (are.each unit within) ∙ sym (own_mark marks new unit first last) ∙ zero)
       | inr past ↦ let reach = are.all in past_reach frames (8 * unit) (omega (arith, past, reach))
     ]
@@ -242,7 +269,8 @@ pub record IsMet (frames : List Frame) (new : Frame) (mark : ℕ) : Type 0 where
   pub high : 8 * unit < to_of new
   pub covers_it : (d : Frame) → covers (get_or frames (mark - 1) d) (8 * unit) ≡ true
 
-pub one_met : (marks : List ℕ) (frames : List Frame) (new : Frame) (mark : ℕ) → AreMarks marks frames → find (λ mark. nat_lt 0 mark) (own_marks new marks) ≡ Some mark → IsMet frames new mark
+pub one_met : (marks : List ℕ) (frames : List Frame) (new : Frame) (mark : ℕ) → AreMarks marks frames
+    → find (λ mark. nat_lt 0 mark) (own_marks new marks) ≡ Some mark → IsMet frames new mark
 one_met marks frames new mark are e =
     let f = found_mark (own_marks new marks) mark e in
     let begins = unit_of_from new in
@@ -272,19 +300,23 @@ take_min (suc count) (x ∷ xs) =
     let next : min (suc count) (suc (length xs)) ≡ suc (min count (length xs)) = omega arith in
     rw next (ap (λ (rest : List ℕ). x ∷ rest) (take_min count xs))
 
-pub own_read : (marks rest own : List ℕ) (frame : Frame) (from to units count : ℕ) → from ≡ from_of frame → to ≡ to_of frame → units ≡ units_to to
-    → rest ≡ drop (from / 8) marks → count ≡ min (units - from / 8) (length rest) → own ≡ take count rest → own ≡ own_marks frame marks
+pub own_read : (marks rest own : List ℕ) (frame : Frame) (from to units count : ℕ) → from ≡ from_of frame → to ≡ to_of frame
+    → units ≡ units_to to
+    → rest ≡ drop (from / 8) marks → count ≡ min (units - from / 8) (length rest) → own ≡ take count rest
+    → own ≡ own_marks frame marks
 own_read marks rest own frame from to units count begins ends all behind fewer front =
     front ∙ ap (λ (n : ℕ). take n rest) fewer ∙ take_min (units - from / 8) rest
     ∙ cc (begins, ends, all, behind)
 
 -- the marks after one more frame was marked, if they were made wide enough
-lent : (count : ℕ) (new old : List ℕ) → length new ≡ count → length old ≡ count → take count (new ++ drop (length new) old) ≡ new
+lent : (count : ℕ) (new old : List ℕ) → length new ≡ count → length old ≡ count
+    → take count (new ++ drop (length new) old) ≡ new
 lent count new old whole same =
     let none : drop (length new) old ≡ [] = drop_of_length-le old (omega arith) in
     rw (none, append-nil) (ap (λ (n : ℕ). take n new) (sym whole) ∙ take-length new)
 
-pub marks_after : (marks wide new_marks : List ℕ) (frames : List Frame) (new : Frame) (from to last number len : ℕ) → AreMarks marks frames → AreHeld (frames ++ new ∷ [])
+pub marks_after : (marks wide new_marks : List ℕ) (frames : List Frame) (new : Frame) (from to last number len : ℕ)
+    → AreMarks marks frames → AreHeld (frames ++ new ∷ [])
     → from_of new < to_of new → from ≡ from_of new → to ≡ to_of new → last ≡ units_to to → number ≡ length frames + 1
     → wide ≡ marks ++ replicate (last - length marks) 0 → length wide ≡ len → new_marks ≡ marked (from / 8) last number wide
     → AreMarks (take len (new_marks ++ drop (length new_marks) wide)) (frames ++ new ∷ [])
@@ -298,7 +330,8 @@ marks_after marks wide new_marks frames new from to last number len are held som
     let whole = ap length padded in
     let within : last ≤ length wide = omega (arith, long, zeros, whole) in
     let order : from / 8 ≤ last = omega (arith, start, some, end) in
-    let wide_are : AreMarks wide frames = subst (λ (ms : List ℕ). AreMarks ms frames) (sym padded) (wider marks frames (last - length marks) are) in
+    let wide_are : AreMarks wide frames =
+    subst (λ (ms : List ℕ). AreMarks ms frames) (sym padded) (wider marks frames (last - length marks) are) in
     let after = marks_push wide frames new (from / 8) last wide_are held start some end tight within in
     let as_long : length new_marks ≡ len = ap length is ∙ length-marked wide (from / 8) last number order within ∙ same in
     subst (λ (ms : List ℕ). AreMarks ms (frames ++ new ∷ []))
@@ -312,12 +345,15 @@ marked_none marks frames none few = record {
 }
 
 -- the same marks, of one more frame
-take_before : (count : ℕ) (frames : List Frame) (new : Frame) → count ≤ length frames → take count (frames ++ new ∷ []) ≡ take count frames
+take_before : (count : ℕ) (frames : List Frame) (new : Frame) → count ≤ length frames
+    → take count (frames ++ new ∷ []) ≡ take count frames
 take_before zero frames new few = refl
 take_before (suc count) [] new few = absurd (omega (arith, few))
-take_before (suc count) (frame ∷ frames) new few = ap (λ (fs : List Frame). frame ∷ fs) (take_before count frames new (omega (arith, few)))
+take_before (suc count) (frame ∷ frames) new few =
+    ap (λ (fs : List Frame). frame ∷ fs) (take_before count frames new (omega (arith, few)))
 
-pub marked_more : (marks : Marks) (frames : List Frame) (new : Frame) → AreMarked marks frames → AreMarked marks (frames ++ new ∷ [])
+pub marked_more : (marks : Marks) (frames : List Frame) (new : Frame) → AreMarked marks frames
+    → AreMarked marks (frames ++ new ∷ [])
 marked_more marks frames new are =
     let few = are.few in
     let all = length-append frames (new ∷ []) in
@@ -327,9 +363,12 @@ marked_more marks frames new are =
     }
 
 -- the marks after the next frame was marked
-pub marked_next : (marks : Marks) (wide new_marks : List ℕ) (frames : List Frame) (new : Frame) (from to last len : ℕ) → AreMarked marks frames → AreHeld frames
-    → marks.count < length frames → new ≡ get_or frames marks.count new → from_of new < to_of new → from ≡ from_of new → to ≡ to_of new → last ≡ units_to to
-    → wide ≡ marks.units.items ++ replicate (last - length marks.units.items) 0 → length wide ≡ len → new_marks ≡ marked (from / 8) last (marks.count + 1) wide
+pub marked_next : (marks : Marks) (wide new_marks : List ℕ) (frames : List Frame) (new : Frame) (from to last len : ℕ)
+    → AreMarked marks frames → AreHeld frames
+    → marks.count < length frames → new ≡ get_or frames marks.count new → from_of new < to_of new → from ≡ from_of new
+    → to ≡ to_of new → last ≡ units_to to
+    → wide ≡ marks.units.items ++ replicate (last - length marks.units.items) 0 → length wide ≡ len
+    → new_marks ≡ marked (from / 8) last (marks.count + 1) wide
     → AreMarks (take len (new_marks ++ drop (length new_marks) wide)) (take (marks.count + 1) frames)
 marked_next marks wide new_marks frames new from to last len are held below is some begins ends all padded same made =
     let before = take marks.count frames in
@@ -339,4 +378,5 @@ marked_next marks wide new_marks frames new from to last len are held below is s
     take_more frames marks.count new below ∙ ap (λ (f : Frame). before ++ f ∷ []) (sym is) in
     let these : AreHeld (before ++ new ∷ []) = subst AreHeld more (held_take frames (marks.count + 1) held) in
     let number : marks.count + 1 ≡ length before + 1 = omega (arith, as_many) in
-    rw more (marks_after marks.units.items wide new_marks before new from to last (marks.count + 1) len are.are these some begins ends all number padded same made)
+    rw more (marks_after marks.units.items wide new_marks before new from to last (marks.count + 1) len are.are these some
+    begins ends all number padded same made)

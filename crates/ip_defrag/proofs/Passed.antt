@@ -1,5 +1,7 @@
 -- A fragment's pass does to the groups what it does to the flat list.
-use Rattle.std.proofs.Common.{◌≡◌, ℕ, zero, suc, ◌+◌, ◌-◌, ◌<◌, ◌≤◌, Bool, true, false, not, ◌&&◌, ◌||◌, nat_eq, List, [], ◌∷◌, ◌++◌, length, length-append, map, filter, set, get_or, Option, None, Some, cond, if◌then◌else◌, arith, refl, ap, ◌∙◌, sym, subst}
+use Rattle.std.proofs.Common.{◌≡◌, ℕ, zero, suc, ◌+◌, ◌-◌, ◌<◌, ◌≤◌, Bool, true, false, not, ◌&&◌, ◌||◌, nat_eq, List, [], ◌∷◌}
+use Rattle.std.proofs.Common.{◌++◌, length, length-append, map, filter, set, get_or, Option, None, Some, cond, if◌then◌else◌}
+use Rattle.std.proofs.Common.{arith, refl, ap, ◌∙◌, sym, subst}
 use Rattle.std.specs.List.{list_any, remove, position_from}
 use Rattle.std.proofs.lemmas.List.{length-map, append-nil, length-set}
 use Rattle.std.proofs.lemmas.List.Elements.{filter-append}
@@ -11,16 +13,21 @@ use Rattle.std.proofs.lemmas.Option.{same_Some, none-some}
 use Rattle.frame_view.specs.declared.frames.Frame.{Frame}
 use Rattle.ip_defrag.specs.Fragments.{takes_part, name_of, from_of, to_of, is_last}
 use Rattle.ip_defrag.specs.Datagrams.{completed, completed_at}
-use Rattle.ip_defrag.specs.Fold.{same_name, is_named, of_name, without, without_first, names_of, is_stale, fresh, with_room, kept_for, most_names, is_copy, conflicts, Passed, join_by, judge, pass}
-use Rattle.ip_defrag.specs.Grouped.{Group, group_of, groups, has_name, is_fresh, is_live, with_frame, updated, opened_by, with_place, after_opening, Agrees, joined, joined_by, held_by, joined_whole, completed_with, judgement}
+use Rattle.ip_defrag.specs.Fold.{same_name, is_named, of_name, without, without_first, names_of, is_stale, fresh, with_room}
+use Rattle.ip_defrag.specs.Fold.{kept_for, most_names, is_copy, conflicts, Passed, join_by, judge, pass}
+use Rattle.ip_defrag.specs.Grouped.{Group, group_of, groups, has_name, is_fresh, is_live, with_frame, updated, opened_by}
+use Rattle.ip_defrag.specs.Grouped.{with_place, after_opening, Agrees, joined, joined_by, held_by, joined_whole, completed_with}
+use Rattle.ip_defrag.specs.Grouped.{judgement}
 use Rattle.ip_defrag.specs.declared.rules.Judgement.{Judgement}
 use Rattle.ip_defrag.specs.declared.rules.Judgement.TheVariants.{Copy, Conflict, Fits}
 use Rattle.ip_defrag.specs.Held.{filled}
 use Rattle.ip_defrag.specs.declared.names.Name.{Name}
 use Rattle.ip_defrag.proofs.Completed.{not_completed}
 use Rattle.ip_defrag.proofs.Covers.{has_data}
-use Rattle.ip_defrag.proofs.Groups.{same_name_refl, same_name_is, differs, by_name, by_group, filter_twice, of_name_filter, groups_filter}
-use Rattle.ip_defrag.proofs.Pushed.{none_filter, none_named, filter-map, any_groups, groups_push_old, groups_push_new, groups_distinct, groups-cons, remove_is, set_is}
+use Rattle.ip_defrag.proofs.Groups.{same_name_refl, same_name_is, differs, by_name, by_group, filter_twice, of_name_filter}
+use Rattle.ip_defrag.proofs.Groups.{groups_filter}
+use Rattle.ip_defrag.proofs.Pushed.{none_filter, none_named, filter-map, any_groups, groups_push_old, groups_push_new}
+use Rattle.ip_defrag.proofs.Pushed.{groups_distinct, groups-cons, remove_is, set_is}
 use Rattle.ip_defrag.proofs.Taken.{begins_later}
 
 -- whether the name of some held frames isn't stale
@@ -46,13 +53,17 @@ any_filter : {X : Type 0} (p q : X → Bool) (xs : List X) → list_any p (filte
 any_filter p q [] = refl
 any_filter {X} p q (x ∷ xs) = by_test (q x) refl (any_filter p q xs)
   where
-    by_test : (b : Bool) → q x ≡ b → list_any p (filter q xs) ≡ list_any (λ y. p y && q y) xs → list_any p (cond (q x) (x ∷ filter q xs) (filter q xs)) ≡ ((p x && q x) || list_any (λ y. p y && q y) xs)
+    by_test : (b : Bool) → q x ≡ b → list_any p (filter q xs) ≡ list_any (λ y. p y && q y) xs
+        → list_any p (cond (q x) (x ∷ filter q xs) (filter q xs)) ≡ ((p x && q x) || list_any (λ y. p y && q y) xs)
     by_test true e rest = let here = and_true (p x) in simp e (cc (here, rest))
-    by_test false e rest = let here = and_false (p x) in simp e (rest ∙ ap (λ (b : Bool). b || list_any (λ y. p y && q y) xs) (sym here))
+    by_test false e rest = let here = and_false (p x) in
+        simp e (rest ∙ ap (λ (b : Bool). b || list_any (λ y. p y && q y) xs) (sym here))
 
-live_fresh : (name : Name) (now : ℕ) (held : List Frame) → list_any (is_live name now) (groups held) ≡ list_any (is_named name) (fresh now held)
+live_fresh : (name : Name) (now : ℕ) (held : List Frame)
+    → list_any (is_live name now) (groups held) ≡ list_any (is_named name) (fresh now held)
 live_fresh name now held =
-    sym (any_filter (has_name name) (is_fresh now) (groups held)) ∙ ap (list_any (has_name name)) (sym (groups_fresh now held)) ∙ any_groups name (fresh now held)
+    sym (any_filter (has_name name) (is_fresh now) (groups held)) ∙ ap (list_any (has_name name)) (sym (groups_fresh now held))
+    ∙ any_groups name (fresh now held)
 
 -- a fragment alone isn't a datagram
 alone : (frame : Frame) → takes_part frame ≡ true → completed (frame ∷ []) frame ≡ None
@@ -69,16 +80,19 @@ alone frame taken = by_test (is_last frame) refl
         not_completed (frame ∷ []) frame frame (taken, refl, tt) (ap (λ (b : Bool). cond b (Some frame) None) e) counted
 
 -- a group is that of its name
-group_in : (held : List Frame) (names : List Name) (at : ℕ) (d : Group) → at < length (map (group_of held) names) → get_or (map (group_of held) names) at d ≡ group_of held (get_or (map (group_of held) names) at d).name
+group_in : (held : List Frame) (names : List Name) (at : ℕ) (d : Group) → at < length (map (group_of held) names)
+    → get_or (map (group_of held) names) at d ≡ group_of held (get_or (map (group_of held) names) at d).name
 group_in held [] at d h = absurd (omega arith)
 group_in held (name ∷ names) zero d h = refl
 group_in held (name ∷ names) (suc at) d h = group_in held names at d (omega arith)
 
-group_at : (held : List Frame) (at : ℕ) (d : Group) → at < length (groups held) → get_or (groups held) at d ≡ group_of held (get_or (groups held) at d).name
+group_at : (held : List Frame) (at : ℕ) (d : Group) → at < length (groups held)
+    → get_or (groups held) at d ≡ group_of held (get_or (groups held) at d).name
 unfolding groups
 group_at held at d h = group_in held (names_of held) at d h
 
-pass_taken : (held : List Frame) (frame : Frame) → takes_part frame ≡ true → pass held frame ≡ judge frame (kept_for frame held) (length held - length (kept_for frame held))
+pass_taken : (held : List Frame) (frame : Frame) → takes_part frame ≡ true
+    → pass held frame ≡ judge frame (kept_for frame held) (length held - length (kept_for frame held))
 unfolding pass
 pass_taken held frame taken = simp taken
 
@@ -87,30 +101,40 @@ unfolding groups
 length_groups held = length-map (names_of held) (group_of held)
 
 -- the groups if the name is a new one: as many as are allowed, or one fewer
-groups_without_first : (held : List Frame) → length (groups held) ≡ most_names → groups (without_first held) ≡ remove (groups held) 0
+groups_without_first : (held : List Frame) → length (groups held) ≡ most_names
+    → groups (without_first held) ≡ remove (groups held) 0
 groups_without_first [] many = absurd (omega (arith, length_groups []))
 groups_without_first (frame ∷ held) many =
-    let first : get_or (groups (frame ∷ held)) 0 (group_of (frame ∷ held) (name_of frame)) ≡ group_of (frame ∷ held) (name_of frame) = ap (λ (gs : List Group). get_or gs 0 (group_of (frame ∷ held) (name_of frame))) (groups-cons frame held) in
+    let first : get_or (groups (frame ∷ held)) 0 (group_of (frame ∷ held) (name_of frame))
+    ≡ group_of (frame ∷ held) (name_of frame) =
+    ap (λ (gs : List Group). get_or gs 0 (group_of (frame ∷ held) (name_of frame))) (groups-cons frame held) in
     groups_filter (differs (name_of frame)) (frame ∷ held)
-    ∙ sym (remove_is (groups (frame ∷ held)) 0 (group_of (frame ∷ held) (name_of frame)) (groups_distinct (frame ∷ held)) (omega arith)
+    ∙ sym (remove_is (groups (frame ∷ held)) 0 (group_of (frame ∷ held) (name_of frame))
+    (groups_distinct (frame ∷ held)) (omega arith)
     ∙ ap (λ (g : Group). filter (by_group (differs g.name)) (groups (frame ∷ held))) first)
 
-groups_with_room : (name : Name) (held : List Frame) → list_any (is_named name) held ≡ false → groups (with_room name held) ≡ with_place (groups held)
+groups_with_room : (name : Name) (held : List Frame) → list_any (is_named name) held ≡ false
+    → groups (with_room name held) ≡ with_place (groups held)
 groups_with_room name held none = by_test (nat_eq (length (names_of held)) most_names) refl
   where
     many : length (groups held) ≡ length (names_of held)
     many = length_groups held
 
-    by_test : (b : Bool) → nat_eq (length (names_of held)) most_names ≡ b → groups (cond (not (list_any (is_named name) held) && nat_eq (length (names_of held)) most_names) (without_first held) held) ≡ cond (nat_eq (length (groups held)) most_names) (remove (groups held) 0) (groups held)
+    by_test : (b : Bool) → nat_eq (length (names_of held)) most_names ≡ b
+        → groups (cond (not (list_any (is_named name) held) && nat_eq (length (names_of held)) most_names) (without_first held)
+        held) ≡ cond (nat_eq (length (groups held)) most_names) (remove (groups held) 0) (groups held)
     by_test true e = simp (none, many, e) (groups_without_first held (many ∙ eqb-true _ _ e))
     by_test false e = simp (none, many, e)
 
 -- no frame of a name that isn't there is there afterwards
-none_without_first : (name : Name) (held : List Frame) → list_any (is_named name) held ≡ false → list_any (is_named name) (without_first held) ≡ false
+none_without_first : (name : Name) (held : List Frame) → list_any (is_named name) held ≡ false
+    → list_any (is_named name) (without_first held) ≡ false
 none_without_first name [] none = refl
-none_without_first name (frame ∷ held) none = none_filter (is_named name) (λ f. not (is_named (name_of frame) f)) (frame ∷ held) none
+none_without_first name (frame ∷ held) none =
+    none_filter (is_named name) (λ f. not (is_named (name_of frame) f)) (frame ∷ held) none
 
-none_with_room : (name : Name) (held : List Frame) → list_any (is_named name) held ≡ false → list_any (is_named name) (with_room name held) ≡ false
+none_with_room : (name : Name) (held : List Frame) → list_any (is_named name) held ≡ false
+    → list_any (is_named name) (with_room name held) ≡ false
 none_with_room name held none = by_test (not (list_any (is_named name) held) && nat_eq (length (names_of held)) most_names)
   where
     by_test : (b : Bool) → list_any (is_named name) (cond b (without_first held) held) ≡ false
@@ -139,7 +163,9 @@ length_kept frame held =
     omega arith
 
 -- a new name's frame among those that are kept: the judgement finds nothing, and it is held
-judge_new : (frame : Frame) (kept : List Frame) (gone : ℕ) → takes_part frame ≡ true → list_any (is_named (name_of frame)) kept ≡ false → judge frame kept gone ≡ record { held = kept ++ frame ∷ []; whole = None; discarded = gone }
+judge_new : (frame : Frame) (kept : List Frame) (gone : ℕ) → takes_part frame ≡ true
+    → list_any (is_named (name_of frame)) kept ≡ false
+    → judge frame kept gone ≡ record { held = kept ++ frame ∷ []; whole = None; discarded = gone }
 judge_new frame kept gone taken none =
     simp empty (simp (mine, alone frame taken))
   where
@@ -149,9 +175,13 @@ judge_new frame kept gone taken none =
     mine : of_name (name_of frame) (kept ++ frame ∷ []) ≡ frame ∷ []
     mine = filter-append (is_named (name_of frame)) kept (frame ∷ []) ∙ simp (empty, same_name_refl (name_of frame))
 
-pub opens : (held : List Frame) (frame : Frame) → takes_part frame ≡ true → list_any (is_live (name_of frame) frame.sec) (groups held) ≡ false → Agrees (pass held frame) (length held) (after_opening frame (groups held)) None 0
+pub opens : (held : List Frame) (frame : Frame) → takes_part frame ≡ true
+    → list_any (is_live (name_of frame) frame.sec) (groups held) ≡ false
+    → Agrees (pass held frame) (length held) (after_opening frame (groups held)) None 0
 unfolding after_opening kept_for
-opens held frame taken none = subst (λ (p : Passed). Agrees p (length held) (after_opening frame (groups held)) None 0) (sym is) (record { left_is = left; whole_is = refl; counted = count })
+opens held frame taken none =
+    subst (λ (p : Passed). Agrees p (length held) (after_opening frame (groups held)) None 0) (sym is)
+    (record { left_is = left; whole_is = refl; counted = count })
   where
     none_fresh : list_any (is_named (name_of frame)) (fresh frame.sec held) ≡ false
     none_fresh = sym (live_fresh (name_of frame) frame.sec held) ∙ none
@@ -162,12 +192,18 @@ opens held frame taken none = subst (λ (p : Passed). Agrees p (length held) (af
     none_kept : list_any (is_named (name_of frame)) (kept_for frame held) ≡ false
     none_kept = none_with_room (name_of frame) (fresh frame.sec held) none_fresh
 
-    is : pass held frame ≡ record { held = kept_for frame held ++ frame ∷ []; whole = None; discarded = length held - length (kept_for frame held) }
-    is = pass_taken held frame taken ∙ judge_new frame (kept_for frame held) (length held - length (kept_for frame held)) taken none_kept
+    is : pass held frame ≡ record {
+      held = kept_for frame held ++ frame ∷ [];
+      whole = None;
+      discarded = length held - length (kept_for frame held);
+    }
+    is = pass_taken held frame taken ∙ judge_new frame (kept_for frame held) (length held - length (kept_for frame held))
+        taken none_kept
 
     left : after_opening frame (groups held) ≡ groups (kept_for frame held ++ frame ∷ [])
     left =
-        let room : groups (kept_for frame held) ≡ with_place (filter (is_fresh frame.sec) (groups held)) = groups_with_room (name_of frame) (fresh frame.sec held) none_fresh ∙ ap with_place (groups_fresh frame.sec held) in
+        let room : groups (kept_for frame held) ≡ with_place (filter (is_fresh frame.sec) (groups held)) =
+        groups_with_room (name_of frame) (fresh frame.sec held) none_fresh ∙ ap with_place (groups_fresh frame.sec held) in
         sym (groups_push_new (kept_for frame held) frame none_kept ∙ ap (λ (gs : List Group). gs ++ opened_by frame ∷ []) room)
 
     count : length held - length (kept_for frame held) + length (kept_for frame held ++ frame ∷ []) + 0 ≡ length held + 1
@@ -182,16 +218,28 @@ judge_with mine frame kept gone =
     then record { held = without (name_of frame) kept; whole = None; discarded = gone + length mine + 1 }
     else join_by (completed (mine ++ frame ∷ []) frame) frame (kept ++ frame ∷ []) gone
 
-judge_is : (frame : Frame) (kept : List Frame) (gone : ℕ) → judge frame kept gone ≡ judge_with (of_name (name_of frame) kept) frame kept gone
+judge_is : (frame : Frame) (kept : List Frame) (gone : ℕ)
+    → judge frame kept gone ≡ judge_with (of_name (name_of frame) kept) frame kept gone
 judge_is frame kept gone =
-    ap (λ (mine : List Frame). cond (list_any (is_copy frame) (of_name (name_of frame) kept)) (record { held = kept; whole = None; discarded = gone + 1 }) (cond (list_any (conflicts frame) (of_name (name_of frame) kept)) (record { held = without (name_of frame) kept; whole = None; discarded = gone + length (of_name (name_of frame) kept) + 1 }) (join_by (completed mine frame) frame (kept ++ frame ∷ []) gone))) (filter-append (is_named (name_of frame)) kept (frame ∷ []) ∙ simp (same_name_refl (name_of frame)))
+    ap (λ (mine : List Frame). cond (list_any (is_copy frame) (of_name (name_of frame) kept))
+    (record { held = kept; whole = None; discarded = gone + 1 })
+    (cond (list_any (conflicts frame) (of_name (name_of frame) kept))
+    (record {
+      held = without (name_of frame) kept;
+      whole = None;
+      discarded = gone + length (of_name (name_of frame) kept) + 1;
+    })
+    (join_by (completed mine frame) frame (kept ++ frame ∷ []) gone)))
+    (filter-append (is_named (name_of frame)) kept (frame ∷ []) ∙ simp (same_name_refl (name_of frame)))
 
 -- a test that a change doesn't see
-filter-map_same : {X : Type 0} (p : X → Bool) (f : X → X) → ((x : X) → p (f x) ≡ p x) → (xs : List X) → filter p (map f xs) ≡ map f (filter p xs)
+filter-map_same : {X : Type 0} (p : X → Bool) (f : X → X) → ((x : X) → p (f x) ≡ p x) → (xs : List X)
+    → filter p (map f xs) ≡ map f (filter p xs)
 filter-map_same p f same [] = refl
 filter-map_same {X} p f same (x ∷ xs) = by_test (filter-map_same p f same xs) (p x) refl
   where
-    by_test : filter p (map f xs) ≡ map f (filter p xs) → (b : Bool) → p x ≡ b → cond (p (f x)) (f x ∷ filter p (map f xs)) (filter p (map f xs)) ≡ map f (cond (p x) (x ∷ filter p xs) (filter p xs))
+    by_test : filter p (map f xs) ≡ map f (filter p xs) → (b : Bool) → p x ≡ b
+        → cond (p (f x)) (f x ∷ filter p (map f xs)) (filter p (map f xs)) ≡ map f (cond (p x) (x ∷ filter p xs) (filter p xs))
     by_test rest true e = let here = same x ∙ e in simp (here, e) (ap (λ (ys : List X). f x ∷ ys) rest)
     by_test rest false e = let here = same x ∙ e in simp (here, e) rest
 
@@ -202,7 +250,8 @@ fresh_updated now frame group = by_test (has_name (name_of frame) group)
     by_test true = refl
     by_test false = refl
 
-module _ (held : List Frame) (frame : Frame) (at : ℕ) (d : Group) (taken : takes_part frame ≡ true) (below : at < length (groups held)) (live : is_live (name_of frame) frame.sec (get_or (groups held) at d) ≡ true) where
+module _ (held : List Frame) (frame : Frame) (at : ℕ) (d : Group) (taken : takes_part frame ≡ true)
+    (below : at < length (groups held)) (live : is_live (name_of frame) frame.sec (get_or (groups held) at d) ≡ true) where
   abbrev group : Group
   group = get_or (groups held) at d
 
@@ -219,13 +268,15 @@ module _ (held : List Frame) (frame : Frame) (at : ℕ) (d : Group) (taken : tak
   here = group_at held at d below ∙ ap (group_of held) (same_name_is group.name (name_of frame) named)
 
   fresh_here : fresh_name frame.sec held (name_of frame) ≡ true
-  fresh_here = ap (is_fresh frame.sec) (sym here) ∙ (and_parts (has_name (name_of frame) group) (is_fresh frame.sec group) live).1
+  fresh_here = ap (is_fresh frame.sec) (sym here)
+      ∙ (and_parts (has_name (name_of frame) group) (is_fresh frame.sec group) live).1
 
   mine : of_name (name_of frame) kept ≡ group.fragments
   mine = of_name_filter (fresh_name frame.sec held) (name_of frame) held fresh_here ∙ ap (λ (g : Group). g.fragments) (sym here)
 
   there : list_any (is_named (name_of frame)) kept ≡ true
-  there = sym (live_fresh (name_of frame) frame.sec held) ∙ list_any_at (is_live (name_of frame) frame.sec) (groups held) at d below live
+  there = sym (live_fresh (name_of frame) frame.sec held)
+      ∙ list_any_at (is_live (name_of frame) frame.sec) (groups held) at d below live
 
   kept_is : kept_for frame held ≡ kept
   unfolding kept_for
@@ -243,12 +294,15 @@ module _ (held : List Frame) (frame : Frame) (at : ℕ) (d : Group) (taken : tak
 
   -- the frames of the name, and all others
   parts : length group.fragments + length (without (name_of frame) kept) ≡ length kept
-  parts = ap (λ (m : List Frame). length m + length (without (name_of frame) kept)) (sym mine) ∙ length-filter_both (is_named (name_of frame)) (λ f. not (is_named (name_of frame) f)) (λ f. refl) kept
+  parts = ap (λ (m : List Frame). length m + length (without (name_of frame) kept)) (sym mine)
+      ∙ length-filter_both (is_named (name_of frame)) (λ f. not (is_named (name_of frame) f)) (λ f. refl) kept
 
   -- the group at the place taken out, before or after the stale ones
   removed : filter (is_fresh frame.sec) (remove (groups held) at) ≡ groups (without (name_of frame) kept)
   removed =
-      ap (filter (is_fresh frame.sec)) (remove_is (groups held) at d (groups_distinct held) below ∙ ap (λ (n : Name). filter (by_group (differs n)) (groups held)) (same_name_is group.name (name_of frame) named))
+      ap (filter (is_fresh frame.sec))
+      (remove_is (groups held) at d (groups_distinct held) below
+      ∙ ap (λ (n : Name). filter (by_group (differs n)) (groups held)) (same_name_is group.name (name_of frame) named))
       ∙ filter_twice (is_fresh frame.sec) (by_group (differs (name_of frame))) (groups held)
       ∙ ap (filter (by_group (differs (name_of frame)))) (sym (groups_fresh frame.sec held))
       ∙ sym (groups_filter (differs (name_of frame)) kept)
@@ -263,39 +317,60 @@ module _ (held : List Frame) (frame : Frame) (at : ℕ) (d : Group) (taken : tak
 
   -- nothing of the name is left but the frame
   without_new : without (name_of frame) (kept ++ frame ∷ []) ≡ without (name_of frame) kept
-  without_new = filter-append (λ f. not (is_named (name_of frame) f)) kept (frame ∷ []) ∙ simp (same_name_refl (name_of frame)) (append-nil (without (name_of frame) kept))
+  without_new = filter-append (λ f. not (is_named (name_of frame) f)) kept (frame ∷ [])
+      ∙ simp (same_name_refl (name_of frame)) (append-nil (without (name_of frame) kept))
 
-  by_whole : (o : Option Frame) → Agrees (join_by o frame (kept ++ frame ∷ []) gone) (length held) (filter (is_fresh frame.sec) (joined_whole o frame group (groups held) at).left) (joined_whole o frame group (groups held) at).whole (joined_whole o frame group (groups held) at).used
+  by_whole : (o : Option Frame) → Agrees (join_by o frame (kept ++ frame ∷ []) gone) (length held)
+      (filter (is_fresh frame.sec) (joined_whole o frame group (groups held) at).left)
+      (joined_whole o frame group (groups held) at).whole (joined_whole o frame group (groups held) at).used
   by_whole None = record { left_is = grown; whole_is = refl; counted = omega (arith, short, length-append kept (frame ∷ [])) }
-  by_whole (Some whole) = record { left_is = removed ∙ ap groups (sym without_new); whole_is = refl; counted = omega (arith, short, parts, ap length without_new) }
+  by_whole (Some whole) =
+      record {
+        left_is = removed ∙ ap groups (sym without_new);
+        whole_is = refl;
+        counted = omega (arith, short, parts, ap length without_new);
+      }
 
-  by_judgement : (a b : Bool) → list_any (is_copy frame) group.fragments ≡ a → list_any (conflicts frame) group.fragments ≡ b → Agrees (judge_with group.fragments frame kept gone) (length held) (filter (is_fresh frame.sec) (joined frame group (groups held) at).left) (joined frame group (groups held) at).whole (joined frame group (groups held) at).used
+  by_judgement : (a b : Bool) → list_any (is_copy frame) group.fragments ≡ a → list_any (conflicts frame) group.fragments ≡ b
+      → Agrees (judge_with group.fragments frame kept gone) (length held)
+      (filter (is_fresh frame.sec) (joined frame group (groups held) at).left) (joined frame group (groups held) at).whole
+      (joined frame group (groups held) at).used
   unfolding joined held_by
-  by_judgement true b p q = simp p (record { left_is = sym (groups_fresh frame.sec held); whole_is = refl; counted = omega (arith, short) })
-  by_judgement false true p q = simp (p, q) (record { left_is = removed; whole_is = refl; counted = omega (arith, short, parts) })
+  by_judgement true b p q =
+      simp p (record { left_is = sym (groups_fresh frame.sec held); whole_is = refl; counted = omega (arith, short) })
+  by_judgement false true p q =
+      simp (p, q) (record { left_is = removed; whole_is = refl; counted = omega (arith, short, parts) })
   by_judgement false false p q = simp (p, q) (by_whole (completed (group.fragments ++ frame ∷ []) frame))
 
-  pub joins : Agrees (pass held frame) (length held) (filter (is_fresh frame.sec) (joined frame group (groups held) at).left) (joined frame group (groups held) at).whole (joined frame group (groups held) at).used
-  joins = subst (λ (p : Passed). Agrees p (length held) (filter (is_fresh frame.sec) (joined frame group (groups held) at).left) (joined frame group (groups held) at).whole (joined frame group (groups held) at).used) (sym pass_is) (by_judgement _ _ refl refl)
+  pub joins : Agrees (pass held frame) (length held) (filter (is_fresh frame.sec) (joined frame group (groups held) at).left)
+      (joined frame group (groups held) at).whole (joined frame group (groups held) at).used
+  joins = subst (λ (p : Passed). Agrees p (length held) (filter (is_fresh frame.sec) (joined frame group (groups held) at).left)
+      (joined frame group (groups held) at).whole (joined frame group (groups held) at).used) (sym pass_is)
+      (by_judgement _ _ refl refl)
 
 -- the place of the first that passes
 pub record FoundAt {X : Type 0} (p : X → Bool) (xs : List X) (at : ℕ) : Type 0 where
   pub below : at < length xs
   pub passes : (d : X) → p (get_or xs at d) ≡ true
 
-found_from : {X : Type 0} (p : X → Bool) (from : ℕ) (xs : List X) (at : ℕ) → position_from p from xs ≡ Some at → (from ≤ at) × FoundAt p xs (at - from)
+found_from : {X : Type 0} (p : X → Bool) (from : ℕ) (xs : List X) (at : ℕ) → position_from p from xs ≡ Some at
+    → (from ≤ at) × FoundAt p xs (at - from)
 found_from p from [] at e = absurd (none-some at e)
 found_from {X} p from (x ∷ xs) at e = by_test (found_from p (from + 1) xs at) (p x) refl e
   where
-    by_test : (position_from p (from + 1) xs ≡ Some at → (from + 1 ≤ at) × FoundAt p xs (at - (from + 1))) → (b : Bool) → p x ≡ b → cond b (Some from) (position_from p (from + 1) xs) ≡ Some at → (from ≤ at) × FoundAt p (x ∷ xs) (at - from)
+    by_test : (position_from p (from + 1) xs ≡ Some at → (from + 1 ≤ at) × FoundAt p xs (at - (from + 1))) → (b : Bool)
+        → p x ≡ b → cond b (Some from) (position_from p (from + 1) xs) ≡ Some at → (from ≤ at) × FoundAt p (x ∷ xs) (at - from)
     by_test rest true is e =
         let same : from ≡ at = same_Some _ _ e in
         let none : at - from ≡ 0 = omega arith in
         (omega arith, subst (FoundAt p (x ∷ xs)) (sym none) (record { below = omega arith; passes = λ d. is }))
     by_test rest false is e =
         let later = rest e in
-        let next : at - from ≡ suc (at - (from + 1)) = omega (arith, later.0) in
-        (omega (arith, later.0), subst (FoundAt p (x ∷ xs)) (sym next) (record { below = omega (arith, later.1.below); passes = later.1.passes }))
+        let next : at - from ≡ suc (at - (from + 1)) = omega (arith, later.0) in (
+          omega (arith, later.0),
+          subst (FoundAt p (x ∷ xs)) (sym next)
+              (record { below = omega (arith, later.1.below); passes = later.1.passes }),
+        )
 
 pub found_at : {X : Type 0} (p : X → Bool) (xs : List X) (at : ℕ) → position_from p 0 xs ≡ Some at → FoundAt p xs at
 found_at p xs at e = let zero : at - 0 ≡ at = omega arith in subst (FoundAt p xs) zero (found_from p 0 xs at e).1
@@ -304,7 +379,8 @@ pub none_found : {X : Type 0} (p : X → Bool) (from : ℕ) (xs : List X) → po
 none_found p from [] e = refl
 none_found {X} p from (x ∷ xs) e = by_test (none_found p (from + 1) xs) (p x) e
   where
-    by_test : (position_from p (from + 1) xs ≡ None → list_any p xs ≡ false) → (b : Bool) → cond b (Some from) (position_from p (from + 1) xs) ≡ None → (b || list_any p xs) ≡ false
+    by_test : (position_from p (from + 1) xs ≡ None → list_any p xs ≡ false) → (b : Bool)
+        → cond b (Some from) (position_from p (from + 1) xs) ≡ None → (b || list_any p xs) ≡ false
     by_test rest true e = absurd (none-some from (sym e))
     by_test rest false e = rest e
 
@@ -333,11 +409,13 @@ few_opened frame some few =
     let place = length_with_place (filter (is_fresh frame.sec) some) (omega arith) in
     omega (arith, length-append (with_place (filter (is_fresh frame.sec) some)) (opened_by frame ∷ []))
 
-length_held : (o : Option Frame) (frame : Frame) (group : Group) (some : List Group) (at : ℕ) → length (joined_whole o frame group some at).left ≤ length some
+length_held : (o : Option Frame) (frame : Frame) (group : Group) (some : List Group) (at : ℕ)
+    → length (joined_whole o frame group some at).left ≤ length some
 length_held None frame group some at = let e = length-set some at (with_frame frame group) in omega (arith, e)
 length_held (Some whole) frame group some at = length_remove some at
 
-length_joined : (frame : Frame) (group : Group) (some : List Group) (at : ℕ) → length (joined frame group some at).left ≤ length some
+length_joined : (frame : Frame) (group : Group) (some : List Group) (at : ℕ)
+    → length (joined frame group some at).left ≤ length some
 unfolding joined held_by
 length_joined frame group some at = by_judgement (judgement frame group.fragments)
   where
@@ -346,43 +424,65 @@ length_joined frame group some at = by_judgement (judgement frame group.fragment
     by_judgement Conflict = length_remove some at
     by_judgement Fits = length_held (completed (group.fragments ++ frame ∷ []) frame) frame group some at
 
-pub few_joined : (frame : Frame) (group : Group) (some : List Group) (at : ℕ) → length some ≤ 64 → length (filter (is_fresh frame.sec) (joined frame group some at).left) ≤ 64
+pub few_joined : (frame : Frame) (group : Group) (some : List Group) (at : ℕ) → length some ≤ 64
+    → length (filter (is_fresh frame.sec) (joined frame group some at).left) ≤ 64
 few_joined frame group some at few =
     let fresh_ones = length_filter-le (is_fresh frame.sec) (joined frame group some at).left in
     let rest = length_joined frame group some at in
     omega arith
 
 -- when the name was looked up
-pub placed : (name name' : Name) (now now' : ℕ) (some some' : List Group) (place : Option ℕ) → name ≡ name' → now ≡ now' → some ≡ some' → place ≡ position_from (is_live name now) 0 some → position_from (is_live name' now') 0 some' ≡ place
+pub placed : (name name' : Name) (now now' : ℕ) (some some' : List Group) (place : Option ℕ) → name ≡ name' → now ≡ now'
+    → some ≡ some' → place ≡ position_from (is_live name now) 0 some → position_from (is_live name' now') 0 some' ≡ place
 placed name name' now now' some some' place p q r h =
-    sym (h ∙ ap (λ (n : Name). position_from (is_live n now) 0 some) p ∙ ap (λ (t : ℕ). position_from (is_live name' t) 0 some) q ∙ ap (λ (gs : List Group). position_from (is_live name' now') 0 gs) r)
+    sym (h ∙ ap (λ (n : Name). position_from (is_live n now) 0 some) p
+    ∙ ap (λ (t : ℕ). position_from (is_live name' t) 0 some) q
+    ∙ ap (λ (gs : List Group). position_from (is_live name' now') 0 gs) r)
 
 -- the two ways of a pass, if the groups are those of a flat list
-pub opens_by : (held : List Frame) (frame : Frame) (some left : List Group) → takes_part frame ≡ true → some ≡ groups held → position_from (is_live (name_of frame) frame.sec) 0 some ≡ None → left ≡ after_opening frame some → Agrees (pass held frame) (length held) left None 0
+pub opens_by : (held : List Frame) (frame : Frame) (some left : List Group) → takes_part frame ≡ true → some ≡ groups held
+    → position_from (is_live (name_of frame) frame.sec) 0 some ≡ None → left ≡ after_opening frame some
+    → Agrees (pass held frame) (length held) left None 0
 opens_by held frame some left taken is place l =
-    let none : list_any (is_live (name_of frame) frame.sec) (groups held) ≡ false = subst (λ (gs : List Group). list_any (is_live (name_of frame) frame.sec) gs ≡ false) is (none_found (is_live (name_of frame) frame.sec) 0 some place) in
-    subst (λ (gs : List Group). Agrees (pass held frame) (length held) gs None 0) (sym (l ∙ ap (after_opening frame) is)) (opens held frame taken none)
+    let none : list_any (is_live (name_of frame) frame.sec) (groups held) ≡ false =
+    subst (λ (gs : List Group). list_any (is_live (name_of frame) frame.sec) gs ≡ false) is
+    (none_found (is_live (name_of frame) frame.sec) 0 some place) in
+    subst (λ (gs : List Group). Agrees (pass held frame) (length held) gs None 0) (sym (l ∙ ap (after_opening frame) is))
+    (opens held frame taken none)
 
-joins_here : (held : List Frame) (frame : Frame) (some : List Group) (at : ℕ) (d : Group) → takes_part frame ≡ true → some ≡ groups held → FoundAt (is_live (name_of frame) frame.sec) some at → Agrees (pass held frame) (length held) (filter (is_fresh frame.sec) (joined frame (get_or some at d) some at).left) (joined frame (get_or some at d) some at).whole (joined frame (get_or some at d) some at).used
+joins_here : (held : List Frame) (frame : Frame) (some : List Group) (at : ℕ) (d : Group) → takes_part frame ≡ true
+    → some ≡ groups held → FoundAt (is_live (name_of frame) frame.sec) some at
+    → Agrees (pass held frame) (length held) (filter (is_fresh frame.sec) (joined frame (get_or some at d) some at).left)
+    (joined frame (get_or some at d) some at).whole (joined frame (get_or some at d) some at).used
 joins_here held frame some at d taken is found =
-    subst (λ (gs : List Group). FoundAt (is_live (name_of frame) frame.sec) gs at → Agrees (pass held frame) (length held) (filter (is_fresh frame.sec) (joined frame (get_or gs at d) gs at).left) (joined frame (get_or gs at d) gs at).whole (joined frame (get_or gs at d) gs at).used) (sym is) (λ here. joins held frame at d taken here.below (here.passes d)) found
+    subst (λ (gs : List Group). FoundAt (is_live (name_of frame) frame.sec) gs at
+    → Agrees (pass held frame) (length held) (filter (is_fresh frame.sec) (joined frame (get_or gs at d) gs at).left)
+    (joined frame (get_or gs at d) gs at).whole (joined frame (get_or gs at d) gs at).used) (sym is)
+    (λ here. joins held frame at d taken here.below (here.passes d)) found
 
-pub joins_by : (held : List Frame) (frame : Frame) (some left : List Group) (at used : ℕ) (whole : Option Frame) (d : Group) → takes_part frame ≡ true → some ≡ groups held → position_from (is_live (name_of frame) frame.sec) 0 some ≡ Some at → left ≡ filter (is_fresh frame.sec) (joined frame (get_or some at d) some at).left → whole ≡ (joined frame (get_or some at d) some at).whole → used ≡ (joined frame (get_or some at d) some at).used → Agrees (pass held frame) (length held) left whole used
+pub joins_by : (held : List Frame) (frame : Frame) (some left : List Group) (at used : ℕ) (whole : Option Frame) (d : Group)
+    → takes_part frame ≡ true → some ≡ groups held → position_from (is_live (name_of frame) frame.sec) 0 some ≡ Some at
+    → left ≡ filter (is_fresh frame.sec) (joined frame (get_or some at d) some at).left
+    → whole ≡ (joined frame (get_or some at d) some at).whole → used ≡ (joined frame (get_or some at d) some at).used
+    → Agrees (pass held frame) (length held) left whole used
 joins_by held frame some left at used whole d taken is place l w u =
     let it = joins_here held frame some at d taken is (found_at (is_live (name_of frame) frame.sec) some at place) in
     record { left_is = l ∙ it.left_is; whole_is = w ∙ it.whole_is; counted = omega (arith, it.counted, u) }
 
 -- a frame that doesn't take part comes out as it is
-pub pass_other : (held : List Frame) (frame : Frame) → takes_part frame ≡ false → pass held frame ≡ record { held = held; whole = Some frame; discarded = 0 }
+pub pass_other : (held : List Frame) (frame : Frame) → takes_part frame ≡ false
+    → pass held frame ≡ record { held = held; whole = Some frame; discarded = 0 }
 unfolding pass
 pass_other held frame other = simp other
 
 -- if nothing comes out, no frame is in it
-used_none : (frame : Frame) (group : Group) (some : List Group) (at : ℕ) → (joined frame group some at).whole ≡ None → (joined frame group some at).used ≡ 0
+used_none : (frame : Frame) (group : Group) (some : List Group) (at : ℕ) → (joined frame group some at).whole ≡ None
+    → (joined frame group some at).used ≡ 0
 unfolding joined held_by
 used_none frame group some at e = by_judgement (judgement frame group.fragments) e
   where
-    by_whole : (o : Option Frame) → (joined_whole o frame group some at).whole ≡ None → (joined_whole o frame group some at).used ≡ 0
+    by_whole : (o : Option Frame) → (joined_whole o frame group some at).whole ≡ None
+        → (joined_whole o frame group some at).used ≡ 0
     by_whole None e = refl
     by_whole (Some whole) e = absurd (none-some whole (sym e))
 
@@ -392,15 +492,20 @@ used_none frame group some at e = by_judgement (judgement frame group.fragments)
     by_judgement Fits e = by_whole (completed_with frame group.fragments) e
 
 -- the two ways again, over all flat lists
-lost_taken : (held : List Frame) (frame : Frame) (place : Option ℕ) → takes_part frame ≡ true → position_from (is_live (name_of frame) frame.sec) 0 (groups held) ≡ place → (pass held frame).whole ≡ None → (pass held frame).discarded + length (pass held frame).held ≡ length held + 1
-lost_taken held frame None taken is none = omega (arith, (opens_by held frame (groups held) (after_opening frame (groups held)) taken refl is refl).counted)
+lost_taken : (held : List Frame) (frame : Frame) (place : Option ℕ) → takes_part frame ≡ true
+    → position_from (is_live (name_of frame) frame.sec) 0 (groups held) ≡ place → (pass held frame).whole ≡ None
+    → (pass held frame).discarded + length (pass held frame).held ≡ length held + 1
+lost_taken held frame None taken is none =
+    omega (arith, (opens_by held frame (groups held) (after_opening frame (groups held)) taken refl is refl).counted)
 lost_taken held frame (Some at) taken is none =
     let d : Group = opened_by frame in
-    let it = joins_here held frame (groups held) at d taken refl (found_at (is_live (name_of frame) frame.sec) (groups held) at is) in
+    let it = joins_here held frame (groups held) at d taken refl
+    (found_at (is_live (name_of frame) frame.sec) (groups held) at is) in
     let used = used_none frame (get_or (groups held) at d) (groups held) at (it.whole_is ∙ none) in
     omega (arith, it.counted, used)
 
-pub lost : (held : List Frame) (frame : Frame) → (pass held frame).whole ≡ None → (pass held frame).discarded + length (pass held frame).held ≡ length held + 1
+pub lost : (held : List Frame) (frame : Frame) → (pass held frame).whole ≡ None
+    → (pass held frame).discarded + length (pass held frame).held ≡ length held + 1
 lost held frame none = by_test (takes_part frame) refl
   where
     by_test : (b : Bool) → takes_part frame ≡ b → (pass held frame).discarded + length (pass held frame).held ≡ length held + 1

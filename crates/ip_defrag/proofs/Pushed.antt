@@ -1,5 +1,6 @@
 -- A frame at the end of the flat list, and what its group becomes.
-use Rattle.std.proofs.Common.{◌≡◌, ℕ, zero, suc, ◌+◌, ◌<◌, ◌≤◌, Bool, true, false, not, ◌||◌, List, [], ◌∷◌, ◌++◌, length, map, filter, get_or, set, cond, arith, refl, ap, ◌∙◌, sym, subst}
+use Rattle.std.proofs.Common.{◌≡◌, ℕ, zero, suc, ◌+◌, ◌<◌, ◌≤◌, Bool, true, false, not, ◌||◌, List, [], ◌∷◌, ◌++◌, length, map}
+use Rattle.std.proofs.Common.{filter, get_or, set, cond, arith, refl, ap, ◌∙◌, sym, subst}
 use Rattle.std.specs.List.{list_any, AllByRecursion, remove}
 use Rattle.std.proofs.lemmas.List.{append-nil, map-append, get_or_default}
 use Rattle.std.proofs.lemmas.List.Elements.{filter-append}
@@ -18,11 +19,15 @@ use Rattle.ip_defrag.proofs.Groups.{same_name_refl, same_name_is, same_name_sym,
 same_names : (a b : Name) → same_name a b ≡ false → same_name b a ≡ false
 same_names a b e = same_name_sym b a ∙ e
 
-pub none_filter : {X : Type 0} (test p : X → Bool) (xs : List X) → list_any test xs ≡ false → list_any test (filter p xs) ≡ false
+pub none_filter : {X : Type 0} (test p : X → Bool) (xs : List X) → list_any test xs ≡ false
+    → list_any test (filter p xs) ≡ false
 none_filter test p [] none = refl
-none_filter {X} test p (x ∷ xs) none = by_test (or_parts (test x) (list_any test xs) none).0 (none_filter test p xs (or_parts (test x) (list_any test xs) none).1) (p x) refl
+none_filter {X} test p (x ∷ xs) none =
+    by_test (or_parts (test x) (list_any test xs) none).0
+    (none_filter test p xs (or_parts (test x) (list_any test xs) none).1) (p x) refl
   where
-    by_test : test x ≡ false → list_any test (filter p xs) ≡ false → (b : Bool) → p x ≡ b → list_any test (cond (p x) (x ∷ filter p xs) (filter p xs)) ≡ false
+    by_test : test x ≡ false → list_any test (filter p xs) ≡ false → (b : Bool) → p x ≡ b
+        → list_any test (cond (p x) (x ∷ filter p xs) (filter p xs)) ≡ false
     by_test here rest true e = simp e (or_from _ _ here rest)
     by_test here rest false e = simp e rest
 
@@ -40,48 +45,74 @@ all_kept {X} test (x ∷ xs) none =
     simp parts.0 (ap (λ (ys : List X). x ∷ ys) (all_kept test xs parts.1))
 
 -- the names of a list with one more frame
-pub names_push : (held : List Frame) (new : Frame) → names_of (held ++ new ∷ []) ≡ cond (list_any (is_named (name_of new)) held) (names_of held) (names_of held ++ name_of new ∷ [])
+pub names_push : (held : List Frame) (new : Frame)
+    → names_of (held ++ new ∷ []) ≡ cond (list_any (is_named (name_of new)) held) (names_of held)
+    (names_of held ++ name_of new ∷ [])
 names_push [] new = refl
-names_push (frame ∷ held) new = by_test (names_push held new) (same_name (name_of frame) (name_of new)) refl (list_any (is_named (name_of new)) held) refl
+names_push (frame ∷ held) new =
+    by_test (names_push held new) (same_name (name_of frame) (name_of new)) refl (list_any (is_named (name_of new)) held) refl
   where
     first : Name
     first = name_of frame
 
-    by_test : names_of (held ++ new ∷ []) ≡ cond (list_any (is_named (name_of new)) held) (names_of held) (names_of held ++ name_of new ∷ []) → (a : Bool) → same_name (name_of frame) (name_of new) ≡ a → (b : Bool) → list_any (is_named (name_of new)) held ≡ b
-        → name_of frame ∷ filter (differs (name_of frame)) (names_of (held ++ new ∷ [])) ≡ cond (same_name (name_of frame) (name_of new) || list_any (is_named (name_of new)) held) (name_of frame ∷ filter (differs (name_of frame)) (names_of held)) (name_of frame ∷ (filter (differs (name_of frame)) (names_of held) ++ name_of new ∷ []))
+    by_test : names_of (held ++ new ∷ []) ≡ cond (list_any (is_named (name_of new)) held) (names_of held)
+        (names_of held ++ name_of new ∷ []) → (a : Bool) → same_name (name_of frame) (name_of new) ≡ a → (b : Bool)
+        → list_any (is_named (name_of new)) held ≡ b
+        → name_of frame ∷ filter (differs (name_of frame)) (names_of (held ++ new ∷ []))
+        ≡ cond (same_name (name_of frame) (name_of new) || list_any (is_named (name_of new)) held)
+        (name_of frame ∷ filter (differs (name_of frame)) (names_of held))
+        (name_of frame ∷ (filter (differs (name_of frame)) (names_of held) ++ name_of new ∷ []))
     by_test rest true p true q = simp (rest, p, q)
     by_test rest false p true q = simp (rest, p, q)
     by_test rest true p false q =
         let same : name_of frame ≡ name_of new = same_name_is (name_of frame) (name_of new) p in
         let gone : differs (name_of frame) (name_of new) ≡ false = ap not (same_name_sym (name_of new) (name_of frame) ∙ p) in
-        simp (rest, p, q) (ap (λ (ns : List Name). name_of frame ∷ ns) (filter-append (differs (name_of frame)) (names_of held) (name_of new ∷ []) ∙ simp gone (append-nil (filter (differs (name_of frame)) (names_of held)))))
+        simp (rest, p, q)
+        (ap (λ (ns : List Name). name_of frame ∷ ns)
+        (filter-append (differs (name_of frame)) (names_of held) (name_of new ∷ [])
+        ∙ simp gone (append-nil (filter (differs (name_of frame)) (names_of held)))))
     by_test rest false p false q =
         let there : differs (name_of frame) (name_of new) ≡ true = ap not (same_name_sym (name_of new) (name_of frame) ∙ p) in
-        simp (rest, p, q) (ap (λ (ns : List Name). name_of frame ∷ ns) (filter-append (differs (name_of frame)) (names_of held) (name_of new ∷ []) ∙ simp there))
+        simp (rest, p, q)
+        (ap (λ (ns : List Name). name_of frame ∷ ns)
+        (filter-append (differs (name_of frame)) (names_of held) (name_of new ∷ []) ∙ simp there))
 
-opened_push : (name : Name) (held : List Frame) (new : Frame) → opened_at name (held ++ new ∷ []) ≡ cond (list_any (is_named name) held) (opened_at name held) (cond (is_named name new) new.sec 0)
+opened_push : (name : Name) (held : List Frame) (new : Frame)
+    → opened_at name (held ++ new ∷ []) ≡ cond (list_any (is_named name) held) (opened_at name held)
+    (cond (is_named name new) new.sec 0)
 opened_push name [] new = refl
 opened_push name (frame ∷ held) new = by_test (opened_push name held new) (same_name (name_of frame) name) refl
   where
-    by_test : opened_at name (held ++ new ∷ []) ≡ cond (list_any (is_named name) held) (opened_at name held) (cond (is_named name new) new.sec 0) → (b : Bool) → same_name (name_of frame) name ≡ b
-        → cond (same_name (name_of frame) name) frame.sec (opened_at name (held ++ new ∷ [])) ≡ cond (same_name (name_of frame) name || list_any (is_named name) held) (cond (same_name (name_of frame) name) frame.sec (opened_at name held)) (cond (is_named name new) new.sec 0)
+    by_test : opened_at name (held ++ new ∷ []) ≡ cond (list_any (is_named name) held) (opened_at name held)
+        (cond (is_named name new) new.sec 0) → (b : Bool) → same_name (name_of frame) name ≡ b
+        → cond (same_name (name_of frame) name) frame.sec (opened_at name (held ++ new ∷ []))
+        ≡ cond (same_name (name_of frame) name || list_any (is_named name) held)
+        (cond (same_name (name_of frame) name) frame.sec (opened_at name held)) (cond (is_named name new) new.sec 0)
     by_test rest true e = simp e
     by_test rest false e = simp e rest
 
 -- a name is among the groups if it is among the frames
-any_names : (name : Name) (held : List Frame) → list_any (λ other. same_name other name) (names_of held) ≡ list_any (is_named name) held
+any_names : (name : Name) (held : List Frame) → list_any (λ other. same_name other name) (names_of held)
+    ≡ list_any (is_named name) held
 any_names name [] = refl
 any_names name (frame ∷ held) = by_test (any_names name held) (same_name (name_of frame) name) refl
   where
-    stays : same_name (name_of frame) name ≡ false → (other : Name) → same_name other name ≡ true → differs (name_of frame) other ≡ true
-    stays e other is = ap not (same_name_sym other (name_of frame) ∙ ap (same_name (name_of frame)) (same_name_is other name is) ∙ e)
+    stays : same_name (name_of frame) name ≡ false → (other : Name) → same_name other name ≡ true
+        → differs (name_of frame) other ≡ true
+    stays e other is =
+        ap not (same_name_sym other (name_of frame) ∙ ap (same_name (name_of frame)) (same_name_is other name is) ∙ e)
 
-    by_test : list_any (λ other. same_name other name) (names_of held) ≡ list_any (is_named name) held → (b : Bool) → same_name (name_of frame) name ≡ b
-        → (same_name (name_of frame) name || list_any (λ other. same_name other name) (filter (differs (name_of frame)) (names_of held))) ≡ (same_name (name_of frame) name || list_any (is_named name) held)
+    by_test : list_any (λ other. same_name other name) (names_of held) ≡ list_any (is_named name) held → (b : Bool)
+        → same_name (name_of frame) name ≡ b
+        → (same_name (name_of frame) name || list_any (λ other. same_name other name)
+        (filter (differs (name_of frame)) (names_of held)))
+        ≡ (same_name (name_of frame) name || list_any (is_named name) held)
     by_test rest true e = simp e
-    by_test rest false e = simp e (any-filter_same (λ other. same_name other name) (differs (name_of frame)) true (stays e) (names_of held) ∙ rest)
+    by_test rest false e =
+        simp e (any-filter_same (λ other. same_name other name) (differs (name_of frame)) true (stays e) (names_of held) ∙ rest)
 
-any_group_names : (name : Name) (held : List Frame) (names : List Name) → list_any (has_name name) (map (group_of held) names) ≡ list_any (λ other. same_name other name) names
+any_group_names : (name : Name) (held : List Frame) (names : List Name)
+    → list_any (has_name name) (map (group_of held) names) ≡ list_any (λ other. same_name other name) names
 any_group_names name held [] = refl
 any_group_names name held (other ∷ names) = ap (λ (b : Bool). same_name other name || b) (any_group_names name held names)
 
@@ -94,7 +125,8 @@ all_filter : {X : Type 0} (P : X → Type 0) (p : X → Bool) (xs : List X) → 
 all_filter P p [] all = tt
 all_filter {X} P p (x ∷ xs) all = by_test (all_filter P p xs all.1) (p x) refl
   where
-    by_test : AllByRecursion P (filter p xs) → (b : Bool) → p x ≡ b → AllByRecursion P (cond (p x) (x ∷ filter p xs) (filter p xs))
+    by_test : AllByRecursion P (filter p xs) → (b : Bool) → p x ≡ b
+        → AllByRecursion P (cond (p x) (x ∷ filter p xs) (filter p xs))
     by_test rest true e = simp e (all.0, rest)
     by_test rest false e = simp e rest
 
@@ -106,27 +138,38 @@ names_present : (held : List Frame) → AllByRecursion (λ name. list_any (is_na
 names_present [] = tt
 names_present (frame ∷ held) = (
   or_left _ _ (same_name_refl (name_of frame)),
-  all_weaken (λ name. list_any (is_named name) held ≡ true) (λ name. list_any (is_named name) (frame ∷ held) ≡ true) (λ name e. or_right _ _ e) (filter (differs (name_of frame)) (names_of held)) (all_filter (λ name. list_any (is_named name) held ≡ true) (differs (name_of frame)) (names_of held) (names_present held)),
+  all_weaken (λ name. list_any (is_named name) held ≡ true) (λ name. list_any (is_named name) (frame ∷ held) ≡ true)
+      (λ name e. or_right _ _ e) (filter (differs (name_of frame)) (names_of held))
+      (all_filter (λ name. list_any (is_named name) held ≡ true) (differs (name_of frame)) (names_of held)
+      (names_present held)),
 )
 
 -- what becomes of the group of a name that is there
-group_push : (held : List Frame) (new : Frame) (name : Name) → list_any (is_named name) held ≡ true → group_of (held ++ new ∷ []) name ≡ updated new (group_of held name)
+group_push : (held : List Frame) (new : Frame) (name : Name) → list_any (is_named name) held ≡ true
+    → group_of (held ++ new ∷ []) name ≡ updated new (group_of held name)
 group_push held new name there = by_test (same_name name (name_of new)) refl
   where
     time : opened_at name (held ++ new ∷ []) ≡ opened_at name held
-    time = opened_push name held new ∙ ap (λ (b : Bool). cond b (opened_at name held) (cond (is_named name new) new.sec 0)) there
+    time = opened_push name held new
+        ∙ ap (λ (b : Bool). cond b (opened_at name held) (cond (is_named name new) new.sec 0)) there
 
-    by_test : (b : Bool) → same_name name (name_of new) ≡ b → group_of (held ++ new ∷ []) name ≡ cond (same_name name (name_of new)) (with_frame new (group_of held name)) (group_of held name)
+    by_test : (b : Bool) → same_name name (name_of new) ≡ b
+        → group_of (held ++ new ∷ []) name ≡ cond (same_name name (name_of new)) (with_frame new (group_of held name))
+        (group_of held name)
     by_test true e =
         let named : is_named name new ≡ true = same_name_sym (name_of new) name ∙ e in
-        let these : of_name name (held ++ new ∷ []) ≡ of_name name held ++ new ∷ [] = filter-append (is_named name) held (new ∷ []) ∙ simp named in
+        let these : of_name name (held ++ new ∷ []) ≡ of_name name held ++ new ∷ [] =
+        filter-append (is_named name) held (new ∷ []) ∙ simp named in
         simp e (cc (time, these))
     by_test false e =
         let named : is_named name new ≡ false = same_name_sym (name_of new) name ∙ e in
-        let these : of_name name (held ++ new ∷ []) ≡ of_name name held = filter-append (is_named name) held (new ∷ []) ∙ simp named (append-nil (of_name name held)) in
+        let these : of_name name (held ++ new ∷ []) ≡ of_name name held =
+        filter-append (is_named name) held (new ∷ []) ∙ simp named (append-nil (of_name name held)) in
         simp e (cc (time, these))
 
-groups_push_names : (held : List Frame) (new : Frame) (names : List Name) → AllByRecursion (λ name. list_any (is_named name) held ≡ true) names → map (group_of (held ++ new ∷ [])) names ≡ map (updated new) (map (group_of held) names)
+groups_push_names : (held : List Frame) (new : Frame) (names : List Name)
+    → AllByRecursion (λ name. list_any (is_named name) held ≡ true) names
+    → map (group_of (held ++ new ∷ [])) names ≡ map (updated new) (map (group_of held) names)
 groups_push_names held new [] there = refl
 groups_push_names held new (name ∷ names) there =
     let here = group_push held new name there.0 in
@@ -134,26 +177,32 @@ groups_push_names held new (name ∷ names) there =
     cc
 
 -- a frame of a name that is held
-pub groups_push_old : (held : List Frame) (new : Frame) → list_any (is_named (name_of new)) held ≡ true → groups (held ++ new ∷ []) ≡ map (updated new) (groups held)
+pub groups_push_old : (held : List Frame) (new : Frame) → list_any (is_named (name_of new)) held ≡ true
+    → groups (held ++ new ∷ []) ≡ map (updated new) (groups held)
 unfolding groups
 groups_push_old held new there =
-    ap (map (group_of (held ++ new ∷ []))) (names_push held new ∙ ap (λ (b : Bool). cond b (names_of held) (names_of held ++ name_of new ∷ [])) there)
+    ap (map (group_of (held ++ new ∷ [])))
+    (names_push held new ∙ ap (λ (b : Bool). cond b (names_of held) (names_of held ++ name_of new ∷ [])) there)
     ∙ groups_push_names held new (names_of held) (names_present held)
 
 -- groups without a frame's name
-pub not_updated : (new : Frame) (some : List Group) → list_any (has_name (name_of new)) some ≡ false → map (updated new) some ≡ some
+pub not_updated : (new : Frame) (some : List Group) → list_any (has_name (name_of new)) some ≡ false
+    → map (updated new) some ≡ some
 not_updated new [] none = refl
 not_updated new (group ∷ some) none =
     let parts = or_parts (has_name (name_of new) group) (list_any (has_name (name_of new)) some) none in
     simp parts.0 (ap (λ (gs : List Group). group ∷ gs) (not_updated new some parts.1))
 
 -- a frame of a new name
-pub groups_push_new : (held : List Frame) (new : Frame) → list_any (is_named (name_of new)) held ≡ false → groups (held ++ new ∷ []) ≡ groups held ++ opened_by new ∷ []
+pub groups_push_new : (held : List Frame) (new : Frame) → list_any (is_named (name_of new)) held ≡ false
+    → groups (held ++ new ∷ []) ≡ groups held ++ opened_by new ∷ []
 unfolding groups
 groups_push_new held new none =
-    let names : names_of (held ++ new ∷ []) ≡ names_of held ++ name_of new ∷ [] = names_push held new ∙ ap (λ (b : Bool). cond b (names_of held) (names_of held ++ name_of new ∷ [])) none in
+    let names : names_of (held ++ new ∷ []) ≡ names_of held ++ name_of new ∷ [] =
+    names_push held new ∙ ap (λ (b : Bool). cond b (names_of held) (names_of held ++ name_of new ∷ [])) none in
     let old : map (group_of (held ++ new ∷ [])) (names_of held) ≡ map (group_of held) (names_of held) =
-    groups_push_names held new (names_of held) (names_present held) ∙ not_updated new (map (group_of held) (names_of held)) (any_groups (name_of new) held ∙ none) in
+    groups_push_names held new (names_of held) (names_present held)
+    ∙ not_updated new (map (group_of held) (names_of held)) (any_groups (name_of new) held ∙ none) in
     ap (map (group_of (held ++ new ∷ []))) names
     ∙ map-append (group_of (held ++ new ∷ [])) (names_of held) (name_of new ∷ [])
     ∙ cc (old, here)
@@ -162,7 +211,8 @@ groups_push_new held new none =
     time = opened_push (name_of new) held new ∙ simp (none, same_name_refl (name_of new))
 
     these : of_name (name_of new) (held ++ new ∷ []) ≡ new ∷ []
-    these = filter-append (is_named (name_of new)) held (new ∷ []) ∙ simp (none_named (is_named (name_of new)) held none, same_name_refl (name_of new))
+    these = filter-append (is_named (name_of new)) held (new ∷ [])
+        ∙ simp (none_named (is_named (name_of new)) held none, same_name_refl (name_of new))
 
     here : group_of (held ++ new ∷ []) (name_of new) ≡ opened_by new
     here = cc (time, these)
@@ -176,15 +226,19 @@ distinct_filter : (p : Group → Bool) (some : List Group) → AreDistinct some 
 distinct_filter p [] distinct = tt
 distinct_filter p (group ∷ some) distinct = by_test (distinct_filter p some distinct.1) (p group) refl
   where
-    by_test : AreDistinct (filter p some) → (b : Bool) → p group ≡ b → AreDistinct (cond (p group) (group ∷ filter p some) (filter p some))
+    by_test : AreDistinct (filter p some) → (b : Bool) → p group ≡ b
+        → AreDistinct (cond (p group) (group ∷ filter p some) (filter p some))
     by_test rest true e = simp e (none_filter (has_name group.name) p some distinct.0, rest)
     by_test rest false e = simp e rest
 
-pub filter-map : {X Y : Type 0} (f : X → Y) (p : Y → Bool) (xs : List X) → filter p (map f xs) ≡ map f (filter (λ x. p (f x)) xs)
+pub filter-map : {X Y : Type 0} (f : X → Y) (p : Y → Bool) (xs : List X)
+    → filter p (map f xs) ≡ map f (filter (λ x. p (f x)) xs)
 filter-map f p [] = refl
 filter-map {X} {Y} f p (x ∷ xs) = by_test (filter-map f p xs) (p (f x)) refl
   where
-    by_test : filter p (map f xs) ≡ map f (filter (λ y. p (f y)) xs) → (b : Bool) → p (f x) ≡ b → cond (p (f x)) (f x ∷ filter p (map f xs)) (filter p (map f xs)) ≡ map f (cond (p (f x)) (x ∷ filter (λ y. p (f y)) xs) (filter (λ y. p (f y)) xs))
+    by_test : filter p (map f xs) ≡ map f (filter (λ y. p (f y)) xs) → (b : Bool) → p (f x) ≡ b
+        → cond (p (f x)) (f x ∷ filter p (map f xs)) (filter p (map f xs))
+        ≡ map f (cond (p (f x)) (x ∷ filter (λ y. p (f y)) xs) (filter (λ y. p (f y)) xs))
     by_test rest true e = simp e (ap (λ (ys : List Y). f x ∷ ys) rest)
     by_test rest false e = simp e rest
 
@@ -192,72 +246,100 @@ names_distinct : (of : List Frame) (held : List Frame) → AreDistinct (map (gro
 names_distinct of [] = tt
 names_distinct of (frame ∷ held) =
     let rest : AreDistinct (map (group_of of) (filter (differs (name_of frame)) (names_of held))) =
-    subst AreDistinct (filter-map (group_of of) (by_group (differs (name_of frame))) (names_of held)) (distinct_filter (by_group (differs (name_of frame))) (map (group_of of) (names_of held)) (names_distinct of held)) in
-    (any_group_names (name_of frame) of (filter (differs (name_of frame)) (names_of held)) ∙ any-filter_same (λ other. same_name other (name_of frame)) (differs (name_of frame)) false (λ name e. ap not e) (names_of held), rest)
+    subst AreDistinct (filter-map (group_of of) (by_group (differs (name_of frame))) (names_of held))
+    (distinct_filter (by_group (differs (name_of frame))) (map (group_of of) (names_of held)) (names_distinct of held)) in (
+      any_group_names (name_of frame) of (filter (differs (name_of frame)) (names_of held))
+          ∙ any-filter_same (λ other. same_name other (name_of frame)) (differs (name_of frame)) false (λ name e. ap not e)
+          (names_of held),
+      rest,
+    )
 
 pub groups_distinct : (held : List Frame) → AreDistinct (groups held)
 unfolding groups
 groups_distinct held = names_distinct held held
 
 -- a group of a name has some place
-at_not_first : (group : Group) (some : List Group) (at : ℕ) → list_any (has_name group.name) some ≡ false → at < length some → same_name (get_or some at group).name group.name ≡ false
+at_not_first : (group : Group) (some : List Group) (at : ℕ) → list_any (has_name group.name) some ≡ false → at < length some
+    → same_name (get_or some at group).name group.name ≡ false
 at_not_first group some at none h = by_test (same_name (get_or some at group).name group.name) refl
   where
-    by_test : (b : Bool) → same_name (get_or some at group).name group.name ≡ b → same_name (get_or some at group).name group.name ≡ false
+    by_test : (b : Bool) → same_name (get_or some at group).name group.name ≡ b
+        → same_name (get_or some at group).name group.name ≡ false
     by_test true e = absurd (both_ways _ none (list_any_at (has_name group.name) some at group h e))
     by_test false e = e
 
-differs_from : (group : Group) (some : List Group) (at : ℕ) → list_any (has_name group.name) some ≡ false → at < length some → differs (get_or some at group).name group.name ≡ true
+differs_from : (group : Group) (some : List Group) (at : ℕ) → list_any (has_name group.name) some ≡ false → at < length some
+    → differs (get_or some at group).name group.name ≡ true
 differs_from group some at none h = ap not (same_names _ _ (at_not_first group some at none h))
 
-none_named_groups : (name : Name) (some : List Group) → list_any (has_name name) some ≡ false → filter (by_group (differs name)) some ≡ some
+none_named_groups : (name : Name) (some : List Group) → list_any (has_name name) some ≡ false
+    → filter (by_group (differs name)) some ≡ some
 none_named_groups name some none = all_kept (has_name name) some none
 
 -- the group at a place taken out
-pub remove_is : (some : List Group) (at : ℕ) (d : Group) → AreDistinct some → at < length some → remove some at ≡ filter (by_group (differs (get_or some at d).name)) some
+pub remove_is : (some : List Group) (at : ℕ) (d : Group) → AreDistinct some → at < length some
+    → remove some at ≡ filter (by_group (differs (get_or some at d).name)) some
 remove_is [] at d distinct h = absurd (omega arith)
 remove_is (group ∷ some) zero d distinct h =
     sym (simp (same_name_refl group.name) (none_named_groups group.name some distinct.0))
 remove_is (group ∷ some) (suc at) d distinct h =
     let below : at < length some = omega arith in
     let other : differs (get_or some at d).name group.name ≡ true =
-    subst (λ (g : Group). differs g.name group.name ≡ true) (get_or_default some at group d below) (differs_from group some at distinct.0 below) in
+    subst (λ (g : Group). differs g.name group.name ≡ true) (get_or_default some at group d below)
+    (differs_from group some at distinct.0 below) in
     ap (λ (gs : List Group). group ∷ gs) (remove_is some at d distinct.1 below) ∙ sym (simp other)
 
 -- the group at a place with one more frame
-pub set_is : (some : List Group) (at : ℕ) (d : Group) (new : Frame) → AreDistinct some → at < length some → same_name (get_or some at d).name (name_of new) ≡ true → set some at (with_frame new (get_or some at d)) ≡ map (updated new) some
+pub set_is : (some : List Group) (at : ℕ) (d : Group) (new : Frame) → AreDistinct some → at < length some
+    → same_name (get_or some at d).name (name_of new) ≡ true
+    → set some at (with_frame new (get_or some at d)) ≡ map (updated new) some
 set_is [] at d new distinct h named = absurd (omega arith)
 set_is (group ∷ some) zero d new distinct h named =
     let name : group.name ≡ name_of new = same_name_is _ _ named in
-    let rest : list_any (has_name (name_of new)) some ≡ false = subst (λ (n : Name). list_any (has_name n) some ≡ false) name distinct.0 in
+    let rest : list_any (has_name (name_of new)) some ≡ false =
+    subst (λ (n : Name). list_any (has_name n) some ≡ false) name distinct.0 in
     sym (simp named (ap (λ (gs : List Group). with_frame new group ∷ gs) (not_updated new some rest)))
 set_is (group ∷ some) (suc at) d new distinct h named =
     let below : at < length some = omega arith in
     let other : same_name (get_or some at d).name group.name ≡ false =
-    subst (λ (g : Group). same_name g.name group.name ≡ false) (get_or_default some at group d below) (at_not_first group some at distinct.0 below) in
+    subst (λ (g : Group). same_name g.name group.name ≡ false) (get_or_default some at group d below)
+    (at_not_first group some at distinct.0 below) in
     let name : (get_or some at d).name ≡ name_of new = same_name_is _ _ named in
-    let here : has_name (name_of new) group ≡ false = same_names _ _ (subst (λ (n : Name). same_name n group.name ≡ false) name other) in
+    let here : has_name (name_of new) group ≡ false =
+    same_names _ _ (subst (λ (n : Name). same_name n group.name ≡ false) name other) in
     ap (λ (gs : List Group). group ∷ gs) (set_is some at d new distinct.1 below named) ∙ sym (simp here)
 
 -- the frames of all groups are all frames
-later_group : (frame : Frame) (held : List Frame) (name : Name) → differs (name_of frame) name ≡ true → group_of (frame ∷ held) name ≡ group_of held name
+later_group : (frame : Frame) (held : List Frame) (name : Name) → differs (name_of frame) name ≡ true
+    → group_of (frame ∷ held) name ≡ group_of held name
 later_group frame held name other =
     let not_here : same_name (name_of frame) name ≡ false = same_names _ _ (not-true _ other) in
     simp not_here
 
-later_groups : (frame : Frame) (held : List Frame) (names : List Name) → map (group_of (frame ∷ held)) (filter (differs (name_of frame)) names) ≡ filter (by_group (differs (name_of frame))) (map (group_of held) names)
+later_groups : (frame : Frame) (held : List Frame) (names : List Name)
+    → map (group_of (frame ∷ held)) (filter (differs (name_of frame)) names)
+    ≡ filter (by_group (differs (name_of frame))) (map (group_of held) names)
 later_groups frame held [] = refl
 later_groups frame held (name ∷ names) = by_test (later_groups frame held names) (differs (name_of frame) name) refl
   where
-    by_test : map (group_of (frame ∷ held)) (filter (differs (name_of frame)) names) ≡ filter (by_group (differs (name_of frame))) (map (group_of held) names) → (b : Bool) → differs (name_of frame) name ≡ b
-        → map (group_of (frame ∷ held)) (cond (differs (name_of frame) name) (name ∷ filter (differs (name_of frame)) names) (filter (differs (name_of frame)) names)) ≡ cond (differs (name_of frame) name) (group_of held name ∷ filter (by_group (differs (name_of frame))) (map (group_of held) names)) (filter (by_group (differs (name_of frame))) (map (group_of held) names))
+    by_test : map (group_of (frame ∷ held)) (filter (differs (name_of frame)) names)
+        ≡ filter (by_group (differs (name_of frame))) (map (group_of held) names) → (b : Bool)
+        → differs (name_of frame) name ≡ b
+        → map (group_of (frame ∷ held))
+        (cond (differs (name_of frame) name) (name ∷ filter (differs (name_of frame)) names)
+        (filter (differs (name_of frame)) names))
+        ≡ cond (differs (name_of frame) name)
+        (group_of held name ∷ filter (by_group (differs (name_of frame))) (map (group_of held) names))
+        (filter (by_group (differs (name_of frame))) (map (group_of held) names))
     by_test rest true e = let here = later_group frame held name e in simp e (cc (here, rest))
     by_test rest false e = simp e rest
 
-pub groups-cons : (frame : Frame) (held : List Frame) → groups (frame ∷ held) ≡ group_of (frame ∷ held) (name_of frame) ∷ groups (without (name_of frame) held)
+pub groups-cons : (frame : Frame) (held : List Frame)
+    → groups (frame ∷ held) ≡ group_of (frame ∷ held) (name_of frame) ∷ groups (without (name_of frame) held)
 unfolding groups
 groups-cons frame held =
-    ap (λ (gs : List Group). group_of (frame ∷ held) (name_of frame) ∷ gs) (later_groups frame held (names_of held) ∙ sym (groups_filter (differs (name_of frame)) held))
+    ap (λ (gs : List Group). group_of (frame ∷ held) (name_of frame) ∷ gs)
+    (later_groups frame held (names_of held) ∙ sym (groups_filter (differs (name_of frame)) held))
 
 total-cons : (group : Group) (some : List Group) → total (group ∷ some) ≡ length group.fragments + total some
 unfolding total
@@ -268,10 +350,12 @@ unfolding total groups
 total_within most [] short = refl
 total_within zero (frame ∷ held) short = absurd (omega arith)
 total_within (suc most) (frame ∷ held) short =
-    let split = length-filter_both (is_named (name_of frame)) (λ (f : Frame). not (is_named (name_of frame) f)) (λ f. refl) held in
+    let split = length-filter_both (is_named (name_of frame)) (λ (f : Frame). not (is_named (name_of frame) f))
+    (λ f. refl) held in
     let rest = total_within most (without (name_of frame) held) (omega arith) in
     let first = total-cons (group_of (frame ∷ held) (name_of frame)) (groups (without (name_of frame) held)) in
-    let here : length (of_name (name_of frame) (frame ∷ held)) ≡ suc (length (of_name (name_of frame) held)) = simp (same_name_refl (name_of frame)) in
+    let here : length (of_name (name_of frame) (frame ∷ held)) ≡ suc (length (of_name (name_of frame) held)) =
+    simp (same_name_refl (name_of frame)) in
     ap total (groups-cons frame held) ∙ omega arith
 
 pub total_groups : (held : List Frame) → total (groups held) ≡ length held

@@ -42,5 +42,6 @@ c = 17 ∷ 18 ∷ 19 ∷ 20 ∷ []
 -- the last one first: one datagram of 54 bytes comes out at the third, and the fourth opens another
 comes_out : passed [] (four 0 c ∷ eight 1 0 a ∷ eight 2 1 b ∷ eight 3 1 b ∷ [])
     ≡ framed 2 (0x45 ∷ 0 ∷ 0 ∷ 0x28 ∷ 0x12 ∷ 0x34 ∷ 0 ∷ 0 ∷ 64 ∷ 17 ∷ 0x54 ∷ 0x8f ∷ []) (a ++ (b ++ c)) ∷ []
-unfolding takes_part name_of from_of to_of is_last data_of headers_length shares data_from headers_from datagram_from covers_all completed same_name kept_for is_copy contradicts conflicts pass checksum_of
+unfolding takes_part name_of from_of to_of is_last data_of headers_length shares data_from headers_from datagram_from covers_all
+    completed same_name kept_for is_copy contradicts conflicts pass checksum_of
 comes_out = refl

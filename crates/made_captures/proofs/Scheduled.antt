@@ -1,5 +1,6 @@
 -- The lines of a made schedule: one by one, without a tick, and not many.
-use Rattle.std.proofs.Common.{◌≡◌, ℕ, zero, suc, ◌+◌, ◌*◌, ◌%◌, ◌≤◌, List, [], ◌∷◌, ◌++◌, length, true, false, Bool, sym, ap, ◌∙◌, append_assoc, length-append, arith}
+use Rattle.std.proofs.Common.{◌≡◌, ℕ, zero, suc, ◌+◌, ◌*◌, ◌%◌, ◌≤◌, List, [], ◌∷◌, ◌++◌, length, true, false, Bool, sym, ap}
+use Rattle.std.proofs.Common.{◌∙◌, append_assoc, length-append, arith}
 use Rattle.std.specs.Prelude.{if◌then◌else◌, ◌==◌}
 use Rattle.std.specs.List.{flat_map, range_with_len}
 use Rattle.std.proofs.lemmas.Grind.{flat_map-append}
@@ -23,14 +24,16 @@ one_more f n =
     ∙ ap (λ (xs : List ℕ). flat_map f xs) (range-more 0 n n (omega arith)) ∙ flat_map-append f (range_with_len 0 n) (n ∷ [])
     ∙ ap (λ (ls : List Line). flat_map f (range_with_len 0 n) ++ ls) (append-nil (f n))
 
-pub read_lines-more : (lines : List Line) (n : ℕ) → lines ++ read_lines (n + 1) ≡ (lines ++ read_lines n) ++ Read n ∷ Read n ∷ []
+pub read_lines-more : (lines : List Line) (n : ℕ)
+    → lines ++ read_lines (n + 1) ≡ (lines ++ read_lines n) ++ Read n ∷ Read n ∷ []
 unfolding read_lines
 read_lines-more lines n =
     let reads = flat_map (λ member. Read member ∷ Read member ∷ []) (range_with_len 0 n) in
     ap (λ (ls : List Line). lines ++ ls) (one_more (λ member. Read member ∷ Read member ∷ []) n)
     ∙ sym (append_assoc lines reads (Read n ∷ Read n ∷ []))
 
-pub made_lines-more : (cpus members n : ℕ) → made_lines (n + 1) cpus members ≡ made_lines n cpus members ++ feed_lines cpus members n
+pub made_lines-more : (cpus members n : ℕ) → made_lines (n + 1) cpus members ≡ made_lines n cpus members
+    ++ feed_lines cpus members n
 unfolding made_lines
 made_lines-more cpus members n = one_more (feed_lines cpus members) n
 
@@ -70,7 +73,8 @@ unfolding read_lines
 feed_few true cpu members few = let reads = reads_few 0 members in omega (arith, few, reads)
 feed_few false cpu members few = omega arith
 
-feeds_few : (from n cpus members : ℕ) → members ≤ 8 → length (flat_map (feed_lines cpus members) (range_with_len from n)) ≤ 17 * n
+feeds_few : (from n cpus members : ℕ) → members ≤ 8
+    → length (flat_map (feed_lines cpus members) (range_with_len from n)) ≤ 17 * n
 unfolding feed_lines
 feeds_few from zero cpus members few = omega arith
 feeds_few from (suc n) cpus members few =

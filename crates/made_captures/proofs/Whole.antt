@@ -1,5 +1,6 @@
 -- A made capture is whole: it is short, and its packets can be written.
-use Rattle.std.proofs.Common.{◌≡◌, ℕ, zero, suc, ◌+◌, ◌*◌, ◌^◌, ◌%◌, ◌<◌, ◌≤◌, List, [], ◌∷◌, length, refl, ap, ◌∙◌, inl, inr, arith}
+use Rattle.std.proofs.Common.{◌≡◌, ℕ, zero, suc, ◌+◌, ◌*◌, ◌^◌, ◌%◌, ◌<◌, ◌≤◌, List, [], ◌∷◌, length, refl, ap, ◌∙◌, inl, inr}
+use Rattle.std.proofs.Common.{arith}
 use Rattle.std.specs.Prelude.{All, None, map}
 use Rattle.std.specs.List.{AllByRecursion, flat_map, range_with_len}
 use Rattle.std.proofs.lemmas.Bool.{cases_eq, eq-eqb, ne_eqb}
@@ -31,7 +32,8 @@ made-early seed count few = all-early count 0 seed (omega arith)
 
 -- ---- each packet can be written
 
-writable : (frames : List Frame) → AllByRecursion IsMade frames → AllByRecursion IsEarly frames → AllByRecursion IsWritable (map packet_of frames)
+writable : (frames : List Frame) → AllByRecursion IsMade frames → AllByRecursion IsEarly frames
+    → AllByRecursion IsWritable (map packet_of frames)
 writable [] all early = tt
 writable (frame ∷ frames) all early =
     let is = all.0 in (
@@ -51,11 +53,18 @@ length-record : (frame : Frame) → length (record_text (packet_of frame)) ≡ 1
 unfolding record_text four_bytes
 length-record frame = omega arith
 
-length-records : (frames : List Frame) → AllByRecursion IsMade frames → length (flat_map record_text (map packet_of frames)) ≤ 1458 * length frames
+length-records : (frames : List Frame) → AllByRecursion IsMade frames
+    → length (flat_map record_text (map packet_of frames)) ≤ 1458 * length frames
 length-records [] all = omega arith
 length-records (frame ∷ frames) all =
     let rest = flat_map record_text (map packet_of frames) in
-    omega (arith, length-append (record_text (packet_of frame)) rest, length-record frame, all.0.short, length-records frames all.1)
+    omega (
+      arith,
+      length-append (record_text (packet_of frame)) rest,
+      length-record frame,
+      all.0.short,
+      length-records frames all.1,
+    )
 
 length-header : length output_header ≡ 24
 unfolding output_header four_bytes
@@ -71,13 +80,16 @@ length-given cpus cpu i (frame ∷ frames) = elim (cases_eq (i % cpus) cpu) [
 
 -- ---- the frames come back
 
-back : (number index : ℕ) (frames : List Frame) → AllByRecursion IsMade frames → frames_back number index (map packet_of frames) ≡ as_captured number index frames
+back : (number index : ℕ) (frames : List Frame) → AllByRecursion IsMade frames
+    → frames_back number index (map packet_of frames) ≡ as_captured number index frames
 back number index [] all = refl
 back number index (frame ∷ frames) all =
     let is = all.0 in
     let wire : original (packet_of frame) ≡ frame.wire = omega (arith, is.whole, is.short) in
-    ap (λ n. record frame { cpu = number; index = index; wire = n; tag = None } ∷ frames_back number (index + 1) (map packet_of frames)) wire
-    ∙ ap (λ (fs : List Frame). record frame { cpu = number; index = index; tag = None } ∷ fs) (back number (index + 1) frames all.1)
+    ap (λ n. record frame { cpu = number; index = index; wire = n; tag = None }
+    ∷ frames_back number (index + 1) (map packet_of frames)) wire
+    ∙ ap (λ (fs : List Frame). record frame { cpu = number; index = index; tag = None } ∷ fs)
+    (back number (index + 1) frames all.1)
 
 module _ (seed count cpus cpu : ℕ) (few : count ≤ 20000) where
   given : List Frame
@@ -111,16 +123,20 @@ module _ (seed count cpus cpu : ℕ) (few : count ≤ 20000) where
   unfolding capture_for
   capture-ends = output_end (packets_for cpus (made seed count) cpu) packets-writable capture-short
 
-  pub capture-frames : (number : ℕ) → frames_of number (capture_for seed count cpus cpu) ≡ as_captured number 0 (given_to cpus cpu (made seed count))
+  pub capture-frames : (number : ℕ) → frames_of number (capture_for seed count cpus cpu)
+      ≡ as_captured number 0 (given_to cpus cpu (made seed count))
   unfolding capture_for given
   capture-frames number =
-      output_frames (packets_for cpus (made seed count) cpu) packets-writable capture-short number ∙ back number 0 given given-made
+      output_frames (packets_for cpus (made seed count) cpu) packets-writable capture-short number
+      ∙ back number 0 given given-made
 
 -- and the same for all CPUs
-all_end : (seed count cpus from n : ℕ) → count ≤ 20000 → All (λ text. end_of text ≡ None) (map (capture_for seed count cpus) (range_with_len from n))
+all_end : (seed count cpus from n : ℕ) → count ≤ 20000
+    → All (λ text. end_of text ≡ None) (map (capture_for seed count cpus) (range_with_len from n))
 all_end seed count cpus from zero few = All-nil (λ (text : List ℕ). end_of text ≡ None)
 all_end seed count cpus from (suc n) few =
-    All-cons (λ (text : List ℕ). end_of text ≡ None) (capture_for seed count cpus from) (map (capture_for seed count cpus) (range_with_len (from + 1) n))
+    All-cons (λ (text : List ℕ). end_of text ≡ None) (capture_for seed count cpus from)
+    (map (capture_for seed count cpus) (range_with_len (from + 1) n))
     (capture-ends seed count cpus from few) (all_end seed count cpus (from + 1) n few)
 
 pub captures-end : (seed count cpus : ℕ) → count ≤ 20000 → All (λ text. end_of text ≡ None) (made_captures seed count cpus)

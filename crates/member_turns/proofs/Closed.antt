@@ -1,5 +1,6 @@
 -- The notes of a closed member.
-use Rattle.std.proofs.Common.{◌≡◌, ◌<◌, ◌≤◌, ℕ, List, [], ◌∷◌, ◌++◌, length, refl, sym, ap, ◌∙◌, subst, arith, append-nil, length-append}
+use Rattle.std.proofs.Common.{◌≡◌, ◌<◌, ◌≤◌, ℕ, List, [], ◌∷◌, ◌++◌, length, refl, sym, ap, ◌∙◌, subst, arith, append-nil}
+use Rattle.std.proofs.Common.{length-append}
 use Rattle.std.proofs.lemmas.List.Elements.{filter-append}
 use Rattle.std.specs.List.{AllByRecursion}
 use Rattle.ring_model.specs.declared.notes.Note.{Note}
@@ -13,17 +14,20 @@ use Rattle.member_turns.specs.EntryLaws.{one_seat}
 use Rattle.member_turns.specs.Seats.{Lock, Seat}
 
 -- what a turn of one of the seats added, one of the seats may add
-of_turn : (lock : Lock) (number : ℕ) (entries rest : List Note) → number < lock.seats → IsTurn (may_note lock.base) number entries
+of_turn : (lock : Lock) (number : ℕ) (entries rest : List Note) → number < lock.seats
+    → IsTurn (may_note lock.base) number entries
     → AllByRecursion (IsOfSeat lock) rest → AllByRecursion (IsOfSeat lock) (entries ++ rest)
 of_turn lock number [] rest within turn are = are
 of_turn lock number (note ∷ entries) rest within turn are =
     ((number, within, turn.0), subst (λ (more : List Note). AllByRecursion (IsOfSeat lock) (more ++ rest)) (sym turn.1) are)
 
-of_turns : (lock : Lock) (n : ℕ) (turns : List (ℕ × List Note)) → n ≡ lock.seats → AllByRecursion (IsTurnOf (may_note lock.base) n) turns
+of_turns : (lock : Lock) (n : ℕ) (turns : List (ℕ × List Note)) → n ≡ lock.seats
+    → AllByRecursion (IsTurnOf (may_note lock.base) n) turns
     → AllByRecursion (IsOfSeat lock) (added_in turns)
 of_turns lock n [] all lawful = tt
 of_turns lock n (turn ∷ turns) all lawful =
-    of_turn lock turn.0 turn.1 (added_in turns) (subst (λ (z : ℕ). turn.0 < z) all lawful.0.0) lawful.0.1 (of_turns lock n turns all lawful.1)
+    of_turn lock turn.0 turn.1 (added_in turns) (subst (λ (z : ℕ). turn.0 < z) all lawful.0.0) lawful.0.1
+    (of_turns lock n turns all lawful.1)
 
 few_added : (lock : Lock) (n : ℕ) (turns : List (ℕ × List Note)) → AllByRecursion (IsTurnOf (may_note lock.base) n) turns
     → length (added_in turns) ≤ length turns
@@ -41,10 +45,12 @@ own_closed lock number history =
     filter-append (may_note lock.base number) history (Finished ∷ []) ∙ append-nil (own (may_note lock.base) number history)
 
 own_all : (lock : Lock) (turns : List (ℕ × List Note)) (history : List Note) (seats : List Seat)
-    → AllByRecursion (HasTurns (may_note lock.base) turns history) seats → AllByRecursion (HasOwn lock (history ++ Finished ∷ [])) seats
+    → AllByRecursion (HasTurns (may_note lock.base) turns history) seats
+    → AllByRecursion (HasOwn lock (history ++ Finished ∷ [])) seats
 own_all lock turns history [] all = tt
 own_all lock turns history (seat ∷ seats) all = (
-  own_closed lock seat.number history ∙ own_stays (may_note lock.base) (one_seat lock.base) seat.number seat.last history all.0.1,
+  own_closed lock seat.number history ∙ own_stays (may_note lock.base) (one_seat lock.base) seat.number seat.last
+      history all.0.1,
   own_all lock turns history seats all.1,
 )
 
@@ -58,5 +64,6 @@ closed_notes lock seats history fresh all ends =
       notes_are = refl;
       each_note = subst (AllByRecursion (IsOfSeat lock)) (sym added) (of_turns lock (length seats) ends.turns all ends.lawful);
       each_seat = own_all lock ends.turns history seats ends.each_seat;
-      few = let short = few_added lock (length seats) ends.turns ends.lawful in let long = ap length added in let turns = ends.all_turns in omega (arith, short, long, turns);
+      few = let short = few_added lock (length seats) ends.turns ends.lawful in let long = ap length added in let turns =
+          ends.all_turns in omega (arith, short, long, turns);
     }

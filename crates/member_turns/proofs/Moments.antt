@@ -1,5 +1,6 @@
 -- The clock of a ring is the moment of the last tick, which the timer's own notes give.
-use Rattle.std.proofs.Common.{◌≡◌, ℕ, Bool, true, false, List, [], ◌∷◌, Option, Some, None, refl, ap, ◌∙◌, eq-eqb, if◌then◌else◌}
+use Rattle.std.proofs.Common.{◌≡◌, ℕ, Bool, true, false, List, [], ◌∷◌, Option, Some, None, refl, ap, ◌∙◌, eq-eqb}
+use Rattle.std.proofs.Common.{if◌then◌else◌}
 use Rattle.std.proofs.lemmas.Bool.{false≢true}
 use Rattle.std.specs.Prelude.{◌==◌, nat_lt, ◌+◌}
 use Rattle.ring_model.specs.Ring.{Size, State, after, after_all, after_drop, after_due, first_state, state_of}
@@ -29,7 +30,8 @@ clock_after size state (Kept offer NotAsked) notes = refl
 clock_after size state (Kept offer Free) notes = refl
 clock_after size state (Kept offer (Held number)) notes = refl
 clock_after size state (Refused cpu index need number) notes = refl
-clock_after size state (Dropped cpu index need number) notes = ap (λ (ms : ℕ). moment_from ms notes) (drop_clock state state.now)
+clock_after size state (Dropped cpu index need number) notes =
+    ap (λ (ms : ℕ). moment_from ms notes) (drop_clock state state.now)
 clock_after size state (Ticked ms found) notes = ap (λ (at : ℕ). moment_from at notes)
     (tick_clock (nat_lt ms state.deadline) state (after_due state state.now found) ms (ms + size.tov))
 clock_after size state Counted notes = refl
@@ -59,11 +61,14 @@ is_kept false ms now found notes same = absurd (false≢true same)
 moments_own : (cpus ms : ℕ) (notes : List Note) → moment_from ms (own (may_add cpus) cpus notes) ≡ moment_from ms notes
 moments_own cpus ms [] = refl
 moments_own cpus ms (Kept offer found ∷ notes) =
-    or_not (may_add cpus cpus (Kept offer found)) ms (Kept offer found) (own (may_add cpus) cpus notes) refl ∙ moments_own cpus ms notes
+    or_not (may_add cpus cpus (Kept offer found)) ms (Kept offer found) (own (may_add cpus) cpus notes) refl
+    ∙ moments_own cpus ms notes
 moments_own cpus ms (Refused cpu index need number ∷ notes) =
-    or_not (may_add cpus cpus (Refused cpu index need number)) ms (Refused cpu index need number) (own (may_add cpus) cpus notes) refl ∙ moments_own cpus ms notes
+    or_not (may_add cpus cpus (Refused cpu index need number)) ms (Refused cpu index need number)
+    (own (may_add cpus) cpus notes) refl ∙ moments_own cpus ms notes
 moments_own cpus ms (Dropped cpu index need number ∷ notes) =
-    or_not (may_add cpus cpus (Dropped cpu index need number)) ms (Dropped cpu index need number) (own (may_add cpus) cpus notes) refl ∙ moments_own cpus ms notes
+    or_not (may_add cpus cpus (Dropped cpu index need number)) ms (Dropped cpu index need number)
+    (own (may_add cpus) cpus notes) refl ∙ moments_own cpus ms notes
 moments_own cpus ms (Ticked now found ∷ notes) =
     is_kept (cpus == cpus) ms now found (own (may_add cpus) cpus notes) (eq-eqb cpus cpus refl) ∙ moments_own cpus now notes
 moments_own cpus ms (Counted ∷ notes) = moments_own cpus ms notes

@@ -1,5 +1,6 @@
 -- The decoder that a feed leaves.
-use Rattle.std.proofs.Common.{◌≡◌, Bool, true, false, ℕ, ◌+◌, ◌-◌, ◌≤◌, List, [], ◌++◌, length, take, drop, refl, sym, ap, subst, ◌∙◌, arith}
+use Rattle.std.proofs.Common.{◌≡◌, Bool, true, false, ℕ, ◌+◌, ◌-◌, ◌≤◌, List, [], ◌++◌, length, take, drop, refl, sym, ap}
+use Rattle.std.proofs.Common.{subst, ◌∙◌, arith}
 use Rattle.std.specs.Prelude.{min, nat_lt, Option, None}
 use Rattle.std.proofs.lemmas.List.{length-append, length-take, take_min}
 use Rattle.frame_view.specs.declared.frames.Frame.{Frame}
@@ -16,30 +17,53 @@ use Rattle.pcapng_blocks.specs.Decoders.{stage_with, error_of, stage_of, Represe
 use Rattle.pcapng_blocks.proofs.Outcomes.{Settles, settles, damage_is_error}
 
 -- what a feed leaves, by its steps: what was taken of the piece, and the stage with what is beyond
-pub settles_here : (number : ℕ) (fed piece taken : List ℕ) (now : DecoderValue) (cpu : ℕ) (cursor : Cursor) (stage : Stage) (count : ℕ) (old new : Held) (before after : List Frame)
+pub settles_here : (number : ℕ) (fed piece taken : List ℕ) (now : DecoderValue) (cpu : ℕ) (cursor : Cursor) (stage : Stage)
+    (count : ℕ) (old new : Held) (before after : List Frame)
     (progress : Progress) (size : ℕ) (then_ : Stage)
-    → record { cpu = cpu; fed = count; stage = stage; spot = spot_of cursor old.interfaces.items; rest = old.kept.items } ≡ now → Represents number now fed
+    → record { cpu = cpu; fed = count; stage = stage; spot = spot_of cursor old.interfaces.items; rest = old.kept.items } ≡ now
+    → Represents number now fed
     → size ≡ min (33554432 - count) (length piece) → taken ≡ take size piece
     → then_ ≡ stage_with progress.stage (nat_lt (33554432 - count) (length piece))
     → Feeds cpu stage cursor old taken before progress new after
-    → Settles number fed piece before after then_ (spot_of progress.cursor new.interfaces.items) (drop progress.cut new.kept.items)
-settles_here number fed piece taken now cpu cursor stage count old new before after progress size then_ view represents room part with feeds =
+    → Settles number fed piece before after then_ (spot_of progress.cursor new.interfaces.items)
+    (drop progress.cut new.kept.items)
+settles_here number fed piece taken now cpu cursor stage count old new before after progress size then_ view represents room
+    part with feeds =
     let s = subst (λ (v : DecoderValue). Represents number v fed) (sym view) represents in
-    let mine : Represents number (record { cpu = number; fed = count; stage = stage; spot = spot_of cursor old.interfaces.items; rest = old.kept.items }) fed =
+    let mine : Represents number
+    (record {
+      cpu = number;
+      fed = count;
+      stage = stage;
+      spot = spot_of cursor old.interfaces.items;
+      rest = old.kept.items;
+    }) fed =
     record { cpu = refl; count = s.count; stage = s.stage; spot = s.spot; rest = s.rest } in
-    let all : taken ≡ take (33554432 - count) piece = part ∙ ap (λ (n : ℕ). take n piece) room ∙ take_min (33554432 - count) piece in
-    rw with (settles number fed piece taken cursor stage count old new before after progress (nat_lt (33554432 - count) (length piece)) mine all refl
+    let all : taken ≡ take (33554432 - count) piece =
+    part ∙ ap (λ (n : ℕ). take n piece) room ∙ take_min (33554432 - count) piece in
+    rw with (settles number fed piece taken cursor stage count old new before after progress
+    (nat_lt (33554432 - count) (length piece)) mine all refl
     (subst (λ (n : ℕ). Feeds n stage cursor old taken before progress new after) s.cpu feeds))
 
 -- the bytes that count, after a feed
-fed_on : (fed piece taken : List ℕ) (count size : ℕ) → count ≡ length (counted fed) → size ≡ min (33554432 - count) (length piece) → taken ≡ take size piece
+fed_on : (fed piece taken : List ℕ) (count size : ℕ) → count ≡ length (counted fed)
+    → size ≡ min (33554432 - count) (length piece) → taken ≡ take size piece
     → count + length taken ≡ length (counted (fed ++ piece))
 fed_on fed piece taken count size counts room part =
-    omega (arith, length-take 33554432 fed, length-take 33554432 (fed ++ piece), length-append fed piece, ap length part, length-take size piece)
+    omega (
+      arith,
+      length-take 33554432 fed,
+      length-take 33554432 (fed ++ piece),
+      length-append fed piece,
+      ap length part,
+      length-take size piece,
+    )
 
 -- the decoder that is left represents all bytes
-module _ (number : ℕ) (fed piece taken : List ℕ) (before after : List Frame) (old decoder : DecoderValue) (stage : Stage) (spot : Spot) (rest kept : List ℕ) (size : ℕ)
-    (view : decoder ≡ old) (represents : Represents number old fed) (room : size ≡ min (33554432 - decoder.fed) (length piece)) (part : taken ≡ take size piece)
+module _ (number : ℕ) (fed piece taken : List ℕ) (before after : List Frame) (old decoder : DecoderValue) (stage : Stage)
+    (spot : Spot) (rest kept : List ℕ) (size : ℕ)
+    (view : decoder ≡ old) (represents : Represents number old fed) (room : size ≡ min (33554432 - decoder.fed) (length piece))
+    (part : taken ≡ take size piece)
     (h : Settles number fed piece before after stage spot rest) where
   was : Represents number decoder fed
   was = subst (λ (v : DecoderValue). Represents number v fed) (sym view) represents
@@ -48,19 +72,25 @@ module _ (number : ℕ) (fed piece taken : List ℕ) (before after : List Frame)
   count = fed_on fed piece taken decoder.fed size was.count room part
 
   pub represents_more : error_of stage ≡ None → kept ≡ rest
-      → Represents number (record { cpu = decoder.cpu; fed = decoder.fed + length taken; stage = stage; spot = spot; rest = kept }) (fed ++ piece)
+      → Represents number
+      (record { cpu = decoder.cpu; fed = decoder.fed + length taken; stage = stage; spot = spot; rest = kept })
+      (fed ++ piece)
   represents_more none all = record { cpu = was.cpu; count = count; stage = h.at; spot = h.place; rest = all ∙ h.kept none }
 
   pub represents_damaged : (error : BlockError) → stage ≡ stages.Damaged error → kept ≡ []
-      → Represents number (record { cpu = decoder.cpu; fed = decoder.fed + length taken; stage = stage; spot = spot; rest = kept }) (fed ++ piece)
+      → Represents number
+      (record { cpu = decoder.cpu; fed = decoder.fed + length taken; stage = stage; spot = spot; rest = kept })
+      (fed ++ piece)
   represents_damaged error at none =
       let told : stage_of (fed ++ piece) ≡ stages.Damaged error = sym h.at ∙ at in
       record { cpu = was.cpu; count = count; stage = h.at; spot = h.place; rest = none ∙ rw told refl }
 
 -- the answer is the damage
-pub settles_damage : (number : ℕ) (fed piece : List ℕ) (before after : List Frame) (stage : Stage) (spot : Spot) (rest : List ℕ) (damage : Option BlockError)
+pub settles_damage : (number : ℕ) (fed piece : List ℕ) (before after : List Frame) (stage : Stage) (spot : Spot) (rest : List ℕ)
+    (damage : Option BlockError)
     → Settles number fed piece before after stage spot rest → error_of stage ≡ damage → damage ≡ damage_of (fed ++ piece)
-settles_damage number fed piece before after stage spot rest damage h e = sym e ∙ ap error_of h.at ∙ sym (damage_is_error (fed ++ piece))
+settles_damage number fed piece before after stage spot rest damage h e =
+    sym e ∙ ap error_of h.at ∙ sym (damage_is_error (fed ++ piece))
 
 -- a stage that isn't damaged has no error
 pub no_error : (stage : Stage) → ((error : BlockError) → stage ≡ stages.Damaged error → ⊥) → error_of stage ≡ None
@@ -75,7 +105,8 @@ stop_within stages.Blocks spot rest fed kept = omega (arith, kept.1)
 stop_within (stages.Skipping skip) spot rest fed kept = omega (arith, kept.0.within, kept.1)
 stop_within (stages.Damaged error) spot rest fed kept = kept.1
 
-pub damaged_sound : (stage then_ : Stage) (spot : Spot) (rest kept : List ℕ) (fed : ℕ) (error : BlockError) → IsSoundAt stage spot rest fed → then_ ≡ stages.Damaged error → kept ≡ []
+pub damaged_sound : (stage then_ : Stage) (spot : Spot) (rest kept : List ℕ) (fed : ℕ) (error : BlockError)
+    → IsSoundAt stage spot rest fed → then_ ≡ stages.Damaged error → kept ≡ []
     → IsSoundAt then_ spot kept fed
 damaged_sound stage then_ spot rest kept fed error sound at none =
     rw at (record { kept = (none, stop_within stage spot rest fed sound.kept); count = sound.count })
@@ -87,6 +118,7 @@ with_same (stages.Skipping skip) then_ true at none = let e = rw at at none in a
 with_same (stages.Skipping skip) then_ false at none = at
 with_same (stages.Damaged error) then_ beyond at none = at
 
-pub sound_with : (stage then_ : Stage) (beyond : Bool) (spot : Spot) (rest kept : List ℕ) (fed : ℕ) → IsSoundAt stage spot rest fed → then_ ≡ stage_with stage beyond → error_of then_ ≡ None → kept ≡ rest
+pub sound_with : (stage then_ : Stage) (beyond : Bool) (spot : Spot) (rest kept : List ℕ) (fed : ℕ)
+    → IsSoundAt stage spot rest fed → then_ ≡ stage_with stage beyond → error_of then_ ≡ None → kept ≡ rest
     → IsSoundAt then_ spot kept fed
 sound_with stage then_ beyond spot rest kept fed sound at none all = rw (with_same stage then_ beyond at none, all) sound

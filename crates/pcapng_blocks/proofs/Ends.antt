@@ -61,7 +61,8 @@ module _ (fed : List ℕ) (stop : ℕ) (rest : List ℕ) (place : stop ≡ stop_
   end_whole : damage_of fed ≡ None → length fed ≤ stop_of fed → None ≡ end_of fed
   end_whole d none = rw (d, le-ltb _ _ none) refl
 
-  end_blocks : (none : Bool) → damage_of fed ≡ None → length fed ≤ 33554432 → rest ≡ (reached_in 0 fed).left → none ≡ eqb (length rest) 0
+  end_blocks : (none : Bool) → damage_of fed ≡ None → length fed ≤ 33554432 → rest ≡ (reached_in 0 fed).left
+      → none ≡ eqb (length rest) 0
       → end_at stages.Blocks stop none ≡ end_of fed
   end_blocks none d few all is =
       let sum = stop_accounts fed few in
@@ -84,13 +85,15 @@ module _ (fed : List ℕ) (stop : ℕ) (rest : List ℕ) (place : stop ≡ stop_
       elim (cases_Bool (is_skipped head.kind)) [
         | inl skipped ↦
             let sum = stop_accounts fed few in
-            let eight = (look_head (reached_in 0 fed).spot.order (reached_in 0 fed).spot.stop (reached_in 0 fed).left head e).eight in
+            let eight =
+            (look_head (reached_in 0 fed).spot.order (reached_in 0 fed).spot.stop (reached_in 0 fed).left head e).eight in
             rw skipped (end_cut d (omega arith))
         | inr reads ↦ rw reads (end_blocks none d few (rw reads at all) is)
       ]
 
   -- the stage, its place and whether bytes are kept determine the end
-  pub end_told : (stage : Stage) (none : Bool) → stage ≡ stage_of fed → rest ≡ kept_of fed → none ≡ eqb (length rest) 0 → end_at stage stop none ≡ end_of fed
+  pub end_told : (stage : Stage) (none : Bool) → stage ≡ stage_of fed → rest ≡ kept_of fed → none ≡ eqb (length rest) 0
+      → end_at stage stop none ≡ end_of fed
   end_told stage none at all is =
       elim (stage_is fed) [
         | failed error e told d ↦ rw (at, told) (end_damaged error d)
@@ -103,7 +106,8 @@ module _ (fed : List ℕ) (stop : ℕ) (rest : List ℕ) (place : stop ≡ stop_
 
 -- ---- how many bytes are kept
 
-part_few : (spot : Spot) (rest : List ℕ) (look : Look) → IsPart spot rest → look_at spot.order spot.stop rest ≡ look → length rest ≤ 524287
+part_few : (spot : Spot) (rest : List ℕ) (look : Look) → IsPart spot rest → look_at spot.order spot.stop rest ≡ look
+    → length rest ≤ 524287
 part_few spot rest Short part e =
     elim (cases_lt (length rest) 12) [
       | inl less ↦ omega arith

@@ -11,10 +11,12 @@ use Rattle.pcapng_blocks.specs.declared.heads.Kind.{Kind}
 use Rattle.pcapng_blocks.specs.declared.heads.Kind.TheVariants.{Section, Interface, Enhanced, Simple, Other}
 use Rattle.pcapng_blocks.specs.declared.heads.Look.TheVariants.{Short, Headed}
 use Rattle.pcapng_blocks.specs.Numbers.{number_at}
-use Rattle.pcapng_blocks.specs.Heads.{kind_of, head_size, least, is_skipped, length_fits, order_of, headed, look_as, look_at, IsHead}
+use Rattle.pcapng_blocks.specs.Heads.{kind_of, head_size, least, is_skipped, length_fits, order_of, headed, look_as, look_at}
+use Rattle.pcapng_blocks.specs.Heads.{IsHead}
 
 -- a number doesn't depend on what comes after it
-pub number_at-append : (order : Order) (n at : ℕ) (xs ys : List ℕ) → at + n ≤ length xs → number_at order n at (xs ++ ys) ≡ number_at order n at xs
+pub number_at-append : (order : Order) (n at : ℕ) (xs ys : List ℕ) → at + n ≤ length xs
+    → number_at order n at (xs ++ ys) ≡ number_at order n at xs
 unfolding number_at
 number_at-append Little n at xs ys h =
     let le : at ≤ length xs = omega arith in
@@ -23,7 +25,8 @@ number_at-append Big n at xs ys h =
     let le : at ≤ length xs = omega arith in
     rw (drop-append-le at xs ys le) (big_from-append n (drop at xs) ys (omega (arith, length-drop at xs)))
 
-order_of-append : (kind : Kind) (order : Order) (xs ys : List ℕ) → head_size kind ≤ length xs → order_of kind order (xs ++ ys) ≡ order_of kind order xs
+order_of-append : (kind : Kind) (order : Order) (xs ys : List ℕ) → head_size kind ≤ length xs
+    → order_of kind order (xs ++ ys) ≡ order_of kind order xs
 order_of-append Section order xs ys h =
     let little = number_at-append Little 4 8 xs ys (omega arith) in
     let big = number_at-append Big 4 8 xs ys (omega arith) in
@@ -33,7 +36,8 @@ order_of-append Enhanced order xs ys h = refl
 order_of-append Simple order xs ys h = refl
 order_of-append Other order xs ys h = refl
 
-headed-append : (place : ℕ) (kind : Kind) (found : Option Order) (xs ys : List ℕ) → 8 ≤ length xs → headed place kind found (xs ++ ys) ≡ headed place kind found xs
+headed-append : (place : ℕ) (kind : Kind) (found : Option Order) (xs ys : List ℕ) → 8 ≤ length xs
+    → headed place kind found (xs ++ ys) ≡ headed place kind found xs
 headed-append place kind None xs ys h = refl
 headed-append place kind (Some order) xs ys h = rw (number_at-append order 4 4 xs ys (omega arith)) refl
 
@@ -44,7 +48,8 @@ head_least Enhanced = omega arith
 head_least Simple = omega arith
 head_least Other = omega arith
 
-look_as-append : (kind : Kind) (order : Order) (place : ℕ) (xs ys : List ℕ) → look_as kind order place xs ≢ Short → look_as kind order place (xs ++ ys) ≡ look_as kind order place xs
+look_as-append : (kind : Kind) (order : Order) (place : ℕ) (xs ys : List ℕ) → look_as kind order place xs ≢ Short
+    → look_as kind order place (xs ++ ys) ≡ look_as kind order place xs
 look_as-append kind order place xs ys not =
     elim (cases_lt (length xs) (head_size kind)) [
       | inl less ↦ absurd (not (rw (lt-ltb _ _ less) refl))
@@ -56,7 +61,8 @@ look_as-append kind order place xs ys not =
     ]
 
 -- a head is not changed by what comes after it
-pub look_at-append : (order : Order) (place : ℕ) (xs ys : List ℕ) → look_at order place xs ≢ Short → look_at order place (xs ++ ys) ≡ look_at order place xs
+pub look_at-append : (order : Order) (place : ℕ) (xs ys : List ℕ) → look_at order place xs ≢ Short
+    → look_at order place (xs ++ ys) ≡ look_at order place xs
 unfolding look_at
 look_at-append order place xs ys not =
     elim (cases_lt (length xs) 8) [
@@ -65,7 +71,8 @@ look_at-append order place xs ys not =
           let wider : 8 ≤ length (xs ++ ys) = omega (arith, length-append xs ys) in
           let number = number_at-append order 4 0 xs ys (omega arith) in
           let there : look_as (kind_of (number_at order 4 0 xs)) order place xs ≢ Short = rw (le-ltb _ _ full) at not in
-          rw (le-ltb _ _ full, le-ltb _ _ wider, number) (look_as-append (kind_of (number_at order 4 0 xs)) order place xs ys there)
+          rw (le-ltb _ _ full, le-ltb _ _ wider, number)
+          (look_as-append (kind_of (number_at order 4 0 xs)) order place xs ys there)
     ]
 
 -- fewer than 8 bytes aren't a head
@@ -80,11 +87,13 @@ least_some Enhanced = omega arith
 least_some Simple = omega arith
 least_some Other = omega arith
 
-fits_few : (kind : Kind) (total : ℕ) → (if is_skipped kind then true else nat_le total 524288) ≡ true → is_skipped kind ≡ false → total ≤ 524288
+fits_few : (kind : Kind) (total : ℕ) → (if is_skipped kind then true else nat_le total 524288) ≡ true → is_skipped kind ≡ false
+    → total ≤ 524288
 fits_few kind total e read = leb-true _ _ (rw read at e)
 
 -- what is known of a head whose contents are allowed
-fits_head : (kind : Kind) (order : Order) (total : ℕ) → length_fits kind total ≡ true → IsHead (record { kind = kind; order = order; total = total })
+fits_head : (kind : Kind) (order : Order) (total : ℕ) → length_fits kind total ≡ true
+    → IsHead (record { kind = kind; order = order; total = total })
 fits_head kind order total e =
     let p = and_parts _ _ e in
     let q = and_parts _ _ p.1 in
@@ -95,7 +104,8 @@ fits_head kind order total e =
 headed_same : (x y : Head) → Headed x ≡ Headed y → x ≡ y
 headed_same x y e = cc
 
-headed_head : (place : ℕ) (kind : Kind) (found : Option Order) (bytes : List ℕ) (head : Head) → headed place kind found bytes ≡ Headed head → IsHead head
+headed_head : (place : ℕ) (kind : Kind) (found : Option Order) (bytes : List ℕ) (head : Head)
+    → headed place kind found bytes ≡ Headed head → IsHead head
 headed_head place kind None bytes head e = absurd cc
 headed_head place kind (Some order) bytes head e =
     elim (cases_Bool (length_fits kind (number_at order 4 4 bytes))) [
@@ -110,19 +120,26 @@ pub record HasHead (bytes : List ℕ) (head : Head) : Type 0 where
   pub sound : IsHead head
   pub eight : 8 ≤ length bytes
 
-look_as_head : (kind : Kind) (order : Order) (place : ℕ) (bytes : List ℕ) (head : Head) → look_as kind order place bytes ≡ Headed head → IsHead head
+look_as_head : (kind : Kind) (order : Order) (place : ℕ) (bytes : List ℕ) (head : Head)
+    → look_as kind order place bytes ≡ Headed head → IsHead head
 look_as_head kind order place bytes head e =
     elim (cases_lt (length bytes) (head_size kind)) [
       | inl less ↦ let f = rw (lt-ltb _ _ less) at e in absurd cc
       | inr full ↦ headed_head place kind (order_of kind order bytes) bytes head (rw (le-ltb _ _ full) at e)
     ]
 
-pub look_head : (order : Order) (place : ℕ) (bytes : List ℕ) (head : Head) → look_at order place bytes ≡ Headed head → HasHead bytes head
+pub look_head : (order : Order) (place : ℕ) (bytes : List ℕ) (head : Head) → look_at order place bytes ≡ Headed head
+    → HasHead bytes head
 unfolding look_at
 look_head order place bytes head e =
     elim (cases_lt (length bytes) 8) [
       | inl less ↦ let f = rw (lt-ltb _ _ less) at e in absurd cc
-      | inr full ↦ record { sound = look_as_head (kind_of (number_at order 4 0 bytes)) order place bytes head (rw (le-ltb _ _ full) at e); eight = full }
+      | inr full ↦
+          record {
+            sound = look_as_head (kind_of (number_at order 4 0 bytes)) order place bytes head
+                (rw (le-ltb _ _ full) at e);
+            eight = full;
+          }
     ]
 
 head_most : (kind : Kind) → head_size kind ≤ 12
@@ -140,7 +157,8 @@ headed_there place kind (Some order) bytes e =
       | inr not ↦ let f = rw not at e in absurd cc
     ]
 
-look_as_there : (kind : Kind) (order : Order) (place : ℕ) (bytes : List ℕ) → 12 ≤ length bytes → look_as kind order place bytes ≢ Short
+look_as_there : (kind : Kind) (order : Order) (place : ℕ) (bytes : List ℕ) → 12 ≤ length bytes
+    → look_as kind order place bytes ≢ Short
 look_as_there kind order place bytes long e =
     let most = head_most kind in
     let full : head_size kind ≤ length bytes = omega arith in

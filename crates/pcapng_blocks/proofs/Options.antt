@@ -36,7 +36,8 @@ abbrev pub after_option : Order → List ℕ → List ℕ
 after_option order bytes = drop (4 + padded (number_at order 2 2 bytes)) bytes
 
 -- a bound above the number of bytes changes nothing
-within_enough : (m n : ℕ) (order : Order) (so_far : ℕ) (bytes : List ℕ) → length bytes ≤ m → length bytes ≤ n → resolution_within m order so_far bytes ≡ resolution_within n order so_far bytes
+within_enough : (m n : ℕ) (order : Order) (so_far : ℕ) (bytes : List ℕ) → length bytes ≤ m → length bytes ≤ n
+    → resolution_within m order so_far bytes ≡ resolution_within n order so_far bytes
 unfolding resolution_within
 within_enough zero zero order so_far bytes hm hn = refl
 within_enough zero (suc n) order so_far bytes hm hn =
@@ -54,13 +55,16 @@ within_enough (suc m) (suc n) order so_far bytes hm hn =
       | inl more ↦
           let there = (option_there order bytes more).head in
           let size = length-drop (4 + padded (number_at order 2 2 bytes)) bytes in
-          rw more (within_enough m n order (resolution_after order so_far bytes) (after_option order bytes) (omega arith) (omega arith))
+          rw more (within_enough m n order (resolution_after order so_far bytes) (after_option order bytes) (omega arith)
+          (omega arith))
       | inr not ↦ rw not refl
     ]
 
-pub resolution-none : (order : Order) (so_far : ℕ) (bytes : List ℕ) → begins_option order bytes ≡ false → resolution_of order so_far bytes ≡ so_far
+pub resolution-none : (order : Order) (so_far : ℕ) (bytes : List ℕ) → begins_option order bytes ≡ false
+    → resolution_of order so_far bytes ≡ so_far
 unfolding resolution_of resolution_within
-resolution-none order so_far bytes not = within_enough (length bytes) (suc (length bytes)) order so_far bytes (omega arith) (omega arith) ∙ rw not refl
+resolution-none order so_far bytes not =
+    within_enough (length bytes) (suc (length bytes)) order so_far bytes (omega arith) (omega arith) ∙ rw not refl
 
 pub resolution-step : (order : Order) (so_far : ℕ) (bytes : List ℕ) → begins_option order bytes ≡ true
     → resolution_of order so_far bytes ≡ resolution_of order (resolution_after order so_far bytes) (after_option order bytes)
@@ -69,4 +73,5 @@ resolution-step order so_far bytes more =
     let there = (option_there order bytes more).head in
     let size = length-drop (4 + padded (number_at order 2 2 bytes)) bytes in
     within_enough (length bytes) (suc (length bytes)) order so_far bytes (omega arith) (omega arith)
-    ∙ rw more (within_enough (length bytes) (length (after_option order bytes)) order (resolution_after order so_far bytes) (after_option order bytes) (omega arith) (omega arith))
+    ∙ rw more (within_enough (length bytes) (length (after_option order bytes)) order (resolution_after order so_far bytes)
+    (after_option order bytes) (omega arith) (omega arith))

@@ -24,7 +24,13 @@ sound_with : (text : RingRequest → Taken → List ℕ) (shape : RingRequest) (
     → Adds taken (kept_if dumps (text shape taken)) before after result → IsSound text shape dumps after
 sound_with text shape dumps before after taken (Ok u) sound adds = record {
   counted = rw (adds.marks, adds.walked) (counted_more before.marks.items before.walked.items taken sound.counted);
-  dump = rw (adds.dump, adds.marks, adds.walked, sound.dump, one_more before.marks.items before.walked.items taken sound.counted)
+  dump = rw (
+    adds.dump,
+    adds.marks,
+    adds.walked,
+    sound.dump,
+    one_more before.marks.items before.walked.items taken sound.counted,
+  )
       (sym (dump_more text dumps shape (blocks_of before) taken));
 }
 sound_with text shape dumps before after taken (Err e) sound adds = record {
@@ -33,8 +39,10 @@ sound_with text shape dumps before after taken (Err e) sound adds = record {
 }
 
 ok_with : (text : RingRequest → Taken → List ℕ) (taken_in : RingRequest → List ℕ → Taken) (shape : RingRequest) (dumps : Bool)
-    (held : Option (List ℕ)) (bytes : List ℕ) (before after : Copies) (value : ReaderValue) (kept : List ℕ) (result : Result (Unit {0}) Memory)
-    → reader_value shape dumps before held ≡ value → IsSound text shape dumps before → Adds (taken_in shape bytes) kept before after result
+    (held : Option (List ℕ)) (bytes : List ℕ) (before after : Copies) (value : ReaderValue) (kept : List ℕ)
+    (result : Result (Unit {0}) Memory)
+    → reader_value shape dumps before held ≡ value → IsSound text shape dumps before
+    → Adds (taken_in shape bytes) kept before after result
     → OnOk result (reader_value shape dumps after held ≡ record (has_read taken_in bytes value) { held = value.held })
 ok_with text taken_in shape dumps held bytes before after value kept (Ok u) view sound adds =
     ap (λ (blocks : List Taken). record (reader_value shape dumps before held) { taken = blocks })
@@ -51,7 +59,8 @@ err_with taken kept shape dumps held before after value (Err e) view adds =
     (rw (adds.same_marks, adds.same_walked) refl) ∙ view
 
 -- a block or a slot of its own shape, which is the reader's, was added or not
-module _ (text : RingRequest → Taken → List ℕ) (taken_in : RingRequest → List ℕ → Taken) (own shape : RingRequest) (dumps : Bool)
+module _ (text : RingRequest → Taken → List ℕ) (taken_in : RingRequest → List ℕ → Taken) (own shape : RingRequest)
+    (dumps : Bool)
     (held : Option (List ℕ)) (bytes : List ℕ) (before after : Copies) (value : ReaderValue) (result : Result (Unit {0}) Memory)
     (is_own : own ≡ value.shape) (view : reader_value shape dumps before held ≡ value) (sound : IsSound text shape dumps before)
     (adds : Adds (taken_in own bytes) (kept_if dumps (text own (taken_in own bytes))) before after result) where
@@ -62,7 +71,8 @@ module _ (text : RingRequest → Taken → List ℕ) (taken_in : RingRequest →
   pub sound_after : IsSound text shape dumps after
   sound_after = sound_with text shape dumps before after (taken_in shape bytes) result sound added
 
-  pub ok_after : OnOk result (reader_value shape dumps after held ≡ record (has_read taken_in bytes value) { held = value.held })
+  pub ok_after : OnOk result (reader_value shape dumps after held
+      ≡ record (has_read taken_in bytes value) { held = value.held })
   ok_after = ok_with text taken_in shape dumps held bytes before after value _ result view sound added
 
   pub err_after : OnErr result (reader_value shape dumps after held ≡ value)

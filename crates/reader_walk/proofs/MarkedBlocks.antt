@@ -1,5 +1,6 @@
 -- The blocks of some marks, whose packets follow one another.
-use Rattle.std.proofs.Common.{◌≡◌, ℕ, ◌+◌, ◌≤◌, Bool, true, false, List, [], ◌∷◌, ◌++◌, length, take, drop, refl, ap, ◌∙◌, arith}
+use Rattle.std.proofs.Common.{◌≡◌, ℕ, ◌+◌, ◌≤◌, Bool, true, false, List, [], ◌∷◌, ◌++◌, length, take, drop, refl, ap, ◌∙◌}
+use Rattle.std.proofs.Common.{arith}
 use Rattle.std.proofs.Math.Seq.{take-length}
 use Rattle.std.proofs.lemmas.Grind.{flat_map-append}
 use Rattle.std.proofs.lemmas.List.{append-nil, take-append-drop, take-append-le, drop-append-le, length-take-le, length-append}
@@ -25,7 +26,8 @@ length_drop n m xs e =
     omega arith
 
 -- the packets of all blocks are all packets
-pub all_walked : (marks : List Mark) (packets : List Packet) → packets_in marks ≡ length packets → walked_of (taken_by marks packets) ≡ packets
+pub all_walked : (marks : List Mark) (packets : List Packet) → packets_in marks ≡ length packets
+    → walked_of (taken_by marks packets) ≡ packets
 unfolding taken_by walked_of
 all_walked [] [] e = refl
 all_walked [] (packet ∷ packets) e = cc
@@ -63,5 +65,6 @@ pub dump_more : (text : RingRequest → Taken → List ℕ) (dumps : Bool) (shap
     → kept_texts text dumps shape (taken ++ more ∷ []) ≡ kept_texts text dumps shape taken ++ kept_if dumps (text shape more)
 unfolding texts_by
 dump_more text true shape taken more =
-    flat_map-append (text shape) taken (more ∷ []) ∙ ap (λ (rest : List ℕ). flat_map (text shape) taken ++ rest) (append-nil (text shape more))
+    flat_map-append (text shape) taken (more ∷ [])
+    ∙ ap (λ (rest : List ℕ). flat_map (text shape) taken ++ rest) (append-nil (text shape more))
 dump_more text false shape taken more = refl

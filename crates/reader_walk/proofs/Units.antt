@@ -13,13 +13,15 @@ module _ {B : Type 0} (shape_of : B → RingRequest) (kind_of : B → List ℕ) 
   pub retired_by : (found : Option B) → IfSome found (λ unit. (number : ℕ) × (status : ℕ) × ready unit number status)
       → IfSome found (λ unit. kind_of unit ≡ kind) → IfSome found (IsRetiredUnit shape_of ready shape)
   retired_by None text of = tt
-  retired_by (Some unit) text of = record { shape_is = one_shape (shape_of unit) shape (sym (kind_is unit) ∙ of ∙ same); text = text }
+  retired_by (Some unit) text of =
+      record { shape_is = one_shape (shape_of unit) shape (sym (kind_is unit) ∙ of ∙ same); text = text }
 
   pub kind_by : (unit : B) → IsRetiredUnit shape_of ready shape unit → kind_of unit ≡ kind
   kind_by unit retired = kind_is unit ∙ ap (λ (s : RingRequest). numbers_of s) retired.shape_is ∙ sym same
 
 -- none was found if none waits
-pub none_waits : {X : Type 0} (found : Option X) (waiting : Option ℕ) → ((blocks : ℕ) → waiting ≡ Some blocks → IfNone found (blocks ≡ 0))
+pub none_waits : {X : Type 0} (found : Option X) (waiting : Option ℕ)
+    → ((blocks : ℕ) → waiting ≡ Some blocks → IfNone found (blocks ≡ 0))
     → IfNone found ((blocks : ℕ) → waiting ≡ Some blocks → blocks ≡ 0)
 none_waits None waiting exact = exact
 none_waits (Some x) waiting exact = tt

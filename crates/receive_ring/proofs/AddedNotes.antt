@@ -1,5 +1,6 @@
 -- What the tries of an arrival add to the notes of the members: each adds its note, at its member.
-use Rattle.std.proofs.Common.{◌≡◌, ◌≢◌, ℕ, ◌<◌, true, false, cond, eqb, List, [], ◌∷◌, ◌++◌, length, get_or, refl, sym, ap, ◌∙◌, arith, append_assoc}
+use Rattle.std.proofs.Common.{◌≡◌, ◌≢◌, ℕ, ◌<◌, true, false, cond, eqb, List, [], ◌∷◌, ◌++◌, length, get_or, refl, sym, ap, ◌∙◌}
+use Rattle.std.proofs.Common.{arith, append_assoc}
 use Rattle.std.specs.Prelude.{Option}
 use Rattle.std.proofs.lemmas.Bool.{eq-eqb, ne_eqb}
 use Rattle.std.proofs.lemmas.List.{append-nil, length-set}
@@ -88,7 +89,8 @@ module _ (P : ℕ → Ring → Type 0) (a : Arrival) where
     opens = λ clock h. h;
   }
 
-  adds_then : (member : ℕ) (first rest : List Try) (old mid new : Ring) → Adds P a member first old mid → Adds P a member rest mid new
+  adds_then : (member : ℕ) (first rest : List Try) (old mid new : Ring) → Adds P a member first old mid
+      → Adds P a member rest mid new
       → Adds P a member (first ++ rest) old new
   adds_then member first rest old mid new h k = record {
     notes = h.notes ++ k.notes;
@@ -100,7 +102,8 @@ module _ (P : ℕ → Ring → Type 0) (a : Arrival) where
     opens = λ clock was. k.opens clock (h.opens clock was);
   }
 
-  adds_elsewhere : (member at : ℕ) (fate : Fate) (ring : Ring) → eqb at member ≡ false → Adds P a member (a_try at fate ∷ []) ring ring
+  adds_elsewhere : (member at : ℕ) (fate : Fate) (ring : Ring) → eqb at member ≡ false
+      → Adds P a member (a_try at fate ∷ []) ring ring
   adds_elsewhere member at fate ring other = record {
     notes = [];
     new_is = sym (append-nil ring.notes);
@@ -133,9 +136,11 @@ module _ (P : ℕ → Ring → Type 0) (a : Arrival) where
       → LeavesOpen P (get_or rings at no_ring) note → Spread P a (a_try at fate ∷ []) rings (noted_at at note rings)
   spread_one at fate note rings inside tells opens = record {
     count = length-set rings at _;
-    each = set_within (λ member ring. Adds P a member (a_try at fate ∷ []) (get_or rings member no_ring) ring) rings at _ no_ring
+    each = set_within (λ member ring. Adds P a member (a_try at fate ∷ []) (get_or rings member no_ring) ring)
+        rings at _ no_ring
         (λ inside. adds_here at at fate note (get_or rings at no_ring) (eq-eqb at at refl) tells opens)
-        (λ member below other. adds_elsewhere member at fate (get_or rings member no_ring) (ne_eqb at member (λ e. other (sym e))));
+        (λ member below other. adds_elsewhere member at fate (get_or rings member no_ring)
+        (ne_eqb at member (λ e. other (sym e))));
   }
 
 module _ (a : Arrival) where

@@ -1,5 +1,6 @@
 -- What the calls of a ring of blocks make of it as a receive ring.
-use Rattle.std.proofs.Common.{◌≡◌, ℕ, ◌+◌, ◌≤◌, List, [], ◌∷◌, ◌++◌, drop, map, replicate, zero, suc, Some, refl, sym, ap, ◌∙◌, subst, arith}
+use Rattle.std.proofs.Common.{◌≡◌, ℕ, ◌+◌, ◌≤◌, List, [], ◌∷◌, ◌++◌, drop, map, replicate, zero, suc, Some, refl, sym, ap, ◌∙◌}
+use Rattle.std.proofs.Common.{subst, arith}
 use Rattle.std.specs.Prelude.{IfOk, OnOk, Result, Ok, Err}
 use Rattle.std.specs.List.{AllByRecursion}
 use Rattle.std.proofs.Math.Seq.{drop-nil}
@@ -40,7 +41,8 @@ Tells = (shape : RingRequest) (number status : ℕ) (packets : List Packet) (byt
     → taken_in shape bytes ≡ record { number = number; status = status; packets = packets }
 
 -- contents that begin with the texts of blocks are read as these blocks
-read_as : (tells : Tells) (shape : RingRequest) (number : ℕ) (all : List Entry) (done : List (List Offer × ℕ)) → shape.block_size ≤ 1048576
+read_as : (tells : Tells) (shape : RingRequest) (number : ℕ) (all : List Entry) (done : List (List Offer × ℕ))
+    → shape.block_size ≤ 1048576
     → AreTexts shape number all done → map (λ entry. taken_in shape entry.0) all ≡ taken_from shape number done
 read_as tells shape number [] [] small texts = refl
 read_as tells shape number [] (block ∷ done) small texts = absurd texts
@@ -50,7 +52,8 @@ read_as tells shape number (entry ∷ all) (block ∷ done) small texts =
     (tells shape number block.1 (packets_of_offers shape block.0) entry.0 small texts.0)
     ∙ ap (λ (taken : List Taken). read_of shape number block ∷ taken) (read_as tells shape (number + 1) all done small texts.2)
 
-waits_blocks : (tells : Tells) (shape : RingRequest) (done : List (List Offer × ℕ)) (end : PlainState) → shape.block_size ≤ 1048576
+waits_blocks : (tells : Tells) (shape : RingRequest) (done : List (List Offer × ℕ)) (end : PlainState)
+    → shape.block_size ≤ 1048576
     → RepresentsTexts shape done (feed_of end) → Waits (taken_in shape) (taken_from shape 1 done) end
 waits_blocks tells shape done end small texts =
     waits_for (taken_in shape) (taken_from shape 1 done) end texts.0 texts.1 (read_as tells shape 1 texts.0 done small texts.2)
@@ -59,10 +62,12 @@ abbrev BlocksBecome : Ring → Producing PlainState → Producing PlainState →
 BlocksBecome ring before after = Becomes taken_in block_reads steps_of_blocks ring (seen_blocks before) (seen_blocks after)
 
 -- one more note
-pub added : (tells : Tells) (before after : Producing PlainState) (note : Note) → IsShape before.shape → Adds feed_of before after note
+pub added : (tells : Tells) (before after : Producing PlainState) (note : Note) → IsShape before.shape
+    → Adds feed_of before after note
     → BlocksBecome (noted (ring_in steps_of_blocks (seen_blocks before)) note) before after
 added tells before after note sound adds =
-    let small : after.shape.block_size ≤ 1048576 = subst (λ (s : RingRequest). s.block_size ≤ 1048576) (sym adds.shape) sound.small in
+    let small : after.shape.block_size ≤ 1048576 =
+    subst (λ (s : RingRequest). s.block_size ≤ 1048576) (sym adds.shape) sound.small in
     let released = some_same after.end.released before.end.released adds.end.freed in
     record {
       shape_is = adds.shape;
@@ -72,19 +77,27 @@ added tells before after note sound adds =
       waits = λ _. waits_blocks tells after.shape (state_of (size_of after.shape) after.notes).done after.end small adds.texts;
     }
 
-pub put_kept : {E : Type 0} (tells : Tells) (before after : Producing PlainState) (offer : Offer) (result : Result Put E) → IsShape before.shape
+pub put_kept : {E : Type 0} (tells : Tells) (before after : Producing PlainState) (offer : Offer) (result : Result Put E)
+    → IsShape before.shape
     → IfOk result (λ put. (found : Found) × Puts feed_of before after offer found put)
-    → OnOk result (BlocksBecome (noted (ring_in steps_of_blocks (seen_blocks before)) (note_of_put steps_of_blocks (seen_blocks before) offer)) before after)
+    → OnOk result
+    (BlocksBecome (noted (ring_in steps_of_blocks (seen_blocks before))
+    (note_of_put steps_of_blocks (seen_blocks before) offer)) before after)
 put_kept tells before after offer (Ok put) sound made =
-    subst (λ (found : Found). BlocksBecome (noted (ring_in steps_of_blocks (seen_blocks before)) (put_by offer found)) before after)
+    subst (λ (found : Found). BlocksBecome
+    (noted (ring_in steps_of_blocks (seen_blocks before)) (put_by offer found)) before after)
     (made.1.exact before.end.released refl) (added tells before after (put_by offer made.0) sound made.1.adds)
 put_kept tells before after offer (Err error) sound made = tt
 
-pub try_kept : {E : Type 0} (tells : Tells) (before after : Producing PlainState) (offer : Offer) (result : Result Tried E) → IsShape before.shape
+pub try_kept : {E : Type 0} (tells : Tells) (before after : Producing PlainState) (offer : Offer) (result : Result Tried E)
+    → IsShape before.shape
     → IfOk result (λ tried. (found : Found) × Tries feed_of before after offer found tried)
-    → OnOk result (BlocksBecome (noted (ring_in steps_of_blocks (seen_blocks before)) (note_of_try steps_of_blocks (seen_blocks before) offer)) before after)
+    → OnOk result
+    (BlocksBecome (noted (ring_in steps_of_blocks (seen_blocks before))
+    (note_of_try steps_of_blocks (seen_blocks before) offer)) before after)
 try_kept tells before after offer (Ok tried) sound made =
-    subst (λ (found : Found). BlocksBecome (noted (ring_in steps_of_blocks (seen_blocks before)) (try_by offer found)) before after)
+    subst (λ (found : Found). BlocksBecome
+    (noted (ring_in steps_of_blocks (seen_blocks before)) (try_by offer found)) before after)
     (made.1.exact before.end.released refl) (added tells before after (try_by offer made.0) sound made.1.adds)
 try_kept tells before after offer (Err error) sound made = tt
 
@@ -93,12 +106,15 @@ pub ticked_as : (tells : Tells) (before after : Producing PlainState) (ms : ℕ)
     → BlocksBecome (ticked (steps_of_blocks before.shape) ms (ring_in steps_of_blocks (seen_blocks before))) before after
 ticked_as tells before after ms found sound ticks =
     subst (λ (f : Found). BlocksBecome (noted (ring_in steps_of_blocks (seen_blocks before)) (Ticked ms f)) before after)
-    (ap (λ (note : Note). found_in note) (ticks.exact before.end.released refl)) (added tells before after (Ticked ms found) sound ticks.adds)
+    (ap (λ (note : Note). found_in note) (ticks.exact before.end.released refl))
+    (added tells before after (Ticked ms found) sound ticks.adds)
 
 -- the close retires the open block
-pub closed_as : (tells : Tells) (before : Producing PlainState) (end closing : PlainState) (notes : List Note) → IsShape before.shape
+pub closed_as : (tells : Tells) (before : Producing PlainState) (end closing : PlainState) (notes : List Note)
+    → IsShape before.shape
     → notes ≡ before.notes ++ Finished ∷ []
-    → RepresentsTexts before.shape (state_of (size_of before.shape) notes).done (feed_of end) → KeepsEnd (feed_of before.end) (feed_of end)
+    → RepresentsTexts before.shape (state_of (size_of before.shape) notes).done (feed_of end)
+    → KeepsEnd (feed_of before.end) (feed_of end)
     → closing ≡ record end { contents = [] } → Closes taken_in block_reads (seen_blocks before) closing notes
 closed_as tells before end closing notes sound noted_is texts keeps is =
     let waits = waits_blocks tells before.shape (state_of (size_of before.shape) notes).done end sound.small texts in
@@ -112,7 +128,8 @@ closed_as tells before end closing notes sound noted_is texts keeps is =
     }
 
 -- a ring whose blocks are all free
-pub fresh_end : (shape : RingRequest) (count : ℕ) (contents : List (List ℕ)) (ring : PlainState) → ring ≡ plain.fresh count ring.kind contents
+pub fresh_end : (shape : RingRequest) (count : ℕ) (contents : List (List ℕ)) (ring : PlainState)
+    → ring ≡ plain.fresh count ring.kind contents
     → ring.kind ≡ numbers_of shape → count ≡ shape.block_nr → IsFresh shape (feed_of ring)
 fresh_end shape count contents ring e kind all = record {
   places = ap (λ (r : PlainState). r.places) e ∙ all;
@@ -124,12 +141,14 @@ fresh_end shape count contents ring e kind all = record {
 }
 
 -- blocks of zeros are of one kind
-pub one_kind : (shape : RingRequest) (n : ℕ) → AllByRecursion (λ block. numbers_of block.shape ≡ numbers_of shape) (replicate n (zero_block shape))
+pub one_kind : (shape : RingRequest) (n : ℕ)
+    → AllByRecursion (λ block. numbers_of block.shape ≡ numbers_of shape) (replicate n (zero_block shape))
 one_kind shape zero = tt
 one_kind shape (suc n) = (refl, one_kind shape n)
 
 -- a new ring over it
-pub opens_with : (shape : RingRequest) (count : ℕ) (contents : List (List ℕ)) (ring : PlainState) (producer : Producing PlainState)
+pub opens_with : (shape : RingRequest) (count : ℕ) (contents : List (List ℕ)) (ring : PlainState)
+    (producer : Producing PlainState)
     → ring ≡ plain.fresh count ring.kind contents → ring.kind ≡ numbers_of shape → Opens feed_of shape ring producer
     → receiving.Opens taken_in block_reads shape (seen_blocks producer)
 opens_with shape count contents ring producer e kind opens =
@@ -146,6 +165,7 @@ opens_with shape count contents ring producer e kind opens =
       waits = record {
         front = omega (arith, taken);
         rest = ap (λ (entries : List Entry). map (λ entry. taken_in producer.shape entry.0) entries) shown
-            ∙ sym (ap (λ (ns : List Note). drop producer.end.taken (block_reads producer.shape ns)) opens.notes ∙ drop-nil producer.end.taken);
+            ∙ sym (ap (λ (ns : List Note). drop producer.end.taken (block_reads producer.shape ns)) opens.notes
+            ∙ drop-nil producer.end.taken);
       };
     }

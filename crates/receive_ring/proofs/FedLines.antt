@@ -1,5 +1,6 @@
 -- A replay goes on line by line, and in the end no CPU has a frame left.
-use Rattle.std.proofs.Common.{◌≡◌, ◌≢◌, ℕ, zero, suc, ◌+◌, ◌<◌, List, [], ◌∷◌, ◌++◌, length, drop, get_or, inl, inr, refl, sym, ap, subst, ◌∙◌, arith}
+use Rattle.std.proofs.Common.{◌≡◌, ◌≢◌, ℕ, zero, suc, ◌+◌, ◌<◌, List, [], ◌∷◌, ◌++◌, length, drop, get_or, inl, inr, refl, sym}
+use Rattle.std.proofs.Common.{ap, subst, ◌∙◌, arith}
 use Rattle.std.specs.Prelude.{Option, None, Some, sum_by, slice_set}
 use Rattle.std.proofs.lemmas.Bool.{cases_eq, cases_lt}
 use Rattle.std.proofs.lemmas.List.{drop_all, get_or-set_other, get_or-set_same, get_or_past, length-set}
@@ -21,20 +22,26 @@ use Rattle.receive_ring.proofs.ReplayStates.{Waiting, Goes, Joins, Logs, count_g
 use Rattle.receive_ring.proofs.Places.{set_everywhere}
 
 -- a CPU whose next frame isn't an arrival
-module _ (P : ℕ → Ring → Type 0) (rules : Rules) (steps : RingSteps) (arriving : List Waiting) (clock cpu : ℕ) (waiting : Waiting) (replay : Replay)
+module _ (P : ℕ → Ring → Type 0) (rules : Rules) (steps : RingSteps) (arriving : List Waiting) (clock cpu : ℕ)
+    (waiting : Waiting) (replay : Replay)
     (inside : cpu < length replay.cpus) (next_frame : (cpu_at replay cpu).waiting ≡ None ∷ waiting)
     (h : Goes P rules steps arriving clock replay) where
   log_passes : Logs rules cpu (somes (get_or arriving cpu [])) (record (cpu_at replay cpu) { waiting = waiting })
   log_passes =
-      let was = subst (λ (ws : Waiting). Logs rules cpu (somes (get_or arriving cpu [])) (record (cpu_at replay cpu) { waiting = ws }))
+      let was =
+      subst (λ (ws : Waiting). Logs rules cpu (somes (get_or arriving cpu []))
+      (record (cpu_at replay cpu) { waiting = ws }))
       next_frame (h.logs cpu) in
       record { present = was.present; least = was.least; of = was.of; lawful = was.lawful }
 
   joins_pass : (member : ℕ) → member < length replay.members
-      → Joins steps.size.room rules.own cpu member (somes (get_or arriving cpu [])) (record (cpu_at replay cpu) { waiting = waiting })
+      → Joins steps.size.room rules.own cpu member (somes (get_or arriving cpu []))
+      (record (cpu_at replay cpu) { waiting = waiting })
       (get_or replay.members member no_ring).notes
   joins_pass member below =
-      let was = subst (λ (ws : Waiting). Joins steps.size.room rules.own cpu member (somes (get_or arriving cpu [])) (record (cpu_at replay cpu) { waiting = ws })
+      let was =
+      subst (λ (ws : Waiting). Joins steps.size.room rules.own cpu member (somes (get_or arriving cpu []))
+      (record (cpu_at replay cpu) { waiting = ws })
       (get_or replay.members member no_ring).notes) next_frame (h.joins cpu member below) in
       record { joined = was.joined }
 
@@ -45,20 +52,25 @@ module _ (P : ℕ → Ring → Type 0) (rules : Rules) (steps : RingSteps) (arri
       let count : Cpu → ℕ = λ c. f c.log in
       omega (arith, sum_by-set count replay.cpus cpu (record (cpu_at replay cpu) { waiting = waiting }) no_cpu inside)
 
-  runt_goes : Goes P rules steps arriving clock (record replay { cpus = slice_set replay.cpus cpu (record (cpu_at replay cpu) { waiting = waiting }) })
+  runt_goes : Goes P rules steps arriving clock
+      (record replay { cpus = slice_set replay.cpus cpu (record (cpu_at replay cpu) { waiting = waiting }) })
   runt_goes =
       let new : Cpu = record (cpu_at replay cpu) { waiting = waiting } in
       record {
         cpus = length-set replay.cpus cpu new ∙ h.cpus;
         members = h.members;
         opens = h.opens;
-        logs = set_everywhere (λ k c. Logs rules k (somes (get_or arriving k [])) c) replay.cpus cpu new no_cpu inside log_passes
+        logs = set_everywhere (λ k c. Logs rules k (somes (get_or arriving k [])) c) replay.cpus cpu new no_cpu
+            inside log_passes
             (λ k other. h.logs k);
         joins = λ number member below.
-            set_everywhere (λ k c. Joins steps.size.room rules.own k member (somes (get_or arriving k [])) c (get_or replay.members member no_ring).notes)
+            set_everywhere
+            (λ k c. Joins steps.size.room rules.own k member (somes (get_or arriving k [])) c
+            (get_or replay.members member no_ring).notes)
             replay.cpus cpu new no_cpu inside (joins_pass member below) (λ k other. h.joins k member below) number;
         tickets = λ lb. let t = h.tickets lb in record {
-          rising = set_everywhere (λ k (c : Cpu). (more : List ℕ) → Rises replay.ticket more → Rises 0 (tickets_of c.log ++ more))
+          rising = set_everywhere (λ k (c : Cpu). (more : List ℕ) → Rises replay.ticket more
+              → Rises 0 (tickets_of c.log ++ more))
               replay.cpus cpu new no_cpu inside
               (t.rising cpu) (λ k other. t.rising k);
           once = λ ticket. same_logs _ ∙ t.once ticket;
@@ -67,12 +79,14 @@ module _ (P : ℕ → Ring → Type 0) (rules : Rules) (steps : RingSteps) (arri
       }
 
 -- after n frames of a CPU
-record Feeds (P : ℕ → Ring → Type 0) (rules : Rules) (steps : RingSteps) (arriving : List Waiting) (clock cpu times : ℕ) (old new : Replay) : Type 0 where
+record Feeds (P : ℕ → Ring → Type 0) (rules : Rules) (steps : RingSteps) (arriving : List Waiting) (clock cpu times : ℕ)
+    (old new : Replay) : Type 0 where
   goes : Goes P rules steps arriving clock new
   here : (cpu_at new cpu).waiting ≡ drop times (cpu_at old cpu).waiting
   others : (k : ℕ) → k ≢ cpu → (cpu_at new k).waiting ≡ (cpu_at old k).waiting
 
-some_waiting : (cpus : List Cpu) (cpu : ℕ) (next : Option Frame) (waiting : Waiting) → (get_or cpus cpu no_cpu).waiting ≡ next ∷ waiting
+some_waiting : (cpus : List Cpu) (cpu : ℕ) (next : Option Frame) (waiting : Waiting)
+    → (get_or cpus cpu no_cpu).waiting ≡ next ∷ waiting
     → cpu < length cpus
 some_waiting cpus cpu next waiting e = elim (cases_lt cpu (length cpus)) [
   | inl below ↦ below
@@ -80,7 +94,8 @@ some_waiting cpus cpu next waiting e = elim (cases_lt cpu (length cpus)) [
 ]
 
 -- all CPUs below one are fed to their ends
-pub record Emptied (P : ℕ → Ring → Type 0) (rules : Rules) (steps : RingSteps) (arriving : List Waiting) (clock upto : ℕ) (replay : Replay) : Type 0 where
+pub record Emptied (P : ℕ → Ring → Type 0) (rules : Rules) (steps : RingSteps) (arriving : List Waiting) (clock upto : ℕ)
+    (replay : Replay) : Type 0 where
   pub goes : Goes P rules steps arriving clock replay
   pub waiting : (k : ℕ) → k < upto → (cpu_at replay k).waiting ≡ []
 
@@ -92,7 +107,8 @@ drop_next : {X : Type 0} (n : ℕ) (xs : List X) → drop n (drop 1 xs) ≡ drop
 drop_next n [] = drop_none n
 drop_next n (x ∷ xs) = refl
 
-module _ (P : ℕ → Ring → Type 0) (rules : Rules) (steps : RingSteps) (keep : KeepOpen steps P) (arriving : List Waiting) (some : 0 < rules.members) where
+module _ (P : ℕ → Ring → Type 0) (rules : Rules) (steps : RingSteps) (keep : KeepOpen steps P) (arriving : List Waiting)
+    (some : 0 < rules.members) where
   fed : (clock cpu : ℕ) (waiting : Waiting) (replay : Replay) → (cpu_at replay cpu).waiting ≡ waiting
       → Goes P rules steps arriving clock replay
       → Feeds P rules steps arriving clock cpu 1 replay (fed_by rules steps cpu waiting replay)
@@ -117,13 +133,17 @@ module _ (P : ℕ → Ring → Type 0) (rules : Rules) (steps : RingSteps) (keep
       → Feeds P rules steps arriving clock cpu 1 replay (feed rules steps cpu replay)
   feed_goes clock cpu replay h = fed clock cpu (cpu_at replay cpu).waiting replay refl h
 
-  pub lines_go : (lines : List Line) (clock : ℕ) (replay : Replay) → Goes P rules steps arriving clock replay → AreAscending clock lines
+  pub lines_go : (lines : List Line) (clock : ℕ) (replay : Replay) → Goes P rules steps arriving clock replay
+      → AreAscending clock lines
       → (now : ℕ) × Goes P rules steps arriving now (done_lines rules steps lines replay)
   lines_go [] clock replay h ascending = (clock, h)
   lines_go (Feed cpu ∷ lines) clock replay h ascending = lines_go lines clock _ (feed_goes clock cpu replay h).goes ascending
-  lines_go (Read member ∷ lines) clock replay h ascending = lines_go lines clock _ (read_goes P rules steps keep arriving clock member replay h) ascending
-  lines_go (Tick ms ∷ lines) clock replay h ascending = lines_go lines ms _ (tick_goes P rules steps keep arriving clock ms replay ascending.0 h) ascending.2
-  lines_go (Stats member ∷ lines) clock replay h ascending = lines_go lines clock _ (count_goes P rules steps keep arriving clock member replay h) ascending
+  lines_go (Read member ∷ lines) clock replay h ascending =
+      lines_go lines clock _ (read_goes P rules steps keep arriving clock member replay h) ascending
+  lines_go (Tick ms ∷ lines) clock replay h ascending =
+      lines_go lines ms _ (tick_goes P rules steps keep arriving clock ms replay ascending.0 h) ascending.2
+  lines_go (Stats member ∷ lines) clock replay h ascending =
+      lines_go lines clock _ (count_goes P rules steps keep arriving clock member replay h) ascending
 
   times_go : (times clock cpu : ℕ) (replay : Replay) → Goes P rules steps arriving clock replay
       → Feeds P rules steps arriving clock cpu times replay (feed_times rules steps cpu times replay)
@@ -145,7 +165,8 @@ module _ (P : ℕ → Ring → Type 0) (rules : Rules) (steps : RingSteps) (keep
   all_fed (suc left) clock cpu replay h empty =
       let times = length (cpu_at replay cpu).waiting in
       let next = times_go times clock cpu replay h in
-      let rest = all_fed left clock (cpu + 1) (feed_times rules steps cpu times replay) next.goes (λ k below. elim (cases_eq cpu k) [
+      let rest = all_fed left clock (cpu + 1) (feed_times rules steps cpu times replay) next.goes
+      (λ k below. elim (cases_eq cpu k) [
         | inl same ↦ subst (λ (n : ℕ). (cpu_at (feed_times rules steps cpu times replay) n).waiting ≡ []) same
             (next.here ∙ drop_all times (cpu_at replay cpu).waiting (omega arith))
         | inr other ↦ next.others k (λ e. other (sym e)) ∙ empty k (omega arith)

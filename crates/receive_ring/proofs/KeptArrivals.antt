@@ -1,5 +1,6 @@
 -- An arrival preserves what holds of a replay.
-use Rattle.std.proofs.Common.{◌≡◌, ℕ, ◌+◌, ◌<◌, eqb, ltb, List, [], ◌∷◌, ◌++◌, length, get_or, refl, sym, ap, subst, ◌∙◌, arith, append_assoc}
+use Rattle.std.proofs.Common.{◌≡◌, ℕ, ◌+◌, ◌<◌, eqb, ltb, List, [], ◌∷◌, ◌++◌, length, get_or, refl, sym, ap, subst, ◌∙◌, arith}
+use Rattle.std.proofs.Common.{append_assoc}
 use Rattle.std.specs.Prelude.{Some, slice_set}
 use Rattle.std.proofs.lemmas.List.{get_or-set_same, length-set, set-set}
 use Rattle.frame_view.specs.declared.frames.Frame.{Frame}
@@ -33,9 +34,12 @@ has_ticket Rollover ticket = refl
 has_ticket Qm ticket = refl
 
 -- the log of the CPU at which the frame arrives
-log_more : (rules : Rules) (number : ℕ) (arrivals : List Frame) (old : Cpu) (frame : Frame) (waiting : Waiting) (entry : ArrivalLog)
-    → 0 < rules.members → Logs rules number arrivals (record old { waiting = Some frame ∷ waiting }) → IsEntry rules old.present frame entry
-    → Logs rules number arrivals (record { waiting = waiting; present = present_after rules.mode old.present entry.tries; log = old.log ++ entry ∷ [] })
+log_more : (rules : Rules) (number : ℕ) (arrivals : List Frame) (old : Cpu) (frame : Frame) (waiting : Waiting)
+    (entry : ArrivalLog)
+    → 0 < rules.members → Logs rules number arrivals (record old { waiting = Some frame ∷ waiting })
+    → IsEntry rules old.present frame entry
+    → Logs rules number arrivals
+    (record { waiting = waiting; present = present_after rules.mode old.present entry.tries; log = old.log ++ entry ∷ [] })
 log_more rules number arrivals old frame waiting entry some h is = record {
   present = present_is_member rules old.present frame entry some h.present is;
   least = frame.index + 1;
@@ -44,17 +48,21 @@ log_more rules number arrivals old frame waiting entry some h is = record {
 }
 
 -- its notes at a member
-joins_more : (P : ℕ → Ring → Type 0) (room : ℕ) (rules : Rules) (number member : ℕ) (arrivals : List Frame) (old : Cpu) (frame : Frame) (waiting : Waiting)
+joins_more : (P : ℕ → Ring → Type 0) (room : ℕ) (rules : Rules) (number member : ℕ) (arrivals : List Frame) (old : Cpu)
+    (frame : Frame) (waiting : Waiting)
     (entry : ArrivalLog) (present : ℕ) (a b : Ring)
     → frame.cpu ≡ number → Joins room rules.own number member arrivals (record old { waiting = Some frame ∷ waiting }) a.notes
     → Adds P (record { room = room; own = rules.own; frame = frame; entry = entry }) member entry.tries a b
-    → Joins room rules.own number member arrivals (record { waiting = waiting; present = present; log = old.log ++ entry ∷ [] }) b.notes
+    → Joins room rules.own number member arrivals
+    (record { waiting = waiting; present = present; log = old.log ++ entry ∷ [] }) b.notes
 joins_more P room rules number member arrivals old frame waiting entry present a b of h adds = record {
   joined = λ log more k.
       let here : AreNotesOf room rules.own (attempts_in member frame entry entry.tries) (frame_notes number adds.notes) =
-      subst (λ (c : ℕ). AreNotesOf room rules.own (attempts_in member frame entry entry.tries) (frame_notes c adds.notes)) of adds.joined in
+      subst (λ (c : ℕ). AreNotesOf room rules.own (attempts_in member frame entry entry.tries) (frame_notes c adds.notes))
+      of adds.joined in
       let both = notes-append room rules.own _ _ _ _ here k in
-      rw (append_assoc, adds.new_is, append_assoc) (h.joined (entry ∷ log) (adds.notes ++ more) (rw (frame_notes-append number adds.notes more) both));
+      rw (append_assoc, adds.new_is, append_assoc)
+      (h.joined (entry ∷ log) (adds.notes ++ more) (rw (frame_notes-append number adds.notes more) both));
 }
 
 -- the CPU after an arrival with this entry
@@ -65,40 +73,53 @@ logged rules old waiting entry = record {
   log = old.log ++ entry ∷ [];
 }
 
-module _ (P : ℕ → Ring → Type 0) (rules : Rules) (steps : RingSteps) (arriving : List Waiting) (clock cpu : ℕ) (frame : Frame) (waiting : Waiting) (replay : Replay)
-    (some : 0 < rules.members) (inside : cpu < length replay.cpus) (next_frame : (cpu_at replay cpu).waiting ≡ Some frame ∷ waiting)
+module _ (P : ℕ → Ring → Type 0) (rules : Rules) (steps : RingSteps) (arriving : List Waiting) (clock cpu : ℕ) (frame : Frame)
+    (waiting : Waiting) (replay : Replay)
+    (some : 0 < rules.members) (inside : cpu < length replay.cpus)
+    (next_frame : (cpu_at replay cpu).waiting ≡ Some frame ∷ waiting)
     (h : Goes P rules steps arriving clock replay) where
   -- as if the frame had been judged
   logs_at : Logs rules cpu (somes (get_or arriving cpu [])) (record (cpu_at replay cpu) { waiting = Some frame ∷ waiting })
   logs_at =
-      subst (λ (ws : Waiting). Logs rules cpu (somes (get_or arriving cpu [])) (record (cpu_at replay cpu) { waiting = ws })) next_frame (h.logs cpu)
+      subst (λ (ws : Waiting). Logs rules cpu (somes (get_or arriving cpu [])) (record (cpu_at replay cpu) { waiting = ws }))
+      next_frame (h.logs cpu)
 
   joins_at : (member : ℕ) → member < length replay.members
-      → Joins steps.size.room rules.own cpu member (somes (get_or arriving cpu [])) (record (cpu_at replay cpu) { waiting = Some frame ∷ waiting })
+      → Joins steps.size.room rules.own cpu member (somes (get_or arriving cpu []))
+      (record (cpu_at replay cpu) { waiting = Some frame ∷ waiting })
       (get_or replay.members member no_ring).notes
   joins_at member below =
-      subst (λ (ws : Waiting). Joins steps.size.room rules.own cpu member (somes (get_or arriving cpu [])) (record (cpu_at replay cpu) { waiting = ws })
+      subst (λ (ws : Waiting). Joins steps.size.room rules.own cpu member (somes (get_or arriving cpu []))
+      (record (cpu_at replay cpu) { waiting = ws })
       (get_or replay.members member no_ring).notes) next_frame (h.joins cpu member below)
 
   module _ (entry : ArrivalLog) (rings : List Ring) (next : ℕ) (is : IsEntry rules (cpu_at replay cpu).present frame entry)
-      (spread : Spread P (record { room = steps.size.room; own = rules.own; frame = frame; entry = entry }) entry.tries replay.members rings)
+      (spread : Spread P (record { room = steps.size.room; own = rules.own; frame = frame; entry = entry }) entry.tries
+      replay.members rings)
       (drawn : rules.mode ≡ Lb → (entry.ticket ≡ Some replay.ticket) × (next ≡ replay.ticket + 1)) where
     joined_at : (number member : ℕ) → member < length replay.members
         → Joins steps.size.room rules.own number member (somes (get_or arriving number []))
-        (get_or (slice_set replay.cpus cpu (logged rules (cpu_at replay cpu) waiting entry)) number no_cpu) (get_or rings member no_ring).notes
+        (get_or (slice_set replay.cpus cpu (logged rules (cpu_at replay cpu) waiting entry)) number no_cpu)
+        (get_or rings member no_ring).notes
     joined_at number member below =
         let new = logged rules (cpu_at replay cpu) waiting entry in
         let adds = spread.each member below in
         let a = get_or replay.members member no_ring in
         let b = get_or rings member no_ring in
-        set_everywhere (λ k c. Joins steps.size.room rules.own k member (somes (get_or arriving k [])) c b.notes) replay.cpus cpu new no_cpu inside
-        (joins_more P steps.size.room rules cpu member _ (cpu_at replay cpu) frame waiting entry new.present a b logs_at.of.0 (joins_at member below) adds)
+        set_everywhere (λ k c. Joins steps.size.room rules.own k member (somes (get_or arriving k [])) c b.notes) replay.cpus
+        cpu new no_cpu inside
+        (joins_more P steps.size.room rules cpu member _ (cpu_at replay cpu) frame waiting entry new.present a b logs_at.of.0
+        (joins_at member below) adds)
         (λ k other. silent_joins steps.size.room rules.own k member _ (cpu_at replay k) a.notes b.notes adds.notes adds.new_is
         (adds.others k (λ e. other (e ∙ logs_at.of.0))) (h.joins k member below))
         number
 
     tickets_at : rules.mode ≡ Lb
-        → Tickets (record { cpus = slice_set replay.cpus cpu (logged rules (cpu_at replay cpu) waiting entry); members = rings; ticket = next })
+        → Tickets (record {
+          cpus = slice_set replay.cpus cpu (logged rules (cpu_at replay cpu) waiting entry);
+          members = rings;
+          ticket = next;
+        })
     tickets_at lb =
         let new = logged rules (cpu_at replay cpu) waiting entry in
         let t = h.tickets lb in
@@ -113,11 +134,16 @@ module _ (P : ℕ → Ring → Type 0) (rules : Rules) (steps : RingSteps) (arri
           once = λ at. once_more replay.cpus cpu replay.ticket new entry inside refl ticket at
               ∙ ap (λ n. n + one_if (eqb replay.ticket at)) (t.once at)
               ∙ one_more at replay.ticket ∙ ap (λ n. one_if (ltb at n)) (sym next_is);
-          total = next_is ∙ ap (λ n. n + 1) t.total ∙ sym (total_more replay.cpus cpu replay.ticket new entry inside refl ticket);
+          total = next_is ∙ ap (λ n. n + 1) t.total
+              ∙ sym (total_more replay.cpus cpu replay.ticket new entry inside refl ticket);
         }
 
     goes_on : Goes P rules steps arriving clock
-        (record { cpus = slice_set replay.cpus cpu (logged rules (cpu_at replay cpu) waiting entry); members = rings; ticket = next })
+        (record {
+          cpus = slice_set replay.cpus cpu (logged rules (cpu_at replay cpu) waiting entry);
+          members = rings;
+          ticket = next;
+        })
     goes_on =
         let new = logged rules (cpu_at replay cpu) waiting entry in
         record {
@@ -154,20 +180,25 @@ arrived_with rules steps cpu frame of waiting replay = record {
 }
 
 -- the CPU's frame is taken and then logged: one step
-pub arrived_is : (rules : Rules) (steps : RingSteps) (cpu : ℕ) (frame : Frame) (waiting : Waiting) (replay : Replay) → cpu < length replay.cpus
-    → arrived rules steps cpu frame (record replay { cpus = slice_set replay.cpus cpu (record (cpu_at replay cpu) { waiting = waiting }) })
+pub arrived_is : (rules : Rules) (steps : RingSteps) (cpu : ℕ) (frame : Frame) (waiting : Waiting) (replay : Replay)
+    → cpu < length replay.cpus
+    → arrived rules steps cpu frame
+    (record replay { cpus = slice_set replay.cpus cpu (record (cpu_at replay cpu) { waiting = waiting }) })
     ≡ arrived_with rules steps cpu frame (cpu_at replay cpu) waiting replay
 arrived_is rules steps cpu frame waiting replay inside =
     let taken : Cpu = record (cpu_at replay cpu) { waiting = waiting } in
     let between : Replay = record replay { cpus = slice_set replay.cpus cpu taken } in
-    ap (λ (of : Cpu). arrived_with rules steps cpu frame of of.waiting between) (get_or-set_same replay.cpus cpu taken no_cpu inside)
+    ap (λ (of : Cpu). arrived_with rules steps cpu frame of of.waiting between)
+    (get_or-set_same replay.cpus cpu taken no_cpu inside)
     ∙ ap (λ (cs : List Cpu). record (arrived_with rules steps cpu frame (cpu_at replay cpu) waiting replay) { cpus = cs })
     (set-set replay.cpus cpu taken _)
 
-drawn_is : (mode : Mode) (ticket : ℕ) → mode ≡ Lb → (ticket_of mode ticket ≡ Some ticket) × (next_ticket mode ticket ≡ ticket + 1)
+drawn_is : (mode : Mode) (ticket : ℕ) → mode ≡ Lb
+    → (ticket_of mode ticket ≡ Some ticket) × (next_ticket mode ticket ≡ ticket + 1)
 drawn_is mode ticket e = (ap (λ (m : Mode). ticket_of m ticket) e, ap (λ (m : Mode). next_ticket m ticket) e)
 
-pub arrived_goes : (P : ℕ → Ring → Type 0) (rules : Rules) (steps : RingSteps) (keep : KeepOpen steps P) (arriving : List Waiting) (clock cpu : ℕ) (frame : Frame) (waiting : Waiting)
+pub arrived_goes : (P : ℕ → Ring → Type 0) (rules : Rules) (steps : RingSteps) (keep : KeepOpen steps P)
+    (arriving : List Waiting) (clock cpu : ℕ) (frame : Frame) (waiting : Waiting)
     (replay : Replay) → 0 < rules.members → cpu < length replay.cpus → (cpu_at replay cpu).waiting ≡ Some frame ∷ waiting
     → Goes P rules steps arriving clock replay
     → Goes P rules steps arriving clock (arrived_with rules steps cpu frame (cpu_at replay cpu) waiting replay)
@@ -180,8 +211,10 @@ arrived_goes P rules steps keep arriving clock cpu frame waiting replay some ins
     let present = (h.logs cpu).present in
     let a : Arrival = record { room = steps.size.room; own = rules.own; frame = frame; entry = entry } in
     let made : Made P a (rolls_over rules) (eqb entry.verdict 0) rules.members home replay.members tried =
-    tries_made P steps keep a rules home replay.members (home_is_member rules old.present ticket frame some present) h.members in
+    tries_made P steps keep a rules home replay.members
+    (home_is_member rules old.present ticket frame some present) h.members in
     let is : IsEntry rules old.present frame entry =
     record { index = refl; hash = refl; verdict = refl; ticket = has_ticket rules.mode replay.ticket; tries = made.tries } in
-    goes_on P rules steps arriving clock cpu frame waiting replay some inside e h entry tried.members (next_ticket rules.mode replay.ticket) is
+    goes_on P rules steps arriving clock cpu frame waiting replay some inside e h entry tried.members
+    (next_ticket rules.mode replay.ticket) is
     made.spread (drawn_is rules.mode replay.ticket)

@@ -15,7 +15,8 @@ pub record KeepOpen (steps : RingSteps) (P : ℕ → Ring → Type 0) : Type 0 w
   pub count : (clock : ℕ) (ring : Ring) → P clock ring → P clock (noted ring Counted)
   pub read : (clock : ℕ) (ring : Ring) → P clock ring → P clock (read_by steps ring)
 
-released_notes : (ring : Ring) (released : ℕ) (later : Bool) → (cond later (record ring { released = released }) ring).notes ≡ ring.notes
+released_notes : (ring : Ring) (released : ℕ) (later : Bool)
+    → (cond later (record ring { released = released }) ring).notes ≡ ring.notes
 released_notes ring released true = refl
 released_notes ring released false = refl
 

@@ -16,7 +16,8 @@ front-append (Some ticket) a b = refl
 
 tickets-append : (a b : List ArrivalLog) → tickets_of (a ++ b) ≡ tickets_of a ++ tickets_of b
 tickets-append [] b = refl
-tickets-append (entry ∷ a) b = ap (cons_option entry.ticket) (tickets-append a b) ∙ front-append entry.ticket (tickets_of a) (tickets_of b)
+tickets-append (entry ∷ a) b = ap (cons_option entry.ticket) (tickets-append a b)
+    ∙ front-append entry.ticket (tickets_of a) (tickets_of b)
 
 -- the tickets of a log with one more entry
 pub tickets_more : (log : List ArrivalLog) (entry : ArrivalLog) (ticket : ℕ) → entry.ticket ≡ Some ticket

@@ -4,7 +4,8 @@ use Rattle.ring_model.specs.Ring.{Size, State, after, after_all, first_state}
 use Rattle.ring_model.specs.Rings.{Ring, state, noted}
 use Rattle.ring_model.specs.declared.notes.Note.{Note}
 
-after_all-push : (size : Size) (s : State) (notes : List Note) (note : Note) → after_all size s (notes ++ note ∷ []) ≡ after size (after_all size s notes) note
+after_all-push : (size : Size) (s : State) (notes : List Note) (note : Note)
+    → after_all size s (notes ++ note ∷ []) ≡ after size (after_all size s notes) note
 after_all-push size s [] note = refl
 after_all-push size s (first ∷ notes) note = after_all-push size (after size s first) notes note
 

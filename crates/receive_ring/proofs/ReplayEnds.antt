@@ -1,5 +1,6 @@
 -- How a replay begins and ends: what holds at each moment yields the report of a group.
-use Rattle.std.proofs.Common.{◌≡◌, ℕ, zero, suc, ◌+◌, ◌<◌, eqb, ltb, List, [], ◌∷◌, ◌++◌, length, get_or, inl, inr, refl, sym, ap, subst, ◌∙◌, arith}
+use Rattle.std.proofs.Common.{◌≡◌, ℕ, zero, suc, ◌+◌, ◌<◌, eqb, ltb, List, [], ◌∷◌, ◌++◌, length, get_or, inl, inr, refl, sym}
+use Rattle.std.proofs.Common.{ap, subst, ◌∙◌, arith}
 use Rattle.std.specs.Prelude.{map, replicate, sum_by, count_by, All}
 use Rattle.std.proofs.lemmas.Bool.{cases_lt, le-ltb}
 use Rattle.std.proofs.lemmas.List.{append-nil, get_or-map, get_or-replicate, get_or_past, length-map, length-replicate}
@@ -33,12 +34,15 @@ started_at [] cpu = refl
 started_at (waiting ∷ arriving) zero = refl
 started_at (waiting ∷ arriving) (suc cpu) = started_at arriving cpu
 
-nothing_yet : (f : List ArrivalLog → ℕ) (arriving : List Waiting) → f [] ≡ 0 → sum_by (λ cpu. f cpu.log) (map new_cpu arriving) ≡ 0
+nothing_yet : (f : List ArrivalLog → ℕ) (arriving : List Waiting) → f [] ≡ 0
+    → sum_by (λ cpu. f cpu.log) (map new_cpu arriving) ≡ 0
 nothing_yet f [] e = refl
 nothing_yet f (waiting ∷ arriving) e =
-    let count : Cpu → ℕ = λ cpu. f cpu.log in omega (arith, sum_by-cons count (new_cpu waiting) (map new_cpu arriving), nothing_yet f arriving e)
+    let count : Cpu → ℕ = λ cpu. f cpu.log in
+    omega (arith, sum_by-cons count (new_cpu waiting) (map new_cpu arriving), nothing_yet f arriving e)
 
-started_goes : (P : ℕ → Ring → Type 0) (rules : Rules) (steps : RingSteps) (keep : KeepOpen steps P) (arriving : List Waiting) → 0 < rules.members → AreArrivals arriving
+started_goes : (P : ℕ → Ring → Type 0) (rules : Rules) (steps : RingSteps) (keep : KeepOpen steps P) (arriving : List Waiting)
+    → 0 < rules.members → AreArrivals arriving
     → Goes P rules steps arriving 0 (started rules steps arriving)
 started_goes P rules steps keep arriving some of =
     let rings = replicate rules.members (fresh steps.size) in
@@ -49,9 +53,11 @@ started_goes P rules steps keep arriving some of =
       cpus = length-map arriving new_cpu;
       members = count;
       opens = λ member below. subst (λ (ring : Ring). P 0 ring) (ring_at member below) (keep.first);
-      logs = λ cpu. rw (started_at arriving cpu) (record { present = some; least = 0; of = of cpu; lawful = λ more rest. rest });
+      logs = λ cpu. rw (started_at arriving cpu)
+          (record { present = some; least = 0; of = of cpu; lawful = λ more rest. rest });
       joins = λ cpu member below.
-          subst (λ (ring : Ring). Joins steps.size.room rules.own cpu member (somes (get_or arriving cpu [])) (cpu_at (started rules steps arriving) cpu)
+          subst (λ (ring : Ring). Joins steps.size.room rules.own cpu member (somes (get_or arriving cpu []))
+          (cpu_at (started rules steps arriving) cpu)
           ring.notes) (ring_at member below)
           (rw (started_at arriving cpu) (record { joined = λ log more k. k }));
       tickets = λ lb. record {
@@ -64,7 +70,8 @@ started_goes P rules steps keep arriving some of =
 
 -- the arrivals and logs, CPU by CPU
 logged_at : (arriving : List Waiting) (cpus : List Cpu) (cpu : ℕ) → length cpus ≡ length arriving
-    → record { arrivals = somes (get_or arriving cpu []); log = (get_or cpus cpu no_cpu).log } ≡ get_or (logged_of arriving cpus) cpu nothing_logged
+    → record { arrivals = somes (get_or arriving cpu []); log = (get_or cpus cpu no_cpu).log }
+    ≡ get_or (logged_of arriving cpus) cpu nothing_logged
 logged_at [] [] cpu e = refl
 logged_at [] (c ∷ cpus) cpu e = absurd (omega arith)
 logged_at (waiting ∷ arriving) [] cpu e = absurd (omega arith)
@@ -84,7 +91,8 @@ logged_sum f (waiting ∷ arriving) (c ∷ cpus) e =
     omega (arith, first, same, sum_by-cons b c cpus)
 
 -- a replay whose CPUs are all fed to their ends
-module _ (P : ℕ → Ring → Type 0) (rules : Rules) (steps : RingSteps) (arriving : List Waiting) (clock : ℕ) (replay : Replay) (h : Goes P rules steps arriving clock replay)
+module _ (P : ℕ → Ring → Type 0) (rules : Rules) (steps : RingSteps) (arriving : List Waiting) (clock : ℕ) (replay : Replay)
+    (h : Goes P rules steps arriving clock replay)
     (fed : (k : ℕ) → (cpu_at replay k).waiting ≡ []) where
   count : length (closed replay).members ≡ length replay.members
   count = length-map replay.members (λ ring. noted ring notes.Finished)
@@ -94,7 +102,8 @@ module _ (P : ℕ → Ring → Type 0) (rules : Rules) (steps : RingSteps) (arri
   closed_at member d below = get_or-map (λ ring. noted ring notes.Finished) replay.members member no_ring d below
 
   notes_at : (member : ℕ) → member < length replay.members
-      → (get_or replay.members member no_ring).notes ++ notes.Finished ∷ [] ≡ get_or (notes_of (closed replay).members) member []
+      → (get_or replay.members member no_ring).notes ++ notes.Finished ∷ []
+      ≡ get_or (notes_of (closed replay).members) member []
   notes_at member below =
       let there : member < length (closed replay).members = omega (arith, count) in
       ap (λ (ring : Ring). ring.notes) (sym (closed_at member no_ring below))
@@ -104,7 +113,8 @@ module _ (P : ℕ → Ring → Type 0) (rules : Rules) (steps : RingSteps) (arri
   lawful_at cpu =
       let of = cpu_at replay cpu in
       let none = subst (λ (ws : Waiting). IsLawfulFrom rules of.present (somes ws) []) (sym (fed cpu)) tt in
-      subst (λ (log : List ArrivalLog). IsLawful rules (somes (get_or arriving cpu [])) log) (append-nil of.log) ((h.logs cpu).lawful [] none)
+      subst (λ (log : List ArrivalLog). IsLawful rules (somes (get_or arriving cpu [])) log) (append-nil of.log)
+      ((h.logs cpu).lawful [] none)
 
   joined_at : (cpu member : ℕ) → member < length replay.members
       → AreNotesOf steps.size.room rules.own (attempts_at member (somes (get_or arriving cpu [])) (cpu_at replay cpu).log)
@@ -112,8 +122,10 @@ module _ (P : ℕ → Ring → Type 0) (rules : Rules) (steps : RingSteps) (arri
   joined_at cpu member below =
       let of = cpu_at replay cpu in
       let ns = (get_or replay.members member no_ring).notes ++ notes.Finished ∷ [] in
-      let none = subst (λ (ws : Waiting). AreNotesOf steps.size.room rules.own (attempts_at member (somes ws) []) []) (sym (fed cpu)) tt in
-      subst (λ (log : List ArrivalLog). AreNotesOf steps.size.room rules.own (attempts_at member (somes (get_or arriving cpu [])) log) (frame_notes cpu ns))
+      let none = subst (λ (ws : Waiting). AreNotesOf steps.size.room rules.own (attempts_at member (somes ws) []) [])
+      (sym (fed cpu)) tt in
+      subst (λ (log : List ArrivalLog). AreNotesOf steps.size.room rules.own
+      (attempts_at member (somes (get_or arriving cpu [])) log) (frame_notes cpu ns))
       (append-nil of.log) ((h.joins cpu member below).joined [] (notes.Finished ∷ []) none)
 
   closed_rings : (IsRing : Ring → Type 0) → ((clock : ℕ) (ring : Ring) → P clock ring → IsRing (noted ring notes.Finished))
@@ -125,7 +137,8 @@ module _ (P : ℕ → Ring → Type 0) (rules : Rules) (steps : RingSteps) (arri
   joined : AreJoined rules steps.size.room (logged_of arriving replay.cpus) (notes_of (closed replay).members)
   joined = record {
     each = λ cpu member below.
-        let there : member < length replay.members = omega (arith, count, length-map (closed replay).members (λ ring. ring.notes)) in
+        let there : member < length replay.members =
+        omega (arith, count, length-map (closed replay).members (λ ring. ring.notes)) in
         subst (λ (logged : Logged). AreNotesOf steps.size.room rules.own (attempts_at member logged.arrivals logged.log)
         (frame_notes cpu (get_or (notes_of (closed replay).members) member []))) (logged_at arriving replay.cpus cpu h.cpus)
         (subst (λ (ns : List Note). AreNotesOf steps.size.room rules.own
@@ -133,19 +146,23 @@ module _ (P : ℕ → Ring → Type 0) (rules : Rules) (steps : RingSteps) (arri
         (notes_at member there) (joined_at cpu member there));
     rising = λ cpu lb.
         subst (λ (logged : Logged). Rises 0 (tickets_of logged.log)) (logged_at arriving replay.cpus cpu h.cpus)
-        (subst (λ (tickets : List ℕ). Rises 0 tickets) (append-nil (tickets_of (cpu_at replay cpu).log)) ((h.tickets lb).rising cpu [] tt));
+        (subst (λ (tickets : List ℕ). Rises 0 tickets) (append-nil (tickets_of (cpu_at replay cpu).log))
+        ((h.tickets lb).rising cpu [] tt));
     once = λ ticket lb.
         logged_sum (λ log. count_by (λ drawn. eqb drawn ticket) (tickets_of log)) arriving replay.cpus h.cpus
         ∙ (h.tickets lb).once ticket
         ∙ ap (λ n. one_if (ltb ticket n)) ((h.tickets lb).total ∙ sym (logged_sum length arriving replay.cpus h.cpus));
   }
 
-  group : 0 < rules.members → AreArrivals arriving → IsGroupReport rules steps.size.room (logged_of arriving replay.cpus) (notes_of (closed replay).members)
+  group : 0 < rules.members → AreArrivals arriving
+      → IsGroupReport rules steps.size.room (logged_of arriving replay.cpus) (notes_of (closed replay).members)
   group some of = record {
     some = some;
     count = length-map (closed replay).members (λ ring. ring.notes) ∙ count ∙ h.members;
-    frames = λ cpu. subst (λ (logged : Logged). AreOf cpu 0 logged.arrivals) (logged_at arriving replay.cpus cpu h.cpus) (of cpu);
-    lawful = λ cpu. subst (λ (logged : Logged). IsLawful rules logged.arrivals logged.log) (logged_at arriving replay.cpus cpu h.cpus) (lawful_at cpu);
+    frames = λ cpu. subst (λ (logged : Logged). AreOf cpu 0 logged.arrivals)
+        (logged_at arriving replay.cpus cpu h.cpus) (of cpu);
+    lawful = λ cpu. subst (λ (logged : Logged). IsLawful rules logged.arrivals logged.log)
+        (logged_at arriving replay.cpus cpu h.cpus) (lawful_at cpu);
     joined = joined;
   }
 
@@ -157,15 +174,19 @@ none_past cpus upto e empty k = elim (cases_lt k upto) [
 ]
 
 pub report_is : (P : ℕ → Ring → Type 0) (rules : Rules) (steps : RingSteps) (keep : KeepOpen steps P) (IsRing : Ring → Type 0)
-    (closes : (clock : ℕ) (ring : Ring) → P clock ring → IsRing (noted ring notes.Finished)) (arriving : List Waiting) (lines : List Line)
-    → 0 < rules.members → AreArrivals arriving → IsSchedule lines → IsReplayReport rules steps.size.room IsRing arriving (replayed rules steps arriving lines)
+    (closes : (clock : ℕ) (ring : Ring) → P clock ring → IsRing (noted ring notes.Finished)) (arriving : List Waiting)
+    (lines : List Line)
+    → 0 < rules.members → AreArrivals arriving → IsSchedule lines
+    → IsReplayReport rules steps.size.room IsRing arriving (replayed rules steps arriving lines)
 unfolding replayed
 report_is P rules steps keep IsRing closes arriving lines some of ascending =
     let first = started rules steps arriving in
-    let going = lines_go P rules steps keep arriving some lines 0 first (started_goes P rules steps keep arriving some of) ascending in
+    let going = lines_go P rules steps keep arriving some lines 0 first
+    (started_goes P rules steps keep arriving some of) ascending in
     let last = done_lines rules steps lines first in
     let clock = going.0 in
-    let emptied = all_fed P rules steps keep arriving some (length last.cpus) clock 0 last going.1 (λ k below. absurd (omega arith)) in
+    let emptied = all_fed P rules steps keep arriving some (length last.cpus) clock 0 last going.1
+    (λ k below. absurd (omega arith)) in
     let fed = feed_from rules steps 0 (length last.cpus) last in
     let same : length fed.cpus ≡ 0 + length last.cpus = omega (arith, emptied.goes.cpus, going.1.cpus) in
     let empty = none_past fed.cpus (0 + length last.cpus) same emptied.waiting in

@@ -1,5 +1,6 @@
 -- Each note that a replay adds may follow those before it, so a ring stays open until it is closed.
-use Rattle.std.proofs.Common.{◌≡◌, ℕ, ◌+◌, ◌≤◌, Bool, true, false, cond, List, [], ◌∷◌, ◌++◌, length, Option, None, Some, refl, subst, arith, append_assoc}
+use Rattle.std.proofs.Common.{◌≡◌, ℕ, ◌+◌, ◌≤◌, Bool, true, false, cond, List, [], ◌∷◌, ◌++◌, length, Option, None, Some, refl}
+use Rattle.std.proofs.Common.{subst, arith, append_assoc}
 use Rattle.std.specs.Prelude.{nat_lt}
 use Rattle.std.proofs.lemmas.Grind.{common_steps}
 use Rattle.ring_model.specs.KnownReleases.{put_by, put_note, try_by, try_note, tick_note}
@@ -21,29 +22,36 @@ use Rattle.receive_ring.proofs.Noted.{state-noted}
 -- clock isn't past this moment
 pub record IsOpen (size : Size) (clock : ℕ) (ring : Ring) : Type 0 where
   pub size_is : ring.size ≡ size
-  pub run : (more : List Note) → IsRun ring.size (state ring) more → IsRun ring.size (first_state ring.size) (ring.notes ++ more)
+  pub run : (more : List Note) → IsRun ring.size (state ring) more
+      → IsRun ring.size (first_state ring.size) (ring.notes ++ more)
   pub clock_is : (state ring).clock ≤ clock
   pub releases : List ℕ
   pub unreleased : AreReleases 0 ring.released releases ring.notes
 
 -- one more note, and more released blocks
-pub releases_more : (low last : ℕ) (counts : List ℕ) (notes : List Note) (note : Note) → AreReleases low last counts notes → IsUnreleased last note
+pub releases_more : (low last : ℕ) (counts : List ℕ) (notes : List Note) (note : Note) → AreReleases low last counts notes
+    → IsUnreleased last note
     → AreReleases low last (counts ++ last ∷ []) (notes ++ note ∷ [])
 releases_more low last [] [] note h new = (h, new, omega arith)
 releases_more low last [] (first ∷ notes) note h new = absurd h
 releases_more low last (count ∷ counts) [] note h new = absurd h
-releases_more low last (count ∷ counts) (first ∷ notes) note h new = (h.0, h.1, releases_more count last counts notes note h.2 new)
+releases_more low last (count ∷ counts) (first ∷ notes) note h new =
+    (h.0, h.1, releases_more count last counts notes note h.2 new)
 
-pub releases_later : (low last later : ℕ) (counts : List ℕ) (notes : List Note) → last ≤ later → AreReleases low last counts notes
+pub releases_later : (low last later : ℕ) (counts : List ℕ) (notes : List Note) → last ≤ later
+    → AreReleases low last counts notes
     → AreReleases low later counts notes
 releases_later low last later [] [] more h = omega (arith, more, h)
 releases_later low last later [] (note ∷ notes) more h = absurd h
 releases_later low last later (count ∷ counts) [] more h = absurd h
-releases_later low last later (count ∷ counts) (note ∷ notes) more h = (h.0, h.1, releases_later count last later counts notes more h.2)
+releases_later low last later (count ∷ counts) (note ∷ notes) more h =
+    (h.0, h.1, releases_later count last later counts notes more h.2)
 
 -- one more note, which isn't the last
-pub noted_open : (size : Size) (clock now : ℕ) (ring : Ring) (note : Note) → IsOpen size clock ring → MayFollow ring.size (state ring) note
-    → ((more : List Note) → EndsThere note more) → IsUnreleased ring.released note → (after ring.size (state ring) note).clock ≤ now
+pub noted_open : (size : Size) (clock now : ℕ) (ring : Ring) (note : Note) → IsOpen size clock ring
+    → MayFollow ring.size (state ring) note
+    → ((more : List Note) → EndsThere note more) → IsUnreleased ring.released note
+    → (after ring.size (state ring) note).clock ≤ now
     → IsOpen size now (noted ring note)
 noted_open size clock now ring note h may ends found early = record {
   size_is = h.size_is;
@@ -61,7 +69,8 @@ put_may_follow size released s offer = grind (arith, common_steps)
 try_may_follow : (size : Size) (released : ℕ) (s : State) (offer : Offer) → MayFollow size s (try_note size released s offer)
 try_may_follow size released s offer = grind (arith, common_steps)
 
-tick_may_follow : (size : Size) (released : ℕ) (s : State) (ms : ℕ) → s.clock ≤ ms → MayFollow size s (tick_note size released s ms)
+tick_may_follow : (size : Size) (released : ℕ) (s : State) (ms : ℕ) → s.clock ≤ ms
+    → MayFollow size s (tick_note size released s ms)
 tick_may_follow size released s ms later = grind (arith, common_steps)
 
 -- only a tick moves the clock
@@ -85,7 +94,8 @@ moved false a b ms e f = omega arith
 
 tick_clock : (size : Size) (s : State) (ms : ℕ) (found : Found) → (after size s (Ticked ms found)).clock ≤ ms
 tick_clock size s ms found =
-    moved (nat_lt ms s.deadline) (record s { clock = ms }) (record (after_due s s.now found) { clock = ms; deadline = ms + size.tov }) ms refl refl
+    moved (nat_lt ms s.deadline) (record s { clock = ms })
+    (record (after_due s s.now found) { clock = ms; deadline = ms + size.tov }) ms refl refl
 
 put_ends : (offer : Offer) (found : Found) (more : List Note) → EndsThere (put_by offer found) more
 put_ends offer NotAsked more = tt
@@ -97,21 +107,27 @@ try_ends offer NotAsked more = tt
 try_ends offer Free more = tt
 try_ends offer (Held number) more = tt
 
-pub put_open : (size : Size) (clock : ℕ) (ring : Ring) (offer : Offer) → IsOpen size clock ring → IsOpen size clock (noted ring (note_of_put ring offer))
+pub put_open : (size : Size) (clock : ℕ) (ring : Ring) (offer : Offer) → IsOpen size clock ring
+    → IsOpen size clock (noted ring (note_of_put ring offer))
 put_open size clock ring offer h =
-    noted_open size clock clock ring (note_of_put ring offer) h (put_may_follow ring.size ring.released (state ring) offer) (put_ends offer _)
+    noted_open size clock clock ring (note_of_put ring offer) h (put_may_follow ring.size ring.released (state ring) offer)
+    (put_ends offer _)
     (put_unreleased ring.size ring.released (state ring) offer)
     (rw (put_clock ring.size (state ring) offer) h.clock_is)
 
-pub try_open : (size : Size) (clock : ℕ) (ring : Ring) (offer : Offer) → IsOpen size clock ring → IsOpen size clock (noted ring (note_of_try ring offer))
+pub try_open : (size : Size) (clock : ℕ) (ring : Ring) (offer : Offer) → IsOpen size clock ring
+    → IsOpen size clock (noted ring (note_of_try ring offer))
 try_open size clock ring offer h =
-    noted_open size clock clock ring (note_of_try ring offer) h (try_may_follow ring.size ring.released (state ring) offer) (try_ends offer _)
+    noted_open size clock clock ring (note_of_try ring offer) h (try_may_follow ring.size ring.released (state ring) offer)
+    (try_ends offer _)
     (try_unreleased ring.size ring.released (state ring) offer)
     (rw (try_clock ring.size (state ring) offer) h.clock_is)
 
-pub tick_open : (size : Size) (clock ms : ℕ) (ring : Ring) → clock ≤ ms → IsOpen size clock ring → IsOpen size ms (noted ring (note_of_tick ring ms))
+pub tick_open : (size : Size) (clock ms : ℕ) (ring : Ring) → clock ≤ ms → IsOpen size clock ring
+    → IsOpen size ms (noted ring (note_of_tick ring ms))
 tick_open size clock ms ring later h =
-    noted_open size clock ms ring (note_of_tick ring ms) h (tick_may_follow ring.size ring.released (state ring) ms (omega arith)) (λ more. tt)
+    noted_open size clock ms ring (note_of_tick ring ms) h
+    (tick_may_follow ring.size ring.released (state ring) ms (omega arith)) (λ more. tt)
     (tick_unreleased ring.size ring.released (state ring) ms)
     (tick_clock ring.size (state ring) ms _)
 
@@ -137,7 +153,8 @@ pub closed_run : (size : Size) (clock : ℕ) (ring : Ring) → IsOpen size clock
 closed_run size clock ring h = record {
   size_is = h.size_is;
   run = record {
-    run = subst (λ (s : Size). IsRun s (first_state s) (ring.notes ++ Finished ∷ [])) h.size_is (h.run (Finished ∷ []) (tt, refl, tt));
+    run = subst (λ (s : Size). IsRun s (first_state s) (ring.notes ++ Finished ∷ [])) h.size_is
+        (h.run (Finished ∷ []) (tt, refl, tt));
     closed = (ring.notes, refl);
   };
   releases = h.releases ++ ring.released ∷ [];
@@ -145,7 +162,13 @@ closed_run size clock ring h = record {
 }
 
 pub fresh_open : (size : Size) → IsOpen size 0 (fresh size)
-fresh_open size = record { size_is = refl; run = λ more run. run; clock_is = omega arith; releases = []; unreleased = omega arith }
+fresh_open size = record {
+  size_is = refl;
+  run = λ more run. run;
+  clock_is = omega arith;
+  releases = [];
+  unreleased = omega arith;
+}
 
 -- so the steps of rings of blocks keep a ring open
 pub blocks_keep : (size : Size) → KeepOpen (block_steps size) (IsOpen size)

@@ -43,10 +43,12 @@ read_as tells shape [] [] texts = refl
 read_as tells shape [] (slot ∷ done) texts = absurd texts
 read_as tells shape (entry ∷ all) [] texts = absurd texts
 read_as tells shape (entry ∷ all) (slot ∷ done) texts =
-    ap (λ (one : Taken). one ∷ map (λ entry. slot_taken_in shape entry.0) all) (tells shape slot.1 (slot_packet_of slot.0) entry.0 texts.0)
+    ap (λ (one : Taken). one ∷ map (λ entry. slot_taken_in shape entry.0) all)
+    (tells shape slot.1 (slot_packet_of slot.0) entry.0 texts.0)
     ∙ ap (λ (taken : List Taken). slot_taken slot.1 (slot_packet_of slot.0) ∷ taken) (read_as tells shape all done texts.2)
 
-waits_slots : (tells : Tells) (shape : RingRequest) (done : List (Offer × ℕ)) (end : PlainState) → RepresentsSlots shape done (feed_of end)
+waits_slots : (tells : Tells) (shape : RingRequest) (done : List (Offer × ℕ)) (end : PlainState)
+    → RepresentsSlots shape done (feed_of end)
     → Waits (slot_taken_in shape) (slots_taken done) end
 waits_slots tells shape done end texts =
     waits_for (slot_taken_in shape) (slots_taken done) end texts.0 texts.1 (read_as tells shape texts.0 done texts.2)
@@ -69,17 +71,23 @@ added tells before after note adds =
 
 pub put_kept : {E : Type 0} (tells : Tells) (before after : SlotProducing PlainState) (offer : Offer) (result : Result Put E)
     → IfOk result (λ put. (found : Found) × SlotPuts feed_of before after offer found put)
-    → OnOk result (SlotsBecome (noted (ring_in steps_of_slots (seen_slots before)) (note_of_put steps_of_slots (seen_slots before) offer)) before after)
+    → OnOk result
+    (SlotsBecome (noted (ring_in steps_of_slots (seen_slots before))
+    (note_of_put steps_of_slots (seen_slots before) offer)) before after)
 put_kept tells before after offer (Ok put) made =
-    subst (λ (found : Found). SlotsBecome (noted (ring_in steps_of_slots (seen_slots before)) (put_by offer found)) before after)
+    subst (λ (found : Found). SlotsBecome
+    (noted (ring_in steps_of_slots (seen_slots before)) (put_by offer found)) before after)
     (made.1.looks.exact before.end.released refl) (added tells before after (put_by offer made.0) made.1.adds)
 put_kept tells before after offer (Err error) made = tt
 
 pub try_kept : {E : Type 0} (tells : Tells) (before after : SlotProducing PlainState) (offer : Offer) (result : Result Tried E)
     → IfOk result (λ tried. (found : Found) × SlotTries feed_of before after offer found tried)
-    → OnOk result (SlotsBecome (noted (ring_in steps_of_slots (seen_slots before)) (note_of_try steps_of_slots (seen_slots before) offer)) before after)
+    → OnOk result
+    (SlotsBecome (noted (ring_in steps_of_slots (seen_slots before))
+    (note_of_try steps_of_slots (seen_slots before) offer)) before after)
 try_kept tells before after offer (Ok tried) made =
-    subst (λ (found : Found). SlotsBecome (noted (ring_in steps_of_slots (seen_slots before)) (try_by offer found)) before after)
+    subst (λ (found : Found). SlotsBecome
+    (noted (ring_in steps_of_slots (seen_slots before)) (try_by offer found)) before after)
     (made.1.looks.exact before.end.released refl) (added tells before after (try_by offer made.0) made.1.adds)
 try_kept tells before after offer (Err error) made = tt
 
@@ -100,7 +108,8 @@ closed_as tells before end closing notes noted_is same texts is =
     }
 
 -- a ring whose slots are all free
-pub fresh_end : (shape : RingRequest) (count : ℕ) (contents : List (List ℕ)) (ring : PlainState) → ring ≡ plain.fresh count ring.kind contents
+pub fresh_end : (shape : RingRequest) (count : ℕ) (contents : List (List ℕ)) (ring : PlainState)
+    → ring ≡ plain.fresh count ring.kind contents
     → ring.kind ≡ numbers_of shape → count ≡ shape.frame_nr → IsFreshSlots shape (feed_of ring)
 fresh_end shape count contents ring e kind all = record {
   places = ap (λ (r : PlainState). r.places) e ∙ all;
@@ -112,13 +121,16 @@ fresh_end shape count contents ring e kind all = record {
 }
 
 -- slots of zeros are of one kind
-pub one_kind : (shape : RingRequest) (n : ℕ) → AllByRecursion (λ slot. numbers_of slot.shape ≡ numbers_of shape) (replicate n (zero_slot shape))
+pub one_kind : (shape : RingRequest) (n : ℕ)
+    → AllByRecursion (λ slot. numbers_of slot.shape ≡ numbers_of shape) (replicate n (zero_slot shape))
 one_kind shape zero = tt
 one_kind shape (suc n) = (refl, one_kind shape n)
 
 -- a new ring over it
-pub opens_with : (shape : RingRequest) (count : ℕ) (contents : List (List ℕ)) (ring : PlainState) (producer : SlotProducing PlainState)
-    → ring ≡ plain.fresh count ring.kind contents → ring.kind ≡ numbers_of shape → producer ≡ record { shape = shape; notes = []; end = ring }
+pub opens_with : (shape : RingRequest) (count : ℕ) (contents : List (List ℕ)) (ring : PlainState)
+    (producer : SlotProducing PlainState)
+    → ring ≡ plain.fresh count ring.kind contents → ring.kind ≡ numbers_of shape
+    → producer ≡ record { shape = shape; notes = []; end = ring }
     → Opens slot_taken_in slot_reads shape (seen_slots producer)
 opens_with shape count contents ring producer e kind opens =
     let taken : ring.taken ≡ 0 = ap (λ (r : PlainState). r.taken) e in
@@ -131,6 +143,7 @@ opens_with shape count contents ring producer e kind opens =
       none_released = ap (λ (r : PlainState). r.released) e;
       waits = record {
         front = omega (arith, taken);
-        rest = ap (λ (entries : List Entry). map (λ entry. slot_taken_in shape entry.0) entries) shown ∙ sym (drop-nil ring.taken);
+        rest = ap (λ (entries : List Entry). map (λ entry. slot_taken_in shape entry.0) entries) shown
+            ∙ sym (drop-nil ring.taken);
       };
     })

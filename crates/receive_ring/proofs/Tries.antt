@@ -1,5 +1,6 @@
 -- The tries that a replay makes of an arrival are a route, and each adds its note to its member.
-use Rattle.std.proofs.Common.{◌≡◌, ℕ, zero, suc, ◌+◌, ◌%◌, ◌<◌, Bool, true, false, cond, eqb, List, [], ◌∷◌, ◌++◌, length, get_or, inl, inr, refl, ap, ◌∙◌, arith}
+use Rattle.std.proofs.Common.{◌≡◌, ℕ, zero, suc, ◌+◌, ◌%◌, ◌<◌, Bool, true, false, cond, eqb, List, [], ◌∷◌, ◌++◌, length}
+use Rattle.std.proofs.Common.{get_or, inl, inr, refl, ap, ◌∙◌, arith}
 use Rattle.std.specs.Prelude.{MatchBool}
 use Rattle.std.proofs.lemmas.List.{length-set}
 use Rattle.ring_model.specs.KnownReleases.{put_by, try_by}
@@ -12,7 +13,8 @@ use Rattle.fanout_group.specs.Rules.{Rules, rolls_over}
 use Rattle.fanout_group.specs.declared.logs.Fate.TheVariants.{Kept, Refused}
 use Rattle.fanout_group.specs.declared.logs.Try.{Try}
 use Rattle.receive_ring.specs.Replay.{Tried, and_then, fate_of, no_ring, noted_at, or_put_at, put_at, tries_of, try_round}
-use Rattle.receive_ring.proofs.AddedNotes.{Arrival, LeavesOpen, Spread, offered, put_tells, spread_none, spread_one, spread_then, try_tells}
+use Rattle.receive_ring.proofs.AddedNotes.{Arrival, LeavesOpen, Spread, offered, put_tells, spread_none, spread_one}
+use Rattle.receive_ring.proofs.AddedNotes.{spread_then, try_tells}
 use Rattle.receive_ring.specs.RingSteps.{RingSteps, put_note, try_note}
 use Rattle.receive_ring.proofs.KeptOpen.{KeepOpen}
 
@@ -30,12 +32,14 @@ record Round (P : ℕ → Ring → Type 0) (a : Arrival) (members at left : ℕ)
   way : IsWay tried.kept members at left tried.tries
 
 -- the tries of an arrival whose home this is
-record Routed (P : ℕ → Ring → Type 0) (a : Arrival) (rolls : Bool) (members home : ℕ) (old : List Ring) (tried : Tried) : Type 0 where
+record Routed (P : ℕ → Ring → Type 0) (a : Arrival) (rolls : Bool) (members home : ℕ) (old : List Ring) (tried : Tried)
+    : Type 0 where
   spread : Spread P a tried.tries old tried.members
   route : IsRoute rolls members home tried.tries
 
 -- the same, if the verdict may have refused the arrival
-pub record Made (P : ℕ → Ring → Type 0) (a : Arrival) (rolls ended : Bool) (members home : ℕ) (old : List Ring) (tried : Tried) : Type 0 where
+pub record Made (P : ℕ → Ring → Type 0) (a : Arrival) (rolls ended : Bool) (members home : ℕ) (old : List Ring) (tried : Tried)
+    : Type 0 where
   pub spread : Spread P a tried.tries old tried.members
   pub tries : MatchBool ended (tried.tries ≡ []) (IsRoute rolls members home tried.tries)
 
@@ -55,7 +59,8 @@ module _ (P : ℕ → Ring → Type 0) (steps : RingSteps) (keep : KeepOpen step
   round_step : (a : Arrival) (members at left : ℕ) (found : Found) (rings : List Ring) (rest : Tried) → at < length rings
       → LeavesOpen P (get_or rings at no_ring) (try_by (offered a) found)
       → Round P a members ((at + 1) % members) left (noted_at at (try_by (offered a) found) rings) rest
-      → Round P a members at (suc left) rings (and_then at (try_by (offered a) found) (noted_at at (try_by (offered a) found) rings) rest)
+      → Round P a members at (suc left) rings
+      (and_then at (try_by (offered a) found) (noted_at at (try_by (offered a) found) rings) rest)
   round_step a members at left NotAsked rings rest inside opens h = record {
     spread = spread_one P a at Kept _ rings inside (try_tells a NotAsked) opens;
     way = (0, omega arith, refl);
@@ -87,11 +92,14 @@ module _ (P : ℕ → Ring → Type 0) (steps : RingSteps) (keep : KeepOpen step
   put_spread a home rings inside =
       let ring = get_or rings home no_ring in
       let found = steps.finds ring (offered a) in
-      spread_one P a home _ (put_note steps ring (offered a)) rings inside (put_tells a found) (λ clock was. keep.put clock ring (offered a) was)
+      spread_one P a home _ (put_note steps ring (offered a)) rings inside (put_tells a found)
+      (λ clock was. keep.put clock ring (offered a) was)
 
-  or_put : (a : Arrival) (kept : Bool) (tries : List Try) (after : List Ring) (members home : ℕ) (rings : List Ring) → home < length rings
+  or_put : (a : Arrival) (kept : Bool) (tries : List Try) (after : List Ring) (members home : ℕ) (rings : List Ring)
+      → home < length rings
       → Round P a members home members rings (record { tries = tries; kept = kept; members = after })
-      → Routed P a true members home rings (or_put_at steps home (offered a) (record { tries = tries; kept = kept; members = after }))
+      → Routed P a true members home rings
+      (or_put_at steps home (offered a) (record { tries = tries; kept = kept; members = after }))
   or_put a true tries after members home rings inside h = record { spread = h.spread; route = inl h.way }
   or_put a false tries after members home rings inside h =
       let put = put_at steps home (offered a) after in
@@ -103,22 +111,27 @@ module _ (P : ℕ → Ring → Type 0) (steps : RingSteps) (keep : KeepOpen step
 
   routed_by : (a : Arrival) (rolls : Bool) (members home : ℕ) (rings : List Ring) → home < members → length rings ≡ members
       → Routed P a rolls members home rings
-      (cond rolls (or_put_at steps home (offered a) (try_round steps members members home (offered a) rings)) (put_at steps home (offered a) rings))
+      (cond rolls (or_put_at steps home (offered a) (try_round steps members members home (offered a) rings))
+      (put_at steps home (offered a) rings))
   routed_by a true members home rings h count =
       let tried = try_round steps members members home (offered a) rings in
-      or_put a tried.kept tried.tries tried.members members home rings (omega arith) (round a members members home rings h count)
+      or_put a tried.kept tried.tries tried.members members home rings (omega arith)
+      (round a members members home rings h count)
   routed_by a false members home rings h count = record {
     spread = put_spread a home rings (omega arith);
     route = (_, put_settles (offered a) _, refl);
   }
 
-  made_by : (a : Arrival) (rolls ended : Bool) (members home : ℕ) (rings : List Ring) (tried : Tried) → Routed P a rolls members home rings tried
+  made_by : (a : Arrival) (rolls ended : Bool) (members home : ℕ) (rings : List Ring) (tried : Tried)
+      → Routed P a rolls members home rings tried
       → Made P a rolls ended members home rings (cond ended (record { tries = []; kept = false; members = rings }) tried)
   made_by a rolls true members home rings tried h = record { spread = spread_none P a rings; tries = refl }
   made_by a rolls false members home rings tried h = record { spread = h.spread; tries = h.route }
 
-  pub tries_made : (a : Arrival) (rules : Rules) (home : ℕ) (rings : List Ring) → home < rules.members → length rings ≡ rules.members
-      → Made P a (rolls_over rules) (eqb a.entry.verdict 0) rules.members home rings (tries_of rules steps home (offered a) a.entry.verdict rings)
+  pub tries_made : (a : Arrival) (rules : Rules) (home : ℕ) (rings : List Ring) → home < rules.members
+      → length rings ≡ rules.members
+      → Made P a (rolls_over rules) (eqb a.entry.verdict 0) rules.members home rings
+      (tries_of rules steps home (offered a) a.entry.verdict rings)
   tries_made a rules home rings h count =
       made_by a (rolls_over rules) (eqb a.entry.verdict 0) rules.members home rings _
       (routed_by a (rolls_over rules) rules.members home rings h count)

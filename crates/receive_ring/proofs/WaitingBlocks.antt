@@ -27,7 +27,8 @@ writable room offer sound =
     }
 
 -- an end that represents contents that are read as these
-pub waits_for : (taken_in : List ℕ → Taken) (handed : List Taken) (end : PlainState) (all : List Entry) → RepresentsBlocks (feed_of end) all
+pub waits_for : (taken_in : List ℕ → Taken) (handed : List Taken) (end : PlainState) (all : List Entry)
+    → RepresentsBlocks (feed_of end) all
     → map (λ entry. taken_in entry.0) all ≡ handed → Waits taken_in handed end
 waits_for taken_in handed end all represents reads =
     let many : length handed ≡ length all =

@@ -1,5 +1,7 @@
 -- The lines of a schedule, and what follows the last one.
-use Rattle.std.proofs.Common.{◌≡◌, ℕ, zero, suc, ◌+◌, ◌-◌, ◌<◌, ◌≤◌, Bool, true, false, cond, List, [], ◌∷◌, ◌++◌, length, take, drop, get_or, append-nil, Option, None, Some, inl, inr, refl, sym, ap, ◌∙◌, subst, arith, length-set}
+use Rattle.std.proofs.Common.{◌≡◌, ℕ, zero, suc, ◌+◌, ◌-◌, ◌<◌, ◌≤◌, Bool, true, false, cond, List, [], ◌∷◌, ◌++◌, length, take}
+use Rattle.std.proofs.Common.{drop, get_or, append-nil, Option, None, Some, inl, inr, refl, sym, ap, ◌∙◌, subst, arith}
+use Rattle.std.proofs.Common.{length-set}
 use Rattle.std.specs.Prelude.{IsSome, MatchBool, OnOk, Result, Ok, Err, map, nat_lt, slice_index_or, slice_set}
 use Rattle.std.specs.List.{AllByRecursion}
 use Rattle.std.proofs.lemmas.Bool.{cases_eq}
@@ -21,7 +23,8 @@ use Rattle.setup_text.specs.declared.jobs.Job.{Job}
 use Rattle.cpu_feed.specs.Fed.{FedOne, IsAtItsEnd}
 use Rattle.cpu_feed.specs.CpuFeeds.{Feeding, IsAllOfCpu, frames_in}
 use Rattle.replay_machine.specs.RingGroups.{GroupValue}
-use Rattle.replay_machine.specs.RunStates.{AreAllOf, Feeds, HasCount, IsCounted, IsRun, RunValue, cpu_in, cpus_of, firsts_of, no_feeding, whole, cpu_of}
+use Rattle.replay_machine.specs.RunStates.{AreAllOf, Feeds, HasCount, IsCounted, IsRun, RunValue, cpu_in, cpus_of, firsts_of}
+use Rattle.replay_machine.specs.RunStates.{no_feeding, whole, cpu_of}
 use Rattle.run_reports.specs.Jobs.{rules_of}
 use Rattle.replay_machine.specs.inside.RunEffects.{FedRest, FedWhole, LineDone, fed_whole}
 use Rattle.replay_machine.proofs.RunCounts.{keeps_count, more_lines, read_counted, stats_counted, tick_counted}

@@ -1,5 +1,6 @@
 -- What a reader reads of a ring on one thread, one block or slot after another.
-use Rattle.std.proofs.Common.{◌≡◌, ℕ, zero, suc, ◌+◌, ◌^◌, ◌<◌, ◌≤◌, Bool, false, List, [], ◌∷◌, ◌++◌, length, take, drop, map, Option, None, sym, ap, ◌∙◌, subst, arith}
+use Rattle.std.proofs.Common.{◌≡◌, ℕ, zero, suc, ◌+◌, ◌^◌, ◌<◌, ◌≤◌, Bool, false, List, [], ◌∷◌, ◌++◌, length, take, drop, map}
+use Rattle.std.proofs.Common.{Option, None, sym, ap, ◌∙◌, subst, arith}
 use Rattle.std.specs.Prelude.{is_some, if◌then◌else◌}
 use Rattle.std.proofs.lemmas.Bool.{le-ltb}
 use Rattle.std.proofs.lemmas.List.{length-drop, length-take, nil_from_length, take-append-le, take_all}
@@ -42,8 +43,10 @@ module _ (taken_in : RingRequest → List ℕ → Taken) (shape : RingRequest) (
     pub some : ring.released < length handed
     pub fewer : suc (length after.shown) ≤ length ring.shown
 
-  pub one_read : (ring after : PlainState) (reader next : ReaderValue) (content : List ℕ) → HasRead taken_in shape asked handed ring reader
-      → Took ring after content → next ≡ has_read taken_in content reader → has_block after ≡ is_some next.held → ReadOne ring after next
+  pub one_read : (ring after : PlainState) (reader next : ReaderValue) (content : List ℕ)
+      → HasRead taken_in shape asked handed ring reader
+      → Took ring after content → next ≡ has_read taken_in content reader → has_block after ≡ is_some next.held
+      → ReadOne ring after next
   one_read ring after reader next content h t is hand =
       let none : next.held ≡ None = ap (λ (r : ReaderValue). r.held) is in
       let free : has_block after ≡ false = hand ∙ ap (λ (held : Option (List ℕ)). is_some held) none in
@@ -82,13 +85,15 @@ module _ (taken_in : RingRequest → List ℕ → Taken) (shape : RingRequest) (
       }
 
   pub next_read : (ring after : PlainState) (reader next : ReaderValue) → HasRead taken_in shape asked handed ring reader
-      → Reads taken_in (λ content. Took ring after content) reader next → has_block after ≡ is_some next.held → ReadOne ring after next
+      → Reads taken_in (λ content. Took ring after content) reader next → has_block after ≡ is_some next.held
+      → ReadOne ring after next
   next_read ring after reader next h reads hand =
       let came_in = came (λ content. Took ring after content) reader next h.none_held reads in
       one_read ring after reader next came_in.0 h came_in.1 came_in.2 hand
 
   -- none is in the reader's hand
-  pub free_hand : (ring : PlainState) (reader : ReaderValue) → HasRead taken_in shape asked handed ring reader → has_block ring ≡ is_some reader.held
+  pub free_hand : (ring : PlainState) (reader : ReaderValue) → HasRead taken_in shape asked handed ring reader
+      → has_block ring ≡ is_some reader.held
   free_hand ring reader h =
       let same = h.none_in_hand in
       le-ltb ring.released ring.taken (omega (arith, same)) ∙ sym (ap (λ (held : Option (List ℕ)). is_some held) h.none_held)
@@ -108,7 +113,8 @@ module _ (taken_in : RingRequest → List ℕ → Taken) (shape : RingRequest) (
       let released : after.released ≡ ring.released = ap (λ (r : PlainState). r.released) stays in
       let none = nil_from_length ring.shown empty in
       let gone : length (drop ring.taken handed) ≡ 0 =
-      ap (λ (xs : List Taken). length xs) (sym h.waits.rest) ∙ ap (λ (es : List Entry). length (map (λ entry. taken_in shape entry.0) es)) none in
+      ap (λ (xs : List Taken). length xs) (sym h.waits.rest)
+      ∙ ap (λ (es : List Entry). length (map (λ entry. taken_in shape entry.0) es)) none in
       let few = length-drop ring.taken handed in
       record {
         has = record {
@@ -117,7 +123,8 @@ module _ (taken_in : RingRequest → List ℕ → Taken) (shape : RingRequest) (
           kind_is = ap (λ (r : PlainState). r.kind) stays ∙ h.kind_is;
           waits = record {
             front = omega (arith, taken, front);
-            rest = ap (λ (r : PlainState). map (λ entry. taken_in shape entry.0) r.shown) stays ∙ h.waits.rest ∙ ap (λ n. drop n handed) (sym taken);
+            rest = ap (λ (r : PlainState). map (λ entry. taken_in shape entry.0) r.shown) stays ∙ h.waits.rest
+                ∙ ap (λ n. drop n handed) (sym taken);
           };
           none_held = ap (λ (r : ReaderValue). r.held) is ∙ h.none_held;
           none_in_hand = taken ∙ same ∙ sym released;
@@ -135,16 +142,20 @@ module _ (taken_in : RingRequest → List ℕ → Taken) (shape : RingRequest) (
       h.has.taken_is ∙ take_all after.released handed (omega (arith, all, same))
 
   -- few were read
-  pub few_read : (ring : PlainState) (reader : ReaderValue) → HasRead taken_in shape asked handed ring reader → length handed ≤ 2 ^ 40
+  pub few_read : (ring : PlainState) (reader : ReaderValue) → HasRead taken_in shape asked handed ring reader
+      → length handed ≤ 2 ^ 40
       → length reader.taken < 2 ^ 55
   few_read ring reader h few =
-      let count : length reader.taken ≡ length (take ring.released handed) = ap (λ (taken : List Taken). length taken) h.taken_is in
+      let count : length reader.taken ≡ length (take ring.released handed) =
+      ap (λ (taken : List Taken). length taken) h.taken_is in
       let front = length-take ring.released handed in
       omega (arith, count, front, few)
 
   -- a ring that hands over more, and whose reader's side stays
-  pub read_on : (now : List Taken) (ring after : PlainState) (reader : ReaderValue) → HasRead taken_in shape asked handed ring reader
-      → (more : List Taken) → now ≡ handed ++ more → after.kind ≡ ring.kind → after.taken ≡ ring.taken → after.released ≡ ring.released
+  pub read_on : (now : List Taken) (ring after : PlainState) (reader : ReaderValue)
+      → HasRead taken_in shape asked handed ring reader
+      → (more : List Taken) → now ≡ handed ++ more → after.kind ≡ ring.kind → after.taken ≡ ring.taken
+      → after.released ≡ ring.released
       → Waits (taken_in shape) now after → HasRead taken_in shape asked now after reader
   read_on now ring after reader h more grown kind taken released waits =
       let same = h.none_in_hand in

@@ -1,5 +1,6 @@
 -- A run is fed a frame, and stays one of its job.
-use Rattle.std.proofs.Common.{◌≡◌, ℕ, zero, suc, ◌+◌, ◌%◌, ◌<◌, ◌≤◌, Bool, true, false, List, [], ◌∷◌, length, get_or, Option, None, Some, inl, refl, sym, ap, ◌∙◌, subst, arith, length-set}
+use Rattle.std.proofs.Common.{◌≡◌, ℕ, zero, suc, ◌+◌, ◌%◌, ◌<◌, ◌≤◌, Bool, true, false, List, [], ◌∷◌, length, get_or, Option}
+use Rattle.std.proofs.Common.{None, Some, inl, refl, sym, ap, ◌∙◌, subst, arith, length-set}
 use Rattle.std.specs.Prelude.{Err, IfOk, MatchBool, Ok, Result, map, slice_set}
 use Rattle.std.proofs.lemmas.List.{get_or-set_same, get_or_default, set-set}
 use Rattle.fanout_group.specs.Deliveries.{AreTriesOf, Received, TakesAllOf}
@@ -27,9 +28,11 @@ use Rattle.replay_machine.specs.RunStates.{AreCpus, Does, Feeds, IsRun, RunValue
 use Rattle.replay_machine.specs.inside.RunRules.{AreRulesAt}
 use Rattle.tap_outside.specs.Seen.{SourceSeen}
 use Rattle.replay_machine.proofs.RingGroups.{Draws, draws, group_with}
-use Rattle.replay_machine.proofs.RunArrivals.{Arrives, IsTriedAs, Looked, arrives, as_changed, as_count, as_keep, cpus_are, member_takes}
+use Rattle.replay_machine.proofs.RunArrivals.{Arrives, IsTriedAs, Looked, arrives, as_changed, as_count, as_keep, cpus_are}
+use Rattle.replay_machine.proofs.RunArrivals.{member_takes}
 use Rattle.replay_machine.proofs.RunCounts.{drawn_most, has_arrived, made_most, none_fed, nothing_arrived, one_fed}
-use Rattle.replay_machine.proofs.Whole.{Nexts, cpus-keep, cpus-number, cpus-shape, feeds_frame, feeds_nothing, next_does, with_cpu}
+use Rattle.replay_machine.proofs.Whole.{Nexts, cpus-keep, cpus-number, cpus-shape, feeds_frame, feeds_nothing, next_does}
+use Rattle.replay_machine.proofs.Whole.{with_cpu}
 
 -- ---- an arrival
 

@@ -1,5 +1,7 @@
 -- The tally of notes, one note after another.
-use Rattle.std.proofs.Common.{◌≡◌, ℕ, ◌+◌, ◌<◌, ◌≤◌, suc, Bool, true, false, cond, List, [], ◌∷◌, ◌++◌, length, drop, get_or, Option, None, Some, refl, sym, ap, ◌∙◌, subst, arith, append_assoc, append-nil, add-one, drop-cons}
+use Rattle.std.proofs.Common.{◌≡◌, ℕ, ◌+◌, ◌<◌, ◌≤◌, suc, Bool, true, false, cond, List, [], ◌∷◌, ◌++◌, length, drop, get_or}
+use Rattle.std.proofs.Common.{Option, None, Some, refl, sym, ap, ◌∙◌, subst, arith, append_assoc, append-nil, add-one}
+use Rattle.std.proofs.Common.{drop-cons}
 use Rattle.std.proofs.lemmas.List.{drop_all}
 use Rattle.std.proofs.lemmas.List.Sums.{sum_by_push}
 use Rattle.std.specs.Prelude.{nat_lt}
@@ -43,7 +45,8 @@ counts_more size state Counted rest = refl
 counts_more size state Finished rest = refl
 
 stretches_more : (size : Size) (state : State) (note : Note) (rest : List Note)
-    → stretches_from size state (note ∷ rest) ≡ taken_at note (stats_of state) ++ stretches_from size (after size state note) rest
+    → stretches_from size state (note ∷ rest) ≡ taken_at note (stats_of state)
+    ++ stretches_from size (after size state note) rest
 stretches_more size state (Kept offer found) rest = refl
 stretches_more size state (Refused cpu index need number) rest = refl
 stretches_more size state (Dropped cpu index need number) rest = refl
@@ -56,7 +59,8 @@ same_stats : (ledger : Ledger) (state : State) → Counts ledger state → stats
 same_stats ledger state is = cc (is.kept_is, is.dropped_is, is.freezes_is)
 
 -- before the first note
-pub begins : (size : Size) (notes : List Note) (ledger : Ledger) → Counts ledger (first_state size) → Goes size notes notes [] ledger
+pub begins : (size : Size) (notes : List Note) (ledger : Ledger) → Counts ledger (first_state size)
+    → Goes size notes notes [] ledger
 begins size notes ledger is = record { state = first_state size; is = is; taken = refl; stretches = refl }
 
 -- over one note
@@ -70,14 +74,18 @@ goes_on size notes note rest counts ledger later next goes =
       is = next goes.state goes.is;
       taken =
           ap (λ (s : Stats). (counts ++ taken_at note s) ++ counts_from size (after size goes.state note) rest) same
-          ∙ append_assoc counts _ _ ∙ ap (λ (xs : List Stats). counts ++ xs) (sym (counts_more size goes.state note rest)) ∙ goes.taken;
+          ∙ append_assoc counts _ _ ∙ ap (λ (xs : List Stats). counts ++ xs)
+          (sym (counts_more size goes.state note rest)) ∙ goes.taken;
       stretches =
           ap (λ (s : Stats). (counts ++ taken_at note s) ++ stretches_from size (after size goes.state note) rest) same
-          ∙ append_assoc counts _ _ ∙ ap (λ (xs : List Stats). counts ++ xs) (sym (stretches_more size goes.state note rest)) ∙ goes.stretches;
+          ∙ append_assoc counts _ _ ∙ ap (λ (xs : List Stats). counts ++ xs) (sym (stretches_more size goes.state note rest))
+          ∙ goes.stretches;
     }
 
-pub goes_next : (size : Size) (notes : List Note) (index : ℕ) (note : Note) (counts later_counts : List Stats) (stats : Stats) (ledger later : Ledger)
-    → index < length notes → note ≡ get_or notes index note → stats ≡ stats_in ledger → later_counts ≡ counts ++ taken_at note stats
+pub goes_next : (size : Size) (notes : List Note) (index : ℕ) (note : Note) (counts later_counts : List Stats) (stats : Stats)
+    (ledger later : Ledger)
+    → index < length notes → note ≡ get_or notes index note → stats ≡ stats_in ledger
+    → later_counts ≡ counts ++ taken_at note stats
     → ((state : State) → Counts ledger state → Counts later (after size state note))
     → Goes size notes (drop index notes) counts ledger → Goes size notes (drop (index + 1) notes) later_counts later
 goes_next size notes index note counts later_counts stats ledger later inside item same taken next goes =
@@ -118,7 +126,8 @@ note_few size state (Kept offer (Held number)) = record { packets = omega arith;
 note_few size state (Refused cpu index need number) = record { packets = omega arith; freezes = omega arith }
 note_few size state (Dropped cpu index need number) = drop_few state state.now
 note_few size state (Ticked ms found) =
-    tick_few (nat_lt ms state.deadline) state (after_due state state.now found) ms (ms + size.tov) (due_few state state.now found)
+    tick_few (nat_lt ms state.deadline) state (after_due state state.now found) ms (ms + size.tov)
+    (due_few state state.now found)
 note_few size state Counted = record { packets = omega arith; freezes = omega arith }
 note_few size state Finished = record { packets = omega arith; freezes = omega arith }
 
@@ -135,14 +144,17 @@ more_kept totals state later few =
 more : (size : Size) (state : State) (note : Note) (totals : Stats)
     → More (with_taken note (stats_of state) totals) (after size state note) totals state
 more size state (Kept offer found) totals = more_kept totals state _ (note_few size state (Kept offer found))
-more size state (Refused cpu index need number) totals = more_kept totals state _ (note_few size state (Refused cpu index need number))
-more size state (Dropped cpu index need number) totals = more_kept totals state _ (note_few size state (Dropped cpu index need number))
+more size state (Refused cpu index need number) totals =
+    more_kept totals state _ (note_few size state (Refused cpu index need number))
+more size state (Dropped cpu index need number) totals =
+    more_kept totals state _ (note_few size state (Dropped cpu index need number))
 more size state (Ticked ms found) totals = more_kept totals state _ (note_few size state (Ticked ms found))
 more size state Counted totals = record { packets = omega arith; freezes = omega arith; fewer = λ fewer. omega arith }
 more size state Finished totals = more_kept totals state _ (note_few size state Finished)
 
 -- the sums with one more
-pushed : (counts : List Stats) (stats totals : Stats) → totals ≡ sum_of counts → plus totals stats ≡ sum_of (counts ++ stats ∷ [])
+pushed : (counts : List Stats) (stats totals : Stats) → totals ≡ sum_of counts
+    → plus totals stats ≡ sum_of (counts ++ stats ∷ [])
 pushed counts stats totals e =
     let packets = sum_by_push (λ (s : Stats). s.packets) counts stats in
     let drops = sum_by_push (λ (s : Stats). s.drops) counts stats in
@@ -158,11 +170,18 @@ sums_taken counts stats totals (Ticked ms found) e = e ∙ ap sum_of (sym (appen
 sums_taken counts stats totals Counted e = pushed counts stats totals e
 sums_taken counts stats totals Finished e = e ∙ ap sum_of (sym (append-nil counts))
 
-pub no_sums : (ledger : Ledger) (size : Size) → Counts ledger (first_state size) → Sums 0 [] (record { packets = 0; drops = 0; freezes = 0 }) ledger
+pub no_sums : (ledger : Ledger) (size : Size) → Counts ledger (first_state size)
+    → Sums 0 [] (record { packets = 0; drops = 0; freezes = 0 }) ledger
 no_sums ledger size is =
-    record { of_counts = refl; few_packets = omega (arith, is.kept_is, is.dropped_is); few_freezes = omega (arith, is.freezes_is); fewer = omega arith }
+    record {
+      of_counts = refl;
+      few_packets = omega (arith, is.kept_is, is.dropped_is);
+      few_freezes = omega (arith, is.freezes_is);
+      fewer = omega arith;
+    }
 
-pub sums_next : (index : ℕ) (note : Note) (counts later_counts : List Stats) (stats totals later_totals : Stats) (ledger later : Ledger)
+pub sums_next : (index : ℕ) (note : Note) (counts later_counts : List Stats) (stats totals later_totals : Stats)
+    (ledger later : Ledger)
     → stats ≡ stats_in ledger → later_counts ≡ counts ++ taken_at note stats → later_totals ≡ with_taken note stats totals
     → (size : Size) (state : State) → Counts ledger state → Counts later (after size state note)
     → Sums index counts totals ledger → Sums (index + 1) later_counts later_totals later
@@ -175,7 +194,8 @@ sums_next index note counts later_counts stats totals later_totals ledger later 
     let bound = more size state note totals in
     record {
       of_counts = sums ∙ sums_taken counts stats totals note now.of_counts ∙ ap sum_of (sym taken);
-      few_packets = omega (arith, packets_are, bound.packets, was.kept_is, was.dropped_is, is.kept_is, is.dropped_is, now.few_packets);
+      few_packets =
+          omega (arith, packets_are, bound.packets, was.kept_is, was.dropped_is, is.kept_is, is.dropped_is, now.few_packets);
       few_freezes = omega (arith, freezes_are, bound.freezes, was.freezes_is, is.freezes_is, now.few_freezes);
       fewer = omega (arith, packets_are, drops_are, bound.fewer now.fewer);
     }
@@ -185,10 +205,13 @@ pub ends_counts : (size : Size) (notes all : List Note) (index : ℕ) (counts : 
     → length notes ≤ index → notes ≡ all → Goes size notes (drop index notes) counts ledger → counts ≡ counts_of size all
 ends_counts size notes all index counts ledger behind same goes =
     let none = drop_all index notes behind in
-    sym (append-nil counts) ∙ ap (λ (rest : List Note). counts ++ counts_from size goes.state rest) (sym none) ∙ goes.taken ∙ ap (counts_of size) same
+    sym (append-nil counts) ∙ ap (λ (rest : List Note). counts ++ counts_from size goes.state rest) (sym none) ∙ goes.taken
+    ∙ ap (counts_of size) same
 
-pub ends_totals : (size : Size) (notes all : List Note) (index : ℕ) (counts : List Stats) (stats totals later_totals : Stats) (ledger : Ledger)
-    → length notes ≤ index → notes ≡ all → stats ≡ stats_in ledger → later_totals ≡ plus totals stats → Sums index counts totals ledger
+pub ends_totals : (size : Size) (notes all : List Note) (index : ℕ) (counts : List Stats) (stats totals later_totals : Stats)
+    (ledger : Ledger)
+    → length notes ≤ index → notes ≡ all → stats ≡ stats_in ledger → later_totals ≡ plus totals stats
+    → Sums index counts totals ledger
     → Goes size notes (drop index notes) counts ledger → later_totals ≡ totals_of size all
 ends_totals size notes all index counts stats totals later_totals ledger behind same stats_are sums now goes =
     let none = drop_all index notes behind in

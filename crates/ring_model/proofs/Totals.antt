@@ -50,17 +50,27 @@ counts_all size state [] = record { packets = omega arith; drops = omega arith }
 counts_all size state (Kept offer found ∷ notes) =
     let rest = counts_all size (after size state (Kept offer found)) notes in
     let adds = kept_adds size state offer found in
-    record { packets = omega (arith, rest.packets, adds.kept_more, adds.dropped_more); drops = omega (arith, rest.drops, adds.dropped_more) }
+    record {
+      packets = omega (arith, rest.packets, adds.kept_more, adds.dropped_more);
+      drops = omega (arith, rest.drops, adds.dropped_more);
+    }
 counts_all size state (Refused cpu index need number ∷ notes) =
     let rest = counts_all size state notes in record { packets = rest.packets; drops = rest.drops }
 counts_all size state (Dropped cpu index need number ∷ notes) =
     let rest = counts_all size (after_drop state state.now) notes in
     let adds = drop_adds state state.now in
-    record { packets = omega (arith, rest.packets, adds.kept_more, adds.dropped_more); drops = omega (arith, rest.drops, adds.dropped_more) }
+    record {
+      packets = omega (arith, rest.packets, adds.kept_more, adds.dropped_more);
+      drops = omega (arith, rest.drops, adds.dropped_more);
+    }
 counts_all size state (Ticked ms found ∷ notes) =
     let rest = counts_all size (after size state (Ticked ms found)) notes in
-    let adds = tick_adds (nat_lt ms state.deadline) state (after_due state state.now found) ms (ms + size.tov) (due_adds state state.now found) in
-    record { packets = omega (arith, rest.packets, adds.kept_more, adds.dropped_more); drops = omega (arith, rest.drops, adds.dropped_more) }
+    let adds = tick_adds (nat_lt ms state.deadline) state (after_due state state.now found) ms (ms + size.tov)
+    (due_adds state state.now found) in
+    record {
+      packets = omega (arith, rest.packets, adds.kept_more, adds.dropped_more);
+      drops = omega (arith, rest.drops, adds.dropped_more);
+    }
 counts_all size state (Counted ∷ notes) =
     let rest = counts_all size (after size state Counted) notes in
     let taken = stretches_from size (after size state Counted) notes in

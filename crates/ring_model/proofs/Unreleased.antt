@@ -26,7 +26,8 @@ look_above : (size : Size) (released : ℕ) (s : State) → IsAbove released (lo
 look_above size released s =
     looked released (next_number s - size.blocks) (nat_lt released (next_number s - size.blocks)) refl
 
-unless_room : (released : ℕ) (room : Bool) (found : Found) → IsAbove released found → IsAbove released (cond room NotAsked found)
+unless_room : (released : ℕ) (room : Bool) (found : Found) → IsAbove released found
+    → IsAbove released (cond room NotAsked found)
 unless_room released true found h = tt
 unless_room released false found h = h
 
@@ -46,16 +47,21 @@ tick_above released ms Free h = tt
 tick_above released ms (Held number) h = h
 
 found_above : (size : Size) (released : ℕ) (s : State) (need : ℕ) → IsAbove released (found_for size released s need)
-found_above size released s need = unless_room released (has_room size need s.now) (look size released s) (look_above size released s)
+found_above size released s need =
+    unless_room released (has_room size need s.now) (look size released s) (look_above size released s)
 
-pub put_unreleased : (size : Size) (released : ℕ) (s : State) (offer : Offer) → IsUnreleased released (put_note size released s offer)
+pub put_unreleased : (size : Size) (released : ℕ) (s : State) (offer : Offer)
+    → IsUnreleased released (put_note size released s offer)
 put_unreleased size released s offer =
     put_above released offer (found_for size released s (need_of offer.snap)) (found_above size released s (need_of offer.snap))
 
-pub try_unreleased : (size : Size) (released : ℕ) (s : State) (offer : Offer) → IsUnreleased released (try_note size released s offer)
+pub try_unreleased : (size : Size) (released : ℕ) (s : State) (offer : Offer)
+    → IsUnreleased released (try_note size released s offer)
 try_unreleased size released s offer =
     try_above released offer (found_for size released s (need_of offer.snap)) (found_above size released s (need_of offer.snap))
 
 pub tick_unreleased : (size : Size) (released : ℕ) (s : State) (ms : ℕ) → IsUnreleased released (tick_note size released s ms)
 tick_unreleased size released s ms =
-    tick_above released ms _ (unless_room released (nat_lt ms s.deadline || is_empty_block s.now) (look size released s) (look_above size released s))
+    tick_above released ms _
+    (unless_room released (nat_lt ms s.deadline || is_empty_block s.now) (look size released s)
+    (look_above size released s))

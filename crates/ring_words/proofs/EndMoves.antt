@@ -1,6 +1,8 @@
 -- The rule holds of a new ring; it still holds when its ends are split and joined, and after the
 -- steps of both in one seat.
-use Rattle.std.proofs.Common.{◌≡◌, ℕ, zero, suc, ◌+◌, ◌%◌, ◌<◌, ◌≤◌, true, false, true≢false, List, [], ◌∷◌, ◌++◌, map, length, take, replicate, slice_index, slice_set, refl, sym, ap, ◌∙◌, subst, ⊎_elim, mod-lt, arith, length-set, Option, Some}
+use Rattle.std.proofs.Common.{◌≡◌, ℕ, zero, suc, ◌+◌, ◌%◌, ◌<◌, ◌≤◌, true, false, true≢false, List, [], ◌∷◌, ◌++◌, map, length}
+use Rattle.std.proofs.Common.{take, replicate, slice_index, slice_set, refl, sym, ap, ◌∙◌, subst, ⊎_elim, mod-lt, arith}
+use Rattle.std.proofs.Common.{length-set, Option, Some}
 use mathlib.Core.Option.{some, none, some-ne-none}
 use lib.ListN.{get_elem?}
 use Rattle.std.specs.List.{AllByRecursion}
@@ -28,8 +30,10 @@ zeros (suc count) zero = refl
 zeros (suc count) (suc i) = zeros count i
 
 -- a list that is the prefix of a log is the prefix of a list that is the log
-fronts : {n : ℕ} (now : List Entry) (retired log : List Entry) {longer : List Entry} → now ≡ longer → length longer ≡ n → retired ≡ log → longer ≡ take n log → now ≡ take (length now) retired
-fronts now retired log is long same front = is ∙ front ∙ ap (λ k. take k log) (sym long ∙ sym (ap length is)) ∙ ap (take (length now)) (sym same)
+fronts : {n : ℕ} (now : List Entry) (retired log : List Entry) {longer : List Entry} → now ≡ longer → length longer ≡ n
+    → retired ≡ log → longer ≡ take n log → now ≡ take (length now) retired
+fronts now retired log is long same front =
+    is ∙ front ∙ ap (λ k. take k log) (sym long ∙ sym (ap length is)) ∙ ap (take (length now)) (sym same)
 
 never : false ≡ true → ⊥
 never e = true≢false (sym e)
@@ -70,7 +74,8 @@ module _ {B : Type 0} (bytes kind_of : B → List ℕ) (ready : B → ℕ → �
                 let entry = entry_at blocks (j % length homes) (omega arith) in (
                   entry.0,
                   record {
-                    home = at_map some (map Some blocks) (j % length homes) (Some entry.0) (at_map Some blocks (j % length homes) entry.0 entry.1);
+                    home = at_map some (map Some blocks) (j % length homes) (Some entry.0)
+                        (at_map Some blocks (j % length homes) entry.0 entry.1);
                     same_kind = all_at (λ block. kind_of block ≡ kind) blocks (j % length homes) entry.0 kinds entry.1;
                   },
                 );
@@ -79,7 +84,16 @@ module _ {B : Type 0} (bytes kind_of : B → List ℕ) (ready : B → ℕ → �
         knows = λ id known at.
             ⊎_elim (λ t. subst (λ u. Knows kind 0 0 course id u) t.1 (record {
               feed = λ _. record { seat = t.0; same_kind = refl; given = refl; retired = refl; looks = refl; shown_at = refl };
-              walk = λ _. record { seat = t.0; same_kind = refl; count = refl; front = refl; released = refl; marks = refl; visits = refl; freed_at = refl };
+              walk = λ _. record {
+                seat = t.0;
+                same_kind = refl;
+                count = refl;
+                front = refl;
+                released = refl;
+                marks = refl;
+                visits = refl;
+                freed_at = refl;
+              };
               hand = λ _ _. omega arith;
             }))
             (λ t. absurd (some-ne-none known (sym t)))
@@ -87,7 +101,8 @@ module _ {B : Type 0} (bytes kind_of : B → List ℕ) (ready : B → ℕ → �
       }
 
   -- the reader's seat is split off the feeder's
-  pub splits : (id : ℕ) (v : Known) → v.feeds ≡ true → v.walks ≡ true → v.taken ≡ [] → Splits (Ring bytes kind_of ready kind) id v (left_to_feed v) (left_to_walk v)
+  pub splits : (id : ℕ) (v : Known) → v.feeds ≡ true → v.walks ≡ true → v.taken ≡ []
+      → Splits (Ring bytes kind_of ready kind) id v (left_to_feed v) (left_to_walk v)
   splits id v feeds walks none_taken s r at =
       let c = r.course in
       let know = r.knows id v at in
@@ -123,11 +138,27 @@ module _ {B : Type 0} (bytes kind_of : B → List ℕ) (ready : B → ℕ → �
             let Good : ℕ → Known → Type 0 = λ i k. Knows kind r.feeder (length s.views) c i k in
             ⊎_elim (λ t. subst (λ k. Good j k) t.1 (record {
               feed = λ f. absurd (never f);
-              walk = λ _. record { seat = t.0 ∙ long; same_kind = walk.same_kind; count = walk.count; front = walk.front; released = walk.released; marks = walk.marks; visits = walk.visits; freed_at = walk.freed_at };
+              walk = λ _. record {
+                seat = t.0 ∙ long;
+                same_kind = walk.same_kind;
+                count = walk.count;
+                front = walk.front;
+                released = walk.released;
+                marks = walk.marks;
+                visits = walk.visits;
+                freed_at = walk.freed_at;
+              };
               hand = λ _ _. first;
             }))
             (λ old_at. ⊎_elim (λ t. subst (λ k. Good j k) t.1 (record {
-              feed = λ _. record { seat = t.0 ∙ feed.seat; same_kind = feed.same_kind; given = feed.given; retired = feed.retired; looks = feed.looks; shown_at = feed.shown_at };
+              feed = λ _. record {
+                seat = t.0 ∙ feed.seat;
+                same_kind = feed.same_kind;
+                given = feed.given;
+                retired = feed.retired;
+                looks = feed.looks;
+                shown_at = feed.shown_at;
+              };
               walk = λ w. absurd (never w);
               hand = λ w. absurd (never w);
             }))
@@ -184,8 +215,25 @@ module _ {B : Type 0} (bytes kind_of : B → List ℕ) (ready : B → ℕ → �
             (λ t.
             let elsewhere = t.0 in
             ⊎_elim (λ here. subst (λ k. Good j k) here.1 (record {
-              feed = λ _. record { seat = here.0 ∙ feed.seat; same_kind = feed.same_kind; given = feed.given; retired = feed.retired; looks = feed.looks; shown_at = feed.shown_at };
-              walk = λ _. record { seat = here.0 ∙ feed.seat; same_kind = feed.same_kind; count = walk.count; front = walk.front; released = walk.released; marks = walk.marks; visits = walk.visits; freed_at = walk.freed_at };
+              feed = λ _. record {
+                seat = here.0 ∙ feed.seat;
+                same_kind = feed.same_kind;
+                given = feed.given;
+                retired = feed.retired;
+                looks = feed.looks;
+                shown_at = feed.shown_at;
+              };
+              walk = λ _. record {
+                seat = here.0 ∙ feed.seat;
+                same_kind = feed.same_kind;
+                count = walk.count;
+                front = walk.front;
+                released = walk.released;
+                marks = walk.marks;
+                visits = walk.visits;
+                freed_at =
+                    walk.freed_at;
+              };
               hand = λ _ f. absurd (true≢false (sym feeds ∙ f));
             }))
             (λ there.
@@ -221,10 +269,12 @@ module _ {B : Type 0} (bytes kind_of : B → List ℕ) (ready : B → ℕ → �
         },
       )
 
-  drains_at : (s : State (Option B) Known) (r : Ring bytes kind_of ready kind s) (id : ℕ) (me : Holder B) → get_elem? s.views id ≡ some me.0
+  drains_at : (s : State (Option B) Known) (r : Ring bytes kind_of ready kind s) (id : ℕ) (me : Holder B)
+      → get_elem? s.views id ≡ some me.0
       → me.0.feeds ≡ true → me.0.walks ≡ true → length me.0.taken < length me.0.retired
       → let place : ℕ = length me.0.taken % length s.homes in let word : ℕ = slice_index s.words place in
-      Goes bytes kind_of ready kind s place id me word (Drains bytes kind_of ready (step (length s.homes) place 0 0 none) me word)
+      Goes bytes kind_of ready kind s place id me word
+      (Drains bytes kind_of ready (step (length s.homes) place 0 0 none) me word)
   drains_at s r id me at feeds walks left =
       let v : Known = me.0 in
       let c = r.course in
@@ -239,24 +289,31 @@ module _ {B : Type 0} (bytes kind_of : B → List ℕ) (ready : B → ℕ → �
         taken_one bytes kind_of ready kind v (bytes next.block, word % 256) word,
         takes place (Some next.block),
         next.home,
-        rw (set-read s.words place, next.is) (takes_block bytes kind_of ready kind s r id v word next.entry at walks (λ f. absurd (true≢false (sym feeds ∙ f))) next.at next.written next.odd),
+        rw (set-read s.words place, next.is)
+            (takes_block bytes kind_of ready kind s r id v word next.entry at walks (λ f. absurd (true≢false (sym feeds ∙ f)))
+            next.at next.written next.odd),
         record {
           next = next.found;
-          front = fronts (taken_one bytes kind_of ready kind v (bytes next.block, word % 256) word).taken v.retired c.log (ap (λ one. v.taken ++ one ∷ []) next.is)
-              (length-snoc v.taken next.entry) feed.retired (front_next bytes kind_of ready kind c v.taken next.entry count walk.front next.at);
+          front = fronts (taken_one bytes kind_of ready kind v (bytes next.block, word % 256) word).taken v.retired c.log
+              (ap (λ one. v.taken ++ one ∷ []) next.is)
+              (length-snoc v.taken next.entry) feed.retired
+              (front_next bytes kind_of ready kind c v.taken next.entry count walk.front next.at);
         },
       )
 
   -- both ends in one seat take the next block that was retired
   pub drains : (n id : ℕ) (me : Holder B) → me.0.feeds ≡ true → me.0.walks ≡ true → length me.0.taken < length me.0.retired
-      → Allows (Ring bytes kind_of ready kind) n id me (length me.0.taken % n) (λ word. word) (Drains bytes kind_of ready (step n (length me.0.taken % n) 0 0 none) me)
+      → Allows (Ring bytes kind_of ready kind) n id me (length me.0.taken % n) (λ word. word)
+      (Drains bytes kind_of ready (step n (length me.0.taken % n) 0 0 none) me)
   drains n id me feeds walks left s r wide at small =
       let k : ℕ = length me.0.taken in
-      subst (λ m. Goes bytes kind_of ready kind s (k % m) id me (slice_index s.words (k % m)) (Drains bytes kind_of ready (step m (k % m) 0 0 none) me (slice_index s.words (k % m)))) wide
+      subst (λ m. Goes bytes kind_of ready kind s (k % m) id me (slice_index s.words (k % m))
+      (Drains bytes kind_of ready (step m (k % m) 0 0 none) me (slice_index s.words (k % m)))) wide
       (drains_at s r id me at feeds walks left)
 
 -- the reader's seat knows the prefix of the log, and the feeder's seat knows the log
-pub takes_front : {B : Type 0} (bytes kind_of : B → List ℕ) (ready : B → ℕ → ℕ → Type 0) (kind : List ℕ) (s : State (Option B) Known) → IsRing bytes kind_of ready kind s → TakesFront s.views
+pub takes_front : {B : Type 0} (bytes kind_of : B → List ℕ) (ready : B → ℕ → ℕ → Type 0) (kind : List ℕ)
+    (s : State (Option B) Known) → IsRing bytes kind_of ready kind s → TakesFront s.views
 takes_front bytes kind_of ready kind s r feeder walker fed walked feeder_at walker_at feeds walks =
     let c = r.course in
     let feed = (r.knows feeder fed feeder_at).feed feeds in
@@ -270,7 +327,8 @@ takes_front bytes kind_of ready kind s r feeder walker fed walked feeder_at walk
     }
 
 -- the course is what both ends know of it
-pub looks_hold : {B : Type 0} (bytes kind_of : B → List ℕ) (ready : B → ℕ → ℕ → Type 0) (kind : List ℕ) (s : State (Option B) Known) → IsRing bytes kind_of ready kind s
+pub looks_hold : {B : Type 0} (bytes kind_of : B → List ℕ) (ready : B → ℕ → ℕ → Type 0) (kind : List ℕ)
+    (s : State (Option B) Known) → IsRing bytes kind_of ready kind s
     → LooksHold (length s.homes) s.views
 looks_hold bytes kind_of ready kind s r feeder walker fed walked feeder_at walker_at feeds walks =
     let feed = (r.knows feeder fed feeder_at).feed feeds in

@@ -1,6 +1,7 @@
 -- Lists that are read by place: one more entry at the end, and one more at the start of what is
 -- known.
-use Rattle.std.proofs.Common.{◌≡◌, ◌≢◌, ◌⊎◌, ℕ, zero, suc, ◌+◌, ◌<◌, ◌≤◌, List, [], ◌∷◌, ◌++◌, length, take, slice_index, slice_set, refl, ap, sym, inl, inr, ⊎_elim, arith}
+use Rattle.std.proofs.Common.{◌≡◌, ◌≢◌, ◌⊎◌, ℕ, zero, suc, ◌+◌, ◌<◌, ◌≤◌, List, [], ◌∷◌, ◌++◌, length, take, slice_index}
+use Rattle.std.proofs.Common.{slice_set, refl, ap, sym, inl, inr, ⊎_elim, arith}
 use mathlib.Core.Option.{some, some-injective, some-ne-none}
 use lib.ListN.{get_elem?}
 
@@ -26,7 +27,8 @@ module _ {A : Type 0} where
   at_end [] a b e = some-injective a b e
   at_end (x ∷ l) a b e = at_end l a b e
 
-  pub at_new : (l : List A) (a b : A) (i : ℕ) → get_elem? (l ++ a ∷ []) i ≡ some b → ((i ≡ length l) × (a ≡ b)) ⊎ (get_elem? l i ≡ some b)
+  pub at_new : (l : List A) (a b : A) (i : ℕ) → get_elem? (l ++ a ∷ []) i ≡ some b
+      → ((i ≡ length l) × (a ≡ b)) ⊎ (get_elem? l i ≡ some b)
   at_new [] a b zero e = inl (refl, some-injective a b e)
   at_new [] a b (suc i) e = absurd (some-ne-none b (sym e))
   at_new (x ∷ l) a b zero e = inr e

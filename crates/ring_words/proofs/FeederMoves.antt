@@ -1,5 +1,7 @@
 -- The rule of a ring holds after each step of the feeder's end.
-use Rattle.std.proofs.Common.{◌≡◌, ℕ, ◌+◌, ◌*◌, ◌/◌, ◌%◌, ◌^◌, ◌<◌, ◌≤◌, true, List, [], ◌∷◌, ◌++◌, length, slice_index, slice_set, refl, sym, ap, ◌∙◌, subst, mod-lt, lt_of_not-le, arith, length-set, get_or-set_same, get_or-set_other, Option, Some}
+use Rattle.std.proofs.Common.{◌≡◌, ℕ, ◌+◌, ◌*◌, ◌/◌, ◌%◌, ◌^◌, ◌<◌, ◌≤◌, true, List, [], ◌∷◌, ◌++◌, length, slice_index}
+use Rattle.std.proofs.Common.{slice_set, refl, sym, ap, ◌∙◌, subst, mod-lt, lt_of_not-le, arith, length-set, get_or-set_same}
+use Rattle.std.proofs.Common.{get_or-set_other, Option, Some}
 use mathlib.Core.Option.{some, none}
 use mathlib.Core.Logic.{dite}
 use native.Mathlib.Decide.{dec_le, ℕ_discrete}
@@ -24,7 +26,8 @@ module _ {B : Type 0} (bytes kind_of : B → List ℕ) (ready : B → ℕ → �
 
   -- what has to be shown of a step at a state
   abbrev Goes : State (Option B) Known → ℕ → ℕ → Holder B → ℕ → (Holder B → Type 0) → Type 0
-  Goes s place id me word told = (now : Known) × (act : Act (Option B)) × Valid s.homes me.1 act × Ring (stepped s place word id me.1 now act) × told (now, carried_after me.1 act)
+  Goes s place id me word told = (now : Known) × (act : Act (Option B)) × Valid s.homes me.1 act
+      × Ring (stepped s place word id me.1 now act) × told (now, carried_after me.1 act)
 
   -- what the feeder knows once it was given one more block
   abbrev given_one : Known → ℕ → Known
@@ -35,10 +38,15 @@ module _ {B : Type 0} (bytes kind_of : B → List ℕ) (ready : B → ℕ → �
   looked v word = record v { looks = v.looks ++ word ∷ [] }
 
   -- the next block is out with the feeder
-  gives_block : (s : State (Option B) Known) (r : Ring s) (id : ℕ) (v : Known) (word : ℕ) → get_elem? s.views id ≡ some v → v.feeds ≡ true
+  gives_block : (s : State (Option B) Known) (r : Ring s) (id : ℕ) (v : Known) (word : ℕ) → get_elem? s.views id ≡ some v
+      → v.feeds ≡ true
       → v.given ≤ length v.retired + 1 → v.given + 1 < 2 ^ 40 → v.given < r.course.released + length s.homes
       → word % 2 ≡ 0 → get_elem? (from_start (length s.homes) r.course.marks) v.given ≡ some word
-      → Ring record { words = s.words; homes = slice_set s.homes (v.given % length s.homes) none; views = slice_set s.views id (given_one v word) }
+      → Ring record {
+        words = s.words;
+        homes = slice_set s.homes (v.given % length s.homes) none;
+        views = slice_set s.views id (given_one v word);
+      }
   gives_block s r id v word at feeds hand few free even mark =
       let n = length s.homes in
       let c = r.course in
@@ -93,7 +101,8 @@ module _ {B : Type 0} (bytes kind_of : B → List ℕ) (ready : B → ℕ → �
                 stored = λ _ h. h;
               }));
         };
-        knows = others_feed kind r.feeder r.walker c c.log (v.given + 1) (c.looks ++ word ∷ []) c.shown_at s.views id (given_one v word) r.knows feed.seat refl
+        knows = others_feed kind r.feeder r.walker c c.log (v.given + 1) (c.looks ++ word ∷ []) c.shown_at s.views id
+            (given_one v word) r.knows feed.seat refl
             record {
               feed = λ _. record {
                 seat = feed.seat;
@@ -105,13 +114,23 @@ module _ {B : Type 0} (bytes kind_of : B → List ℕ) (ready : B → ℕ → �
               };
               walk = λ walks.
                   let w = know.walk walks in
-                  record { seat = w.seat; same_kind = w.same_kind; count = w.count; front = w.front; released = w.released; marks = w.marks; visits = w.visits; freed_at = w.freed_at };
+                  record {
+                    seat = w.seat;
+                    same_kind = w.same_kind;
+                    count = w.count;
+                    front = w.front;
+                    released = w.released;
+                    marks = w.marks;
+                    visits = w.visits;
+                    freed_at = w.freed_at;
+                  };
               hand = know.hand;
             };
       }
 
   -- only the looks of the feeder's seat change, where the block one round before isn't released
-  only_looks : (s : State (Option B) Known) (r : Ring s) (id : ℕ) (v : Known) (word : ℕ) (entry : Entry) → get_elem? s.views id ≡ some v → v.feeds ≡ true
+  only_looks : (s : State (Option B) Known) (r : Ring s) (id : ℕ) (v : Known) (word : ℕ) (entry : Entry)
+      → get_elem? s.views id ≡ some v → v.feeds ≡ true
       → v.given ≡ r.course.released + length s.homes → get_elem? r.course.log r.course.released ≡ some entry
       → word ≡ (r.course.released + 1) * 256 + entry.1 → word % 2 ≡ 1
       → Ring record { words = s.words; homes = s.homes; views = slice_set s.views id (looked v word) }
@@ -136,7 +155,8 @@ module _ {B : Type 0} (bytes kind_of : B → List ℕ) (ready : B → ℕ → �
           one_round = r.owned.one_round;
           few = r.owned.few;
           placed = λ j from below.
-              untouched bytes kind_of ready kind c (record c { looks = c.looks ++ word ∷ [] }) s.words s.words s.homes s.homes (length s.homes) j (r.owned.placed j from below) refl refl
+              untouched bytes kind_of ready kind c (record c { looks = c.looks ++ word ∷ [] }) s.words s.words s.homes s.homes
+              (length s.homes) j (r.owned.placed j from below) refl refl
               record {
                 log = λ one is. is;
                 retired = λ h. h;
@@ -147,7 +167,8 @@ module _ {B : Type 0} (bytes kind_of : B → List ℕ) (ready : B → ℕ → �
                 stored = λ _ h. h;
               };
         };
-        knows = others_feed kind r.feeder r.walker c c.log c.given (c.looks ++ word ∷ []) c.shown_at s.views id (looked v word) r.knows feed.seat refl
+        knows = others_feed kind r.feeder r.walker c c.log c.given (c.looks ++ word ∷ []) c.shown_at s.views id (looked v word)
+            r.knows feed.seat refl
             record {
               feed = λ _. record {
                 seat = feed.seat;
@@ -159,12 +180,22 @@ module _ {B : Type 0} (bytes kind_of : B → List ℕ) (ready : B → ℕ → �
               };
               walk = λ walks.
                   let w = know.walk walks in
-                  record { seat = w.seat; same_kind = w.same_kind; count = w.count; front = w.front; released = w.released; marks = w.marks; visits = w.visits; freed_at = w.freed_at };
+                  record {
+                    seat = w.seat;
+                    same_kind = w.same_kind;
+                    count = w.count;
+                    front = w.front;
+                    released = w.released;
+                    marks = w.marks;
+                    visits = w.visits;
+                    freed_at = w.freed_at;
+                  };
               hand = know.hand;
             };
       }
 
-  looks_by : (s : State (Option B) Known) (r : Ring s) (id : ℕ) (me : Holder B) → get_elem? s.views id ≡ some me.0 → me.0.feeds ≡ true
+  looks_by : (s : State (Option B) Known) (r : Ring s) (id : ℕ) (me : Holder B) → get_elem? s.views id ≡ some me.0
+      → me.0.feeds ≡ true
       → me.0.given ≤ length me.0.retired + 1 → me.0.given + 1 < 2 ^ 40 → Dec (r.course.released + length s.homes ≤ me.0.given)
       → let place : ℕ = me.0.given % length s.homes in let word : ℕ = slice_index s.words place in
       Goes s place id me word (Looks bytes kind_of ready (step (length s.homes) place 0 0 none) me word)
@@ -248,7 +279,8 @@ module _ {B : Type 0} (bytes kind_of : B → List ℕ) (ready : B → ℕ → �
   retired_one v entry visits = record v { retired = v.retired ++ entry ∷ []; shown_at = v.shown_at ++ visits ∷ [] }
 
   -- a block is retired, and is at its place
-  stores_block : (s : State (Option B) Known) (r : Ring s) (id : ℕ) (v : Known) (block : B) (status : ℕ) → get_elem? s.views id ≡ some v → v.feeds ≡ true
+  stores_block : (s : State (Option B) Known) (r : Ring s) (id : ℕ) (v : Known) (block : B) (status : ℕ)
+      → get_elem? s.views id ≡ some v → v.feeds ≡ true
       → length v.retired < v.given → IsStatus status → kind_of block ≡ v.kind → ready block (length v.retired + 1) status
       → let place : ℕ = length v.retired % length s.homes in
       Ring record {
@@ -286,8 +318,10 @@ module _ {B : Type 0} (bytes kind_of : B → List ℕ) (ready : B → ℕ → �
         course = c';
         feeder = r.feeder;
         walker = r.walker;
-        feeds = still_sits (λ (k : Known). k.feeds) s.views id r.feeder v (retired_one v entry (length c.visits)) at refl r.feeds;
-        walks = still_sits (λ (k : Known). k.walks) s.views id r.walker v (retired_one v entry (length c.visits)) at refl r.walks;
+        feeds = still_sits (λ (k : Known). k.feeds) s.views id r.feeder v (retired_one v entry (length c.visits))
+            at refl r.feeds;
+        walks = still_sits (λ (k : Known). k.walks) s.views id r.walker v (retired_one v entry (length c.visits))
+            at refl r.walks;
         seen = rw wide (seen_shown n c r.seen entry);
         owned = record {
           some_places = rw wide some_places;
@@ -303,7 +337,8 @@ module _ {B : Type 0} (bytes kind_of : B → List ℕ) (ready : B → ℕ → �
               dite (ℕ_discrete j (length v.retired))
               (λ e.
               let here : slice_index words' (j % n) ≡ word = rw e (get_or-set_same s.words place word 0 (omega arith)) in
-              let home : get_elem? homes' (j % n) ≡ some (some (Some block)) = rw e (set_here s.homes place (some (Some block)) near) in
+              let home : get_elem? homes' (j % n) ≡ some (some (Some block)) =
+              rw e (set_here s.homes place (some (Some block)) near) in
               let last : j ≡ length c.log = omega arith in
               record {
                 written = λ one is.
@@ -317,7 +352,8 @@ module _ {B : Type 0} (bytes kind_of : B → List ℕ) (ready : B → ℕ → �
                       block = block;
                       at_place = record { home = home; same_kind = is_kind ∙ feed.same_kind };
                       content = ap (λ z. z.0) same;
-                      is_ready = subst (λ z. ready block (j + 1) z.1) same (subst (λ k. ready block (k + 1) status) (sym e) is_ready);
+                      is_ready =
+                          subst (λ z. ready block (j + 1) z.1) same (subst (λ k. ready block (k + 1) status) (sym e) is_ready);
                     };
                 marked = λ h. absurd (omega arith);
                 stored = λ h. absurd (omega arith);
@@ -339,7 +375,8 @@ module _ {B : Type 0} (bytes kind_of : B → List ℕ) (ready : B → ℕ → �
                 stored = λ _ h. h;
               }));
         };
-        knows = others_feed kind r.feeder r.walker c log c.given c.looks shown_at s.views id (retired_one v entry (length c.visits)) r.knows feed.seat (take-longer c.log entry c.taken front)
+        knows = others_feed kind r.feeder r.walker c log c.given c.looks shown_at s.views id
+            (retired_one v entry (length c.visits)) r.knows feed.seat (take-longer c.log entry c.taken front)
             record {
               feed = λ _. record {
                 seat = feed.seat;
@@ -351,15 +388,27 @@ module _ {B : Type 0} (bytes kind_of : B → List ℕ) (ready : B → ℕ → �
               };
               walk = λ walks.
                   let w = know.walk walks in
-                  record { seat = w.seat; same_kind = w.same_kind; count = w.count; front = w.front ∙ sym (take-longer c.log entry c.taken front); released = w.released; marks = w.marks; visits = w.visits; freed_at = w.freed_at };
+                  record {
+                    seat = w.seat;
+                    same_kind = w.same_kind;
+                    count = w.count;
+                    front = w.front ∙ sym (take-longer c.log entry c.taken front);
+                    released = w.released;
+                    marks = w.marks;
+                    visits = w.visits;
+                    freed_at = w.freed_at;
+                  };
               hand = know.hand;
             };
       }
 
-  stores_by : (n id : ℕ) (v : Known) (others : List (ℕ × Option B)) (block : B) (status : ℕ) (s : State (Option B) Known) (r : Ring s)
+  stores_by : (n id : ℕ) (v : Known) (others : List (ℕ × Option B)) (block : B) (status : ℕ)
+      (s : State (Option B) Known) (r : Ring s)
       → get_elem? s.views id ≡ some v → v.feeds ≡ true
-      → length v.retired < v.given → IsStatus status → kind_of block ≡ v.kind → ready block (length v.retired + 1) status → length s.homes ≡ n
-      → let place : ℕ = length v.retired % n in let word : ℕ = (length v.retired + 1) * 256 + status in let me : Holder B = (v, (place, Some block) ∷ others) in
+      → length v.retired < v.given → IsStatus status → kind_of block ≡ v.kind → ready block (length v.retired + 1) status
+      → length s.homes ≡ n
+      → let place : ℕ = length v.retired % n in let word : ℕ = (length v.retired + 1) * 256 + status in let me : Holder B =
+      (v, (place, Some block) ∷ others) in
       Goes s place id me word (Stores bytes kind_of ready (step n place word 0 none) me word)
   stores_by n id v others block status s r at feeds hand odd is_kind is_ready wide =
       let word : ℕ = (length v.retired + 1) * 256 + status in
@@ -371,17 +420,26 @@ module _ {B : Type 0} (bytes kind_of : B → List ℕ) (ready : B → ℕ → �
         gives,
         tt,
         stores_block s r id v block status at feeds hand odd is_kind is_ready,
-        record { hand = refl; at = length r.course.visits; known = ap (λ k. retired_one v (bytes block, k) (length r.course.visits)) (sym (status_of_word (length v.retired + 1) status odd)) },
+        record {
+          hand = refl;
+          at = length r.course.visits;
+          known = ap (λ k. retired_one v (bytes block, k) (length r.course.visits))
+              (sym (status_of_word (length v.retired + 1) status odd));
+        },
       )
 
   -- the feeder stores number and status after the block that it has put back
-  pub stores : (n id : ℕ) (me : Holder B) (block : B) (status word : ℕ) → me.0.feeds ≡ true → length me.0.retired < me.0.given → IsStatus status
-      → kind_of block ≡ me.0.kind → ready block (length me.0.retired + 1) status → me.1 ≡ (length me.0.retired % n, Some block) ∷ rest me.1
+  pub stores : (n id : ℕ) (me : Holder B) (block : B) (status word : ℕ) → me.0.feeds ≡ true → length me.0.retired < me.0.given
+      → IsStatus status
+      → kind_of block ≡ me.0.kind → ready block (length me.0.retired + 1) status
+      → me.1 ≡ (length me.0.retired % n, Some block) ∷ rest me.1
       → word ≡ (length me.0.retired + 1) * 256 + status
-      → Allows Ring n id me (length me.0.retired % n) (λ _. word) (λ _. Stores bytes kind_of ready (step n (length me.0.retired % n) word 0 none) me word)
+      → Allows Ring n id me (length me.0.retired % n) (λ _. word)
+      (λ _. Stores bytes kind_of ready (step n (length me.0.retired % n) word 0 none) me word)
   stores n id me block status word feeds hand odd is_kind is_ready out is s r wide at small =
       let place : ℕ = length me.0.retired % n in
-      subst (λ slots. Goes s place id (me.0, slots) word (Stores bytes kind_of ready (step n place word 0 none) (me.0, slots) word)) (sym out)
+      subst (λ slots. Goes s place id (me.0, slots) word
+      (Stores bytes kind_of ready (step n place word 0 none) (me.0, slots) word)) (sym out)
       (subst (λ x. let mine : Holder B = (me.0, (place, Some block) ∷ rest me.1) in
       Goes s place id mine x (Stores bytes kind_of ready (step n place x 0 none) mine x)) (sym is)
       (stores_by n id me.0 (rest me.1) block status s r at feeds hand odd is_kind is_ready wide))

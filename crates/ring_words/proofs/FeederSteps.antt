@@ -1,5 +1,6 @@
 -- What the calls of the feeder's end have to show of the table, and what its fields keep.
-use Rattle.std.proofs.Common.{◌≡◌, ℕ, ◌+◌, ◌-◌, ◌*◌, ◌%◌, ◌^◌, ◌<◌, ◌≤◌, List, [], ◌∷◌, ◌++◌, length, Option, Some, None, sym, ap, ◌∙◌, subst, mod-lt, refl, arith}
+use Rattle.std.proofs.Common.{◌≡◌, ℕ, ◌+◌, ◌-◌, ◌*◌, ◌%◌, ◌^◌, ◌<◌, ◌≤◌, List, [], ◌∷◌, ◌++◌, length, Option, Some, None, sym}
+use Rattle.std.proofs.Common.{ap, ◌∙◌, subst, mod-lt, refl, arith}
 use mathlib.Core.Option.{none}
 use Rattle.atomic_table.specs.Seated.{TableId}
 use Rattle.atomic_table.specs.Table.{Allows, rest, step, turned}
@@ -13,10 +14,12 @@ use Rattle.ring_words.proofs.Hands.{front_of, oldest, one_more}
 
 module _ {B : Type 0} (bytes kind_of : B → List ℕ) (ready : B → ℕ → ℕ → Type 0) where
   -- the load of `next`
-  pub may_look : (kind : List ℕ) (table seat : TableId) (id : ℕ) (me : Holder B) (places given retired : ℕ) → IsSeated table seat places → KeepsFeed me places given retired
+  pub may_look : (kind : List ℕ) (table seat : TableId) (id : ℕ) (me : Holder B) (places given retired : ℕ)
+      → IsSeated table seat places → KeepsFeed me places given retired
       → given ≤ length me.0.retired + 1 → given + 1 < 2 ^ 40
       → (seat ≡ table) × (given % places < table.words)
-      × Allows (IsRing bytes kind_of ready kind) table.slots id me (given % places) (λ word. word) (Looks bytes kind_of ready (step table.slots (given % places) 0 0 none) me)
+      × Allows (IsRing bytes kind_of ready kind) table.slots id me (given % places) (λ word. word)
+      (Looks bytes kind_of ready (step table.slots (given % places) 0 0 none) me)
   may_look kind table seat id me places given retired is keeps hand few =
       let some = is.some_places in
       let words = is.words in
@@ -28,19 +31,25 @@ module _ {B : Type 0} (bytes kind_of : B → List ℕ) (ready : B → ℕ → �
       )
 
   -- the slot of a free block is out
-  pub has_free : (slots place : ℕ) (me me' : Holder B) (word : ℕ) → FoundFree bytes kind_of ready (step slots place 0 0 none) me word me'
+  pub has_free : (slots place : ℕ) (me me' : Holder B) (word : ℕ)
+      → FoundFree bytes kind_of ready (step slots place 0 0 none) me word me'
       → (x : Option B) × (me'.1 ≡ (place, x) ∷ rest me'.1)
   has_free slots place me me' word found = (Some found.block, front_of me'.1 (place, Some found.block) me.1 found.hand)
 
   -- the fields after a free block was taken out
-  pub keeps_free : (places slots given retired : ℕ) (me me' me'' : Holder B) (word : ℕ) → KeepsFeed me places given retired → given ≤ length me.0.retired + 1 → given + 1 < 2 ^ 40
-      → FoundFree bytes kind_of ready (step slots (given % places) 0 0 none) me word me' → me'' ≡ (me'.0, (given % places, None) ∷ rest me'.1)
+  pub keeps_free : (places slots given retired : ℕ) (me me' me'' : Holder B) (word : ℕ) → KeepsFeed me places given retired
+      → given ≤ length me.0.retired + 1 → given + 1 < 2 ^ 40
+      → FoundFree bytes kind_of ready (step slots (given % places) 0 0 none) me word me'
+      → me'' ≡ (me'.0, (given % places, None) ∷ rest me'.1)
       → KeepsFeed me'' places (given + 1) retired
   keeps_free places slots given retired me me' me'' word keeps hand few found is =
       let count = keeps.count in
       let order = keeps.order in
       let some = keeps.retired_count in
-      let mine : KeepsFeed {B = B} (record me.0 { given = me.0.given + 1; looks = me.0.looks ++ word ∷ [] }, (given % places, None) ∷ me.1) places (given + 1) retired = record {
+      let mine : KeepsFeed {B = B} (
+        record me.0 { given = me.0.given + 1; looks = me.0.looks ++ word ∷ [] },
+        (given % places, None) ∷ me.1,
+      ) places (given + 1) retired = record {
         feeds = keeps.feeds;
         count = omega arith;
         first = λ none. absurd (omega arith);
@@ -53,29 +62,36 @@ module _ {B : Type 0} (bytes kind_of : B → List ℕ) (ready : B → ℕ → �
       rw (is, found.known, found.hand) mine
 
   -- the slot of the older block in hand comes forward
-  pub has_oldest : (places given retired : ℕ) (me me' : Holder B) → KeepsFeed me places given retired → retired < given → me' ≡ (me.0, turned me.1)
+  pub has_oldest : (places given retired : ℕ) (me me' : Holder B) → KeepsFeed me places given retired → retired < given
+      → me' ≡ (me.0, turned me.1)
       → me'.1 ≡ (retired % places, None) ∷ slots_of places (retired + 1) (given - (retired + 1))
   has_oldest places given retired me me' keeps hand is =
       ap (λ (m : Holder B). m.1) is ∙ ap turned keeps.out ∙ oldest places retired given hand keeps.two_in_hand
 
   -- the end with the block back in that slot, before the store
   abbrev pub before_store : Holder B → ℕ → ℕ → ℕ → B → Holder B
-  before_store me places given retired block = (me.0, (retired % places, Some block) ∷ slots_of places (retired + 1) (given - (retired + 1)))
+  before_store me places given retired block =
+      (me.0, (retired % places, Some block) ∷ slots_of places (retired + 1) (given - (retired + 1)))
 
-  pub is_before_store : (places given retired : ℕ) (me me' me'' : Holder B) (block : B) → KeepsFeed me places given retired → retired < given → me' ≡ (me.0, turned me.1)
+  pub is_before_store : (places given retired : ℕ) (me me' me'' : Holder B) (block : B) → KeepsFeed me places given retired
+      → retired < given → me' ≡ (me.0, turned me.1)
       → me'' ≡ (me'.0, (retired % places, Some block) ∷ rest me'.1) → me'' ≡ before_store me places given retired block
   is_before_store places given retired me me' me'' block keeps hand turn out =
       let known : me'.0 ≡ me.0 = ap (λ (m : Holder B). m.0) turn in
-      let slots : rest me'.1 ≡ slots_of places (retired + 1) (given - (retired + 1)) = ap rest (has_oldest places given retired me me' keeps hand turn) in
+      let slots : rest me'.1 ≡ slots_of places (retired + 1) (given - (retired + 1)) =
+      ap rest (has_oldest places given retired me me' keeps hand turn) in
       out ∙ (λ i. (known i, (retired % places, Some block) ∷ slots i))
 
   -- the store of `retire`
-  pub may_store : (kind : List ℕ) (table seat : TableId) (id : ℕ) (me out : Holder B) (block : B) (places given retired status : ℕ) → IsSeated table seat places
-      → KeepsFeed me places given retired → retired < given → IsStatus status → kind_of block ≡ me.0.kind → ready block (length me.0.retired + 1) status
+  pub may_store : (kind : List ℕ) (table seat : TableId) (id : ℕ) (me out : Holder B) (block : B)
+      (places given retired status : ℕ) → IsSeated table seat places
+      → KeepsFeed me places given retired → retired < given → IsStatus status → kind_of block ≡ me.0.kind
+      → ready block (length me.0.retired + 1) status
       → out ≡ before_store me places given retired block
       → let word : ℕ = (retired + 1) * 256 + status in
       (seat ≡ table) × (retired % places < table.words)
-      × Allows (IsRing bytes kind_of ready kind) table.slots id out (retired % places) (λ _. word) (λ _. Stores bytes kind_of ready (step table.slots (retired % places) word 0 none) out word)
+      × Allows (IsRing bytes kind_of ready kind) table.slots id out (retired % places) (λ _. word)
+      (λ _. Stores bytes kind_of ready (step table.slots (retired % places) word 0 none) out word)
   may_store kind table seat id me out block places given retired status is keeps hand odd is_kind is_ready out_is =
       let some = is.some_places in
       let words = is.words in
@@ -84,25 +100,34 @@ module _ {B : Type 0} (bytes kind_of : B → List ℕ) (ready : B → ℕ → �
       let retired_count = keeps.retired_count in
       let mine : Holder B = before_store me places given retired block in
       let place : retired % places ≡ length me.0.retired % places = ap (λ k. k % places) (sym retired_count) in
-      let word : (retired + 1) * 256 + status ≡ (length me.0.retired + 1) * 256 + status = ap (λ k. (k + 1) * 256 + status) (sym retired_count) in
-      let front : mine.1 ≡ (length me.0.retired % places, Some block) ∷ rest mine.1 = ap (λ k. (k, Some block) ∷ rest mine.1) place in
-      let allowed = stores bytes kind_of ready kind places id mine block status ((retired + 1) * 256 + status) keeps.feeds (omega arith) odd is_kind is_ready front word in (
+      let word : (retired + 1) * 256 + status ≡ (length me.0.retired + 1) * 256 + status =
+      ap (λ k. (k + 1) * 256 + status) (sym retired_count) in
+      let front : mine.1 ≡ (length me.0.retired % places, Some block) ∷ rest mine.1 =
+      ap (λ k. (k, Some block) ∷ rest mine.1) place in
+      let allowed = stores bytes kind_of ready kind places id mine block status ((retired + 1) * 256 + status) keeps.feeds
+      (omega arith) odd is_kind is_ready front word in (
         is.same,
         omega arith,
         rw (is.slots, out_is) (subst (λ k. let w : ℕ = (retired + 1) * 256 + status in
-            Allows (IsRing bytes kind_of ready kind) places id mine k (λ _. w) (λ _. Stores bytes kind_of ready (step places k w 0 none) mine w)) (sym place) allowed),
+            Allows (IsRing bytes kind_of ready kind) places id mine k (λ _. w)
+            (λ _. Stores bytes kind_of ready (step places k w 0 none) mine w)) (sym place) allowed),
       )
 
   -- the fields after a block was retired
-  pub keeps_stored : (places slots given retired word : ℕ) (me out : Holder B) (block : B) (me' : Holder B) → KeepsFeed me places given retired → retired < given
+  pub keeps_stored : (places slots given retired word : ℕ) (me out : Holder B) (block : B) (me' : Holder B)
+      → KeepsFeed me places given retired → retired < given
       → out ≡ before_store me places given retired block
-      → Stores bytes kind_of ready (step slots (retired % places) word 0 none) out word me' → KeepsFeed me' places given (retired + 1)
+      → Stores bytes kind_of ready (step slots (retired % places) word 0 none) out word me'
+      → KeepsFeed me' places given (retired + 1)
   keeps_stored places slots given retired word me out block me' keeps hand out_is stored =
       let entry : Entry = (bytes block, word % 256) in
       let order = keeps.order in
       let two = keeps.two_in_hand in
       let count = keeps.retired_count in
-      let mine : KeepsFeed {B = B} (record me.0 { retired = me.0.retired ++ entry ∷ []; shown_at = me.0.shown_at ++ stored.at ∷ [] }, slots_of places (retired + 1) (given - (retired + 1))) places given (retired + 1) = record {
+      let mine : KeepsFeed {B = B} (
+        record me.0 { retired = me.0.retired ++ entry ∷ []; shown_at = me.0.shown_at ++ stored.at ∷ [] },
+        slots_of places (retired + 1) (given - (retired + 1)),
+      ) places given (retired + 1) = record {
         feeds = keeps.feeds;
         count = keeps.count;
         first = keeps.first;

@@ -1,5 +1,6 @@
 -- The slots that an end has out, and counts of looks.
-use Rattle.std.proofs.Common.{◌≡◌, ℕ, zero, suc, ◌+◌, ◌-◌, ◌/◌, ◌%◌, ◌<◌, ◌≤◌, Bool, true, false, List, [], ◌∷◌, ◌++◌, None, refl, sym, ap, ◌∙◌, add-zero, append-nil, arith}
+use Rattle.std.proofs.Common.{◌≡◌, ℕ, zero, suc, ◌+◌, ◌-◌, ◌/◌, ◌%◌, ◌<◌, ◌≤◌, Bool, true, false, List, [], ◌∷◌, ◌++◌, None}
+use Rattle.std.proofs.Common.{refl, sym, ap, ◌∙◌, add-zero, append-nil, arith}
 use Rattle.std.specs.Prelude.{if◌then◌else◌, nat_eq}
 use Rattle.atomic_table.specs.Seated.{TableId}
 use Rattle.atomic_table.specs.Table.{rest, turned}
@@ -21,7 +22,8 @@ still_seated table seat now places is same = record {
 
 module _ {B : Type 0} where
   -- one more block is out
-  pub one_more : (places first last : ℕ) → first ≤ last → slots_of {B = B} places first (last + 1 - first) ≡ (last % places, None) ∷ slots_of places first (last - first)
+  pub one_more : (places first last : ℕ) → first ≤ last
+      → slots_of {B = B} places first (last + 1 - first) ≡ (last % places, None) ∷ slots_of places first (last - first)
   one_more places first last le =
       let count : last + 1 - first ≡ suc (last - first) = omega arith in
       let place : first + (last - first) ≡ last = omega arith in
@@ -30,13 +32,15 @@ module _ {B : Type 0} where
   one_out : (places first : ℕ) → turned (slots_of {B = B} places first 1) ≡ (first % places, None) ∷ []
   one_out places first = ap (λ k. (k % places, None) ∷ []) (add-zero first)
 
-  two_out : (places first : ℕ) → turned (slots_of {B = B} places first 2) ≡ (first % places, None) ∷ slots_of places (first + 1) 1
+  two_out : (places first : ℕ) → turned (slots_of {B = B} places first 2) ≡ (first % places, None)
+      ∷ slots_of places (first + 1) 1
   two_out places first =
       let later : first + 1 ≡ first + 1 + 0 = omega arith in
       ap (λ k. (k % places, None) ∷ ((first + 1) % places, None) ∷ []) (add-zero first)
       ∙ ap (λ k. (first % places, None) ∷ (k % places, None) ∷ []) later
 
-  oldest_of : (places first count : ℕ) → 0 < count → count ≤ 2 → turned (slots_of {B = B} places first count) ≡ (first % places, None) ∷ slots_of places (first + 1) (count - 1)
+  oldest_of : (places first count : ℕ) → 0 < count → count ≤ 2
+      → turned (slots_of {B = B} places first count) ≡ (first % places, None) ∷ slots_of places (first + 1) (count - 1)
   oldest_of places first zero some few = absurd (omega arith)
   oldest_of places first (suc zero) some few = one_out places first
   oldest_of places first (suc (suc zero)) some few = two_out places first
@@ -44,10 +48,12 @@ module _ {B : Type 0} where
 
   -- of one or two blocks that are out, the older comes forward
   pub oldest : (places first last : ℕ) → first < last → last ≤ first + 2
-      → turned (slots_of {B = B} places first (last - first)) ≡ (first % places, None) ∷ slots_of places (first + 1) (last - (first + 1))
+      → turned (slots_of {B = B} places first (last - first)) ≡ (first % places, None)
+      ∷ slots_of places (first + 1) (last - (first + 1))
   oldest places first last lt few =
       let count : last - first - 1 ≡ last - (first + 1) = omega arith in
-      oldest_of places first (last - first) (omega arith) (omega arith) ∙ ap (λ k. (first % places, None) ∷ slots_of places (first + 1) k) count
+      oldest_of places first (last - first) (omega arith) (omega arith)
+      ∙ ap (λ k. (first % places, None) ∷ slots_of places (first + 1) k) count
 
 pub odd_count_push : (words : List ℕ) (word : ℕ) → odd_count (words ++ word ∷ []) ≡ odd_count words + word % 2
 odd_count_push [] word = omega arith
@@ -57,14 +63,17 @@ pub even_count_push : (words : List ℕ) (word : ℕ) → even_count (words ++ w
 even_count_push [] word = omega arith
 even_count_push (x ∷ words) word = let h = even_count_push words word in omega arith
 
-found_if : (b : Bool) (number : ℕ) (words more : List ℕ) → (if b then number ∷ (words ++ more) else words ++ more) ≡ (if b then number ∷ words else words) ++ more
+found_if : (b : Bool) (number : ℕ) (words more : List ℕ)
+    → (if b then number ∷ (words ++ more) else words ++ more) ≡ (if b then number ∷ words else words) ++ more
 found_if true number words more = refl
 found_if false number words more = refl
 
-found_push : (words : List ℕ) (word : ℕ) (more : List ℕ) → found_in (word ∷ []) ≡ more → found_in (words ++ word ∷ []) ≡ found_in words ++ more
+found_push : (words : List ℕ) (word : ℕ) (more : List ℕ) → found_in (word ∷ []) ≡ more
+    → found_in (words ++ word ∷ []) ≡ found_in words ++ more
 found_push [] word more is = is
 found_push (x ∷ words) word more is =
-    ap (λ l. if nat_eq (x % 2) 1 then x / 256 ∷ l else l) (found_push words word more is) ∙ found_if (nat_eq (x % 2) 1) (x / 256) (found_in words) more
+    ap (λ l. if nat_eq (x % 2) 1 then x / 256 ∷ l else l) (found_push words word more is)
+    ∙ found_if (nat_eq (x % 2) 1) (x / 256) (found_in words) more
 
 -- an odd word gives one more number
 pub found_odd : (words : List ℕ) (word : ℕ) → word % 2 ≡ 1 → found_in (words ++ word ∷ []) ≡ found_in words ++ word / 256 ∷ []
@@ -72,4 +81,5 @@ found_odd words word odd = found_push words word (word / 256 ∷ []) (ap (λ b. 
 
 -- an even one gives none
 pub found_even : (words : List ℕ) (word : ℕ) → word % 2 ≡ 0 → found_in (words ++ word ∷ []) ≡ found_in words
-found_even words word even = found_push words word [] (ap (λ b. if nat_eq b 1 then word / 256 ∷ [] else []) even) ∙ append-nil (found_in words)
+found_even words word even = found_push words word [] (ap (λ b. if nat_eq b 1 then word / 256 ∷ [] else []) even)
+    ∙ append-nil (found_in words)

@@ -1,5 +1,6 @@
 -- A look that a step adds to what an end knows found the word at the place of the next block.
-use Rattle.std.proofs.Common.{◌≡◌, ℕ, ◌+◌, ◌%◌, ◌<◌, List, [], ◌∷◌, ◌++◌, length, take, slice_index, sym, ap, ◌∙◌, subst, arith, lt_of_not-le, Option}
+use Rattle.std.proofs.Common.{◌≡◌, ℕ, ◌+◌, ◌%◌, ◌<◌, List, [], ◌∷◌, ◌++◌, length, take, slice_index, sym, ap, ◌∙◌, subst, arith}
+use Rattle.std.proofs.Common.{lt_of_not-le, Option}
 use mathlib.Core.Logic.{dite}
 use mathlib.Core.Option.{some, some-injective}
 use native.Mathlib.Decide.{dec_le, ℕ_discrete}
@@ -21,11 +22,13 @@ last_look : (P : ℕ → ℕ → ℕ → Type 0) (rank : List ℕ → ℕ) (befo
     → ((i w : ℕ) → get_elem? after i ≡ some w → P i (rank (take i after)) w) → P (length before) (rank before) word
 last_look P rank before after word is all =
     subst (λ l. P (length before) (rank l) word) (ap (take (length before)) is ∙ take-append_seam before (word ∷ []))
-    (all (length before) word (ap (λ l. get_elem? l (length before)) is ∙ at_last before word (length before) (λ _. length before)))
+    (all (length before) word (ap (λ l. get_elem? l (length before)) is
+    ∙ at_last before word (length before) (λ _. length before)))
 
 module _ {B : Type 0} (bytes kind_of : B → List ℕ) (ready : B → ℕ → ℕ → Type 0) (kind : List ℕ) where
   -- a look of the feeder
-  pub looks_are_true : (s s' : State (Option B) Known) → IsRing bytes kind_of ready kind s → IsRing bytes kind_of ready kind s' → LooksAreTrue s s'
+  pub looks_are_true : (s s' : State (Option B) Known) → IsRing bytes kind_of ready kind s → IsRing bytes kind_of ready kind s'
+      → LooksAreTrue s s'
   looks_are_true s s' r r' wide feeder walker fed fed' walked word at at' walker_at walker_at' feeds feeds' walks same more =
       let n = length s.homes in
       let c = r.course in
@@ -33,7 +36,8 @@ module _ {B : Type 0} (bytes kind_of : B → List ℕ) (ready : B → ℕ → �
       let feed = (r.knows feeder fed at).feed feeds in
       let walk = (r.knows walker walked walker_at).walk walks in
       let seen' = looks_hold bytes kind_of ready kind s' r' feeder walker fed' walked at' walker_at' feeds' walks in
-      let look = last_look (IsLook (length s'.homes) fed'.retired walked.marks walked.freed_at) even_count fed.looks fed'.looks word more seen'.looks in
+      let look = last_look (IsLook (length s'.homes) fed'.retired walked.marks walked.freed_at) even_count fed.looks fed'.looks
+      word more seen'.looks in
       let rank : even_count fed.looks ≡ fed.given = ap even_count feed.looks ∙ r.seen.given ∙ sym feed.given in
       let found : IsLook n c.log c.marks c.freed_at (length c.looks) fed.given word =
       subst (λ l. IsLook n c.log c.marks c.freed_at (length l) fed.given word) feed.looks
@@ -41,7 +45,8 @@ module _ {B : Type 0} (bytes kind_of : B → List ℕ) (ready : B → ℕ → �
       (subst (λ l. IsLook n c.log c.marks l (length fed.looks) (even_count fed.looks) word) walk.freed_at
       (subst (λ l. IsLook n c.log l walked.freed_at (length fed.looks) (even_count fed.looks) word) walk.marks
       (subst (λ l. IsLook n l walked.marks walked.freed_at (length fed.looks) (even_count fed.looks) word) (same ∙ feed.retired)
-      (subst (λ k. IsLook k fed'.retired walked.marks walked.freed_at (length fed.looks) (even_count fed.looks) word) wide look))))) in
+      (subst (λ k. IsLook k fed'.retired walked.marks walked.freed_at (length fed.looks) (even_count fed.looks) word)
+      wide look))))) in
       let given = feed.given in
       let first = o.released in
       let taken = o.taken in
@@ -64,7 +69,8 @@ module _ {B : Type 0} (bytes kind_of : B → List ℕ) (ready : B → ℕ → �
       dite (dec_le (length (from_start n c.freed_at)) fed.given)
       (λ full.
       let placed = o.placed was.0 (omega arith) (omega arith) in
-      was.2.is ∙ sym (placed.written was.2.entry was.2.at).0 ∙ ap (λ k. slice_index s.words k) (sym (add-mod_right was.0 n) ∙ ap (λ k. k % n) back))
+      was.2.is ∙ sym (placed.written was.2.entry was.2.at).0
+      ∙ ap (λ k. slice_index s.words k) (sym (add-mod_right was.0 n) ∙ ap (λ k. k % n) back))
       (λ free.
       let when = entry_at (from_start n c.freed_at) fed.given (lt_of_not-le free) in
       let late = found.held odd when.0 when.1 in
@@ -72,8 +78,10 @@ module _ {B : Type 0} (bytes kind_of : B → List ℕ) (ready : B → ℕ → �
       absurd (omega arith)))
 
   -- a look of the reader
-  pub visits_are_true : (s s' : State (Option B) Known) → IsRing bytes kind_of ready kind s → IsRing bytes kind_of ready kind s' → VisitsAreTrue s s'
-  visits_are_true s s' r r' wide feeder walker fed walked walked' word at at' walker_at walker_at' feeds walks walks' same more =
+  pub visits_are_true : (s s' : State (Option B) Known) → IsRing bytes kind_of ready kind s → IsRing bytes kind_of ready kind s'
+      → VisitsAreTrue s s'
+  visits_are_true s s' r r' wide feeder walker fed walked walked' word at at' walker_at walker_at' feeds walks
+      walks' same more =
       let n = length s.homes in
       let c = r.course in
       let o = r.owned in
@@ -81,7 +89,8 @@ module _ {B : Type 0} (bytes kind_of : B → List ℕ) (ready : B → ℕ → �
       let walk = (r.knows walker walked walker_at).walk walks in
       let k : ℕ = length walked.taken in
       let seen' = looks_hold bytes kind_of ready kind s' r' feeder walker fed walked' at' walker_at' feeds walks' in
-      let visit = last_look (IsVisit (length s'.homes) fed.retired walked'.marks fed.shown_at) odd_count walked.visits walked'.visits word more seen'.visits in
+      let visit = last_look (IsVisit (length s'.homes) fed.retired walked'.marks fed.shown_at) odd_count walked.visits
+      walked'.visits word more seen'.visits in
       let rank : odd_count walked.visits ≡ k = ap odd_count walk.visits ∙ r.seen.taken ∙ sym walk.count in
       let found : IsVisit n c.log c.marks c.shown_at (length c.visits) k word =
       subst (λ l. IsVisit n c.log c.marks c.shown_at (length l) k word) walk.visits
@@ -89,7 +98,8 @@ module _ {B : Type 0} (bytes kind_of : B → List ℕ) (ready : B → ℕ → �
       (subst (λ l. IsVisit n c.log c.marks l (length walked.visits) (odd_count walked.visits) word) feed.shown_at
       (subst (λ l. IsVisit n c.log l fed.shown_at (length walked.visits) (odd_count walked.visits) word) (same ∙ walk.marks)
       (subst (λ l. IsVisit n l walked'.marks fed.shown_at (length walked.visits) (odd_count walked.visits) word) feed.retired
-      (subst (λ m. IsVisit m fed.retired walked'.marks fed.shown_at (length walked.visits) (odd_count walked.visits) word) wide visit))))) in
+      (subst (λ m. IsVisit m fed.retired walked'.marks fed.shown_at (length walked.visits) (odd_count walked.visits) word)
+      wide visit))))) in
       let count : k ≡ c.taken = walk.count in
       let first = o.released in
       let taken = o.taken in

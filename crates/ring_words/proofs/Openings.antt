@@ -7,7 +7,8 @@ use Rattle.ring_words.specs.Rings.{IsMark}
 use Rattle.ring_words.specs.declared.plain_ring.Vacant.{Vacant}
 
 -- the first block has the kind of all
-pub first_kind : {B : Type 0} (kind : B → List ℕ) (common : List ℕ) (blocks : List B) (first : B) → first ≡ get_or blocks 0 first
+pub first_kind : {B : Type 0} (kind : B → List ℕ) (common : List ℕ) (blocks : List B) (first : B)
+    → first ≡ get_or blocks 0 first
     → 0 < length blocks → AllByRecursion (λ block. kind block ≡ common) blocks → kind first ≡ common
 first_kind kind common [] first at some all = absurd (omega arith)
 first_kind kind common (block ∷ blocks) first at some all = ap kind at ∙ all.0
@@ -16,8 +17,10 @@ all_zero : (count : ℕ) → AllByRecursion IsMark (replicate count 0)
 all_zero zero = tt
 all_zero (suc count) = (record { even = refl; small = omega arith }, all_zero count)
 
-vacant_kinds : {B : Type 0} (kind : B → List ℕ) (common : List ℕ) (blocks : List B) → AllByRecursion (λ block. kind block ≡ common) blocks
-    → AllByRecursion {X = Vacant B} (λ place. kind place.block ≡ common) (map (λ block. record { block = block; mark = 0 }) blocks)
+vacant_kinds : {B : Type 0} (kind : B → List ℕ) (common : List ℕ) (blocks : List B)
+    → AllByRecursion (λ block. kind block ≡ common) blocks
+    → AllByRecursion {X = Vacant B} (λ place. kind place.block ≡ common)
+    (map (λ block. record { block = block; mark = 0 }) blocks)
 vacant_kinds kind common [] all = tt
 vacant_kinds kind common (block ∷ blocks) all = (all.0, vacant_kinds kind common blocks all.1)
 

@@ -1,5 +1,6 @@
 -- What looks found stays true through each step.
-use Rattle.std.proofs.Common.{◌≡◌, ℕ, zero, suc, ◌+◌, ◌*◌, ◌%◌, ◌<◌, ◌≤◌, List, [], ◌∷◌, ◌++◌, length, take, replicate, refl, sym, ap, ◌∙◌, subst, ⊎_elim, append_assoc, arith}
+use Rattle.std.proofs.Common.{◌≡◌, ℕ, zero, suc, ◌+◌, ◌*◌, ◌%◌, ◌<◌, ◌≤◌, List, [], ◌∷◌, ◌++◌, length, take, replicate, refl}
+use Rattle.std.proofs.Common.{sym, ap, ◌∙◌, subst, ⊎_elim, append_assoc, arith}
 use mathlib.Core.Option.{some, some-injective, some-ne-none}
 use lib.ListN.{get_elem?}
 use Rattle.std.proofs.Math.ListN.{length-replicate}
@@ -20,11 +21,13 @@ start_more places all one = sym (append_assoc (replicate places 0) all (one ∷ 
 pub length-start : (places : ℕ) (all : List ℕ) → length (from_start places all) ≡ places + length all
 length-start places all = length-append (replicate places 0) all ∙ ap (λ k. k + length all) (length-replicate places 0)
 
-pub start_longer : (places : ℕ) (all : List ℕ) (one index word : ℕ) → get_elem? (from_start places all) index ≡ some word → get_elem? (from_start places (all ++ one ∷ [])) index ≡ some word
+pub start_longer : (places : ℕ) (all : List ℕ) (one index word : ℕ) → get_elem? (from_start places all) index ≡ some word
+    → get_elem? (from_start places (all ++ one ∷ [])) index ≡ some word
 start_longer places all one index word at =
     ap (λ l. get_elem? l index) (start_more places all one) ∙ at_longer (from_start places all) (one ∷ []) index word at
 
-pub start_last : (places : ℕ) (all : List ℕ) (one index : ℕ) → index ≡ length all + places → get_elem? (from_start places (all ++ one ∷ [])) index ≡ some one
+pub start_last : (places : ℕ) (all : List ℕ) (one index : ℕ) → index ≡ length all + places
+    → get_elem? (from_start places (all ++ one ∷ [])) index ≡ some one
 start_last places all one index is =
     let long = length-start places all in
     ap (λ l. get_elem? l index) (start_more places all one) ∙ at_last (from_start places all) one index (omega arith)
@@ -36,15 +39,18 @@ start_zero (suc places) zero all below = refl
 start_zero (suc places) (suc index) all below = start_zero places index all (omega arith)
 
 -- what is known of one more index
-start_new : (places : ℕ) (all : List ℕ) (one index at : ℕ) (P : Type 0) → (index ≡ places + length all → one ≡ at → P) → (get_elem? (from_start places all) index ≡ some at → P)
+start_new : (places : ℕ) (all : List ℕ) (one index at : ℕ) (P : Type 0) → (index ≡ places + length all → one ≡ at → P)
+    → (get_elem? (from_start places all) index ≡ some at → P)
     → get_elem? (from_start places (all ++ one ∷ [])) index ≡ some at → P
 start_new places all one index at P last before is =
     ⊎_elim (λ t. last (t.0 ∙ length-start places all) t.1) (λ t. before t)
     (at_new (from_start places all) one at index (ap (λ l. get_elem? l index) (sym (start_more places all one)) ∙ is))
 
 -- a retired block has its word when others are retired
-was_longer : (log : List Entry) (one : Entry) (index word : ℕ) → WasRetired log index word → WasRetired (log ++ one ∷ []) index word
-was_longer log one index word was = record { entry = was.entry; at = at_longer log (one ∷ []) index was.entry was.at; is = was.is }
+was_longer : (log : List Entry) (one : Entry) (index word : ℕ) → WasRetired log index word
+    → WasRetired (log ++ one ∷ []) index word
+was_longer log one index word was =
+    record { entry = was.entry; at = at_longer log (one ∷ []) index was.entry was.at; is = was.is }
 
 -- one more look: it and all before it
 look_more : (P : ℕ → ℕ → ℕ → Type 0) (rank : List ℕ → ℕ) (looks : List ℕ) (word : ℕ)
@@ -53,21 +59,26 @@ look_more : (P : ℕ → ℕ → ℕ → Type 0) (rank : List ℕ → ℕ) (look
 look_more P rank looks word all new i w at =
     ⊎_elim (λ t.
     let Good : ℕ → Type 0 = λ k. P k (rank (take k (looks ++ word ∷ []))) w in
-    subst Good (sym t.0) (subst (λ l. P (length looks) (rank l) w) (sym (take-append_seam looks (word ∷ []))) (subst (λ x. P (length looks) (rank looks) x) t.1 new)))
+    subst Good (sym t.0) (subst (λ l. P (length looks) (rank l) w) (sym (take-append_seam looks (word ∷ [])))
+    (subst (λ x. P (length looks) (rank looks) x) t.1 new)))
     (λ t.
     let below = within looks i w t in
     subst (λ l. P i (rank l) w) (sym (take-longer looks word i (omega arith))) (all i w t))
     (at_new looks word w i at)
 
 -- a bound on all numbers of a list holds with one more number, or when the bound rises
-made_more : (all : List ℕ) (one top : ℕ) → ((i at : ℕ) → get_elem? all i ≡ some at → at ≤ top) → one ≤ top → (i at : ℕ) → get_elem? (all ++ one ∷ []) i ≡ some at → at ≤ top
-made_more all one top below less i at is = ⊎_elim (λ t. subst (λ k. k ≤ top) t.1 less) (λ t. below i at t) (at_new all one at i is)
+made_more : (all : List ℕ) (one top : ℕ) → ((i at : ℕ) → get_elem? all i ≡ some at → at ≤ top) → one ≤ top → (i at : ℕ)
+    → get_elem? (all ++ one ∷ []) i ≡ some at → at ≤ top
+made_more all one top below less i at is =
+    ⊎_elim (λ t. subst (λ k. k ≤ top) t.1 less) (λ t. below i at t) (at_new all one at i is)
 
-made_later : (all : List ℕ) (looks : List ℕ) (word : ℕ) → ((i at : ℕ) → get_elem? all i ≡ some at → at ≤ length looks) → (i at : ℕ) → get_elem? all i ≡ some at → at ≤ length (looks ++ word ∷ [])
+made_later : (all : List ℕ) (looks : List ℕ) (word : ℕ) → ((i at : ℕ) → get_elem? all i ≡ some at → at ≤ length looks)
+    → (i at : ℕ) → get_elem? all i ≡ some at → at ≤ length (looks ++ word ∷ [])
 made_later all looks word below i at is = let h = below i at is in let long = length-snoc looks word in omega arith
 
 -- and so does one on what is known from the start on
-pub start_made : (places : ℕ) (all : List ℕ) (top : ℕ) → ((i at : ℕ) → get_elem? all i ≡ some at → at ≤ top) → (index at : ℕ) → get_elem? (from_start places all) index ≡ some at → at ≤ top
+pub start_made : (places : ℕ) (all : List ℕ) (top : ℕ) → ((i at : ℕ) → get_elem? all i ≡ some at → at ≤ top) → (index at : ℕ)
+    → get_elem? (from_start places all) index ≡ some at → at ≤ top
 start_made zero all top below index at is = below index at is
 start_made (suc places) all top below zero at is = subst (λ k. k ≤ top) (some-injective 0 at is) (omega arith)
 start_made (suc places) all top below (suc index) at is = start_made places all top below index at is
@@ -96,7 +107,8 @@ module _ (places : ℕ) (c : Course) (seen : IsSeen places c) where
       }
 
   -- the feeder found the block one round before, which wasn't released
-  pub seen_held : (word : ℕ) (entry : Entry) → c.given ≡ c.released + places → get_elem? c.log c.released ≡ some entry → word ≡ (c.released + 1) * 256 + entry.1 → word % 2 ≡ 1
+  pub seen_held : (word : ℕ) (entry : Entry) → c.given ≡ c.released + places → get_elem? c.log c.released ≡ some entry
+      → word ≡ (c.released + 1) * 256 + entry.1 → word % 2 ≡ 1
       → IsSeen places (record c { looks = c.looks ++ word ∷ [] })
   seen_held word entry full at is odd =
       let rank = seen.given in
@@ -122,7 +134,8 @@ module _ (places : ℕ) (c : Course) (seen : IsSeen places c) where
       }
 
   -- the reader took a block
-  pub seen_taken : (word taken : ℕ) (entry : Entry) → taken ≡ c.taken → get_elem? c.log taken ≡ some entry → word ≡ (taken + 1) * 256 + entry.1 → word % 2 ≡ 1
+  pub seen_taken : (word taken : ℕ) (entry : Entry) → taken ≡ c.taken → get_elem? c.log taken ≡ some entry
+      → word ≡ (taken + 1) * 256 + entry.1 → word % 2 ≡ 1
       → IsSeen places (record c { taken = taken + 1; visits = c.visits ++ word ∷ [] })
   seen_taken word taken entry same at is odd =
       let rank : odd_count c.visits ≡ taken = seen.taken ∙ sym same in
@@ -148,7 +161,8 @@ module _ (places : ℕ) (c : Course) (seen : IsSeen places c) where
       }
 
   -- the reader found that the next block wasn't retired
-  pub seen_none : (word taken : ℕ) → taken ≡ c.taken → length c.log ≤ taken → get_elem? (from_start places c.marks) taken ≡ some word → word % 2 ≡ 0
+  pub seen_none : (word taken : ℕ) → taken ≡ c.taken → length c.log ≤ taken
+      → get_elem? (from_start places c.marks) taken ≡ some word → word % 2 ≡ 0
       → IsSeen places (record c { visits = c.visits ++ word ∷ [] })
   seen_none word taken same all at_place even =
       let rank : odd_count c.visits ≡ taken = seen.taken ∙ sym same in
@@ -171,7 +185,8 @@ module _ (places : ℕ) (c : Course) (seen : IsSeen places c) where
       }
 
   -- a block was retired
-  pub seen_shown : (entry : Entry) → IsSeen places (record c { log = c.log ++ entry ∷ []; shown_at = c.shown_at ++ length c.visits ∷ [] })
+  pub seen_shown : (entry : Entry)
+      → IsSeen places (record c { log = c.log ++ entry ∷ []; shown_at = c.shown_at ++ length c.visits ∷ [] })
   seen_shown entry =
       let shown = seen.shown in
       record {
@@ -193,10 +208,12 @@ module _ (places : ℕ) (c : Course) (seen : IsSeen places c) where
               shown = λ odd when is.
                   let was = visit.number odd in
                   let there = within c.log rank was.entry was.at in
-                  ⊎_elim (λ t. let last = t.0 in absurd (omega arith)) (λ t. visit.shown odd when t) (at_new c.shown_at (length c.visits) when rank is);
+                  ⊎_elim (λ t. let last = t.0 in absurd (omega arith)) (λ t. visit.shown odd when t)
+                  (at_new c.shown_at (length c.visits) when rank is);
               mark = visit.mark;
               none = λ even when is.
-                  ⊎_elim (λ t. let last = t.1 in omega arith) (λ t. visit.none even when t) (at_new c.shown_at (length c.visits) when rank is);
+                  ⊎_elim (λ t. let last = t.1 in omega arith) (λ t. visit.none even when t)
+                  (at_new c.shown_at (length c.visits) when rank is);
             };
         taken = seen.taken;
         marks = seen.marks;
@@ -208,7 +225,11 @@ module _ (places : ℕ) (c : Course) (seen : IsSeen places c) where
 
   -- a block was released
   pub seen_freed : (mark released : ℕ) → released ≡ c.released
-      → IsSeen places (record c { released = released + 1; marks = c.marks ++ mark ∷ []; freed_at = c.freed_at ++ length c.looks ∷ [] })
+      → IsSeen places (record c {
+        released = released + 1;
+        marks = c.marks ++ mark ∷ [];
+        freed_at = c.freed_at ++ length c.looks ∷ [];
+      })
   seen_freed mark released same =
       let marks = seen.marks in
       let freed = seen.freed in
@@ -222,9 +243,11 @@ module _ (places : ℕ) (c : Course) (seen : IsSeen places c) where
               mark = λ even. start_longer places c.marks mark rank word (look.mark even);
               free = λ even when is.
                   let there = within (from_start places c.marks) rank word (look.mark even) in
-                  start_new places c.freed_at (length c.looks) rank when (when ≤ i) (λ last _. absurd (omega arith)) (look.free even when) is;
+                  start_new places c.freed_at (length c.looks) rank when (when ≤ i) (λ last _. absurd (omega arith))
+                  (look.free even when) is;
               number = look.number;
-              held = λ odd when is. start_new places c.freed_at (length c.looks) rank when (i < when) (λ _ last. omega arith) (look.held odd when) is;
+              held = λ odd when is. start_new places c.freed_at (length c.looks) rank when (i < when) (λ _ last. omega arith)
+                  (look.held odd when) is;
             };
         given = seen.given;
         visits = λ i word at.
@@ -244,7 +267,18 @@ module _ (places : ℕ) (c : Course) (seen : IsSeen places c) where
       }
 
 -- in a new ring nothing was found
-pub seen_new : (places : ℕ) → IsSeen places (record { log = []; given = 0; taken = 0; released = 0; marks = []; looks = []; visits = []; shown_at = []; freed_at = [] })
+pub seen_new : (places : ℕ)
+    → IsSeen places (record {
+      log = [];
+      given = 0;
+      taken = 0;
+      released = 0;
+      marks = [];
+      looks = [];
+      visits = [];
+      shown_at = [];
+      freed_at = [];
+    })
 seen_new places = record {
   looks = λ i word at. absurd (some-ne-none word (sym at));
   given = refl;

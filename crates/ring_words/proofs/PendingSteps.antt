@@ -1,5 +1,6 @@
 -- What the calls that finish a ring have to show of its table, and lists of pending blocks.
-use Rattle.std.proofs.Common.{◌≡◌, ℕ, zero, suc, ◌+◌, ◌-◌, ◌%◌, ◌<◌, ◌≤◌, true, List, [], ◌∷◌, ◌++◌, length, take, drop, get_or, slice_get, Option, Some, None, sym, ap, ◌∙◌, subst, mod-lt, refl, append_assoc, arith}
+use Rattle.std.proofs.Common.{◌≡◌, ℕ, zero, suc, ◌+◌, ◌-◌, ◌%◌, ◌<◌, ◌≤◌, true, List, [], ◌∷◌, ◌++◌, length, take, drop, get_or}
+use Rattle.std.proofs.Common.{slice_get, Option, Some, None, sym, ap, ◌∙◌, subst, mod-lt, refl, append_assoc, arith}
 use mathlib.Core.Option.{none}
 use Rattle.std.specs.List.{AllByRecursion}
 use Rattle.std.proofs.lemmas.List.{length-append, length-map, map-append}
@@ -16,10 +17,12 @@ use Rattle.ring_words.proofs.Hands.{front_of}
 
 module _ {B : Type 0} (bytes kind_of : B → List ℕ) (ready : B → ℕ → ℕ → Type 0) where
   -- the load that takes the next pending block out
-  pub may_drain : (kind : List ℕ) (table seat : TableId) (id : ℕ) (me : Holder B) (places at : ℕ) → IsSeated table seat places → me.0.feeds ≡ true → me.0.walks ≡ true
+  pub may_drain : (kind : List ℕ) (table seat : TableId) (id : ℕ) (me : Holder B) (places at : ℕ) → IsSeated table seat places
+      → me.0.feeds ≡ true → me.0.walks ≡ true
       → length me.0.taken ≡ at → at < length me.0.retired
       → (seat ≡ table) × (at % places < table.words)
-      × Allows (IsRing bytes kind_of ready kind) table.slots id me (at % places) (λ word. word) (Drains bytes kind_of ready (step table.slots (at % places) 0 0 none) me)
+      × Allows (IsRing bytes kind_of ready kind) table.slots id me (at % places) (λ word. word)
+      (Drains bytes kind_of ready (step table.slots (at % places) 0 0 none) me)
   may_drain kind table seat id me places at is feeds walks count left =
       let some = is.some_places in
       let words = is.words in
@@ -30,18 +33,23 @@ module _ {B : Type 0} (bytes kind_of : B → List ℕ) (ready : B → ℕ → �
       )
 
   -- the slot of that block is out
-  pub has_pending : (slots place : ℕ) (me me' : Holder B) (word : ℕ) → Drains bytes kind_of ready (step slots place 0 0 none) me word me'
+  pub has_pending : (slots place : ℕ) (me me' : Holder B) (word : ℕ)
+      → Drains bytes kind_of ready (step slots place 0 0 none) me word me'
       → (x : Option B) × (me'.1 ≡ (place, x) ∷ rest me'.1)
-  has_pending slots place me me' word drained = (Some drained.next.block, front_of me'.1 (place, Some drained.next.block) me.1 drained.next.hand)
+  has_pending slots place me me' word drained =
+      (Some drained.next.block, front_of me'.1 (place, Some drained.next.block) me.1 drained.next.hand)
 
   -- one more pending block may be retired
-  pub ready_push : (passed last : ℕ) (blocks : List (B × ℕ)) (one : B × ℕ) → AreReadyAfter ready passed blocks → passed + length blocks ≡ last → ready one.0 (last + 1) one.1
+  pub ready_push : (passed last : ℕ) (blocks : List (B × ℕ)) (one : B × ℕ) → AreReadyAfter ready passed blocks
+      → passed + length blocks ≡ last → ready one.0 (last + 1) one.1
       → AreReadyAfter ready passed (blocks ++ one ∷ [])
   ready_push passed last [] one all count is = (subst (λ k. ready one.0 (k + 1) one.1) (omega arith) is, tt)
-  ready_push passed last (block ∷ blocks) one all count is = (all.0, ready_push (passed + 1) last blocks one all.1 (omega arith) is)
+  ready_push passed last (block ∷ blocks) one all count is =
+      (all.0, ready_push (passed + 1) last blocks one all.1 (omega arith) is)
 
   -- and so may each block at its place
-  pub ready_at : (passed at : ℕ) (blocks : List (B × ℕ)) (one : B × ℕ) → AreReadyAfter ready passed blocks → at < length blocks → one ≡ get_or blocks at one
+  pub ready_at : (passed at : ℕ) (blocks : List (B × ℕ)) (one : B × ℕ) → AreReadyAfter ready passed blocks → at < length blocks
+      → one ≡ get_or blocks at one
       → ready one.0 (passed + at + 1) one.1
   ready_at passed at [] one all within is = absurd (omega arith)
   ready_at passed zero (block ∷ blocks) one all within is =
@@ -50,10 +58,12 @@ module _ {B : Type 0} (bytes kind_of : B → List ℕ) (ready : B → ℕ → �
       subst (λ k. ready one.0 k one.1) (omega arith) (ready_at (passed + 1) at blocks one all.1 (omega arith) is)
 
   -- one more entry for one more block
-  pub entries_push : (taken : List Entry) (blocks : List (B × ℕ)) (one : B × ℕ) (now : List Entry) → now ≡ (taken ++ entries_of bytes blocks) ++ (bytes one.0, one.1) ∷ []
+  pub entries_push : (taken : List Entry) (blocks : List (B × ℕ)) (one : B × ℕ) (now : List Entry)
+      → now ≡ (taken ++ entries_of bytes blocks) ++ (bytes one.0, one.1) ∷ []
       → now ≡ taken ++ entries_of bytes (blocks ++ one ∷ [])
   entries_push taken blocks one now is =
-      let pushed : (blocks : List (B × ℕ)) → entries_of bytes (blocks ++ one ∷ []) ≡ entries_of bytes blocks ++ (bytes one.0, one.1) ∷ [] = λ l. map-append (λ (x : B × ℕ). (bytes x.0, x.1)) l (one ∷ []) in
+      let pushed : (blocks : List (B × ℕ)) → entries_of bytes (blocks ++ one ∷ []) ≡ entries_of bytes blocks
+      ++ (bytes one.0, one.1) ∷ [] = λ l. map-append (λ (x : B × ℕ). (bytes x.0, x.1)) l (one ∷ []) in
       is ∙ append_assoc taken (entries_of bytes blocks) ((bytes one.0, one.1) ∷ []) ∙ ap (λ l. taken ++ l) (sym (pushed blocks))
 
 -- the rest follows the first part
@@ -63,18 +73,22 @@ drop-front (x ∷ front) rest all e = ap (λ l. drop (suc (length front)) l) (sy
 
 module _ {B : Type 0} (bytes kind_of : B → List ℕ) (ready : B → ℕ → ℕ → Type 0) where
   -- what is left once all was taken out
-  pub is_left : (me me' : Holder B) (from : ℕ) (blocks : List (B × ℕ)) → me'.0 ≡ record me.0 { taken = me'.0.taken; visits = me'.0.visits }
-      → me.0.taken ++ entries_of bytes blocks ≡ me.0.retired → length me.0.taken ≡ from → AllByRecursion (λ one. kind_of one.0 ≡ me.0.kind) blocks → AreReadyAfter ready from blocks
+  pub is_left : (me me' : Holder B) (from : ℕ) (blocks : List (B × ℕ))
+      → me'.0 ≡ record me.0 { taken = me'.0.taken; visits = me'.0.visits }
+      → me.0.taken ++ entries_of bytes blocks ≡ me.0.retired → length me.0.taken ≡ from
+      → AllByRecursion (λ one. kind_of one.0 ≡ me.0.kind) blocks → AreReadyAfter ready from blocks
       → IsLeft bytes kind_of ready (pends_of me' blocks)
   is_left me me' from blocks known all count kinds are_ready =
       let retired : me'.0.retired ≡ me.0.retired = ap (λ (k : Known). k.retired) known in
       let kind : me'.0.kind ≡ me.0.kind = ap (λ (k : Known). k.kind) known in
       let entries : length (entries_of bytes blocks) ≡ length blocks = length-map blocks (λ (x : B × ℕ). (bytes x.0, x.1)) in
-      let long : length me.0.taken + length (entries_of bytes blocks) ≡ length me.0.retired = sym (length-append me.0.taken (entries_of bytes blocks)) ∙ ap length all in
+      let long : length me.0.taken + length (entries_of bytes blocks) ≡ length me.0.retired =
+      sym (length-append me.0.taken (entries_of bytes blocks)) ∙ ap length all in
       let same : length me'.0.retired ≡ length me.0.retired = ap length retired in
       let passed : length me'.0.retired - length blocks ≡ length me.0.taken = omega arith in
       record {
-        last = ap (λ k. drop k me'.0.retired) passed ∙ ap (drop (length me.0.taken)) retired ∙ drop-front me.0.taken (entries_of bytes blocks) me.0.retired all;
+        last = ap (λ k. drop k me'.0.retired) passed ∙ ap (drop (length me.0.taken)) retired
+            ∙ drop-front me.0.taken (entries_of bytes blocks) me.0.retired all;
         count = omega arith;
         same_kind = rw kind kinds;
         are_ready = rw (passed, count) are_ready;

@@ -8,7 +8,8 @@ pub all_push : {X : Type 0} (P : X → Type 0) (xs : List X) (x : X) → AllByRe
 all_push P [] x all one = (one, tt)
 all_push P (y ∷ xs) x all one = (all.0, all_push P xs x all.1 one)
 
-pub all_map : {X Y : Type 0} (P : Y → Type 0) (f : X → Y) (xs : List X) → AllByRecursion (λ x. P (f x)) xs → AllByRecursion P (map f xs)
+pub all_map : {X Y : Type 0} (P : Y → Type 0) (f : X → Y) (xs : List X) → AllByRecursion (λ x. P (f x)) xs
+    → AllByRecursion P (map f xs)
 all_map P f [] all = tt
 all_map P f (x ∷ xs) all = (all.0, all_map P f xs all.1)
 
@@ -23,14 +24,17 @@ ready_push ready number [] block last at all one = (subst (λ n. ready block.blo
 ready_push ready number (first ∷ blocks) block last at all one =
     (all.0, ready_push ready (number + 1) blocks block last (omega arith) all.1 one)
 
-pub length-entries : {B : Type 0} (bytes : B → List ℕ) (blocks : List (Filled B)) → length (entries_of bytes blocks) ≡ length blocks
+pub length-entries : {B : Type 0} (bytes : B → List ℕ) (blocks : List (Filled B))
+    → length (entries_of bytes blocks) ≡ length blocks
 length-entries bytes [] = refl
 length-entries bytes (block ∷ blocks) = ap suc (length-entries bytes blocks)
 
-pub contents-all_vacant : {B : Type 0} (bytes : B → List ℕ) (blocks : List B) → contents_of bytes (map (λ block. record { block = block; mark = 0 }) blocks) ≡ map bytes blocks
+pub contents-all_vacant : {B : Type 0} (bytes : B → List ℕ) (blocks : List B)
+    → contents_of bytes (map (λ block. record { block = block; mark = 0 }) blocks) ≡ map bytes blocks
 contents-all_vacant bytes [] = refl
 contents-all_vacant bytes (block ∷ blocks) = ap (λ contents. bytes block ∷ contents) (contents-all_vacant bytes blocks)
 
-pub marks-all_vacant : {B : Type 0} (blocks : List B) → marks_of (map (λ block. record { block = block; mark = 0 }) blocks) ≡ replicate (length blocks) 0
+pub marks-all_vacant : {B : Type 0} (blocks : List B)
+    → marks_of (map (λ block. record { block = block; mark = 0 }) blocks) ≡ replicate (length blocks) 0
 marks-all_vacant [] = refl
 marks-all_vacant (block ∷ blocks) = ap (λ marks. 0 ∷ marks) (marks-all_vacant blocks)

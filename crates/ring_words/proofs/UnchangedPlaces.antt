@@ -19,7 +19,8 @@ pub record SameAt (places : ℕ) (old new : Course) (index : ℕ) : Type 0 where
   pub from_taken : new.taken ≤ index → old.taken ≤ index
   pub before_given : index < new.given → index < old.given
   pub from_given : new.given ≤ index → old.given ≤ index
-  pub stored : (word : ℕ) → get_elem? (from_start places old.marks) index ≡ some word → get_elem? (from_start places new.marks) index ≡ some word
+  pub stored : (word : ℕ) → get_elem? (from_start places old.marks) index ≡ some word
+      → get_elem? (from_start places new.marks) index ≡ some word
 
 module _ {B : Type 0} (bytes kind_of : B → List ℕ) (ready : B → ℕ → ℕ → Type 0) (kind : List ℕ) where
   pub untouched : (old new : Course) (words words' : List ℕ) (homes homes' : List (Home B)) (n index : ℕ)
@@ -47,7 +48,8 @@ module _ {B : Type 0} (bytes kind_of : B → List ℕ) (ready : B → ℕ → �
   }
 
 -- a seat that is an end's stays one, whichever seat makes a step that leaves what the test asks
-pub still_sits : (test : Known → Bool) (views : List Known) (id seat : ℕ) (v now : Known) → get_elem? views id ≡ some v → test now ≡ test v
+pub still_sits : (test : Known → Bool) (views : List Known) (id seat : ℕ) (v now : Known) → get_elem? views id ≡ some v
+    → test now ≡ test v
     → Sits test views seat → Sits test (set views id now) seat
 still_sits test views id seat v now at same sits =
     dite (ℕ_discrete seat id)
@@ -60,7 +62,8 @@ still_sits test views id seat v now at same sits =
 
 module _ (kind : List ℕ) (feeder walker : ℕ) where
   -- after a step of the feeder's seat, if the prefix that was taken is the same
-  pub others_feed : (course : Course) (log : List Entry) (given : ℕ) (looks shown_at : List ℕ) (views : List Known) (id : ℕ) (now : Known)
+  pub others_feed : (course : Course) (log : List Entry) (given : ℕ) (looks shown_at : List ℕ) (views : List Known)
+      (id : ℕ) (now : Known)
       → ((j : ℕ) (v : Known) → get_elem? views j ≡ some v → Knows kind feeder walker course j v)
       → id ≡ feeder → take course.taken log ≡ take course.taken course.log
       → Knows kind feeder walker (record course { log = log; given = given; looks = looks; shown_at = shown_at }) id now
@@ -68,7 +71,8 @@ module _ (kind : List ℕ) (feeder walker : ℕ) where
       → Knows kind feeder walker (record course { log = log; given = given; looks = looks; shown_at = shown_at }) j v
   others_feed course log given looks shown_at views id now all is front mine j v at =
       let course' : Course = record course { log = log; given = given; looks = looks; shown_at = shown_at } in
-      ⊎_elim (λ t. subst (λ u. Knows kind feeder walker course' j u) t.1 (subst (λ k. Knows kind feeder walker course' k now) (sym t.0) mine))
+      ⊎_elim (λ t. subst (λ u. Knows kind feeder walker course' j u) t.1
+      (subst (λ k. Knows kind feeder walker course' k now) (sym t.0) mine))
       (λ t.
       let ne = t.0 in
       let old = all j v t.1 in
@@ -76,28 +80,49 @@ module _ (kind : List ℕ) (feeder walker : ℕ) where
         feed = λ feeds. absurd (ne ((old.feed feeds).seat ∙ sym is));
         walk = λ walks.
             let w = old.walk walks in
-            record { seat = w.seat; same_kind = w.same_kind; count = w.count; front = w.front ∙ sym front; released = w.released; marks = w.marks; visits = w.visits; freed_at = w.freed_at };
+            record {
+              seat = w.seat;
+              same_kind = w.same_kind;
+              count = w.count;
+              front = w.front ∙ sym front;
+              released = w.released;
+              marks = w.marks;
+              visits = w.visits;
+              freed_at = w.freed_at;
+            };
         hand = old.hand;
       })
       (at_set views id j now v at)
 
   -- after a step of the reader's seat
-  pub others_walk : (course : Course) (taken released : ℕ) (marks visits freed_at : List ℕ) (views : List Known) (id : ℕ) (now : Known)
+  pub others_walk : (course : Course) (taken released : ℕ) (marks visits freed_at : List ℕ) (views : List Known)
+      (id : ℕ) (now : Known)
       → ((j : ℕ) (v : Known) → get_elem? views j ≡ some v → Knows kind feeder walker course j v)
       → id ≡ walker
-      → Knows kind feeder walker (record course { taken = taken; released = released; marks = marks; visits = visits; freed_at = freed_at }) id now
+      → Knows kind feeder walker
+      (record course { taken = taken; released = released; marks = marks; visits = visits; freed_at = freed_at }) id now
       → (j : ℕ) (v : Known) → get_elem? (set views id now) j ≡ some v
-      → Knows kind feeder walker (record course { taken = taken; released = released; marks = marks; visits = visits; freed_at = freed_at }) j v
+      → Knows kind feeder walker
+      (record course { taken = taken; released = released; marks = marks; visits = visits; freed_at = freed_at }) j v
   others_walk course taken released marks visits freed_at views id now all is mine j v at =
-      let course' : Course = record course { taken = taken; released = released; marks = marks; visits = visits; freed_at = freed_at } in
-      ⊎_elim (λ t. subst (λ u. Knows kind feeder walker course' j u) t.1 (subst (λ k. Knows kind feeder walker course' k now) (sym t.0) mine))
+      let course' : Course =
+      record course { taken = taken; released = released; marks = marks; visits = visits; freed_at = freed_at } in
+      ⊎_elim (λ t. subst (λ u. Knows kind feeder walker course' j u) t.1
+      (subst (λ k. Knows kind feeder walker course' k now) (sym t.0) mine))
       (λ t.
       let ne = t.0 in
       let old = all j v t.1 in
       record {
         feed = λ feeds.
             let f = old.feed feeds in
-            record { seat = f.seat; same_kind = f.same_kind; given = f.given; retired = f.retired; looks = f.looks; shown_at = f.shown_at };
+            record {
+              seat = f.seat;
+              same_kind = f.same_kind;
+              given = f.given;
+              retired = f.retired;
+              looks = f.looks;
+              shown_at = f.shown_at;
+            };
         walk = λ walks. absurd (ne ((old.walk walks).seat ∙ sym is));
         hand = λ walks feeds. absurd (ne ((old.walk walks).seat ∙ sym is));
       })

@@ -1,5 +1,7 @@
 -- The rule of a ring holds after each step of the reader's end.
-use Rattle.std.proofs.Common.{◌≡◌, ℕ, suc, ◌+◌, ◌*◌, ◌/◌, ◌%◌, ◌<◌, ◌≤◌, true, false, List, [], ◌∷◌, ◌++◌, length, take, slice_index, slice_set, refl, sym, ap, ap₂, ◌∙◌, subst, mod-lt, lt_of_not-le, arith, length-set, get_or-set_same, get_or-set_other, add-one, Option, Some}
+use Rattle.std.proofs.Common.{◌≡◌, ℕ, suc, ◌+◌, ◌*◌, ◌/◌, ◌%◌, ◌<◌, ◌≤◌, true, false, List, [], ◌∷◌, ◌++◌, length, take}
+use Rattle.std.proofs.Common.{slice_index, slice_set, refl, sym, ap, ap₂, ◌∙◌, subst, mod-lt, lt_of_not-le, arith, length-set}
+use Rattle.std.proofs.Common.{get_or-set_same, get_or-set_other, add-one, Option, Some}
 use mathlib.Core.Logic.{dite}
 use mathlib.Core.Option.{some, none}
 use native.Mathlib.Decide.{dec_le, ℕ_discrete}
@@ -24,7 +26,8 @@ module _ {B : Type 0} (bytes kind_of : B → List ℕ) (ready : B → ℕ → �
 
   -- what has to be shown of a step at a state
   abbrev pub Goes : State (Option B) Known → ℕ → ℕ → Holder B → ℕ → (Holder B → Type 0) → Type 0
-  Goes s place id me word told = (now : Known) × (act : Act (Option B)) × Valid s.homes me.1 act × Ring (stepped s place word id me.1 now act) × told (now, carried_after me.1 act)
+  Goes s place id me word told = (now : Known) × (act : Act (Option B)) × Valid s.homes me.1 act
+      × Ring (stepped s place word id me.1 now act) × told (now, carried_after me.1 act)
 
   -- what the reader knows once it has taken a block
   abbrev pub taken_one : Known → Entry → ℕ → Known
@@ -35,16 +38,23 @@ module _ {B : Type 0} (bytes kind_of : B → List ℕ) (ready : B → ℕ → �
   visited v word = record v { visits = v.visits ++ word ∷ [] }
 
   -- the prefix that was taken, with the next entry
-  pub front_next : (c : Course) (taken : List Entry) (entry : Entry) → length taken ≡ c.taken → taken ≡ take c.taken c.log → get_elem? c.log c.taken ≡ some entry
+  pub front_next : (c : Course) (taken : List Entry) (entry : Entry) → length taken ≡ c.taken → taken ≡ take c.taken c.log
+      → get_elem? c.log c.taken ≡ some entry
       → taken ++ entry ∷ [] ≡ take (length taken + 1) c.log
   front_next c taken entry count front at =
-      ap (λ l. l ++ entry ∷ []) front ∙ sym (take-next c.log c.taken entry at) ∙ ap (λ k. take k c.log) (ap suc (sym count) ∙ sym (add-one (length taken)))
+      ap (λ l. l ++ entry ∷ []) front ∙ sym (take-next c.log c.taken entry at)
+      ∙ ap (λ k. take k c.log) (ap suc (sym count) ∙ sym (add-one (length taken)))
 
   -- the next block is out with the reader
-  pub takes_block : (s : State (Option B) Known) (r : Ring s) (id : ℕ) (v : Known) (word : ℕ) (entry : Entry) → get_elem? s.views id ≡ some v → v.walks ≡ true
+  pub takes_block : (s : State (Option B) Known) (r : Ring s) (id : ℕ) (v : Known) (word : ℕ) (entry : Entry)
+      → get_elem? s.views id ≡ some v → v.walks ≡ true
       → (v.feeds ≡ false → length v.taken ≤ length v.marks) → get_elem? r.course.log r.course.taken ≡ some entry
       → word ≡ (length v.taken + 1) * 256 + entry.1 → word % 2 ≡ 1
-      → Ring record { words = s.words; homes = slice_set s.homes (length v.taken % length s.homes) none; views = slice_set s.views id (taken_one v entry word) }
+      → Ring record {
+        words = s.words;
+        homes = slice_set s.homes (length v.taken % length s.homes) none;
+        views = slice_set s.views id (taken_one v entry word);
+      }
   takes_block s r id v word entry at walks hand next is odd =
       let n = length s.homes in
       let c = r.course in
@@ -67,7 +77,8 @@ module _ {B : Type 0} (bytes kind_of : B → List ℕ) (ready : B → ℕ → �
         walker = r.walker;
         feeds = still_sits (λ (k : Known). k.feeds) s.views id r.feeder v (taken_one v entry word) at refl r.feeds;
         walks = still_sits (λ (k : Known). k.walks) s.views id r.walker v (taken_one v entry word) at refl r.walks;
-        seen = rw wide (seen_taken n c r.seen word (length v.taken) entry count (ap (λ k. get_elem? c.log k) count ∙ next) is odd);
+        seen = rw wide (seen_taken n c r.seen word (length v.taken) entry count
+            (ap (λ k. get_elem? c.log k) count ∙ next) is odd);
         owned = record {
           some_places = rw wide some_places;
           as_many = o.as_many ∙ sym wide;
@@ -101,11 +112,19 @@ module _ {B : Type 0} (bytes kind_of : B → List ℕ) (ready : B → ℕ → �
                 stored = λ _ h. h;
               }));
         };
-        knows = others_walk kind r.feeder r.walker c (length v.taken + 1) c.released c.marks (c.visits ++ word ∷ []) c.freed_at s.views id (taken_one v entry word) r.knows walk.seat
+        knows = others_walk kind r.feeder r.walker c (length v.taken + 1) c.released c.marks (c.visits ++ word ∷ []) c.freed_at
+            s.views id (taken_one v entry word) r.knows walk.seat
             record {
               feed = λ feeds.
                   let f = know.feed feeds in
-                  record { seat = f.seat; same_kind = f.same_kind; given = f.given; retired = f.retired; looks = f.looks; shown_at = f.shown_at };
+                  record {
+                    seat = f.seat;
+                    same_kind = f.same_kind;
+                    given = f.given;
+                    retired = f.retired;
+                    looks = f.looks;
+                    shown_at = f.shown_at;
+                  };
               walk = λ _. record {
                 seat = walk.seat;
                 same_kind = walk.same_kind;
@@ -121,8 +140,10 @@ module _ {B : Type 0} (bytes kind_of : B → List ℕ) (ready : B → ℕ → �
       }
 
   -- only the looks of the reader's seat change, where the next block isn't retired
-  only_visits : (s : State (Option B) Known) (r : Ring s) (id : ℕ) (v : Known) (word : ℕ) → get_elem? s.views id ≡ some v → v.walks ≡ true
-      → length r.course.log ≤ length v.taken → get_elem? (from_start (length s.homes) r.course.marks) (length v.taken) ≡ some word → word % 2 ≡ 0
+  only_visits : (s : State (Option B) Known) (r : Ring s) (id : ℕ) (v : Known) (word : ℕ) → get_elem? s.views id ≡ some v
+      → v.walks ≡ true
+      → length r.course.log ≤ length v.taken → get_elem? (from_start (length s.homes) r.course.marks) (length v.taken)
+      ≡ some word → word % 2 ≡ 0
       → Ring record { words = s.words; homes = s.homes; views = slice_set s.views id (visited v word) }
   only_visits s r id v word at walks all mark even =
       let c = r.course in
@@ -145,7 +166,8 @@ module _ {B : Type 0} (bytes kind_of : B → List ℕ) (ready : B → ℕ → �
           one_round = r.owned.one_round;
           few = r.owned.few;
           placed = λ j from below.
-              untouched bytes kind_of ready kind c (record c { visits = c.visits ++ word ∷ [] }) s.words s.words s.homes s.homes (length s.homes) j (r.owned.placed j from below) refl refl
+              untouched bytes kind_of ready kind c (record c { visits = c.visits ++ word ∷ [] }) s.words s.words s.homes s.homes
+              (length s.homes) j (r.owned.placed j from below) refl refl
               record {
                 log = λ one is. is;
                 retired = λ h. h;
@@ -156,11 +178,19 @@ module _ {B : Type 0} (bytes kind_of : B → List ℕ) (ready : B → ℕ → �
                 stored = λ _ h. h;
               };
         };
-        knows = others_walk kind r.feeder r.walker c c.taken c.released c.marks (c.visits ++ word ∷ []) c.freed_at s.views id (visited v word) r.knows walk.seat
+        knows = others_walk kind r.feeder r.walker c c.taken c.released c.marks (c.visits ++ word ∷ []) c.freed_at s.views id
+            (visited v word) r.knows walk.seat
             record {
               feed = λ feeds.
                   let f = know.feed feeds in
-                  record { seat = f.seat; same_kind = f.same_kind; given = f.given; retired = f.retired; looks = f.looks; shown_at = f.shown_at };
+                  record {
+                    seat = f.seat;
+                    same_kind = f.same_kind;
+                    given = f.given;
+                    retired = f.retired;
+                    looks = f.looks;
+                    shown_at = f.shown_at;
+                  };
               walk = λ _. record {
                 seat = walk.seat;
                 same_kind = walk.same_kind;
@@ -186,9 +216,11 @@ module _ {B : Type 0} (bytes kind_of : B → List ℕ) (ready : B → ℕ → �
     pub is : (bytes block, slice_index s.words (length me.0.taken % length s.homes) % 256) ≡ entry
     pub found :
         let place : ℕ = length me.0.taken % length s.homes in let word : ℕ = slice_index s.words place in
-        FoundNext bytes kind_of ready (step (length s.homes) place 0 0 none) me word (taken_one me.0 (bytes block, word % 256) word, (place, Some block) ∷ me.1)
+        FoundNext bytes kind_of ready (step (length s.homes) place 0 0 none) me word
+        (taken_one me.0 (bytes block, word % 256) word, (place, Some block) ∷ me.1)
 
-  pub next_block : (s : State (Option B) Known) (r : Ring s) (id : ℕ) (me : Holder B) → get_elem? s.views id ≡ some me.0 → me.0.walks ≡ true
+  pub next_block : (s : State (Option B) Known) (r : Ring s) (id : ℕ) (me : Holder B) → get_elem? s.views id ≡ some me.0
+      → me.0.walks ≡ true
       → r.course.taken < length r.course.log → Next s r id me
   next_block s r id me at walks before =
       let n = length s.homes in
@@ -231,7 +263,8 @@ module _ {B : Type 0} (bytes kind_of : B → List ℕ) (ready : B → ℕ → �
         };
       }
 
-  fetches_by : (s : State (Option B) Known) (r : Ring s) (id : ℕ) (me : Holder B) → get_elem? s.views id ≡ some me.0 → me.0.walks ≡ true
+  fetches_by : (s : State (Option B) Known) (r : Ring s) (id : ℕ) (me : Holder B) → get_elem? s.views id ≡ some me.0
+      → me.0.walks ≡ true
       → length me.0.taken ≤ length me.0.marks → Dec (length r.course.log ≤ r.course.taken)
       → let place : ℕ = length me.0.taken % length s.homes in let word : ℕ = slice_index s.words place in
       Goes s place id me word (Fetches bytes kind_of ready (step (length s.homes) place 0 0 none) me word)
@@ -243,7 +276,8 @@ module _ {B : Type 0} (bytes kind_of : B → List ℕ) (ready : B → ℕ → �
         taken_one me.0 (bytes next.block, word % 256) word,
         takes place (Some next.block),
         next.home,
-        rw (set-read s.words place, next.is) (takes_block s r id me.0 word next.entry at walks (λ _. hand) next.at next.written odd),
+        rw (set-read s.words place, next.is)
+            (takes_block s r id me.0 word next.entry at walks (λ _. hand) next.at next.written odd),
         record { some = λ _. next.found; none = λ even. absurd (omega arith) },
       )
   fetches_by s r id me at walks hand (yes all) =
@@ -274,10 +308,12 @@ module _ {B : Type 0} (bytes kind_of : B → List ℕ) (ready : B → ℕ → �
 
   -- the reader looks at the next place
   pub fetches : (n id : ℕ) (me : Holder B) → me.0.walks ≡ true → length me.0.taken ≤ length me.0.marks
-      → Allows Ring n id me (length me.0.taken % n) (λ word. word) (Fetches bytes kind_of ready (step n (length me.0.taken % n) 0 0 none) me)
+      → Allows Ring n id me (length me.0.taken % n) (λ word. word)
+      (Fetches bytes kind_of ready (step n (length me.0.taken % n) 0 0 none) me)
   fetches n id me walks hand s r wide at small =
       let k : ℕ = length me.0.taken in
-      subst (λ m. Goes s (k % m) id me (slice_index s.words (k % m)) (Fetches bytes kind_of ready (step m (k % m) 0 0 none) me (slice_index s.words (k % m)))) wide
+      subst (λ m. Goes s (k % m) id me (slice_index s.words (k % m))
+      (Fetches bytes kind_of ready (step m (k % m) 0 0 none) me (slice_index s.words (k % m)))) wide
       (fetches_by s r id me at walks hand (dec_le (length r.course.log) r.course.taken))
 
   -- what the reader knows once it has released a block
@@ -285,7 +321,8 @@ module _ {B : Type 0} (bytes kind_of : B → List ℕ) (ready : B → ℕ → �
   released_one v mark looks = record v { marks = v.marks ++ mark ∷ []; freed_at = v.freed_at ++ looks ∷ [] }
 
   -- a block is released, and is at its place
-  frees_block : (s : State (Option B) Known) (r : Ring s) (id : ℕ) (v : Known) (block : B) (mark : ℕ) → get_elem? s.views id ≡ some v → v.walks ≡ true
+  frees_block : (s : State (Option B) Known) (r : Ring s) (id : ℕ) (v : Known) (block : B) (mark : ℕ)
+      → get_elem? s.views id ≡ some v → v.walks ≡ true
       → length v.marks < length v.taken → IsMark mark → kind_of block ≡ v.kind
       → let place : ℕ = length v.marks % length s.homes in
       Ring record {
@@ -342,14 +379,22 @@ module _ {B : Type 0} (bytes kind_of : B → List ℕ) (ready : B → ℕ → �
                 reading = λ h. absurd (omega arith);
                 waiting = λ one is h. let w = within c.log j one is in absurd (omega arith);
                 marked = λ _.
-                    let here : slice_index words' (j % n) ≡ mark = rw turn (get_or-set_same s.words place mark 0 (omega arith)) in
+                    let here : slice_index words' (j % n) ≡ mark =
+                    rw turn (get_or-set_same s.words place mark 0 (omega arith)) in
                     rw here even;
                 stored = λ _.
-                    let here : slice_index words' (j % n) ≡ mark = rw turn (get_or-set_same s.words place mark 0 (omega arith)) in
+                    let here : slice_index words' (j % n) ≡ mark =
+                    rw turn (get_or-set_same s.words place mark 0 (omega arith)) in
                     let long = r.seen.marks in
                     rw here (start_last n c.marks mark j (omega arith));
                 filling = λ h below'. absurd (omega arith);
-                free = λ _. (block, record { home = rw turn (set_here s.homes place (some (Some block)) near); same_kind = is_kind ∙ walk.same_kind });
+                free = λ _. (
+                  block,
+                  record {
+                    home = rw turn (set_here s.homes place (some (Some block)) near);
+                    same_kind = is_kind ∙ walk.same_kind;
+                  },
+                );
               })
               (λ ne.
               let old = o.placed j (omega arith) (omega arith) in
@@ -371,7 +416,14 @@ module _ {B : Type 0} (bytes kind_of : B → List ℕ) (ready : B → ℕ → �
             record {
               feed = λ feeds.
                   let f = know.feed feeds in
-                  record { seat = f.seat; same_kind = f.same_kind; given = f.given; retired = f.retired; looks = f.looks; shown_at = f.shown_at };
+                  record {
+                    seat = f.seat;
+                    same_kind = f.same_kind;
+                    given = f.given;
+                    retired = f.retired;
+                    looks = f.looks;
+                    shown_at = f.shown_at;
+                  };
               walk = λ _. record {
                 seat = walk.seat;
                 same_kind = walk.same_kind;
@@ -386,8 +438,10 @@ module _ {B : Type 0} (bytes kind_of : B → List ℕ) (ready : B → ℕ → �
             };
       }
 
-  frees_by : (n id : ℕ) (v : Known) (others : List (ℕ × Option B)) (block : B) (mark : ℕ) (s : State (Option B) Known) (r : Ring s)
-      → get_elem? s.views id ≡ some v → v.walks ≡ true → length v.marks < length v.taken → IsMark mark → kind_of block ≡ v.kind → length s.homes ≡ n
+  frees_by : (n id : ℕ) (v : Known) (others : List (ℕ × Option B)) (block : B) (mark : ℕ)
+      (s : State (Option B) Known) (r : Ring s)
+      → get_elem? s.views id ≡ some v → v.walks ≡ true → length v.marks < length v.taken → IsMark mark → kind_of block ≡ v.kind
+      → length s.homes ≡ n
       → let place : ℕ = length v.marks % n in let me : Holder B = (v, (place, Some block) ∷ others) in
       Goes s place id me mark (Frees bytes kind_of ready me mark)
   frees_by n id v others block mark s r at walks hand even is_kind wide =
@@ -403,7 +457,8 @@ module _ {B : Type 0} (bytes kind_of : B → List ℕ) (ready : B → ℕ → �
       )
 
   -- the reader stores the mark after the block that it has put back
-  pub frees : (n id : ℕ) (me : Holder B) (block : B) (mark : ℕ) → me.0.walks ≡ true → length me.0.marks < length me.0.taken → IsMark mark
+  pub frees : (n id : ℕ) (me : Holder B) (block : B) (mark : ℕ) → me.0.walks ≡ true
+      → length me.0.marks < length me.0.taken → IsMark mark
       → kind_of block ≡ me.0.kind → me.1 ≡ (length me.0.marks % n, Some block) ∷ rest me.1
       → Allows Ring n id me (length me.0.marks % n) (λ _. mark) (λ _. Frees bytes kind_of ready me mark)
   frees n id me block mark walks hand even is_kind out s r wide at small =

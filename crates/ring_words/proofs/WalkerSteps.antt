@@ -1,5 +1,6 @@
 -- What the calls of the reader's end have to show of the table, and what its fields keep.
-use Rattle.std.proofs.Common.{◌≡◌, ℕ, ◌-◌, ◌%◌, ◌<◌, ◌≤◌, List, [], ◌∷◌, length, Option, Some, None, sym, ap, ◌∙◌, subst, mod-lt, add-zero, arith}
+use Rattle.std.proofs.Common.{◌≡◌, ℕ, ◌-◌, ◌%◌, ◌<◌, ◌≤◌, List, [], ◌∷◌, length, Option, Some, None, sym, ap, ◌∙◌, subst}
+use Rattle.std.proofs.Common.{mod-lt, add-zero, arith}
 use mathlib.Core.Option.{none}
 use Rattle.atomic_table.specs.Seated.{TableId}
 use Rattle.atomic_table.specs.Table.{Allows, rest, step}
@@ -12,10 +13,12 @@ use Rattle.ring_words.proofs.WalkerMoves.{fetches, frees}
 
 module _ {B : Type 0} (bytes kind_of : B → List ℕ) (ready : B → ℕ → ℕ → Type 0) where
   -- the load of `take`
-  pub may_fetch : (kind : List ℕ) (table seat : TableId) (id : ℕ) (me : Holder B) (places taken released : ℕ) → IsSeated table seat places → KeepsWalk me places taken released
+  pub may_fetch : (kind : List ℕ) (table seat : TableId) (id : ℕ) (me : Holder B) (places taken released : ℕ)
+      → IsSeated table seat places → KeepsWalk me places taken released
       → taken ≤ released
       → (seat ≡ table) × (taken % places < table.words)
-      × Allows (IsRing bytes kind_of ready kind) table.slots id me (taken % places) (λ word. word) (Fetches bytes kind_of ready (step table.slots (taken % places) 0 0 none) me)
+      × Allows (IsRing bytes kind_of ready kind) table.slots id me (taken % places) (λ word. word)
+      (Fetches bytes kind_of ready (step table.slots (taken % places) 0 0 none) me)
   may_fetch kind table seat id me places taken released is keeps hand =
       let some = is.some_places in
       let words = is.words in
@@ -28,7 +31,8 @@ module _ {B : Type 0} (bytes kind_of : B → List ℕ) (ready : B → ℕ → �
       )
 
   -- the slot of a retired block is out
-  pub has_next : (slots place : ℕ) (me me' : Holder B) (word : ℕ) → FoundNext bytes kind_of ready (step slots place 0 0 none) me word me'
+  pub has_next : (slots place : ℕ) (me me' : Holder B) (word : ℕ)
+      → FoundNext bytes kind_of ready (step slots place 0 0 none) me word me'
       → (x : Option B) × (me'.1 ≡ (place, x) ∷ rest me'.1)
   has_next slots place me me' word found = (Some found.block, front_of me'.1 (place, Some found.block) me.1 found.hand)
 
@@ -39,7 +43,8 @@ module _ {B : Type 0} (bytes kind_of : B → List ℕ) (ready : B → ℕ → �
       keeps.out ∙ ap (slots_of places released) none_left
 
   -- the slot of the block in hand is out
-  pub has_hand : (places taken released : ℕ) (me : Holder B) → KeepsWalk me places taken released → released < taken → me.1 ≡ (released % places, None) ∷ []
+  pub has_hand : (places taken released : ℕ) (me : Holder B) → KeepsWalk me places taken released → released < taken
+      → me.1 ≡ (released % places, None) ∷ []
   has_hand places taken released me keeps hand =
       let one = keeps.one_in_hand in
       let count : taken - released ≡ 1 = omega arith in
@@ -49,17 +54,21 @@ module _ {B : Type 0} (bytes kind_of : B → List ℕ) (ready : B → ℕ → �
   abbrev pub before_free : Holder B → ℕ → ℕ → B → Holder B
   before_free me places released block = (me.0, (released % places, Some block) ∷ [])
 
-  pub is_before_free : (places taken released : ℕ) (me me' : Holder B) (block : B) → KeepsWalk me places taken released → released < taken
+  pub is_before_free : (places taken released : ℕ) (me me' : Holder B) (block : B) → KeepsWalk me places taken released
+      → released < taken
       → me' ≡ (me.0, (released % places, Some block) ∷ rest me.1) → me' ≡ before_free me places released block
   is_before_free places taken released me me' block keeps hand out =
       let slots : rest me.1 ≡ [] = ap rest (has_hand places taken released me keeps hand) in
       out ∙ (λ i. (me.0, (released % places, Some block) ∷ slots i))
 
   -- the store of `release`
-  pub may_free : (kind : List ℕ) (table seat : TableId) (id : ℕ) (me out : Holder B) (block : B) (places taken released mark : ℕ) → IsSeated table seat places
-      → KeepsWalk me places taken released → released < taken → IsMark mark → kind_of block ≡ me.0.kind → out ≡ before_free me places released block
+  pub may_free : (kind : List ℕ) (table seat : TableId) (id : ℕ) (me out : Holder B) (block : B)
+      (places taken released mark : ℕ) → IsSeated table seat places
+      → KeepsWalk me places taken released → released < taken → IsMark mark → kind_of block ≡ me.0.kind
+      → out ≡ before_free me places released block
       → (seat ≡ table) × (released % places < table.words)
-      × Allows (IsRing bytes kind_of ready kind) table.slots id out (released % places) (λ _. mark) (λ _. Frees bytes kind_of ready out mark)
+      × Allows (IsRing bytes kind_of ready kind) table.slots id out (released % places) (λ _. mark)
+      (λ _. Frees bytes kind_of ready out mark)
   may_free kind table seat id me out block places taken released mark is keeps hand even is_kind out_is =
       let some = is.some_places in
       let words = is.words in
@@ -72,5 +81,7 @@ module _ {B : Type 0} (bytes kind_of : B → List ℕ) (ready : B → ℕ → �
       let allowed = frees bytes kind_of ready kind places id mine block mark keeps.walks (omega arith) even is_kind front in (
         is.same,
         omega arith,
-        rw (is.slots, out_is) (subst (λ k. Allows (IsRing bytes kind_of ready kind) places id mine k (λ _. mark) (λ _. Frees bytes kind_of ready mine mark)) (sym place) allowed),
+        rw (is.slots, out_is)
+            (subst (λ k. Allows (IsRing bytes kind_of ready kind) places id mine k (λ _. mark)
+            (λ _. Frees bytes kind_of ready mine mark)) (sym place) allowed),
       )

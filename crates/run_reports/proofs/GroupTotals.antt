@@ -1,7 +1,8 @@
 -- The arrivals of a run are those that the filter refused, and those that its members' notes keep
 -- or drop: for a group, whatever its rings, and for a report whose statistics count what notes keep
 -- and drop.
-use Rattle.std.proofs.Common.{◌≡◌, ℕ, zero, suc, ◌+◌, ◌-◌, ◌<◌, ◌≤◌, Bool, true, false, cond, not, ◌&&◌, eqb, ltb, List, [], ◌∷◌, ◌++◌, length, get_or, inl, inr, refl, sym, ap, subst, ◌∙◌, arith}
+use Rattle.std.proofs.Common.{◌≡◌, ℕ, zero, suc, ◌+◌, ◌-◌, ◌<◌, ◌≤◌, Bool, true, false, cond, not, ◌&&◌, eqb, ltb, List, []}
+use Rattle.std.proofs.Common.{◌∷◌, ◌++◌, length, get_or, inl, inr, refl, sym, ap, subst, ◌∙◌, arith}
 use Rattle.std.specs.Prelude.{Option, count_by, sum_by}
 use Rattle.std.proofs.lemmas.Bool.{cases_lt, eq-eqb, lt-ltb}
 use Rattle.std.proofs.lemmas.List.Sums.{sum_by-cons, sum_by-append}
@@ -17,7 +18,8 @@ use Rattle.fanout_group.specs.Rules.{Rules}
 use Rattle.fanout_group.specs.declared.logs.ArrivalLog.{ArrivalLog}
 use Rattle.fanout_group.specs.declared.logs.Fate.{Fate}
 use Rattle.fanout_group.specs.declared.logs.Try.{Try}
-use Rattle.fanout_group.proofs.Members.{one_if, sum_below, sum_below-add, sum_below-at, sum_below-same, sum_below-zero, sum_by-below}
+use Rattle.fanout_group.proofs.Members.{one_if, sum_below, sum_below-add, sum_below-at, sum_below-same, sum_below-zero}
+use Rattle.fanout_group.proofs.Members.{sum_by-below}
 use Rattle.fanout_group.proofs.RouteBounds.{present_is_member, settles_in, tries_end}
 use Rattle.fanout_group.proofs.SettledNotes.{is_settled}
 use Rattle.std.proofs.lemmas.List.{get_or_past, length-map}
@@ -45,7 +47,8 @@ settled Finished = 0
 
 pub kept_and_dropped : (notes : List Note) → sum_by settled notes ≡ length (kept_of notes) + length (drops_of notes)
 kept_and_dropped [] = refl
-kept_and_dropped (Kept offer found ∷ notes) = omega (arith, sum_by-cons settled (Kept offer found) notes, kept_and_dropped notes)
+kept_and_dropped (Kept offer found ∷ notes) =
+    omega (arith, sum_by-cons settled (Kept offer found) notes, kept_and_dropped notes)
 kept_and_dropped (Dropped cpu index need number ∷ notes) =
     omega (arith, sum_by-cons settled (Dropped cpu index need number) notes, kept_and_dropped notes)
 kept_and_dropped (Refused cpu index need number ∷ notes) =
@@ -86,7 +89,8 @@ nothing_in note false e = refl
 silent : (count : ℕ) (note : Note) (here : ℕ → Bool) → settled note ≡ 0
     → 0 ≡ sum_below (λ cpu. sum_by settled (cond (here cpu) (note ∷ []) [])) count
 silent count note here e =
-    sym (sum_below-same (λ cpu. sum_by settled (cond (here cpu) (note ∷ []) [])) (λ cpu. 0) count (λ cpu below. nothing_in note (here cpu) e)
+    sym (sum_below-same (λ cpu. sum_by settled (cond (here cpu) (note ∷ []) [])) (λ cpu. 0) count
+    (λ cpu below. nothing_in note (here cpu) e)
     ∙ sum_below-zero count)
 
 one_note : (count : ℕ) (note : Note) → NoneFrom count (λ cpu. frame_note cpu note)
@@ -114,7 +118,8 @@ all_notes count (note ∷ notes) none =
     let rest = all_notes count notes (λ cpu past. back_none (frame_note cpu note) (frame_notes cpu notes) (none cpu past)) in
     let here : ℕ → ℕ = λ cpu. sum_by settled (frame_note cpu note) in
     let later : ℕ → ℕ = λ cpu. sum_by settled (frame_notes cpu notes) in
-    let split = sum_below-same (λ cpu. sum_by settled (frame_note cpu note ++ frame_notes cpu notes)) (λ cpu. here cpu + later cpu) count
+    let split = sum_below-same (λ cpu. sum_by settled (frame_note cpu note ++ frame_notes cpu notes))
+    (λ cpu. here cpu + later cpu) count
     (λ cpu below. sum_by-append settled (frame_note cpu note) (frame_notes cpu notes)) in
     let added = sum_below-add here later count in
     omega (arith, sum_by-cons settled note notes, first, rest, split, added)
@@ -125,7 +130,8 @@ all_notes count (note ∷ notes) none =
 abbrev attempt_settles : Attempt → ℕ
 attempt_settles attempt = one_if (is_settled attempt.fate)
 
-noted_so : (room : ℕ) (own : Option (List ℕ)) (attempt : Attempt) (note : Note) → IsNoteOf room own attempt note → settled note ≡ attempt_settles attempt
+noted_so : (room : ℕ) (own : Option (List ℕ)) (attempt : Attempt) (note : Note) → IsNoteOf room own attempt note
+    → settled note ≡ attempt_settles attempt
 noted_so room own attempt (Kept offer found) h = sym (ap (λ (f : Fate). one_if (is_settled f)) h.0)
 noted_so room own attempt (Refused cpu index need number) h = sym (ap (λ (f : Fate). one_if (is_settled f)) h.0)
 noted_so room own attempt (Dropped cpu index need number) h = sym (ap (λ (f : Fate). one_if (is_settled f)) h.0)
@@ -152,7 +158,8 @@ no_notes room own (note ∷ notes) h = absurd h
 abbrev attempt_of : Frame → ArrivalLog → Try → Attempt
 attempt_of frame entry t = record { frame = frame; hash = entry.hash; verdict = entry.verdict; fate = t.fate }
 
-one_try : (attempt : Attempt) (here : Bool) → sum_by attempt_settles (cond here (attempt ∷ []) []) ≡ cond here (attempt_settles attempt) 0
+one_try : (attempt : Attempt) (here : Bool) → sum_by attempt_settles (cond here (attempt ∷ []) [])
+    ≡ cond here (attempt_settles attempt) 0
 one_try attempt true = omega arith
 one_try attempt false = refl
 
@@ -187,7 +194,8 @@ module _ (members : ℕ) (frame : Frame) (entry : ArrivalLog) where
 abbrev passed : ArrivalLog → ℕ
 passed entry = one_if (not (eqb entry.verdict 0))
 
-log_settles : (rules : Rules) (present : ℕ) (frames : List Frame) (log : List ArrivalLog) → 0 < rules.members → present < rules.members
+log_settles : (rules : Rules) (present : ℕ) (frames : List Frame) (log : List ArrivalLog) → 0 < rules.members
+    → present < rules.members
     → IsLawfulFrom rules present frames log
     → sum_below (λ k. sum_by attempt_settles (attempts_at k frames log)) rules.members ≡ sum_by passed log
 log_settles rules present [] [] some at lawful = sum_below-zero rules.members
@@ -201,7 +209,8 @@ log_settles rules present (frame ∷ frames) (entry ∷ log) some at lawful =
     let first = entry_settles rules.members frame entry entry.tries in
     let once = (tries_end rules present frame entry some at is).settles in
     let rest = log_settles rules after frames log some (present_is_member rules present frame entry some at is) lawful.1 in
-    let split = sum_below-same (λ k. sum_by attempt_settles (attempts_in k frame entry entry.tries ++ attempts_at k frames log)) (λ k. here k + later k) rules.members
+    let split = sum_below-same (λ k. sum_by attempt_settles (attempts_in k frame entry entry.tries ++ attempts_at k frames log))
+    (λ k. here k + later k) rules.members
     (λ k below. sum_by-append attempt_settles (attempts_in k frame entry entry.tries) (attempts_at k frames log)) in
     omega (arith, split, sum_below-add here later rules.members, first, once, rest, sum_by-cons passed entry log)
 
@@ -218,7 +227,13 @@ log_counts : (log : List ArrivalLog) → length log ≡ count_by is_ended log + 
 log_counts [] = refl
 log_counts (entry ∷ log) =
     let one = ended_or_passed (is_ended entry) in
-    omega (arith, one, sum_by-cons (λ (e : ArrivalLog). cond (is_ended e) 1 0) entry log, sum_by-cons passed entry log, log_counts log)
+    omega (
+      arith,
+      one,
+      sum_by-cons (λ (e : ArrivalLog). cond (is_ended e) 1 0) entry log,
+      sum_by-cons passed entry log,
+      log_counts log,
+    )
 
 logs_count : (cpus : List Logged) → sum_by (λ logged. length logged.log) cpus
     ≡ sum_by (λ logged. count_by is_ended logged.log) cpus + sum_by (λ logged. sum_by passed logged.log) cpus
@@ -239,24 +254,30 @@ swap : (f : ℕ → ℕ → ℕ) (m n : ℕ) → sum_below (λ k. sum_below (λ 
 swap f zero n = sym (sum_below-zero n)
 swap f (suc m) n = omega (arith, swap f m n, sum_below-add (λ c. sum_below (λ k. f k c) m) (λ c. f m c) n)
 
-module _ (rules : Rules) (room : ℕ) (cpus : List Logged) (members : List (List Note)) (report : IsGroupReport rules room cpus members) where
+module _ (rules : Rules) (room : ℕ) (cpus : List Logged) (members : List (List Note))
+    (report : IsGroupReport rules room cpus members) where
   abbrev at : ℕ → Logged
   at cpu = get_or cpus cpu nothing_logged
 
   abbrev tries_of : ℕ → ℕ → ℕ
   tries_of member cpu = sum_by attempt_settles (attempts_at member (at cpu).arrivals (at cpu).log)
 
-  none_from : (member : ℕ) → member < length members → NoneFrom (length cpus) (λ cpu. frame_notes cpu (get_or members member []))
+  none_from : (member : ℕ) → member < length members
+      → NoneFrom (length cpus) (λ cpu. frame_notes cpu (get_or members member []))
   none_from member below cpu past =
       no_notes room rules.own (frame_notes cpu (get_or members member []))
-      (subst (λ (l : Logged). AreNotesOf room rules.own (attempts_at member l.arrivals l.log) (frame_notes cpu (get_or members member [])))
+      (subst (λ (l : Logged). AreNotesOf room rules.own (attempts_at member l.arrivals l.log)
+      (frame_notes cpu (get_or members member [])))
       (get_or_past cpus cpu nothing_logged past) (report.joined.each cpu member below))
 
-  member_counts : (member : ℕ) → member < length members → sum_by settled (get_or members member []) ≡ sum_below (tries_of member) (length cpus)
+  member_counts : (member : ℕ) → member < length members
+      → sum_by settled (get_or members member []) ≡ sum_below (tries_of member) (length cpus)
   member_counts member below =
       all_notes (length cpus) (get_or members member []) (none_from member below)
-      ∙ sum_below-same (λ cpu. sum_by settled (frame_notes cpu (get_or members member []))) (tries_of member) (length cpus) (λ cpu less.
-      by_tries room rules.own (attempts_at member (at cpu).arrivals (at cpu).log) (frame_notes cpu (get_or members member [])) (report.joined.each cpu member below))
+      ∙ sum_below-same (λ cpu. sum_by settled (frame_notes cpu (get_or members member []))) (tries_of member)
+      (length cpus) (λ cpu less.
+      by_tries room rules.own (attempts_at member (at cpu).arrivals (at cpu).log) (frame_notes cpu (get_or members member []))
+      (report.joined.each cpu member below))
 
   cpu_counts : (cpu : ℕ) → sum_below (λ member. tries_of member cpu) (length members) ≡ sum_by passed (at cpu).log
   cpu_counts cpu =
@@ -266,13 +287,16 @@ module _ (rules : Rules) (room : ℕ) (cpus : List Logged) (members : List (List
   all_settled : sum_by (λ notes. sum_by settled notes) members ≡ sum_by (λ logged. sum_by passed logged.log) cpus
   all_settled =
       sum_by-below (λ notes. sum_by settled notes) members []
-      ∙ sum_below-same (λ member. sum_by settled (get_or members member [])) (λ member. sum_below (tries_of member) (length cpus)) (length members) member_counts
+      ∙ sum_below-same (λ member. sum_by settled (get_or members member []))
+      (λ member. sum_below (tries_of member) (length cpus)) (length members) member_counts
       ∙ swap tries_of (length members) (length cpus)
-      ∙ sum_below-same (λ cpu. sum_below (λ member. tries_of member cpu) (length members)) (λ cpu. sum_by passed (at cpu).log) (length cpus) (λ cpu less. cpu_counts cpu)
+      ∙ sum_below-same (λ cpu. sum_below (λ member. tries_of member cpu) (length members)) (λ cpu. sum_by passed (at cpu).log)
+      (length cpus) (λ cpu less. cpu_counts cpu)
       ∙ sym (sum_by-below (λ (l : Logged). sum_by passed l.log) cpus nothing_logged)
 
   pub adds_up : sum_by (λ logged. length logged.log) cpus
-      ≡ sum_by (λ logged. count_by (λ entry. eqb entry.verdict 0) logged.log) cpus + sum_by (λ notes. sum_by settled notes) members
+      ≡ sum_by (λ logged. count_by (λ entry. eqb entry.verdict 0) logged.log) cpus + sum_by
+      (λ notes. sum_by settled notes) members
   adds_up = logs_count cpus ∙ ap (λ n. sum_by (λ (l : Logged). count_by is_ended l.log) cpus + n) (sym all_settled)
 
 -- ---- the logs with their arrivals, and without them
@@ -333,5 +357,6 @@ module _ (totals : List Note → Stats) (counts : CountsSettled totals) where
       ∙ sym (length-map (captures_from 0 bytes) (arrivals_at (has_defrag job.setup.plan.flags)) ∙ count_from 0 bytes) in
       let all = adds_up (rules_of job) room (logged arriving report.cpus) (notes_of report.members) group in
       let arrivals = same_logs (λ (log : List ArrivalLog). length log) arriving report.cpus many in
-      let filtered = same_logs (λ (log : List ArrivalLog). count_by (λ entry. eqb entry.verdict 0) log) arriving report.cpus many in
+      let filtered = same_logs (λ (log : List ArrivalLog). count_by (λ entry. eqb entry.verdict 0) log) arriving
+      report.cpus many in
       omega (arith, all, arrivals, filtered, same_members report.members)

@@ -1,8 +1,10 @@
 -- A note adds at most one retired block after those before it.
-use Rattle.std.proofs.Common.{◌≡◌, ℕ, ◌+◌, ◌≤◌, Bool, true, false, cond, List, [], ◌∷◌, ◌++◌, length, Option, None, Some, refl, sym, ap, ◌∙◌, arith, length-append, take}
+use Rattle.std.proofs.Common.{◌≡◌, ℕ, ◌+◌, ◌≤◌, Bool, true, false, cond, List, [], ◌∷◌, ◌++◌, length, Option, None, Some, refl}
+use Rattle.std.proofs.Common.{sym, ap, ◌∙◌, arith, length-append, take}
 use Rattle.std.specs.Prelude.{nat_lt}
 use Rattle.std.proofs.lemmas.List.{append-nil, take-append-le}
-use Rattle.ring_model.specs.Ring.{Size, State, after, after_all, after_drop, after_due, first_state, retired, finished, status_of, state_of}
+use Rattle.ring_model.specs.Ring.{Size, State, after, after_all, after_drop, after_due, first_state, retired, finished}
+use Rattle.ring_model.specs.Ring.{status_of, state_of}
 use Rattle.ring_model.specs.declared.notes.Offer.{Offer}
 use Rattle.ring_model.specs.declared.notes.Found.{Found}
 use Rattle.ring_model.specs.declared.notes.Found.TheVariants.{NotAsked, Free, Held}
@@ -54,7 +56,8 @@ grows size s (Kept offer Free) = by_retired s.done (status_of false s) s.now
 grows size s (Kept offer (Held number)) = by_retired s.done (status_of false s) s.now
 grows size s (Refused cpu index need number) = same s.done
 grows size s (Dropped cpu index need number) = by_drop s s.now
-grows size s (Ticked ms found) = by_tick (nat_lt ms s.deadline) s (after_due s s.now found) ms (ms + size.tov) (by_due s s.now found)
+grows size s (Ticked ms found) =
+    by_tick (nat_lt ms s.deadline) s (after_due s s.now found) ms (ms + size.tov) (by_due s s.now found)
 grows size s Counted = same s.done
 grows size s Finished = by_finished s.done (status_of false s) s.now
 
@@ -62,7 +65,8 @@ few_from : (size : Size) (s : State) (notes : List Note) → length (after_all s
 few_from size s [] = omega arith
 few_from size s (note ∷ notes) =
     let g = grows size s note in
-    let count : length (after size s note).done ≡ length s.done + length g.more = ap length g.is ∙ length-append s.done g.more in
+    let count : length (after size s note).done ≡ length s.done + length g.more =
+    ap length g.is ∙ length-append s.done g.more in
     let one = g.one in
     let rest = few_from size (after size s note) notes in
     omega (arith, count, one, rest)
@@ -72,13 +76,16 @@ pub few_done : (size : Size) (notes : List Note) → length (state_of size notes
 few_done size notes = let few = few_from size (first_state size) notes in omega (arith, few)
 
 -- the blocks at the start stay
-pub front_stays : (count : ℕ) (before now : List (List Offer × ℕ)) → Grows before now → count ≤ length before → take count now ≡ take count before
+pub front_stays : (count : ℕ) (before now : List (List Offer × ℕ)) → Grows before now → count ≤ length before
+    → take count now ≡ take count before
 front_stays count before now g h = ap (λ done. take count done) g.is ∙ take-append-le count before g.more h
 
-pub state_after : (size : Size) (s : State) (notes : List Note) (note : Note) → after_all size s (notes ++ note ∷ []) ≡ after size (after_all size s notes) note
+pub state_after : (size : Size) (s : State) (notes : List Note) (note : Note)
+    → after_all size s (notes ++ note ∷ []) ≡ after size (after_all size s notes) note
 state_after size s [] note = refl
 state_after size s (first ∷ notes) note = state_after size (after size s first) notes note
 
 -- after one more note
-pub grows_noted : (size : Size) (notes : List Note) (note : Note) → Grows (state_of size notes).done (state_of size (notes ++ note ∷ [])).done
+pub grows_noted : (size : Size) (notes : List Note) (note : Note)
+    → Grows (state_of size notes).done (state_of size (notes ++ note ∷ [])).done
 grows_noted size notes note = rw (state_after size (first_state size) notes note) (grows size (state_of size notes) note)

@@ -1,5 +1,6 @@
 -- An arrival that passes is among the notes of the member of its last try.
-use Rattle.std.proofs.Common.{◌≡◌, ℕ, zero, suc, ◌+◌, ◌%◌, ◌<◌, Bool, true, false, cond, not, ◌&&◌, ◌||◌, eqb, List, [], ◌∷◌, ◌++◌, get_or, inl, inr, refl, sym, ap, ◌∙◌, arith}
+use Rattle.std.proofs.Common.{◌≡◌, ℕ, zero, suc, ◌+◌, ◌%◌, ◌<◌, Bool, true, false, cond, not, ◌&&◌, ◌||◌, eqb, List, [], ◌∷◌}
+use Rattle.std.proofs.Common.{◌++◌, get_or, inl, inr, refl, sym, ap, ◌∙◌, arith}
 use Rattle.std.specs.Prelude.{MatchBool, sum_by}
 use Rattle.std.specs.List.{list_any}
 use Rattle.std.proofs.lemmas.Bool.{and_parts, eq-eqb, eqb-true, ne_eqb}
@@ -56,9 +57,11 @@ module _ (cpu index member : ℕ) (frame : Frame) (entry : ArrivalLog) where
       ≡ cond (eqb t.member member) (f (attempt_of frame entry t)) 0 + sum_by f (attempts_in member frame entry tries)
   tries_split t tries =
       sum_by-append f (cond (eqb t.member member) (attempt_of frame entry t ∷ []) []) (attempts_in member frame entry tries)
-      ∙ ap (λ n. n + sum_by f (attempts_in member frame entry tries)) (one_try f (attempt_of frame entry t) (eqb t.member member))
+      ∙ ap (λ n. n + sum_by f (attempts_in member frame entry tries))
+      (one_try f (attempt_of frame entry t) (eqb t.member member))
 
-  entry_settles : (tries : List Try) → is_it cpu index frame ≡ true → sum_by f (attempts_in member frame entry tries) ≡ sum_by (settled_at member) tries
+  entry_settles : (tries : List Try) → is_it cpu index frame ≡ true
+      → sum_by f (attempts_in member frame entry tries) ≡ sum_by (settled_at member) tries
   entry_settles [] it = refl
   entry_settles (t ∷ tries) it =
       let first = settled_here (is_settled t.fate) (eqb t.member member) (is_it cpu index frame) it in
@@ -87,17 +90,20 @@ refusals_settle_nothing member members at (suc count) =
       refusals_settle_nothing member members next count,
     )
 
-last_settles : (member at : ℕ) (fate : Fate) → IsSettled fate → sum_by (settled_at member) (a_try at fate ∷ []) ≡ one_if (eqb at member)
+last_settles : (member at : ℕ) (fate : Fate) → IsSettled fate
+    → sum_by (settled_at member) (a_try at fate ∷ []) ≡ one_if (eqb at member)
 last_settles member at Kept h = omega arith
 last_settles member at Dropped h = omega arith
 last_settles member at Refused h = absurd h
 
-last_is : (members from count at before : ℕ) (fate : Fate) → last_member before (refused_from members from count ++ a_try at fate ∷ []) ≡ at
+last_is : (members from count at before : ℕ) (fate : Fate)
+    → last_member before (refused_from members from count ++ a_try at fate ∷ []) ≡ at
 last_is members from zero at before fate = refl
 last_is members from (suc count) at before fate = last_is members ((from + 1) % members) count at from fate
 
 ends : (member members from count at : ℕ) (fate : Fate) (tries : List Try) → IsSettled fate
-    → tries ≡ refused_from members from count ++ a_try at fate ∷ [] → sum_by (settled_at member) tries ≡ one_if (eqb (last_member 0 tries) member)
+    → tries ≡ refused_from members from count ++ a_try at fate ∷ []
+    → sum_by (settled_at member) tries ≡ one_if (eqb (last_member 0 tries) member)
 ends member members from count at fate tries h e =
     let both = sum_by-append (settled_at member) (refused_from members from count) (a_try at fate ∷ []) in
     let last : last_member 0 tries ≡ at = ap (last_member 0) e ∙ last_is members from count at 0 fate in
@@ -107,11 +113,13 @@ ends member members from count at fate tries h e =
 
 route_ends : (rolls : Bool) (member members home : ℕ) (tries : List Try) → IsRoute rolls members home tries
     → sum_by (settled_at member) tries ≡ one_if (eqb (last_member 0 tries) member)
-route_ends true member members home tries (inl way) = ends member members home way.0 (behind members home way.0) Kept tries tt way.2
+route_ends true member members home tries (inl way) =
+    ends member members home way.0 (behind members home way.0) Kept tries tt way.2
 route_ends true member members home tries (inr put) = ends member members home members home put.0 tries put.1 put.2
 route_ends false member members home tries one = ends member members home 0 home one.0 tries one.1 one.2
 
-entry_ends : (ended rolls : Bool) (member members home : ℕ) (tries : List Try) → MatchBool ended (tries ≡ []) (IsRoute rolls members home tries)
+entry_ends : (ended rolls : Bool) (member members home : ℕ) (tries : List Try)
+    → MatchBool ended (tries ≡ []) (IsRoute rolls members home tries)
     → sum_by (settled_at member) tries ≡ one_if (not ended && eqb (last_member 0 tries) member)
 entry_ends true rolls member members home tries none = ap (sum_by (settled_at member)) none
 entry_ends false rolls member members home tries route = route_ends rolls member members home tries route
@@ -127,13 +135,15 @@ absent rules cpu index member least present (frame ∷ frames) [] below of lawfu
 absent rules cpu index member least present (frame ∷ frames) (entry ∷ log) below of lawful =
     let is = lawful.0 in
     let other : eqb entry.index index ≡ false = ne_eqb entry.index index (λ e. omega (arith, of.1, is.index)) in
-    rw other (absent rules cpu index member (frame.index + 1) (present_after rules.mode present entry.tries) frames log (omega (arith, of.1)) of.2 lawful.1)
+    rw other (absent rules cpu index member (frame.index + 1) (present_after rules.mode present entry.tries) frames log
+    (omega (arith, of.1)) of.2 lawful.1)
 
 either_once : (x y : Bool) → (x ≡ true → y ≡ false) → one_if x + one_if y ≡ one_if (x || y)
 either_once true y h = ap (λ b. 1 + one_if b) (h refl)
 either_once false y h = omega arith
 
-log_appears : (rules : Rules) (cpu index member least present : ℕ) (frames : List Frame) (log : List ArrivalLog) → AreOf cpu least frames
+log_appears : (rules : Rules) (cpu index member least present : ℕ) (frames : List Frame) (log : List ArrivalLog)
+    → AreOf cpu least frames
     → IsLawfulFrom rules present frames log
     → sum_by (try_settles cpu index) (attempts_at member frames log) ≡ one_if (list_any (ends_at member index) log)
 log_appears rules cpu index member least present [] [] of lawful = refl
@@ -146,7 +156,8 @@ log_appears rules cpu index member least present (frame ∷ frames) (entry ∷ l
     let it : is_it cpu index frame ≡ eqb entry.index index =
     ap (λ b. b && eqb frame.index index) (eq-eqb frame.cpu cpu of.0) ∙ sym (ap (λ i. eqb i index) is.index) in
     let last = not (eqb entry.verdict 0) && eqb (last_member 0 entry.tries) member in
-    let settled = entry_ends (eqb entry.verdict 0) (rolls_over rules) member rules.members (home_of rules present entry.ticket frame) entry.tries is.tries in
+    let settled = entry_ends (eqb entry.verdict 0) (rolls_over rules) member rules.members
+    (home_of rules present entry.ticket frame) entry.tries is.tries in
     let first = entry_appears cpu index member frame entry (eqb entry.index index) last it settled in
     let rest = log_appears rules cpu index member (frame.index + 1) after frames log of.2 lawful.1 in
     let no_more : ends_at member index entry ≡ true → list_any (ends_at member index) log ≡ false = λ yes.
@@ -156,10 +167,12 @@ log_appears rules cpu index member least present (frame ∷ frames) (entry ∷ l
     ∙ ap (λ n. n + sum_by f (attempts_at member frames log)) first ∙ ap (λ n. one_if (ends_at member index entry) + n) rest
     ∙ either_once (ends_at member index entry) (list_any (ends_at member index) log) no_more
 
-pub each_at_its_last : (rules : Rules) (room : ℕ) (cpus : List Logged) (members : List (List Note)) → IsGroupReport rules room cpus members
+pub each_at_its_last : (rules : Rules) (room : ℕ) (cpus : List Logged) (members : List (List Note))
+    → IsGroupReport rules room cpus members
     → EachIsAtItsLastTry cpus members
 each_at_its_last rules room cpus members report cpu index member below =
     let logged = get_or cpus cpu nothing_logged in
     settled_of cpu index (get_or members member [])
-    ∙ settled_by_tries room rules.own cpu index (attempts_at member logged.arrivals logged.log) _ (report.joined.each cpu member below)
+    ∙ settled_by_tries room rules.own cpu index (attempts_at member logged.arrivals logged.log) _
+    (report.joined.each cpu member below)
     ∙ log_appears rules cpu index member 0 0 logged.arrivals logged.log (report.frames cpu) (report.lawful cpu)

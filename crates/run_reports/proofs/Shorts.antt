@@ -35,7 +35,8 @@ abbrev IsShort : Packet → Type 0
 IsShort packet = length packet.bytes ≤ 4294967291
 
 -- the members of a group whose offers are cut for this room, and whose readers read what was kept
-module _ (rules : Rules) (room : ℕ) (fills : Bool) (cpus : List Logged) (members : List MemberReport) (small : room ≤ 4294967373)
+module _ (rules : Rules) (room : ℕ) (fills : Bool) (cpus : List Logged) (members : List MemberReport)
+    (small : room ≤ 4294967373)
     (group : IsGroupReport rules room cpus (notes_of members)) where
   cut_at : (at : ℕ) (d : MemberReport) → at < length members → AllByRecursion (IsCut room) (kept_of (get_or members at d).notes)
   cut_at at d within =
@@ -46,7 +47,8 @@ module _ (rules : Rules) (room : ℕ) (fills : Bool) (cpus : List Logged) (membe
       all_cut room rules.own (get_or members at d).notes
       (λ cpu. let l = get_or cpus cpu nothing_logged in attempts_at at l.arrivals l.log)
       (λ cpu. let l = get_or cpus cpu nothing_logged in
-      subst (λ (ns : List Note). AreNotesOf room rules.own (attempts_at at l.arrivals l.log) (frame_notes cpu ns)) same (group.joined.each cpu at inside))
+      subst (λ (ns : List Note). AreNotesOf room rules.own (attempts_at at l.arrivals l.log) (frame_notes cpu ns)) same
+      (group.joined.each cpu at inside))
 
   pub short_members : ((at : ℕ) (d : MemberReport) → at < length members
       → (get_or members at d).walked ≡ map (packet_of fills) (kept_of (get_or members at d).notes)) → AreShort members
@@ -59,5 +61,6 @@ pub are_short : (job : Job) (arriving : List (List (Option Frame))) (report : Ru
 are_short job arriving report setup h =
     let room = room_of job.setup.shape in
     let low = setup.ring.small in
-    short_members (rules_of job) room (fills_hash job.setup.shape) (logged arriving report.cpus) report.members (omega (arith, low)) h.group
+    short_members (rules_of job) room (fills_hash job.setup.shape) (logged arriving report.cpus) report.members
+    (omega (arith, low)) h.group
     (λ at d within. let member = h.members at d within in member.walked)

@@ -14,7 +14,8 @@ use Rattle.run_reports.proofs.GroupTotals.{kept_and_dropped, totals_add_up}
 
 -- the statistics count what notes keep and drop
 abbrev pub CountsEach : Type 0
-CountsEach = (size : Size) (notes : List Note) → (totals_of size notes).packets ≡ length (kept_of notes) + length (drops_of notes)
+CountsEach = (size : Size) (notes : List Note) → (totals_of size notes).packets
+    ≡ length (kept_of notes) + length (drops_of notes)
 
 abbrev pub CountsDrops : Type 0
 CountsDrops = (size : Size) (notes : List Note) → (totals_of size notes).drops ≡ length (drops_of notes)

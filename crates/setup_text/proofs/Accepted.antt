@@ -1,5 +1,6 @@
 -- Why a setup that is accepted is sound.
-use Rattle.std.proofs.Common.{◌≡◌, ℕ, ◌<◌, ◌≤◌, Bool, true, false, List, [], ◌∷◌, length, refl, ap, subst, arith, Some, None, Option, Ok, Err}
+use Rattle.std.proofs.Common.{◌≡◌, ℕ, ◌<◌, ◌≤◌, Bool, true, false, List, [], ◌∷◌, length, refl, ap, subst, arith, Some, None}
+use Rattle.std.proofs.Common.{Option, Ok, Err}
 use Rattle.std.specs.Prelude.{Result, ◌&&◌, codes, option_map, if◌then◌else◌}
 use Rattle.std.specs.Option.{is_none, option_or, unwrap_or}
 use Rattle.std.proofs.lemmas.List.Elements.{All-nil}
@@ -9,7 +10,8 @@ use Rattle.text_lines.proofs.Kept.{reads_keep}
 use Rattle.tp_layout.specs.Requests.{receive_fault, slot_fault, transmit_fault}
 use Rattle.tp_layout.specs.declared.requests.RingRequest.{RingRequest}
 use Rattle.setup_text.specs.Drafts.{line_after, nothing_said}
-use Rattle.setup_text.specs.Setups.{answer, at_line, count_in, count_of, draft_of, fault_after, group_fault, has_no_cpu, makes_frames, missing, request_fault, request_of, setup_after, setup_from}
+use Rattle.setup_text.specs.Setups.{answer, at_line, count_in, count_of, draft_of, fault_after, group_fault, has_no_cpu}
+use Rattle.setup_text.specs.Setups.{makes_frames, missing, request_fault, request_of, setup_after, setup_from}
 use Rattle.setup_text.specs.Sound.{IsCpu, IsName, IsSetup}
 use Rattle.setup_text.specs.declared.commands.Command.{Command}
 use Rattle.setup_text.specs.declared.commands.Command.TheVariants as command
@@ -42,7 +44,8 @@ receive_none command.Replay2 request h =
     (or_none (receive_fault request) _ (or_none (transmit_fault request) _ h).0).0
 
 missing_none : (a b c d e f : Bool)
-    → (if a then Some needed.BlockSize else if b then Some needed.BlockNr else if c then Some needed.FrameSize else if d then Some needed.FrameNr
+    → (if a then Some needed.BlockSize else if b then Some needed.BlockNr else if c then Some needed.FrameSize
+    else if d then Some needed.FrameNr
     else if e then Some needed.Cpu else if f then Some needed.Make else None) ≡ None
     → (e ≡ false) × (f ≡ false)
 missing_none true b c d e f h = cc
@@ -85,7 +88,8 @@ not_missing : (given : Command) (draft : Draft) → missing given draft ≡ None
     → (0 < length draft.cpus) × ((makes_frames given && is_none draft.made) ≡ false)
 unfolding missing
 not_missing given draft h =
-    let p = missing_none (is_none draft.block_size) (is_none draft.block_nr) (is_none draft.frame_size) (is_none draft.frame_nr) (has_no_cpu draft.cpus)
+    let p = missing_none (is_none draft.block_size) (is_none draft.block_nr) (is_none draft.frame_size) (is_none draft.frame_nr)
+    (has_no_cpu draft.cpus)
     (makes_frames given && is_none draft.made) h in
     (some_cpu draft.cpus p.0, p.1)
 
@@ -109,7 +113,8 @@ made_known command.Make draft p h e = some_made draft.made p.made h
 made_known command.Forward draft p h e = cc
 made_known command.Replay2 draft p h e = cc
 
-after_sound : (given : Command) (draft : Draft) (setup : Setup) → IsDraft draft → setup_after given draft ≡ Ok setup → IsAccepted given setup
+after_sound : (given : Command) (draft : Draft) (setup : Setup) → IsDraft draft → setup_after given draft ≡ Ok setup
+    → IsAccepted given setup
 unfolding setup_after
 after_sound given draft setup p h =
     let done = faultless (fault_after given draft) (setup_from draft) setup h in
@@ -141,10 +146,21 @@ line_ok : (read : Result Draft (ℕ × SetupKind)) (draft : Draft) → at_line r
 line_ok (Ok made) draft h = ap Ok (ok_same made draft h)
 line_ok (Err fault) draft h = cc
 
-pub setup_accepted : (text : List ℕ) (given : Command) (draft : Draft) (setup : Setup) → draft_of text ≡ Ok draft → setup_after given draft ≡ Ok setup
+pub setup_accepted : (text : List ℕ) (given : Command) (draft : Draft) (setup : Setup) → draft_of text ≡ Ok draft
+    → setup_after given draft ≡ Ok setup
     → IsAccepted given setup
 unfolding draft_of
 setup_accepted text given draft setup d h =
     after_sound given draft setup
-    (reads_keep line_after IsDraft line_keeps 1 nothing_said draft (lines_of text) (record { few = omega arith; cpus = All-nil IsCpu; made = tt; tov = tt; filter = tt; ticks = tt; out = tt; workers = tt })
+    (reads_keep line_after IsDraft line_keeps 1 nothing_said draft (lines_of text)
+    (record {
+      few = omega arith;
+      cpus = All-nil IsCpu;
+      made = tt;
+      tov = tt;
+      filter = tt;
+      ticks = tt;
+      out = tt;
+      workers = tt;
+    })
     (line_ok (read_lines line_after 1 nothing_said (lines_of text)) draft d)) h

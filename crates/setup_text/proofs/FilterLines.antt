@@ -4,7 +4,8 @@ use Rattle.std.specs.Prelude.{Result}
 use Rattle.bpf_filter.specs.Listings.{instructions_of}
 use Rattle.bpf_filter.specs.Programs.{program_of}
 use Rattle.bpf_filter.specs.declared.error.FilterError.{FilterError}
-use Rattle.bpf_filter.specs.declared.error.FilterError.TheVariants.{BadLine, BadCount, BadCode, BadJump, BadConstant, BadMemory, NoReturn, BadAncillary, Memory, TooLarge}
+use Rattle.bpf_filter.specs.declared.error.FilterError.TheVariants.{BadLine, BadCount, BadCode, BadJump, BadConstant, BadMemory}
+use Rattle.bpf_filter.specs.declared.error.FilterError.TheVariants.{NoReturn, BadAncillary, Memory, TooLarge}
 use Rattle.bpf_filter.specs.declared.insn.Insn.{Insn}
 use Rattle.bpf_filter.specs.Answers.{Refuses}
 use Rattle.setup_text.specs.Answers.{is_text_want}
@@ -39,7 +40,8 @@ refused_place (BadConstant at) text h = text_place (BadConstant at) (instruction
 refused_place (BadMemory at) text h = text_place (BadMemory at) (instructions_of-fault text (BadMemory at) h)
 refused_place (BadAncillary at) text h = text_place (BadAncillary at) (instructions_of-fault text (BadAncillary at) h)
 
-pub refused_program : (fault : FilterError) (program : List Insn) → Refuses fault (program_of program) → place_of fault ≤ length program
+pub refused_program : (fault : FilterError) (program : List Insn) → Refuses fault (program_of program)
+    → place_of fault ≤ length program
 refused_program Memory program h = omega arith
 refused_program (BadLine line) program h = omega arith
 refused_program BadCount program h = omega arith

@@ -1,5 +1,6 @@
 -- The setup words, searched for the first one with this spelling.
-use Rattle.std.proofs.Common.{add-one, ◌≡◌, ℕ, suc, ◌+◌, ◌<◌, ◌≤◌, true, false, cond, List, length, drop, drop-cons, get_or, refl, ap, sym, ◌∙◌, Some, None, Option}
+use Rattle.std.proofs.Common.{add-one, ◌≡◌, ℕ, suc, ◌+◌, ◌<◌, ◌≤◌, true, false, cond, List, length, drop, drop-cons, get_or}
+use Rattle.std.proofs.Common.{refl, ap, sym, ◌∙◌, Some, None, Option}
 use Rattle.std.proofs.lemmas.List.{drop_all}
 use Rattle.std.specs.Prelude.{bytes_eq}
 use Rattle.std.specs.List.{find}

@@ -4,7 +4,8 @@ use Rattle.std.proofs.Common.{◌≡◌, ℕ, Bool, true, false, List, [], ◌�
 use Rattle.std.specs.Prelude.{Result, bytes_eq, codes, is_some, nat_lt, if◌then◌else◌}
 use Rattle.std.specs.List.{find}
 use Rattle.text_lines.specs.Words.{is_passed_over, is_plain, words_of}
-use Rattle.setup_text.specs.Drafts.{cpu_after, flag_after, line_after, named_after, pair_after, put_once, queue_in, said, set_once, value_after, values_after, with_file, words_after, yes_once}
+use Rattle.setup_text.specs.Drafts.{cpu_after, flag_after, line_after, named_after, pair_after, put_once, queue_in, said}
+use Rattle.setup_text.specs.Drafts.{set_once, value_after, values_after, with_file, words_after, yes_once}
 use Rattle.setup_text.specs.Orders.{begins_with_cpu, is_cpu_line}
 use Rattle.setup_text.specs.SetupWords.{all_words, name_of, word_named}
 use Rattle.setup_text.specs.Values.{any_number, bytes_in, made_in, mode_in, name_in, number_to}
@@ -15,7 +16,9 @@ use Rattle.setup_text.specs.declared.setup_error.SetupKind.TheVariants.{BadLine,
 use Rattle.setup_text.specs.declared.setup_words.SetupWord.{SetupWord}
 use Rattle.setup_text.specs.declared.setup_words.SetupWord.TheVariants as word
 use Rattle.setup_text.proofs.PassedTests.{some_same}
-use Rattle.setup_text.proofs.Parts.{Fills, Held, Part, get, put, BlockSize, BlockNr, FrameSize, FrameNr, Tov, Priv, Features, Members, Mode, Key, Mac, Filter, Ticks, Out, Made, Workers, Rollover, Defrag, Dump, SkipBad, Cpus}
+use Rattle.setup_text.proofs.Parts.{Fills, Held, Part, get, put, BlockSize, BlockNr, FrameSize, FrameNr, Tov, Priv, Features}
+use Rattle.setup_text.proofs.Parts.{Members, Mode, Key, Mac, Filter, Ticks, Out, Made, Workers, Rollover, Defrag, Dump, SkipBad}
+use Rattle.setup_text.proofs.Parts.{Cpus}
 
 pub data Acts (cpu : Bool) (step : Draft → Result Draft SetupKind) : Type 0 where
   never : ((draft next : Draft) → step draft ≡ Ok next → ⊥) → Acts cpu step
@@ -101,31 +104,46 @@ is_cpu word = false
 
 value_acts : (word : SetupWord) (value : List ℕ) → Acts (is_cpu word) (λ draft. value_after draft word value)
 unfolding value_after is_cpu
-value_acts word.BlockSize value = changes BlockSize (λ before. put_once before (any_number value)) (λ draft. refl) (put_fills (any_number value))
-value_acts word.BlockNr value = changes BlockNr (λ before. put_once before (any_number value)) (λ draft. refl) (put_fills (any_number value))
-value_acts word.FrameSize value = changes FrameSize (λ before. put_once before (any_number value)) (λ draft. refl) (put_fills (any_number value))
-value_acts word.FrameNr value = changes FrameNr (λ before. put_once before (any_number value)) (λ draft. refl) (put_fills (any_number value))
-value_acts word.Tov value = changes Tov (λ before. put_once before (number_to 60000 value)) (λ draft. refl) (put_fills (number_to 60000 value))
-value_acts word.Priv value = changes Priv (λ before. put_once before (any_number value)) (λ draft. refl) (put_fills (any_number value))
-value_acts word.Features value = changes Features (λ before. put_once before (any_number value)) (λ draft. refl) (put_fills (any_number value))
-value_acts word.Members value = changes Members (λ before. put_once before (any_number value)) (λ draft. refl) (put_fills (any_number value))
-value_acts word.Mode value = changes Mode (λ before. put_once before (mode_in value)) (λ draft. refl) (put_fills (mode_in value))
-value_acts word.Key value = changes Key (λ before. put_once before (bytes_in 40 value)) (λ draft. refl) (put_fills (bytes_in 40 value))
-value_acts word.Mac value = changes Mac (λ before. put_once before (bytes_in 6 value)) (λ draft. refl) (put_fills (bytes_in 6 value))
-value_acts word.Filter value = changes Filter (λ before. put_once before (name_in value)) (λ draft. refl) (put_fills (name_in value))
-value_acts word.Ticks value = changes Ticks (λ before. put_once before (name_in value)) (λ draft. refl) (put_fills (name_in value))
+value_acts word.BlockSize value =
+    changes BlockSize (λ before. put_once before (any_number value)) (λ draft. refl) (put_fills (any_number value))
+value_acts word.BlockNr value =
+    changes BlockNr (λ before. put_once before (any_number value)) (λ draft. refl) (put_fills (any_number value))
+value_acts word.FrameSize value =
+    changes FrameSize (λ before. put_once before (any_number value)) (λ draft. refl) (put_fills (any_number value))
+value_acts word.FrameNr value =
+    changes FrameNr (λ before. put_once before (any_number value)) (λ draft. refl) (put_fills (any_number value))
+value_acts word.Tov value =
+    changes Tov (λ before. put_once before (number_to 60000 value)) (λ draft. refl) (put_fills (number_to 60000 value))
+value_acts word.Priv value =
+    changes Priv (λ before. put_once before (any_number value)) (λ draft. refl) (put_fills (any_number value))
+value_acts word.Features value =
+    changes Features (λ before. put_once before (any_number value)) (λ draft. refl) (put_fills (any_number value))
+value_acts word.Members value =
+    changes Members (λ before. put_once before (any_number value)) (λ draft. refl) (put_fills (any_number value))
+value_acts word.Mode value =
+    changes Mode (λ before. put_once before (mode_in value)) (λ draft. refl) (put_fills (mode_in value))
+value_acts word.Key value =
+    changes Key (λ before. put_once before (bytes_in 40 value)) (λ draft. refl) (put_fills (bytes_in 40 value))
+value_acts word.Mac value =
+    changes Mac (λ before. put_once before (bytes_in 6 value)) (λ draft. refl) (put_fills (bytes_in 6 value))
+value_acts word.Filter value =
+    changes Filter (λ before. put_once before (name_in value)) (λ draft. refl) (put_fills (name_in value))
+value_acts word.Ticks value =
+    changes Ticks (λ before. put_once before (name_in value)) (λ draft. refl) (put_fills (name_in value))
 value_acts word.Out value = changes Out (λ before. put_once before (name_in value)) (λ draft. refl) (put_fills (name_in value))
 value_acts word.Cpu value = cpu_acts value None
 value_acts word.Flag value = flag_acts false value
 value_acts word.Dump value = changes Dump (λ before. yes_once before value) (λ draft. refl) (yes_fills value)
 value_acts word.SkipBad value = changes SkipBad (λ before. yes_once before value) (λ draft. refl) (yes_fills value)
 value_acts word.Make value = never (λ draft next h. cc)
-value_acts word.Workers value = changes Workers (λ before. put_once before (number_to 8 value)) (λ draft. refl) (put_fills (number_to 8 value))
+value_acts word.Workers value =
+    changes Workers (λ before. put_once before (number_to 8 value)) (λ draft. refl) (put_fills (number_to 8 value))
 
 pair_acts : (word : SetupWord) (value second : List ℕ) → Acts (is_cpu word) (λ draft. pair_after draft word value second)
 unfolding is_cpu
 pair_acts word.Cpu file queue = cpu_acts file (Some queue)
-pair_acts word.Make seed count = changes Made (λ before. put_once before (made_in seed count)) (λ draft. refl) (put_fills (made_in seed count))
+pair_acts word.Make seed count =
+    changes Made (λ before. put_once before (made_in seed count)) (λ draft. refl) (put_fills (made_in seed count))
 pair_acts word value second = never (λ draft next h. cc)
 
 values_act : (word : SetupWord) (values : List (List ℕ)) → Acts (is_cpu word) (λ draft. values_after draft word values)
@@ -136,25 +154,31 @@ values_act word (value ∷ second ∷ []) = pair_acts word value second
 values_act word (value ∷ second ∷ third ∷ more) = never (λ draft next h. cc)
 
 -- a line that isn't a cpu line may be treated as one
-as_cpu : {step : Draft → Result Draft SetupKind} (cpu other : Bool) → (cpu ≡ true → other ≡ true) → Acts cpu step → Acts other step
+as_cpu : {step : Draft → Result Draft SetupKind} (cpu other : Bool) → (cpu ≡ true → other ≡ true) → Acts cpu step
+    → Acts other step
 as_cpu cpu other h (never n) = never n
 as_cpu cpu other h (nothing n) = nothing n
 as_cpu cpu other h (changes Cpus change is fills) = changes Cpus change is (λ before after e. h (fills before after e))
 as_cpu cpu other h (changes part change is fills) = changes part change is fills
 
-found_chosen : (next : SetupWord) (words : List SetupWord) (name : List ℕ) (word : SetupWord) (test : Bool) → bytes_eq (name_of next) name ≡ test
+found_chosen : (next : SetupWord) (words : List SetupWord) (name : List ℕ) (word : SetupWord) (test : Bool)
+    → bytes_eq (name_of next) name ≡ test
     → (find (λ word. bytes_eq (name_of word) name) words ≡ Some word → bytes_eq (name_of word) name ≡ true)
-    → (if test then Some next else find (λ word. bytes_eq (name_of word) name) words) ≡ Some word → bytes_eq (name_of word) name ≡ true
+    → (if test then Some next else find (λ word. bytes_eq (name_of word) name) words) ≡ Some word
+    → bytes_eq (name_of word) name ≡ true
 found_chosen next words name word true e later h = subst (λ word. bytes_eq (name_of word) name ≡ true) (some_same next word h) e
 found_chosen next words name word false e later h = later h
 
 -- what is found passes the test
-found_passes : (words : List SetupWord) (name : List ℕ) (word : SetupWord) → find (λ word. bytes_eq (name_of word) name) words ≡ Some word
+found_passes : (words : List SetupWord) (name : List ℕ) (word : SetupWord)
+    → find (λ word. bytes_eq (name_of word) name) words ≡ Some word
     → bytes_eq (name_of word) name ≡ true
 found_passes [] name word h = cc
-found_passes (next ∷ words) name word h = found_chosen next words name word (bytes_eq (name_of next) name) refl (found_passes words name word) h
+found_passes (next ∷ words) name word h =
+    found_chosen next words name word (bytes_eq (name_of next) name) refl (found_passes words name word) h
 
-named_cpu : (first : List ℕ) (word : SetupWord) → word_named first ≡ Some word → is_cpu word ≡ true → bytes_eq (codes "cpu") first ≡ true
+named_cpu : (first : List ℕ) (word : SetupWord) → word_named first ≡ Some word → is_cpu word ≡ true
+    → bytes_eq (codes "cpu") first ≡ true
 unfolding word_named is_cpu
 named_cpu first word.Cpu h e = found_passes all_words first word.Cpu h
 named_cpu first word h e = cc
@@ -162,13 +186,15 @@ named_cpu first word h e = cc
 named_act : (first : List ℕ) (values : List (List ℕ)) (found : Option SetupWord) → word_named first ≡ found
     → Acts (begins_with_cpu (first ∷ values)) (λ draft. named_after draft found values)
 named_act first values None h = never (λ draft next e. cc)
-named_act first values (Some word) h = as_cpu (is_cpu word) (begins_with_cpu (first ∷ values)) (named_cpu first word h) (values_act word values)
+named_act first values (Some word) h =
+    as_cpu (is_cpu word) (begins_with_cpu (first ∷ values)) (named_cpu first word h) (values_act word values)
 
 words_act : (words : List (List ℕ)) → Acts (begins_with_cpu words) (λ draft. words_after draft words)
 words_act [] = nothing (λ draft. refl)
 words_act (first ∷ values) = named_act first values (word_named first) refl
 
-plain_acts : (plain : Bool) (words : List (List ℕ)) → Acts (begins_with_cpu words) (λ draft. if plain then words_after draft words else Err BadLine)
+plain_acts : (plain : Bool) (words : List (List ℕ))
+    → Acts (begins_with_cpu words) (λ draft. if plain then words_after draft words else Err BadLine)
 plain_acts true words = words_act words
 plain_acts false words = never (λ draft next h. cc)
 

@@ -1,7 +1,9 @@
 -- Which faults a listing has, and how many instructions.
-use Rattle.std.proofs.Common.{◌≡◌, ℕ, ◌+◌, ◌≤◌, Bool, true, false, List, [], ◌∷◌, length, ap, sym, arith, Some, None, Ok, Err, Option}
+use Rattle.std.proofs.Common.{◌≡◌, ℕ, ◌+◌, ◌≤◌, Bool, true, false, List, [], ◌∷◌, length, ap, sym, arith, Some, None, Ok, Err}
+use Rattle.std.proofs.Common.{Option}
 use Rattle.std.specs.Prelude.{Result, nat_lt, if◌then◌else◌}
-use Rattle.bpf_filter.specs.Listings.{behind_count, count_of, instruction_of, instructions_from, instructions_of, is_count, program_in, with_line, without_blank_end}
+use Rattle.bpf_filter.specs.Listings.{behind_count, count_of, instruction_of, instructions_from, instructions_of, is_count}
+use Rattle.bpf_filter.specs.Listings.{program_in, with_line, without_blank_end}
 use Rattle.bpf_filter.specs.declared.error.FilterError.{FilterError}
 use Rattle.bpf_filter.specs.declared.error.FilterError.TheVariants.{BadLine, BadCount, TooLarge}
 use Rattle.bpf_filter.specs.declared.insn.Insn.{Insn}
@@ -23,11 +25,13 @@ line_fault number None more fault m h = sym (ap is_of_text (err_same {A = List I
 line_fault number (Some i) (Ok code) fault m h = cc
 line_fault number (Some i) (Err error) fault m h = m fault h
 
-lines_fault : (number : ℕ) (lines : List (List ℕ)) (fault : FilterError) → instructions_from number lines ≡ Err fault → is_of_text fault ≡ true
+lines_fault : (number : ℕ) (lines : List (List ℕ)) (fault : FilterError) → instructions_from number lines ≡ Err fault
+    → is_of_text fault ≡ true
 unfolding instructions_from
 lines_fault number [] fault h = cc
 lines_fault number (line ∷ more) fault h =
-    line_fault number (instruction_of (words_of line)) (instructions_from (number + 1) more) fault (lines_fault (number + 1) more) h
+    line_fault number (instruction_of (words_of line)) (instructions_from (number + 1) more) fault
+    (lines_fault (number + 1) more) h
 
 count_fault : (right : Bool) (code : List Insn) (fault : FilterError)
     → (if right then Ok code else Err BadCount) ≡ Err fault → is_of_text fault ≡ true
@@ -46,7 +50,8 @@ listing_fault [] fault h = sym (ap is_of_text (err_same {A = List Insn} BadCount
 listing_fault (first ∷ more) fault h =
     behind_fault (count_of (words_of first)) (instructions_from 2 more) fault (lines_fault 2 more) h
 
-text_fault : (large : Bool) (lines : List (List ℕ)) (fault : FilterError) → (if large then Err TooLarge else program_in lines) ≡ Err fault → is_of_text fault ≡ true
+text_fault : (large : Bool) (lines : List (List ℕ)) (fault : FilterError)
+    → (if large then Err TooLarge else program_in lines) ≡ Err fault → is_of_text fault ≡ true
 text_fault true lines fault h = sym (ap is_of_text (err_same {A = List Insn} TooLarge fault h))
 text_fault false lines fault h = listing_fault lines fault h
 
@@ -55,10 +60,12 @@ unfolding instructions_of
 instructions_of-fault text fault h = text_fault (nat_lt 1048576 (length text)) (without_blank_end (lines_of text)) fault h
 
 -- the instructions of a text are few
-few : (count : ℕ) (code given : List Insn) → (if is_count count (length code) then Ok code else Err BadCount) ≡ Ok given → length given ≤ 4096
+few : (count : ℕ) (code given : List Insn) → (if is_count count (length code) then Ok code else Err BadCount) ≡ Ok given
+    → length given ≤ 4096
 few count code given h = grind arith
 
-behind_few : (count : Option ℕ) (more : Result (List Insn) FilterError) (given : List Insn) → behind_count count more ≡ Ok given → length given ≤ 4096
+behind_few : (count : Option ℕ) (more : Result (List Insn) FilterError) (given : List Insn) → behind_count count more ≡ Ok given
+    → length given ≤ 4096
 behind_few None more given h = cc
 behind_few (Some count) (Err error) given h = cc
 behind_few (Some count) (Ok code) given h = few count code given h
@@ -67,7 +74,8 @@ listing_few : (lines : List (List ℕ)) (given : List Insn) → program_in lines
 listing_few [] given h = cc
 listing_few (first ∷ more) given h = behind_few (count_of (words_of first)) (instructions_from 2 more) given h
 
-text_few : (large : Bool) (lines : List (List ℕ)) (given : List Insn) → (if large then Err TooLarge else program_in lines) ≡ Ok given → length given ≤ 4096
+text_few : (large : Bool) (lines : List (List ℕ)) (given : List Insn)
+    → (if large then Err TooLarge else program_in lines) ≡ Ok given → length given ≤ 4096
 text_few true lines given h = cc
 text_few false lines given h = listing_few lines given h
 

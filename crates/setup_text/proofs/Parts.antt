@@ -132,7 +132,8 @@ Fills part cpu before after = (is_full part before ≡ false) × (is_full part a
 pub record Apart (a b : Part) : Type 0 where
   pub first : (draft : Draft) (value : Held a) → get b (put a draft value) ≡ get b draft
   pub second : (draft : Draft) (value : Held b) → get a (put b draft value) ≡ get a draft
-  pub both : (draft : Draft) (value : Held a) (other : Held b) → put b (put a draft value) other ≡ put a (put b draft other) value
+  pub both : (draft : Draft) (value : Held a) (other : Held b)
+      → put b (put a draft value) other ≡ put a (put b draft other) value
 
 from_block_size : (b : Part) → (BlockSize ≡ b) ⊎ Apart BlockSize b
 from_block_size BlockSize = inl refl

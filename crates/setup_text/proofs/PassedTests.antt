@@ -15,7 +15,8 @@ passed Q true x y fault q h = subst Q (ok_same x y h) (q refl)
 passed Q false x y fault q h = cc
 
 -- what a test doesn't stop
-pub spared : {A F : Type 0} (Q : Type 0) (test : Bool) (given : Result A F) (y : A) (fault : F) → (test ≡ false → given ≡ Ok y → Q)
+pub spared : {A F : Type 0} (Q : Type 0) (test : Bool) (given : Result A F) (y : A) (fault : F)
+    → (test ≡ false → given ≡ Ok y → Q)
     → (if test then Err fault else given) ≡ Ok y → Q
 spared Q true given y fault q h = cc
 spared Q false given y fault q h = q refl h

@@ -1,11 +1,14 @@
 -- Where the faults of a program are.
-use Rattle.std.proofs.Common.{◌≡◌, ℕ, ◌+◌, ◌≤◌, Bool, true, false, List, [], ◌∷◌, length, refl, ap, sym, subst, arith, Some, None, Ok, Err, Option}
+use Rattle.std.proofs.Common.{◌≡◌, ℕ, ◌+◌, ◌≤◌, Bool, true, false, List, [], ◌∷◌, length, refl, ap, sym, subst, arith, Some}
+use Rattle.std.proofs.Common.{None, Ok, Err, Option}
 use Rattle.std.specs.Prelude.{Result, nat_lt, if◌then◌else◌}
 use Rattle.std.specs.Option.{option_or}
 use Rattle.bpf_filter.specs.Codes.{is_code}
-use Rattle.bpf_filter.specs.Programs.{ends_with_return, fault_of, fault_of_known, first_fault, has_bad_constant, has_bad_jump, has_bad_place, has_bad_word, program_after, program_of}
+use Rattle.bpf_filter.specs.Programs.{ends_with_return, fault_of, fault_of_known, first_fault, has_bad_constant, has_bad_jump}
+use Rattle.bpf_filter.specs.Programs.{has_bad_place, has_bad_word, program_after, program_of}
 use Rattle.bpf_filter.specs.declared.error.FilterError.{FilterError}
-use Rattle.bpf_filter.specs.declared.error.FilterError.TheVariants.{BadCount, BadCode, BadJump, BadConstant, BadMemory, NoReturn, BadAncillary}
+use Rattle.bpf_filter.specs.declared.error.FilterError.TheVariants.{BadCount, BadCode, BadJump, BadConstant, BadMemory}
+use Rattle.bpf_filter.specs.declared.error.FilterError.TheVariants.{NoReturn, BadAncillary}
 use Rattle.bpf_filter.specs.declared.insn.Insn.{Insn}
 use Rattle.setup_text.specs.FilterFaults.{place_of}
 
@@ -14,7 +17,8 @@ some_same x y h = cc
 
 -- the chosen fault is that of this instruction
 known : (at : ℕ) (a b c d : Bool) (fault : FilterError)
-    → (if a then Some (BadConstant at) else if b then Some (BadMemory at) else if c then Some (BadAncillary at) else if d then Some (BadJump at) else None) ≡ Some fault
+    → (if a then Some (BadConstant at) else if b then Some (BadMemory at) else if c then Some (BadAncillary at)
+    else if d then Some (BadJump at) else None) ≡ Some fault
     → place_of fault ≡ at
 known at true b c d fault h = sym (ap (λ f. place_of f) (some_same (BadConstant at) fault h))
 known at false true c d fault h = sym (ap (λ f. place_of f) (some_same (BadMemory at) fault h))
@@ -42,7 +46,8 @@ first_place at None more size fault o m h = omega (arith, m fault h)
 first_place at (Some one) more size fault o m h =
     subst (λ fault. place_of fault ≤ at + (1 + size)) (some_same one fault h) (omega (arith, o one refl))
 
-first_fault-place : (at : ℕ) (program : List Insn) (fault : FilterError) → first_fault at program ≡ Some fault → place_of fault ≤ at + length program
+first_fault-place : (at : ℕ) (program : List Insn) (fault : FilterError) → first_fault at program ≡ Some fault
+    → place_of fault ≤ at + length program
 first_fault-place at [] fault h = cc
 first_fault-place at (i ∷ rest) fault h =
     omega (
@@ -57,12 +62,14 @@ err_same x y h = cc
 no_return : (ends : Bool) (program : List Insn) (fault : FilterError) (n : ℕ)
     → ◌≡◌ {A = Result (List Insn) FilterError} (if ends then Ok program else Err NoReturn) (Err fault) → place_of fault ≤ n
 no_return true program fault n h = cc
-no_return false program fault n h = subst (λ fault. place_of fault ≤ n) (err_same {A = List Insn} NoReturn fault h) (omega arith)
+no_return false program fault n h =
+    subst (λ fault. place_of fault ≤ n) (err_same {A = List Insn} NoReturn fault h) (omega arith)
 
 after_place : (first : Option FilterError) (program : List Insn) (fault : FilterError) (n : ℕ)
     → ((fault : FilterError) → first ≡ Some fault → place_of fault ≤ n)
     → program_after first program ≡ Err fault → place_of fault ≤ n
-after_place (Some first) program fault n o h = subst (λ fault. place_of fault ≤ n) (err_same {A = List Insn} first fault h) (o first refl)
+after_place (Some first) program fault n o h =
+    subst (λ fault. place_of fault ≤ n) (err_same {A = List Insn} first fault h) (o first refl)
 after_place None program fault n o h = no_return (ends_with_return program) program fault n h
 
 sized : (large : Bool) (given : Result (List Insn) FilterError) (fault : FilterError) (n : ℕ)
@@ -71,8 +78,10 @@ sized : (large : Bool) (given : Result (List Insn) FilterError) (fault : FilterE
 sized true given fault n g h = subst (λ fault. place_of fault ≤ n) (err_same {A = List Insn} BadCount fault h) (omega arith)
 sized false given fault n g h = g h
 
-pub program_of-place : (program : List Insn) (fault : FilterError) → program_of program ≡ Err fault → place_of fault ≤ length program
+pub program_of-place : (program : List Insn) (fault : FilterError) → program_of program ≡ Err fault
+    → place_of fault ≤ length program
 unfolding program_of
 program_of-place program fault h =
     sized (nat_lt 4096 (length program)) (program_after (first_fault 0 program) program) fault (length program)
-    (after_place (first_fault 0 program) program fault (length program) (λ fault h. omega (arith, first_fault-place 0 program fault h))) h
+    (after_place (first_fault 0 program) program fault (length program)
+    (λ fault h. omega (arith, first_fault-place 0 program fault h))) h

@@ -1,5 +1,6 @@
 -- Why moments that are accepted are sound.
-use Rattle.std.proofs.Common.{◌≡◌, ℕ, ◌-◌, ◌≤◌, Bool, true, false, List, [], ◌∷◌, ◌++◌, length, refl, ap, ◌∙◌, arith, Some, None, Option, Ok, Err}
+use Rattle.std.proofs.Common.{◌≡◌, ℕ, ◌-◌, ◌≤◌, Bool, true, false, List, [], ◌∷◌, ◌++◌, length, refl, ap, ◌∙◌, arith, Some}
+use Rattle.std.proofs.Common.{None, Option, Ok, Err}
 use Rattle.std.specs.Prelude.{nat_lt, slice_get, if◌then◌else◌}
 use Rattle.std.specs.Option.{unwrap_or}
 use Rattle.std.proofs.lemmas.Bool.{ltb-false}
@@ -16,7 +17,8 @@ abbrev pub last_from : ℕ → List ℕ → ℕ
 last_from before [] = before
 last_from before (moment ∷ moments) = last_from moment moments
 
-last_got : (moment : ℕ) (moments : List ℕ) → unwrap_or (slice_get (moment ∷ moments) (length moments)) 0 ≡ last_from moment moments
+last_got : (moment : ℕ) (moments : List ℕ) → unwrap_or (slice_get (moment ∷ moments) (length moments)) 0
+    ≡ last_from moment moments
 last_got moment [] = refl
 last_got moment (next ∷ moments) = last_got next moments
 
@@ -26,7 +28,8 @@ latest_is (moment ∷ moments) =
     let same : length (moment ∷ moments) - 1 ≡ length moments = omega arith in
     ap (λ place. unwrap_or (slice_get (moment ∷ moments) place) 0) same ∙ last_got moment moments
 
-rising_more : (before : ℕ) (moments : List ℕ) (moment : ℕ) → AreRising before moments → last_from before moments ≤ moment → moment ≤ 4294967295 → AreRising before (moments ++ moment ∷ [])
+rising_more : (before : ℕ) (moments : List ℕ) (moment : ℕ) → AreRising before moments → last_from before moments ≤ moment
+    → moment ≤ 4294967295 → AreRising before (moments ++ moment ∷ [])
 rising_more before [] moment r l s = (l, s, tt)
 rising_more before (next ∷ moments) moment r l s = (r.0, r.1, rising_more next moments moment r.2 l s)
 
@@ -35,9 +38,13 @@ moment_from_sound : (before : ℕ) (given : Option ℕ) (moment : ℕ) → ((num
 moment_from_sound before None moment s h = cc
 moment_from_sound before (Some number) moment s h =
     spared ((before ≤ moment) × (moment ≤ 4294967295)) (nat_lt number before) (Ok number) moment _
-    (λ t e. (omega (arith, ltb-false number before t, ok_same number moment e), omega (arith, s number refl, ok_same number moment e))) h
+    (λ t e. (
+      omega (arith, ltb-false number before t, ok_same number moment e),
+      omega (arith, s number refl, ok_same number moment e),
+    )) h
 
-moment_of_sound : (before : ℕ) (word : Option (List ℕ)) (moment : ℕ) → moment_of before word ≡ Ok moment → (before ≤ moment) × (moment ≤ 4294967295)
+moment_of_sound : (before : ℕ) (word : Option (List ℕ)) (moment : ℕ) → moment_of before word ≡ Ok moment
+    → (before ≤ moment) × (moment ≤ 4294967295)
 moment_of_sound before None moment h = cc
 moment_of_sound before (Some word) moment h = moment_from_sound before (number_of word) moment (number_of-small word) h
 
@@ -46,7 +53,8 @@ plain_sound : (before : ℕ) (is : Bool) (words : List (List ℕ)) (moment : ℕ
 plain_sound before true words moment fault h = moment_of_sound before (only_of words) moment h
 plain_sound before false words moment fault h = cc
 
-moment_in_sound : (before : ℕ) (line : List ℕ) (moment : ℕ) → moment_in before line ≡ Ok moment → (before ≤ moment) × (moment ≤ 4294967295)
+moment_in_sound : (before : ℕ) (line : List ℕ) (moment : ℕ) → moment_in before line ≡ Ok moment
+    → (before ≤ moment) × (moment ≤ 4294967295)
 unfolding moment_in
 moment_in_sound before line moment h = plain_sound before (is_plain line) (words_of line) moment _ h
 

@@ -18,7 +18,8 @@ pub record Alike (slots : SlotState) (blocks : State) : Type 0 where
   pub kept : slots.kept ≡ blocks.kept
   pub dropped : slots.dropped ≡ blocks.dropped
 
-alike_stats : (slots : SlotState) (blocks : State) → Alike slots blocks → slot_stats_of slots ≡ without_freezes (stats_of blocks)
+alike_stats : (slots : SlotState) (blocks : State) → Alike slots blocks
+    → slot_stats_of slots ≡ without_freezes (stats_of blocks)
 alike_stats slots blocks h = rw (h.kept, h.dropped) refl
 
 alike_kept : (size : Size) (slots : SlotState) (blocks : State) (offer : Offer) (found : Found) → Alike slots blocks
@@ -56,7 +57,8 @@ alike_tick size slots blocks ms found h =
 alike_count : (size : Size) (slots : SlotState) (blocks : State) → Alike (slot_after slots Counted) (after size blocks Counted)
 alike_count size slots blocks = record { kept = refl; dropped = refl }
 
-alike_finish : (size : Size) (slots : SlotState) (blocks : State) → Alike slots blocks → Alike slots (after size blocks Finished)
+alike_finish : (size : Size) (slots : SlotState) (blocks : State) → Alike slots blocks
+    → Alike slots (after size blocks Finished)
 alike_finish size slots blocks h = record { kept = h.kept; dropped = h.dropped }
 
 -- with one more entry of statistics
@@ -67,26 +69,39 @@ and_stats one other more others e es = λ i. e i ∷ es i
 pub counts_alike : (size : Size) (notes : List Note) (slots : SlotState) (blocks : State) → Alike slots blocks
     → slot_counts_from slots notes ≡ map without_freezes (counts_from size blocks notes)
 counts_alike size [] slots blocks h = refl
-counts_alike size (Kept offer found ∷ notes) slots blocks h = counts_alike size notes (slot_after slots (Kept offer found)) (after size blocks (Kept offer found)) (alike_kept size slots blocks offer found h)
+counts_alike size (Kept offer found ∷ notes) slots blocks h =
+    counts_alike size notes (slot_after slots (Kept offer found)) (after size blocks (Kept offer found))
+    (alike_kept size slots blocks offer found h)
 counts_alike size (Refused cpu index need number ∷ notes) slots blocks h = counts_alike size notes slots blocks h
-counts_alike size (Dropped cpu index need number ∷ notes) slots blocks h = counts_alike size notes (record slots { dropped = slots.dropped + 1 }) (after_drop blocks blocks.now) (alike_drop slots blocks blocks.now h)
-counts_alike size (Ticked ms found ∷ notes) slots blocks h = counts_alike size notes slots (after size blocks (Ticked ms found)) (alike_tick size slots blocks ms found h)
+counts_alike size (Dropped cpu index need number ∷ notes) slots blocks h =
+    counts_alike size notes (record slots { dropped = slots.dropped + 1 }) (after_drop blocks blocks.now)
+    (alike_drop slots blocks blocks.now h)
+counts_alike size (Ticked ms found ∷ notes) slots blocks h =
+    counts_alike size notes slots (after size blocks (Ticked ms found)) (alike_tick size slots blocks ms found h)
 counts_alike size (Counted ∷ notes) slots blocks h =
     and_stats (slot_stats_of slots) (stats_of blocks) _ _ (alike_stats slots blocks h)
     (counts_alike size notes (slot_after slots Counted) (after size blocks Counted) (alike_count size slots blocks))
-counts_alike size (Finished ∷ notes) slots blocks h = counts_alike size notes slots (after size blocks Finished) (alike_finish size slots blocks h)
+counts_alike size (Finished ∷ notes) slots blocks h =
+    counts_alike size notes slots (after size blocks Finished) (alike_finish size slots blocks h)
 
 pub stretches_alike : (size : Size) (notes : List Note) (slots : SlotState) (blocks : State) → Alike slots blocks
     → slot_stretches_from slots notes ≡ map without_freezes (stretches_from size blocks notes)
-stretches_alike size [] slots blocks h = and_stats (slot_stats_of slots) (stats_of blocks) [] [] (alike_stats slots blocks h) refl
-stretches_alike size (Kept offer found ∷ notes) slots blocks h = stretches_alike size notes (slot_after slots (Kept offer found)) (after size blocks (Kept offer found)) (alike_kept size slots blocks offer found h)
+stretches_alike size [] slots blocks h =
+    and_stats (slot_stats_of slots) (stats_of blocks) [] [] (alike_stats slots blocks h) refl
+stretches_alike size (Kept offer found ∷ notes) slots blocks h =
+    stretches_alike size notes (slot_after slots (Kept offer found)) (after size blocks (Kept offer found))
+    (alike_kept size slots blocks offer found h)
 stretches_alike size (Refused cpu index need number ∷ notes) slots blocks h = stretches_alike size notes slots blocks h
-stretches_alike size (Dropped cpu index need number ∷ notes) slots blocks h = stretches_alike size notes (record slots { dropped = slots.dropped + 1 }) (after_drop blocks blocks.now) (alike_drop slots blocks blocks.now h)
-stretches_alike size (Ticked ms found ∷ notes) slots blocks h = stretches_alike size notes slots (after size blocks (Ticked ms found)) (alike_tick size slots blocks ms found h)
+stretches_alike size (Dropped cpu index need number ∷ notes) slots blocks h =
+    stretches_alike size notes (record slots { dropped = slots.dropped + 1 }) (after_drop blocks blocks.now)
+    (alike_drop slots blocks blocks.now h)
+stretches_alike size (Ticked ms found ∷ notes) slots blocks h =
+    stretches_alike size notes slots (after size blocks (Ticked ms found)) (alike_tick size slots blocks ms found h)
 stretches_alike size (Counted ∷ notes) slots blocks h =
     and_stats (slot_stats_of slots) (stats_of blocks) _ _ (alike_stats slots blocks h)
     (stretches_alike size notes (slot_after slots Counted) (after size blocks Counted) (alike_count size slots blocks))
-stretches_alike size (Finished ∷ notes) slots blocks h = stretches_alike size notes slots (after size blocks Finished) (alike_finish size slots blocks h)
+stretches_alike size (Finished ∷ notes) slots blocks h =
+    stretches_alike size notes slots (after size blocks Finished) (alike_finish size slots blocks h)
 
 -- the sums of statistics without freezes
 record SumsAlike (all : List Stats) : Type 0 where
@@ -100,8 +115,19 @@ sums (stats ∷ all) =
     let rest = sums all in
     let less = without_freezes stats in
     record {
-      packets = omega (arith, rest.packets, sum_by-cons (λ (s : Stats). s.packets) less (map without_freezes all), sum_by-cons (λ (s : Stats). s.packets) stats all);
-      drops = omega (arith, rest.drops, sum_by-cons (λ (s : Stats). s.drops) less (map without_freezes all), sum_by-cons (λ (s : Stats). s.drops) stats all);
+      packets =
+          omega (
+            arith,
+            rest.packets,
+            sum_by-cons (λ (s : Stats). s.packets) less (map without_freezes all),
+            sum_by-cons (λ (s : Stats). s.packets) stats all,
+          );
+      drops = omega (
+        arith,
+        rest.drops,
+        sum_by-cons (λ (s : Stats). s.drops) less (map without_freezes all),
+        sum_by-cons (λ (s : Stats). s.drops) stats all,
+      );
       none = omega (arith, rest.none, sum_by-cons (λ (s : Stats). s.freezes) less (map without_freezes all));
     }
 

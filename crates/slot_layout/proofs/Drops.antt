@@ -20,7 +20,8 @@ all_slots_grow state (note ∷ notes) = omega (arith, slots_grow state note, all
 pub none_dropped : (slots : ℕ) (state : SlotState) (notes : List Note) → IsSlotRun slots state notes
     → length (slot_after_all state notes).done < slots → drops_of notes ≡ []
 none_dropped slots state [] run few = refl
-none_dropped slots state (Kept offer found ∷ notes) run few = none_dropped slots (slot_after state (Kept offer found)) notes run.2 few
+none_dropped slots state (Kept offer found ∷ notes) run few =
+    none_dropped slots (slot_after state (Kept offer found)) notes run.2 few
 none_dropped slots state (Refused cpu index need number ∷ notes) run few = none_dropped slots state notes run.2 few
 none_dropped slots state (Dropped cpu index need number ∷ notes) run few =
     absurd (omega (arith, run.0.0, run.0.1, all_slots_grow (slot_after state (Dropped cpu index need number)) notes))

@@ -11,11 +11,13 @@ use Rattle.slot_layout.specs.SlotSteps.{SlotState, slot_after, slot_after_all, s
 abbrev pub offers_in : List (Offer × ℕ) → List Offer
 offers_in done = map (λ slot. slot.0) done
 
-offers_push : (done : List (Offer × ℕ)) (offer : Offer) (status : ℕ) → offers_in (done ++ (offer, status) ∷ []) ≡ offers_in done ++ offer ∷ []
+offers_push : (done : List (Offer × ℕ)) (offer : Offer) (status : ℕ)
+    → offers_in (done ++ (offer, status) ∷ []) ≡ offers_in done ++ offer ∷ []
 offers_push [] offer status = refl
 offers_push (slot ∷ done) offer status = ap (λ (offers : List Offer). slot.0 ∷ offers) (offers_push done offer status)
 
-pub kept_from : (s : SlotState) (notes : List Note) → offers_in (slot_after_all s notes).done ≡ offers_in s.done ++ kept_of notes
+pub kept_from : (s : SlotState) (notes : List Note)
+    → offers_in (slot_after_all s notes).done ≡ offers_in s.done ++ kept_of notes
 kept_from s [] = sym (append-nil (offers_in s.done))
 kept_from s (Kept offer found ∷ notes) =
     kept_from (slot_after s (Kept offer found)) notes

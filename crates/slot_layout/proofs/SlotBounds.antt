@@ -12,7 +12,8 @@ use Rattle.tp_layout.specs.declared.requests.RingRequest.{RingRequest}
 use Rattle.slot_layout.specs.SlotShapes.{IsSlotShape, SlotBounds}
 
 -- this test passed, and so did those after it
-passed : (test : Bool) (fault : RequestError) (rest : Option RequestError) → cond test (Some fault) rest ≡ None → (test ≡ false) × (rest ≡ None)
+passed : (test : Bool) (fault : RequestError) (rest : Option RequestError) → cond test (Some fault) rest ≡ None
+    → (test ≡ false) × (rest ≡ None)
 passed true fault rest e = absurd (none-some fault (sym e))
 passed false fault rest e = (λ i. false, e)
 
@@ -35,7 +36,8 @@ slot_bounds shape e =
     let f = passed (not (slot % 16 == 0)) _ _ d.1 in
     let g = passed ((size / slot == 0) || not (frames_in shape == shape.frame_nr)) _ _ f.1 in
     let large = ltb-false 1048576 size (or_parts ((size == 0) || not (size % 4096 == 0)) (nat_lt 1048576 size) a.0).1 in
-    let blocks = or_parts (nat_lt shape.block_nr 2 || nat_lt 256 shape.block_nr) (nat_lt 67108864 (size * shape.block_nr)) b.0 in
+    let blocks = or_parts (nat_lt shape.block_nr 2 || nat_lt 256 shape.block_nr)
+    (nat_lt 67108864 (size * shape.block_nr)) b.0 in
     let two = ltb-false shape.block_nr 2 (or_parts (nat_lt shape.block_nr 2) (nat_lt 256 shape.block_nr) blocks.0).0 in
     let frames = or_parts (size / slot == 0) (not (frames_in shape == shape.frame_nr)) g.0 in
     let each = in_a_block size slot frames.0 in
@@ -67,6 +69,7 @@ slot_bounds shape e =
 pub came_from_check : (request shape : RingRequest) → Ok shape ≡ answer_of request (slot_fault request) → IsSlotShape shape
 came_from_check request shape e = by_fault (slot_fault request) refl e
   where
-    by_fault : (fault : Option RequestError) → slot_fault request ≡ fault → Ok shape ≡ answer_of request fault → IsSlotShape shape
+    by_fault : (fault : Option RequestError) → slot_fault request ≡ fault → Ok shape ≡ answer_of request fault
+        → IsSlotShape shape
     by_fault None none e = let same : shape ≡ request = cc in rw same none
     by_fault (Some fault) some e = cc

@@ -77,7 +77,8 @@ may_tpid (Some tag) h = h
 
 -- the tag comes back from the fields
 pub tag_back : (tag : Option Tag) (status : ℕ) (bytes : List ℕ) → slot_status_may tag status ≡ true
-    → number_at 4 0 bytes ≡ status → number_at 2 24 bytes ≡ tci_of tag → number_at 2 26 bytes ≡ tpid_of tag → slot_tag_at bytes ≡ tag
+    → number_at 4 0 bytes ≡ status → number_at 2 24 bytes ≡ tci_of tag → number_at 2 26 bytes ≡ tpid_of tag
+    → slot_tag_at bytes ≡ tag
 tag_back None status bytes may is tci tpid =
     elim (or_cases (status == 1) (status == 5) may) [
       | inl e ↦ rw (is, eqb-true status 1 e) refl
@@ -91,7 +92,8 @@ tag_back (Some tag) status bytes may is tci tpid =
 
 -- ---- the tables
 
-header_fit : (shape : RingRequest) (status : ℕ) (packet : Packet) → IsLawfulSlot shape status packet → AllFit (slot_header_rows status packet)
+header_fit : (shape : RingRequest) (status : ℕ) (packet : Packet) → IsLawfulSlot shape status packet
+    → AllFit (slot_header_rows status packet)
 header_fit shape status packet lawful =
     let sound = lawful.sound in
     let typed = sound.typed in
@@ -158,7 +160,8 @@ numbers shape status packet bytes rest lawful e =
     let after = packet.bytes ++ rest in
     let whole : bytes ≡ bytes_of header ++ (bytes_of (zeros 28 4) ++ (bytes_of address ++ (bytes_of (zeros 50 16) ++ after))) =
     e ∙ simp append_assoc refl in
-    let b : drop 28 bytes ≡ bytes_of (zeros 28 4) ++ (bytes_of address ++ (bytes_of (zeros 50 16) ++ after)) = behind 0 header bytes _ whole in
+    let b : drop 28 bytes ≡ bytes_of (zeros 28 4) ++ (bytes_of address ++ (bytes_of (zeros 50 16) ++ after)) =
+    behind 0 header bytes _ whole in
     let c : drop 32 bytes ≡ bytes_of address ++ (bytes_of (zeros 50 16) ++ after) = behind 28 (zeros 28 4) bytes _ b in
     let d : drop 50 bytes ≡ bytes_of (zeros 50 16) ++ after = behind 32 address bytes _ c in
     record {

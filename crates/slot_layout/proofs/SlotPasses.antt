@@ -52,17 +52,20 @@ slot_passes shape status packet bytes rest lawful e =
     let b4 : slice_index bytes 48 ≡ slice_index packet.addr 4 = sym (number_one 48 bytes) ∙ a.1.1.1.1.1.1.1.1.1.1.1.0 in
     let b5 : slice_index bytes 49 ≡ slice_index packet.addr 5 = sym (number_one 49 bytes) ∙ a.1.1.1.1.1.1.1.1.1.1.1.1.0 in
     let addr : address_of 44 bytes ≡ packet.addr = rw (b0, b1, b2, b3, b4, b5) (sym (six_bytes packet.addr sound.typed.six)) in
-    let kept : take (number_at 4 8 bytes) (drop 66 bytes) ≡ packet.bytes = rw (snap, n.left) (take_at packet.bytes rest (length packet.bytes) refl) in
+    let kept : take (number_at 4 8 bytes) (drop 66 bytes) ≡ packet.bytes =
+    rw (snap, n.left) (take_at packet.bytes rest (length packet.bytes) refl) in
     let fits = lawful.fits in
     let may : slot_snap_may shape bytes ≡ true =
-    and_from _ _ (and_from _ _ (le-leb 1 (number_at 4 8 bytes) (rw snap sound.some)) (le-leb (number_at 4 8 bytes) (number_at 4 4 bytes) (rw (snap, wire) sound.captured)))
+    and_from _ _ (and_from _ _ (le-leb 1 (number_at 4 8 bytes) (rw snap sound.some))
+    (le-leb (number_at 4 8 bytes) (number_at 4 4 bytes) (rw (snap, wire) sound.captured)))
     (le-leb (number_at 4 8 bytes) (shape.frame_size - 66) (rw snap (omega arith))) in
     let head : slot_head_fault shape bytes ≡ None =
     pass (is_slot_status (number_at 4 0 bytes)) _ _ _ (ap is_slot_status h.0 ∙ filled_status packet.tag status lawful.filled)
     (pass (slot_snap_may shape bytes) _ _ _ may
     (pass (number_at 2 12 bytes == 66) _ _ _ (eq-eqb _ _ h.1.1.1.0)
     (pass (number_at 2 14 bytes == 80) _ _ _ (eq-eqb _ _ h.1.1.1.1.0)
-    (pass (nat_le (number_at 4 20 bytes) 999999999) _ _ _ (le-leb (number_at 4 20 bytes) 999999999 (rw nsec sound.nsec)) refl)))) in
+    (pass (nat_le (number_at 4 20 bytes) 999999999) _ _ _
+    (le-leb (number_at 4 20 bytes) 999999999 (rw nsec sound.nsec)) refl)))) in
     let vlan : slot_vlan_fault bytes ≡ None =
     pass (number_at 2 24 bytes == tci_of (slot_tag_at bytes)) _ _ _ (eq-eqb _ _ (tci ∙ ap tci_of (sym tag)))
     (pass ((number_at 2 26 bytes == tpid_of (slot_tag_at bytes)) && tpid_may (slot_tag_at bytes)) _ _ _
@@ -81,7 +84,8 @@ slot_passes shape status packet bytes rest lawful e =
     }
 
 -- a slot that begins with a lawful text
-pub begins_passing : (shape : RingRequest) (status : ℕ) (packet : Packet) (bytes : List ℕ) → SlotBegins shape status packet bytes
+pub begins_passing : (shape : RingRequest) (status : ℕ) (packet : Packet) (bytes : List ℕ)
+    → SlotBegins shape status packet bytes
     → SlotPasses shape status packet bytes
 begins_passing shape status packet bytes is =
     let text = slot_text status packet in
@@ -92,12 +96,14 @@ begins_passing shape status packet bytes is =
 text_passes : (shape : RingRequest) (said : SlotSaid) → IsLawfulSlot shape said.status said.packet
     → SlotPasses shape said.status said.packet (slot_text said.status said.packet)
 text_passes shape said lawful =
-    slot_passes shape said.status said.packet (slot_text said.status said.packet) [] lawful (sym (append-nil (slot_text said.status said.packet)))
+    slot_passes shape said.status said.packet (slot_text said.status said.packet) [] lawful
+    (sym (append-nil (slot_text said.status said.packet)))
 
 pub one_slot_text : (shape : RingRequest) (first second : SlotSaid) → HaveOneSlotText shape first second → first ≡ second
 one_slot_text shape first second h =
     let a = text_passes shape first h.lawful in
-    let b = subst (λ (text : List ℕ). SlotPasses shape second.status second.packet text) (sym h.same) (text_passes shape second h.other) in
+    let b = subst (λ (text : List ℕ). SlotPasses shape second.status second.packet text) (sym h.same)
+    (text_passes shape second h.other) in
     let status : first.status ≡ second.status = sym a.status_is ∙ b.status_is in
     let packet : first.packet ≡ second.packet = sym a.packet_is ∙ b.packet_is in
     λ i. record { status = status i; packet = packet i }
@@ -105,7 +111,8 @@ one_slot_text shape first second h =
 -- a slot that is refused begins with no lawful text
 pub refused : (shape : RingRequest) (bytes : List ℕ) (fault : LayoutError) → Some fault ≡ slot_text_fault shape bytes
     → (status : ℕ) (packet : Packet) → SlotBegins shape status packet bytes → ⊥
-refused shape bytes fault e status packet begins = none-some fault (sym (e ∙ (begins_passing shape status packet bytes begins).tests))
+refused shape bytes fault e status packet begins =
+    none-some fault (sym (e ∙ (begins_passing shape status packet bytes begins).tests))
 
 pub refused_lawful : (shape : RingRequest) (bytes : List ℕ) (fault : LayoutError) → Some fault ≡ slot_text_fault shape bytes
     → (status : ℕ) → SlotBeginsLawfully shape status bytes → ⊥

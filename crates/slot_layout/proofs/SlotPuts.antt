@@ -31,19 +31,23 @@ slot_put status packet old one two three four five fits e1 e2 e3 e4 e5 =
     let gap : List ℕ = replicate 16 0 in
     let h1 : length header ≡ 28 = length-bytes_of (slot_header_rows status packet) in
     let h2 : length (header ++ padding) ≡ 32 = omega (arith, h1, length-append header padding) in
-    let h3 : length ((header ++ padding) ++ address) ≡ 50 = omega (arith, h2, length-address packet, length-append (header ++ padding) address) in
-    let h4 : length (((header ++ padding) ++ address) ++ gap) ≡ 66 = omega (arith, h3, length-append ((header ++ padding) ++ address) gap) in
+    let h3 : length ((header ++ padding) ++ address) ≡ 50 =
+    omega (arith, h2, length-address packet, length-append (header ++ padding) address) in
+    let h4 : length (((header ++ padding) ++ address) ++ gap) ≡ 66 =
+    omega (arith, h3, length-append ((header ++ padding) ++ address) gap) in
     let p0 = nothing 0 old (omega arith) in
     let p1 = piece p0 0 header (omega arith) (omega (arith, h1)) e1 in
     let p2 = piece p1 28 padding (omega (arith, h1)) (omega (arith, h1)) e2 in
     let p3 = piece p2 32 address (omega (arith, h2)) (omega (arith, h2, length-address packet)) e3 in
     let p4 = piece p3 50 gap (omega (arith, h3)) (omega (arith, h3)) e4 in
     let p5 = piece p4 66 packet.bytes (omega (arith, h4)) (omega (arith, h4)) e5 in
-    all p5 (bytes_of (slot_header_rows status packet) ++ (bytes_of (zeros 28 4) ++ (bytes_of (address_rows packet) ++ (bytes_of (zeros 50 16) ++ packet.bytes))))
+    all p5 (bytes_of (slot_header_rows status packet)
+    ++ (bytes_of (zeros 28 4) ++ (bytes_of (address_rows packet) ++ (bytes_of (zeros 50 16) ++ packet.bytes))))
     (rw (bytes_of-zeros 28 4, bytes_of-zeros 50 16) (regroup header padding address gap packet.bytes))
 
 -- a slot that was written begins with the text
-pub slot_written : (shape : RingRequest) (status : ℕ) (offer : Offer) (old : List ℕ) → IsWritable offer → 66 + offer.snap ≤ shape.frame_size
+pub slot_written : (shape : RingRequest) (status : ℕ) (offer : Offer) (old : List ℕ) → IsWritable offer
+    → 66 + offer.snap ≤ shape.frame_size
     → IsTyped (slot_packet_of offer) → IsTrue (slot_status_may offer.frame.tag status)
     → SlotBegins shape status (slot_packet_of offer) (put 0 (slot_text status (slot_packet_of offer)) old)
 slot_written shape status offer old sound fits typed may =
@@ -51,7 +55,14 @@ slot_written shape status offer old sound fits typed may =
     let text = slot_text status (slot_packet_of offer) in
     record {
       lawful = record {
-        sound = record { some = rw kept sound.some; captured = rw kept sound.wire; nsec = sound.nsec; pkttype = sound.pkttype; tag = sound.tag; typed = typed };
+        sound = record {
+          some = rw kept sound.some;
+          captured = rw kept sound.wire;
+          nsec = sound.nsec;
+          pkttype = sound.pkttype;
+          tag = sound.tag;
+          typed = typed;
+        };
         no_hash = refl;
         filled = may;
         fits = rw kept fits;

@@ -1,5 +1,6 @@
 -- A slot that passed the tests begins with the text of its packet.
-use Rattle.std.proofs.Common.{◌≡◌, ℕ, zero, suc, ◌+◌, ◌-◌, ◌/◌, ◌%◌, ◌^◌, ◌≤◌, ◌<◌, true, List, ◌++◌, length, take, drop, refl, sym, ap, ◌∙◌, inl, inr, arith}
+use Rattle.std.proofs.Common.{◌≡◌, ℕ, zero, suc, ◌+◌, ◌-◌, ◌/◌, ◌%◌, ◌^◌, ◌≤◌, ◌<◌, true, List, ◌++◌, length, take, drop, refl}
+use Rattle.std.proofs.Common.{sym, ap, ◌∙◌, inl, inr, arith}
 use Rattle.std.specs.Prelude.{◌==◌, ◌&&◌, ◌||◌, nat_le, IfSome, IsTrue, Option, None, Some}
 use Rattle.std.proofs.Math.Seq.{take-add}
 use Rattle.std.proofs.lemmas.Bool.{and_parts, cases_Bool, eqb-true, leb-true, or_cases}
@@ -15,7 +16,8 @@ use Rattle.tp_layout.proofs.Bytes.{IsBytes, all_bytes, network_two, number_fits,
 use Rattle.tp_layout.proofs.Tables.{AllRead, bytes_read, zeros_read}
 use Rattle.tp_layout.proofs.Walks.{or_none, unless_none}
 use Rattle.slot_layout.specs.SlotFaults.{is_slot_status, slot_head_fault, slot_snap_may, slot_text_fault, slot_vlan_fault}
-use Rattle.slot_layout.specs.SlotTexts.{HasSlotText, IsLawfulSlot, slot_header_rows, slot_packet_at, slot_status_may, slot_tag_at, slot_text}
+use Rattle.slot_layout.specs.SlotTexts.{HasSlotText, IsLawfulSlot, slot_header_rows, slot_packet_at, slot_status_may}
+use Rattle.slot_layout.specs.SlotTexts.{slot_tag_at, slot_text}
 use Rattle.slot_layout.proofs.SlotNumbers.{length-slot_text}
 
 -- ---- what the tests say
@@ -37,7 +39,8 @@ head shape bytes e =
     let c = unless_none (number_at 2 12 bytes == 66) _ _ _ b.1 in
     let d = unless_none (number_at 2 14 bytes == 80) _ _ _ c.1 in
     let f = unless_none (nat_le (number_at 4 20 bytes) 999999999) _ _ _ d.1 in
-    let outer = and_parts (nat_le 1 (number_at 4 8 bytes) && nat_le (number_at 4 8 bytes) (number_at 4 4 bytes)) (nat_le (number_at 4 8 bytes) (shape.frame_size - 66)) b.0 in
+    let outer = and_parts (nat_le 1 (number_at 4 8 bytes) && nat_le (number_at 4 8 bytes) (number_at 4 4 bytes))
+    (nat_le (number_at 4 8 bytes) (shape.frame_size - 66)) b.0 in
     let inner = and_parts (nat_le 1 (number_at 4 8 bytes)) (nat_le (number_at 4 8 bytes) (number_at 4 4 bytes)) outer.0 in
     record {
       status = a.0;
@@ -77,7 +80,13 @@ address bytes e =
     let c = unless_none (number_at 2 40 bytes == 1) _ _ _ b.1 in
     let d = unless_none (nat_le (number_at 1 42 bytes) 3) _ _ _ c.1 in
     let f = unless_none (number_at 1 43 bytes == 6) _ _ _ d.1 in
-    record { family = eqb-true _ _ a.0; ifindex = eqb-true _ _ b.0; hatype = eqb-true _ _ c.0; pkttype = leb-true _ _ d.0; halen = eqb-true _ _ f.0 }
+    record {
+      family = eqb-true _ _ a.0;
+      ifindex = eqb-true _ _ b.0;
+      hatype = eqb-true _ _ c.0;
+      pkttype = leb-true _ _ d.0;
+      halen = eqb-true _ _ f.0;
+    }
 
 -- ---- the status and the tag
 
@@ -93,9 +102,11 @@ tag_typed bytes h =
     ]
 
 -- a status with which a slot was filled says whether there is a tag
-status_may : (bytes : List ℕ) → is_slot_status (number_at 4 0 bytes) ≡ true → slot_status_may (slot_tag_at bytes) (number_at 4 0 bytes) ≡ true
+status_may : (bytes : List ℕ) → is_slot_status (number_at 4 0 bytes) ≡ true
+    → slot_status_may (slot_tag_at bytes) (number_at 4 0 bytes) ≡ true
 status_may bytes e =
-    elim (or_cases ((number_at 4 0 bytes == 1) || (number_at 4 0 bytes == 5) || (number_at 4 0 bytes == 81)) (number_at 4 0 bytes == 85) e) [
+    elim (or_cases ((number_at 4 0 bytes == 1) || (number_at 4 0 bytes == 5) || (number_at 4 0 bytes == 81))
+    (number_at 4 0 bytes == 85) e) [
       | inl low ↦ elim (or_cases ((number_at 4 0 bytes == 1) || (number_at 4 0 bytes == 5)) (number_at 4 0 bytes == 81) low) [
         | inl lower ↦ elim (or_cases (number_at 4 0 bytes == 1) (number_at 4 0 bytes == 5) lower) [
           | inl one ↦ rw (eqb-true (number_at 4 0 bytes) 1 one) refl
@@ -118,10 +129,12 @@ address_small bytes h (suc (suc (suc (suc (suc (suc i)))))) = omega arith
 -- ---- the text
 
 cut : (at n m : ℕ) (bytes : List ℕ) → take (n + m) (drop at bytes) ≡ take n (drop at bytes) ++ take m (drop (at + n) bytes)
-cut at n m bytes = take-add n m (drop at bytes) ∙ ap (λ (xs : List ℕ). take n (drop at bytes) ++ take m xs) (drop-drop n at bytes)
+cut at n m bytes = take-add n m (drop at bytes) ∙ ap (λ (xs : List ℕ). take n (drop at bytes) ++ take m xs)
+    (drop-drop n at bytes)
 
 pieces : (snap : ℕ) (bytes : List ℕ) → take (66 + snap) bytes
-    ≡ take 28 bytes ++ (take 4 (drop 28 bytes) ++ (take 18 (drop 32 bytes) ++ (take 16 (drop 50 bytes) ++ take snap (drop 66 bytes))))
+    ≡ take 28 bytes
+    ++ (take 4 (drop 28 bytes) ++ (take 18 (drop 32 bytes) ++ (take 16 (drop 50 bytes) ++ take snap (drop 66 bytes))))
 pieces snap bytes =
     let sum : 66 + snap ≡ 28 + (4 + (18 + (16 + snap))) = omega arith in
     ap (λ (n : ℕ). take n bytes) sum
@@ -150,7 +163,8 @@ slot_reads shape bytes h long size e =
     let snap = number_at 4 8 bytes in
     let packet = slot_packet_at bytes in
     let within = top.within in
-    let kept : length (take snap (drop 66 bytes)) ≡ snap = length-take-le snap (drop 66 bytes) (omega (arith, length-drop 66 bytes)) in
+    let kept : length (take snap (drop 66 bytes)) ≡ snap =
+    length-take-le snap (drop 66 bytes) (omega (arith, length-drop 66 bytes)) in
     let two = network_two 34 bytes in
     let low = h 35 in
     let high : number_at 1 34 bytes ≡ network_at 2 34 bytes / 256 = rw (number_one 34 bytes, two) (omega arith) in
@@ -188,10 +202,14 @@ slot_reads shape bytes h long size e =
         ),
       ),
     ) in
-    let one : take 28 bytes ≡ bytes_of (slot_header_rows status packet) = bytes_read 0 (slot_header_rows status packet) bytes h (omega (arith, long)) header_read in
-    let padding : take 4 (drop 28 bytes) ≡ bytes_of (zeros 28 4) = bytes_read 28 (zeros 28 4) bytes h (omega (arith, long)) (zeros_read 0 28 4 bytes c.0) in
-    let three : take 18 (drop 32 bytes) ≡ bytes_of (address_rows packet) = bytes_read 32 (address_rows packet) bytes h (omega (arith, long)) address_read in
-    let gap : take 16 (drop 50 bytes) ≡ bytes_of (zeros 50 16) = bytes_read 50 (zeros 50 16) bytes h (omega (arith, long)) (zeros_read 0 50 16 bytes d.1) in
+    let one : take 28 bytes ≡ bytes_of (slot_header_rows status packet) =
+    bytes_read 0 (slot_header_rows status packet) bytes h (omega (arith, long)) header_read in
+    let padding : take 4 (drop 28 bytes) ≡ bytes_of (zeros 28 4) =
+    bytes_read 28 (zeros 28 4) bytes h (omega (arith, long)) (zeros_read 0 28 4 bytes c.0) in
+    let three : take 18 (drop 32 bytes) ≡ bytes_of (address_rows packet) =
+    bytes_read 32 (address_rows packet) bytes h (omega (arith, long)) address_read in
+    let gap : take 16 (drop 50 bytes) ≡ bytes_of (zeros 50 16) =
+    bytes_read 50 (zeros 50 16) bytes h (omega (arith, long)) (zeros_read 0 50 16 bytes d.1) in
     record {
       lawful = record {
         sound = record {

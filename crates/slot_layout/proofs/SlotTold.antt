@@ -21,7 +21,8 @@ slot_told shape status packet bytes begins =
 pub text_size : (shape : RingRequest) (status : ℕ) (packet : Packet) (bytes : List ℕ) → SlotBegins shape status packet bytes
     → 66 + length (slot_packet_at bytes).bytes ≡ length (slot_text status packet)
 text_size shape status packet bytes begins =
-    ap (λ (p : Packet). 66 + length p.bytes) (begins_passing shape status packet bytes begins).packet_is ∙ sym (length-slot_text status packet)
+    ap (λ (p : Packet). 66 + length p.bytes) (begins_passing shape status packet bytes begins).packet_is
+    ∙ sym (length-slot_text status packet)
 
 pub text_within : (shape : RingRequest) (status : ℕ) (bytes : List ℕ) → SlotBeginsLawfully shape status bytes
     → 66 + length (slot_packet_at bytes).bytes ≤ length bytes
@@ -35,4 +36,5 @@ text_lent shape status bytes lawful =
     ∥∥₁_elim lawful (search props) (λ x.
     let passing = begins_passing shape status x.0 bytes x.1 in
     ap (λ (n : ℕ). take n bytes) (text_size shape status x.0 bytes x.1) ∙ x.1.begins
-    ∙ sym (ap (λ (s : ℕ). slot_text s (slot_packet_at bytes)) passing.status_is ∙ ap (λ (p : Packet). slot_text status p) passing.packet_is))
+    ∙ sym (ap (λ (s : ℕ). slot_text s (slot_packet_at bytes)) passing.status_is
+    ∙ ap (λ (p : Packet). slot_text status p) passing.packet_is))

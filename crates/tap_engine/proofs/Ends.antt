@@ -60,11 +60,13 @@ report_once Slots job bytes ends report is = is.once
 
 -- a member that has filled fewer places than its ring has dropped nothing, by the laws on both
 -- kinds of ring
-pub report_drops : ((job : Job) (bytes : List (List ℕ)) (ends : List CpuEnd) (report : RunReport) → IsReportBy Blocks job bytes ends report
+pub report_drops : ((job : Job) (bytes : List (List ℕ)) (ends : List CpuEnd) (report : RunReport)
+    → IsReportBy Blocks job bytes ends report
     → All (DropsNoneBelow (places_by Blocks job.setup.shape)) report.members)
     → ((job : Job) (bytes : List (List ℕ)) (ends : List CpuEnd) (report : RunReport) → IsReportBy Slots job bytes ends report
     → All (DropsNoneBelow (places_by Slots job.setup.shape)) report.members)
-    → (rings : RingKind) (job : Job) (bytes : List (List ℕ)) (ends : List CpuEnd) (report : RunReport) → IsReportBy rings job bytes ends report
+    → (rings : RingKind) (job : Job) (bytes : List (List ℕ)) (ends : List CpuEnd) (report : RunReport)
+    → IsReportBy rings job bytes ends report
     → All (DropsNoneBelow (places_by rings job.setup.shape)) report.members
 report_drops blocks slots Blocks job bytes ends report is = blocks job bytes ends report is
 report_drops blocks slots Slots job bytes ends report is = slots job bytes ends report is

@@ -1,5 +1,6 @@
 -- What a forwarder keeps, after each of its steps.
-use Rattle.std.proofs.Common.{◌≡◌, ℕ, ◌+◌, ◌^◌, ◌<◌, ◌≤◌, Bool, List, [], ◌∷◌, ◌++◌, length, take, refl, sym, ap, ◌∙◌, subst, arith, append-nil}
+use Rattle.std.proofs.Common.{◌≡◌, ℕ, ◌+◌, ◌^◌, ◌<◌, ◌≤◌, Bool, List, [], ◌∷◌, ◌++◌, length, take, refl, sym, ap, ◌∙◌, subst}
+use Rattle.std.proofs.Common.{arith, append-nil}
 use Rattle.std.proofs.lemmas.Grind.{flat_map-append}
 use Rattle.std.proofs.lemmas.List.{length-append, length-take, take-append-le}
 use Rattle.std.specs.Prelude.{flat_map}
@@ -29,7 +30,8 @@ walked-append taken block =
     ∙ ap (λ (rest : List Packet). flat_map (λ (b : Taken). b.packets) taken ++ rest) (append-nil block.packets)
 
 -- nothing was read
-pub opened : (forwarder : Inside) (shape : RingRequest) (dump : Bool) → forwarder.reader ≡ new_reader shape dump → IsGoing forwarder.sender.ring
+pub opened : (forwarder : Inside) (shape : RingRequest) (dump : Bool) → forwarder.reader ≡ new_reader shape dump
+    → IsGoing forwarder.sender.ring
     → WasGiven [] forwarder.sender → forwarder.given ≡ 0 → IsSound forwarder
 unfolding walked_of
 opened forwarder shape dump reader going none given =
@@ -63,9 +65,11 @@ may_give forwarder sound =
     (omega arith, omega arith)
 
 -- more of the packets were given
-pub gave : (forwarder : Inside) (sender : Sender) (count : ℕ) (packets : List Packet) → IsSound forwarder → packets ≡ walked_of forwarder.reader.taken
+pub gave : (forwarder : Inside) (sender : Sender) (count : ℕ) (packets : List Packet) → IsSound forwarder
+    → packets ≡ walked_of forwarder.reader.taken
     → IsGoing sender.ring → count ≤ length packets
-    → ((before : List Packet) → WasGiven (before ++ take forwarder.given packets) forwarder.sender → WasGiven (before ++ take count packets) sender)
+    → ((before : List Packet) → WasGiven (before ++ take forwarder.given packets) forwarder.sender
+    → WasGiven (before ++ take count packets) sender)
     → IsSound (record forwarder { sender = sender; given = count })
 gave forwarder sender count packets sound same going within given =
     let size = ap length same in
@@ -74,7 +78,8 @@ gave forwarder sender count packets sound same going within given =
       going = going;
       within = omega (arith, size, within);
       given = subst (λ (all : List Packet). WasGiven (take count all) sender) same
-          (given [] (subst (λ (all : List Packet). WasGiven (take forwarder.given all) forwarder.sender) (sym same) sound.given));
+          (given [] (subst (λ (all : List Packet). WasGiven (take forwarder.given all) forwarder.sender) (sym same)
+          sound.given));
       blocks = sound.blocks;
       packets = sound.packets;
     }
@@ -88,7 +93,8 @@ received forwarder reader bytes sound reader_is few blocks =
     let old = forwarder.reader in
     let block = taken_in old.shape bytes in
     let taken : reader.taken ≡ old.taken ++ block ∷ [] = ap (λ (r : ReaderValue). r.taken) reader_is in
-    let walked : walked_of reader.taken ≡ walked_of old.taken ++ block.packets = ap walked_of taken ∙ walked-append old.taken block in
+    let walked : walked_of reader.taken ≡ walked_of old.taken ++ block.packets =
+    ap walked_of taken ∙ walked-append old.taken block in
     let more = length-append old.taken (block ∷ []) in
     let count = ap length taken in
     let size = ap length walked in
@@ -96,7 +102,8 @@ received forwarder reader bytes sound reader_is few blocks =
     let before_it = sound.packets in
     let within = sound.within in
     let front : take forwarder.given (walked_of reader.taken) ≡ take forwarder.given (walked_of old.taken) =
-    ap (λ (xs : List Packet). take forwarder.given xs) walked ∙ take-append-le forwarder.given (walked_of old.taken) block.packets within in
+    ap (λ (xs : List Packet). take forwarder.given xs) walked
+    ∙ take-append-le forwarder.given (walked_of old.taken) block.packets within in
     record {
       free = ap (λ (r : ReaderValue). r.held) reader_is ∙ sound.free;
       going = sound.going;
@@ -108,24 +115,30 @@ received forwarder reader bytes sound reader_is few blocks =
 
 -- the same, by what contracts see of the forwarder
 pub read_on : (forwarder : Inside) (value : ForwarderValue) (reader : ReaderValue) (block : ShapedBytes) → IsSound forwarder
-    → forwarder_value forwarder ≡ value → reader ≡ record (has_read taken_in block.bytes forwarder.reader) { held = forwarder.reader.held }
+    → forwarder_value forwarder ≡ value
+    → reader ≡ record (has_read taken_in block.bytes forwarder.reader) { held = forwarder.reader.held }
     → ((shape : RingRequest) → IsReadable shape block → length (taken_in shape block.bytes).packets ≤ 16383)
     → IsReadable value.shape block → length value.taken < 2 ^ 40 → IsSound (record forwarder { reader = reader })
 read_on forwarder value reader block sound is read few readable blocks =
     let shape : forwarder.reader.shape ≡ value.shape = ap (λ (v : ForwarderValue). v.shape) is in
     let taken = ap (λ (v : ForwarderValue). length v.taken) is in
     received forwarder reader block.bytes sound read
-    (few forwarder.reader.shape (subst (λ (s : RingRequest). IsReadable s block) (sym shape) readable)) (omega (arith, taken, blocks))
+    (few forwarder.reader.shape (subst (λ (s : RingRequest). IsReadable s block) (sym shape) readable))
+    (omega (arith, taken, blocks))
 
 -- what a forwarder leaves that has given and sent all
-pub ended : (forwarder : Inside) (value : ForwarderValue) (given sent : Sender) (packets : List Packet) (count : ℕ) (outputs : Outputs)
-    → IsSound forwarder → forwarder_value forwarder ≡ value → packets ≡ walked_of forwarder.reader.taken → count ≡ length packets
-    → ((before : List Packet) → WasGiven (before ++ take forwarder.given packets) forwarder.sender → WasGiven (before ++ take count packets) given)
+pub ended : (forwarder : Inside) (value : ForwarderValue) (given sent : Sender) (packets : List Packet) (count : ℕ)
+    (outputs : Outputs)
+    → IsSound forwarder → forwarder_value forwarder ≡ value → packets ≡ walked_of forwarder.reader.taken
+    → count ≡ length packets
+    → ((before : List Packet) → WasGiven (before ++ take forwarder.given packets) forwarder.sender
+    → WasGiven (before ++ take count packets) given)
     → ((all : List Packet) → WasGiven all given → WasGiven all sent)
     → given.ring.shape ≡ forwarder.sender.ring.shape → sent.ring.shape ≡ given.ring.shape → sent.ring.requests ≡ []
     → outputs ≡ outputs_of forwarder.reader
     → record { outputs = outputs; sent = sent.sent; skipped = sent.skipped } ≡ forwarded_of value
-ended forwarder value given sent packets count outputs sound value_is same all gives sends given_shape sent_shape requests outputs_are =
+ended forwarder value given sent packets count outputs sound value_is same all gives sends given_shape sent_shape
+    requests outputs_are =
     let walked = walked_of forwarder.reader.taken in
     let first : WasGiven (take count packets) given =
     gives [] (subst (λ (xs : List Packet). WasGiven (take forwarder.given xs) forwarder.sender) (sym same) sound.given) in
@@ -137,6 +150,7 @@ ended forwarder value given sent packets count outputs sound value_is same all g
     ∙ was.sent ∙ ap (λ (shape : RingRequest). sent_of (room_of shape) walked) tx in
     let skipped_is : sent.skipped ≡ skipped_of (room_of forwarder.sender.ring.shape) walked =
     was.skipped ∙ ap (λ (shape : RingRequest). skipped_of (room_of shape) walked) tx in
-    let here : record { outputs = outputs; sent = sent.sent; skipped = sent.skipped } ≡ forwarded_of (forwarder_value forwarder) =
+    let here : record { outputs = outputs; sent = sent.sent; skipped = sent.skipped }
+    ≡ forwarded_of (forwarder_value forwarder) =
     rw (outputs_are, sent_is, skipped_is) refl in
     here ∙ ap forwarded_of value_is

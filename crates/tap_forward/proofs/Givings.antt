@@ -1,5 +1,6 @@
 -- What a sender was given, after each of its steps.
-use Rattle.std.proofs.Common.{◌≡◌, ℕ, ◌+◌, ◌<◌, ◌≤◌, Bool, true, false, List, [], ◌∷◌, ◌++◌, length, refl, sym, ap, ◌∙◌, subst, arith, append_assoc, append-nil, cond}
+use Rattle.std.proofs.Common.{◌≡◌, ℕ, ◌+◌, ◌<◌, ◌≤◌, Bool, true, false, List, [], ◌∷◌, ◌++◌, length, refl, sym, ap, ◌∙◌, subst}
+use Rattle.std.proofs.Common.{arith, append_assoc, append-nil, cond}
 use Rattle.std.specs.Prelude.{◌&&◌, nat_le, not, filter, map, replicate}
 use Rattle.std.specs.List.{AllByRecursion}
 use Rattle.std.proofs.lemmas.Bool.{le-leb, lt-leb}
@@ -34,7 +35,8 @@ sent-append room given more =
     ap (map as_sent) (filter-append (is_sendable room) given more)
     ∙ map-append as_sent (filter (is_sendable room) given) (filter (is_sendable room) more)
 
-pub skipped-append : (room : ℕ) (given more : List Packet) → skipped_of room (given ++ more) ≡ skipped_of room given + skipped_of room more
+pub skipped-append : (room : ℕ) (given more : List Packet)
+    → skipped_of room (given ++ more) ≡ skipped_of room given + skipped_of room more
 unfolding skipped_of
 skipped-append room given more = sum_by-append (λ packet. cond (not (is_sendable room packet)) 1 0) given more
 
@@ -62,11 +64,14 @@ is_short room packet short = rw (lt-leb 14 (length (frame_of packet)) short) ref
 pub is_long : (room : ℕ) (packet : Packet) → room < length (frame_of packet) → is_sendable room packet ≡ false
 is_long room packet long = rw (lt-leb (length (frame_of packet)) room long) (and_no (nat_le 14 (length (frame_of packet))))
 
-pub fits : (room : ℕ) (packet : Packet) → 14 ≤ length (frame_of packet) → length (frame_of packet) ≤ room → is_sendable room packet ≡ true
-fits room packet whole short = rw (le-leb 14 (length (frame_of packet)) whole, le-leb (length (frame_of packet)) room short) refl
+pub fits : (room : ℕ) (packet : Packet) → 14 ≤ length (frame_of packet) → length (frame_of packet) ≤ room
+    → is_sendable room packet ≡ true
+fits room packet whole short =
+    rw (le-leb 14 (length (frame_of packet)) whole, le-leb (length (frame_of packet)) room short) refl
 
 -- its request is good, and yields what is sent of it
-pub good_request : (room : ℕ) (bytes : List ℕ) → 14 ≤ length bytes → length bytes ≤ room → is_good room (whole_request bytes) ≡ true
+pub good_request : (room : ℕ) (bytes : List ℕ) → 14 ≤ length bytes → length bytes ≤ room
+    → is_good room (whole_request bytes) ≡ true
 good_request room bytes whole short = rw (le-leb 14 (length bytes) whole, le-leb (length bytes) room short) refl
 
 pub request_packet : (bytes : List ℕ) → packet_of (whole_request bytes) ≡ plain_of bytes
@@ -86,12 +91,14 @@ goes_on ring new bytes going whole short is =
       some = going.some;
       strict = going.strict;
       going = going.going;
-      good = grows (λ (request : Request). is_good (room_of ring.shape) request ≡ true) ring.requests (whole_request bytes) going.good
+      good = grows (λ (request : Request). is_good (room_of ring.shape) request ≡ true) ring.requests
+          (whole_request bytes) going.good
           (good_request (room_of ring.shape) bytes whole short);
     })
 
 -- a packet was skipped
-pub skips : (old new : Sender) (given : List Packet) (packet : Packet) → new.ring ≡ old.ring → new.sent ≡ old.sent → new.skipped ≡ old.skipped + 1
+pub skips : (old new : Sender) (given : List Packet) (packet : Packet) → new.ring ≡ old.ring → new.sent ≡ old.sent
+    → new.skipped ≡ old.skipped + 1
     → is_sendable (room_of old.ring.shape) packet ≡ false → WasGiven given old → WasGiven (given ++ packet ∷ []) new
 skips old new given packet ring sent skipped unfit was =
     let room = room_of old.ring.shape in
@@ -101,7 +108,8 @@ skips old new given packet ring sent skipped unfit was =
     let one = skipped_no room packet unfit in
     let before = was.skipped in
     let same : sent_of room (given ++ packet ∷ []) ≡ sent_of room given =
-    sent-append room given (packet ∷ []) ∙ ap (λ (more : List Packet). sent_of room given ++ more) (sent_no room packet unfit) ∙ append-nil (sent_of room given) in
+    sent-append room given (packet ∷ []) ∙ ap (λ (more : List Packet). sent_of room given ++ more) (sent_no room packet unfit)
+    ∙ append-nil (sent_of room given) in
     record {
       sent = rw (ring, sent, same) was.sent;
       skipped = rw (ring, skipped, count, one) (omega (arith, before));
@@ -116,12 +124,15 @@ queues old new given packet bytes frame ring sent skipped whole short was =
     let room = room_of old.ring.shape in
     let size = length-append given (packet ∷ []) in
     let few = was.few in
-    let fit : is_sendable room packet ≡ true = fits room packet (subst (λ (b : List ℕ). 14 ≤ length b) (sym frame) whole) (subst (λ (b : List ℕ). length b ≤ room) (sym frame) short) in
+    let fit : is_sendable room packet ≡ true =
+    fits room packet (subst (λ (b : List ℕ). 14 ≤ length b) (sym frame) whole)
+    (subst (λ (b : List ℕ). length b ≤ room) (sym frame) short) in
     let count = skipped-append room given (packet ∷ []) in
     let none = skipped_yes room packet fit in
     let before = was.skipped in
     let one : packet_of (whole_request bytes) ≡ as_sent packet = request_packet bytes ∙ ap plain_of (sym frame) in
-    let more : packets_of room (old.ring.requests ++ whole_request bytes ∷ []) ≡ packets_of room old.ring.requests ++ as_sent packet ∷ [] =
+    let more : packets_of room (old.ring.requests ++ whole_request bytes ∷ []) ≡ packets_of room old.ring.requests
+    ++ as_sent packet ∷ [] =
     packets_good room old.ring.requests (whole_request bytes) (good_request room bytes whole short)
     ∙ ap (λ (p : Packet). packets_of room old.ring.requests ++ p ∷ []) one in
     record {
@@ -136,7 +147,8 @@ queues old new given packet bytes frame ring sent skipped whole short was =
     }
 
 -- before it was given any
-pub fresh : (sender : Sender) → sender.ring.requests ≡ [] → sender.ring.placed ≡ 0 → sender.sent ≡ [] → sender.skipped ≡ 0 → WasGiven [] sender
+pub fresh : (sender : Sender) → sender.ring.requests ≡ [] → sender.ring.placed ≡ 0 → sender.sent ≡ [] → sender.skipped ≡ 0
+    → WasGiven [] sender
 unfolding sent_of skipped_of
 fresh sender requests placed sent skipped = record {
   sent = rw (sent, requests) refl;

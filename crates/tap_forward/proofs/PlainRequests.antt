@@ -4,7 +4,8 @@ use Rattle.std.proofs.Common.{◌≡◌, ◌*◌, ◌/◌, ◌%◌, Bool, true, 
 use Rattle.std.specs.Prelude.{◌==◌, ◌||◌, not, nat_lt, if◌then◌else◌}
 use Rattle.tp_layout.specs.declared.requests.RingRequest.{RingRequest}
 use Rattle.tp_layout.specs.declared.error.RequestError.{RequestError}
-use Rattle.tp_layout.specs.declared.error.RequestError.TheVariants.{BlockSize, BlockCount, Private, FrameSmall, FrameAlign, FrameCount, Feature}
+use Rattle.tp_layout.specs.declared.error.RequestError.TheVariants.{BlockSize, BlockCount, Private, FrameSmall, FrameAlign}
+use Rattle.tp_layout.specs.declared.error.RequestError.TheVariants.{FrameCount, Feature}
 use Rattle.tp_layout.specs.Requests.{answer_of, frames_in, receive_fault, transmit_fault}
 use Rattle.tap_forward.specs.Bridges.{tx_request}
 
@@ -51,5 +52,6 @@ plain_transmits request none = rw (plain_fault request none) refl
 pub never_refused : (request : RingRequest) (error : RequestError) → receive_fault request ≡ None
     → Err error ≡ answer_of (tx_request request) (transmit_fault (tx_request request)) → ⊥
 never_refused request error none told =
-    let fine : Err error ≡ Ok (tx_request request) = told ∙ ap (answer_of (tx_request request)) (plain_transmits request none) in
+    let fine : Err error ≡ Ok (tx_request request) =
+    told ∙ ap (answer_of (tx_request request)) (plain_transmits request none) in
     cc

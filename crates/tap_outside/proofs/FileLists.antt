@@ -1,5 +1,6 @@
 -- A list of files after one is put.
-use Rattle.std.proofs.Common.{◌≡◌, ◌≢◌, ℕ, true, false, List, [], ◌∷◌, ◌++◌, length, ◌<◌, ◌≤◌, set, get_or, Option, None, Some, position, bytes_eq, arith, rules, refl, sym, ◌∙◌}
+use Rattle.std.proofs.Common.{◌≡◌, ◌≢◌, ℕ, true, false, List, [], ◌∷◌, ◌++◌, length, ◌<◌, ◌≤◌, set, get_or, Option, None, Some}
+use Rattle.std.proofs.Common.{position, bytes_eq, arith, rules, refl, sym, ◌∙◌}
 use Rattle.std.specs.List.{position_or_len}
 use Rattle.std.specs.Option.{option_or}
 use Rattle.std.proofs.lemmas.Bool.Decides.{nat_tests}

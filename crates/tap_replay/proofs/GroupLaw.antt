@@ -28,7 +28,8 @@ ReportsGroup = (rules : Rules) (size : Size) (arriving : List (List (Option Fram
     → 0 < rules.members → AreArrivals arriving → IsSchedule lines
     → IsReplayReport rules size.room (IsRingReport size) arriving (replayed rules (block_steps size) arriving lines)
 
-member_lawful : (shape : RingRequest) (asked : Bool) (ring : Ring) → IsRingReport (size_of shape) ring → IsMember shape asked (member_of shape asked ring)
+member_lawful : (shape : RingRequest) (asked : Bool) (ring : Ring) → IsRingReport (size_of shape) ring
+    → IsMember shape asked (member_of shape asked ring)
 member_lawful shape asked ring h = record {
   run = h.run;
   walked = refl;
@@ -36,26 +37,31 @@ member_lawful shape asked ring h = record {
   blocks = ap (λ (s : Size). length (state_of s ring.notes).done) h.size_is;
 }
 
-module _ (law : AreNumbered) (reports : ReportsGroup) (job : Job) (lines : List Line) (all : List (List ℕ)) (ends : List CpuEnd) (setup : IsRunnable job.setup)
+module _ (law : AreNumbered) (reports : ReportsGroup) (job : Job) (lines : List Line) (all : List (List ℕ)) (ends : List CpuEnd)
+    (setup : IsRunnable job.setup)
     (schedule : IsSchedule lines) (many : length ends ≡ length all) where
   abbrev steps : RingSteps
   steps = block_steps (size_of job.setup.shape)
 
-  report : IsReplayReport (rules_of job) steps.size.room (IsRingReport (size_of job.setup.shape)) (arriving_of job all) (replay_of job lines all)
+  report : IsReplayReport (rules_of job) steps.size.room (IsRingReport (size_of job.setup.shape)) (arriving_of job all)
+      (replay_of job lines all)
   report = reports (rules_of job) (size_of job.setup.shape) (arriving_of job all) lines setup.some_members
       (arrive law job all) schedule
 
   pub is_group : IsReport (rules_of job) job.setup.shape job.setup.dump (arriving_of job all) (report_of job lines all ends)
   unfolding report_of
   is_group = record {
-    group = group_is steps (member_of job.setup.shape job.setup.dump) (IsRingReport (size_of job.setup.shape)) job lines all ends report many (λ ring. refl);
-    members = members_are steps (member_of job.setup.shape job.setup.dump) (IsRingReport (size_of job.setup.shape)) job lines all ends report many
+    group = group_is steps (member_of job.setup.shape job.setup.dump) (IsRingReport (size_of job.setup.shape)) job lines all
+        ends report many (λ ring. refl);
+    members = members_are steps (member_of job.setup.shape job.setup.dump) (IsRingReport (size_of job.setup.shape)) job lines
+        all ends report many
         (IsMember job.setup.shape job.setup.dump) (member_lawful job.setup.shape job.setup.dump);
   }
 
   pub logs_are : AreLogsFrom 0 all ends (report_of job lines all ends).cpus
   unfolding report_of
-  logs_are = logs_of_replay steps (member_of job.setup.shape job.setup.dump) (IsRingReport (size_of job.setup.shape)) job lines all ends report many
+  logs_are = logs_of_replay steps (member_of job.setup.shape job.setup.dump) (IsRingReport (size_of job.setup.shape)) job lines
+      all ends report many
 
   pub rings_are : All (IsRingReport (size_of job.setup.shape)) (replay_of job lines all).members
   rings_are = report.rings

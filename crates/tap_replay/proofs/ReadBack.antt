@@ -20,7 +20,8 @@ use Rattle.tp_layout.specs.Requests.{fills_hash, size_of}
 use Rattle.tp_layout.specs.declared.requests.RingRequest.{RingRequest}
 use Rattle.tap_replay.specs.Reported.{member_of}
 
-dump_is : (shape : RingRequest) (asked : Bool) (notes : List Note) → dump_by asked shape (block_reads shape notes) ≡ dump_where asked shape notes
+dump_is : (shape : RingRequest) (asked : Bool) (notes : List Note)
+    → dump_by asked shape (block_reads shape notes) ≡ dump_where asked shape notes
 unfolding dump_of
 dump_is shape true notes = texts_are shape 1 (state_of (size_of shape) notes).done
 dump_is shape false notes = refl
@@ -34,9 +35,12 @@ read_back shape asked ring h =
     let done = (state_of (size_of shape) ring.notes).done in
     let kept = map (packet_of (fills_hash shape)) (kept_of ring.notes) in
     let walked : walked_of (block_reads shape ring.notes) ≡ kept =
-    walked_are shape 1 done ∙ ap (λ (offers : List Offer). map (packet_of (fills_hash shape)) offers) (kept_in_blocks (size_of shape) ring.notes h.run) in
+    walked_are shape 1 done ∙ ap (λ (offers : List Offer). map (packet_of (fills_hash shape)) offers)
+    (kept_in_blocks (size_of shape) ring.notes h.run) in
     let blocks : length (block_reads shape ring.notes) ≡ length (state_of ring.size ring.notes).done =
     as_many shape 1 done ∙ sym (ap (λ (s : Size). length (state_of s ring.notes).done) h.size_is) in
-    ap (λ (ps : List Packet). report_with ring.notes ps (dump_by asked shape (block_reads shape ring.notes)) (length (block_reads shape ring.notes))) walked
-    ∙ ap (λ (bytes : List ℕ). report_with ring.notes kept bytes (length (block_reads shape ring.notes))) (dump_is shape asked ring.notes)
+    ap (λ (ps : List Packet). report_with ring.notes ps (dump_by asked shape (block_reads shape ring.notes))
+    (length (block_reads shape ring.notes))) walked
+    ∙ ap (λ (bytes : List ℕ). report_with ring.notes kept bytes (length (block_reads shape ring.notes)))
+    (dump_is shape asked ring.notes)
     ∙ ap (λ n. report_with ring.notes kept (dump_where asked shape ring.notes) n) blocks

@@ -21,19 +21,23 @@ use Rattle.tap_replay.specs.Reported.{member_of}
 use Rattle.tap_replay.specs.Runs.{IsReplayed, replay_of, report_of}
 
 module _ (job : Job) (lines : List Line) (old : List (Option SourceSeen))
-    (reports : (all : List (List ℕ)) (ends : List CpuEnd) → length ends ≡ length all → IsRunReport job all ends (report_of job lines all ends))
-    (rings : (all : List (List ℕ)) (ends : List CpuEnd) → length ends ≡ length all → All (IsRingReport (size_of job.setup.shape)) (replay_of job lines all).members) where
+    (reports : (all : List (List ℕ)) (ends : List CpuEnd) → length ends ≡ length all
+    → IsRunReport job all ends (report_of job lines all ends))
+    (rings : (all : List (List ℕ)) (ends : List CpuEnd) → length ends ≡ length all
+    → All (IsRingReport (size_of job.setup.shape)) (replay_of job lines all).members) where
   abbrev reported : Ring → MemberReport
   reported = reported_by (λ shape block. text_of_taken shape block) block_reads job.setup.shape job.setup.dump
 
   abbrev IsOver : List (Option SourceSeen) → RunReport → Type 0
   IsOver new report = IsReplayedOver (steps_of_blocks job.setup.shape) reported job lines old new report
 
-  as_report : (new : List (Option SourceSeen)) (report : RunReport) → (h : IsOver new report) → report ≡ report_of job lines h.bytes h.ends
+  as_report : (new : List (Option SourceSeen)) (report : RunReport) → (h : IsOver new report)
+      → report ≡ report_of job lines h.bytes h.ends
   unfolding report_of
   as_report new report h =
       h.report_is
-      ∙ same_reports reported (member_of job.setup.shape job.setup.dump) (IsRingReport (size_of job.setup.shape)) h.bytes h.ends (replay_of job lines h.bytes)
+      ∙ same_reports reported (member_of job.setup.shape job.setup.dump) (IsRingReport (size_of job.setup.shape)) h.bytes h.ends
+      (replay_of job lines h.bytes)
       (rings h.bytes h.ends h.many) (read_back job.setup.shape job.setup.dump)
 
   is_replayed : (new : List (Option SourceSeen)) (report : RunReport) → IsOver new report → IsReplayed job lines old new report
@@ -41,11 +45,13 @@ module _ (job : Job) (lines : List Line) (old : List (Option SourceSeen))
     bytes = h.bytes;
     ends = h.ends;
     gave = h.gave;
-    run = subst (λ (r : RunReport). IsRunReport job h.bytes h.ends r) (sym (as_report new report h)) (reports h.bytes h.ends h.many);
+    run = subst (λ (r : RunReport). IsRunReport job h.bytes h.ends r) (sym (as_report new report h))
+        (reports h.bytes h.ends h.many);
     report_is = as_report new report h;
   }
 
   pub told : {A E : Type 0} (result : Result A E) (new : A → List (Option SourceSeen)) (report : A → RunReport)
-      → IfOk result (λ ran. IsOver (new ran) (report ran)) → IfOk result (λ ran. IsReplayed job lines old (new ran) (report ran))
+      → IfOk result (λ ran. IsOver (new ran) (report ran))
+      → IfOk result (λ ran. IsReplayed job lines old (new ran) (report ran))
   told (Ok ran) new report h = is_replayed (new ran) (report ran) h
   told (Err error) new report h = tt

@@ -9,7 +9,8 @@ use Rattle.text_lines.specs.Words.{is_passed_over, words_of}
 ok_value : {S F : Type 0} (state last : S) → ◌≡◌ {A = Result S F} (Ok state) (Ok last) → state ≡ last
 ok_value state last h = cc
 
-chosen_keeps : {S K : Type 0} (Q : Type 0) (over : Bool) (number : ℕ) (given : Result S K) (more : S → Result S (ℕ × K)) (left : Result S (ℕ × K)) (last : S)
+chosen_keeps : {S K : Type 0} (Q : Type 0) (over : Bool) (number : ℕ) (given : Result S K) (more : S → Result S (ℕ × K))
+    (left : Result S (ℕ × K)) (last : S)
     → (left ≡ Ok last → Q) → ((next : S) → given ≡ Ok next → more next ≡ Ok last → Q)
     → (if over then left else and_then number given more) ≡ Ok last → Q
 chosen_keeps Q true number given more left last l g h = l h
@@ -23,7 +24,8 @@ pub reads_keep : {S K : Type 0} (step : S → List ℕ → Result S K) (P : S �
 unfolding read_lines
 reads_keep step P keep number state last [] p h = subst P (ok_value state last h) p
 reads_keep step P keep number state last (line ∷ more) p h =
-    chosen_keeps (P last) (is_passed_over (words_of line)) number (step state line) (λ next. read_lines step (number + 1) next more)
+    chosen_keeps (P last) (is_passed_over (words_of line)) number (step state line)
+    (λ next. read_lines step (number + 1) next more)
     (read_lines step (number + 1) state more) last
     (λ h. reads_keep step P keep (number + 1) state last more p h)
     (λ next e h. reads_keep step P keep (number + 1) next last more (keep state line next e p) h) h
@@ -31,11 +33,13 @@ reads_keep step P keep number state last (line ∷ more) p h =
 -- a number that each line raises by at most one rises by at most the number of lines
 pub reads_few : {S K : Type 0} (step : S → List ℕ → Result S K) (size : S → ℕ)
     → ((state : S) (line : List ℕ) (next : S) → step state line ≡ Ok next → size next ≤ size state + 1)
-    → (number : ℕ) (state last : S) (lines : List (List ℕ)) → read_lines step number state lines ≡ Ok last → size last ≤ size state + length lines
+    → (number : ℕ) (state last : S) (lines : List (List ℕ)) → read_lines step number state lines ≡ Ok last
+    → size last ≤ size state + length lines
 unfolding read_lines
 reads_few step size one number state last [] h = omega (arith, ap size (ok_value state last h))
 reads_few step size one number state last (line ∷ more) h =
-    chosen_keeps (size last ≤ size state + length (line ∷ more)) (is_passed_over (words_of line)) number (step state line) (λ next. read_lines step (number + 1) next more)
+    chosen_keeps (size last ≤ size state + length (line ∷ more)) (is_passed_over (words_of line)) number (step state line)
+    (λ next. read_lines step (number + 1) next more)
     (read_lines step (number + 1) state more) last
     (λ h. omega (arith, reads_few step size one (number + 1) state last more h))
     (λ next e h. omega (arith, reads_few step size one (number + 1) next last more h, one state line next e)) h

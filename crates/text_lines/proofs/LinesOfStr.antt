@@ -32,14 +32,16 @@ starts_alike : (text : List ℕ) → starts_with_line_feed text ≡ starts_with_
 starts_alike [] = refl
 starts_alike (b ∷ text) = either_way (b == 10) b (parts_of text) (some_parts text)
   where
-    either_way : (ends : Bool) (b : ℕ) (parts : List (List ℕ)) → 0 < length parts → ends ≡ starts_with_end (if ends then [] ∷ parts else onto_first b parts)
+    either_way : (ends : Bool) (b : ℕ) (parts : List (List ℕ)) → 0 < length parts
+        → ends ≡ starts_with_end (if ends then [] ∷ parts else onto_first b parts)
     either_way true b [] l = absurd (omega arith)
     either_way true b (part ∷ parts) l = refl
     either_way false b [] l = refl
     either_way false b (part ∷ []) l = refl
     either_way false b (part ∷ other ∷ parts) l = refl
 
-put_before : (b : ℕ) (starts : Bool) (found parts : List (List ℕ)) → (b == 10) ≡ false → 0 < length parts → found ≡ lines_of_parts parts → starts ≡ starts_with_end parts
+put_before : (b : ℕ) (starts : Bool) (found parts : List (List ℕ)) → (b == 10) ≡ false → 0 < length parts
+    → found ≡ lines_of_parts parts → starts ≡ starts_with_end parts
     → (if (b == 13) && starts then found else onto_first b found) ≡ lines_of_parts (onto_first b parts)
 put_before b starts found [] h l e s = absurd (omega arith)
 put_before b starts found ([] ∷ []) h l e s = grind (arith, common_steps)
@@ -53,8 +55,10 @@ lines_of-lines [] = refl
 lines_of-lines (b ∷ text) =
     either_way (b == 10) refl (lines_of text) (parts_of text) (some_parts text) (lines_of-lines text) (starts_alike text)
   where
-    either_way : (ends : Bool) → (b == 10) ≡ ends → (found parts : List (List ℕ)) → 0 < length parts → found ≡ lines_of_parts parts → starts_with_line_feed text ≡ starts_with_end parts
-        → (if ends then [] ∷ found else if (b == 13) && starts_with_line_feed text then found else onto_first b found) ≡ lines_of_parts (if ends then [] ∷ parts else onto_first b parts)
+    either_way : (ends : Bool) → (b == 10) ≡ ends → (found parts : List (List ℕ)) → 0 < length parts
+        → found ≡ lines_of_parts parts → starts_with_line_feed text ≡ starts_with_end parts
+        → (if ends then [] ∷ found else if (b == 13) && starts_with_line_feed text then found else onto_first b found)
+        ≡ lines_of_parts (if ends then [] ∷ parts else onto_first b parts)
     either_way true h found [] l e s = absurd (omega arith)
     either_way true h found (part ∷ parts) l e s = ap (λ found. [] ∷ found) e
     either_way false h found parts l e s = put_before b (starts_with_line_feed text) found parts h l e s

@@ -1,5 +1,6 @@
 -- The bytes before the first one that passes a test.
-use Rattle.std.proofs.Common.{◌≡◌, ℕ, ◌+◌, ◌<◌, ◌≤◌, Bool, true, false, List, ◌∷◌, ◌++◌, length, take, drop, get_or, refl, ap, sym, ◌∙◌, arith, Some, None, add-one, cond, nat_lt}
+use Rattle.std.proofs.Common.{◌≡◌, ℕ, ◌+◌, ◌<◌, ◌≤◌, Bool, true, false, List, ◌∷◌, ◌++◌, length, take, drop, get_or, refl, ap}
+use Rattle.std.proofs.Common.{sym, ◌∙◌, arith, Some, None, add-one, cond, nat_lt}
 use Rattle.std.specs.List.{AllByRecursion, position, position_or_len}
 use Rattle.std.proofs.lemmas.List.{take-append-drop, get_or-take, get_or_default}
 use Rattle.std.proofs.lemmas.List.Quantifiers.{position-Some}
@@ -12,7 +13,8 @@ use Rattle.std.proofs.Math.ListN.{length-take}
 abbrev pub AllFail : (ℕ → Bool) → List ℕ → Type 0
 AllFail test bytes = AllByRecursion (λ b. test b ≡ false) bytes
 
-fails_by_place : (test : ℕ → Bool) (bytes : List ℕ) → ((k : ℕ) → k < length bytes → test (get_or bytes k 0) ≡ false) → AllFail test bytes
+fails_by_place : (test : ℕ → Bool) (bytes : List ℕ) → ((k : ℕ) → k < length bytes → test (get_or bytes k 0) ≡ false)
+    → AllFail test bytes
 fails_by_place test bytes h =
     recursion_from_All (λ b. test b ≡ false) bytes (λ k d l. ap test (get_or_default bytes k d 0 l) ∙ h k l)
 
@@ -38,7 +40,8 @@ pub position_is_place : (test : ℕ → Bool) (bytes : List ℕ) (at : ℕ) → 
 position_is_place test bytes at h = (position-Some test bytes at 0 h).0
 
 -- the bytes up to the place, the byte there, and the bytes after it
-pub split_at_position : (test : ℕ → Bool) (bytes : List ℕ) (at : ℕ) → position test bytes ≡ Some at → bytes ≡ take at bytes ++ (get_or bytes at 0 ∷ drop (at + 1) bytes)
+pub split_at_position : (test : ℕ → Bool) (bytes : List ℕ) (at : ℕ) → position test bytes ≡ Some at
+    → bytes ≡ take at bytes ++ (get_or bytes at 0 ∷ drop (at + 1) bytes)
 split_at_position test bytes at h =
     let small = position_is_place test bytes at h in
     sym (take-append-drop at bytes) ∙ ap (λ rest. take at bytes ++ rest) (rw (add-one) (drop-cons bytes at 0 small))

@@ -15,14 +15,17 @@ second false x y h = refl
 
 -- What was read of a text so far, and what the rest says, together are what the text says. Every
 -- line has its number.
-pub record Reads {S K : Type 0} (step : S → List ℕ → Result S K) (start : S) (text : List ℕ) (state : S) (number : ℕ) (rest : List ℕ) : Type 0 where
+pub record Reads {S K : Type 0} (step : S → List ℕ → Result S K) (start : S) (text : List ℕ) (state : S) (number : ℕ)
+    (rest : List ℕ) : Type 0 where
   pub same : read_lines step 1 start (lines_of text) ≡ read_lines step number state (lines_of rest)
   pub small : number + length rest ≤ 1 + length text
 
-pub reads_none : {S K : Type 0} (step : S → List ℕ → Result S K) (start : S) (text : List ℕ) → Reads step start text start 1 text
+pub reads_none : {S K : Type 0} (step : S → List ℕ → Result S K) (start : S) (text : List ℕ)
+    → Reads step start text start 1 text
 reads_none step start text = record { same = refl; small = omega arith }
 
-pub reads_over : {S K : Type 0} (step : S → List ℕ → Result S K) (start : S) (text : List ℕ) (state : S) (number : ℕ) (rest behind line : List ℕ)
+pub reads_over : {S K : Type 0} (step : S → List ℕ → Result S K) (start : S) (text : List ℕ) (state : S) (number : ℕ)
+    (rest behind line : List ℕ)
     → Reads step start text state number rest → lines_of rest ≡ line ∷ lines_of behind → length behind < length rest
     → is_passed_over (words_of line) ≡ true → Reads step start text state (number + 1) behind
 unfolding read_lines
@@ -31,7 +34,8 @@ reads_over step start text state number rest behind line r h s p = record {
   small = omega (arith, r.small);
 }
 
-pub reads_more : {S K : Type 0} (step : S → List ℕ → Result S K) (start : S) (text : List ℕ) (state next : S) (number : ℕ) (rest behind line : List ℕ)
+pub reads_more : {S K : Type 0} (step : S → List ℕ → Result S K) (start : S) (text : List ℕ) (state next : S) (number : ℕ)
+    (rest behind line : List ℕ)
     → Reads step start text state number rest → lines_of rest ≡ line ∷ lines_of behind → length behind < length rest
     → is_passed_over (words_of line) ≡ false → step state line ≡ Ok next → Reads step start text next (number + 1) behind
 unfolding read_lines
@@ -42,15 +46,18 @@ reads_more step start text state next number rest behind line r h s p e = record
   small = omega (arith, r.small);
 }
 
-pub reads_fault : {S K : Type 0} (step : S → List ℕ → Result S K) (start : S) (text : List ℕ) (state : S) (fault : K) (number : ℕ) (rest behind line : List ℕ)
+pub reads_fault : {S K : Type 0} (step : S → List ℕ → Result S K) (start : S) (text : List ℕ) (state : S) (fault : K)
+    (number : ℕ) (rest behind line : List ℕ)
     → Reads step start text state number rest → lines_of rest ≡ line ∷ lines_of behind
-    → is_passed_over (words_of line) ≡ false → step state line ≡ Err fault → read_lines step 1 start (lines_of text) ≡ Err (number, fault)
+    → is_passed_over (words_of line) ≡ false → step state line ≡ Err fault
+    → read_lines step 1 start (lines_of text) ≡ Err (number, fault)
 unfolding read_lines
 reads_fault step start text state fault number rest behind line r h p e =
     r.same ∙ ap (read_lines step number state) h ∙ second _ _ _ p
     ∙ ap (λ given. and_then number given (λ next. read_lines step (number + 1) next (lines_of behind))) e
 
-pub reads_all : {S K : Type 0} (step : S → List ℕ → Result S K) (start : S) (text : List ℕ) (state : S) (number : ℕ) (rest : List ℕ)
+pub reads_all : {S K : Type 0} (step : S → List ℕ → Result S K) (start : S) (text : List ℕ) (state : S) (number : ℕ)
+    (rest : List ℕ)
     → Reads step start text state number rest → lines_of rest ≡ [] → read_lines step 1 start (lines_of text) ≡ Ok state
 unfolding read_lines
 reads_all step start text state number rest r h = r.same ∙ ap (read_lines step number state) h

@@ -1,12 +1,14 @@
 -- The place of the first word of a line.
-use Rattle.std.proofs.Common.{◌≡◌, ℕ, zero, suc, ◌+◌, ◌<◌, Option, add-one, true, false, List, [], ◌∷◌, ◌++◌, length, take, drop, get_or, refl, ap, sym, ◌∙◌, arith, Some, None, subst}
+use Rattle.std.proofs.Common.{◌≡◌, ℕ, zero, suc, ◌+◌, ◌<◌, Option, add-one, true, false, List, [], ◌∷◌, ◌++◌, length, take}
+use Rattle.std.proofs.Common.{drop, get_or, refl, ap, sym, ◌∙◌, arith, Some, None, subst}
 use Rattle.std.specs.Prelude.{not}
 use Rattle.std.specs.List.{position, onto_first, slice_split}
 use Rattle.std.proofs.lemmas.List.{append-nil, take-append-drop, get_or-drop, length-drop}
 use Rattle.std.proofs.Math.ListN.{length-take}
 use Rattle.std.proofs.Math.Seq.{take-length, drop-length, drop-cons}
 use Rattle.std.specs.Option.{unwrap_or}
-use Rattle.text_lines.proofs.Positions.{AllFail, fails_before, fails_where_none, split_at_position, passes_at, position_is_place}
+use Rattle.text_lines.proofs.Positions.{AllFail, fails_before, fails_where_none, split_at_position, passes_at}
+use Rattle.text_lines.proofs.Positions.{position_is_place}
 use Rattle.text_lines.specs.Words.{is_blank, words_of}
 
 -- a blank before a word is no part of it
@@ -24,7 +26,8 @@ split-word : (word : List ℕ) → AllFail is_blank word → slice_split is_blan
 split-word [] h = refl
 split-word (b ∷ word) h = rw h.0 (ap (onto_first b) (split-word word h.1))
 
-split-word_and_blank : (word : List ℕ) (b : ℕ) (line : List ℕ) → AllFail is_blank word → is_blank b ≡ true → slice_split is_blank (word ++ (b ∷ line)) ≡ word ∷ slice_split is_blank line
+split-word_and_blank : (word : List ℕ) (b : ℕ) (line : List ℕ) → AllFail is_blank word → is_blank b ≡ true
+    → slice_split is_blank (word ++ (b ∷ line)) ≡ word ∷ slice_split is_blank line
 split-word_and_blank [] b line h e = rw e refl
 split-word_and_blank (c ∷ word) b line h e = rw h.0 (ap (onto_first c) (split-word_and_blank word b line h.1 e))
 
@@ -33,7 +36,8 @@ unfolding words_of
 words_of-word [] l h = absurd (omega arith)
 words_of-word (b ∷ word) l h = rw (split-word (b ∷ word) h) refl
 
-words_of-word_and_blank : (word : List ℕ) (b : ℕ) (line : List ℕ) → 0 < length word → AllFail is_blank word → is_blank b ≡ true → words_of (word ++ (b ∷ line)) ≡ word ∷ words_of (b ∷ line)
+words_of-word_and_blank : (word : List ℕ) (b : ℕ) (line : List ℕ) → 0 < length word → AllFail is_blank word → is_blank b ≡ true
+    → words_of (word ++ (b ∷ line)) ≡ word ∷ words_of (b ∷ line)
 unfolding words_of
 words_of-word_and_blank [] b line l h e = absurd (omega arith)
 words_of-word_and_blank (c ∷ word) b line l h e =
@@ -68,7 +72,8 @@ not_first : (line : List ℕ) (end : ℕ) → is_blank (get_or line 0 0) ≡ fal
 not_first line zero n h = cc
 not_first line (suc end) n h = omega arith
 
-first_word_before_blank : (line : List ℕ) (end : ℕ) → StartsWithWord line → position is_blank line ≡ Some end → IsFirstWord line end
+first_word_before_blank : (line : List ℕ) (end : ℕ) → StartsWithWord line → position is_blank line ≡ Some end
+    → IsFirstWord line end
 first_word_before_blank line end s h =
     let blank = passes_at is_blank line end h in
     let some = not_first line end s.byte blank in
@@ -77,7 +82,8 @@ first_word_before_blank line end s h =
     let behind : drop end line ≡ get_or line end 0 ∷ drop (end + 1) line = rw add-one (drop-cons line end 0 small) in
     record {
       words = ap words_of (split_at_position is_blank line end h)
-          ∙ words_of-word_and_blank (take end line) (get_or line end 0) (drop (end + 1) line) long (fails_before is_blank line end h) blank
+          ∙ words_of-word_and_blank (take end line) (get_or line end 0) (drop (end + 1) line) long
+          (fails_before is_blank line end h) blank
           ∙ ap (λ rest. take end line ∷ words_of rest) (sym behind);
       some = some;
     }
@@ -93,11 +99,13 @@ first_word_at_end line s h =
 pub first_word : (line : List ℕ) → StartsWithWord line → IsFirstWord line (word_end line)
 first_word line s = ends_somewhere line (position is_blank line) s refl
   where
-    ends_somewhere : (line : List ℕ) (found : Option ℕ) → StartsWithWord line → position is_blank line ≡ found → IsFirstWord line (unwrap_or found (length line))
+    ends_somewhere : (line : List ℕ) (found : Option ℕ) → StartsWithWord line → position is_blank line ≡ found
+        → IsFirstWord line (unwrap_or found (length line))
     ends_somewhere line None s h = first_word_at_end line s h
     ends_somewhere line (Some end) s h = first_word_before_blank line end s h
 
-pub starts_with_word : (line : List ℕ) (start : ℕ) → position (λ b. not (is_blank b)) line ≡ Some start → StartsWithWord (drop start line)
+pub starts_with_word : (line : List ℕ) (start : ℕ) → position (λ b. not (is_blank b)) line ≡ Some start
+    → StartsWithWord (drop start line)
 starts_with_word line start h =
     let small = position_is_place (λ b. not (is_blank b)) line start h in
     let here = passes_at (λ b. not (is_blank b)) line start h in
@@ -106,7 +114,8 @@ starts_with_word line start h =
       byte = rw (get_or-drop start line 0 0) (grind (arith, here));
     }
 
-pub words_of-start : (line : List ℕ) (start : ℕ) → position (λ b. not (is_blank b)) line ≡ Some start → words_of line ≡ words_of (drop start line)
+pub words_of-start : (line : List ℕ) (start : ℕ) → position (λ b. not (is_blank b)) line ≡ Some start
+    → words_of line ≡ words_of (drop start line)
 words_of-start line start h =
     ap words_of (sym (take-append-drop start line))
     ∙ words_of-gap (take start line) (drop start line) (fails_before (λ b. not (is_blank b)) line start h)

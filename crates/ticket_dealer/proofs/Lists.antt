@@ -1,5 +1,7 @@
 -- How often a ticket was drawn, and which numbers are above which.
-use Rattle.std.proofs.Common.{◌≡◌, ℕ, ◌+◌, ◌<◌, ◌≤◌, eq-eqb, ne_eqb, Bool, true, false, cond, List, [], ◌∷◌, ◌++◌, length, sum_by, count_by, nat_lt, ◌==◌, if◌then◌else◌, sym, refl, ap, ap₂, ◌∙◌, append_assoc, append-nil, length-append, arith}
+use Rattle.std.proofs.Common.{◌≡◌, ℕ, ◌+◌, ◌<◌, ◌≤◌, eq-eqb, ne_eqb, Bool, true, false, cond, List, [], ◌∷◌, ◌++◌, length}
+use Rattle.std.proofs.Common.{sum_by, count_by, nat_lt, ◌==◌, if◌then◌else◌, sym, refl, ap, ap₂, ◌∙◌, append_assoc, append-nil}
+use Rattle.std.proofs.Common.{length-append, arith}
 use Rattle.std.specs.List.{AllByRecursion}
 use Rattle.std.proofs.lemmas.List.Sums.{sum_by-cons}
 use Rattle.std.proofs.lemmas.Bool.{lt-ltb, ltb-true}
@@ -20,16 +22,23 @@ pub below_yes : (ticket number : ℕ) → ticket < number → once_below number 
 below_yes ticket number below = ap (λ (b : Bool). if b then 1 else 0) (lt-ltb ticket number below)
 
 below_no : (ticket number : ℕ) → number ≤ ticket → once_below number ticket ≡ 0
-below_no ticket number above = ap (λ (b : Bool). if b then 1 else 0) (not_true (nat_lt ticket number) (λ yes. let below = ltb-true ticket number yes in omega (arith, below, above)))
+below_no ticket number above =
+    ap (λ (b : Bool). if b then 1 else 0)
+    (not_true (nat_lt ticket number) (λ yes. let below = ltb-true ticket number yes in omega (arith, below, above)))
 
 -- the next ticket is drawn
 pub once_more : (number ticket : ℕ) → once_below (number + 1) ticket ≡ once_below number ticket + times ticket (number ∷ [])
 once_more number ticket = dite (ℕ_discrete number ticket)
-    (λ same. let a = below_yes ticket (number + 1) (omega (arith, same)) in let b = below_no ticket number (omega (arith, same)) in
-    let c : times ticket (number ∷ []) ≡ 1 = ap (λ (z : Bool). (if z then 1 else 0) + 0) (eq-eqb number ticket same) in omega (arith, a, b, c))
-    (λ other. let c : times ticket (number ∷ []) ≡ 0 = ap (λ (z : Bool). (if z then 1 else 0) + 0) (ne_eqb number ticket other) in dite (dec_le number ticket)
-    (λ above. let a = below_no ticket (number + 1) (omega (arith, above, other)) in let b = below_no ticket number above in omega (arith, a, b, c))
-    (λ not_above. let a = below_yes ticket (number + 1) (omega (arith, not_above)) in let b = below_yes ticket number (omega (arith, not_above)) in omega (arith, a, b, c)))
+    (λ same. let a = below_yes ticket (number + 1) (omega (arith, same)) in
+    let b = below_no ticket number (omega (arith, same)) in
+    let c : times ticket (number ∷ []) ≡ 1 = ap (λ (z : Bool). (if z then 1 else 0) + 0) (eq-eqb number ticket same) in
+    omega (arith, a, b, c))
+    (λ other. let c : times ticket (number ∷ []) ≡ 0 = ap (λ (z : Bool). (if z then 1 else 0) + 0) (ne_eqb number ticket other)
+    in dite (dec_le number ticket)
+    (λ above. let a = below_no ticket (number + 1) (omega (arith, above, other)) in let b = below_no ticket number above in
+    omega (arith, a, b, c))
+    (λ not_above. let a = below_yes ticket (number + 1) (omega (arith, not_above)) in
+    let b = below_yes ticket number (omega (arith, not_above)) in omega (arith, a, b, c)))
 
 pub below_up : (less more : ℕ) (xs : List ℕ) → less ≤ more → AllBelow less xs → AllBelow more xs
 below_up less more [] le all = tt
@@ -40,19 +49,23 @@ below_join number [] ys all also = also
 below_join number (x ∷ xs) ys all also = (all.0, below_join number xs ys all.1 also)
 
 -- a number above all others comes after them
-pub rises_more : (least number : ℕ) (xs : List ℕ) → Rises least xs → AllBelow number xs → least ≤ number → Rises least (xs ++ number ∷ [])
+pub rises_more : (least number : ℕ) (xs : List ℕ) → Rises least xs → AllBelow number xs → least ≤ number
+    → Rises least (xs ++ number ∷ [])
 rises_more least number [] rises all above = (above, tt)
-rises_more least number (x ∷ xs) rises all above = (rises.0, rises_more (x + 1) number xs rises.1 all.1 (let here = all.0 in omega (arith, here)))
+rises_more least number (x ∷ xs) rises all above =
+    (rises.0, rises_more (x + 1) number xs rises.1 all.1 (let here = all.0 in omega (arith, here)))
 
 count_times : (ticket : ℕ) (xs : List ℕ) → count_by (λ drawn. drawn == ticket) xs ≡ times ticket xs
 count_times ticket [] = refl
-count_times ticket (x ∷ xs) = sum_by-cons (λ (drawn : ℕ). cond (drawn == ticket) 1 0) x xs ∙ ap (λ (z : ℕ). (if x == ticket then 1 else 0) + z) (count_times ticket xs)
+count_times ticket (x ∷ xs) = sum_by-cons (λ (drawn : ℕ). cond (drawn == ticket) 1 0) x xs
+    ∙ ap (λ (z : ℕ). (if x == ticket then 1 else 0) + z) (count_times ticket xs)
 
 -- how often the ticket is among those of all seats, in one list
 pub seats_times : (ticket : ℕ) (seats : List SeatValue) → drawn_times ticket seats ≡ times ticket (all_drawn seats)
 seats_times ticket [] = refl
 seats_times ticket (seat ∷ seats) = sum_by-cons (λ (s : SeatValue). count_by (λ drawn. drawn == ticket) s.drawn) seat seats
-    ∙ ap₂ (λ (a b : ℕ). a + b) (count_times ticket seat.drawn) (seats_times ticket seats) ∙ sym (times_join ticket seat.drawn (all_drawn seats))
+    ∙ ap₂ (λ (a b : ℕ). a + b) (count_times ticket seat.drawn) (seats_times ticket seats)
+    ∙ sym (times_join ticket seat.drawn (all_drawn seats))
 
 -- how many tickets all seats have
 pub seats_count : (seats : List SeatValue) → sum_by (λ (s : SeatValue). length s.drawn) seats ≡ length (all_drawn seats)
@@ -65,11 +78,14 @@ seats_count (seat ∷ seats) =
 -- the tickets of some seats and of another
 pub drawn_more : (seats : List SeatValue) (x : SeatValue) → all_drawn (seats ++ x ∷ []) ≡ all_drawn seats ++ x.drawn
 drawn_more [] x = append-nil x.drawn
-drawn_more (seat ∷ seats) x = ap (λ (z : List ℕ). seat.drawn ++ z) (drawn_more seats x) ∙ sym (append_assoc seat.drawn (all_drawn seats) x.drawn)
+drawn_more (seat ∷ seats) x = ap (λ (z : List ℕ). seat.drawn ++ z) (drawn_more seats x)
+    ∙ sym (append_assoc seat.drawn (all_drawn seats) x.drawn)
 
 -- the tickets of the seats that are left, and of those that were taken in with the last of them
-pub drawn_with : (seats : List SeatValue) (x : SeatValue) (drawn more : List ℕ) → drawn ≡ x.drawn → all_drawn seats ++ (drawn ++ more) ≡ all_drawn (seats ++ x ∷ []) ++ more
-drawn_with seats x drawn more is = ap (λ (z : List ℕ). all_drawn seats ++ (z ++ more)) is ∙ sym (append_assoc (all_drawn seats) x.drawn more) ∙ ap (λ (z : List ℕ). z ++ more) (sym (drawn_more seats x))
+pub drawn_with : (seats : List SeatValue) (x : SeatValue) (drawn more : List ℕ) → drawn ≡ x.drawn
+    → all_drawn seats ++ (drawn ++ more) ≡ all_drawn (seats ++ x ∷ []) ++ more
+drawn_with seats x drawn more is = ap (λ (z : List ℕ). all_drawn seats ++ (z ++ more)) is
+    ∙ sym (append_assoc (all_drawn seats) x.drawn more) ∙ ap (λ (z : List ℕ). z ++ more) (sym (drawn_more seats x))
 
 module _ {A : Type 0} where
   -- what holds of each item except the last, and of the last

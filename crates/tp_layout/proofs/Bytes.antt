@@ -1,5 +1,6 @@
 -- Numbers at a place of bytes, and the bytes of numbers.
-use Rattle.std.proofs.Common.{◌≡◌, ℕ, zero, suc, ◌+◌, ◌*◌, ◌/◌, ◌%◌, ◌^◌, ◌≤◌, ◌<◌, List, [], ◌∷◌, ◌++◌, length, get_or, take, drop, refl, sym, ap, ◌∙◌, inl, inr, arith}
+use Rattle.std.proofs.Common.{◌≡◌, ℕ, zero, suc, ◌+◌, ◌*◌, ◌/◌, ◌%◌, ◌^◌, ◌≤◌, ◌<◌, List, [], ◌∷◌, ◌++◌, length, get_or, take}
+use Rattle.std.proofs.Common.{drop, refl, sym, ap, ◌∙◌, inl, inr, arith}
 use Rattle.std.specs.Prelude.{slice_index, All}
 use Rattle.std.specs.Int.{byte_at, bytes_low_first}
 use Rattle.std.proofs.lemmas.Bool.{cases_lt}
@@ -31,14 +32,16 @@ add-zero n = omega arith
 pub number_one : (at : ℕ) (bytes : List ℕ) → number_at 1 at bytes ≡ slice_index bytes at
 unfolding number_at
 number_one at bytes =
-    let place : get_or (drop at bytes) 0 0 ≡ slice_index bytes at = get_or-drop at bytes 0 0 ∙ ap (λ k. get_or bytes k 0) (add-zero at) in
+    let place : get_or (drop at bytes) 0 0 ≡ slice_index bytes at =
+    get_or-drop at bytes 0 0 ∙ ap (λ k. get_or bytes k 0) (add-zero at) in
     rw place (omega arith)
 
 -- two bytes in network order
 pub network_two : (at : ℕ) (bytes : List ℕ) → network_at 2 at bytes ≡ slice_index bytes at * 256 + slice_index bytes (at + 1)
 unfolding network_at
 network_two at bytes =
-    let high : get_or (drop at bytes) 0 0 ≡ slice_index bytes at = get_or-drop at bytes 0 0 ∙ ap (λ k. get_or bytes k 0) (add-zero at) in
+    let high : get_or (drop at bytes) 0 0 ≡ slice_index bytes at =
+    get_or-drop at bytes 0 0 ∙ ap (λ k. get_or bytes k 0) (add-zero at) in
     let low : get_or (drop at bytes) 1 0 ≡ slice_index bytes (at + 1) = get_or-drop at bytes 1 0 in
     rw (high, low) (omega arith)
 
@@ -61,13 +64,15 @@ bytes_shift j zero a v h = refl
 bytes_shift j (suc k) a v h = rw (byte_shift j a v h, bytes_shift (suc j) k a v h) refl
 
 -- the bytes of the number that bytes make
-pub spelled : (n : ℕ) (bytes : List ℕ) → IsBytes bytes → n ≤ length bytes → little_bytes n (little_number n bytes) ≡ take n bytes
+pub spelled : (n : ℕ) (bytes : List ℕ) → IsBytes bytes → n ≤ length bytes
+    → little_bytes n (little_number n bytes) ≡ take n bytes
 spelled zero bytes h fits = refl
 spelled (suc n) [] h fits = absurd (omega arith)
 spelled (suc n) (byte ∷ bytes) h fits =
     let low = h 0 in
     let rest = little_number n bytes in
-    let value : little_number (suc n) (byte ∷ bytes) ≡ byte + 256 * rest = ap (λ (r : ℕ). byte + 256 * r) (little_from-cons 0 n byte bytes) in
+    let value : little_number (suc n) (byte ∷ bytes) ≡ byte + 256 * rest =
+    ap (λ (r : ℕ). byte + 256 * r) (little_from-cons 0 n byte bytes) in
     let back = spelled n bytes (λ i. h (suc i)) (omega arith) in
     let first : (byte + 256 * rest) % 256 ≡ byte = omega arith in
     rw (value, first, bytes_shift 0 n byte rest low, back) refl

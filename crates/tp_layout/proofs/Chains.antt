@@ -1,5 +1,6 @@
 -- A reader's tests are those of the tables.
-use Rattle.std.proofs.Common.{◌≡◌, ℕ, zero, suc, ◌+◌, ◌-◌, ◌/◌, ◌%◌, ◌≤◌, ◌<◌, Bool, true, false, List, [], ◌∷◌, ◌++◌, length, take, drop, refl, ap, ◌∙◌, inl, inr, arith}
+use Rattle.std.proofs.Common.{◌≡◌, ℕ, zero, suc, ◌+◌, ◌-◌, ◌/◌, ◌%◌, ◌≤◌, ◌<◌, Bool, true, false, List, [], ◌∷◌, ◌++◌, length}
+use Rattle.std.proofs.Common.{take, drop, refl, ap, ◌∙◌, inl, inr, arith}
 use Rattle.std.specs.Prelude.{◌==◌, ◌&&◌, slice_index, nat_le, Option, None, Some}
 use Rattle.std.specs.Option.{option_or}
 use Rattle.std.proofs.lemmas.Bool.{eq-eqb, ne_eqb, cases_Bool, and_parts, leb-true}
@@ -16,7 +17,8 @@ use Rattle.tp_layout.specs.Faults.{descriptor_at, snap_may, next_of, packet_faul
 use Rattle.tp_layout.specs.Checks.{unless, head_tests, header_tests, address_tests, fixed_tests, packet_tests, packets_tests}
 use Rattle.tp_layout.proofs.Bytes.{IsBytes, bytes-drop, add-zero, number_one, network_two}
 
-and_true : (a : Bool) (kind : LayoutKind) (at : ℕ) (rest : Option LayoutError) → unless (a && true) kind at rest ≡ unless a kind at rest
+and_true : (a : Bool) (kind : LayoutKind) (at : ℕ) (rest : Option LayoutError)
+    → unless (a && true) kind at rest ≡ unless a kind at rest
 and_true true kind at rest = refl
 and_true false kind at rest = refl
 
@@ -25,16 +27,19 @@ pub fixed : (base from : ℕ) (r : Row) (rows : List Row) (bytes : List ℕ) (re
     → first_fault base (from + r.size) rows bytes ≡ rest
     → first_fault base from (r ∷ rows) bytes ≡ unless (number_at r.size from bytes == r.value) r.kind (base + r.at) rest
 unfolding first_fault
-fixed base from r rows bytes rest may e = rw (may, e) (and_true (number_at r.size from bytes == r.value) r.kind (base + r.at) rest)
+fixed base from r rows bytes rest may e =
+    rw (may, e) (and_true (number_at r.size from bytes == r.value) r.kind (base + r.at) rest)
 
-fixed_at : (base from place : ℕ) (r : Row) (rows : List Row) (bytes : List ℕ) (rest : Option LayoutError) → r.may ≡ true → base + r.at ≡ place
+fixed_at : (base from place : ℕ) (r : Row) (rows : List Row) (bytes : List ℕ) (rest : Option LayoutError) → r.may ≡ true
+    → base + r.at ≡ place
     → first_fault base (from + r.size) rows bytes ≡ rest
     → first_fault base from (r ∷ rows) bytes ≡ unless (number_at r.size from bytes == r.value) r.kind place rest
 fixed_at base from place r rows bytes rest may at e =
     fixed base from r rows bytes rest may e ∙ ap (λ (p : ℕ). unless (number_at r.size from bytes == r.value) r.kind p rest) at
 
 -- a row with the number that is there
-read : (base from : ℕ) (r : Row) (rows : List Row) (bytes : List ℕ) (rest : Option LayoutError) → number_at r.size from bytes ≡ r.value
+read : (base from : ℕ) (r : Row) (rows : List Row) (bytes : List ℕ) (rest : Option LayoutError)
+    → number_at r.size from bytes ≡ r.value
     → first_fault base (from + r.size) rows bytes ≡ rest
     → first_fault base from (r ∷ rows) bytes ≡ unless r.may r.kind (base + r.at) rest
 unfolding first_fault
@@ -43,7 +48,8 @@ read base from r rows bytes rest h e = rw (eq-eqb (number_at r.size from bytes) 
 -- a row with a number and a bound
 both : (base from : ℕ) (r : Row) (rows : List Row) (bytes : List ℕ) (rest : Option LayoutError)
     → first_fault base (from + r.size) rows bytes ≡ rest
-    → first_fault base from (r ∷ rows) bytes ≡ unless ((number_at r.size from bytes == r.value) && r.may) r.kind (base + r.at) rest
+    → first_fault base from (r ∷ rows) bytes ≡ unless ((number_at r.size from bytes == r.value) && r.may) r.kind
+    (base + r.at) rest
 unfolding first_fault
 both base from r rows bytes rest e = rw e refl
 
@@ -109,7 +115,8 @@ address_tests_are at bytes h =
 
 -- two tables, one after another
 pub first_fault-append : (base from : ℕ) (rows more : List Row) (bytes : List ℕ)
-    → first_fault base from (rows ++ more) bytes ≡ option_or (first_fault base from rows bytes) (first_fault base (from + size_of_rows rows) more bytes)
+    → first_fault base from (rows ++ more) bytes ≡ option_or (first_fault base from rows bytes)
+    (first_fault base (from + size_of_rows rows) more bytes)
 unfolding first_fault
 first_fault-append base from [] more bytes = let place : from + 0 ≡ from = omega arith in rw place refl
 first_fault-append base from (r ∷ rows) more bytes =
@@ -124,7 +131,8 @@ first_fault-append base from (r ∷ rows) more bytes =
 
 -- a run of zeros, byte by byte
 pub zeros_step : (base at n : ℕ) (bytes : List ℕ)
-    → first_fault base at (zeros at (suc n)) bytes ≡ unless (slice_index bytes at == 0) Field (base + at) (first_fault base (at + 1) (zeros (at + 1) n) bytes)
+    → first_fault base at (zeros at (suc n)) bytes
+    ≡ unless (slice_index bytes at == 0) Field (base + at) (first_fault base (at + 1) (zeros (at + 1) n) bytes)
 zeros_step base at n bytes = fixed base at (row at 1 0) (zeros (at + 1) n) bytes _ refl refl ∙ rw (number_one at bytes) refl
 
 -- a byte of the run that is zero, one that isn't, the end of the run
@@ -160,24 +168,30 @@ fixed_tests_are at next bytes h size =
     ) refl
 
 -- a packet
-pub packet_tests_are : (last : Bool) (at : ℕ) (bytes : List ℕ) → IsBytes bytes → packet_fault last at bytes ≡ packet_tests last at bytes
+pub packet_tests_are : (last : Bool) (at : ℕ) (bytes : List ℕ) → IsBytes bytes
+    → packet_fault last at bytes ≡ packet_tests last at bytes
 unfolding packet_fault packet_tests
 packet_tests_are last at bytes h =
     elim (cases_Bool (snap_may bytes)) [
       | inl may ↦
-          let parts = and_parts (nat_le 1 (number_at 4 12 bytes) && nat_le (number_at 4 12 bytes) (number_at 4 16 bytes)) (nat_le (need_at bytes) (length bytes)) may in
+          let parts = and_parts (nat_le 1 (number_at 4 12 bytes) && nat_le (number_at 4 12 bytes) (number_at 4 16 bytes))
+          (nat_le (need_at bytes) (length bytes)) may in
           let within = leb-true (need_at bytes) (length bytes) parts.1 in
           rw (fixed_tests_are at (next_of last bytes) bytes h (omega arith)) refl
       | inr not ↦ rw not refl
     ]
 
 -- packets one after another
-pub packets_tests_are : (count at : ℕ) (bytes : List ℕ) → IsBytes bytes → packets_fault count at bytes ≡ packets_tests count at bytes
+pub packets_tests_are : (count at : ℕ) (bytes : List ℕ) → IsBytes bytes
+    → packets_fault count at bytes ≡ packets_tests count at bytes
 unfolding packets_fault packets_tests packets_fault_by
 packets_tests_are zero at [] h = refl
 packets_tests_are zero at (byte ∷ bytes) h = refl
 packets_tests_are (suc more) at bytes h =
-    rw (packet_tests_are (more == 0) at bytes h, packets_tests_are more (at + need_at bytes) (drop (need_at bytes) bytes) (bytes-drop (need_at bytes) bytes h)) refl
+    rw (
+      packet_tests_are (more == 0) at bytes h,
+      packets_tests_are more (at + need_at bytes) (drop (need_at bytes) bytes) (bytes-drop (need_at bytes) bytes h),
+    ) refl
 
 -- what a loop over zeros asks for
 pub ruleset zero_rules = (zeros_pass, zeros_fail, zeros_done)

@@ -29,13 +29,15 @@ text_passes shape said sound lawful =
 pub one_text : (shape : RingRequest) (first second : Said) → HaveOneText shape first second → first ≡ second
 one_text shape first second h =
     let a = text_passes shape first h.sound h.lawful in
-    let b = subst (λ (text : List ℕ). BlockPasses (end_may shape) shape second.number second.status second.packets text) (sym h.same) (text_passes shape second h.sound h.other) in
+    let b = subst (λ (text : List ℕ). BlockPasses (end_may shape) shape second.number second.status second.packets text)
+    (sym h.same) (text_passes shape second h.sound h.other) in
     let number : first.number ≡ second.number = sym a.number_is ∙ b.number_is in
     let status : first.status ≡ second.status = sym a.status_is ∙ b.status_is in
     let packets : first.packets ≡ second.packets = sym a.packets_are ∙ b.packets_are in
     same first second number status packets
   where
-    same : (first second : Said) → first.number ≡ second.number → first.status ≡ second.status → first.packets ≡ second.packets → first ≡ second
+    same : (first second : Said) → first.number ≡ second.number → first.status ≡ second.status → first.packets ≡ second.packets
+        → first ≡ second
     same first second number status packets = λ i. record { number = number i; status = status i; packets = packets i }
 
 -- ---- a block that is filled
@@ -44,19 +46,29 @@ lawful_offer : (shape : RingRequest) (offer : Offer) → IsOffer shape offer →
 lawful_offer shape offer h =
     let sound = h.writable in
     let kept = length-take-le offer.snap offer.frame.bytes sound.captured in
-    record { some = rw kept sound.some; captured = rw kept sound.wire; nsec = sound.nsec; pkttype = sound.pkttype; tag = sound.tag; typed = h.typed }
+    record {
+      some = rw kept sound.some;
+      captured = rw kept sound.wire;
+      nsec = sound.nsec;
+      pkttype = sound.pkttype;
+      tag = sound.tag;
+      typed = h.typed;
+    }
 
 -- what a write of an offer's packet leaves of an open block
-pub packet_held : (shape : RingRequest) (number at : ℕ) (packets : List Packet) (offer : Offer) (bytes new : List ℕ) → IsOffer shape offer
+pub packet_held : (shape : RingRequest) (number at : ℕ) (packets : List Packet) (offer : Offer) (bytes new : List ℕ)
+    → IsOffer shape offer
     → new ≡ put at (packet_text (need_of offer.snap) (packet_of (fills_hash shape) offer)) bytes
-    → IsOpen shape number packets bytes → at ≡ end_of shape packets → IsOpen shape number (packets ++ packet_of (fills_hash shape) offer ∷ []) new
+    → IsOpen shape number packets bytes → at ≡ end_of shape packets
+    → IsOpen shape number (packets ++ packet_of (fills_hash shape) offer ∷ []) new
 packet_held shape number at packets offer bytes new h so is_open here =
     let packet = packet_of (fills_hash shape) offer in
     let kept = length-take-le offer.snap offer.frame.bytes h.writable.captured in
     let whole : new ≡ put at (packet_text (need_of_packet packet) packet) bytes = so ∙ rw kept refl in
     rw whole (held shape number at packets packet bytes is_open here (lawful_offer shape offer h))
 
-needs-append : (packets : List Packet) (packet : Packet) → needs_of (packets ++ packet ∷ []) ≡ needs_of packets + need_of_packet packet
+needs-append : (packets : List Packet) (packet : Packet)
+    → needs_of (packets ++ packet ∷ []) ≡ needs_of packets + need_of_packet packet
 needs-append [] packet = omega (arith, needs-cons packet [])
 needs-append (first ∷ packets) packet =
     omega (arith, needs-append packets packet, needs-cons first (packets ++ packet ∷ []), needs-cons first packets)
@@ -66,7 +78,8 @@ record Filled (shape : RingRequest) (number : ℕ) (packets : List Packet) (byte
   is_open : IsOpen shape number packets bytes
   size : length bytes ≡ shape.block_size
 
-fills : (shape : RingRequest) (number at : ℕ) (done : List Packet) (offers : List Offer) (bytes : List ℕ) → Filled shape number done bytes → at ≡ end_of shape done
+fills : (shape : RingRequest) (number at : ℕ) (done : List Packet) (offers : List Offer) (bytes : List ℕ)
+    → Filled shape number done bytes → at ≡ end_of shape done
     → AllByRecursion (IsOffer shape) offers → at + needs_of (packets_of_offers shape offers) ≤ shape.block_size
     → Filled shape number (done ++ packets_of_offers shape offers) (filled shape at offers bytes)
 fills shape number at done [] bytes h here each fits =
@@ -80,14 +93,17 @@ fills shape number at done (offer ∷ offers) bytes h here each fits =
     let more : Filled shape number (done ++ packet ∷ []) (put at text bytes) =
     record {
       is_open = held shape number at done packet bytes h.is_open here (lawful_offer shape offer each.0);
-      size = length-put at text bytes (omega (arith, length-packet_text (need_of_packet packet) packet, fits, sum, h.size)) ∙ h.size;
+      size = length-put at text bytes
+          (omega (arith, length-packet_text (need_of_packet packet) packet, fits, sum, h.size)) ∙ h.size;
     } in
     let rest = fills shape number (at + need_of_packet packet) (done ++ packet ∷ []) offers (put at text bytes) more
     (omega (arith, here, needs-append done packet)) each.1 (omega (arith, fits, sum)) in
-    rw need (subst (λ (packets : List Packet). Filled shape number packets (filled shape (at + need_of_packet packet) offers (put at text bytes)))
+    rw need (subst (λ (packets : List Packet). Filled shape number packets
+    (filled shape (at + need_of_packet packet) offers (put at text bytes)))
     (append_assoc done (packet ∷ []) (packets_of_offers shape offers)) rest)
 
-pub fills_whole : (shape : RingRequest) (number status : ℕ) (offers : List Offer) (bytes : List ℕ) → GoIn shape number status offers bytes
+pub fills_whole : (shape : RingRequest) (number status : ℕ) (offers : List Offer) (bytes : List ℕ)
+    → GoIn shape number status offers bytes
     → BeginsWith shape number status (packets_of_offers shape offers) (written shape number status offers bytes)
 fills_whole shape number status offers bytes h =
     let header = open_header shape number in
@@ -96,6 +112,7 @@ fills_whole shape number status offers bytes h =
     let start : Filled shape number [] (put 0 header bytes) =
     record { is_open = opened shape number bytes h.small; size = length-put 0 header bytes first_fits ∙ h.block } in
     let whole = fills shape number first [] offers (put 0 header bytes) start (omega arith) h.each h.fits in
-    let some : 0 < length (packets_of_offers shape offers) = omega (arith, h.some, length-map offers (packet_of (fills_hash shape))) in
+    let some : 0 < length (packets_of_offers shape offers) =
+    omega (arith, h.some, length-map offers (packet_of (fills_hash shape))) in
     closes shape number (closing_of shape status (packets_of_offers shape offers)) (packets_of_offers shape offers)
     (filled shape first offers (put 0 header bytes)) whole.size whole.is_open h.numbered some refl h.retired

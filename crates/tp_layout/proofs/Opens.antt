@@ -1,8 +1,10 @@
 -- An open block keeps what was written, and its close makes it the text of a retired block.
-use Rattle.std.proofs.Common.{◌≡◌, ℕ, ◌+◌, ◌-◌, ◌^◌, ◌≤◌, ◌<◌, List, [], ◌∷◌, ◌++◌, length, take, drop, refl, sym, ap, ◌∙◌, arith, append_assoc}
+use Rattle.std.proofs.Common.{◌≡◌, ℕ, ◌+◌, ◌-◌, ◌^◌, ◌≤◌, ◌<◌, List, [], ◌∷◌, ◌++◌, length, take, drop, refl, sym, ap, ◌∙◌}
+use Rattle.std.proofs.Common.{arith, append_assoc}
 use Rattle.std.specs.Prelude.{IsTrue}
 use Rattle.std.specs.List.{AllByRecursion}
-use Rattle.std.proofs.lemmas.List.{append-nil, length-append, length-take, length-replicate, take_at, drop_at, drop-drop, take-append-drop, take-append-le, drop-append-le}
+use Rattle.std.proofs.lemmas.List.{append-nil, length-append, length-take, length-replicate, take_at, drop_at, drop-drop}
+use Rattle.std.proofs.lemmas.List.{take-append-drop, take-append-le, drop-append-le}
 use Rattle.std.proofs.lemmas.List.Sums.{sum_by-cons}
 use Rattle.byteorder.specs.Endian.{little_bytes}
 use Rattle.frame_view.specs.declared.frames.Packet.{Packet}
@@ -11,7 +13,8 @@ use Rattle.tp_layout.specs.declared.block_writes.Closing.{Closing}
 use Rattle.tp_layout.specs.Requests.{first_of}
 use Rattle.tp_layout.specs.Rows.{bytes_of}
 use Rattle.tp_layout.specs.Packets.{packet_text, need_of_packet, IsLawfulPacket, packet_rows}
-use Rattle.tp_layout.specs.Blocks.{Descriptor, BeginsWith, head_rows, time_rows, private_rows, end_may, is_status, descriptor_of, descriptor_text, packets_text, block_text, needs_of}
+use Rattle.tp_layout.specs.Blocks.{Descriptor, BeginsWith, head_rows, time_rows, private_rows, end_may, is_status}
+use Rattle.tp_layout.specs.Blocks.{descriptor_of, descriptor_text, packets_text, block_text, needs_of}
 use Rattle.tp_layout.specs.BlockWrites.{IsOpen, put, empty_descriptor, open_header, open_packets, open_text, end_of, last_place}
 use Rattle.tp_layout.specs.BlockWrites.{closing_of, closing_times, closed}
 use Rattle.tp_layout.proofs.Puts.{length-put, length-bytes_of, bytes_of-zeros, length-packet_text}
@@ -23,7 +26,8 @@ unfolding descriptor_text
 length-descriptor shape desc =
     omega (
       arith,
-      length-append (bytes_of (head_rows (end_may shape) shape desc)) (bytes_of (time_rows desc) ++ bytes_of (private_rows shape)),
+      length-append (bytes_of (head_rows (end_may shape) shape desc))
+          (bytes_of (time_rows desc) ++ bytes_of (private_rows shape)),
       length-append (bytes_of (time_rows desc)) (bytes_of (private_rows shape)),
       length-bytes_of (head_rows (end_may shape) shape desc),
       length-bytes_of (time_rows desc),
@@ -31,19 +35,32 @@ length-descriptor shape desc =
       length-replicate {A = ℕ} (first_of shape - 48) 0,
     )
 
-pub needs-cons : (packet : Packet) (packets : List Packet) → needs_of (packet ∷ packets) ≡ need_of_packet packet + needs_of packets
+pub needs-cons : (packet : Packet) (packets : List Packet)
+    → needs_of (packet ∷ packets) ≡ need_of_packet packet + needs_of packets
 needs-cons packet packets = sum_by-cons need_of_packet packet packets
 
 pub length-open_packets : (packets : List Packet) → length (open_packets packets) ≡ needs_of packets
 unfolding open_packets
 length-open_packets [] = refl
 length-open_packets (packet ∷ packets) =
-    omega (arith, length-append (packet_text (need_of_packet packet) packet) (open_packets packets), length-packet_text (need_of_packet packet) packet, length-open_packets packets, needs-cons packet packets)
+    omega (
+      arith,
+      length-append (packet_text (need_of_packet packet) packet) (open_packets packets),
+      length-packet_text (need_of_packet packet) packet,
+      length-open_packets packets,
+      needs-cons packet packets,
+    )
 
-pub length-open_text : (shape : RingRequest) (number : ℕ) (packets : List Packet) → length (open_text shape number packets) ≡ end_of shape packets
+pub length-open_text : (shape : RingRequest) (number : ℕ) (packets : List Packet)
+    → length (open_text shape number packets) ≡ end_of shape packets
 unfolding open_text open_header
 length-open_text shape number packets =
-    omega (arith, length-append (open_header shape number) (open_packets packets), length-descriptor shape (empty_descriptor shape number), length-open_packets packets)
+    omega (
+      arith,
+      length-append (open_header shape number) (open_packets packets),
+      length-descriptor shape (empty_descriptor shape number),
+      length-open_packets packets,
+    )
 
 pub length-packets_text : (packets : List Packet) → length (packets_text packets) ≡ needs_of packets
 unfolding packets_text
@@ -101,27 +118,32 @@ no_packets : (shape : RingRequest) (number : ℕ) (rest : List ℕ)
 unfolding open_text open_packets
 no_packets shape number rest = rw (append-nil (open_header shape number)) (begins (open_header shape number) rest)
 
-pub opened : (shape : RingRequest) (number : ℕ) (bytes : List ℕ) → number < 2 ^ 64 → IsOpen shape number [] (put 0 (open_header shape number) bytes)
+pub opened : (shape : RingRequest) (number : ℕ) (bytes : List ℕ) → number < 2 ^ 64
+    → IsOpen shape number [] (put 0 (open_header shape number) bytes)
 opened shape number bytes small =
     record { small = small; each = tt; begins = no_packets shape number (drop (0 + length (open_header shape number)) bytes) }
 
 -- ---- one more packet
 
-open_packets-push : (packets : List Packet) (packet : Packet) → open_packets (packets ++ packet ∷ []) ≡ open_packets packets ++ packet_text (need_of_packet packet) packet
+open_packets-push : (packets : List Packet) (packet : Packet)
+    → open_packets (packets ++ packet ∷ []) ≡ open_packets packets ++ packet_text (need_of_packet packet) packet
 unfolding open_packets
 open_packets-push [] packet = append-nil (packet_text (need_of_packet packet) packet)
 open_packets-push (first ∷ packets) packet =
     ap (λ (xs : List ℕ). packet_text (need_of_packet first) first ++ xs) (open_packets-push packets packet)
-    ∙ sym (append_assoc (packet_text (need_of_packet first) first) (open_packets packets) (packet_text (need_of_packet packet) packet))
+    ∙ sym (append_assoc (packet_text (need_of_packet first) first) (open_packets packets)
+    (packet_text (need_of_packet packet) packet))
 
 open_text-push : (shape : RingRequest) (number : ℕ) (packets : List Packet) (packet : Packet)
-    → open_text shape number (packets ++ packet ∷ []) ≡ open_text shape number packets ++ packet_text (need_of_packet packet) packet
+    → open_text shape number (packets ++ packet ∷ []) ≡ open_text shape number packets
+    ++ packet_text (need_of_packet packet) packet
 unfolding open_text
 open_text-push shape number packets packet =
     ap (λ (xs : List ℕ). open_header shape number ++ xs) (open_packets-push packets packet)
     ∙ sym (append_assoc (open_header shape number) (open_packets packets) (packet_text (need_of_packet packet) packet))
 
-each_push : (packets : List Packet) (packet : Packet) → AllByRecursion IsLawfulPacket packets → IsLawfulPacket packet → AllByRecursion IsLawfulPacket (packets ++ packet ∷ [])
+each_push : (packets : List Packet) (packet : Packet) → AllByRecursion IsLawfulPacket packets → IsLawfulPacket packet
+    → AllByRecursion IsLawfulPacket (packets ++ packet ∷ [])
 each_push [] packet each lawful = (lawful, tt)
 each_push (first ∷ packets) packet each lawful = (each.0, each_push packets packet each.1 lawful)
 
@@ -134,8 +156,10 @@ held shape number at packets packet bytes is_open here lawful =
     let size : length old ≡ at = length-open_text shape number packets ∙ sym here in
     let so : put at text bytes ≡ old ++ (text ++ drop (length text) (drop (length old) bytes)) =
     ap (put at text) (split old bytes is_open.begins) ∙ put-right at text old (drop (length old) bytes) size in
-    let grouped : put at text bytes ≡ open_text shape number (packets ++ packet ∷ []) ++ drop (length text) (drop (length old) bytes) =
-    so ∙ sym (append_assoc old text _) ∙ ap (λ (xs : List ℕ). xs ++ drop (length text) (drop (length old) bytes)) (sym (open_text-push shape number packets packet)) in
+    let grouped : put at text bytes ≡ open_text shape number (packets ++ packet ∷ [])
+    ++ drop (length text) (drop (length old) bytes) =
+    so ∙ sym (append_assoc old text _) ∙ ap (λ (xs : List ℕ). xs ++ drop (length text) (drop (length old) bytes))
+    (sym (open_text-push shape number packets packet)) in
     record {
       small = is_open.small;
       each = each_push packets packet is_open.each lawful;
@@ -148,13 +172,15 @@ four : (a b c d : List ℕ) → (a ++ b) ++ (c ++ d) ≡ a ++ ((b ++ c) ++ d)
 four a b c d = simp append_assoc refl
 
 -- the text of a packet that says that there is no next one
-next_cut : (next : ℕ) (packet : Packet) (rest : List ℕ) → little_bytes 4 0 ++ drop 4 (packet_text next packet ++ rest) ≡ packet_text 0 packet ++ rest
+next_cut : (next : ℕ) (packet : Packet) (rest : List ℕ)
+    → little_bytes 4 0 ++ drop 4 (packet_text next packet ++ rest) ≡ packet_text 0 packet ++ rest
 unfolding packet_text packet_rows bytes_of
 next_cut next packet rest = refl
 
 -- the offset of the last packet
 last_closed : (at : ℕ) (front : List ℕ) (packets : List Packet) (rest : List ℕ) → length front ≡ at → 0 < length packets
-    → put (last_place at packets) (little_bytes 4 0) (front ++ (open_packets packets ++ rest)) ≡ front ++ (packets_text packets ++ rest)
+    → put (last_place at packets) (little_bytes 4 0) (front ++ (open_packets packets ++ rest)) ≡ front
+    ++ (packets_text packets ++ rest)
 unfolding open_packets packets_text
 last_closed at front [] rest size some = absurd (omega arith)
 last_closed at front (packet ∷ []) rest size some =
@@ -167,7 +193,8 @@ last_closed at front (packet ∷ next ∷ packets) rest size some =
     let text = packet_text (need_of_packet packet) packet in
     let more = open_packets (next ∷ packets) in
     let whole = packets_text (next ∷ packets) in
-    let longer : length (front ++ text) ≡ at + need_of_packet packet = omega (arith, length-append front text, length-packet_text (need_of_packet packet) packet) in
+    let longer : length (front ++ text) ≡ at + need_of_packet packet =
+    omega (arith, length-append front text, length-packet_text (need_of_packet packet) packet) in
     let ih = last_closed (at + need_of_packet packet) (front ++ text) (next ∷ packets) rest longer (omega arith) in
     ap (put (last_place (at + need_of_packet packet) (next ∷ packets)) (little_bytes 4 0)) (sym (four front text more rest))
     ∙ ih ∙ four front text whole rest
@@ -192,7 +219,8 @@ length-times closing = refl
 -- bytes that begin with an open block begin with the text of the retired one
 pub closed_text : (shape : RingRequest) (number status : ℕ) (packets : List Packet) (bytes : List ℕ)
     → take (length (open_text shape number packets)) bytes ≡ open_text shape number packets → 0 < length packets
-    → closed (closing_of shape status packets) bytes ≡ block_text shape number status packets ++ drop (length (open_text shape number packets)) bytes
+    → closed (closing_of shape status packets) bytes ≡ block_text shape number status packets
+    ++ drop (length (open_text shape number packets)) bytes
 unfolding closed open_text block_text
 closed_text shape number status packets bytes e some =
     let header = open_header shape number in
@@ -202,16 +230,22 @@ closed_text shape number status packets bytes e some =
     let size = length-header shape number in
     let so : bytes ≡ header ++ (body ++ rest) = split (header ++ body) bytes e ∙ append_assoc header body rest in
     let desc = descriptor_text shape (descriptor_of shape number status packets) in
-    let one = put-left 8 (little_bytes 4 status ++ little_bytes 4 (length packets)) header (body ++ rest) (omega (arith, size)) in
+    let one = put-left 8 (little_bytes 4 status ++ little_bytes 4 (length packets)) header (body ++ rest)
+    (omega (arith, size)) in
     let h1 = put 8 (little_bytes 4 status ++ little_bytes 4 (length packets)) header in
-    let s1 : length h1 ≡ first_of shape = length-put 8 (little_bytes 4 status ++ little_bytes 4 (length packets)) header (omega (arith, size)) ∙ size in
+    let s1 : length h1 ≡ first_of shape =
+    length-put 8 (little_bytes 4 status ++ little_bytes 4 (length packets)) header (omega (arith, size)) ∙ size in
     let two = put-left 20 (little_bytes 4 (end_of shape packets)) h1 (body ++ rest) (omega (arith, s1)) in
     let h2 = put 20 (little_bytes 4 (end_of shape packets)) h1 in
     let s2 : length h2 ≡ first_of shape = length-put 20 (little_bytes 4 (end_of shape packets)) h1 (omega (arith, s1)) ∙ s1 in
     let times = length-times closing in
     let three = put-left 32 (closing_times closing) h2 (body ++ rest) (omega (arith, s2, times)) in
-    let head : put 32 (closing_times closing) (put 20 (little_bytes 4 (end_of shape packets)) (put 8 (little_bytes 4 status ++ little_bytes 4 (length packets)) bytes)) ≡ desc ++ (body ++ rest) =
-    ap (λ (xs : List ℕ). put 32 (closing_times closing) (put 20 (little_bytes 4 (end_of shape packets)) (put 8 (little_bytes 4 status ++ little_bytes 4 (length packets)) xs))) so
+    let head : put 32 (closing_times closing)
+    (put 20 (little_bytes 4 (end_of shape packets))
+    (put 8 (little_bytes 4 status ++ little_bytes 4 (length packets)) bytes)) ≡ desc ++ (body ++ rest) =
+    ap (λ (xs : List ℕ). put 32 (closing_times closing)
+    (put 20 (little_bytes 4 (end_of shape packets)) (put 8 (little_bytes 4 status ++ little_bytes 4 (length packets)) xs)))
+    so
     ∙ ap (λ (xs : List ℕ). put 32 (closing_times closing) (put 20 (little_bytes 4 (end_of shape packets)) xs)) one
     ∙ ap (put 32 (closing_times closing)) two ∙ three
     ∙ ap (λ (xs : List ℕ). xs ++ (body ++ rest)) (head_closed shape number status packets) in
@@ -220,12 +254,15 @@ closed_text shape number status packets bytes e some =
     ∙ sym (append_assoc desc (packets_text packets) rest)
 
 -- the close of an open block
-pub closes : (shape : RingRequest) (number : ℕ) (closing : Closing) (packets : List Packet) (bytes : List ℕ) → length bytes ≡ shape.block_size
-    → IsOpen shape number packets bytes → 0 < number → 0 < length packets → closing ≡ closing_of shape closing.status packets → IsTrue (is_status closing.status)
+pub closes : (shape : RingRequest) (number : ℕ) (closing : Closing) (packets : List Packet) (bytes : List ℕ)
+    → length bytes ≡ shape.block_size
+    → IsOpen shape number packets bytes → 0 < number → 0 < length packets → closing ≡ closing_of shape closing.status packets
+    → IsTrue (is_status closing.status)
     → BeginsWith shape number closing.status packets (closed closing bytes)
 closes shape number closing packets bytes size is_open numbered some e retired =
     let text = closed_text shape number closing.status packets bytes is_open.begins some in
-    let so : closed closing bytes ≡ block_text shape number closing.status packets ++ drop (length (open_text shape number packets)) bytes =
+    let so : closed closing bytes ≡ block_text shape number closing.status packets
+    ++ drop (length (open_text shape number packets)) bytes =
     ap (λ (x : Closing). closed x bytes) e ∙ text in
     record {
       lawful = record {
@@ -234,7 +271,12 @@ closes shape number closing packets bytes size is_open numbered some e retired =
         retired = retired;
         some = some;
         each = is_open.each;
-        fits = omega (arith, within (open_text shape number packets) bytes is_open.begins, length-open_text shape number packets, size);
+        fits = omega (
+          arith,
+          within (open_text shape number packets) bytes is_open.begins,
+          length-open_text shape number packets,
+          size,
+        );
       };
       begins = rw so (begins (block_text shape number closing.status packets) _);
     }

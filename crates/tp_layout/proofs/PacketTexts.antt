@@ -1,5 +1,6 @@
 -- The text of a packet is what passes the tests.
-use Rattle.std.proofs.Common.{◌≡◌, ℕ, zero, suc, ◌+◌, ◌-◌, ◌/◌, ◌%◌, ◌^◌, ◌≤◌, ◌<◌, Bool, true, false, List, ◌++◌, length, take, drop, refl, sym, ap, ◌∙◌, inl, inr, arith, append_assoc}
+use Rattle.std.proofs.Common.{◌≡◌, ℕ, zero, suc, ◌+◌, ◌-◌, ◌/◌, ◌%◌, ◌^◌, ◌≤◌, ◌<◌, Bool, true, false, List, ◌++◌, length, take}
+use Rattle.std.proofs.Common.{drop, refl, sym, ap, ◌∙◌, inl, inr, arith, append_assoc}
 use Rattle.std.specs.Prelude.{◌==◌, ◌&&◌, nat_le, slice_index, if◌then◌else◌, IfSome, IsTrue, Option, None, Some}
 use Rattle.std.proofs.Math.Seq.{take-add}
 use Rattle.std.proofs.lemmas.Bool.{cases_Bool, eq-eqb, eqb-true, le-leb, leb-true, and_parts, and_from, or_cases}
@@ -12,14 +13,16 @@ use Rattle.ring_model.specs.Sizes.{need_of}
 use Rattle.tp_layout.specs.declared.error.LayoutError.{LayoutError}
 use Rattle.tp_layout.specs.declared.error.LayoutKind.{LayoutKind}
 use Rattle.tp_layout.specs.Rows.{zeros, number_at, network_at, bytes_of}
-use Rattle.tp_layout.specs.Packets.{status_of_tag, tci_of, tpid_of, tpid_may, header_rows, address_rows, packet_rows, padding_rows, packet_text, need_of_packet, IsLawfulPacket, tag_at, packet_at, need_at}
+use Rattle.tp_layout.specs.Packets.{status_of_tag, tci_of, tpid_of, tpid_may, header_rows, address_rows, packet_rows}
+use Rattle.tp_layout.specs.Packets.{padding_rows, packet_text, need_of_packet, IsLawfulPacket, tag_at, packet_at, need_at}
 use Rattle.tp_layout.specs.Faults.{snap_may, next_of}
 use Rattle.tp_layout.specs.Checks.{unless, header_tests, address_tests, packet_tests}
 use Rattle.tp_layout.proofs.Bytes.{IsBytes, number_fits, number_one, network_two, six_bytes, are_bytes, all_bytes}
 use Rattle.tp_layout.proofs.Chains.{fixed_tests_are}
 use Rattle.tp_layout.proofs.Walks.{Front, front_tests, unless_none, or_none}
 use Rattle.tp_layout.proofs.Puts.{bytes_of-append, length-packet_rows, length-packet_text, length-bytes_of}
-use Rattle.tp_layout.proofs.Tables.{AllRead, AllFit, bytes_read, read_bytes, rows_read, zeros_read, zeros_passed, zeros_fit, size_of_zeros, behind}
+use Rattle.tp_layout.proofs.Tables.{AllRead, AllFit, bytes_read, read_bytes, rows_read, zeros_read, zeros_passed, zeros_fit}
+use Rattle.tp_layout.proofs.Tables.{size_of_zeros, behind}
 
 -- ---- what passes is a text
 
@@ -82,17 +85,21 @@ reads last at bytes h first =
     let next = next_of last bytes in
     let packet = packet_at bytes in
     let room : 82 + snap ≤ length bytes = omega arith in
-    let kept : length (take snap (drop 82 bytes)) ≡ snap = length-take-le snap (drop 82 bytes) (omega (arith, length-drop 82 bytes)) in
+    let kept : length (take snap (drop 82 bytes)) ≡ snap =
+    length-take-le snap (drop 82 bytes) (omega (arith, length-drop 82 bytes)) in
     let rows = rows_read at 0 (packet_rows next packet) bytes (fixed_tests_are at next bytes h room ∙ first.fixed) in
     let front : take 82 bytes ≡ bytes_of (packet_rows next packet) =
     ap (λ (n : ℕ). take n bytes) (sym (sym (length-bytes_of (packet_rows next packet)) ∙ length-packet_rows next packet))
-    ∙ bytes_read 0 (packet_rows next packet) bytes h (omega (arith, first.header, sym (length-bytes_of (packet_rows next packet)) ∙ length-packet_rows next packet)) rows in
+    ∙ bytes_read 0 (packet_rows next packet) bytes h
+    (omega (arith, first.header, sym (length-bytes_of (packet_rows next packet)) ∙ length-packet_rows next packet)) rows in
     let size = size_of_zeros (82 + snap) (need_of snap - (82 + snap)) in
     let padding : take (need_of snap - (82 + snap)) (drop (82 + snap) bytes) ≡ bytes_of (padding_rows snap) =
     ap (λ (n : ℕ). take n (drop (82 + snap) bytes)) (sym size)
-    ∙ bytes_read (82 + snap) (padding_rows snap) bytes h (omega (arith, size, within)) (zeros_read at (82 + snap) (need_of snap - (82 + snap)) bytes first.padding) in
+    ∙ bytes_read (82 + snap) (padding_rows snap) bytes h (omega (arith, size, within))
+    (zeros_read at (82 + snap) (need_of snap - (82 + snap)) bytes first.padding) in
     let sum : need_of snap ≡ 82 + (snap + (need_of snap - (82 + snap))) = omega arith in
-    let cut : take (need_of snap) bytes ≡ take 82 bytes ++ (take snap (drop 82 bytes) ++ take (need_of snap - (82 + snap)) (drop (82 + snap) bytes)) =
+    let cut : take (need_of snap) bytes ≡ take 82 bytes
+    ++ (take snap (drop 82 bytes) ++ take (need_of snap - (82 + snap)) (drop (82 + snap) bytes)) =
     ap (λ (n : ℕ). take n bytes) sum
     ∙ take-add 82 (snap + (need_of snap - (82 + snap))) bytes
     ∙ ap (λ (xs : List ℕ). take 82 bytes ++ xs) (take-add snap (need_of snap - (82 + snap)) (drop 82 bytes)
@@ -123,7 +130,8 @@ reads last at bytes h first =
 
 -- ---- a text passes
 
-pub pass : (test : Bool) (kind : LayoutKind) (at : ℕ) (rest : Option LayoutError) → test ≡ true → rest ≡ None → unless test kind at rest ≡ None
+pub pass : (test : Bool) (kind : LayoutKind) (at : ℕ) (rest : Option LayoutError) → test ≡ true → rest ≡ None
+    → unless test kind at rest ≡ None
 pass test kind at rest e more = rw (e, more) refl
 
 small_tci : (tag : Option Tag) → IfSome tag (λ tag. tag.tci < 2 ^ 16) → tci_of tag < 256 ^ 4
@@ -215,18 +223,25 @@ record Numbers (next : ℕ) (packet : Packet) (bytes rest : List ℕ) : Type 0 w
   gap : AllRead 66 (zeros 66 16) bytes
   left : drop 82 bytes ≡ packet.bytes ++ (bytes_of (padding_rows (length packet.bytes)) ++ rest)
 
-numbers : (next : ℕ) (packet : Packet) (bytes rest : List ℕ) → next < 2 ^ 32 → IsLawfulPacket packet → bytes ≡ packet_text next packet ++ rest
+numbers : (next : ℕ) (packet : Packet) (bytes rest : List ℕ) → next < 2 ^ 32 → IsLawfulPacket packet
+    → bytes ≡ packet_text next packet ++ rest
     → Numbers next packet bytes rest
 unfolding packet_text packet_rows
 numbers next packet bytes rest small lawful e =
     let after = packet.bytes ++ (bytes_of (padding_rows (length packet.bytes)) ++ rest) in
     let header = header_rows next packet in
     let address = address_rows packet in
-    let padded : (packet.bytes ++ bytes_of (padding_rows (length packet.bytes))) ++ rest ≡ after = append_assoc packet.bytes _ rest in
+    let padded : (packet.bytes ++ bytes_of (padding_rows (length packet.bytes))) ++ rest ≡ after =
+    append_assoc packet.bytes _ rest in
     let whole : bytes ≡ bytes_of header ++ (bytes_of (zeros 40 8) ++ (bytes_of address ++ (bytes_of (zeros 66 16) ++ after))) =
-    e ∙ rw (bytes_of-append header (zeros 40 8 ++ (address ++ zeros 66 16)), bytes_of-append (zeros 40 8) (address ++ zeros 66 16), bytes_of-append address (zeros 66 16))
+    e ∙ rw (
+      bytes_of-append header (zeros 40 8 ++ (address ++ zeros 66 16)),
+      bytes_of-append (zeros 40 8) (address ++ zeros 66 16),
+      bytes_of-append address (zeros 66 16),
+    )
     (simp append_assoc refl) in
-    let b : drop 40 bytes ≡ bytes_of (zeros 40 8) ++ (bytes_of address ++ (bytes_of (zeros 66 16) ++ after)) = behind 0 header bytes _ whole in
+    let b : drop 40 bytes ≡ bytes_of (zeros 40 8) ++ (bytes_of address ++ (bytes_of (zeros 66 16) ++ after)) =
+    behind 0 header bytes _ whole in
     let c : drop 48 bytes ≡ bytes_of address ++ (bytes_of (zeros 66 16) ++ after) = behind 40 (zeros 40 8) bytes _ b in
     let d : drop 66 bytes ≡ bytes_of (zeros 66 16) ++ after = behind 48 address bytes _ c in
     record {
@@ -238,7 +253,8 @@ numbers next packet bytes rest small lawful e =
     }
 
 tag_back : (tag : Option Tag) (bytes : List ℕ) → IfSome tag (λ tag. tag.tci < 2 ^ 16)
-    → number_at 4 20 bytes ≡ status_of_tag tag → number_at 4 32 bytes ≡ tci_of tag → number_at 2 36 bytes ≡ tpid_of tag → tag_at bytes ≡ tag
+    → number_at 4 20 bytes ≡ status_of_tag tag → number_at 4 32 bytes ≡ tci_of tag → number_at 2 36 bytes ≡ tpid_of tag
+    → tag_at bytes ≡ tag
 tag_back None bytes h status tci tpid = rw status refl
 tag_back (Some tag) bytes h status tci tpid =
     let low : tag.tci % 65536 ≡ tag.tci = omega (arith, h) in
@@ -258,11 +274,13 @@ next_small : (last : Bool) (packet : Packet) → need_of_packet packet ≤ 10485
 next_small true packet small = omega arith
 next_small false packet small = omega (arith, small)
 
-next_same : (last : Bool) (packet : Packet) (bytes : List ℕ) → need_at bytes ≡ need_of_packet packet → next_of last bytes ≡ next_in last packet
+next_same : (last : Bool) (packet : Packet) (bytes : List ℕ) → need_at bytes ≡ need_of_packet packet
+    → next_of last bytes ≡ next_in last packet
 next_same true packet bytes e = refl
 next_same false packet bytes e = e
 
-pub passes_tests : (last : Bool) (at : ℕ) (packet : Packet) (bytes rest : List ℕ) → need_of_packet packet ≤ 1048576 → IsLawfulPacket packet
+pub passes_tests : (last : Bool) (at : ℕ) (packet : Packet) (bytes rest : List ℕ) → need_of_packet packet ≤ 1048576
+    → IsLawfulPacket packet
     → bytes ≡ packet_text (next_in last packet) packet ++ rest → PassesTests last at packet bytes
 unfolding packet_at header_tests address_tests
 passes_tests last at packet bytes rest small lawful e =
@@ -283,14 +301,16 @@ passes_tests last at packet bytes rest small lawful e =
     let b5 : slice_index bytes 65 ≡ slice_index packet.addr 5 = sym (number_one 65 bytes) ∙ a.1.1.1.1.1.1.1.1.1.1.1.1.0 in
     let addr : address_of 60 bytes ≡ packet.addr = rw (b0, b1, b2, b3, b4, b5) (sym (six_bytes packet.addr lawful.typed.six)) in
     let kept : take (number_at 4 12 bytes) (drop 82 bytes) ≡ packet.bytes =
-    rw (snap, n.left) (take_at packet.bytes (bytes_of (padding_rows (length packet.bytes)) ++ rest) (length packet.bytes) refl) in
+    rw (snap, n.left) (take_at packet.bytes (bytes_of (padding_rows (length packet.bytes)) ++ rest)
+    (length packet.bytes) refl) in
     let size : length bytes ≡ need_of_packet packet + length rest =
     ap length e ∙ omega (arith, length-append (packet_text next packet) rest, length-packet_text next packet) in
     let some = lawful.some in
     let need : need_at bytes ≡ need_of_packet packet = ap need_of snap in
     let long : 88 ≤ length bytes = omega (arith, size) in
     let may : snap_may bytes ≡ true =
-    and_from _ _ (and_from _ _ (le-leb 1 (number_at 4 12 bytes) (rw snap some)) (le-leb (number_at 4 12 bytes) (number_at 4 16 bytes) (rw (snap, h.1.1.1.1.0) lawful.captured)))
+    and_from _ _ (and_from _ _ (le-leb 1 (number_at 4 12 bytes) (rw snap some))
+    (le-leb (number_at 4 12 bytes) (number_at 4 16 bytes) (rw (snap, h.1.1.1.1.0) lawful.captured)))
     (le-leb (need_at bytes) (length bytes) (omega (arith, need, size))) in
     let here = next_same last packet bytes need in
     let header : header_tests at (next_of last bytes) bytes ≡ None =
@@ -301,7 +321,8 @@ passes_tests last at packet bytes rest small lawful e =
     (pass (number_at 2 26 bytes == 96) _ _ _ (eq-eqb _ _ h.1.1.1.1.1.1.1.0)
     (pass (number_at 4 32 bytes == tci_of (tag_at bytes)) _ _ _ (eq-eqb _ _ (h.1.1.1.1.1.1.1.1.1.0 ∙ ap tci_of (sym tag)))
     (pass ((number_at 2 36 bytes == tpid_of (tag_at bytes)) && tpid_may (tag_at bytes)) _ _ _
-    (and_from _ _ (eq-eqb _ _ (h.1.1.1.1.1.1.1.1.1.1.0 ∙ ap tpid_of (sym tag))) (ap tpid_may tag ∙ may_tpid packet.tag lawful.tag))
+    (and_from _ _ (eq-eqb _ _ (h.1.1.1.1.1.1.1.1.1.1.0 ∙ ap tpid_of (sym tag)))
+    (ap tpid_may tag ∙ may_tpid packet.tag lawful.tag))
     (pass (number_at 2 38 bytes == 0) _ _ _ (eq-eqb _ _ h.1.1.1.1.1.1.1.1.1.1.1.0) refl))))))) in
     let address : address_tests at 48 bytes ≡ None =
     pass (number_at 2 48 bytes == 17) _ _ _ (eq-eqb _ _ a.0)
@@ -311,9 +332,11 @@ passes_tests last at packet bytes rest small lawful e =
     (pass (number_at 1 59 bytes == 6) _ _ _ (eq-eqb _ _ a.1.1.1.1.1.1.0) refl)))) in
     let pad = need_of (length packet.bytes) - (82 + length packet.bytes) in
     let after : drop (82 + length packet.bytes) bytes ≡ bytes_of (padding_rows (length packet.bytes)) ++ rest =
-    sym (drop-drop (length packet.bytes) 82 bytes) ∙ ap (drop (length packet.bytes)) n.left ∙ drop_at packet.bytes _ (length packet.bytes) refl in
+    sym (drop-drop (length packet.bytes) 82 bytes) ∙ ap (drop (length packet.bytes)) n.left
+    ∙ drop_at packet.bytes _ (length packet.bytes) refl in
     let zeros_are = zeros_passed at (82 + length packet.bytes) pad bytes
-    (read_bytes (82 + length packet.bytes) (padding_rows (length packet.bytes)) bytes rest (zeros_fit (82 + length packet.bytes) pad) after) in
+    (read_bytes (82 + length packet.bytes) (padding_rows (length packet.bytes)) bytes rest
+    (zeros_fit (82 + length packet.bytes) pad) after) in
     record {
       packet_is = rw (h.1.0, h.1.1.0, h.1.1.1.1.0, h.1.1.1.1.1.1.1.1.0, protocol, a.1.1.1.1.1.0, addr, kept, tag) refl;
       need_is = need;

@@ -1,6 +1,8 @@
 -- Bytes written over others, one piece after another.
-use Rattle.std.proofs.Common.{◌≡◌, ℕ, zero, suc, ◌+◌, ◌-◌, ◌≤◌, List, [], ◌∷◌, ◌++◌, length, take, drop, replicate, refl, sym, ap, ◌∙◌, arith, append_assoc}
-use Rattle.std.proofs.lemmas.List.{length-append, length-take, length-drop, length-replicate, take_at, drop_at, drop-drop, take-append-drop}
+use Rattle.std.proofs.Common.{◌≡◌, ℕ, zero, suc, ◌+◌, ◌-◌, ◌≤◌, List, [], ◌∷◌, ◌++◌, length, take, drop, replicate, refl, sym}
+use Rattle.std.proofs.Common.{ap, ◌∙◌, arith, append_assoc}
+use Rattle.std.proofs.lemmas.List.{length-append, length-take, length-drop, length-replicate, take_at, drop_at, drop-drop}
+use Rattle.std.proofs.lemmas.List.{take-append-drop}
 use Rattle.byteorder.specs.Endian.{little_bytes}
 use Rattle.byteorder.specs.Numbers.{length-bytes_low_first}
 use Rattle.frame_view.specs.declared.frames.Packet.{Packet}
@@ -36,7 +38,8 @@ put_put at first second bytes fits =
     let rest = drop (at + length first) bytes in
     let size : length (front ++ first) ≡ at + length first = omega (arith, length-append front first, length-take at bytes) in
     let same : put at first bytes ≡ (front ++ first) ++ rest = sym (append_assoc front first rest) in
-    let left : take (at + length first) (put at first bytes) ≡ front ++ first = ap (take (at + length first)) same ∙ take_at (front ++ first) rest _ size in
+    let left : take (at + length first) (put at first bytes) ≡ front ++ first =
+    ap (take (at + length first)) same ∙ take_at (front ++ first) rest _ size in
     let right : drop (at + length first + length second) (put at first bytes) ≡ drop (at + length first + length second) bytes =
     sym (drop-drop (length second) (at + length first) (put at first bytes))
     ∙ ap (drop (length second)) (ap (drop (at + length first)) same ∙ drop_at (front ++ first) rest _ size)
@@ -46,7 +49,8 @@ put_put at first second bytes fits =
     ∙ ap (λ (xs : List ℕ). front ++ xs) (sym (append_assoc first second (drop (at + length (first ++ second)) bytes))))
 
 -- one more piece
-pub piece : {at : ℕ} {text old mid new : List ℕ} → IsPut at text old mid → (place : ℕ) (more : List ℕ) → place ≡ at + length text
+pub piece : {at : ℕ} {text old mid new : List ℕ} → IsPut at text old mid → (place : ℕ) (more : List ℕ)
+    → place ≡ at + length text
     → at + length text + length more ≤ length old → new ≡ put place more mid → IsPut at (text ++ more) old new
 piece {at} {text} {old} {mid} {new} so place more here fits e =
     record {
@@ -69,17 +73,24 @@ pub bytes_of-append : (rows more : List Row) → bytes_of (rows ++ more) ≡ byt
 unfolding bytes_of
 bytes_of-append [] more = refl
 bytes_of-append (r ∷ rows) more =
-    ap (λ (xs : List ℕ). little_bytes r.size r.value ++ xs) (bytes_of-append rows more) ∙ sym (append_assoc (little_bytes r.size r.value) (bytes_of rows) (bytes_of more))
+    ap (λ (xs : List ℕ). little_bytes r.size r.value ++ xs) (bytes_of-append rows more)
+    ∙ sym (append_assoc (little_bytes r.size r.value) (bytes_of rows) (bytes_of more))
 
 pub length-bytes_of : (rows : List Row) → length (bytes_of rows) ≡ size_of_rows rows
 unfolding bytes_of
 length-bytes_of [] = refl
 length-bytes_of (r ∷ rows) =
-    omega (arith, length-append (little_bytes r.size r.value) (bytes_of rows), length-bytes_low_first 0 r.size r.value, length-bytes_of rows)
+    omega (
+      arith,
+      length-append (little_bytes r.size r.value) (bytes_of rows),
+      length-bytes_low_first 0 r.size r.value,
+      length-bytes_of rows,
+    )
 
 -- the bytes before the data of a packet
 pub packet_rows-bytes : (next : ℕ) (packet : Packet)
-    → bytes_of (packet_rows next packet) ≡ bytes_of (header_rows next packet) ++ (replicate 8 0 ++ (bytes_of (address_rows packet) ++ replicate 16 0))
+    → bytes_of (packet_rows next packet) ≡ bytes_of (header_rows next packet)
+    ++ (replicate 8 0 ++ (bytes_of (address_rows packet) ++ replicate 16 0))
 unfolding packet_rows
 packet_rows-bytes next packet =
     rw (bytes_of-append, bytes_of-append, bytes_of-append, bytes_of-zeros, bytes_of-zeros) refl
@@ -112,7 +123,8 @@ regroup : (a b c d e f : List ℕ) → ((((a ++ b) ++ c) ++ d) ++ e) ++ f ≡ (a
 regroup a b c d e f = simp append_assoc refl
 
 -- the six pieces of a packet
-pub packet_put : (at next : ℕ) (packet : Packet) (old one two three four five six : List ℕ) → at + need_of_packet packet ≤ length old
+pub packet_put : (at next : ℕ) (packet : Packet) (old one two three four five six : List ℕ)
+    → at + need_of_packet packet ≤ length old
     → one ≡ put at (bytes_of (header_rows next packet)) old
     → two ≡ put (at + 40) (replicate 8 0) one
     → three ≡ put (at + 48) (bytes_of (address_rows packet)) two
@@ -130,8 +142,10 @@ packet_put at next packet old one two three four five six fits e1 e2 e3 e4 e5 e6
     let sixteen : List ℕ = replicate 16 0 in
     let h1 = length-header next packet in
     let h2 : length (header ++ eight) ≡ 48 = omega (arith, h1, length-append header eight) in
-    let h3 : length ((header ++ eight) ++ address) ≡ 66 = omega (arith, h2, length-address packet, length-append (header ++ eight) address) in
-    let h4 : length (((header ++ eight) ++ address) ++ sixteen) ≡ 82 = omega (arith, h3, length-append ((header ++ eight) ++ address) sixteen) in
+    let h3 : length ((header ++ eight) ++ address) ≡ 66 =
+    omega (arith, h2, length-address packet, length-append (header ++ eight) address) in
+    let h4 : length (((header ++ eight) ++ address) ++ sixteen) ≡ 82 =
+    omega (arith, h3, length-append ((header ++ eight) ++ address) sixteen) in
     let h5 : length ((((header ++ eight) ++ address) ++ sixteen) ++ packet.bytes) ≡ 82 + snap =
     omega (arith, h4, length-append (((header ++ eight) ++ address) ++ sixteen) packet.bytes) in
     let h6 : length padding ≡ need_of_packet packet - (82 + snap) = length-replicate (need_of_packet packet - (82 + snap)) _ in

@@ -1,5 +1,6 @@
 -- What passed tests say, packet by packet.
-use Rattle.std.proofs.Common.{◌≡◌, ℕ, zero, suc, ◌+◌, ◌-◌, ◌≤◌, ◌<◌, Bool, true, false, List, [], ◌∷◌, length, take, drop, refl, sym, ◌∙◌, inl, inr, arith}
+use Rattle.std.proofs.Common.{◌≡◌, ℕ, zero, suc, ◌+◌, ◌-◌, ◌≤◌, ◌<◌, Bool, true, false, List, [], ◌∷◌, length, take, drop, refl}
+use Rattle.std.proofs.Common.{sym, ◌∙◌, inl, inr, arith}
 use Rattle.std.specs.Prelude.{◌==◌, ◌&&◌, not, nat_lt, nat_le, Option, None, Some}
 use Rattle.std.specs.Option.{option_or}
 use Rattle.std.proofs.lemmas.Bool.{cases_Bool, cases_lt, and_parts, leb-true, lt-ltb, le-ltb, ne_eqb, eqb-true, ltb-true}
@@ -19,7 +20,8 @@ use Rattle.tp_layout.specs.Checks.{unless, head_tests, fixed_tests, packet_tests
 -- ---- a step
 
 pub packets_step : (count at : ℕ) (bytes : List ℕ) → 0 < count
-    → packets_tests count at bytes ≡ option_or (packet_tests (count - 1 == 0) at bytes) (packets_tests (count - 1) (at + need_at bytes) (drop (need_at bytes) bytes))
+    → packets_tests count at bytes ≡ option_or (packet_tests (count - 1 == 0) at bytes)
+    (packets_tests (count - 1) (at + need_at bytes) (drop (need_at bytes) bytes))
 unfolding packets_tests packets_fault_by
 packets_step zero at bytes some = absurd (omega arith)
 packets_step (suc more) at bytes some = let n : suc more - 1 ≡ more = omega arith in rw n refl
@@ -32,7 +34,8 @@ packets_in_step (suc more) bytes some = let n : suc more - 1 ≡ more = omega ar
 
 -- the time of the packet at the start is the last one so far
 pub last_step : (time : ℕ × ℕ) (count : ℕ) (bytes : List ℕ) → 0 < count
-    → last_time_after time (packets_in count bytes) ≡ last_time_after (number_at 4 4 bytes, number_at 4 8 bytes) (packets_in (count - 1) (drop (need_at bytes) bytes))
+    → last_time_after time (packets_in count bytes)
+    ≡ last_time_after (number_at 4 4 bytes, number_at 4 8 bytes) (packets_in (count - 1) (drop (need_at bytes) bytes))
 unfolding packet_at
 last_step time count bytes some = rw (packets_in_step count bytes some) refl
 
@@ -42,7 +45,8 @@ pub packets_passed : (count at : ℕ) (bytes : List ℕ) → 0 < count → packe
 packets_passed count at bytes some e = sym (packets_step count at bytes some ∙ rw e refl)
 
 -- a packet at the start that is refused
-pub packets_refused : (count at : ℕ) (bytes : List ℕ) (fault : LayoutError) → 0 < count → packet_tests (count - 1 == 0) at bytes ≡ Some fault
+pub packets_refused : (count at : ℕ) (bytes : List ℕ) (fault : LayoutError) → 0 < count
+    → packet_tests (count - 1 == 0) at bytes ≡ Some fault
     → packets_tests count at bytes ≡ Some fault
 packets_refused count at bytes fault some e = packets_step count at bytes some ∙ rw e refl
 
@@ -56,7 +60,8 @@ unfolding packets_tests packets_fault_by
 packets_end count at [] none empty = let n : count ≡ 0 = omega arith in rw n refl
 packets_end count at (byte ∷ bytes) none empty = absurd (omega arith)
 
-pub packets_left : (count at : ℕ) (bytes : List ℕ) → count ≤ 0 → 0 < length bytes → packets_tests count at bytes ≡ Some (record { kind = Length; at = 20 })
+pub packets_left : (count at : ℕ) (bytes : List ℕ) → count ≤ 0 → 0 < length bytes
+    → packets_tests count at bytes ≡ Some (record { kind = Length; at = 20 })
 unfolding packets_tests packets_fault_by
 packets_left count at [] none some = absurd (omega arith)
 packets_left count at (byte ∷ bytes) none some = let n : count ≡ 0 = omega arith in rw n refl
@@ -69,7 +74,8 @@ packets_in-length (suc more) bytes = let rest = packets_in-length more (drop (ne
 
 -- ---- tests that passed
 
-pub unless_none : (test : Bool) (kind : LayoutKind) (at : ℕ) (rest : Option LayoutError) → unless test kind at rest ≡ None → (test ≡ true) × (rest ≡ None)
+pub unless_none : (test : Bool) (kind : LayoutKind) (at : ℕ) (rest : Option LayoutError) → unless test kind at rest ≡ None
+    → (test ≡ true) × (rest ≡ None)
 unless_none true kind at rest e = (refl, e)
 unless_none false kind at rest e = absurd (none-some _ (sym e))
 
@@ -86,16 +92,19 @@ pub record Front (last : Bool) (at : ℕ) (bytes : List ℕ) : Type 0 where
   pub fixed : fixed_tests at (next_of last bytes) bytes ≡ None
   pub padding : first_fault at (82 + number_at 4 12 bytes) (padding_rows (number_at 4 12 bytes)) bytes ≡ None
 
-front_short : (last : Bool) (at : ℕ) (bytes : List ℕ) → length bytes < 88 → packet_tests last at bytes ≡ Some (record { kind = Count; at = 12 })
+front_short : (last : Bool) (at : ℕ) (bytes : List ℕ) → length bytes < 88
+    → packet_tests last at bytes ≡ Some (record { kind = Count; at = 12 })
 unfolding packet_tests
 front_short last at bytes short = rw (lt-ltb _ _ short) refl
 
-front_refused : (last : Bool) (at : ℕ) (bytes : List ℕ) → 88 ≤ length bytes → snap_may bytes ≡ false → packet_tests last at bytes ≡ Some (record { kind = Snap; at = at + 12 })
+front_refused : (last : Bool) (at : ℕ) (bytes : List ℕ) → 88 ≤ length bytes → snap_may bytes ≡ false
+    → packet_tests last at bytes ≡ Some (record { kind = Snap; at = at + 12 })
 unfolding packet_tests
 front_refused last at bytes long refused = rw (le-ltb _ _ long, refused) refl
 
 pub front_tests : (last : Bool) (at : ℕ) (bytes : List ℕ) → 88 ≤ length bytes → snap_may bytes ≡ true
-    → packet_tests last at bytes ≡ option_or (fixed_tests at (next_of last bytes) bytes) (first_fault at (82 + number_at 4 12 bytes) (padding_rows (number_at 4 12 bytes)) bytes)
+    → packet_tests last at bytes ≡ option_or (fixed_tests at (next_of last bytes) bytes)
+    (first_fault at (82 + number_at 4 12 bytes) (padding_rows (number_at 4 12 bytes)) bytes)
 unfolding packet_tests
 front_tests last at bytes long may = rw (le-ltb _ _ long, may) refl
 
@@ -105,11 +114,14 @@ front last at bytes e =
       | inl short ↦ absurd (none-some _ (sym e ∙ front_short last at bytes short))
       | inr long ↦ elim (cases_Bool (snap_may bytes)) [
         | inl may ↦
-            let tests : option_or (fixed_tests at (next_of last bytes) bytes) (first_fault at (82 + number_at 4 12 bytes) (padding_rows (number_at 4 12 bytes)) bytes) ≡ None =
+            let tests : option_or (fixed_tests at (next_of last bytes) bytes)
+            (first_fault at (82 + number_at 4 12 bytes) (padding_rows (number_at 4 12 bytes)) bytes) ≡ None =
             sym (front_tests last at bytes long may) ∙ e in
             let both = or_none _ _ tests in
-            let outer = and_parts (nat_le 1 (number_at 4 12 bytes) && nat_le (number_at 4 12 bytes) (number_at 4 16 bytes)) (nat_le (need_at bytes) (length bytes)) may in
-            let inner = and_parts (nat_le 1 (number_at 4 12 bytes)) (nat_le (number_at 4 12 bytes) (number_at 4 16 bytes)) outer.0 in
+            let outer = and_parts (nat_le 1 (number_at 4 12 bytes) && nat_le (number_at 4 12 bytes) (number_at 4 16 bytes))
+            (nat_le (need_at bytes) (length bytes)) may in
+            let inner = and_parts (nat_le 1 (number_at 4 12 bytes))
+            (nat_le (number_at 4 12 bytes) (number_at 4 16 bytes)) outer.0 in
             record {
               header = long;
               some = leb-true _ _ inner.0;
@@ -154,9 +166,15 @@ head fits shape bytes e =
 
 -- the packets of a block are within it
 pub area_small : (shape : RingRequest) (bytes : List ℕ) → IsShape shape → length bytes ≤ shape.block_size
-    → first_of shape < number_at 4 20 bytes → number_at 4 20 bytes ≤ length bytes → first_of shape + length (area_of shape bytes) ≤ 1048576
+    → first_of shape < number_at 4 20 bytes → number_at 4 20 bytes ≤ length bytes
+    → first_of shape + length (area_of shape bytes) ≤ 1048576
 area_small shape bytes sound size order within =
-    omega (arith, sound.small, length-drop (first_of shape) (take (number_at 4 20 bytes) bytes), length-take (number_at 4 20 bytes) bytes)
+    omega (
+      arith,
+      sound.small,
+      length-drop (first_of shape) (take (number_at 4 20 bytes) bytes),
+      length-take (number_at 4 20 bytes) bytes,
+    )
 
 -- ---- packets in a block
 
@@ -191,11 +209,13 @@ positive zero other = absurd (other refl)
 positive (suc n) other = omega arith
 
 pub packets_suc : (more at : ℕ) (bytes : List ℕ)
-    → packets_tests (suc more) at bytes ≡ option_or (packet_tests (more == 0) at bytes) (packets_tests more (at + need_at bytes) (drop (need_at bytes) bytes))
+    → packets_tests (suc more) at bytes ≡ option_or (packet_tests (more == 0) at bytes)
+    (packets_tests more (at + need_at bytes) (drop (need_at bytes) bytes))
 unfolding packets_tests packets_fault_by
 packets_suc more at bytes = refl
 
-pub packets_in_suc : (more : ℕ) (bytes : List ℕ) → packets_in (suc more) bytes ≡ packet_at bytes ∷ packets_in more (drop (need_at bytes) bytes)
+pub packets_in_suc : (more : ℕ) (bytes : List ℕ) → packets_in (suc more) bytes ≡ packet_at bytes
+    ∷ packets_in more (drop (need_at bytes) bytes)
 unfolding packets_in
 packets_in_suc more bytes = refl
 

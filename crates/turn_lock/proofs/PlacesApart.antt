@@ -22,10 +22,13 @@ module _ {E : Type 0} where
   apart_one places place one k l p q at to same = only_place places place p k one at ∙ sym (only_place places place q l one to)
 
   pub apart_none : (places : List (Place E)) → places ≡ [] → AreApart places
-  apart_none places none_there k l p q at to same = absurd (some-ne-none p (sym (subst (λ (z : List (Place E)). get_elem? z k ≡ some p) none_there at)))
+  apart_none places none_there k l p q at to same =
+      absurd (some-ne-none p (sym (subst (λ (z : List (Place E)). get_elem? z k ≡ some p) none_there at)))
 
   -- two lists that have no number in common
-  pub apart_join : (xs ys : List (Place E)) → AreApart xs → AreApart ys → ((k l : ℕ) (p q : Place E) → get_elem? xs k ≡ some p → get_elem? ys l ≡ some q → p.number ≢ q.number) → AreApart (xs ++ ys)
+  pub apart_join : (xs ys : List (Place E)) → AreApart xs → AreApart ys
+      → ((k l : ℕ) (p q : Place E) → get_elem? xs k ≡ some p → get_elem? ys l ≡ some q → p.number ≢ q.number)
+      → AreApart (xs ++ ys)
   apart_join xs ys mine yours apart k l p q at to same = ⊎_elim
       (λ here. ⊎_elim
       (λ there. mine k l p q here there same)
@@ -39,14 +42,18 @@ module _ {E : Type 0} where
 
 module _ {E B : Type 0} where
   -- each seat's places are apart, when one seat has changed
-  pub apart_set : (views : List (Knows E B)) (id : ℕ) (w : Knows E B) → ((j : ℕ) (v : Knows E B) → get_elem? views j ≡ some v → AreApart v.places) → AreApart w.places → (j : ℕ) (v : Knows E B) → get_elem? (set views id w) j ≡ some v → AreApart v.places
+  pub apart_set : (views : List (Knows E B)) (id : ℕ) (w : Knows E B)
+      → ((j : ℕ) (v : Knows E B) → get_elem? views j ≡ some v → AreApart v.places) → AreApart w.places → (j : ℕ) (v : Knows E B)
+      → get_elem? (set views id w) j ≡ some v → AreApart v.places
   apart_set views id w all now j v to = ⊎_elim
       (λ same. subst (λ (z : Knows E B). AreApart z.places) same.1 now)
       (λ other. all j v other.1)
       (at_set views id j w v to)
 
   -- and when there is one more seat
-  pub apart_more : (views : List (Knows E B)) (w : Knows E B) → ((j : ℕ) (v : Knows E B) → get_elem? views j ≡ some v → AreApart v.places) → AreApart w.places → (j : ℕ) (v : Knows E B) → get_elem? (views ++ w ∷ []) j ≡ some v → AreApart v.places
+  pub apart_more : (views : List (Knows E B)) (w : Knows E B)
+      → ((j : ℕ) (v : Knows E B) → get_elem? views j ≡ some v → AreApart v.places) → AreApart w.places → (j : ℕ) (v : Knows E B)
+      → get_elem? (views ++ w ∷ []) j ≡ some v → AreApart v.places
   apart_more views w all now j v to = ⊎_elim
       (λ old. all j v old)
       (λ last. subst (λ (z : Knows E B). AreApart z.places) last.1 now)

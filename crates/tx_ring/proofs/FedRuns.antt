@@ -1,5 +1,6 @@
 -- A run is given one frame after another, and ends with a last send.
-use Rattle.std.proofs.Common.{◌≡◌, ℕ, suc, ◌+◌, ◌^◌, ◌<◌, ◌≤◌, Bool, false, true, List, [], ◌∷◌, ◌++◌, length, Option, None, Some, IfSome, true≢false, refl, sym, ap, subst, ◌∙◌, inl, inr, arith}
+use Rattle.std.proofs.Common.{◌≡◌, ℕ, suc, ◌+◌, ◌^◌, ◌<◌, ◌≤◌, Bool, false, true, List, [], ◌∷◌, ◌++◌, length, Option, None}
+use Rattle.std.proofs.Common.{Some, IfSome, true≢false, refl, sym, ap, subst, ◌∙◌, inl, inr, arith}
 use Rattle.std.specs.Prelude.{if◌then◌else◌, is_some, nat_lt, ◌==◌}
 use Rattle.std.proofs.lemmas.Bool.{eqb-true, false_from_ne_true}
 use Rattle.std.proofs.lemmas.List.{length-append, append_assoc, append-nil}
@@ -18,7 +19,8 @@ use Rattle.tx_ring.proofs.Runs.{Carries, kept, left_begins, left_by_send, send_c
 use Rattle.tx_ring.proofs.Splits.{bad_in_good, bad_sends_none, bad_stops, left_in, over_by, sent_by, stops_by}
 
 -- a run that was given nothing
-pub starts : (shape : RingRequest) (skip : Bool) → Carries shape skip [] (record { ring = new_ring shape skip; packets = []; skipped = 0 })
+pub starts : (shape : RingRequest) (skip : Bool)
+    → Carries shape skip [] (record { ring = new_ring shape skip; packets = []; skipped = 0 })
 starts shape skip = record {
   shape_is = refl;
   skip_is = refl;
@@ -45,8 +47,10 @@ takes_one shape skip done run request carries going =
       shape_is = carries.shape_is;
       skip_is = carries.skip_is;
       placed = omega (arith, placed, size);
-      packets = λ more. rw (one_more run.ring.requests request more, one_more done request more) (carries.packets (request ∷ more));
-      skipped = λ more. rw (one_more run.ring.requests request more, one_more done request more) (carries.skipped (request ∷ more));
+      packets = λ more. rw (one_more run.ring.requests request more, one_more done request more)
+          (carries.packets (request ∷ more));
+      skipped = λ more. rw (one_more run.ring.requests request more, one_more done request more)
+          (carries.skipped (request ∷ more));
       stops = λ more. rw (one_more run.ring.requests request more, one_more done request more) (carries.stops (request ∷ more));
       stopped = rw going tt;
     }
@@ -84,29 +88,37 @@ takes_none shape skip done run request carries bad =
 
 -- what a place leaves of a ring that may have stopped
 place_by : (ring : TxState) (request : Request) (stopped : Option ℕ) → ring.stopped ≡ stopped
-    → nat_lt (room_of ring.shape) (length request.bytes) ≡ false → (stopped ≡ None → (length ring.requests == ring.shape.frame_nr) ≡ false)
+    → nat_lt (room_of ring.shape) (length request.bytes) ≡ false
+    → (stopped ≡ None → (length ring.requests == ring.shape.frame_nr) ≡ false)
     → after_place ring request ≡ (if is_some stopped then ring else with_request ring request)
 place_by ring request None is fits free = rw (fits, is, free refl) refl
 place_by ring request (Some slot) is fits free = rw (fits, is) refl
 
 -- a run is given a request
-place_carries : (shape : RingRequest) (skip : Bool) (done : List Request) (run : Transmitter) (bytes : List ℕ) (stopped : Option ℕ)
+place_carries : (shape : RingRequest) (skip : Bool) (done : List Request) (run : Transmitter) (bytes : List ℕ)
+    (stopped : Option ℕ)
     → run.ring.stopped ≡ stopped → Carries shape skip done run
     → (run.ring.stopped ≡ None → (length run.ring.requests == run.ring.shape.frame_nr) ≡ false)
     → Carries shape skip (done ++ request_for (room_of shape) bytes ∷ []) (placed_in run bytes)
 place_carries shape skip done run bytes None is carries free =
     let request = request_for (room_of run.ring.shape) bytes in
     let placed = place_by run.ring request None is (request_fits (room_of run.ring.shape) bytes) (λ none. free is) in
-    let same : request ≡ request_for (room_of shape) bytes = ap (λ (s : RingRequest). request_for (room_of s) bytes) carries.shape_is in
-    subst (Carries shape skip (done ++ request_for (room_of shape) bytes ∷ [])) (ap (λ (r : TxState). record run { ring = r }) (sym placed))
-    (subst (λ (asked : Request). Carries shape skip (done ++ asked ∷ []) (record run { ring = with_request run.ring request })) same
+    let same : request ≡ request_for (room_of shape) bytes =
+    ap (λ (s : RingRequest). request_for (room_of s) bytes) carries.shape_is in
+    subst (Carries shape skip (done ++ request_for (room_of shape) bytes ∷ []))
+    (ap (λ (r : TxState). record run { ring = r }) (sym placed))
+    (subst (λ (asked : Request). Carries shape skip (done ++ asked ∷ [])
+    (record run { ring = with_request run.ring request })) same
     (takes_one shape skip done run request carries is))
 place_carries shape skip done run bytes (Some slot) is carries free =
     let request = request_for (room_of run.ring.shape) bytes in
-    let placed = place_by run.ring request (Some slot) is (request_fits (room_of run.ring.shape) bytes) (λ none. free (is ∙ none)) in
+    let placed = place_by run.ring request (Some slot) is (request_fits (room_of run.ring.shape) bytes)
+    (λ none. free (is ∙ none)) in
     let bad : (skip ≡ false) × BeginsBad (room_of shape) run.ring.requests =
-    subst (λ (o : Option ℕ). IfSome o (λ slot. (skip ≡ false) × BeginsBad (room_of shape) run.ring.requests)) is carries.stopped in
-    subst (Carries shape skip (done ++ request_for (room_of shape) bytes ∷ [])) (ap (λ (r : TxState). record run { ring = r }) (sym placed))
+    subst (λ (o : Option ℕ). IfSome o (λ slot. (skip ≡ false) × BeginsBad (room_of shape) run.ring.requests)) is
+    carries.stopped in
+    subst (Carries shape skip (done ++ request_for (room_of shape) bytes ∷ []))
+    (ap (λ (r : TxState). record run { ring = r }) (sym placed))
     (takes_none shape skip done run (request_for (room_of shape) bytes) carries bad)
 
 -- a ring that didn't stop left no request
@@ -124,20 +136,24 @@ room_by : (shape : RingRequest) (skip : Bool) (done : List Request) (run : Trans
     → (length run.ring.requests == run.ring.shape.frame_nr) ≡ full → Carries shape skip done run
     → Carries shape skip done (if full then sent_once run else run)
     × ((if full then sent_once run else run).ring.stopped ≡ None
-    → (length (if full then sent_once run else run).ring.requests == (if full then sent_once run else run).ring.shape.frame_nr) ≡ false)
+    → (length (if full then sent_once run else run).ring.requests
+    == (if full then sent_once run else run).ring.shape.frame_nr) ≡ false)
 room_by shape skip done run true some is carries =
     let after_it = send_carries shape skip done run carries in (
       after_it,
       λ none.
           rw (none_after run.ring none, after_it.shape_is)
-          (false_from_ne_true (0 == shape.frame_nr) (λ same. let zero : 0 ≡ shape.frame_nr = eqb-true 0 shape.frame_nr same in absurd (omega arith))),
+          (false_from_ne_true (0 == shape.frame_nr)
+          (λ same. let zero : 0 ≡ shape.frame_nr = eqb-true 0 shape.frame_nr same in absurd (omega arith))),
     )
 room_by shape skip done run false some is carries = (carries, λ none. is)
 
 -- a run is given a frame
-given_by : (shape : RingRequest) (skip : Bool) (done : List Request) (run : Transmitter) (frame : Frame) (runt : Bool) → 0 < shape.frame_nr
+given_by : (shape : RingRequest) (skip : Bool) (done : List Request) (run : Transmitter) (frame : Frame) (runt : Bool)
+    → 0 < shape.frame_nr
     → is_runt frame ≡ runt → Carries shape skip done run
-    → Carries shape skip (done ++ (if runt then [] else request_for (room_of shape) frame.bytes ∷ [])) (if runt then run else placed_in (with_room run) frame.bytes)
+    → Carries shape skip (done ++ (if runt then [] else request_for (room_of shape) frame.bytes ∷ []))
+    (if runt then run else placed_in (with_room run) frame.bytes)
 given_by shape skip done run frame true some is carries = rw append-nil carries
 given_by shape skip done run frame false some is carries =
     let made = room_by shape skip done run (length run.ring.requests == run.ring.shape.frame_nr) some refl carries in
@@ -185,16 +201,22 @@ ended shape skip done run carries =
     let left = left_by_send shape skip done run carries in
     let none = nothing_more room skip run.ring.requests in
     let all : done ++ [] ≡ done = append-nil done in
-    let packets : (sent_once run).packets ++ sent_by room skip (left_in room skip run.ring.requests ++ []) ≡ sent_by room skip (done ++ []) =
-    subst (λ (requests : List Request). (sent_once run).packets ++ sent_by room skip (requests ++ []) ≡ sent_by room skip (done ++ [])) left.requests (last.packets []) in
-    let skipped : (sent_once run).skipped + over_by room skip (left_in room skip run.ring.requests ++ []) ≡ over_by room skip (done ++ []) =
-    subst (λ (requests : List Request). (sent_once run).skipped + over_by room skip (requests ++ []) ≡ over_by room skip (done ++ [])) left.requests (last.skipped []) in
+    let packets : (sent_once run).packets ++ sent_by room skip (left_in room skip run.ring.requests ++ [])
+    ≡ sent_by room skip (done ++ []) =
+    subst (λ (requests : List Request). (sent_once run).packets ++ sent_by room skip (requests ++ [])
+    ≡ sent_by room skip (done ++ [])) left.requests (last.packets []) in
+    let skipped : (sent_once run).skipped + over_by room skip (left_in room skip run.ring.requests ++ [])
+    ≡ over_by room skip (done ++ []) =
+    subst (λ (requests : List Request). (sent_once run).skipped + over_by room skip (requests ++ [])
+    ≡ over_by room skip (done ++ [])) left.requests (last.skipped []) in
     let over : over_by room skip (done ++ []) ≡ over_by room skip done = ap (over_by room skip) all in
     let no_more = none.1 in
     record {
-      packets = sym (append-nil (sent_once run).packets) ∙ ap (λ (rest : List Packet). (sent_once run).packets ++ rest) (sym none.0) ∙ packets ∙ ap (sent_by room skip) all;
+      packets = sym (append-nil (sent_once run).packets)
+          ∙ ap (λ (rest : List Packet). (sent_once run).packets ++ rest) (sym none.0) ∙ packets ∙ ap (sent_by room skip) all;
       skipped = omega (arith, skipped, no_more, over);
-      stopped = stopped_is room skip (after_send run.ring).requests (after_send run.ring).stopped last.stopped (none_after run.ring)
+      stopped = stopped_is room skip (after_send run.ring).requests (after_send run.ring).stopped last.stopped
+          (none_after run.ring)
           ∙ last.stops [] ∙ ap (stops_by room skip) all;
     }
 
@@ -221,9 +243,15 @@ frames_stop room false frames stopped some small is =
     rw (is, stops_all room frames some small) (itself (first_long room frames))
 
 -- the result of a run
-pub result_is : (shape : RingRequest) (skip : Bool) (frames : List Frame) (run : Transmitter) → 14 ≤ room_of shape → room_of shape + 48 < 2 ^ 32
+pub result_is : (shape : RingRequest) (skip : Bool) (frames : List Frame) (run : Transmitter) → 14 ≤ room_of shape
+    → room_of shape + 48 < 2 ^ 32
     → Comes (room_of shape) skip (requests_of (room_of shape) frames) run
-    → record { packets = run.packets; sent = length run.packets; skipped = run.skipped; stop = (if is_some run.ring.stopped then first_long (room_of shape) frames else None) }
+    → record {
+      packets = run.packets;
+      sent = length run.packets;
+      skipped = run.skipped;
+      stop = (if is_some run.ring.stopped then first_long (room_of shape) frames else None);
+    }
     ≡ transmitted_of (room_of shape) skip frames
 result_is shape skip frames run some small comes =
     let room = room_of shape in
@@ -251,7 +279,8 @@ few_bad : (room : ℕ) (requests : List Request) → bad_in room requests ≤ le
 few_bad room [] = omega arith
 few_bad room (request ∷ requests) =
     let rest = few_bad room requests in
-    elim (is_good room request) as (λ v. (if v then bad_in room requests else bad_in room requests + 1) ≤ suc (length requests)) [
+    elim (is_good room request) as
+    (λ v. (if v then bad_in room requests else bad_in room requests + 1) ≤ suc (length requests)) [
       | true ↦ omega arith
       | false ↦ omega arith
     ]
@@ -260,7 +289,8 @@ few_over : (room : ℕ) (skip : Bool) (requests : List Request) → over_by room
 few_over room true requests = few_bad room requests
 few_over room false requests = rw (bad_in_good room requests) (omega arith)
 
-pub few_of : (shape : RingRequest) (skip : Bool) (frames : List Frame) (run : Transmitter) → Carries shape skip (requests_of (room_of shape) frames) run
+pub few_of : (shape : RingRequest) (skip : Bool) (frames : List Frame) (run : Transmitter)
+    → Carries shape skip (requests_of (room_of shape) frames) run
     → (run.ring.placed ≤ length frames) × (run.skipped ≤ length frames)
 few_of shape skip frames run carries =
     let few = few_requests (room_of shape) frames in

@@ -1,8 +1,11 @@
 -- The frames that a send takes, one after another.
-use Rattle.std.proofs.Common.{◌≡◌, ℕ, suc, ◌+◌, ◌-◌, ◌*◌, ◌/◌, ◌^◌, ◌<◌, ◌≤◌, Bool, false, true, List, [], ◌∷◌, ◌++◌, length, drop, replicate, Option, None, Some, Result, Ok, Err, IfOk, true≢false, refl, sym, ap, subst, ◌∙◌, arith}
+use Rattle.std.proofs.Common.{◌≡◌, ℕ, suc, ◌+◌, ◌-◌, ◌*◌, ◌/◌, ◌^◌, ◌<◌, ◌≤◌, Bool, false, true, List, [], ◌∷◌, ◌++◌, length}
+use Rattle.std.proofs.Common.{drop, replicate, Option, None, Some, Result, Ok, Err, IfOk, true≢false, refl, sym, ap, subst, ◌∙◌}
+use Rattle.std.proofs.Common.{arith}
 use Rattle.std.specs.Prelude.{◌==◌, ◌&&◌, nat_le, if◌then◌else◌}
 use Rattle.std.proofs.lemmas.Bool.{leb-true}
-use Rattle.std.proofs.lemmas.List.{append-nil, append_assoc, drop-drop, length-append, length-drop, length-replicate, length-take-le}
+use Rattle.std.proofs.lemmas.List.{append-nil, append_assoc, drop-drop, length-append, length-drop, length-replicate}
+use Rattle.std.proofs.lemmas.List.{length-take-le}
 use Rattle.std.proofs.Math.ListN.{drop_of_length-le}
 use Rattle.std.proofs.Math.Nat.{div-add-mod, mul_assoc, mul_comm, mul-le-mul}
 use Rattle.std.proofs.Math.Seq.{drop-append_seam}
@@ -16,7 +19,8 @@ use Rattle.tx_ring.specs.Slots.{Request, SlotState}
 use Rattle.tx_ring.proofs.Turns.{length-requests_in}
 
 -- the next frame lies in the piece
-pub lies_in : (all : Option (List ℕ)) (piece frame rest : List ℕ) (from : ℕ) → all ≡ Some piece → HasFrom all from (frame ++ rest)
+pub lies_in : (all : Option (List ℕ)) (piece frame rest : List ℕ) (from : ℕ) → all ≡ Some piece
+    → HasFrom all from (frame ++ rest)
     → 0 < length frame → from + length frame ≤ length piece
 lies_in None piece frame rest from is has some = cc
 lies_in (Some other) piece frame rest from is has some =
@@ -26,7 +30,8 @@ lies_in (Some other) piece frame rest from is has some =
     omega (arith, behind, size)
 
 -- after it comes the rest
-pub moved_on : (all : Option (List ℕ)) (frame rest : List ℕ) (from : ℕ) → HasFrom all from (frame ++ rest) → HasFrom all (from + length frame) rest
+pub moved_on : (all : Option (List ℕ)) (frame rest : List ℕ) (from : ℕ) → HasFrom all from (frame ++ rest)
+    → HasFrom all (from + length frame) rest
 moved_on None frame rest from has = tt
 moved_on (Some piece) frame rest from has =
     (sym (drop-drop (length frame) from piece) ∙ ap (drop (length frame)) has.0 ∙ drop-append_seam frame rest, has.1)
@@ -41,7 +46,8 @@ length-frame request =
 -- a good request fits
 good_fits : (room : ℕ) (request : Request) → is_good room request ≡ true → request.length ≤ room
 good_fits room request good =
-    elim (request.next_offset == 0) as (λ a. a && (nat_le 14 request.length && nat_le request.length room) ≡ true → request.length ≤ room) [
+    elim (request.next_offset == 0) as (λ a. a && (nat_le 14 request.length && nat_le request.length room) ≡ true
+    → request.length ≤ room) [
       | false ↦ λ is. absurd (true≢false (sym is))
       | true ↦ λ is. elim (nat_le 14 request.length) as (λ b. b && nat_le request.length room ≡ true → request.length ≤ room) [
         | false ↦ λ is. absurd (true≢false (sym is))
@@ -73,7 +79,8 @@ bad_there room place requests bad =
     bad_next room (drop place requests) bad ∙ ap (frames_in room) (drop-drop 1 place requests)
 
 -- the frames of requests that are gathered one after another
-pub gathered_good : (room place : ℕ) (requests : List Request) (bytes all : List ℕ) → is_good room (request_at place requests) ≡ true
+pub gathered_good : (room place : ℕ) (requests : List Request) (bytes all : List ℕ)
+    → is_good room (request_at place requests) ≡ true
     → bytes ++ frames_in room (drop place requests) ≡ all
     → (bytes ++ frame_of (request_at place requests)) ++ frames_in room (drop (place + 1) requests) ≡ all
 gathered_good room place requests bytes all good so_far =
@@ -81,7 +88,8 @@ gathered_good room place requests bytes all good so_far =
     ∙ ap (λ (rest : List ℕ). bytes ++ rest) (sym (good_there room place requests good))
     ∙ so_far
 
-pub gathered_bad : (room place : ℕ) (requests : List Request) (bytes all : List ℕ) → is_good room (request_at place requests) ≡ false
+pub gathered_bad : (room place : ℕ) (requests : List Request) (bytes all : List ℕ)
+    → is_good room (request_at place requests) ≡ false
     → bytes ++ frames_in room (drop place requests) ≡ all
     → bytes ++ frames_in room (drop (place + 1) requests) ≡ all
 gathered_bad room place requests bytes all bad so_far =
@@ -113,7 +121,8 @@ counted_all room place requests count all end so_far =
 pub gathered_all : (room place : ℕ) (requests : List Request) (bytes all : List ℕ) → length requests ≤ place
     → bytes ++ frames_in room (drop place requests) ≡ all → bytes ≡ all
 gathered_all room place requests bytes all end so_far =
-    sym (append-nil bytes) ∙ ap (λ (left : List Request). bytes ++ frames_in room left) (sym (drop_of_length-le requests end)) ∙ so_far
+    sym (append-nil bytes) ∙ ap (λ (left : List Request). bytes ++ frames_in room left)
+    (sym (drop_of_length-le requests end)) ∙ so_far
 
 -- each frame fits after the header of a slot
 pub frames_few : (room : ℕ) (requests : List Request) → length (frames_in room requests) ≤ length requests * room
@@ -122,7 +131,8 @@ frames_few room (request ∷ requests) =
     let rest = frames_few room requests in
     let one : suc (length requests) * room ≡ room + length requests * room = omega arith in
     elim (is_good room request) as (λ v. v ≡ is_good room request
-    → length (if v then frame_of request ++ frames_in room requests else frames_in room requests) ≤ suc (length requests) * room) [
+    → length (if v then frame_of request ++ frames_in room requests else frames_in room requests) ≤ suc
+    (length requests) * room) [
       | true ↦ λ good.
           let size = length-append (frame_of request) (frames_in room requests) in
           let frame = length-frame request in
@@ -141,22 +151,27 @@ frames_short shape requests sound few =
     let each = frames_few (room_of shape) requests in
     let slots : length requests * room_of shape ≤ shape.frame_nr * size = mul-le-mul few (omega arith) in
     let block = div-add-mod shape.block_size size in
-    let blocks : size * in_block * shape.block_nr ≤ shape.block_size * shape.block_nr = mul-le-mul (omega (arith, block)) (omega arith) in
+    let blocks : size * in_block * shape.block_nr ≤ shape.block_size * shape.block_nr =
+    mul-le-mul (omega (arith, block)) (omega arith) in
     let same : shape.frame_nr * size ≡ size * in_block * shape.block_nr =
-    ap (λ (n : ℕ). n * size) (sym sound.frames) ∙ mul_comm (in_block * shape.block_nr) size ∙ sym (mul_assoc size in_block shape.block_nr) in
+    ap (λ (n : ℕ). n * size) (sym sound.frames) ∙ mul_comm (in_block * shape.block_nr) size
+    ∙ sym (mul_assoc size in_block shape.block_nr) in
     omega (arith, all, each, slots, blocks, same)
 
 -- those of a ring's requests, which are in its slots
-pub requests_short : (shape : RingRequest) (skip : Bool) (slots : List SlotState) (placed taken : ℕ) (stopped : Option ℕ) (ring : TxState)
+pub requests_short : (shape : RingRequest) (skip : Bool) (slots : List SlotState) (placed taken : ℕ) (stopped : Option ℕ)
+    (ring : TxState)
     → state_in shape skip slots placed taken stopped ≡ ring → IsShape shape → taken ≤ placed → placed ≤ taken + shape.frame_nr
     → length (frames_in (room_of ring.shape) ring.requests) < 2 ^ 32
 requests_short shape skip slots placed taken stopped ring view sound order few =
     let there = requests_in shape.frame_nr slots taken (placed - taken) in
     let count = length-requests_in shape.frame_nr slots taken (placed - taken) in
-    subst (λ (r : TxState). length (frames_in (room_of r.shape) r.requests) < 2 ^ 32) view (frames_short shape there sound (omega (arith, count, order, few)))
+    subst (λ (r : TxState). length (frames_in (room_of r.shape) r.requests) < 2 ^ 32) view
+    (frames_short shape there sound (omega (arith, count, order, few)))
 
 -- a piece of few bytes
-pub short_if_ok : {E : Type 0} → (result : Result (List ℕ) E) (bytes : List ℕ) → IfOk result (λ piece. piece ≡ bytes) → length bytes < 2 ^ 32
+pub short_if_ok : {E : Type 0} → (result : Result (List ℕ) E) (bytes : List ℕ) → IfOk result (λ piece. piece ≡ bytes)
+    → length bytes < 2 ^ 32
     → IfOk result (λ piece. length piece < 2 ^ 32)
 short_if_ok (Ok piece) bytes is short = rw is short
 short_if_ok (Err error) bytes is short = tt

@@ -1,5 +1,6 @@
 -- The kinds of frames, what is placed of each, and its result.
-use Rattle.std.proofs.Common.{◌≡◌, ℕ, suc, ◌+◌, ◌-◌, ◌^◌, ◌<◌, ◌≤◌, Bool, false, true, ◌⊎◌, List, [], ◌∷◌, ◌++◌, length, take, replicate, min, refl, ap, ◌∙◌, inl, inr, arith}
+use Rattle.std.proofs.Common.{◌≡◌, ℕ, suc, ◌+◌, ◌-◌, ◌^◌, ◌<◌, ◌≤◌, Bool, false, true, ◌⊎◌, List, [], ◌∷◌, ◌++◌, length, take}
+use Rattle.std.proofs.Common.{replicate, min, refl, ap, ◌∙◌, inl, inr, arith}
 use Rattle.std.specs.Prelude.{if◌then◌else◌, is_some, nat_lt, nat_le, ◌&&◌}
 use Rattle.std.proofs.lemmas.Bool.{cases_lt, le-leb, le-ltb, lt-leb, lt-ltb}
 use Rattle.std.proofs.lemmas.List.{length-take-le}
@@ -36,7 +37,12 @@ pub kind_of : (room : ℕ) (frame : Frame) → 14 ≤ room → (IsRunt room fram
 kind_of room frame some =
     let size = length frame.bytes in
     elim (cases_lt size 14) [
-      | inl less ↦ inl (record { runt = lt-ltb size 14 less; fits = rw (lt-leb 14 size less) refl; short = le-ltb room size (omega arith) })
+      | inl less ↦
+          inl (record {
+            runt = lt-ltb size 14 less;
+            fits = rw (lt-leb 14 size less) refl;
+            short = le-ltb room size (omega arith);
+          })
       | inr whole ↦ inr (elim (cases_lt room size) [
         | inl more ↦ inr (record {
           whole = le-ltb size 14 whole;
@@ -67,12 +73,14 @@ request_fits room bytes =
 -- a frame that fits is a good request, whose packet is its own
 good_kind : (room : ℕ) (frame : Frame) → Fits room frame → is_good room (request_for room frame.bytes) ≡ true
 good_kind room frame fits =
-    ap (λ (v : Bool). is_good room (if v then request_of 0 (min (length frame.bytes) (2 ^ 32 - 1)) (take room frame.bytes) else request_of 0 (length frame.bytes) frame.bytes)) fits.short
+    ap (λ (v : Bool). is_good room (if v then request_of 0 (min (length frame.bytes) (2 ^ 32 - 1)) (take room frame.bytes)
+    else request_of 0 (length frame.bytes) frame.bytes)) fits.short
     ∙ fits.fits
 
 packet_kind : (room : ℕ) (frame : Frame) → Fits room frame → packet_of (request_for room frame.bytes) ≡ plain_of frame.bytes
 packet_kind room frame fits =
-    ap (λ (v : Bool). packet_of (if v then request_of 0 (min (length frame.bytes) (2 ^ 32 - 1)) (take room frame.bytes) else request_of 0 (length frame.bytes) frame.bytes)) fits.short
+    ap (λ (v : Bool). packet_of (if v then request_of 0 (min (length frame.bytes) (2 ^ 32 - 1)) (take room frame.bytes)
+    else request_of 0 (length frame.bytes) frame.bytes)) fits.short
     ∙ ap plain_of (take-append_seam frame.bytes (replicate (length frame.bytes) 0))
 
 and_no : (a : Bool) → a && false ≡ false
@@ -80,12 +88,14 @@ and_no true = refl
 and_no false = refl
 
 -- a longer one is a bad request
-bad_kind : (room : ℕ) (frame : Frame) → room + 48 < 2 ^ 32 → IsLonger room frame → is_good room (request_for room frame.bytes) ≡ false
+bad_kind : (room : ℕ) (frame : Frame) → room + 48 < 2 ^ 32 → IsLonger room frame
+    → is_good room (request_for room frame.bytes) ≡ false
 bad_kind room frame small longer =
     let size = min (length frame.bytes) (2 ^ 32 - 1) in
     let more = longer.more in
     let above : room < size = omega arith in
-    ap (λ (v : Bool). is_good room (if v then request_of 0 size (take room frame.bytes) else request_of 0 (length frame.bytes) frame.bytes)) longer.long
+    ap (λ (v : Bool). is_good room (if v then request_of 0 size (take room frame.bytes)
+    else request_of 0 (length frame.bytes) frame.bytes)) longer.long
     ∙ rw (lt-leb size room above) (and_no (nat_le 14 size))
 
 -- the packets of frames, and how many of them are skipped
@@ -119,7 +129,8 @@ sent_front room (frame ∷ frames) some small =
     let rest = sent_front room frames some small in
     elim (kind_of room frame some) [
       | inl runt ↦ rw (runt.runt, runt.short, runt.fits) rest
-      | inr (inl fits) ↦ rw (fits.whole, good_kind room frame fits) (rw (good_kind room frame fits, packet_kind room frame fits, fits.short) (rw (fits.fits, rest) refl))
+      | inr (inl fits) ↦ rw (fits.whole, good_kind room frame fits)
+          (rw (good_kind room frame fits, packet_kind room frame fits, fits.short) (rw (fits.fits, rest) refl))
       | inr (inr long) ↦ rw (long.whole, bad_kind room frame small long, long.long) refl
     ]
 
@@ -140,7 +151,9 @@ pub few_requests : (room : ℕ) (frames : List Frame) → length (requests_of ro
 few_requests room [] = omega arith
 few_requests room (frame ∷ frames) =
     let rest = few_requests room frames in
-    elim (is_runt frame) as (λ v. length (if v then requests_of room frames else request_for room frame.bytes ∷ requests_of room frames) ≤ suc (length frames)) [
+    elim (is_runt frame) as
+    (λ v. length (if v then requests_of room frames else request_for room frame.bytes ∷ requests_of room frames) ≤ suc
+    (length frames)) [
       | true ↦ omega arith
       | false ↦ omega arith
     ]
@@ -148,7 +161,8 @@ few_requests room (frame ∷ frames) =
 pub requests-append : (room : ℕ) (xs ys : List Frame) → requests_of room (xs ++ ys) ≡ requests_of room xs ++ requests_of room ys
 requests-append room [] ys = refl
 requests-append room (x ∷ xs) ys =
-    elim (is_runt x) as (λ v. (if v then requests_of room (xs ++ ys) else request_for room x.bytes ∷ requests_of room (xs ++ ys))
+    elim (is_runt x) as
+    (λ v. (if v then requests_of room (xs ++ ys) else request_for room x.bytes ∷ requests_of room (xs ++ ys))
     ≡ (if v then requests_of room xs else request_for room x.bytes ∷ requests_of room xs) ++ requests_of room ys) [
       | true ↦ requests-append room xs ys
       | false ↦ ap (λ (rest : List Request). request_for room x.bytes ∷ rest) (requests-append room xs ys)

@@ -1,5 +1,7 @@
 -- What a ring keeps as slots are placed, taken and refused.
-use Rattle.std.proofs.Common.{◌≡◌, ℕ, suc, ◌+◌, ◌-◌, ◌%◌, ◌<◌, ◌≤◌, Bool, false, true, ◌⊎◌, List, [], ◌∷◌, ◌++◌, length, drop, set, replicate, Option, None, Some, IfSome, true≢false, refl, sym, ap, subst, ◌∙◌, inl, inr, arith}
+use Rattle.std.proofs.Common.{◌≡◌, ℕ, suc, ◌+◌, ◌-◌, ◌%◌, ◌<◌, ◌≤◌, Bool, false, true, ◌⊎◌, List, [], ◌∷◌, ◌++◌, length, drop}
+use Rattle.std.proofs.Common.{set, replicate, Option, None, Some, IfSome, true≢false, refl, sym, ap, subst, ◌∙◌, inl, inr}
+use Rattle.std.proofs.Common.{arith}
 use Rattle.std.specs.Prelude.{◌||◌, ◌==◌}
 use Rattle.std.proofs.lemmas.Bool.{cases_eq, eq-eqb, false_from_ne_true, eqb-true}
 use Rattle.std.proofs.lemmas.List.{get_or-set_same, get_or-set_other, get_or-replicate, length-set, length-replicate}
@@ -9,10 +11,12 @@ use Rattle.tx_ring.specs.KeptSlots.{HasStopped, BeginsBad, Keeps, requests_in, s
 use Rattle.tx_ring.specs.Rings.{TxState, is_among, new_ring, room_of, slot_of, status_by, status_of, with_request}
 use Rattle.tx_ring.specs.Sends.{after_taking, is_good, front_of, request_at}
 use Rattle.tx_ring.specs.Slots.{Request, SlotState, empty_slot, slot_at}
-use Rattle.tx_ring.proofs.Turns.{among_more, drop-requests_in, first_is_past, length-requests_in, next_is_free, other_requests, requests_more, same_requests}
+use Rattle.tx_ring.proofs.Turns.{among_more, drop-requests_in, first_is_past, length-requests_in, next_is_free, other_requests}
+use Rattle.tx_ring.proofs.Turns.{requests_more, same_requests}
 
 -- a fact holds of each slot if it holds of the one that changed and of the others as they were
-pub each_slot : (P : ℕ → SlotState → Type 0) (slots : List SlotState) (at : ℕ) (slot : SlotState) → at < length slots → P at slot
+pub each_slot : (P : ℕ → SlotState → Type 0) (slots : List SlotState) (at : ℕ) (slot : SlotState)
+    → at < length slots → P at slot
     → ((k : ℕ) → k < length slots → (k ≡ at → ⊥) → P k (slot_at slots k))
     → (k : ℕ) → k < length (set slots at slot) → P k (slot_at (set slots at slot) k)
 each_slot P slots at slot within here others k less =
@@ -43,20 +47,35 @@ placed_here : (places placed taken : ℕ) → taken ≤ placed
     → 1 ≡ status_by None (is_among places (placed % places) taken (placed + 1 - taken)) (placed % places)
 placed_here places placed taken order =
     let at = placed % places in
-    rw (one_more placed taken order, among_more places at taken (placed - taken), behind placed taken order, eq-eqb at at refl, or_true (is_among places at taken (placed - taken))) refl
+    rw (
+      one_more placed taken order,
+      among_more places at taken (placed - taken),
+      behind placed taken order,
+      eq-eqb at at refl,
+      or_true (is_among places at taken (placed - taken)),
+    ) refl
 
 -- the marks of the others
 placed_there : (places placed taken at : ℕ) → taken ≤ placed → (at ≡ placed % places → ⊥)
-    → status_by None (is_among places at taken (placed - taken)) at ≡ status_by None (is_among places at taken (placed + 1 - taken)) at
+    → status_by None (is_among places at taken (placed - taken)) at
+    ≡ status_by None (is_among places at taken (placed + 1 - taken)) at
 placed_there places placed taken at order other =
-    let no : placed % places == at ≡ false = false_from_ne_true (placed % places == at) (λ yes. other (sym (eqb-true (placed % places) at yes))) in
-    rw (one_more placed taken order, among_more places at taken (placed - taken), behind placed taken order, no, or_no (is_among places at taken (placed - taken))) refl
+    let no : placed % places == at ≡ false =
+    false_from_ne_true (placed % places == at) (λ yes. other (sym (eqb-true (placed % places) at yes))) in
+    rw (
+      one_more placed taken order,
+      among_more places at taken (placed - taken),
+      behind placed taken order,
+      no,
+      or_no (is_among places at taken (placed - taken)),
+    ) refl
 
 -- a slot is placed
 pub placed_keeps : (shape : RingRequest) (skip : Bool) (slots : List SlotState) (placed taken : ℕ) (slot : SlotState)
     → Keeps (state_in shape skip slots placed taken None) slots taken → placed - taken < shape.frame_nr
     → slot.size ≡ shape.frame_size → slot.status ≡ 1
-    → Keeps (state_in shape skip (set slots (placed % shape.frame_nr) slot) (placed + 1) taken None) (set slots (placed % shape.frame_nr) slot) taken
+    → Keeps (state_in shape skip (set slots (placed % shape.frame_nr) slot) (placed + 1) taken None)
+    (set slots (placed % shape.frame_nr) slot) taken
 placed_keeps shape skip slots placed taken slot keeps free size status =
     let at = placed % shape.frame_nr in
     let count = length-set slots at slot in
@@ -72,7 +91,8 @@ placed_keeps shape skip slots placed taken slot keeps free size status =
       order = omega arith;
       few = omega arith;
       sizes = each_slot (λ k s. s.size ≡ shape.frame_size) slots at slot within size (λ k less other. keeps.sizes k less);
-      marks = each_slot (λ k s. s.status ≡ status_by None (is_among shape.frame_nr k taken (placed + 1 - taken)) k) slots at slot within
+      marks = each_slot (λ k s. s.status ≡ status_by None (is_among shape.frame_nr k taken (placed + 1 - taken)) k) slots
+          at slot within
           (status ∙ placed_here shape.frame_nr placed taken order)
           (λ k less other. keeps.marks k less ∙ placed_there shape.frame_nr placed taken k order other);
       stop = tt;
@@ -92,9 +112,17 @@ placed_state shape skip slots placed taken slot keeps free =
     let low = mod-lt placed some in
     let within : at < length slots = omega arith in
     let last = behind placed taken order in
-    let past : is_among n at taken (placed - taken) ≡ false = ap (λ (k : ℕ). is_among n (k % n) taken (placed - taken)) (sym last) ∙ next_is_free n taken (placed - taken) free in
-    let requests : requests_in n (set slots at slot) taken (placed + 1 - taken) ≡ requests_in n slots taken (placed - taken) ++ slot.request ∷ [] =
-    rw (one_more placed taken order, requests_more n (set slots at slot) taken (placed - taken), last, get_or-set_same slots at slot (empty_slot 0) within, other_requests n slots at slot taken (placed - taken) past) refl in
+    let past : is_among n at taken (placed - taken) ≡ false =
+    ap (λ (k : ℕ). is_among n (k % n) taken (placed - taken)) (sym last) ∙ next_is_free n taken (placed - taken) free in
+    let requests : requests_in n (set slots at slot) taken (placed + 1 - taken) ≡ requests_in n slots taken (placed - taken)
+    ++ slot.request ∷ [] =
+    rw (
+      one_more placed taken order,
+      requests_more n (set slots at slot) taken (placed - taken),
+      last,
+      get_or-set_same slots at slot (empty_slot 0) within,
+      other_requests n slots at slot taken (placed - taken) past,
+    ) refl in
     rw requests refl
 
 -- the slots of the requests after the first one
@@ -107,18 +135,22 @@ pub front_request : (places : ℕ) (slots : List SlotState) (placed taken : ℕ)
 front_request places slots placed taken some = rw (behind_first placed taken some) refl
 
 -- the request at a place is that of its slot
-pub request_there : (shape : RingRequest) (skip : Bool) (slots : List SlotState) (placed taken : ℕ) (stopped : Option ℕ) (ring : TxState) (place at : ℕ)
+pub request_there : (shape : RingRequest) (skip : Bool) (slots : List SlotState) (placed taken : ℕ) (stopped : Option ℕ)
+    (ring : TxState) (place at : ℕ)
     → state_in shape skip slots placed taken stopped ≡ ring → taken ≤ placed → place < length ring.requests
-    → at ≡ slot_of ring.shape (placed - (length ring.requests - place)) → (slot_at slots at).request ≡ request_at place ring.requests
+    → at ≡ slot_of ring.shape (placed - (length ring.requests - place))
+    → (slot_at slots at).request ≡ request_at place ring.requests
 request_there shape skip slots placed taken stopped ring place at view order less slot =
     let there = requests_in shape.frame_nr slots taken (placed - taken) in
-    let count = ap (λ (r : TxState). length r.requests) (sym view) ∙ length-requests_in shape.frame_nr slots taken (placed - taken) in
+    let count = ap (λ (r : TxState). length r.requests) (sym view)
+    ∙ length-requests_in shape.frame_nr slots taken (placed - taken) in
     let left : placed - taken ≡ place + suc (placed - taken - place - 1) = omega (arith, count, less) in
     let rest : drop place there ≡ requests_in shape.frame_nr slots (taken + place) (suc (placed - taken - place - 1)) =
     ap (λ (n : ℕ). drop place (requests_in shape.frame_nr slots taken n)) left
     ∙ drop-requests_in shape.frame_nr slots taken place (suc (placed - taken - place - 1)) in
     let number : placed - (length ring.requests - place) ≡ taken + place = omega (arith, count, less, order) in
-    ap (λ (k : ℕ). (slot_at slots k).request) (slot ∙ ap (slot_of ring.shape) number ∙ ap (λ (r : TxState). slot_of r.shape (taken + place)) (sym view))
+    ap (λ (k : ℕ). (slot_at slots k).request)
+    (slot ∙ ap (slot_of ring.shape) number ∙ ap (λ (r : TxState). slot_of r.shape (taken + place)) (sym view))
     ∙ sym (ap front_of rest)
     ∙ ap (λ (r : TxState). request_at place r.requests) view
 
@@ -130,16 +162,19 @@ taken_here places placed taken some few =
 
 -- the marks of the others
 taken_there : (places placed taken at : ℕ) → taken < placed → (at ≡ taken % places → ⊥)
-    → status_by None (is_among places at taken (placed - taken)) at ≡ status_by None (is_among places at (taken + 1) (placed - (taken + 1))) at
+    → status_by None (is_among places at taken (placed - taken)) at
+    ≡ status_by None (is_among places at (taken + 1) (placed - (taken + 1))) at
 taken_there places placed taken at some other =
-    let no : taken % places == at ≡ false = false_from_ne_true (taken % places == at) (λ yes. other (sym (eqb-true (taken % places) at yes))) in
+    let no : taken % places == at ≡ false =
+    false_from_ne_true (taken % places == at) (λ yes. other (sym (eqb-true (taken % places) at yes))) in
     rw (behind_first placed taken some, no) refl
 
 -- the slot of the first request is taken
 pub taken_keeps : (shape : RingRequest) (skip : Bool) (slots : List SlotState) (placed taken : ℕ) (slot : SlotState)
     → Keeps (state_in shape skip slots placed taken None) slots taken → taken < placed
     → slot.size ≡ shape.frame_size → slot.status ≡ 0
-    → Keeps (state_in shape skip (set slots (taken % shape.frame_nr) slot) placed (taken + 1) None) (set slots (taken % shape.frame_nr) slot) (taken + 1)
+    → Keeps (state_in shape skip (set slots (taken % shape.frame_nr) slot) placed (taken + 1) None)
+    (set slots (taken % shape.frame_nr) slot) (taken + 1)
 taken_keeps shape skip slots placed taken slot keeps left size status =
     let at = taken % shape.frame_nr in
     let count = length-set slots at slot in
@@ -155,7 +190,8 @@ taken_keeps shape skip slots placed taken slot keeps left size status =
       order = omega arith;
       few = omega arith;
       sizes = each_slot (λ k s. s.size ≡ shape.frame_size) slots at slot within size (λ k less other. keeps.sizes k less);
-      marks = each_slot (λ k s. s.status ≡ status_by None (is_among shape.frame_nr k (taken + 1) (placed - (taken + 1))) k) slots at slot within
+      marks = each_slot (λ k s. s.status ≡ status_by None (is_among shape.frame_nr k (taken + 1) (placed - (taken + 1))) k)
+          slots at slot within
           (status ∙ taken_here shape.frame_nr placed taken left few)
           (λ k less other. keeps.marks k less ∙ taken_there shape.frame_nr placed taken k left other);
       stop = tt;
@@ -178,9 +214,11 @@ taken_state shape skip slots placed taken slot keeps left =
 -- the marks of the slots other than the one where the ring stops
 stopped_there : (stopped : Option ℕ) (shape : RingRequest) (skip : Bool) (slots : List SlotState) (placed taken at : ℕ)
     → IfSome stopped (HasStopped (state_in shape skip slots placed taken stopped) taken) → (requested : Bool)
-    → (at ≡ taken % shape.frame_nr → ⊥) → status_by stopped requested at ≡ status_by (Some (taken % shape.frame_nr)) requested at
+    → (at ≡ taken % shape.frame_nr → ⊥) → status_by stopped requested at
+    ≡ status_by (Some (taken % shape.frame_nr)) requested at
 stopped_there None shape skip slots placed taken at stop requested other =
-    let no : taken % shape.frame_nr == at ≡ false = false_from_ne_true (taken % shape.frame_nr == at) (λ yes. other (sym (eqb-true (taken % shape.frame_nr) at yes))) in
+    let no : taken % shape.frame_nr == at ≡ false =
+    false_from_ne_true (taken % shape.frame_nr == at) (λ yes. other (sym (eqb-true (taken % shape.frame_nr) at yes))) in
     rw no refl
 stopped_there (Some slot) shape skip slots placed taken at stop requested other = rw stop.front refl
 
@@ -194,11 +232,13 @@ same_at slots at slot within request k =
     ]
 
 -- the ring stops at the slot of the first request
-pub stopped_keeps : (shape : RingRequest) (skip : Bool) (slots : List SlotState) (placed taken : ℕ) (stopped : Option ℕ) (slot : SlotState)
+pub stopped_keeps : (shape : RingRequest) (skip : Bool) (slots : List SlotState) (placed taken : ℕ) (stopped : Option ℕ)
+    (slot : SlotState)
     → Keeps (state_in shape skip slots placed taken stopped) slots taken → taken < placed → skip ≡ false
     → BeginsBad (room_of shape) (requests_in shape.frame_nr slots taken (placed - taken))
     → slot.size ≡ shape.frame_size → slot.status ≡ 4 → slot.request ≡ (slot_at slots (taken % shape.frame_nr)).request
-    → Keeps (state_in shape skip (set slots (taken % shape.frame_nr) slot) placed taken (Some (taken % shape.frame_nr))) (set slots (taken % shape.frame_nr) slot) taken
+    → Keeps (state_in shape skip (set slots (taken % shape.frame_nr) slot) placed taken (Some (taken % shape.frame_nr)))
+    (set slots (taken % shape.frame_nr) slot) taken
 stopped_keeps shape skip slots placed taken stopped slot keeps left stays bad size status request =
     let n = shape.frame_nr in
     let at = taken % n in
@@ -217,12 +257,14 @@ stopped_keeps shape skip slots placed taken stopped slot keeps left stays bad si
       sizes = each_slot (λ k s. s.size ≡ shape.frame_size) slots at slot within size (λ k less other. keeps.sizes k less);
       marks = each_slot (λ k s. s.status ≡ status_by (Some at) (is_among n k taken (placed - taken)) k) slots at slot within
           (status ∙ rw (eq-eqb at at refl) refl)
-          (λ k less other. keeps.marks k less ∙ stopped_there stopped shape skip slots placed taken k keeps.stop (is_among n k taken (placed - taken)) other);
+          (λ k less other. keeps.marks k less ∙ stopped_there stopped shape skip slots placed taken k keeps.stop
+          (is_among n k taken (placed - taken)) other);
       stop = record { front = refl; bad = subst (BeginsBad (room_of shape)) (sym requests) bad; stays = stays };
     }
 
 -- the requests of a ring that stopped
-pub stopped_state : (shape : RingRequest) (skip : Bool) (slots : List SlotState) (placed taken : ℕ) (stopped : Option ℕ) (slot : SlotState)
+pub stopped_state : (shape : RingRequest) (skip : Bool) (slots : List SlotState) (placed taken : ℕ) (stopped : Option ℕ)
+    (slot : SlotState)
     → Keeps (state_in shape skip slots placed taken stopped) slots taken
     → slot.request ≡ (slot_at slots (taken % shape.frame_nr)).request
     → state_in shape skip (set slots (taken % shape.frame_nr) slot) placed taken (Some (taken % shape.frame_nr))
@@ -233,7 +275,8 @@ stopped_state shape skip slots placed taken stopped slot keeps request =
     let some = keeps.some in
     let low = mod-lt taken some in
     let within : taken % n < length slots = omega arith in
-    let requests = same_requests n slots (set slots (taken % n) slot) taken (placed - taken) (same_at slots (taken % n) slot within request) in
+    let requests = same_requests n slots (set slots (taken % n) slot) taken (placed - taken)
+    (same_at slots (taken % n) slot within request) in
     rw requests refl
 
 -- a ring of empty slots
@@ -241,7 +284,8 @@ pub opened : (shape : RingRequest) (skip : Bool) → 0 < shape.frame_nr → 68 �
     → Keeps (new_ring shape skip) (replicate shape.frame_nr (empty_slot shape.frame_size)) 0
 opened shape skip some least =
     let size = length-replicate shape.frame_nr (empty_slot shape.frame_size) in
-    let empty : (at : ℕ) → at < length (replicate shape.frame_nr (empty_slot shape.frame_size)) → slot_at (replicate shape.frame_nr (empty_slot shape.frame_size)) at ≡ empty_slot shape.frame_size =
+    let empty : (at : ℕ) → at < length (replicate shape.frame_nr (empty_slot shape.frame_size))
+    → slot_at (replicate shape.frame_nr (empty_slot shape.frame_size)) at ≡ empty_slot shape.frame_size =
     λ at less. get_or-replicate shape.frame_nr at (empty_slot shape.frame_size) (empty_slot 0) (omega arith) in
     record {
       places = size;
@@ -255,7 +299,8 @@ opened shape skip some least =
     }
 
 -- a non-empty list of requests whose first one is bad begins with a bad one
-pub begins_bad : (room : ℕ) (requests : List Request) → 0 < length requests → is_good room (front_of requests) ≡ false → BeginsBad room requests
+pub begins_bad : (room : ℕ) (requests : List Request) → 0 < length requests → is_good room (front_of requests) ≡ false
+    → BeginsBad room requests
 begins_bad room [] some bad = absurd (omega arith)
 begins_bad room (request ∷ requests) some bad = bad
 
@@ -276,8 +321,10 @@ pub not_stopped : (ring : TxState) (taken : ℕ) → IfSome ring.stopped (HasSto
 not_stopped ring taken stop going = not_stopped_by ring taken ring.stopped stop going
 
 -- the status of a slot by the number of slots that were taken
-pub status_is : (shape : RingRequest) (skip : Bool) (slots : List SlotState) (placed taken : ℕ) (stopped : Option ℕ) (at : ℕ) → taken ≤ placed
-    → status_of (state_in shape skip slots placed taken stopped) at ≡ status_by stopped (is_among shape.frame_nr at taken (placed - taken)) at
+pub status_is : (shape : RingRequest) (skip : Bool) (slots : List SlotState) (placed taken : ℕ) (stopped : Option ℕ) (at : ℕ)
+    → taken ≤ placed
+    → status_of (state_in shape skip slots placed taken stopped) at
+    ≡ status_by stopped (is_among shape.frame_nr at taken (placed - taken)) at
 status_is shape skip slots placed taken stopped at order =
     let front : placed - (placed - taken) ≡ taken = omega arith in
     rw (length-requests_in shape.frame_nr slots taken (placed - taken), front) refl

@@ -1,7 +1,11 @@
 -- Slots in their bytes, one after another.
-use Rattle.std.proofs.Common.{◌≡◌, ℕ, zero, suc, ◌+◌, ◌-◌, ◌*◌, ◌^◌, ◌<◌, ◌≤◌, List, [], ◌∷◌, ◌++◌, length, take, drop, replicate, set, refl, sym, ap, subst, ◌∙◌, inl, inr, arith}
+use Rattle.std.proofs.Common.{◌≡◌, ℕ, zero, suc, ◌+◌, ◌-◌, ◌*◌, ◌^◌, ◌<◌, ◌≤◌, List, [], ◌∷◌, ◌++◌, length, take, drop}
+use Rattle.std.proofs.Common.{replicate, set, refl, sym, ap, subst, ◌∙◌, inl, inr, arith}
 use Rattle.std.proofs.lemmas.Bool.{cases_lt}
-use Rattle.std.proofs.lemmas.List.{append_assoc, drop-append-le, drop-drop, drop-replicate, drop_at, get_or-append_right, get_or-replicate, get_or_append_left, length-append, length-drop, length-replicate, length-take-le, nil_from_length, replicate-append-replicate, set-append_left, take-append-le, take-replicate, take_at}
+use Rattle.std.proofs.lemmas.List.{append_assoc, drop-append-le, drop-drop, drop-replicate, drop_at, get_or-append_right}
+use Rattle.std.proofs.lemmas.List.{get_or-replicate, get_or_append_left, length-append, length-drop, length-replicate}
+use Rattle.std.proofs.lemmas.List.{length-take-le, nil_from_length, replicate-append-replicate, set-append_left, take-append-le}
+use Rattle.std.proofs.lemmas.List.{take-replicate, take_at}
 use Rattle.std.proofs.Math.Nat.{mul-le-mul_left, mul-le-mul_right}
 use Rattle.std.proofs.Math.Seq.{take-add}
 use Rattle.tp_layout.specs.Rows.{number_at}
@@ -20,7 +24,8 @@ pub length-slots_in : (size count : ℕ) (bytes : List ℕ) → length (slots_in
 length-slots_in size zero bytes = refl
 length-slots_in size (suc count) bytes = ap suc (length-slots_in size count (drop size bytes))
 
-pub length-slots_by : (size count written : ℕ) (bytes : List ℕ) → written ≤ count → length (slots_by size count written bytes) ≡ count
+pub length-slots_by : (size count written : ℕ) (bytes : List ℕ) → written ≤ count
+    → length (slots_by size count written bytes) ≡ count
 length-slots_by size count written bytes few =
     let first = length-slots_in size written bytes in
     let rest = length-replicate (count - written) (empty_slot size) in
@@ -28,7 +33,8 @@ length-slots_by size count written bytes few =
     omega (arith, first, rest, both)
 
 -- a place among all slots is below their number
-pub less_of : (size count written at : ℕ) (bytes : List ℕ) (slots : List SlotState) → written ≤ count → slots_by size count written bytes ≡ slots
+pub less_of : (size count written at : ℕ) (bytes : List ℕ) (slots : List SlotState) → written ≤ count
+    → slots_by size count written bytes ≡ slots
     → at < length slots → at < count
 less_of size count written at bytes slots few is within =
     let all = length-slots_by size count written bytes few in
@@ -59,26 +65,36 @@ pub written_slot : (size count written at : ℕ) (bytes : List ℕ) → at < wri
     → slot_at (slots_by size count written bytes) at ≡ slot_in (take size (drop (at * size) bytes))
 written_slot size count written at bytes less =
     let few = length-slots_in size written bytes in
-    get_or_append_left (slots_in size written bytes) (replicate (count - written) (empty_slot size)) (empty_slot 0) at (omega (arith, few))
+    get_or_append_left (slots_in size written bytes) (replicate (count - written) (empty_slot size)) (empty_slot 0) at
+    (omega (arith, few))
     ∙ slot_in_bytes size written at bytes less
 
 -- its bytes are those of a slot
-pub is_slot : (size written at : ℕ) (bytes : List ℕ) → AreSlots size written bytes → at < written → IsSlot (take size (drop (at * size) bytes))
+pub is_slot : (size written at : ℕ) (bytes : List ℕ) → AreSlots size written bytes → at < written
+    → IsSlot (take size (drop (at * size) bytes))
 is_slot size zero at bytes each less = absurd (omega arith)
 is_slot size (suc written) zero bytes each less = rw (at_first size bytes) each.0
 is_slot size (suc written) (suc at) bytes each less =
-    subst (λ (rest : List ℕ). IsSlot (take size rest)) (sym (after_first size at bytes)) (is_slot size written at (drop size bytes) each.1 (omega arith))
+    subst (λ (rest : List ℕ). IsSlot (take size rest)) (sym (after_first size at bytes))
+    (is_slot size written at (drop size bytes) each.1 (omega arith))
 
 -- a slot that wasn't written
 pub unwritten_slot : (size count written at : ℕ) (bytes : List ℕ) → written ≤ at → at < count
     → slot_at (slots_by size count written bytes) at ≡ empty_slot size
 unwritten_slot size count written at bytes past less =
-    get_or-append_right (slots_in size written bytes) (replicate (count - written) (empty_slot size)) written at (empty_slot 0) (length-slots_in size written bytes) past
+    get_or-append_right (slots_in size written bytes) (replicate (count - written) (empty_slot size)) written at (empty_slot 0)
+    (length-slots_in size written bytes) past
     ∙ get_or-replicate (count - written) (at - written) (empty_slot size) (empty_slot 0) (omega arith)
 
 -- zeros are slots that nothing was written into
 empty_sound : (size : ℕ) → 48 ≤ size → IsSound (empty_slot size)
-empty_sound size least = record { status = omega arith; next_offset = omega arith; asked = omega arith; given = omega arith; fits = least }
+empty_sound size least = record {
+  status = omega arith;
+  next_offset = omega arith;
+  asked = omega arith;
+  given = omega arith;
+  fits = least;
+}
 
 zeros_slot : (size : ℕ) → 48 ≤ size → slot_in (replicate size 0) ≡ empty_slot size
 zeros_slot size least = ap slot_in (zeros_empty size least) ∙ told (empty_slot size) (empty_sound size least)
@@ -101,29 +117,39 @@ zeros_are size zero least =
     let none : 0 * size ≡ 0 = omega arith in
     rw none refl
 zeros_are size (suc more) least =
-    rw (zeros_first size more, zeros_rest size more)
-    (written_text (replicate size 0) (empty_slot size) (empty_sound size least) (zeros_empty size least), zeros_are size more least)
+    rw (zeros_first size more, zeros_rest size more) (
+      written_text (replicate size 0) (empty_slot size) (empty_sound size least) (zeros_empty size least),
+      zeros_are size more least,
+    )
 
 -- bytes of slots that are followed by more
-more_first : (size count : ℕ) (bytes more : List ℕ) → length bytes ≡ suc count * size → take size (bytes ++ more) ≡ take size bytes
+more_first : (size count : ℕ) (bytes more : List ℕ) → length bytes ≡ suc count * size
+    → take size (bytes ++ more) ≡ take size bytes
 more_first size count bytes more whole = take-append-le size bytes more (omega arith)
 
-more_rest : (size count : ℕ) (bytes more : List ℕ) → length bytes ≡ suc count * size → drop size (bytes ++ more) ≡ drop size bytes ++ more
+more_rest : (size count : ℕ) (bytes more : List ℕ) → length bytes ≡ suc count * size
+    → drop size (bytes ++ more) ≡ drop size bytes ++ more
 more_rest size count bytes more whole = drop-append-le size bytes more (omega arith)
 
 rest_whole : (size count : ℕ) (bytes : List ℕ) → length bytes ≡ suc count * size → length (drop size bytes) ≡ count * size
 rest_whole size count bytes whole = let rest = length-drop size bytes in omega (arith, rest)
 
 grown_in : (size written more : ℕ) (bytes : List ℕ) → 48 ≤ size → length bytes ≡ written * size
-    → slots_in size (written + more) (bytes ++ replicate (more * size) 0) ≡ slots_in size written bytes ++ replicate more (empty_slot size)
+    → slots_in size (written + more) (bytes ++ replicate (more * size) 0) ≡ slots_in size written bytes
+    ++ replicate more (empty_slot size)
 grown_in size zero more bytes least whole =
     let none : bytes ≡ [] = nil_from_length bytes (omega arith) in
     let all : 0 + more ≡ more = omega arith in
     rw (none, all) (zeros_in size more least)
 grown_in size (suc written) more bytes least whole =
     let next : suc written + more ≡ suc (written + more) = omega arith in
-    rw (next, more_first size written bytes (replicate (more * size) 0) whole, more_rest size written bytes (replicate (more * size) 0) whole)
-    (ap (λ (rest : List SlotState). slot_in (take size bytes) ∷ rest) (grown_in size written more (drop size bytes) least (rest_whole size written bytes whole)))
+    rw (
+      next,
+      more_first size written bytes (replicate (more * size) 0) whole,
+      more_rest size written bytes (replicate (more * size) 0) whole,
+    )
+    (ap (λ (rest : List SlotState). slot_in (take size bytes) ∷ rest)
+    (grown_in size written more (drop size bytes) least (rest_whole size written bytes whole)))
 
 grown_are : (size written more : ℕ) (bytes : List ℕ) → 48 ≤ size → length bytes ≡ written * size → AreSlots size written bytes
     → AreSlots size (written + more) (bytes ++ replicate (more * size) 0)
@@ -132,7 +158,11 @@ grown_are size zero more bytes least whole each =
     rw (each, all) (zeros_are size more least)
 grown_are size (suc written) more bytes least whole each =
     let next : suc written + more ≡ suc (written + more) = omega arith in
-    rw (next, more_first size written bytes (replicate (more * size) 0) whole, more_rest size written bytes (replicate (more * size) 0) whole)
+    rw (
+      next,
+      more_first size written bytes (replicate (more * size) 0) whole,
+      more_rest size written bytes (replicate (more * size) 0) whole,
+    )
     (each.0, grown_are size written more (drop size bytes) least (rest_whole size written bytes whole) each.1)
 
 -- the bytes after a slot is written
@@ -142,7 +172,8 @@ put_first size bytes slot =
     let past : 0 + size ≡ size = omega arith in
     rw (none, past) refl
 
-put_later : (size at : ℕ) (bytes slot : List ℕ) → put_slot (suc at * size) size bytes slot ≡ take size bytes ++ put_slot (at * size) size (drop size bytes) slot
+put_later : (size at : ℕ) (bytes slot : List ℕ) → put_slot (suc at * size) size bytes slot ≡ take size bytes
+    ++ put_slot (at * size) size (drop size bytes) slot
 put_later size at bytes slot =
     let sum : suc at * size ≡ size + at * size = omega arith in
     let past : suc at * size + size ≡ size + (at * size + size) = omega arith in
@@ -150,7 +181,8 @@ put_later size at bytes slot =
     ap (λ (n : ℕ). take n bytes) sum ∙ take-add size (at * size) bytes in
     let back : drop (suc at * size + size) bytes ≡ drop (at * size + size) (drop size bytes) =
     ap (λ (n : ℕ). drop n bytes) past ∙ sym (drop-drop (at * size + size) size bytes) in
-    rw (front, back) (append_assoc (take size bytes) (take (at * size) (drop size bytes)) (slot ++ drop (at * size + size) (drop size bytes)))
+    rw (front, back) (append_assoc (take size bytes) (take (at * size) (drop size bytes))
+    (slot ++ drop (at * size + size) (drop size bytes)))
 
 pub put_in : (size written at : ℕ) (bytes slot : List ℕ) → length bytes ≡ written * size → length slot ≡ size → at < written
     → slots_in size written (put_slot (at * size) size bytes slot) ≡ set (slots_in size written bytes) at (slot_in slot)
@@ -161,13 +193,18 @@ put_in size (suc written) (suc at) bytes slot whole same less =
     let first = length-take-le size bytes (omega arith) in
     let rest = put_slot (at * size) size (drop size bytes) slot in
     rw (put_later size at bytes slot, take_at (take size bytes) rest size first, drop_at (take size bytes) rest size first)
-    (ap (λ (slots : List SlotState). slot_in (take size bytes) ∷ slots) (put_in size written at (drop size bytes) slot (rest_whole size written bytes whole) same (omega arith)))
+    (ap (λ (slots : List SlotState). slot_in (take size bytes) ∷ slots)
+    (put_in size written at (drop size bytes) slot (rest_whole size written bytes whole) same (omega arith)))
 
 pub put_are : (size written at : ℕ) (bytes slot : List ℕ) → length bytes ≡ written * size → length slot ≡ size → at < written
     → AreSlots size written bytes → IsSlot slot → AreSlots size written (put_slot (at * size) size bytes slot)
 put_are size zero at bytes slot whole same less each is = absurd (omega arith)
 put_are size (suc written) zero bytes slot whole same less each is =
-    rw (put_first size bytes slot, take_at slot (drop size bytes) size same, drop_at slot (drop size bytes) size same) (is, each.1)
+    rw (
+      put_first size bytes slot,
+      take_at slot (drop size bytes) size same,
+      drop_at slot (drop size bytes) size same,
+    ) (is, each.1)
 put_are size (suc written) (suc at) bytes slot whole same less each is =
     let first = length-take-le size bytes (omega arith) in
     let rest = put_slot (at * size) size (drop size bytes) slot in
@@ -184,7 +221,8 @@ length-put_slot from size bytes slot within same =
     omega (arith, front, back, first, second)
 
 -- the slots up to one are made zeros, where they weren't written
-pub grown : (size count before after : ℕ) (bytes : List ℕ) → 48 ≤ size → length bytes ≡ before * size → before ≤ after → after ≤ count
+pub grown : (size count before after : ℕ) (bytes : List ℕ) → 48 ≤ size → length bytes ≡ before * size → before ≤ after
+    → after ≤ count
     → slots_by size count after (bytes ++ replicate (after * size - length bytes) 0) ≡ slots_by size count before bytes
 grown size count before after bytes least whole more few =
     let sum : before + (after - before) ≡ after = omega arith in
@@ -194,12 +232,17 @@ grown size count before after bytes least whole more few =
     let rest : after - before + (count - after) ≡ count - before = omega arith in
     let grows = grown_in size before (after - before) bytes least whole in
     rw zeros
-    (ap (λ (n : ℕ). slots_in size n (bytes ++ replicate ((after - before) * size) 0) ++ replicate (count - after) (empty_slot size)) (sym sum)
+    (ap (λ (n : ℕ). slots_in size n (bytes ++ replicate ((after - before) * size) 0)
+    ++ replicate (count - after) (empty_slot size)) (sym sum)
     ∙ ap (λ (slots : List SlotState). slots ++ replicate (count - after) (empty_slot size)) grows
-    ∙ append_assoc (slots_in size before bytes) (replicate (after - before) (empty_slot size)) (replicate (count - after) (empty_slot size))
-    ∙ ap (λ (slots : List SlotState). slots_in size before bytes ++ slots) (replicate-append-replicate (after - before) (count - after) (empty_slot size) ∙ ap (λ (n : ℕ). replicate n (empty_slot size)) rest))
+    ∙ append_assoc (slots_in size before bytes) (replicate (after - before) (empty_slot size))
+    (replicate (count - after) (empty_slot size))
+    ∙ ap (λ (slots : List SlotState). slots_in size before bytes ++ slots)
+    (replicate-append-replicate (after - before) (count - after) (empty_slot size)
+    ∙ ap (λ (n : ℕ). replicate n (empty_slot size)) rest))
 
-pub grown_kept : (size count before after room more_room : ℕ) (bytes : List ℕ) → IsKept size count before room bytes → before ≤ after → after ≤ count → room ≤ more_room
+pub grown_kept : (size count before after room more_room : ℕ) (bytes : List ℕ) → IsKept size count before room bytes
+    → before ≤ after → after ≤ count → room ≤ more_room
     → IsKept size count after more_room (bytes ++ replicate (after * size - length bytes) 0)
 grown_kept size count before after room more_room bytes kept more few wide =
     let whole = kept.whole in
@@ -221,18 +264,22 @@ grown_kept size count before after room more_room bytes kept more few wide =
     }
 
 -- a slot is written
-pub put_by : (size count written at room : ℕ) (bytes : List ℕ) (slot : SlotState) → IsKept size count written room bytes → at < written
+pub put_by : (size count written at room : ℕ) (bytes : List ℕ) (slot : SlotState) → IsKept size count written room bytes
+    → at < written
     → IsSound slot → slot.size ≡ size
-    → slots_by size count written (put_slot (at * size) size bytes (slot_text slot)) ≡ set (slots_by size count written bytes) at slot
+    → slots_by size count written (put_slot (at * size) size bytes (slot_text slot))
+    ≡ set (slots_by size count written bytes) at slot
 put_by size count written at room bytes slot kept less sound same =
     let whole = length-slot_text slot sound.fits ∙ same in
     let there = length-slots_in size written bytes in
     let others = replicate (count - written) (empty_slot size) in
     ap (λ (slots : List SlotState). slots ++ others)
-    (put_in size written at bytes (slot_text slot) kept.whole whole less ∙ ap (set (slots_in size written bytes) at) (told slot sound))
+    (put_in size written at bytes (slot_text slot) kept.whole whole less
+    ∙ ap (set (slots_in size written bytes) at) (told slot sound))
     ∙ sym (set-append_left (slots_in size written bytes) others at slot (omega (arith, there)))
 
-pub put_kept : (size count written at room : ℕ) (bytes : List ℕ) (slot : SlotState) → IsKept size count written room bytes → at < written
+pub put_kept : (size count written at room : ℕ) (bytes : List ℕ) (slot : SlotState) → IsKept size count written room bytes
+    → at < written
     → IsSound slot → slot.size ≡ size → IsKept size count written room (put_slot (at * size) size bytes (slot_text slot))
 put_kept size count written at room bytes slot kept less sound same =
     let whole = length-slot_text slot sound.fits ∙ same in
@@ -260,7 +307,8 @@ pub each_sound : (size count written at room : ℕ) (bytes : List ℕ) → IsKep
     → IsSound (slot_at (slots_by size count written bytes) at)
 each_sound size count written at room bytes kept less =
     elim (cases_lt at written) [
-      | inl below ↦ subst IsSound (sym (written_slot size count written at bytes below)) (is_slot size written at bytes kept.each below).sound
+      | inl below ↦ subst IsSound (sym (written_slot size count written at bytes below))
+          (is_slot size written at bytes kept.each below).sound
       | inr past ↦ subst IsSound (sym (unwritten_slot size count written at bytes past less)) (empty_sound size kept.least)
     ]
 
@@ -290,7 +338,8 @@ zero_number place more =
     rw (drop-replicate {X = ℕ} place (place + (4 + more)) 0, rest) refl
 
 -- a number in the header of a slot that wasn't written
-pub unwritten_number : (size count written at room place : ℕ) (bytes : List ℕ) → IsKept size count written room bytes → written ≤ at → at < count
+pub unwritten_number : (size count written at room place : ℕ) (bytes : List ℕ) → IsKept size count written room bytes
+    → written ≤ at → at < count
     → place + 4 ≤ 48 → 0 ≡ number_at 4 place (slot_text (slot_at (slots_by size count written bytes) at))
 unwritten_number size count written at room place bytes kept past less header =
     let least = kept.least in
@@ -301,12 +350,14 @@ unwritten_number size count written at room place bytes kept past less header =
     ∙ zero_number place (size - (place + 4)))
 
 -- a slot that asks for something was written
-pub was_written : (size count written at : ℕ) (bytes : List ℕ) → at < count → 0 < (slot_at (slots_by size count written bytes) at).request.length → at < written
+pub was_written : (size count written at : ℕ) (bytes : List ℕ) → at < count
+    → 0 < (slot_at (slots_by size count written bytes) at).request.length → at < written
 was_written size count written at bytes less some =
     elim (cases_lt at written) [
       | inl below ↦ below
       | inr past ↦
-          let none : (slot_at (slots_by size count written bytes) at).request.length ≡ 0 = ap (λ (slot : SlotState). slot.request.length) (unwritten_slot size count written at bytes past less) in
+          let none : (slot_at (slots_by size count written bytes) at).request.length ≡ 0 =
+          ap (λ (slot : SlotState). slot.request.length) (unwritten_slot size count written at bytes past less) in
           absurd (omega arith)
     ]
 
@@ -336,24 +387,29 @@ requested size count before after at room more len bytes old new slot kept less 
     let slot_whole = length-slot_text slot sound.fits ∙ same in
     let count_of : length new ≡ length old =
     ap length text ∙ length-put_slot (at * size) size old (slot_text slot) (omega (arith, within, whole)) slot_whole in
-    let back : take len (new ++ drop (length new) old) ≡ put_slot (at * size) size old (slot_text slot) = lent len new old (count_of ∙ all) all ∙ text in (
+    let back : take len (new ++ drop (length new) old) ≡ put_slot (at * size) size old (slot_text slot) =
+    lent len new old (count_of ∙ all) all ∙ text in (
       rw back (put_kept size count after at more old slot kept_on less sound same),
       rw back
           (put_by size count after at more old slot kept_on less sound same
           ∙ ap (λ (bytes : List ℕ). set (slots_by size count after bytes) at slot) zeros
-          ∙ ap (λ (slots : List SlotState). set slots at slot) (grown size count before after bytes kept.least kept.whole grows few)),
+          ∙ ap (λ (slots : List SlotState). set slots at slot)
+          (grown size count before after bytes kept.least kept.whole grows few)),
     )
 
 -- a slot as it was, in the bytes that were made zeros up to some
 pub as_before : (size count before after at room more : ℕ) (bytes old : List ℕ)
     → IsKept size count before room bytes → at < after → before ≤ after → after ≤ count → room ≤ more
     → old ≡ bytes ++ replicate (after * size - length bytes) 0
-    → IsSlot (take size (drop (at * size) old)) × (slot_in (take size (drop (at * size) old)) ≡ slot_at (slots_by size count before bytes) at)
+    → IsSlot (take size (drop (at * size) old))
+    × (slot_in (take size (drop (at * size) old)) ≡ slot_at (slots_by size count before bytes) at)
 as_before size count before after at room more bytes old kept less grows few wide zeros =
     let kept_on : IsKept size count after more old =
-    subst (IsKept size count after more) (sym zeros) (grown_kept size count before after room more bytes kept grows few wide) in (
+    subst (IsKept size count after more) (sym zeros)
+    (grown_kept size count before after room more bytes kept grows few wide) in (
       is_slot size after at old kept_on.each less,
       sym (written_slot size count after at old less)
           ∙ ap (λ (bytes : List ℕ). slot_at (slots_by size count after bytes) at) zeros
-          ∙ ap (λ (slots : List SlotState). slot_at slots at) (grown size count before after bytes kept.least kept.whole grows few),
+          ∙ ap (λ (slots : List SlotState). slot_at slots at)
+          (grown size count before after bytes kept.least kept.whole grows few),
     )

@@ -5,11 +5,13 @@ use Rattle.std.specs.Option.{option_or}
 use Rattle.std.proofs.lemmas.Bool.{eqb-true, eqb-false, ltb-false}
 use Rattle.std.proofs.Math.Nat.{mul-le-mul}
 use Rattle.tp_layout.specs.declared.requests.RingRequest.{RingRequest}
-use Rattle.tp_layout.specs.declared.error.RequestError.TheVariants.{BlockSize, BlockCount, Private, FrameSmall, FrameAlign, FrameCount, Transmit}
+use Rattle.tp_layout.specs.declared.error.RequestError.TheVariants.{BlockSize, BlockCount, Private, FrameSmall, FrameAlign}
+use Rattle.tp_layout.specs.declared.error.RequestError.TheVariants.{FrameCount, Transmit}
 use Rattle.tp_layout.specs.Requests.{frames_in, receive_fault, transmit_fault}
 
 -- a test that fails is the answer
-passed : {X : Type 0} (test : Bool) (fault : X) (rest : Option X) → (if test then Some fault else rest) ≡ None → (test ≡ false) × (rest ≡ None)
+passed : {X : Type 0} (test : Bool) (fault : X) (rest : Option X) → (if test then Some fault else rest) ≡ None
+    → (test ≡ false) × (rest ≡ None)
 passed true fault rest none = cc
 passed false fault rest none = (refl, none)
 
@@ -29,9 +31,13 @@ not_false false none = sym none
 pub some_slots : (shape : RingRequest) → transmit_fault shape ≡ None → 0 < shape.frame_nr
 unfolding transmit_fault receive_fault
 some_slots shape none =
-    let first = passed_first (receive_fault shape) (if (shape.tov == 0) && (shape.sizeof_priv == 0) && (shape.features == 0) then None else Some Transmit) none in
-    let t1 = passed ((shape.block_size == 0) || not (shape.block_size % 4096 == 0) || nat_lt 1048576 shape.block_size) BlockSize _ first in
-    let t2 = passed (nat_lt shape.block_nr 2 || nat_lt 256 shape.block_nr || nat_lt 67108864 (shape.block_size * shape.block_nr)) BlockCount _ t1.1 in
+    let first =
+    passed_first (receive_fault shape)
+    (if (shape.tov == 0) && (shape.sizeof_priv == 0) && (shape.features == 0) then None else Some Transmit) none in
+    let t1 = passed ((shape.block_size == 0) || not (shape.block_size % 4096 == 0) || nat_lt 1048576 shape.block_size)
+    BlockSize _ first in
+    let t2 = passed (nat_lt shape.block_nr 2 || nat_lt 256 shape.block_nr || nat_lt 67108864
+    (shape.block_size * shape.block_nr)) BlockCount _ t1.1 in
     let t3 = passed (nat_lt 1024 shape.sizeof_priv) Private _ t2.1 in
     let t4 = passed (nat_lt shape.frame_size 68) FrameSmall _ t3.1 in
     let t5 = passed (not (shape.frame_size % 16 == 0)) FrameAlign _ t4.1 in

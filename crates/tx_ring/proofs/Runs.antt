@@ -1,6 +1,7 @@
 -- A run of frames through a ring: what was sent and what is still requested make up the result of
 -- all requests.
-use Rattle.std.proofs.Common.{◌≡◌, ℕ, ◌+◌, ◌≤◌, Bool, false, true, ◌⊎◌, List, [], ◌∷◌, ◌++◌, length, drop, Option, None, Some, IfSome, Ok, Err, true≢false, refl, sym, ap, subst, ◌∙◌, inl, inr, arith}
+use Rattle.std.proofs.Common.{◌≡◌, ℕ, ◌+◌, ◌≤◌, Bool, false, true, ◌⊎◌, List, [], ◌∷◌, ◌++◌, length, drop, Option, None, Some}
+use Rattle.std.proofs.Common.{IfSome, Ok, Err, true≢false, refl, sym, ap, subst, ◌∙◌, inl, inr, arith}
 use Rattle.std.specs.Prelude.{if◌then◌else◌}
 use Rattle.std.proofs.lemmas.List.{append_assoc}
 use Rattle.std.proofs.Math.Seq.{drop-length}
@@ -15,7 +16,8 @@ use Rattle.tx_ring.specs.Transmission.{sent_once}
 use Rattle.tx_ring.specs.declared.error.SendError.{SendError}
 use Rattle.tx_ring.specs.declared.error.SendError.TheVariants.{BadSlot, Memory}
 use Rattle.tx_ring.specs.declared.transmission.Transmitter.{Transmitter}
-use Rattle.tx_ring.proofs.Splits.{after_good, bad_in_good, left_bad, left_in, left_is, over_by, over_split, sent_by, sent_split, stops_by, stops_split}
+use Rattle.tx_ring.proofs.Splits.{after_good, bad_in_good, left_bad, left_in, left_is, over_by, over_split, sent_by, sent_split}
+use Rattle.tx_ring.proofs.Splits.{stops_by, stops_split}
 
 -- a send that reports a bad slot skipped none
 none_over_by : (ring : TxState) (slot : ℕ) (skip : Bool) → ring.skip_bad ≡ skip → Err (BadSlot slot) ≡ send_answer ring
@@ -26,14 +28,17 @@ none_over_by ring slot true skips told =
     let left : after_taking (length (taken_by ring)) ring ≡ record ring { requests = [] } =
     ap (λ (taken : List Request). after_taking (length taken) ring) whole
     ∙ ap (λ (requests : List Request). record ring { requests = requests }) (drop-length ring.requests) in
-    let answer : send_answer ring ≡ Ok (counts_of ring) = ap (λ (r : TxState). answer_with r (counts_of ring) r.requests) left in
+    let answer : send_answer ring ≡ Ok (counts_of ring) =
+    ap (λ (r : TxState). answer_with r (counts_of ring) r.requests) left in
     let never : Err (BadSlot slot) ≡ Ok (counts_of ring) = told ∙ answer in
     cc
 none_over_by ring slot false stays told =
-    ap (λ (skip : Bool). bad_in (room_of ring.shape) (if skip then ring.requests else good_front (room_of ring.shape) ring.requests)) stays
+    ap (λ (skip : Bool). bad_in (room_of ring.shape)
+    (if skip then ring.requests else good_front (room_of ring.shape) ring.requests)) stays
     ∙ bad_in_good (room_of ring.shape) ring.requests
 
-pub none_over : (ring : TxState) (slot : ℕ) → Err (BadSlot slot) ≡ send_answer ring → bad_in (room_of ring.shape) (taken_by ring) ≡ 0
+pub none_over : (ring : TxState) (slot : ℕ) → Err (BadSlot slot) ≡ send_answer ring
+    → bad_in (room_of ring.shape) (taken_by ring) ≡ 0
 none_over ring slot told = none_over_by ring slot ring.skip_bad refl told
 
 never : {slot : ℕ} → Memory ≡ BadSlot slot → ⊥
@@ -45,7 +50,8 @@ pub sent_to_bad : (error : SendError) (slot : ℕ) (run : Transmitter) (ring : T
     → UnlessMemory (Err error) (out ≡ run.packets ++ packets_sent run.ring)
     → record { ring = ring; packets = out; skipped = run.skipped } ≡ sent_once run
 sent_to_bad (BadSlot slot) same run ring out is answer after_it appended =
-    let none : run.skipped ≡ run.skipped + bad_in (room_of run.ring.shape) (taken_by run.ring) = rw (none_over run.ring slot answer) (omega arith) in
+    let none : run.skipped ≡ run.skipped + bad_in (room_of run.ring.shape) (taken_by run.ring) =
+    rw (none_over run.ring slot answer) (omega arith) in
     cc
 sent_to_bad Memory slot run ring out is answer after_it appended = absurd (never is)
 
@@ -54,13 +60,17 @@ pub record Carries (shape : RingRequest) (skip : Bool) (done : List Request) (ru
   pub shape_is : run.ring.shape ≡ shape
   pub skip_is : run.ring.skip_bad ≡ skip
   pub placed : run.ring.placed ≤ length done
-  pub packets : (more : List Request) → run.packets ++ sent_by (room_of shape) skip (run.ring.requests ++ more) ≡ sent_by (room_of shape) skip (done ++ more)
-  pub skipped : (more : List Request) → run.skipped + over_by (room_of shape) skip (run.ring.requests ++ more) ≡ over_by (room_of shape) skip (done ++ more)
-  pub stops : (more : List Request) → stops_by (room_of shape) skip (run.ring.requests ++ more) ≡ stops_by (room_of shape) skip (done ++ more)
+  pub packets : (more : List Request) → run.packets ++ sent_by (room_of shape) skip (run.ring.requests ++ more)
+      ≡ sent_by (room_of shape) skip (done ++ more)
+  pub skipped : (more : List Request) → run.skipped + over_by (room_of shape) skip (run.ring.requests ++ more)
+      ≡ over_by (room_of shape) skip (done ++ more)
+  pub stops : (more : List Request) → stops_by (room_of shape) skip (run.ring.requests ++ more)
+      ≡ stops_by (room_of shape) skip (done ++ more)
   pub stopped : IfSome run.ring.stopped (λ slot. (skip ≡ false) × BeginsBad (room_of shape) run.ring.requests)
 
 -- the parts of a ring that a send leaves or changes
-pub kept : (ring : TxState) (requests : List Request) → ((stop_at_front ring requests).shape ≡ ring.shape) × ((stop_at_front ring requests).skip_bad ≡ ring.skip_bad)
+pub kept : (ring : TxState) (requests : List Request)
+    → ((stop_at_front ring requests).shape ≡ ring.shape) × ((stop_at_front ring requests).skip_bad ≡ ring.skip_bad)
     × ((stop_at_front ring requests).placed ≡ ring.placed) × ((stop_at_front ring requests).requests ≡ ring.requests)
 kept ring [] = (refl, refl, refl, refl)
 kept ring (request ∷ requests) = (refl, refl, refl, refl)
@@ -123,14 +133,18 @@ left_by_send shape skip done run carries =
     let parts = kept left left.requests in
     let rest : left.requests ≡ left_in room skip ring.requests = left_after shape skip done run carries in
     let begins : (left.requests ≡ []) ⊎ ((skip ≡ false) × BeginsBad room left.requests) =
-    subst (λ (requests : List Request). (requests ≡ []) ⊎ ((skip ≡ false) × BeginsBad room requests)) (sym rest) (left_begins room skip ring.requests) in
-    let none : left.requests ≡ [] → ring.stopped ≡ None = λ empty. gone_on room skip ring.requests ring.stopped carries.stopped (sym rest ∙ empty) in
+    subst (λ (requests : List Request). (requests ≡ []) ⊎ ((skip ≡ false) × BeginsBad room requests)) (sym rest)
+    (left_begins room skip ring.requests) in
+    let none : left.requests ≡ [] → ring.stopped ≡ None =
+    λ empty. gone_on room skip ring.requests ring.stopped carries.stopped (sym rest ∙ empty) in
     record {
       shape_is = parts.0 ∙ carries.shape_is;
       skip_is = parts.1 ∙ carries.skip_is;
       placed = parts.2;
       requests = parts.3 ∙ rest;
-      stopped = subst (λ (requests : List Request). IfSome (after_send ring).stopped (λ slot. (skip ≡ false) × BeginsBad room requests)) (sym parts.3)
+      stopped =
+          subst (λ (requests : List Request). IfSome (after_send ring).stopped
+          (λ slot. (skip ≡ false) × BeginsBad room requests)) (sym parts.3)
           (stops_where room skip left left.requests begins none);
     }
 
@@ -142,14 +156,21 @@ send_carries shape skip done run carries =
     let left = left_by_send shape skip done run carries in
     let requests = run.ring.requests in
     let sent : packets_sent run.ring ≡ sent_by room skip requests = rw (carries.shape_is, carries.skip_is) refl in
-    let over : bad_in (room_of run.ring.shape) (taken_by run.ring) ≡ over_by room skip requests = rw (carries.shape_is, carries.skip_is) refl in
+    let over : bad_in (room_of run.ring.shape) (taken_by run.ring) ≡ over_by room skip requests =
+    rw (carries.shape_is, carries.skip_is) refl in
     let placed = carries.placed in
     let same = left.placed in
     record {
       shape_is = left.shape_is;
       skip_is = left.skip_is;
       placed = omega (arith, placed, same);
-      packets = λ more. rw (left.requests, sent, append_assoc run.packets (sent_by room skip requests) (sent_by room skip (left_in room skip requests ++ more)), sym (sent_split room skip requests more)) (carries.packets more);
+      packets =
+          λ more. rw (
+            left.requests,
+            sent,
+            append_assoc run.packets (sent_by room skip requests) (sent_by room skip (left_in room skip requests ++ more)),
+            sym (sent_split room skip requests more),
+          ) (carries.packets more);
       skipped = λ more.
           let split = over_split room skip requests more in
           let was = carries.skipped more in

@@ -1,5 +1,6 @@
 -- A send under way: what it took so far comes before what is left.
-use Rattle.std.proofs.Common.{◌≡◌, ℕ, ◌+◌, ◌-◌, ◌<◌, ◌≤◌, Bool, false, true, List, [], ◌∷◌, ◌++◌, length, take, drop, Option, Some, IfSome, Ok, Err, true≢false, refl, sym, ap, ◌∙◌, arith}
+use Rattle.std.proofs.Common.{◌≡◌, ℕ, ◌+◌, ◌-◌, ◌<◌, ◌≤◌, Bool, false, true, List, [], ◌∷◌, ◌++◌, length, take, drop, Option}
+use Rattle.std.proofs.Common.{Some, IfSome, Ok, Err, true≢false, refl, sym, ap, ◌∙◌, arith}
 use Rattle.std.specs.Prelude.{if◌then◌else◌}
 use Rattle.std.proofs.lemmas.List.{length-append, append_assoc, append-nil, nil_from_length}
 use Rattle.std.proofs.Math.Seq.{take-append_seam, drop-append_seam}
@@ -14,7 +15,8 @@ use Rattle.tx_ring.specs.Slots.{Request}
 use Rattle.tx_ring.specs.declared.error.SendError.{SendError}
 use Rattle.tx_ring.specs.declared.error.SendError.TheVariants.{BadSlot, Memory}
 use Rattle.tx_ring.specs.declared.ring.Sent.{Sent}
-use Rattle.tx_ring.proofs.Takings.{AllGood, at_some, bad_bad, bad_first, bad_good, begun_bad, each_counted, first_and_rest, good_append, good_more, none_left, packets_bad, packets_good, taken_of}
+use Rattle.tx_ring.proofs.Takings.{AllGood, at_some, bad_bad, bad_first, bad_good, begun_bad, each_counted, first_and_rest}
+use Rattle.tx_ring.proofs.Takings.{good_append, good_more, none_left, packets_bad, packets_good, taken_of}
 
 -- the counts of requests that were taken
 abbrev pub counts_in : ℕ → List Request → Sent
@@ -51,7 +53,8 @@ some_left old new before after counts count going more =
     omega arith
 
 -- what it took is reported by the ring
-shape_of : {old new : TxState} {before after : List Packet} {counts : Sent} {count : ℕ} → Going old new before after counts count → new.shape ≡ old.shape
+shape_of : {old new : TxState} {before after : List Packet} {counts : Sent} {count : ℕ}
+    → Going old new before after counts count → new.shape ≡ old.shape
 shape_of going = ap (λ (ring : TxState). ring.shape) going.ring
 
 -- the requests that are left when one more was taken
@@ -81,7 +84,8 @@ goes_on old mid new before half after counts count true going less taken =
     let some = some_left old mid before half counts count going less in
     let room = room_of old.shape in
     let request = front_of mid.requests in
-    let good : is_good room request ≡ true = ap (λ (shape : RingRequest). is_good (room_of shape) request) (sym (shape_of going)) ∙ taken.0 in
+    let good : is_good room request ≡ true =
+    ap (λ (shape : RingRequest). is_good (room_of shape) request) (sym (shape_of going)) ∙ taken.0 in
     let many = going.many in
     let size = length-append going.done (request ∷ []) in
     let packets = packets_good room going.done request good in
@@ -102,7 +106,8 @@ goes_on old mid new before half after counts count false going less taken =
     let some = some_left old mid before half counts count going less in
     let room = room_of old.shape in
     let request = front_of mid.requests in
-    let is_bad : is_good room request ≡ false = ap (λ (shape : RingRequest). is_good (room_of shape) request) (sym (shape_of going)) ∙ taken.0 in
+    let is_bad : is_good room request ≡ false =
+    ap (λ (shape : RingRequest). is_good (room_of shape) request) (sym (shape_of going)) ∙ taken.0 in
     let many = going.many in
     let size = length-append going.done (request ∷ []) in
     let packets = packets_bad room going.done request is_bad in
@@ -119,7 +124,8 @@ goes_on old mid new before half after counts count false going less taken =
 
 -- it took all that a send takes
 pub all_taken : (old new : TxState) (before after : List Packet) (counts : Sent) (count : ℕ)
-    → (going : Going old new before after counts count) → (if old.skip_bad then new.requests else good_front (room_of old.shape) new.requests) ≡ []
+    → (going : Going old new before after counts count)
+    → (if old.skip_bad then new.requests else good_front (room_of old.shape) new.requests) ≡ []
     → taken_by old ≡ going.done
 all_taken old new before after counts count going none =
     ap (λ (requests : List Request). if old.skip_bad then requests else good_front (room_of old.shape) requests) going.requests
@@ -177,9 +183,11 @@ pub at_bad : (old new : TxState) (before after : List Packet) (counts : Sent) (c
     → is_good (room_of new.shape) (front_of new.requests) ≡ false → taken_by old ≡ going.done
 at_bad old new before after counts count going stays bad =
     let same : old.skip_bad ≡ false = sym (ap (λ (ring : TxState). ring.skip_bad) going.ring) ∙ stays in
-    let is_bad : is_good (room_of old.shape) (front_of new.requests) ≡ false = ap (λ (shape : RingRequest). is_good (room_of shape) (front_of new.requests)) (sym (shape_of going)) ∙ bad in
+    let is_bad : is_good (room_of old.shape) (front_of new.requests) ≡ false =
+    ap (λ (shape : RingRequest). is_good (room_of shape) (front_of new.requests)) (sym (shape_of going)) ∙ bad in
     all_taken old new before after counts count going
-    (ap (λ (skip : Bool). if skip then new.requests else good_front (room_of old.shape) new.requests) same ∙ bad_first (room_of old.shape) new.requests is_bad)
+    (ap (λ (skip : Bool). if skip then new.requests else good_front (room_of old.shape) new.requests) same
+    ∙ bad_first (room_of old.shape) new.requests is_bad)
 
 -- a send that was interrupted at a good request
 pub broken_off : (old mid new : TxState) (before half after : List Packet) (counts : Sent) (count : ℕ)
@@ -187,7 +195,8 @@ pub broken_off : (old mid new : TxState) (before half after : List Packet) (coun
     → IsBrokenOff (length going.done) old new before after
 broken_off old mid new before half after counts count going some taken =
     let room = room_of old.shape in
-    let good : is_good room (front_of mid.requests) ≡ true = ap (λ (shape : RingRequest). is_good (room_of shape) (front_of mid.requests)) (sym (shape_of going)) ∙ taken.0 in
+    let good : is_good room (front_of mid.requests) ≡ true =
+    ap (λ (shape : RingRequest). is_good (room_of shape) (front_of mid.requests)) (sym (shape_of going)) ∙ taken.0 in
     let all : taken_by old ≡ going.done ++ (if old.skip_bad then mid.requests else good_front room mid.requests) =
     ap (λ (requests : List Request). if old.skip_bad then requests else good_front room requests) going.requests
     ∙ taken_of old.skip_bad room going.done mid.requests going.may in
@@ -210,7 +219,8 @@ pub record EndsBy (error : SendError) (old new : TxState) (before after : List P
 
 -- a non-empty rest of requests stops the ring
 stops_at : (ring : TxState) (counts : Sent) (requests : List Request) → 0 < length requests
-    → (answer_with ring counts requests ≡ Err (BadSlot (front_slot ring))) × (stop_at_front ring requests ≡ record ring { stopped = Some (front_slot ring) })
+    → (answer_with ring counts requests ≡ Err (BadSlot (front_slot ring)))
+    × (stop_at_front ring requests ≡ record ring { stopped = Some (front_slot ring) })
 stops_at ring counts [] some = absurd (omega arith)
 stops_at ring counts (request ∷ requests) some = (refl, refl)
 
@@ -224,7 +234,8 @@ ends_by (BadSlot slot) old mid new before half after counts count going less tak
     let stop = stops_at mid counts mid.requests some in
     record {
       answer = ap (λ (s : ℕ). Err (BadSlot s)) taken.2 ∙ sym (answers old mid before half counts count going whole ∙ stop.0);
-      ring = taken.3 ∙ ap (λ (s : ℕ). record mid { stopped = Some s }) taken.2 ∙ sym (leaves old mid before half counts count going whole ∙ stop.1);
+      ring = taken.3 ∙ ap (λ (s : ℕ). record mid { stopped = Some s }) taken.2
+          ∙ sym (leaves old mid before half counts count going whole ∙ stop.1);
       packets = taken.4 ∙ appended old mid before half counts count going whole;
       memory = tt;
     }
@@ -250,7 +261,8 @@ stopped_answer ring taken slot keeps is front =
     let begun = begun_bad (room_of ring.shape) ring.requests stop.bad in
     let none : taken_by ring ≡ [] =
     ap (λ (skip : Bool). if skip then ring.requests else good_front (room_of ring.shape) ring.requests) stop.stays ∙ begun.1 in
-    let left : after_taking (length (taken_by ring)) ring ≡ ring = ap (λ (taken : List Request). after_taking (length taken) ring) none in
+    let left : after_taking (length (taken_by ring)) ring ≡ ring =
+    ap (λ (taken : List Request). after_taking (length taken) ring) none in
     let at : front_slot ring ≡ slot = ap (slot_of ring.shape) (sym front) ∙ sym stop.front in
     let ends = stops_at ring (counts_of ring) ring.requests begun.0 in (
       ap (λ (r : TxState). answer_with r (counts_of ring) r.requests) left ∙ ends.0 ∙ ap (λ (s : ℕ). Err (BadSlot s)) at,

@@ -1,5 +1,6 @@
 -- The result of requests is that of those that a send takes, and then that of those that it leaves.
-use Rattle.std.proofs.Common.{◌≡◌, ℕ, ◌+◌, Bool, false, true, ◌⊎◌, List, [], ◌∷◌, ◌++◌, length, drop, refl, sym, ap, inl, inr, arith}
+use Rattle.std.proofs.Common.{◌≡◌, ℕ, ◌+◌, Bool, false, true, ◌⊎◌, List, [], ◌∷◌, ◌++◌, length, drop, refl, sym, ap, inl, inr}
+use Rattle.std.proofs.Common.{arith}
 use Rattle.std.specs.Prelude.{if◌then◌else◌}
 use Rattle.std.proofs.Math.Seq.{drop-length}
 use Rattle.frame_view.specs.declared.frames.Packet.{Packet}
@@ -37,22 +38,26 @@ stops_by room skip requests = if skip then false else has_bad room requests
 pub bad_in_good : (room : ℕ) (requests : List Request) → bad_in room (good_front room requests) ≡ 0
 bad_in_good room [] = refl
 bad_in_good room (request ∷ requests) =
-    elim (is_good room request) as (λ v. v ≡ is_good room request → bad_in room (if v then request ∷ good_front room requests else []) ≡ 0) [
+    elim (is_good room request) as (λ v. v ≡ is_good room request
+    → bad_in room (if v then request ∷ good_front room requests else []) ≡ 0) [
       | true ↦ λ good. rw (sym good) (bad_in_good room requests)
       | false ↦ λ bad. refl
     ] refl
 
 -- what a send leaves after what it takes
-pub dropped_good : (room : ℕ) (requests : List Request) → drop (length (good_front room requests)) requests ≡ after_good room requests
+pub dropped_good : (room : ℕ) (requests : List Request)
+    → drop (length (good_front room requests)) requests ≡ after_good room requests
 dropped_good room [] = refl
 dropped_good room (request ∷ requests) =
-    elim (is_good room request) as (λ v. drop (length (if v then request ∷ good_front room requests else [])) (request ∷ requests)
+    elim (is_good room request) as
+    (λ v. drop (length (if v then request ∷ good_front room requests else [])) (request ∷ requests)
     ≡ (if v then after_good room requests else request ∷ requests)) [
       | true ↦ dropped_good room requests
       | false ↦ refl
     ]
 
-pub left_is : (room : ℕ) (skip : Bool) (requests : List Request) → drop (length (taken_in room skip requests)) requests ≡ left_in room skip requests
+pub left_is : (room : ℕ) (skip : Bool) (requests : List Request)
+    → drop (length (taken_in room skip requests)) requests ≡ left_in room skip requests
 left_is room true requests = drop-length requests
 left_is room false requests = dropped_good room requests
 
@@ -77,7 +82,8 @@ bad_append room (x ∷ xs) ys =
 
 -- the packets sent for requests are those of the ones that are taken, and then those of the rest
 pub sent_good : (room : ℕ) (requests more : List Request)
-    → packets_of room (good_front room (requests ++ more)) ≡ packets_of room (good_front room requests) ++ packets_of room (good_front room (after_good room requests ++ more))
+    → packets_of room (good_front room (requests ++ more)) ≡ packets_of room (good_front room requests)
+    ++ packets_of room (good_front room (after_good room requests ++ more))
 sent_good room [] more = refl
 sent_good room (request ∷ requests) more =
     elim (is_good room request) as (λ v. v ≡ is_good room request
@@ -89,7 +95,8 @@ sent_good room (request ∷ requests) more =
     ] refl
 
 pub sent_split : (room : ℕ) (skip : Bool) (requests more : List Request)
-    → sent_by room skip (requests ++ more) ≡ sent_by room skip requests ++ sent_by room skip (left_in room skip requests ++ more)
+    → sent_by room skip (requests ++ more) ≡ sent_by room skip requests
+    ++ sent_by room skip (left_in room skip requests ++ more)
 sent_split room true requests more = packets_append room requests more
 sent_split room false requests more = sent_good room requests more
 
@@ -97,13 +104,19 @@ pub over_split : (room : ℕ) (skip : Bool) (requests more : List Request)
     → over_by room skip (requests ++ more) ≡ over_by room skip requests + over_by room skip (left_in room skip requests ++ more)
 over_split room true requests more = bad_append room requests more
 over_split room false requests more =
-    rw (bad_in_good room (requests ++ more), bad_in_good room requests, bad_in_good room (after_good room requests ++ more)) refl
+    rw (
+      bad_in_good room (requests ++ more),
+      bad_in_good room requests,
+      bad_in_good room (after_good room requests ++ more),
+    ) refl
 
-pub stops_good : (room : ℕ) (requests more : List Request) → has_bad room (requests ++ more) ≡ has_bad room (after_good room requests ++ more)
+pub stops_good : (room : ℕ) (requests more : List Request)
+    → has_bad room (requests ++ more) ≡ has_bad room (after_good room requests ++ more)
 stops_good room [] more = refl
 stops_good room (request ∷ requests) more =
     elim (is_good room request) as (λ v. v ≡ is_good room request
-    → (if v then has_bad room (requests ++ more) else true) ≡ has_bad room ((if v then after_good room requests else request ∷ requests) ++ more)) [
+    → (if v then has_bad room (requests ++ more) else true)
+    ≡ has_bad room ((if v then after_good room requests else request ∷ requests) ++ more)) [
       | true ↦ λ good. stops_good room requests more
       | false ↦ λ bad. rw (sym bad) refl
     ] refl
@@ -114,17 +127,20 @@ stops_split room true requests more = refl
 stops_split room false requests more = stops_good room requests more
 
 -- what a send leaves begins with a bad request, if there is any
-pub left_bad : (room : ℕ) (requests : List Request) → (after_good room requests ≡ []) ⊎ BeginsBad room (after_good room requests)
+pub left_bad : (room : ℕ) (requests : List Request)
+    → (after_good room requests ≡ []) ⊎ BeginsBad room (after_good room requests)
 left_bad room [] = inl refl
 left_bad room (request ∷ requests) =
     elim (is_good room request) as (λ v. v ≡ is_good room request
-    → ((if v then after_good room requests else request ∷ requests) ≡ []) ⊎ BeginsBad room (if v then after_good room requests else request ∷ requests)) [
+    → ((if v then after_good room requests else request ∷ requests) ≡ [])
+    ⊎ BeginsBad room (if v then after_good room requests else request ∷ requests)) [
       | true ↦ λ good. left_bad room requests
       | false ↦ λ bad. inr (sym bad)
     ] refl
 
 -- if requests begin with a bad one that isn't skipped, none is sent, whatever follows
-pub bad_sends_none : (room : ℕ) (requests more : List Request) → BeginsBad room requests → sent_by room false (requests ++ more) ≡ []
+pub bad_sends_none : (room : ℕ) (requests more : List Request) → BeginsBad room requests
+    → sent_by room false (requests ++ more) ≡ []
 bad_sends_none room [] more bad = absurd bad
 bad_sends_none room (request ∷ requests) more bad = rw bad refl
 

@@ -1,5 +1,6 @@
 -- What a send leaves, and that a ring stopped by it stays as it is.
-use Rattle.std.proofs.Common.{◌≡◌, ℕ, ◌-◌, Bool, false, true, List, [], ◌∷◌, ◌++◌, length, Option, Some, IfSome, Err, refl, sym, ap, subst, ◌∙◌, inl, inr}
+use Rattle.std.proofs.Common.{◌≡◌, ℕ, ◌-◌, Bool, false, true, List, [], ◌∷◌, ◌++◌, length, Option, Some, IfSome, Err, refl, sym}
+use Rattle.std.proofs.Common.{ap, subst, ◌∙◌, inl, inr}
 use Rattle.std.specs.Prelude.{if◌then◌else◌, nat_lt}
 use Rattle.std.proofs.lemmas.List.{append-nil}
 use Rattle.tx_ring.specs.KeptSlots.{BeginsBad, HasStopped}
@@ -26,7 +27,8 @@ good_and_left room (request ∷ requests) =
       | false ↦ refl
     ]
 
-taken_and_left : (room : ℕ) (skip : Bool) (requests : List Request) → taken_in room skip requests ++ left_in room skip requests ≡ requests
+taken_and_left : (room : ℕ) (skip : Bool) (requests : List Request)
+    → taken_in room skip requests ++ left_in room skip requests ≡ requests
 taken_and_left room true requests = append-nil requests
 taken_and_left room false requests = good_and_left room requests
 
@@ -38,10 +40,12 @@ left_of_ring ring =
 
 pub none_lost : (ring : TxState) → taken_by ring ++ (after_send ring).requests ≡ ring.requests
 none_lost ring =
-    ap (λ (left : List Request). taken_by ring ++ left) (left_of_ring ring) ∙ taken_and_left (room_of ring.shape) ring.skip_bad ring.requests
+    ap (λ (left : List Request). taken_by ring ++ left) (left_of_ring ring)
+    ∙ taken_and_left (room_of ring.shape) ring.skip_bad ring.requests
 
 -- a send that reported a slot left a request there, and the ring stopped
-told_slot : (left : TxState) (counts : Sent) (requests : List Request) (slot : ℕ) → answer_with left counts requests ≡ Err (BadSlot slot)
+told_slot : (left : TxState) (counts : Sent) (requests : List Request) (slot : ℕ)
+    → answer_with left counts requests ≡ Err (BadSlot slot)
     → (requests ≡ [] → ⊥) × (slot ≡ front_slot left) × ((stop_at_front left requests).stopped ≡ Some slot)
 told_slot left counts [] slot told = cc
 told_slot left counts (request ∷ requests) slot told =

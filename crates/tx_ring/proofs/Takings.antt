@@ -1,5 +1,6 @@
 -- Requests that are taken from the start: their result, and what a bad one leaves after it.
-use Rattle.std.proofs.Common.{◌≡◌, ℕ, suc, ◌+◌, ◌<◌, Bool, false, true, List, [], ◌∷◌, ◌++◌, length, drop, Option, None, Some, IfSome, refl, ap, subst, arith}
+use Rattle.std.proofs.Common.{◌≡◌, ℕ, suc, ◌+◌, ◌<◌, Bool, false, true, List, [], ◌∷◌, ◌++◌, length, drop, Option, None, Some}
+use Rattle.std.proofs.Common.{IfSome, refl, ap, subst, arith}
 use Rattle.std.specs.Prelude.{if◌then◌else◌}
 use Rattle.frame_view.specs.declared.frames.Packet.{Packet}
 use Rattle.tx_ring.specs.KeptSlots.{BeginsBad}
@@ -11,7 +12,8 @@ abbrev pub AllGood : ℕ → List Request → Type 0
 AllGood room [] = Unit {0}
 AllGood room (request ∷ requests) = (is_good room request ≡ true) × AllGood room requests
 
-pub good_append : (room : ℕ) (done : List Request) (request : Request) → AllGood room done → is_good room request ≡ true → AllGood room (done ++ request ∷ [])
+pub good_append : (room : ℕ) (done : List Request) (request : Request) → AllGood room done → is_good room request ≡ true
+    → AllGood room (done ++ request ∷ [])
 good_append room [] request all good = (good, tt)
 good_append room (first ∷ done) request all good = (all.0, good_append room done request all.1 good)
 
@@ -19,7 +21,8 @@ pub packets_good : (room : ℕ) (done : List Request) (request : Request) → is
     → packets_of room (done ++ request ∷ []) ≡ packets_of room done ++ packet_of request ∷ []
 packets_good room [] request good = rw good refl
 packets_good room (first ∷ done) request good =
-    elim (is_good room first) as (λ v. (if v then packet_of first ∷ packets_of room (done ++ request ∷ []) else packets_of room (done ++ request ∷ []))
+    elim (is_good room first) as
+    (λ v. (if v then packet_of first ∷ packets_of room (done ++ request ∷ []) else packets_of room (done ++ request ∷ []))
     ≡ (if v then packet_of first ∷ packets_of room done else packets_of room done) ++ packet_of request ∷ []) [
       | true ↦ ap (λ (rest : List Packet). packet_of first ∷ rest) (packets_good room done request good)
       | false ↦ packets_good room done request good
@@ -39,7 +42,8 @@ pub bad_bad : (room : ℕ) (done : List Request) (request : Request) → is_good
     → bad_in room (done ++ request ∷ []) ≡ bad_in room done + 1
 bad_bad room [] request bad = rw bad refl
 bad_bad room (first ∷ done) request bad =
-    elim (is_good room first) as (λ v. (if v then bad_in room (done ++ request ∷ []) else bad_in room (done ++ request ∷ []) + 1)
+    elim (is_good room first) as
+    (λ v. (if v then bad_in room (done ++ request ∷ []) else bad_in room (done ++ request ∷ []) + 1)
     ≡ (if v then bad_in room done else bad_in room done + 1) + 1) [
       | true ↦ bad_bad room done request bad
       | false ↦ ap (λ (n : ℕ). n + 1) (bad_bad room done request bad)
@@ -56,7 +60,8 @@ good_all room [] all = refl
 good_all room (request ∷ done) all = rw (all.0, good_all room done all.1) refl
 
 -- those that are all good come before those that are left
-pub good_before : (room : ℕ) (done left : List Request) → AllGood room done → good_front room (done ++ left) ≡ done ++ good_front room left
+pub good_before : (room : ℕ) (done left : List Request) → AllGood room done
+    → good_front room (done ++ left) ≡ done ++ good_front room left
 good_before room [] left all = refl
 good_before room (request ∷ done) left all = rw (all.0, good_before room done left all.1) refl
 
@@ -77,24 +82,28 @@ bad_first room [] bad = refl
 bad_first room (request ∷ requests) bad = rw bad refl
 
 -- a send that reached a good request takes that too
-pub good_more : (skip : Bool) (room : ℕ) (requests : List Request) → 0 < length requests → is_good room (front_of requests) ≡ true
+pub good_more : (skip : Bool) (room : ℕ) (requests : List Request) → 0 < length requests
+    → is_good room (front_of requests) ≡ true
     → 0 < length (if skip then requests else good_front room requests)
 good_more skip room [] some good = absurd (omega arith)
 good_more true room (request ∷ requests) some good = omega arith
 good_more false room (request ∷ requests) some good = rw good (omega arith)
 
 -- each request was counted once
-pub each_counted : (room : ℕ) (requests : List Request) → length (packets_of room requests) + bad_in room requests ≡ length requests
+pub each_counted : (room : ℕ) (requests : List Request)
+    → length (packets_of room requests) + bad_in room requests ≡ length requests
 each_counted room [] = refl
 each_counted room (request ∷ requests) =
     let rest = each_counted room requests in
-    elim (is_good room request) as (λ v. length (if v then packet_of request ∷ packets_of room requests else packets_of room requests)
+    elim (is_good room request) as
+    (λ v. length (if v then packet_of request ∷ packets_of room requests else packets_of room requests)
     + (if v then bad_in room requests else bad_in room requests + 1) ≡ suc (length requests)) [
       | true ↦ omega arith
       | false ↦ omega arith
     ]
 
-pub begun_bad : (room : ℕ) (requests : List Request) → BeginsBad room requests → (0 < length requests) × (good_front room requests ≡ [])
+pub begun_bad : (room : ℕ) (requests : List Request) → BeginsBad room requests
+    → (0 < length requests) × (good_front room requests ≡ [])
 begun_bad room [] bad = absurd bad
 begun_bad room (request ∷ requests) bad = (omega arith, rw bad refl)
 

@@ -1,7 +1,9 @@
 -- What the bytes of a slot say, and how a write changes them.
-use Rattle.std.proofs.Common.{◌≡◌, ℕ, zero, suc, ◌+◌, ◌-◌, ◌<◌, ◌≤◌, List, [], ◌∷◌, ◌++◌, length, take, drop, replicate, refl, sym, ap, subst, ◌∙◌, inl, inr, arith}
+use Rattle.std.proofs.Common.{◌≡◌, ℕ, zero, suc, ◌+◌, ◌-◌, ◌<◌, ◌≤◌, List, [], ◌∷◌, ◌++◌, length, take, drop, replicate, refl}
+use Rattle.std.proofs.Common.{sym, ap, subst, ◌∙◌, inl, inr, arith}
 use Rattle.std.proofs.lemmas.Bool.{cases_lt}
-use Rattle.std.proofs.lemmas.List.{drop-drop, drop-replicate, length-append, length-replicate, append-nil, replicate-append-replicate, take-replicate}
+use Rattle.std.proofs.lemmas.List.{drop-drop, drop-replicate, length-append, length-replicate, append-nil}
+use Rattle.std.proofs.lemmas.List.{replicate-append-replicate, take-replicate}
 use Rattle.std.proofs.Math.ListN.{drop_of_length-le}
 use Rattle.std.proofs.Math.Seq.{drop-append_seam, take-append_seam, take-length}
 use Rattle.byteorder.specs.Endian.{little_bytes}
@@ -59,7 +61,8 @@ padded (byte ∷ bytes) (suc count) n m fits also =
     ap (λ (rest : List ℕ). byte ∷ rest) (padded bytes count n m (omega arith) (omega arith))
 
 -- a piece of memory that was borrowed whole has what was written into it
-pub lent : (count : ℕ) (new old : List ℕ) → length new ≡ count → length old ≡ count → take count (new ++ drop (length new) old) ≡ new
+pub lent : (count : ℕ) (new old : List ℕ) → length new ≡ count → length old ≡ count
+    → take count (new ++ drop (length new) old) ≡ new
 lent count new old whole same =
     let none : drop (length new) old ≡ [] = drop_of_length-le old (omega arith) in
     rw (none, append-nil) (ap (λ (n : ℕ). take n new) (sym whole) ∙ take-length new)
@@ -69,11 +72,13 @@ pub data_of : (slot : SlotState) (count : ℕ) → IsSound slot → 48 + count �
     → take count (drop 48 (slot_text slot)) ≡ take count (slot.request.bytes ++ replicate count 0)
 unfolding slot_text header_text
 data_of slot count sound fits =
-    padded slot.request.bytes count (slot.size - (48 + length slot.request.bytes)) count (let f = sound.fits in omega arith) (omega arith)
+    padded slot.request.bytes count (slot.size - (48 + length slot.request.bytes)) count
+    (let f = sound.fits in omega arith) (omega arith)
 
 -- after the bytes that were given, which the slot counts, there are zeros
 pub zeros_after : (slot : List ℕ) → IsSlot slot
-    → (48 + number_at 4 12 slot ≤ length slot) × (drop (number_at 4 12 slot) (drop 48 slot) ≡ replicate (length slot - (48 + number_at 4 12 slot)) 0)
+    → (48 + number_at 4 12 slot ≤ length slot)
+    × (drop (number_at 4 12 slot) (drop 48 slot) ≡ replicate (length slot - (48 + number_at 4 12 slot)) 0)
 unfolding slot_text header_text number_at
 zeros_after slot is =
     let state = slot_in slot in
@@ -95,12 +100,15 @@ stale_zeros place given earlier fits within zeros =
       | inl less ↦
           let sum : given + (earlier - given) ≡ earlier = omega arith in
           let all : earlier - given + (length place - earlier) ≡ length place - given = omega arith in
-          rw (drop-drop (earlier - given) given place, sum, zeros) (replicate-append-replicate {A = ℕ} (earlier - given) (length place - earlier) 0 ∙ ap (λ (n : ℕ). replicate {A = ℕ} n 0) all)
+          rw (drop-drop (earlier - given) given place, sum, zeros)
+          (replicate-append-replicate {A = ℕ} (earlier - given) (length place - earlier) 0
+          ∙ ap (λ (n : ℕ). replicate {A = ℕ} n 0) all)
       | inr more ↦
           let none : earlier - given ≡ 0 = omega arith in
           let sum : earlier + (given - earlier) ≡ given = omega arith in
           let left : length place - earlier - (given - earlier) ≡ length place - given = omega arith in
           rw none
-          (ap (λ (n : ℕ). drop n place) (sym sum) ∙ sym (drop-drop (given - earlier) earlier place) ∙ ap (drop (given - earlier)) zeros
+          (ap (λ (n : ℕ). drop n place) (sym sum) ∙ sym (drop-drop (given - earlier) earlier place)
+          ∙ ap (drop (given - earlier)) zeros
           ∙ drop-replicate {X = ℕ} (given - earlier) (length place - earlier) 0 ∙ ap (λ (n : ℕ). replicate {A = ℕ} n 0) left)
     ]

@@ -31,14 +31,16 @@ use Rattle.v2_replay.specs.SlotReports.{IsSlotMember, IsSlotRingReport, IsSlotRu
 use Rattle.v2_replay.specs.SlotRuns.{slot_replay_of, slot_report_of}
 use Rattle.v2_replay.proofs.SlotRings.{IsOpenSlots, closed_slots, slots_keep}
 
-member_lawful : (shape : RingRequest) (asked : Bool) (ring : Ring) → IsSlotRingReport (slot_size_of shape) ring → IsSlotMember shape asked (slot_member_of asked ring)
+member_lawful : (shape : RingRequest) (asked : Bool) (ring : Ring) → IsSlotRingReport (slot_size_of shape) ring
+    → IsSlotMember shape asked (slot_member_of asked ring)
 member_lawful shape asked ring h = record { run = h.run; walked = refl; dump = refl; blocks = refl }
 
 abbrev pub EachOnce : Type 0
 EachOnce = (rules : Rules) (room : ℕ) (cpus : List Logged) (members : List (List Note)) → IsGroupReport rules room cpus members
     → EachArrivalAppearsOnce rules cpus members
 
-module _ (law : AreNumbered) (once : EachOnce) (job : Job) (lines : List Line) (all : List (List ℕ)) (ends : List CpuEnd) (setup : IsRunnable job.setup)
+module _ (law : AreNumbered) (once : EachOnce) (job : Job) (lines : List Line) (all : List (List ℕ)) (ends : List CpuEnd)
+    (setup : IsRunnable job.setup)
     (slots : IsSlotShape job.setup.shape) (schedule : IsSchedule lines) (many : length ends ≡ length all) where
   abbrev size : Size
   size = slot_size_of job.setup.shape
@@ -47,7 +49,8 @@ module _ (law : AreNumbered) (once : EachOnce) (job : Job) (lines : List Line) (
   steps = slot_steps size
 
   report : IsReplayReport (rules_of job) size.room (IsSlotRingReport size) (arriving_of job all) (slot_replay_of job lines all)
-  report = report_is (IsOpenSlots size) (rules_of job) steps (slots_keep size) (IsSlotRingReport size) (closed_slots size) (arriving_of job all) lines
+  report = report_is (IsOpenSlots size) (rules_of job) steps (slots_keep size) (IsSlotRingReport size) (closed_slots size)
+      (arriving_of job all) lines
       setup.some_members (arrive law job all) schedule
 
   abbrev of : RunReport
@@ -58,7 +61,8 @@ module _ (law : AreNumbered) (once : EachOnce) (job : Job) (lines : List Line) (
 
   is_run : IsSlotRunReport job all ends of
   is_run =
-      let group = group_is steps (slot_member_of job.setup.dump) (IsSlotRingReport size) job lines all ends report many (λ ring. refl) in
+      let group = group_is steps (slot_member_of job.setup.dump) (IsSlotRingReport size) job lines all ends report many
+      (λ ring. refl) in
       let members = members_are steps (slot_member_of job.setup.dump) (IsSlotRingReport size) job lines all ends report many
       (IsSlotMember job.setup.shape job.setup.dump) (member_lawful job.setup.shape job.setup.dump) in
       record {
@@ -66,7 +70,8 @@ module _ (law : AreNumbered) (once : EachOnce) (job : Job) (lines : List Line) (
         group = group;
         members = members;
         once = once (rules_of job) size.room _ _ group;
-        short = short_members (rules_of job) size.room false (logged (arriving_of job all) of.cpus) of.members (small slots) group
+        short = short_members (rules_of job) size.room false (logged (arriving_of job all) of.cpus) of.members
+            (small slots) group
             (λ at d within. let member = members at d within in member.walked);
       }
 

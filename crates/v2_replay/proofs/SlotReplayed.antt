@@ -20,7 +20,8 @@ use Rattle.v2_replay.specs.SlotReports.{IsSlotRingReport, IsSlotRunReport}
 use Rattle.v2_replay.specs.SlotRuns.{IsSlotReplayed, slot_replay_of, slot_report_of}
 
 module _ (job : Job) (lines : List Line) (old : List (Option SourceSeen))
-    (reports : (all : List (List ℕ)) (ends : List CpuEnd) → length ends ≡ length all → IsSlotRunReport job all ends (slot_report_of job lines all ends))
+    (reports : (all : List (List ℕ)) (ends : List CpuEnd) → length ends ≡ length all
+    → IsSlotRunReport job all ends (slot_report_of job lines all ends))
     (rings : (all : List (List ℕ)) (ends : List CpuEnd) → length ends ≡ length all
     → All (IsSlotRingReport (slot_size_of job.setup.shape)) (slot_replay_of job lines all).members) where
   abbrev reported : Ring → MemberReport
@@ -29,23 +30,28 @@ module _ (job : Job) (lines : List Line) (old : List (Option SourceSeen))
   abbrev IsOver : List (Option SourceSeen) → RunReport → Type 0
   IsOver new report = IsReplayedOver (steps_of_slots job.setup.shape) reported job lines old new report
 
-  as_report : (new : List (Option SourceSeen)) (report : RunReport) → (h : IsOver new report) → report ≡ slot_report_of job lines h.bytes h.ends
+  as_report : (new : List (Option SourceSeen)) (report : RunReport) → (h : IsOver new report)
+      → report ≡ slot_report_of job lines h.bytes h.ends
   unfolding slot_report_of
   as_report new report h =
       h.report_is
       ∙ same_reports reported (slot_member_of job.setup.dump) (IsSlotRingReport (slot_size_of job.setup.shape)) h.bytes h.ends
-      (slot_replay_of job lines h.bytes) (rings h.bytes h.ends h.many) (λ ring closed. read_back job.setup.shape job.setup.dump ring)
+      (slot_replay_of job lines h.bytes) (rings h.bytes h.ends h.many)
+      (λ ring closed. read_back job.setup.shape job.setup.dump ring)
 
-  is_replayed : (new : List (Option SourceSeen)) (report : RunReport) → IsOver new report → IsSlotReplayed job lines old new report
+  is_replayed : (new : List (Option SourceSeen)) (report : RunReport) → IsOver new report
+      → IsSlotReplayed job lines old new report
   is_replayed new report h = record {
     bytes = h.bytes;
     ends = h.ends;
     gave = h.gave;
-    run = subst (λ (r : RunReport). IsSlotRunReport job h.bytes h.ends r) (sym (as_report new report h)) (reports h.bytes h.ends h.many);
+    run = subst (λ (r : RunReport). IsSlotRunReport job h.bytes h.ends r) (sym (as_report new report h))
+        (reports h.bytes h.ends h.many);
     report_is = as_report new report h;
   }
 
   pub told : {A E : Type 0} (result : Result A E) (new : A → List (Option SourceSeen)) (report : A → RunReport)
-      → IfOk result (λ ran. IsOver (new ran) (report ran)) → IfOk result (λ ran. IsSlotReplayed job lines old (new ran) (report ran))
+      → IfOk result (λ ran. IsOver (new ran) (report ran))
+      → IfOk result (λ ran. IsSlotReplayed job lines old (new ran) (report ran))
   told (Ok ran) new report h = is_replayed (new ran) (report ran) h
   told (Err error) new report h = tt

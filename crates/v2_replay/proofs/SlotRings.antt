@@ -26,7 +26,8 @@ pub record IsOpenSlots (size : Size) (clock : ℕ) (ring : Ring) : Type 0 where
   pub unreleased : AreReleases 0 ring.released releases ring.notes
 
 -- one more note
-noted_open : (size : Size) (clock : ℕ) (ring : Ring) (note : Note) → IsOpenSlots size clock ring → SlotMayFollow ring.size.blocks (slot_state ring) note
+noted_open : (size : Size) (clock : ℕ) (ring : Ring) (note : Note) → IsOpenSlots size clock ring
+    → SlotMayFollow ring.size.blocks (slot_state ring) note
     → SlotGoesOn note → IsUnreleased ring.released note → IsOpenSlots size clock (noted ring note)
 noted_open size clock ring note h may goes found = record {
   size_is = h.size_is;
@@ -38,13 +39,15 @@ noted_open size clock ring note h may goes found = record {
 put_open : (size : Size) (clock : ℕ) (ring : Ring) (offer : Offer) → IsOpenSlots size clock ring
     → IsOpenSlots size clock (noted ring (put_note (slot_steps size) ring offer))
 put_open size clock ring offer h =
-    noted_open size clock ring (put_note (slot_steps size) ring offer) h (slot_put_may_follow ring.size.blocks ring.released (slot_state ring) offer)
+    noted_open size clock ring (put_note (slot_steps size) ring offer) h
+    (slot_put_may_follow ring.size.blocks ring.released (slot_state ring) offer)
     (slot_goes_put offer _) (slot_put_unreleased ring.size.blocks ring.released (slot_state ring) offer)
 
 try_open : (size : Size) (clock : ℕ) (ring : Ring) (offer : Offer) → IsOpenSlots size clock ring
     → IsOpenSlots size clock (noted ring (try_note (slot_steps size) ring offer))
 try_open size clock ring offer h =
-    noted_open size clock ring (try_note (slot_steps size) ring offer) h (slot_try_may_follow ring.size.blocks ring.released (slot_state ring) offer)
+    noted_open size clock ring (try_note (slot_steps size) ring offer) h
+    (slot_try_may_follow ring.size.blocks ring.released (slot_state ring) offer)
     (slot_goes_try offer _) (slot_try_unreleased ring.size.blocks ring.released (slot_state ring) offer)
 
 tick_open : (size : Size) (clock ms : ℕ) (ring : Ring) → clock ≤ ms → IsOpenSlots size clock ring → IsOpenSlots size ms ring
@@ -64,7 +67,8 @@ released_open size clock ring true h = record {
 }
 released_open size clock ring false h = h
 
-read_open : (size : Size) (clock : ℕ) (ring : Ring) → IsOpenSlots size clock ring → IsOpenSlots size clock (read_by (slot_steps size) ring)
+read_open : (size : Size) (clock : ℕ) (ring : Ring) → IsOpenSlots size clock ring
+    → IsOpenSlots size clock (read_by (slot_steps size) ring)
 read_open size clock ring h = released_open size clock ring (nat_lt ring.released (length (slot_state ring).done)) h
 
 pub slots_keep : (size : Size) → KeepOpen (slot_steps size) (IsOpenSlots size)
@@ -78,10 +82,12 @@ slots_keep size = record {
 }
 
 -- the last note closes it
-pub closed_slots : (size : Size) (clock : ℕ) (ring : Ring) → IsOpenSlots size clock ring → IsSlotRingReport size (noted ring Finished)
+pub closed_slots : (size : Size) (clock : ℕ) (ring : Ring) → IsOpenSlots size clock ring
+    → IsSlotRingReport size (noted ring Finished)
 closed_slots size clock ring h = record {
   size_is = h.size_is;
-  run = subst (λ (s : Size). IsWholeSlotRun s.blocks (ring.notes ++ Finished ∷ [])) h.size_is (slot_run_closed ring.size.blocks ring.notes h.run);
+  run = subst (λ (s : Size). IsWholeSlotRun s.blocks (ring.notes ++ Finished ∷ [])) h.size_is
+      (slot_run_closed ring.size.blocks ring.notes h.run);
   releases = h.releases ++ ring.released ∷ [];
   unreleased = releases_more 0 ring.released h.releases ring.notes Finished h.unreleased tt;
 }

@@ -23,10 +23,12 @@ unfolding walked_of
 packets_taken [] = refl
 packets_taken (slot ∷ done) = ap (λ (ps : List Packet). slot_packet_of slot.0 ∷ ps) (packets_taken done)
 
-texts_taken : (shape : RingRequest) (done : List (Offer × ℕ)) → texts_by text_of_slot shape (slots_taken done) ≡ slot_texts_of done
+texts_taken : (shape : RingRequest) (done : List (Offer × ℕ))
+    → texts_by text_of_slot shape (slots_taken done) ≡ slot_texts_of done
 unfolding texts_by slot_texts_of
 texts_taken shape [] = refl
-texts_taken shape (slot ∷ done) = ap (λ (bytes : List ℕ). slot_text slot.1 (slot_packet_of slot.0) ++ bytes) (texts_taken shape done)
+texts_taken shape (slot ∷ done) =
+    ap (λ (bytes : List ℕ). slot_text slot.1 (slot_packet_of slot.0) ++ bytes) (texts_taken shape done)
 
 dump_taken : (shape : RingRequest) (asked : Bool) (notes : List Note)
     → kept_texts text_of_slot asked shape (slot_reads shape notes) ≡ slot_dump_where asked notes
@@ -45,7 +47,9 @@ read_back shape asked ring =
     let kept = map slot_packet_of (kept_of notes) in
     let walked : walked_of (slots_taken done) ≡ kept =
     packets_taken done ∙ ap (λ (offers : List Offer). map slot_packet_of offers) (kept_from first_slot_state notes) in
-    let blocks : length (slots_taken done) ≡ length done = length-map done (λ slot. slot_taken slot.1 (slot_packet_of slot.0)) in
-    ap (λ (ps : List Packet). report_with notes ps (kept_texts text_of_slot asked shape (slots_taken done)) (length (slots_taken done))) walked
+    let blocks : length (slots_taken done) ≡ length done =
+    length-map done (λ slot. slot_taken slot.1 (slot_packet_of slot.0)) in
+    ap (λ (ps : List Packet). report_with notes ps (kept_texts text_of_slot asked shape (slots_taken done))
+    (length (slots_taken done))) walked
     ∙ ap (λ (bytes : List ℕ). report_with notes kept bytes (length (slots_taken done))) (dump_taken shape asked notes)
     ∙ ap (λ n. report_with notes kept (slot_dump_where asked notes) n) blocks

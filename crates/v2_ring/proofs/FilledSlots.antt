@@ -1,5 +1,6 @@
 -- An end represents the text of one more slot.
-use Rattle.std.proofs.Common.{◌≡◌, ℕ, zero, suc, ◌+◌, ◌≤◌, ◌^◌, List, [], ◌∷◌, ◌++◌, length, drop, refl, sym, subst, ap, ◌∙◌, arith, length-append}
+use Rattle.std.proofs.Common.{◌≡◌, ℕ, zero, suc, ◌+◌, ◌≤◌, ◌^◌, List, [], ◌∷◌, ◌++◌, length, drop, refl, sym, subst, ap, ◌∙◌}
+use Rattle.std.proofs.Common.{arith, length-append}
 use Rattle.ring_model.specs.declared.notes.Found.TheVariants.{Free}
 use Rattle.ring_model.specs.declared.notes.Note.TheVariants.{Kept}
 use Rattle.ring_model.specs.declared.notes.Offer.{Offer}
@@ -12,7 +13,8 @@ use Rattle.v2_ring.specs.SlotContents.{AreSlotTexts, RepresentsSlots}
 use Rattle.v2_ring.specs.SlotMachines.{IsSlotAt}
 use Rattle.v2_ring.specs.declared.machine.SlotMachine.{SlotMachine}
 
-drop_push : {X : Type 0} (count : ℕ) (all : List X) (x : X) → count ≤ length all → drop count (all ++ x ∷ []) ≡ drop count all ++ x ∷ []
+drop_push : {X : Type 0} (count : ℕ) (all : List X) (x : X) → count ≤ length all
+    → drop count (all ++ x ∷ []) ≡ drop count all ++ x ∷ []
 drop_push zero all x within = refl
 drop_push (suc count) [] x within = absurd (omega arith)
 drop_push (suc count) (y ∷ all) x within = drop_push count all x (omega arith)
@@ -55,10 +57,12 @@ pub filled_at : {E : Type 0} (feed : E → Feed) (state : SlotState) (machine : 
       shown = (feed machine.end).shown ++ (content, status) ∷ [];
     }
     → SlotBegins machine.shape status (slot_packet_of offer) content
-    → IsSlotAt feed 0 (slot_after state (Kept offer Free)) (record machine { end = after; kept = machine.kept + 1; room = room })
+    → IsSlotAt feed 0 (slot_after state (Kept offer Free))
+    (record machine { end = after; kept = machine.kept + 1; room = room })
 filled_at feed state machine offer after content status room at status_is retires begins =
     let slot : Offer × ℕ = (offer, slot_status state offer) in
-    let text : SlotBegins machine.shape slot.1 (slot_packet_of slot.0) content = subst (λ (s : ℕ). SlotBegins machine.shape s (slot_packet_of offer) content) status_is begins in
+    let text : SlotBegins machine.shape slot.1 (slot_packet_of slot.0) content =
+    subst (λ (s : ℕ). SlotBegins machine.shape s (slot_packet_of offer) content) status_is begins in
     let count = length-append state.done (slot ∷ []) in
     let given = ap (λ (f : Feed). f.given) retires in
     let retired = ap (λ (f : Feed). f.retired) retires in

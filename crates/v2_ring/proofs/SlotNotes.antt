@@ -1,5 +1,6 @@
 -- One more note, and what the fields of a ring of slots keep.
-use Rattle.std.proofs.Common.{◌≡◌, ℕ, ◌+◌, ◌^◌, ◌<◌, ◌≤◌, List, [], ◌∷◌, ◌++◌, length, refl, sym, subst, ap, arith, length-append}
+use Rattle.std.proofs.Common.{◌≡◌, ℕ, ◌+◌, ◌^◌, ◌<◌, ◌≤◌, List, [], ◌∷◌, ◌++◌, length, refl, sym, subst, ap, arith}
+use Rattle.std.proofs.Common.{length-append}
 use Rattle.ring_model.specs.declared.notes.Found.{Found}
 use Rattle.ring_model.specs.declared.notes.Note.{Note}
 use Rattle.ring_words.specs.Rings.{Feed}
@@ -10,7 +11,8 @@ use Rattle.v2_ring.specs.SlotProducers.{SlotAdds, SlotKeeps, SlotLooks, SlotProd
 use Rattle.v2_ring.specs.declared.machine.SlotMachine.{SlotMachine}
 
 -- the machine has taken a step that added a note
-pub record Stepped {E : Type 0} (feed : E → Feed) (old_state : SlotState) (note : Note) (before after_it : SlotMachine E) : Type 0 where
+pub record Stepped {E : Type 0} (feed : E → Feed) (old_state : SlotState) (note : Note) (before after_it : SlotMachine E)
+    : Type 0 where
   pub at : IsSlotAt feed 0 (slot_after old_state note) after_it
   pub may_follow : SlotMayFollow before.shape.frame_nr old_state note
   pub end : KeepsSlotEnd (feed before.end) (feed after_it.end)
@@ -23,7 +25,8 @@ few_before notes few =
     record { slots = omega (arith, all.slots); packets = omega (arith, all.packets) }
 
 -- the same machine with another list of notes and other spare memory
-pub at_beside : {E : Type 0} (feed : E → Feed) (s : SlotState) (machine : SlotMachine E) (notes room : _) → IsSlotAt feed 0 s machine
+pub at_beside : {E : Type 0} (feed : E → Feed) (s : SlotState) (machine : SlotMachine E) (notes room : _)
+    → IsSlotAt feed 0 s machine
     → IsSlotAt feed 0 s (record machine { notes = notes; room = room })
 at_beside feed s machine notes room a = record {
   checked = a.checked;
@@ -40,13 +43,15 @@ at_beside feed s machine notes room a = record {
 -- ---- memory was reserved
 
 module _ {E : Type 0} (feed : E → Feed) (machine reserved : SlotMachine E) (r : IsReserved machine reserved) where
-  pub at_reserved : IsSlotAt feed 0 (slot_state_of machine.notes.items) machine → IsSlotAt feed 0 (slot_state_of reserved.notes.items) reserved
+  pub at_reserved : IsSlotAt feed 0 (slot_state_of machine.notes.items) machine
+      → IsSlotAt feed 0 (slot_state_of reserved.notes.items) reserved
   at_reserved a =
       subst (λ (items : List Note). IsSlotAt feed 0 (slot_state_of items) reserved) (sym r.items)
       (subst (λ m. IsSlotAt feed 0 (slot_state_of machine.notes.items) m) (sym r.same)
       (at_beside feed (slot_state_of machine.notes.items) machine reserved.notes reserved.room a))
 
-  pub keeps_reserved : (room after : ℕ) → room ≤ after → SlotKeeps feed machine machine.notes.items room → SlotKeeps feed reserved reserved.notes.items after
+  pub keeps_reserved : (room after : ℕ) → room ≤ after → SlotKeeps feed machine machine.notes.items room
+      → SlotKeeps feed reserved reserved.notes.items after
   keeps_reserved room after more keeps =
       subst (λ (items : List Note). SlotKeeps feed reserved items after) (sym r.items)
       (subst (λ m. SlotKeeps feed m machine.notes.items after) (sym r.same) (record {
@@ -57,7 +62,8 @@ module _ {E : Type 0} (feed : E → Feed) (machine reserved : SlotMachine E) (r 
       }))
 
   -- a step from there is one from the machine before it
-  pub step_reserved : (note : Note) (after_it : SlotMachine E) → Stepped feed (slot_state_of reserved.notes.items) note reserved after_it
+  pub step_reserved : (note : Note) (after_it : SlotMachine E)
+      → Stepped feed (slot_state_of reserved.notes.items) note reserved after_it
       → Stepped feed (slot_state_of machine.notes.items) note machine after_it
   step_reserved note after_it step =
       let beside = subst (λ m. Stepped feed (slot_state_of machine.notes.items) note m after_it) r.same
@@ -69,7 +75,8 @@ module _ {E : Type 0} (feed : E → Feed) (machine reserved : SlotMachine E) (r 
       → SlotLooks machine.shape.frame_nr (slot_state_of machine.notes.items) found (feed machine.end) after_it
   looks_reserved found after_it looks =
       subst (λ m. SlotLooks m.shape.frame_nr (slot_state_of machine.notes.items) found (feed m.end) after_it) r.same
-      (subst (λ (items : List Note). SlotLooks reserved.shape.frame_nr (slot_state_of items) found (feed reserved.end) after_it) r.items looks)
+      (subst (λ (items : List Note). SlotLooks reserved.shape.frame_nr (slot_state_of items) found (feed reserved.end) after_it)
+      r.items looks)
 
 -- ---- one more note
 
@@ -95,7 +102,8 @@ module _ {E : Type 0} (feed : E → Feed) (before after_it : SlotMachine E) (not
   })
 
   pub kept_on : (new_notes : _) (items : List Note) (room_after : ℕ) → SlotGoesOn note → items ≡ notes ++ note ∷ []
-      → length notes + 1 < room_after → length notes < 2 ^ 39 → SlotKeeps feed (record after_it { notes = new_notes }) items room_after
+      → length notes + 1 < room_after → length notes < 2 ^ 39
+      → SlotKeeps feed (record after_it { notes = new_notes }) items room_after
   kept_on new_notes items room_after on pushed last few = kept_with new_notes items room_after on pushed last (few_after few)
 
   -- and what the call did
@@ -125,7 +133,8 @@ pub adds_given : {E : Type 0} (feed : E → Feed) (inside given after_it : SlotP
     → SlotAdds feed inside after_it note → SlotAdds feed given after_it note
 adds_given feed inside given after_it e note adds = subst (λ p. SlotAdds feed p after_it note) e adds
 
-pub looks_given : {E : Type 0} (feed : E → Feed) (inside given : SlotProducing E) → inside ≡ given → (found : Found) (after_it : Feed)
+pub looks_given : {E : Type 0} (feed : E → Feed) (inside given : SlotProducing E) → inside ≡ given
+    → (found : Found) (after_it : Feed)
     → SlotLooks inside.shape.frame_nr (slots_filled inside) found (feed inside.end) after_it
     → SlotLooks given.shape.frame_nr (slots_filled given) found (feed given.end) after_it
 looks_given feed inside given e found after_it looks =

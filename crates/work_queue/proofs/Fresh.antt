@@ -23,9 +23,11 @@ parts_push name (suc count) =
 pub parts_more : (count : ℕ) → fresh_parts 0 count ++ fresh count ∷ [] ≡ fresh_parts 0 (count + 1)
 parts_more count =
     let e : 0 + count ≡ count = omega arith in
-    ap (λ (n : ℕ). fresh_parts 0 count ++ fresh n ∷ []) (sym e) ∙ sym (parts_push 0 count) ∙ ap (fresh_parts 0) (sym (add-one count))
+    ap (λ (n : ℕ). fresh_parts 0 count ++ fresh n ∷ []) (sym e) ∙ sym (parts_push 0 count)
+    ∙ ap (fresh_parts 0) (sym (add-one count))
 
-pub passes_push : (id : WebId) (all name count : ℕ) → fresh_passes id all name (suc count) ≡ fresh_passes id all name count ++ fresh_pass id all (name + count) ∷ []
+pub passes_push : (id : WebId) (all name count : ℕ)
+    → fresh_passes id all name (suc count) ≡ fresh_passes id all name count ++ fresh_pass id all (name + count) ∷ []
 passes_push id all name zero = let e : name ≡ name + 0 = omega arith in ap (λ (n : ℕ). fresh_pass id all n ∷ []) e
 passes_push id all name (suc count) =
     let e : name + 1 + count ≡ name + suc count = omega arith in
@@ -33,7 +35,8 @@ passes_push id all name (suc count) =
     ∙ ap (λ (n : ℕ). fresh_pass id all name ∷ (fresh_passes id all (name + 1) count ++ fresh_pass id all n ∷ [])) e
 
 -- one more pass among those made
-pub passes_more : (id : WebId) (all count after : ℕ) → count + 1 ≡ after → fresh_passes id all 0 count ++ fresh_pass id all count ∷ [] ≡ fresh_passes id all 0 after
+pub passes_more : (id : WebId) (all count after : ℕ) → count + 1 ≡ after
+    → fresh_passes id all 0 count ++ fresh_pass id all count ∷ [] ≡ fresh_passes id all 0 after
 passes_more id all count after next =
     let e : 0 + count ≡ count = omega arith in
     ap (λ (n : ℕ). fresh_passes id all 0 count ++ fresh_pass id all n ∷ []) (sym e) ∙ sym (passes_push id all 0 count)
@@ -42,9 +45,11 @@ passes_more id all count after next =
 -- the first of some passes, and the others
 pub parts_first : (name left : ℕ) → 0 < left → fresh_parts name left ≡ fresh name ∷ fresh_parts (name + 1) (left - 1)
 parts_first name zero some = absurd (omega (arith, some))
-parts_first name (suc more) some = let e : more ≡ suc more - 1 = omega arith in ap (λ (n : ℕ). fresh name ∷ fresh_parts (name + 1) n) e
+parts_first name (suc more) some = let e : more ≡ suc more - 1 = omega arith in
+    ap (λ (n : ℕ). fresh name ∷ fresh_parts (name + 1) n) e
 
-pub log_first : (v : Log) (all name left : ℕ) → v ≡ log all (fresh_parts name left) [] → 0 < left → v ≡ log all (fresh name ∷ fresh_parts (name + 1) (left - 1)) []
+pub log_first : (v : Log) (all name left : ℕ) → v ≡ log all (fresh_parts name left) [] → 0 < left
+    → v ≡ log all (fresh name ∷ fresh_parts (name + 1) (left - 1)) []
 log_first v all name left is some = is ∙ ap (λ (parts : List Part). log all parts []) (parts_first name left some)
 
 -- a pass that was split into its parts
@@ -56,15 +61,39 @@ pub one_is : (u : Log) (all : ℕ) (part : Part) → u ≡ log all (part ∷ [])
 one_is u all part is = is ∙ sym (ap (λ (v : Log). log v.all (one_of v.parts ∷ []) []) is)
 
 pub value_is : (web id : WebId) (u : Log) (all name : ℕ) → web ≡ id → u ≡ log all (fresh name ∷ []) []
-    → ◌≡◌ {A = PassValue} (record { queue = web; of = u.all; name = (one_of u.parts).name; handed = (one_of u.parts).handed; fetched = (one_of u.parts).fetched; calls = 0 })
+    → ◌≡◌ {A = PassValue}
+    (record {
+      queue = web;
+      of = u.all;
+      name = (one_of u.parts).name;
+      handed = (one_of u.parts).handed;
+      fetched = (one_of u.parts).fetched;
+      calls = 0;
+    })
     (fresh_pass id all name)
 value_is web id u all name same is =
-    ap (λ (w : WebId). record { queue = w; of = u.all; name = (one_of u.parts).name; handed = (one_of u.parts).handed; fetched = (one_of u.parts).fetched; calls = 0 }) same
-    ∙ ap (λ (v : Log). record { queue = id; of = v.all; name = (one_of v.parts).name; handed = (one_of v.parts).handed; fetched = (one_of v.parts).fetched; calls = 0 }) is
+    ap (λ (w : WebId). record {
+      queue = w;
+      of = u.all;
+      name = (one_of u.parts).name;
+      handed = (one_of u.parts).handed;
+      fetched = (one_of u.parts).fetched;
+      calls = 0;
+    }) same
+    ∙ ap (λ (v : Log). record {
+      queue = id;
+      of = v.all;
+      name = (one_of v.parts).name;
+      handed = (one_of v.parts).handed;
+      fetched = (one_of v.parts).fetched;
+      calls = 0;
+    }) is
 
 -- the first of some passes leaves them
-pub apart_first : (v : Log) (all name left : ℕ) → v ≡ log all (fresh_parts name left) [] → 0 < left → first_of v ≡ log all (fresh name ∷ []) []
+pub apart_first : (v : Log) (all name left : ℕ) → v ≡ log all (fresh_parts name left) [] → 0 < left
+    → first_of v ≡ log all (fresh name ∷ []) []
 apart_first v all name left is some = ap first_of (log_first v all name left is some)
 
-pub apart_rest : (v : Log) (all name left : ℕ) → v ≡ log all (fresh_parts name left) [] → 0 < left → rest_of v ≡ log all (fresh_parts (name + 1) (left - 1)) []
+pub apart_rest : (v : Log) (all name left : ℕ) → v ≡ log all (fresh_parts name left) [] → 0 < left
+    → rest_of v ≡ log all (fresh_parts (name + 1) (left - 1)) []
 apart_rest v all name left is some = ap rest_of (log_first v all name left is some)

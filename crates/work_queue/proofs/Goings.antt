@@ -30,6 +30,7 @@ module _ (items : List Work) (views : List Log) (r : Happened items views) where
     left = r.left;
     history = r.history;
     closing = closing_by r.closing;
-    each = λ j v at. let ok = r.each j v at in record { done = ok.done; all = λ some all. ok.last some (all ∙ sym (ok.knows some)) };
+    each = λ j v at. let ok = r.each j v at in
+        record { done = ok.done; all = λ some all. ok.last some (all ∙ sym (ok.knows some)) };
     once = r.once;
   }

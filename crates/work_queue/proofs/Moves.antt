@@ -1,5 +1,6 @@
 -- A work is handed, fetched, or taken out: each step keeps the rule of the queue.
-use Rattle.std.proofs.Common.{◌≡◌, ◌≢◌, ℕ, ◌+◌, ◌<◌, ◌≤◌, ◌⊎◌, inl, inr, List, [], ◌∷◌, ◌++◌, length, set, sum_by, sym, refl, ap, ◌∙◌, subst, ⊎_elim, append_assoc, arith}
+use Rattle.std.proofs.Common.{◌≡◌, ◌≢◌, ℕ, ◌+◌, ◌<◌, ◌≤◌, ◌⊎◌, inl, inr, List, [], ◌∷◌, ◌++◌, length, set, sum_by, sym, refl}
+use Rattle.std.proofs.Common.{ap, ◌∙◌, subst, ⊎_elim, append_assoc, arith}
 use Rattle.std.specs.List.{AllByRecursion}
 use mathlib.Core.Logic.{dite}
 use mathlib.Core.Option.{some, some-injective}
@@ -15,7 +16,8 @@ use Rattle.work_queue.specs.Works.{IsLawfulWork}
 use Rattle.work_queue.specs.declared.knowledge.Log.{Log}
 use Rattle.work_queue.specs.declared.knowledge.Part.{Part}
 use Rattle.work_queue.specs.declared.works.Work.{Work}
-use Rattle.work_queue.proofs.Places.{all_and, below_named, fetched_other, handed_other, named_here, none_in, once_few, own_more, place, works_more}
+use Rattle.work_queue.proofs.Places.{all_and, below_named, fetched_other, handed_other, named_here, none_in, once_few, own_more}
+use Rattle.work_queue.proofs.Places.{place, works_more}
 use Rattle.work_queue.proofs.Totals.{at_below, total_above, total_both, total_one, total_set}
 
 -- how many passes a view represents, and how many of a name
@@ -25,7 +27,8 @@ parts_in v = length v.parts
 abbrev pub names_in : ℕ → Log → ℕ
 names_in name v = named name v.parts
 
-module _ (items : List Work) (views : List Log) (r : Happened items views) (id : ℕ) (v : Log) (at : get_elem? views id ≡ some v) where
+module _ (items : List Work) (views : List Log) (r : Happened items views) (id : ℕ) (v : Log)
+    (at : get_elem? views id ≡ some v) where
   -- where one pass represents all, it is this one
   closing_none : 0 < length v.parts → v.left ≡ [] → OneHasAll views → r.left ≡ []
   closing_none some_parts none one = dite (ℕ_discrete one.pass id)
@@ -34,7 +37,8 @@ module _ (items : List Work) (views : List Log) (r : Happened items views) (id :
       sym ((r.each id v at).last some_parts (ap parts_in (sym is) ∙ one.all_parts ∙ ap (λ (u : Log). u.all) is)) ∙ none)
       (λ other.
       let n : ℕ = sum_by parts_in views in
-      let both : length one.view.parts + length v.parts ≤ n = total_both parts_in views one.pass id one.view v other one.at at in
+      let both : length one.view.parts + length v.parts ≤ n =
+      total_both parts_in views one.pass id one.view v other one.at at in
       let all : n ≡ r.count = r.all_parts in
       let knows = (r.each one.pass one.view one.at).knows one.some_parts in
       let has = one.all_parts in
@@ -52,7 +56,8 @@ module _ (items : List Work) (views : List Log) (r : Happened items views) (id :
       let once : n ≡ once_below r.count name = r.once name in
       below_named r.count name (omega (arith, above, once, here))
 
-  pub other_none : (name : ℕ) → 1 ≤ named name v.parts → (j : ℕ) (u : Log) → j ≢ id → get_elem? views j ≡ some u → named name u.parts ≡ 0
+  pub other_none : (name : ℕ) → 1 ≤ named name v.parts → (j : ℕ) (u : Log) → j ≢ id → get_elem? views j ≡ some u
+      → named name u.parts ≡ 0
   other_none name here j u other to =
       let n : ℕ = sum_by (names_in name) views in
       let both : named name u.parts + named name v.parts ≤ n = total_both (names_in name) views j id u v other to at in
@@ -61,7 +66,8 @@ module _ (items : List Work) (views : List Log) (r : Happened items views) (id :
       omega (arith, both, once, few, here)
 
   -- where this pass represents all, the others represent none
-  pub others_none : 0 < length v.parts → length v.parts ≡ v.all → (j : ℕ) (u : Log) → j ≢ id → get_elem? views j ≡ some u → length u.parts ≡ 0
+  pub others_none : 0 < length v.parts → length v.parts ≡ v.all → (j : ℕ) (u : Log) → j ≢ id → get_elem? views j ≡ some u
+      → length u.parts ≡ 0
   others_none some_parts has j u other to =
       let n : ℕ = sum_by parts_in views in
       let both : length u.parts + length v.parts ≤ n = total_both parts_in views j id u v other to at in
@@ -70,7 +76,8 @@ module _ (items : List Work) (views : List Log) (r : Happened items views) (id :
       omega (arith, both, all, knows, has)
 
   -- the rule holds of a pass that represents none
-  pub nothing_known : (count : ℕ) (left : List Work) (handed gone : List Place) (u : Log) → length u.parts ≡ 0 → LogOk count left handed gone u
+  pub nothing_known : (count : ℕ) (left : List Work) (handed gone : List Place) (u : Log) → length u.parts ≡ 0
+      → LogOk count left handed gone u
   nothing_known count left handed gone u none = record {
     done = subst (AllByRecursion (HasDone handed gone)) (sym (none_in u.parts none)) tt;
     knows = λ some_parts. absurd (omega (arith, some_parts, none));
@@ -133,14 +140,18 @@ module _ (id all : ℕ) (part : Part) where
               order = works_more r.handed part.name work ∙ ap (λ (l : List Work). l ++ work ∷ []) h.order
                   ∙ append_assoc (works_of r.gone) (r.left ++ items) (work ∷ [])
                   ∙ ap (λ (l : List Work). works_of r.gone ++ l) (append_assoc r.left items (work ∷ []));
-              by_passes = all_and (IsNamed r.count) r.handed (place part.name work) h.by_passes (name_below items views r id one at part.name here);
+              by_passes =
+                  all_and (IsNamed r.count) r.handed (place part.name work) h.by_passes
+                  (name_below items views r id one at part.name here);
               to_passes = h.to_passes;
-              lawful = subst (AllByRecursion IsLawfulWork) (append_assoc r.left items (work ∷ [])) (all_and IsLawfulWork (r.left ++ items) work h.lawful lawful);
+              lawful = subst (AllByRecursion IsLawfulWork) (append_assoc r.left items (work ∷ []))
+                  (all_and IsLawfulWork (r.left ++ items) work h.lawful lawful);
             })
             (record {
               done = (
                 record {
-                  handed_is = ap (λ (l : List Work). l ++ work ∷ []) mine.done.0.handed_is ∙ sym (own_more part.name r.handed work);
+                  handed_is = ap (λ (l : List Work). l ++ work ∷ []) mine.done.0.handed_is
+                      ∙ sym (own_more part.name r.handed work);
                   fetched_is = mine.done.0.fetched_is;
                 },
                 tt,
@@ -149,7 +160,8 @@ module _ (id all : ℕ) (part : Part) where
               last = mine.last;
             })
             (λ j u other to. let was = r.each j u to in record {
-              done = handed_other r.handed r.gone part.name work u.parts (other_none items views r id one at part.name here j u other to) was.done;
+              done = handed_other r.handed r.gone part.name work u.parts
+                  (other_none items views r id one at part.name here j u other to) was.done;
               knows = was.knows;
               last = was.last;
             })
@@ -164,7 +176,8 @@ module _ (id all : ℕ) (part : Part) where
       let h = r.history in
       let none : r.left ≡ [] = no_left (work ∷ items) views r id one at (omega arith) refl in
       let gone : List Place = r.gone ++ place part.name work ∷ [] in
-      let lawful : AllByRecursion IsLawfulWork (work ∷ items) = subst (λ (l : List Work). AllByRecursion IsLawfulWork (l ++ (work ∷ items))) none h.lawful in (
+      let lawful : AllByRecursion IsLawfulWork (work ∷ items) =
+      subst (λ (l : List Work). AllByRecursion IsLawfulWork (l ++ (work ∷ items))) none h.lawful in (
         after_fetch work,
         remade (work ∷ items) views r id one at items r.handed gone [] (after_fetch work) refl (λ _. refl)
             (record {
@@ -172,14 +185,17 @@ module _ (id all : ℕ) (part : Part) where
                   ∙ sym (append_assoc (works_of r.gone) (work ∷ []) items)
                   ∙ ap (λ (l : List Work). l ++ items) (sym (works_more r.gone part.name work));
               by_passes = h.by_passes;
-              to_passes = all_and (IsNamed r.count) r.gone (place part.name work) h.to_passes (name_below (work ∷ items) views r id one at part.name here);
+              to_passes =
+                  all_and (IsNamed r.count) r.gone (place part.name work) h.to_passes
+                  (name_below (work ∷ items) views r id one at part.name here);
               lawful = lawful.1;
             })
             (record {
               done = (
                 record {
                   handed_is = mine.done.0.handed_is;
-                  fetched_is = ap (λ (l : List Work). l ++ work ∷ []) mine.done.0.fetched_is ∙ sym (own_more part.name r.gone work);
+                  fetched_is = ap (λ (l : List Work). l ++ work ∷ []) mine.done.0.fetched_is
+                      ∙ sym (own_more part.name r.gone work);
                 },
                 tt,
               );
@@ -187,7 +203,8 @@ module _ (id all : ℕ) (part : Part) where
               last = λ _ _. refl;
             })
             (λ j u other to. let was = r.each j u to in record {
-              done = fetched_other r.handed r.gone part.name work u.parts (other_none (work ∷ items) views r id one at part.name here j u other to) was.done;
+              done = fetched_other r.handed r.gone part.name work u.parts
+                  (other_none (work ∷ items) views r id one at part.name here j u other to) was.done;
               knows = was.knows;
               last = λ some_parts has. was.last some_parts has ∙ none;
             })
@@ -196,7 +213,8 @@ module _ (id all : ℕ) (part : Part) where
       )
 
 -- a pass may hand a work with a lawful text
-pub hands : (n id : ℕ) (v : Log) (work : Work) (part : Part) → v ≡ log v.all (part ∷ []) [] → IsLawfulWork work → Pushes Happened n id v work (Handed v work)
+pub hands : (n id : ℕ) (v : Log) (work : Work) (part : Part) → v ≡ log v.all (part ∷ []) [] → IsLawfulWork work
+    → Pushes Happened n id v work (Handed v work)
 hands n id v work part is lawful =
     subst (λ (u : Log). Pushes Happened n id u work (Handed u work)) (sym is) (hands_one id v.all part n work lawful)
 
@@ -228,7 +246,13 @@ module _ (id : ℕ) (v : Log) (some_parts : 0 < length v.parts) (has : length v.
             })
             (λ j u other to. nothing_known (work ∷ items) views r id v at r.count (r.left ++ work ∷ []) r.handed r.gone u
             (others_none (work ∷ items) views r id v at some_parts has j u other to))
-            (inr (record { pass = id; view = w; at = set_here views id w (at_below views id v at); some_parts = some_parts; all_parts = has })),
+            (inr (record {
+              pass = id;
+              view = w;
+              at = set_here views id w (at_below views id v at);
+              some_parts = some_parts;
+              all_parts = has;
+            })),
         refl,
       )
 

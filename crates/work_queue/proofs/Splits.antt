@@ -1,5 +1,6 @@
 -- Passes are made and joined: each step keeps the rule of the queue.
-use Rattle.std.proofs.Common.{◌≡◌, ℕ, zero, suc, ◌+◌, ◌<◌, inl, List, [], ◌∷◌, ◌++◌, length, set, sum_by, sym, refl, ap, ◌∙◌, subst, ⊎_elim, length-append, arith}
+use Rattle.std.proofs.Common.{◌≡◌, ℕ, zero, suc, ◌+◌, ◌<◌, inl, List, [], ◌∷◌, ◌++◌, length, set, sum_by, sym, refl, ap, ◌∙◌}
+use Rattle.std.proofs.Common.{subst, ⊎_elim, length-append, arith}
 use Rattle.std.proofs.lemmas.List.Sums.{sum_by_push}
 use mathlib.Core.Option.{some, some-injective, some-ne-none}
 use lib.ListN.{get_elem?}
@@ -82,7 +83,8 @@ grows id v some_parts has none items views r at =
       each = λ j u to. ⊎_elim
           (λ among. ⊎_elim
           (λ same. subst Ok same.1 grown_ok)
-          (λ other. nothing_known items views r id v at (r.count + 1) r.left r.handed r.gone u (others_none items views r id v at some_parts has j u other.0 other.1))
+          (λ other. nothing_known items views r id v at (r.count + 1) r.left r.handed r.gone u
+          (others_none items views r id v at some_parts has j u other.0 other.1))
           (at_set views id j (grown v) u among))
           (λ last. subst Ok last (spent_ok (r.count + 1) r.left r.handed r.gone))
           (at_snoc more spent u j to);
@@ -98,14 +100,17 @@ grows id v some_parts has none items views r at =
           let sums = total_set (names_in name) views id v (grown v) at in
           let both = named_both name v.parts (fresh v.all ∷ []) in
           let one = once_more r.count name in
-          let same : named name (fresh v.all ∷ []) ≡ named name (fresh r.count ∷ []) = ap (λ (c : ℕ). named name (fresh c ∷ [])) knows in
+          let same : named name (fresh v.all ∷ []) ≡ named name (fresh r.count ∷ []) =
+          ap (λ (c : ℕ). named name (fresh c ∷ [])) knows in
           let old : sum_by (names_in name) views ≡ once_below r.count name = r.once name in
           let n : ℕ = sum_by (names_in name) (more ++ spent ∷ []) in
-          let is : n ≡ once_below r.count name + named name (fresh r.count ∷ []) = omega (arith, pushed, sums, both, same, old) in
+          let is : n ≡ once_below r.count name + named name (fresh r.count ∷ []) =
+          omega (arith, pushed, sums, both, same, old) in
           is ∙ sym one;
     }
 
-forks_two : (id all : ℕ) (part : Part) (parts : List Part) → Forks Happened id (log all (part ∷ parts) []) (log all parts []) (log all (part ∷ []) [])
+forks_two : (id all : ℕ) (part : Part) (parts : List Part)
+    → Forks Happened id (log all (part ∷ parts) []) (log all parts []) (log all (part ∷ []) [])
 forks_two id all part parts items views r at =
     let v : Log = log all (part ∷ parts) [] in
     let a : Log = log all parts [] in
@@ -142,11 +147,14 @@ forks_two id all part parts items views r at =
     }
 
 -- the first of the passes that one represents may leave it
-pub forks : (id : ℕ) (v : Log) (part : Part) (parts : List Part) → v ≡ log v.all (part ∷ parts) [] → Forks Happened id v (rest_of v) (first_of v)
-forks id v part parts is = subst (λ (u : Log). Forks Happened id u (rest_of u) (first_of u)) (sym is) (forks_two id v.all part parts)
+pub forks : (id : ℕ) (v : Log) (part : Part) (parts : List Part) → v ≡ log v.all (part ∷ parts) []
+    → Forks Happened id v (rest_of v) (first_of v)
+forks id v part parts is =
+    subst (λ (u : Log). Forks Happened id u (rest_of u) (first_of u)) (sym is) (forks_two id v.all part parts)
 
 -- a pass may take in another
-pub merges : (id : ℕ) (v : Log) (other : ℕ) (w : Log) → 0 < length v.parts → v.left ≡ [] → Merges Happened id v other w (gathered v w) spent
+pub merges : (id : ℕ) (v : Log) (other : ℕ) (w : Log) → 0 < length v.parts → v.left ≡ []
+    → Merges Happened id v other w (gathered v w) spent
 merges id v other w some_parts none items views r at apart to =
     let both : Log = gathered v w in
     let mid : List Log = set views id both in

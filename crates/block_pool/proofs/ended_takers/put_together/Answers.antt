@@ -8,7 +8,8 @@ pub put_all-requires : goal.put_all-requires
 put_all-requires g c =
     let rest = c.in_ok-decode_left.ensures in
     record {
-      places = subst (λ (ps : List Piece). AllByRecursion (HasPlaceIn (counts_of c.args.tables.items)) ps) (sym rest.2) (c.requires.places rest.0 rest.1);
+      places = subst (λ (ps : List Piece). AllByRecursion (HasPlaceIn (counts_of c.args.tables.items)) ps) (sym rest.2)
+          (c.requires.places rest.0 rest.1);
     }
 
 pub read_all-requires : goal.read_all-requires

@@ -15,7 +15,8 @@ loop-pass-preserved c =
     let pushed = c.in_ok-push.ensures.items in
     let next_long = ap length next in
     let seat_long : length c.loop-pass.seats.items ≡ length c.pop.new.self.items + 1 = ap length seat ∙ length-append _ _ in
-    let pushed_long : length c.push.new.self.items ≡ length c.loop-pass.pool_workers.items + 1 = ap length pushed ∙ length-append _ _ in
+    let pushed_long : length c.push.new.self.items ≡ length c.loop-pass.pool_workers.items + 1 =
+    ap length pushed ∙ length-append _ _ in
     let left = inv.left in
     let seats = inv.seats in
     let nothing : c.new.result.items ≡ [] = search rules in
@@ -36,4 +37,5 @@ loop-pass-preserved c =
     }
 
 pub returns-clause-fresh : goal.returns-clause-fresh
-returns-clause-fresh c = λ queue dealer fresh_passes fresh_seats. (c.loop-pass.invariant.fresh queue dealer fresh_passes fresh_seats).2
+returns-clause-fresh c = λ queue dealer fresh_passes fresh_seats.
+    (c.loop-pass.invariant.fresh queue dealer fresh_passes fresh_seats).2

@@ -6,7 +6,8 @@ use Rattle.block_pool.proofs.pool.queue_for.Goals as goal
 pub split_off-requires : goal.split_off-requires
 split_off-requires c =
     let all = c.args.members + c.args.workers in
-    let long = ap (λ (ps : List PassValue). length ps) c.in_ok-queue.ensures.fresh ∙ passes_long c.in_ok-queue.queue.id all 0 all in
+    let long = ap (λ (ps : List PassValue). length ps) c.in_ok-queue.ensures.fresh
+    ∙ passes_long c.in_ok-queue.queue.id all 0 all in
     let ok = c.in_ok-queue.passes.ok.0 in
     omega (arith, long, ok)
 

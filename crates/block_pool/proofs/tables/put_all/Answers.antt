@@ -16,7 +16,8 @@ loop-piece-preserved c =
     let member = both.0.member in
     let long = length-map tables (λ (table : List (Option Piece)). length table) in
     let below : piece.member < length tables = omega (arith, member, long) in
-    let table : get_or tables piece.member [] ≡ c.index_mut.result.now = sym (get_or_read tables _ _ below c.index_mut.ensures.value []) in
+    let table : get_or tables piece.member [] ≡ c.index_mut.result.now =
+    sym (get_or_read tables _ _ below c.index_mut.ensures.value []) in
     let now_is : set tables piece.member c.put.new.self ≡ put_one tables piece =
     ap (λ (s : List (Option Piece)). set tables piece.member s)
     (c.put.ensures ∙ ap (λ (s : List (Option Piece)). set s (piece.number - 1) (Some piece)) (sym table)) in

@@ -5,12 +5,14 @@ use Rattle.bpf_filter.proofs.listings.instructions.Goals.{in-Some+in-None, in_de
 
 pub returns-in-None-2 : goal.returns-in-None-2
 returns-in-None-2 c =
-    listed_bad c.args.text.now c.loop-line.code.items c.loop-line.number c.loop-line.rest.now c.in-Some.behind.now c.in-Some.line.now
+    listed_bad c.args.text.now c.loop-line.code.items c.loop-line.number c.loop-line.rest.now c.in-Some.behind.now
+    c.in-Some.line.now
     c.loop-line.invariant c.in-Some.ensures.line c.in-None.ensures (sym c.if-is_blank.ensures)
 
 pub loop-line-preserved : goal.loop-line-preserved
 loop-line-preserved c =
-    listed_more c.args.text.now c.loop-line.code.items c.loop-line.number c.loop-line.rest.now c.in-Some.behind.now c.in-Some.line.now
+    listed_more c.args.text.now c.loop-line.code.items c.loop-line.number c.loop-line.rest.now c.in-Some.behind.now
+    c.in-Some.line.now
     c.in-Some-instruction.insn _ c.loop-line.invariant c.in-Some.ensures.line c.in-Some.ensures.shorter
     c.in-Some-instruction.ensures c.in_ok-push-in-Some-instruction.ensures.items
 

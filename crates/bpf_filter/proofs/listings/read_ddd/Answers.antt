@@ -1,6 +1,7 @@
 use Rattle.std.proofs.Common.{sym, arith, ◌≤◌, length}
 use Rattle.std.proofs.lemmas.Result.{err_from_is_err_and}
-use Rattle.bpf_filter.proofs.Listed.{instructions_of-large, instructions_of-blank, instructions_of-empty, instructions_of-no_count, instructions_of-counted, instructions_of-refused}
+use Rattle.bpf_filter.proofs.Listed.{instructions_of-large, instructions_of-blank, instructions_of-empty}
+use Rattle.bpf_filter.proofs.Listed.{instructions_of-no_count, instructions_of-counted, instructions_of-refused}
 use Rattle.bpf_filter.proofs.listings.read_ddd.Goals as goal
 use Rattle.bpf_filter.proofs.listings.read_ddd.Goals.{then-is_blank, else-is_blank}
 
@@ -24,7 +25,8 @@ returns-in_err-code c =
     let p = err_from_is_err_and c.from_residual.result c.from_residual.ensures.1 in
     let small : length c.args.text.now ≤ 1048576 = omega arith in
     rw (p.1, p.2)
-    (instructions_of-refused c.args.text.now c.in-Some.rest.now c.in-Some.first.now c.in-Some-count.count c.in_err-code.field-0.0
+    (instructions_of-refused c.args.text.now c.in-Some.rest.now c.in-Some.first.now c.in-Some-count.count
+    c.in_err-code.field-0.0
     small c.in-Some.ensures.line c.in-Some-count.ensures c.in_err-code.ensures)
 
 pub returns-then-not-is_count : goal.returns-then-not-is_count

@@ -11,7 +11,15 @@ returns c =
     let text = c.args.text.now.items in
     let frame = frame_of c.args.packet.now in
     on_ok_weaker c.push_frame.result (λ pushed. pushed
-    ∙ ap (λ (bytes : List ℕ). bytes ++ frame) (c.in_ok-extend_from_slice.ensures.items ∙ ap (λ (bytes : List ℕ). text ++ bytes) c.as_flattened.ensures.value)
+    ∙ ap (λ (bytes : List ℕ). bytes ++ frame)
+    (c.in_ok-extend_from_slice.ensures.items ∙ ap (λ (bytes : List ℕ). text ++ bytes) c.as_flattened.ensures.value)
     ∙ record_bytes text c.to_le_bytes.result c.to_le_bytes-2.result c.to_le_bytes-3.result c.to_le_bytes-4.result frame
-    ∙ rw (c.to_le_bytes.ensures, c.to_le_bytes-2.ensures, c.to_le_bytes-3.ensures, c.to_le_bytes-4.ensures, c.frame_size.ensures, c.original.ensures) refl)
+    ∙ rw (
+      c.to_le_bytes.ensures,
+      c.to_le_bytes-2.ensures,
+      c.to_le_bytes-3.ensures,
+      c.to_le_bytes-4.ensures,
+      c.frame_size.ensures,
+      c.original.ensures,
+    ) refl)
     c.push_frame.ensures

@@ -21,5 +21,6 @@ returns-clause-ok c =
     let told = c.in_ok-behind.ensures in
     let field : c.u32_at-captured.result ≡ captured c.args.order c.top_up.new.kept.items =
     c.u32_at-captured.ensures ∙ ap (number_at c.args.order 4 8) c.as_slice.ensures.value in
-    completes_record_if c.args.order _ _ _ _ _ (λ x. x.now) c.top_up-2.result c.requires told.kept told.behind (omega arith) (omega arith)
+    completes_record_if c.args.order _ _ _ _ _ (λ x. x.now) c.top_up-2.result c.requires told.kept told.behind
+    (omega arith) (omega arith)
     (rw (← field) c.top_up-2.ensures.kept) (rw (← field) c.top_up-2.ensures.behind)

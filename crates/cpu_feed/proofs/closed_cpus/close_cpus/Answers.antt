@@ -26,7 +26,8 @@ loop-cpu-preserved g c =
     record {
       ended = ended_rest _ _ c.in-Some.cpu next c.loop-cpu.invariant.ended;
       closed = close_more (option_map {T = g.row.S.Denot} {U = SourceSeen} g.S.Source.seen)
-          c.args.cpus.items closed.0 _ _ c.in-Some.cpu c.loop-cpu.sources.items _ c.in_ok-source.source c.loop-cpu.logs _ c.in_ok-source.log next closed.1 closed.2
+          c.args.cpus.items closed.0 _ _ c.in-Some.cpu c.loop-cpu.sources.items _ c.in_ok-source.source c.loop-cpu.logs _
+          c.in_ok-source.log next closed.1 closed.2
           c.in_ok-source.ensures c.in_ok-push.ensures.items c.in_ok-push-2.ensures.ok;
     }
 

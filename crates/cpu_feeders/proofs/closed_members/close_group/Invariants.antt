@@ -10,5 +10,6 @@ invariant-loop-walker g l = record {
   at_end : AllAtEnd g.T.Taker.base g.T.Taker.taken l.members.items l.member_seats.items l.walker-iterator.rest.items;
   closed : (more : List (Closed g.row.T.Denot))
       → AllClosedWith g.T.Taker.base g.T.Taker.taken l.members.items l.member_seats.items l.walker-iterator.rest.items more
-      → AllClosedWith g.T.Taker.base g.T.Taker.taken l.fn.members.items l.fn.member_seats.items l.fn.walkers.items (l.all.items ++ more);
+      → AllClosedWith g.T.Taker.base g.T.Taker.taken l.fn.members.items l.fn.member_seats.items l.fn.walkers.items
+      (l.all.items ++ more);
 }

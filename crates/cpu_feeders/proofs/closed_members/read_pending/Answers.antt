@@ -20,7 +20,8 @@ block-requires-clause-few g c =
     let blocks = c.args.pending.now.blocks in
     let there = c.loop-at-test.true in
     let many = c.len-at-end.ensures in
-    let read = pending_length (g.T.Taker.base c.args.taker.now) (g.T.Taker.taken c.args.taker.now) _ blocks c.loop-at.at (omega (arith, there, many)) c.loop-at.invariant.read in
+    let read = pending_length (g.T.Taker.base c.args.taker.now) (g.T.Taker.taken c.args.taker.now) _ blocks c.loop-at.at
+    (omega (arith, there, many)) c.loop-at.invariant.read in
     omega (arith, read, there, many, c.requires.few)
 
 pub loop-at-preserved : goal.loop-at-preserved
@@ -30,7 +31,9 @@ loop-at-preserved g c =
     let within : c.loop-at.at < length c.args.pending.now.blocks = omega (arith, there, many) in
     record {
       base = c.block.ensures.base ∙ c.loop-at.invariant.base;
-      read = pending_more (g.T.Taker.base c.args.taker.now) (g.T.Taker.base c.loop-at.taker) (g.T.Taker.taken c.args.taker.now) _ _
-          c.args.pending.now.blocks c.loop-at.at c.in-Some.block.now c.in-Some.field-0-1 (sym c.in-Some.ensures.value) within c.loop-at.invariant.base
+      read = pending_more (g.T.Taker.base c.args.taker.now) (g.T.Taker.base c.loop-at.taker)
+          (g.T.Taker.taken c.args.taker.now) _ _
+          c.args.pending.now.blocks c.loop-at.at c.in-Some.block.now c.in-Some.field-0-1 (sym c.in-Some.ensures.value) within
+          c.loop-at.invariant.base
           c.loop-at.invariant.read c.in_ok-block-in-Some.ensures.read;
     }

@@ -15,6 +15,9 @@ loop-timer-preserved c =
     let added = c.in_ok-add_to_each.ensures in
     record {
       count = ap length added ∙ with_each_long old c.in-Some.timer.member_seats.items ∙ inv.count;
-      as_many = (next_all (λ (t : Timer). length t.member_seats.items ≡ length c.args.member_seats.now.items) rest after c.in-Some.timer next inv.as_many).1;
-      member_seats = next_rows (λ (t : Timer). t.member_seats.items) _ old now rest after c.in-Some.timer next added inv.member_seats;
+      as_many =
+          (next_all (λ (t : Timer). length t.member_seats.items ≡ length c.args.member_seats.now.items) rest after
+          c.in-Some.timer next inv.as_many).1;
+      member_seats = next_rows (λ (t : Timer). t.member_seats.items) _ old now rest after c.in-Some.timer next added
+          inv.member_seats;
     }

@@ -20,7 +20,9 @@ loop-feeder-init g c =
       cpus = first_items feed_in left.cpus.items rest all made.cpus same;
       seats = first_items seat_in left.seats.items rest all made.seats same;
       count = ap length made.member_seats ∙ length-replicate c.args.members [];
-      as_many = subst (λ (fs : List (Feeder g.row.S.Denot)). AllByRecursion (λ (f : Feeder g.row.S.Denot). length f.member_seats.items ≡ c.args.members) fs)
+      as_many =
+          subst (λ (fs : List (Feeder g.row.S.Denot)). AllByRecursion
+          (λ (f : Feeder g.row.S.Denot). length f.member_seats.items ≡ c.args.members) fs)
           (sym same) c.requires.feeders;
       member_seats = rw (made.member_seats, same) refl;
     }
@@ -28,7 +30,8 @@ loop-feeder-init g c =
 pub add-requires : goal.add-requires
 add-requires g c =
     let inv = c.loop-feeder.invariant in
-    let here = next_all (λ (f : Feeder g.row.S.Denot). length f.member_seats.items ≡ c.args.members) _ _ c.in-Some.feeder c.in-Some.ensures.steps.0 inv.as_many in
+    let here = next_all (λ (f : Feeder g.row.S.Denot). length f.member_seats.items ≡ c.args.members) _ _ c.in-Some.feeder
+    c.in-Some.ensures.steps.0 inv.as_many in
     record { count = here.0 ∙ sym inv.count }
 
 pub loop-feeder-preserved : goal.loop-feeder-preserved
@@ -43,9 +46,13 @@ loop-feeder-preserved g c =
     record {
       cpus = next_items feed_in old.cpus.items now.cpus.items _ rest after c.in-Some.feeder next added.cpus inv.cpus;
       seats = next_items seat_in old.seats.items now.seats.items _ rest after c.in-Some.feeder next added.seats inv.seats;
-      count = ap length added.member_seats ∙ with_each_long old.member_seats.items c.in-Some.feeder.member_seats.items ∙ inv.count;
-      as_many = (next_all (λ (f : Feeder g.row.S.Denot). length f.member_seats.items ≡ c.args.members) rest after c.in-Some.feeder next inv.as_many).1;
-      member_seats = next_rows member_seats_in _ old.member_seats.items now.member_seats.items rest after c.in-Some.feeder next added.member_seats inv.member_seats;
+      count = ap length added.member_seats ∙ with_each_long old.member_seats.items
+          c.in-Some.feeder.member_seats.items ∙ inv.count;
+      as_many =
+          (next_all (λ (f : Feeder g.row.S.Denot). length f.member_seats.items ≡ c.args.members) rest after c.in-Some.feeder
+          next inv.as_many).1;
+      member_seats = next_rows member_seats_in _ old.member_seats.items now.member_seats.items rest after c.in-Some.feeder next
+          added.member_seats inv.member_seats;
     }
 
 pub add_timers-requires : goal.add_timers-requires
@@ -63,6 +70,7 @@ returns g c =
       cpus = last_items feed_in c.loop-feeder.left.cpus.items _ rest.items none inv.cpus;
       seats = last_items seat_in c.loop-feeder.left.seats.items _ rest.items none inv.seats;
       member_seats = c.in_ok-add_timers.ensures
-          ∙ then_rows member_seats_in (replicate c.args.members []) c.loop-feeder.left.member_seats.items (map member_seats_in c.args.feeders.items)
+          ∙ then_rows member_seats_in (replicate c.args.members []) c.loop-feeder.left.member_seats.items
+          (map member_seats_in c.args.feeders.items)
           (map (λ (t : Timer). t.member_seats.items) c.args.timers.items) rest.items none inv.member_seats;
     }

@@ -21,12 +21,16 @@ loop-taker-preserved g c =
     let pushed = c.in_ok-push.ensures.items in
     record {
       left = as_many _ made now rest after c.in-Some.taker _ next pushed inv.left;
-      ends_left = both_shorter c.loop-taker.ends.items c.first_of.new.list.items rest after c.first_of.result c.in-Some.taker end next inv.ends_left;
-      count = as_many_at_end _ made now c.loop-taker.seats.items c.last_of.new.list.items c.last_of.result _ seat pushed inv.count;
+      ends_left = both_shorter c.loop-taker.ends.items c.first_of.new.list.items rest after c.first_of.result c.in-Some.taker
+          end next inv.ends_left;
+      count = as_many_at_end _ made now c.loop-taker.seats.items c.last_of.new.list.items c.last_of.result _ seat
+          pushed inv.count;
       takers = next_item taker_in made now rest after _ _ c.in-Some.taker next pushed refl inv.takers;
-      ends = next_item end_in made now c.loop-taker.ends.items c.first_of.new.list.items _ _ c.first_of.result end pushed refl inv.ends;
+      ends = next_item end_in made now c.loop-taker.ends.items c.first_of.new.list.items _ _ c.first_of.result end pushed
+          refl inv.ends;
       members = numbered_more made now _ pushed inv.members (c.len-in-loop-taker.ensures ∙ c.loop-taker.walkers.ok.0);
-      fresh = all_more (λ (w : Walker g.row.T.Denot). (w.released ≡ 0) × (w.full ≡ false)) made now _ pushed inv.fresh (refl, refl);
+      fresh = all_more (λ (w : Walker g.row.T.Denot). (w.released ≡ 0) × (w.full ≡ false)) made now _ pushed
+          inv.fresh (refl, refl);
       seats = λ dealer own.
           let both = inv.seats dealer own in
           let parts = all_but (IsFreshOf dealer) c.last_of.new.list.items c.last_of.result
@@ -36,21 +40,24 @@ loop-taker-preserved g c =
 
 pub first_of-requires : goal.first_of-requires
 first_of-requires g c = record {
-  some = some_left c.loop-taker.ends.items c.loop-taker.taker-iterator.rest.items c.next.new.self.rest.items c.in-Some.taker c.in-Some.ensures.steps.0
+  some = some_left c.loop-taker.ends.items c.loop-taker.taker-iterator.rest.items c.next.new.self.rest.items c.in-Some.taker
+      c.in-Some.ensures.steps.0
       c.loop-taker.invariant.ends_left;
 }
 
 pub returns-clause-takers : goal.returns-clause-takers
 returns-clause-takers g c =
     let rest = c.loop-taker.taker-iterator.rest in
-    made_all taker_in c.loop-taker.walkers.items rest.items _ (empty rest.items (sym rest.ok.0 ∙ c.in-None.ensures.steps.0)) c.loop-taker.invariant.takers
+    made_all taker_in c.loop-taker.walkers.items rest.items _ (empty rest.items (sym rest.ok.0 ∙ c.in-None.ensures.steps.0))
+    c.loop-taker.invariant.takers
 
 pub returns-clause-ends : goal.returns-clause-ends
 returns-clause-ends g c =
     let rest = c.loop-taker.taker-iterator.rest in
     let count : length rest.items ≡ 0 = sym rest.ok.0 ∙ c.in-None.ensures.steps.0 in
     let ends = c.loop-taker.invariant.ends_left in
-    made_all end_in c.loop-taker.walkers.items c.loop-taker.ends.items _ (empty c.loop-taker.ends.items (omega (arith, ends, count)))
+    made_all end_in c.loop-taker.walkers.items c.loop-taker.ends.items _
+    (empty c.loop-taker.ends.items (omega (arith, ends, count)))
     c.loop-taker.invariant.ends
 
 pub returns-clause-members : goal.returns-clause-members

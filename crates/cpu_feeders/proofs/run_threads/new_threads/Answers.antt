@@ -21,15 +21,18 @@ deal-requires-clause-few g c =
 pub threads_of-requires-clause-group : goal.threads_of-requires-clause-group
 threads_of-requires-clause-group g c =
     let group = c.in_ok-group.group in
-    let cpus : c.len-cpus.result ≡ length c.args.job.now.setup.cpus = c.len-cpus.ensures ∙ c.args.sources.ok.0 ∙ c.requires.sources in
+    let cpus : c.len-cpus.result ≡ length c.args.job.now.setup.cpus =
+    c.len-cpus.ensures ∙ c.args.sources.ok.0 ∙ c.requires.sources in
     record {
       count = c.in_ok-group.ensures.count ∙ c.members.ensures.value;
-      opened = subst (λ (n : ℕ). AllZip (IsOpened c.args.job.now.setup.shape n) group.members.items group.ends.items) cpus c.in_ok-group.ensures.opened;
+      opened = subst (λ (n : ℕ). AllZip (IsOpened c.args.job.now.setup.shape n) group.members.items group.ends.items) cpus
+          c.in_ok-group.ensures.opened;
       users_are = c.in_ok-group.ensures.users ∙ ap (λ (n : ℕ). fresh_users group.members.items 0 (n + 1)) cpus;
     }
 
 pub threads_of-requires-clause-dealt : goal.threads_of-requires-clause-dealt
 threads_of-requires-clause-dealt g c =
     let dealt = c.in_ok-dealt.dealt in
-    subst (λ (n : ℕ). IsDealt n dealt.dealer dealt.seats.items dealt.spare.items) (c.len-cpus.ensures ∙ c.args.sources.ok.0 ∙ c.requires.sources)
+    subst (λ (n : ℕ). IsDealt n dealt.dealer dealt.seats.items dealt.spare.items)
+    (c.len-cpus.ensures ∙ c.args.sources.ok.0 ∙ c.requires.sources)
     c.in_ok-dealt.ensures

@@ -11,18 +11,22 @@ use Rattle.cpu_feeders.proofs.run_threads.threads_of.Goals as goal
 
 pub last_of-requires : goal.last_of-requires
 last_of-requires g c =
-    let many = ap length c.requires.group.users_are ∙ users_long c.args.group.members.items 0 (length c.args.job.now.setup.cpus + 1) in
+    let many = ap length c.requires.group.users_are
+    ∙ users_long c.args.group.members.items 0 (length c.args.job.now.setup.cpus + 1) in
     record { some = omega (arith, many) }
 
 pub walkers_of-requires-clause-ends : goal.walkers_of-requires-clause-ends
 walkers_of-requires-clause-ends g c =
-    AllZip-long (IsOpened c.args.job.now.setup.shape (length c.args.job.now.setup.cpus)) _ _ c.requires.group.opened ∙ c.requires.group.count
+    AllZip-long (IsOpened c.args.job.now.setup.shape (length c.args.job.now.setup.cpus)) _ _ c.requires.group.opened
+    ∙ c.requires.group.count
     ∙ sym c.requires.takers
 
 pub feeders_of-requires-clause-users : goal.feeders_of-requires-clause-users
 feeders_of-requires-clause-users g c =
-    let many = ap length c.requires.group.users_are ∙ users_long c.args.group.members.items 0 (length c.args.job.now.setup.cpus + 1) in
-    let taken : length c.args.group.users.items ≡ length c.last_of.new.list.items + 1 = ap length c.last_of.ensures ∙ length-append _ _ in
+    let many = ap length c.requires.group.users_are
+    ∙ users_long c.args.group.members.items 0 (length c.args.job.now.setup.cpus + 1) in
+    let taken : length c.args.group.users.items ≡ length c.last_of.new.list.items + 1 =
+    ap length c.last_of.ensures ∙ length-append _ _ in
     let sources = c.requires.sources in
     omega (arith, many, taken, sources)
 
@@ -42,7 +46,8 @@ returns g c =
     (sym c.last_of.ensures ∙ c.requires.group.users_are ∙ last_user locks cpus) in
     let drawn = c.in_ok-walkers.ensures.seats dealer c.requires.dealt.spare_are in
     fresh_threads g.T.Taker.base g.T.Taker.taken c.args.job.now (map seen c.args.sources.items) c.args.takers.items locks dealer
-    c.args.group.ends.items c.last_of.new.list.items c.walkers_of.new.seats.items c.in_ok-walkers.walkers.items _ c.in_ok-feeders.feeders.items
+    c.args.group.ends.items c.last_of.new.list.items c.walkers_of.new.seats.items c.in_ok-walkers.walkers.items _
+    c.in_ok-feeders.feeders.items
     c.in_ok-workers.workers.items
     (length-map c.args.sources.items seen ∙ c.requires.sources)
     c.requires.group.count

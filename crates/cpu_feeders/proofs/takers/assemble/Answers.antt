@@ -17,7 +17,8 @@ loop-closed-init g c =
       notes = first_items (λ (it : Closed g.row.T.Denot). it.notes) workers.notes.items rest all made.notes same;
       takers = first_items (λ (it : Closed g.row.T.Denot). it.taker) workers.takers.items rest all made.takers same;
       rings = first_items (λ (it : Closed g.row.T.Denot). it.ring) workers.rings.items rest all made.rings same;
-      seats = ap (λ (xs : List (Closed g.row.T.Denot)). c.args.seats.now.items ++ map (λ (it : Closed g.row.T.Denot). it.seat) xs) same;
+      seats = ap (λ (xs : List (Closed g.row.T.Denot)). c.args.seats.now.items
+          ++ map (λ (it : Closed g.row.T.Denot). it.seat) xs) same;
     }
 
 pub loop-closed-preserved : goal.loop-closed-preserved
@@ -33,10 +34,14 @@ loop-closed-preserved g c =
     record {
       cpus = added.cpus ∙ inv.cpus;
       sources = added.sources ∙ inv.sources;
-      notes = next_items (λ (it : Closed g.row.T.Denot). it.notes) old.notes.items now.notes.items _ rest after one next added.notes inv.notes;
-      takers = next_items (λ (it : Closed g.row.T.Denot). it.taker) old.takers.items now.takers.items _ rest after one next added.takers inv.takers;
-      rings = next_items (λ (it : Closed g.row.T.Denot). it.ring) old.rings.items now.rings.items _ rest after one next added.rings inv.rings;
-      seats = next_items (λ (it : Closed g.row.T.Denot). it.seat) c.loop-closed.seats.items c.add_member.new.seats.items _ rest after one next added.seats inv.seats;
+      notes = next_items (λ (it : Closed g.row.T.Denot). it.notes) old.notes.items now.notes.items _ rest after one next
+          added.notes inv.notes;
+      takers = next_items (λ (it : Closed g.row.T.Denot). it.taker) old.takers.items now.takers.items _ rest after one next
+          added.takers inv.takers;
+      rings = next_items (λ (it : Closed g.row.T.Denot). it.ring) old.rings.items now.rings.items _ rest after one next
+          added.rings inv.rings;
+      seats = next_items (λ (it : Closed g.row.T.Denot). it.seat) c.loop-closed.seats.items c.add_member.new.seats.items _ rest
+          after one next added.seats inv.seats;
     }
 
 pub returns : goal.returns

@@ -18,14 +18,18 @@ close_threads-requires-clause-setup g c = c.requires.setup
 
 pub run_all-requires-clause-some : goal.run_all-requires-clause-some
 run_all-requires-clause-some g c κs within =
-    rw c.deref_mut.ensures.value (some_fresh_threads g.T.Taker.base g.T.Taker.taken c.args.job.now _ _ _ _ _ c.in_ok-threads.threads.workers.items c.in_ok-threads.ensures)
+    rw c.deref_mut.ensures.value
+    (some_fresh_threads g.T.Taker.base g.T.Taker.taken c.args.job.now _ _ _ _ _ c.in_ok-threads.threads.workers.items
+    c.in_ok-threads.ensures)
 
 pub run_all-requires-clause-ready : goal.run_all-requires-clause-ready
 run_all-requires-clause-ready g c κs within =
     let ready = fresh_threads_ready g.T.Taker.base g.T.Taker.taken c.args.job.now _ _ _ _ _ _ c.in_ok-threads.ensures in
     let P : Worker g.row.S.Denot g.row.T.Denot → Type 0 =
-    IsReadyWorker g.T.Taker.base g.T.Taker.taken c.args.job.now c.in_ok-threads.threads.members.items c.in_ok-threads.threads.dealer in
-    rw (c.deref_mut.ensures.value, c.deref.ensures.value) (λ k d below. at_place P c.in_ok-threads.threads.workers.items k d ready below)
+    IsReadyWorker g.T.Taker.base g.T.Taker.taken c.args.job.now c.in_ok-threads.threads.members.items
+    c.in_ok-threads.threads.dealer in
+    rw (c.deref_mut.ensures.value, c.deref.ensures.value)
+    (λ k d below. at_place P c.in_ok-threads.threads.workers.items k d ready below)
 
 pub close_threads-requires-clause-worked : goal.close_threads-requires-clause-worked
 close_threads-requires-clause-worked g c =
@@ -33,13 +37,20 @@ close_threads-requires-clause-worked g c =
       c.args.ticks.now,
       firsts,
       c.args.takers.items,
-      have_worked g.T.Taker.base g.T.Taker.taken c.args.job.now c.args.ticks.now _ firsts c.args.takers.items _ _ _ _ _ _ _ _ c.in_ok-threads.ensures
-          c.as_slice.ensures c.deref.ensures.value c.deref_mut.ensures.value c.deref_mut.ensures.len c.run_all.ensures.count c.run_all.ensures.done,
+      have_worked g.T.Taker.base g.T.Taker.taken c.args.job.now c.args.ticks.now _ firsts c.args.takers.items _ _ _ _ _ _ _ _
+          c.in_ok-threads.ensures
+          c.as_slice.ensures c.deref.ensures.value c.deref_mut.ensures.value c.deref_mut.ensures.len c.run_all.ensures.count
+          c.run_all.ensures.done,
     )
 
 pub returns : goal.returns
 returns g c =
     let firsts = map (option_map {T = g.row.S.Denot} {U = SourceSeen} g.S.Source.seen) c.args.sources.items in
-    let worked = have_worked g.T.Taker.base g.T.Taker.taken c.args.job.now c.args.ticks.now _ firsts c.args.takers.items _ _ _ _ _ _ _ _ c.in_ok-threads.ensures
-    c.as_slice.ensures c.deref.ensures.value c.deref_mut.ensures.value c.deref_mut.ensures.len c.run_all.ensures.count c.run_all.ensures.done in
-    record { ran = IfOk-weaker c.close_threads.result _ _ (λ workers left. left c.args.ticks.now firsts c.args.takers.items worked) c.close_threads.ensures }
+    let worked = have_worked g.T.Taker.base g.T.Taker.taken c.args.job.now c.args.ticks.now _ firsts c.args.takers.items _ _ _ _
+    _ _ _ _ c.in_ok-threads.ensures
+    c.as_slice.ensures c.deref.ensures.value c.deref_mut.ensures.value c.deref_mut.ensures.len c.run_all.ensures.count
+    c.run_all.ensures.done in
+    record {
+      ran = IfOk-weaker c.close_threads.result _ _
+          (λ workers left. left c.args.ticks.now firsts c.args.takers.items worked) c.close_threads.ensures;
+    }

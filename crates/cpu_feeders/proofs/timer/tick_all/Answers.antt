@@ -21,7 +21,8 @@ tick_members-requires-clause-few g c = λ member seat inside.
 
 pub tick_members-requires-clause-later : goal.tick_members-requires-clause-later
 tick_members-requires-clause-later g c = λ member lock seat inside.
-    not_before c.args.moments.now c.loop-ms.ms-index 0 (get_or c.args.members.now member lock) (get_or c.loop-ms.member_seats.items member seat)
+    not_before c.args.moments.now c.loop-ms.ms-index 0 (get_or c.args.members.now member lock)
+    (get_or c.loop-ms.member_seats.items member seat)
     c.requires.moments.rising c.loop-ms-test.true (c.loop-ms.invariant.each member lock seat inside)
 
 pub tick_members-requires-clause-small : goal.tick_members-requires-clause-small
@@ -40,6 +41,7 @@ loop-ms-preserved g c =
       count = ticked.count ∙ c.loop-ms.invariant.count;
       each = λ member lock seat inside.
           let within : member < length old = let count = ticked.count in omega (arith, count, inside) in
-          timed_more (take at moments) (get_or moments at 0) (get_or c.args.members.now member lock) (get_or old member seat) (get_or now member seat)
+          timed_more (take at moments) (get_or moments at 0) (get_or c.args.members.now member lock) (get_or old member seat)
+          (get_or now member seat)
           (c.loop-ms.invariant.each member lock seat within) (ticked.each member lock seat within);
     })

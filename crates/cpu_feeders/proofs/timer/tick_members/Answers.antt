@@ -9,7 +9,8 @@ tick_turn-requires-clause-later g c =
     let at = c.loop-at.at in
     let count = c.requires.timers.count in
     let there = c.loop-at-test.true in
-    let seat_is : seat ≡ get_or c.args.member_seats.now.items at seat = c.index_mut.ensures.value ∙ c.loop-at.invariant.rest at seat (omega arith) in
+    let seat_is : seat ≡ get_or c.args.member_seats.now.items at seat =
+    c.index_mut.ensures.value ∙ c.loop-at.invariant.rest at seat (omega arith) in
     subst (λ (l : Lock). moment_of (own_of l seat) ≤ c.args.ms) (sym c.index-members-at.is)
     (subst (λ (s : Seat). moment_of (own_of (get_or c.args.members.now at lock) s) ≤ c.args.ms) (sym seat_is)
     (c.requires.later at lock seat (omega (arith, count, there))))

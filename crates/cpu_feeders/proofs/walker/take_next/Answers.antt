@@ -7,6 +7,7 @@ read_block-walker-requires-clause-readable g c =
     let block = c.in-Some.block in
     let took = c.in-Some.ensures.took in
     record {
-      shape_is = one_shape block.shape (g.T.Taker.base c.args.walker.now.taker).shape (c.in-Some.ensures.kind ∙ c.requires.kind);
+      shape_is = one_shape block.shape (g.T.Taker.base c.args.walker.now.taker).shape
+          (c.in-Some.ensures.kind ∙ c.requires.kind);
       text = (_, _, took.is_ready);
     }

@@ -17,5 +17,6 @@ pub for_each_mut-requires-clause-accepts : goal.for_each_mut-requires-clause-acc
 for_each_mut-requires-clause-accepts g c κs within = λ i p below at. (
   c.requires.moments,
   subst (λ (w : declared.Worker g.row.S.Denot g.row.T.Denot). IsReadyWorker g.T.Taker.base g.T.Taker.taken
-      c.args.shared.now.job.now c.args.shared.now.members.now c.args.shared.now.dealer.now w) (sym at) (c.requires.ready i p.now below),
+      c.args.shared.now.job.now c.args.shared.now.members.now c.args.shared.now.dealer.now w) (sym at)
+      (c.requires.ready i p.now below),
 )

@@ -15,10 +15,14 @@ loop-worker-preserved g c =
     let rest = c.loop-worker.worker-iterator.rest.items in
     let after = c.next.new.self.rest.items in
     record {
-      full = λ all. inv.full (subst (λ (ws : List (Worker g.row.S.Denot g.row.T.Denot)). AreFree ws) (sym next) (added.full, all));
-      walkers = next_kind walker_in before.walkers.items now.walkers.items _ rest after c.in-Some.worker next added.walkers inv.walkers;
-      timers = next_kind timer_in before.timers.items now.timers.items _ rest after c.in-Some.worker next added.timers inv.timers;
-      feeders = next_kind feeder_in before.feeders.items now.feeders.items _ rest after c.in-Some.worker next added.feeders inv.feeders;
+      full = λ all. inv.full
+          (subst (λ (ws : List (Worker g.row.S.Denot g.row.T.Denot)). AreFree ws) (sym next) (added.full, all));
+      walkers = next_kind walker_in before.walkers.items now.walkers.items _ rest after c.in-Some.worker next
+          added.walkers inv.walkers;
+      timers = next_kind timer_in before.timers.items now.timers.items _ rest after c.in-Some.worker next
+          added.timers inv.timers;
+      feeders = next_kind feeder_in before.feeders.items now.feeders.items _ rest after c.in-Some.worker next
+          added.feeders inv.feeders;
     }
 
 pub returns : goal.returns

@@ -11,7 +11,8 @@ use Rattle.frame_view.proofs.frame_parts.build.Goals as goal
 pub returns-clause-viewed : goal.returns-clause-viewed
 unfolding built
 returns-clause-viewed c =
-    let viewed = view_of-built c.args.parts.now (omega arith) (omega arith) (omega arith) (omega arith) (omega arith) (omega arith) (omega arith) (omega arith) in
+    let viewed = view_of-built c.args.parts.now (omega arith) (omega arith) (omega arith) (omega arith) (omega arith)
+    (omega arith) (omega arith) (omega arith) in
     let bytes : c.from_vec.result ≡ built c.args.parts.now = grind (arith, common_steps) in
     ap view_of bytes ∙ viewed
 

@@ -7,5 +7,7 @@ pub returns : goal.returns
 returns c =
     c.copied.ensures ∙ c.first_mark.ensures
     ∙ ap (λ (ms : List ℕ). find (λ mark. nat_lt 0 mark) ms)
-    (own_read c.args.marks.now c.split_at.result.1.now c.split_at-2.result.0.now c.args.new.now c.from-first.result c.to.result c.units_to.result c.min-count.result
-    c.from-first.ensures.place c.to.ensures.place c.units_to.ensures c.split_at.ensures.back c.min-count.ensures c.split_at-2.ensures.front)
+    (own_read c.args.marks.now c.split_at.result.1.now c.split_at-2.result.0.now c.args.new.now c.from-first.result c.to.result
+    c.units_to.result c.min-count.result
+    c.from-first.ensures.place c.to.ensures.place c.units_to.ensures c.split_at.ensures.back c.min-count.ensures
+    c.split_at-2.ensures.front)

@@ -8,29 +8,45 @@ use Rattle.ip_defrag.proofs.passes.pass_by.Goals as goal
 
 pub join-requires-clause-below : goal.join-requires-clause-below
 join-requires-clause-below c =
-    let place = placed _ (name_of c.args.fragment) _ c.args.fragment.sec _ c.args.datagrams.now.items _ c.name.ensures (ap (λ (f : Frame). f.sec) c.frame.ensures) c.deref.ensures.value c.place_of.ensures in
-    (found_at (is_live (name_of c.args.fragment) c.args.fragment.sec) c.args.datagrams.now.items c.in-Some.at (place ∙ c.in-Some.is)).below
+    let place = placed _ (name_of c.args.fragment) _ c.args.fragment.sec _ c.args.datagrams.now.items _ c.name.ensures
+    (ap (λ (f : Frame). f.sec) c.frame.ensures) c.deref.ensures.value c.place_of.ensures in
+    (found_at (is_live (name_of c.args.fragment) c.args.fragment.sec) c.args.datagrams.now.items c.in-Some.at
+    (place ∙ c.in-Some.is)).below
 
 pub returns-in_ok-joined-in-Some-clause-agrees : goal.returns-in_ok-joined-in-Some-clause-agrees
 returns-in_ok-joined-in-Some-clause-agrees c =
-    let place = placed _ (name_of c.args.fragment) _ c.args.fragment.sec _ c.args.datagrams.now.items _ c.name.ensures (ap (λ (f : Frame). f.sec) c.frame.ensures) c.deref.ensures.value c.place_of.ensures in
+    let place = placed _ (name_of c.args.fragment) _ c.args.fragment.sec _ c.args.datagrams.now.items _ c.name.ensures
+    (ap (λ (f : Frame). f.sec) c.frame.ensures) c.deref.ensures.value c.place_of.ensures in
     let d : Group = opened_by c.args.fragment in
-    let left : c.drop_stale.new.datagrams.items ≡ filter (is_fresh c.args.fragment.sec) (joined c.args.fragment (get_or c.args.datagrams.now.items c.in-Some.at d) c.args.datagrams.now.items c.in-Some.at).left =
-    c.drop_stale.ensures.fresh ∙ ap (λ (f : Frame). filter (is_fresh f.sec) c.join.new.datagrams.items) c.frame.ensures ∙ ap (filter (is_fresh c.args.fragment.sec)) (c.in_ok-joined-in-Some.ensures.is.left_is d) in
-    joins_by c.args.trace.now.held c.args.fragment c.args.datagrams.now.items _ c.in-Some.at _ _ d c.requires.taken c.requires.held (place ∙ c.in-Some.is) left (c.in_ok-joined-in-Some.ensures.is.whole_is d) (c.in_ok-joined-in-Some.ensures.is.used_is d)
+    let left : c.drop_stale.new.datagrams.items ≡ filter (is_fresh c.args.fragment.sec)
+    (joined c.args.fragment (get_or c.args.datagrams.now.items c.in-Some.at d) c.args.datagrams.now.items
+    c.in-Some.at).left =
+    c.drop_stale.ensures.fresh ∙ ap (λ (f : Frame). filter (is_fresh f.sec) c.join.new.datagrams.items) c.frame.ensures
+    ∙ ap (filter (is_fresh c.args.fragment.sec)) (c.in_ok-joined-in-Some.ensures.is.left_is d) in
+    joins_by c.args.trace.now.held c.args.fragment c.args.datagrams.now.items _ c.in-Some.at _ _ d c.requires.taken
+    c.requires.held (place ∙ c.in-Some.is) left (c.in_ok-joined-in-Some.ensures.is.whole_is d)
+    (c.in_ok-joined-in-Some.ensures.is.used_is d)
 
 pub returns-in_ok-joined-in-Some-clause-few : goal.returns-in_ok-joined-in-Some-clause-few
 returns-in_ok-joined-in-Some-clause-few c =
     let d : Group = opened_by c.args.fragment in
-    let left : c.drop_stale.new.datagrams.items ≡ filter (is_fresh c.args.fragment.sec) (joined c.args.fragment (get_or c.args.datagrams.now.items c.in-Some.at d) c.args.datagrams.now.items c.in-Some.at).left =
-    c.drop_stale.ensures.fresh ∙ ap (λ (f : Frame). filter (is_fresh f.sec) c.join.new.datagrams.items) c.frame.ensures ∙ ap (filter (is_fresh c.args.fragment.sec)) (c.in_ok-joined-in-Some.ensures.is.left_is d) in
-    subst (λ (gs : List Group). length gs ≤ 64) (sym left) (few_joined c.args.fragment (get_or c.args.datagrams.now.items c.in-Some.at d) c.args.datagrams.now.items c.in-Some.at c.requires.few)
+    let left : c.drop_stale.new.datagrams.items ≡ filter (is_fresh c.args.fragment.sec)
+    (joined c.args.fragment (get_or c.args.datagrams.now.items c.in-Some.at d) c.args.datagrams.now.items
+    c.in-Some.at).left =
+    c.drop_stale.ensures.fresh ∙ ap (λ (f : Frame). filter (is_fresh f.sec) c.join.new.datagrams.items) c.frame.ensures
+    ∙ ap (filter (is_fresh c.args.fragment.sec)) (c.in_ok-joined-in-Some.ensures.is.left_is d) in
+    subst (λ (gs : List Group). length gs ≤ 64) (sym left)
+    (few_joined c.args.fragment (get_or c.args.datagrams.now.items c.in-Some.at d) c.args.datagrams.now.items c.in-Some.at
+    c.requires.few)
 
 pub returns-in_ok-open-in-None-clause-agrees : goal.returns-in_ok-open-in-None-clause-agrees
 returns-in_ok-open-in-None-clause-agrees c =
-    let place = placed _ (name_of c.args.fragment) _ c.args.fragment.sec _ c.args.datagrams.now.items _ c.name.ensures (ap (λ (f : Frame). f.sec) c.frame.ensures) c.deref.ensures.value c.place_of.ensures in
-    opens_by c.args.trace.now.held c.args.fragment c.args.datagrams.now.items c.open.new.datagrams.items c.requires.taken c.requires.held (place ∙ c.in-None.is) c.in_ok-open-in-None.ensures.left
+    let place = placed _ (name_of c.args.fragment) _ c.args.fragment.sec _ c.args.datagrams.now.items _ c.name.ensures
+    (ap (λ (f : Frame). f.sec) c.frame.ensures) c.deref.ensures.value c.place_of.ensures in
+    opens_by c.args.trace.now.held c.args.fragment c.args.datagrams.now.items c.open.new.datagrams.items c.requires.taken
+    c.requires.held (place ∙ c.in-None.is) c.in_ok-open-in-None.ensures.left
 
 pub returns-in_ok-open-in-None-clause-few : goal.returns-in_ok-open-in-None-clause-few
 returns-in_ok-open-in-None-clause-few c =
-    subst (λ (gs : List Group). length gs ≤ 64) (sym c.in_ok-open-in-None.ensures.left) (few_opened c.args.fragment c.args.datagrams.now.items c.requires.few)
+    subst (λ (gs : List Group). length gs ≤ 64) (sym c.in_ok-open-in-None.ensures.left)
+    (few_opened c.args.fragment c.args.datagrams.now.items c.requires.few)

@@ -13,7 +13,10 @@ returns-in_default c = sym (unended c.args.fragments.now c.args.newest.now c.arg
 pub returns-then-extent-end : goal.returns-then-extent-end
 returns-then-extent-end c =
     let out = counted c.args.fragments.now c.args.newest.now c.args.extent c.in-Some.end c.requires c.in-Some.is in
-    sym (out ∙ ap (λ (b : Bool). cond b (option_map (λ (first : Frame). datagram_from first c.in-Some.end c.args.fragments.now c.args.newest.now) (find is_first c.args.fragments.now)) None) (ne_eqb _ _ c.if-extent-end.true))
+    sym (out ∙ ap
+    (λ (b : Bool). cond b
+    (option_map (λ (first : Frame). datagram_from first c.in-Some.end c.args.fragments.now c.args.newest.now)
+    (find is_first c.args.fragments.now)) None) (ne_eqb _ _ c.if-extent-end.true))
 
 pub whole_bytes-requires-clause-within : goal.whole_bytes-requires-clause-within
 whole_bytes-requires-clause-within c = kept_within c.args.fragments.now c.args.extent c.in-Some.end c.requires c.in-Some.is
@@ -24,14 +27,21 @@ whole_bytes-requires-clause-most c =
     omega (arith, most, c.if-extent-end.false)
 
 -- the frame that is made
-made : (n newest f first : Frame) (end : ℕ) (frames : List Frame) (bytes : List ℕ) → n ≡ newest → f ≡ first → bytes ≡ bytes_from first end frames → framed n f bytes ≡ datagram_from first end frames newest
+made : (n newest f first : Frame) (end : ℕ) (frames : List Frame) (bytes : List ℕ) → n ≡ newest → f ≡ first
+    → bytes ≡ bytes_from first end frames → framed n f bytes ≡ datagram_from first end frames newest
 unfolding datagram_from
 made n newest f first end frames bytes p q r = cc
 
 pub returns : goal.returns
 returns c =
     let out = counted c.args.fragments.now c.args.newest.now c.args.extent c.in-Some.end c.requires c.in-Some.is in
-    let first : find is_first c.args.fragments.now ≡ Some c.in-Some-first.first.now = sym c.first.ensures ∙ ap option_copied c.in-Some-first.is in
-    let all = ap (λ (b : Bool). cond b (option_map (λ (first : Frame). datagram_from first c.in-Some.end c.args.fragments.now c.args.newest.now) (find is_first c.args.fragments.now)) None) (eq-eqb _ _ c.if-extent-end.false) in
-    ap (λ (f : Frame). Some f) (c.framed.ensures ∙ made _ _ _ _ _ _ _ c.frame.ensures c.frame-2.ensures c.in_ok-bytes.ensures.bytes)
-    ∙ sym (out ∙ all ∙ ap (option_map (λ (first : Frame). datagram_from first c.in-Some.end c.args.fragments.now c.args.newest.now)) first)
+    let first : find is_first c.args.fragments.now ≡ Some c.in-Some-first.first.now =
+    sym c.first.ensures ∙ ap option_copied c.in-Some-first.is in
+    let all =
+    ap (λ (b : Bool). cond b
+    (option_map (λ (first : Frame). datagram_from first c.in-Some.end c.args.fragments.now c.args.newest.now)
+    (find is_first c.args.fragments.now)) None) (eq-eqb _ _ c.if-extent-end.false) in
+    ap (λ (f : Frame). Some f)
+    (c.framed.ensures ∙ made _ _ _ _ _ _ _ c.frame.ensures c.frame-2.ensures c.in_ok-bytes.ensures.bytes)
+    ∙ sym (out ∙ all
+    ∙ ap (option_map (λ (first : Frame). datagram_from first c.in-Some.end c.args.fragments.now c.args.newest.now)) first)

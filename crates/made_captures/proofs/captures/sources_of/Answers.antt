@@ -16,5 +16,6 @@ loop-packets-preserved c =
     record {
       short = All-tail AreShort c.in-Some.packets _ (subst P next before.short);
       made = one_source_more c.loop-packets.sources.items c.push.new.self.items _ c.in-Some.packets _ _ (Some c.new.result) next
-          (ap Some (c.new.ensures.value ∙ ap unread_sure_source c.in_ok-pcap_text.ensures)) c.in_ok-push.ensures.items before.made;
+          (ap Some (c.new.ensures.value ∙ ap unread_sure_source c.in_ok-pcap_text.ensures))
+          c.in_ok-push.ensures.items before.made;
     }

@@ -21,14 +21,16 @@ loop-frame-preserved c =
     record {
       few = omega (arith, before.few, ap (λ (frames : List Frame). length frames) next);
       made = All-tail IsMade c.in-Some.frame _ (subst P next before.made);
-      dealt = dealt_one c.args.cpus c.loop-frame.index c.loop-frame.lists.items _ c.in-Some.frame _ _ c.args.frames c.index_mut.result.now c.push.new.self
+      dealt = dealt_one c.args.cpus c.loop-frame.index c.loop-frame.lists.items _ c.in-Some.frame _ _ c.args.frames
+          c.index_mut.result.now c.push.new.self
           (mod_below c.loop-frame.index c.args.cpus c.requires.cpus) next c.index_mut.ensures.value got refl before.dealt;
     }
 
 pub returns-clause-lists : goal.returns-clause-lists
 returns-clause-lists c =
     let none : c.loop-frame.frame-iterator.rest.items ≡ [] =
-    nil_from_length c.loop-frame.frame-iterator.rest.items (omega (arith, c.loop-frame.frame-iterator.rest.ok, c.in-None.ensures.steps.0)) in
+    nil_from_length c.loop-frame.frame-iterator.rest.items
+    (omega (arith, c.loop-frame.frame-iterator.rest.ok, c.in-None.ensures.steps.0)) in
     dealt_all c.args.cpus c.loop-frame.index c.loop-frame.lists.items _ c.args.frames none c.loop-frame.invariant.dealt
 
 pub returns-clause-short : goal.returns-clause-short

@@ -13,7 +13,8 @@ returns-clause-notes c =
     let history = c.close-ring.result.producer.value.notes in
     let all : length seats ≡ lock.seats =
     ap length c.in_ok-seats.ensures ∙ c.requires.all ∙ ap (λ (l : Lock). l.seats) (sym c.member.view_is) in
-    subst (λ (notes : List Note). AreClosedNotes c.args.member c.args.member_seats.items notes) (sym c.finish-feeder.ensures.notes)
+    subst (λ (notes : List Note). AreClosedNotes c.args.member c.args.member_seats.items notes)
+    (sym c.finish-feeder.ensures.notes)
     (subst (λ p. AreClosedNotes c.args.member c.args.member_seats.items (p.notes ++ Finished ∷ [])) (sym c.into_inner.ensures)
     (subst (λ (ss : List Seat). AreClosedNotes c.args.member ss (history ++ Finished ∷ [])) c.in_ok-seats.ensures
     (subst (λ (l : Lock). AreClosedNotes l seats (history ++ Finished ∷ [])) c.member.view_is

@@ -26,7 +26,8 @@ returns-clause-put g c =
     let lock = c.args.member.now in
     let seat = c.args.member_seat.now in
     let before = c.enter-ring.result.producer.value.notes in
-    let at = entered_at c.member.inside.lock lock c.member_seat.inside.seat seat c.enter-ring.new.seat before c.member.view_is c.member_seat.view_is
+    let at = entered_at c.member.inside.lock lock c.member_seat.inside.seat seat c.enter-ring.new.seat before c.member.view_is
+    c.member_seat.view_is
     c.enter-ring.ensures.goes_on c.enter-ring.ensures.seat in
     IfOk-weaker c.put-put.result _ (IsPutTurn lock seat c.leave.new.seat c.args.offer) (λ put found. record {
       found = found.0;
@@ -42,9 +43,11 @@ returns-clause-err g c =
     let lock = c.args.member.now in
     let seat = c.args.member_seat.now in
     let before = c.enter-ring.result.producer.value.notes in
-    let at = entered_at c.member.inside.lock lock c.member_seat.inside.seat seat c.enter-ring.new.seat before c.member.view_is c.member_seat.view_is
+    let at = entered_at c.member.inside.lock lock c.member_seat.inside.seat seat c.enter-ring.new.seat before c.member.view_is
+    c.member_seat.view_is
     c.enter-ring.ensures.goes_on c.enter-ring.ensures.seat in
     IfErr-weaker c.put-put.result _ (λ _. Turned lock seat c.leave.new.seat []) (λ unput stays.
-    turn_done lock seat c.enter-ring.new.seat c.leave.new.seat c.args.offer.frame.cpu before c.put-put.new.self.notes [] c.requires.ready at
+    turn_done lock seat c.enter-ring.new.seat c.leave.new.seat c.args.offer.frame.cpu before c.put-put.new.self.notes []
+    c.requires.ready at
     (ap (λ r. r.notes) stays.1 ∙ ap (λ p. p.notes) c.deref_mut.ensures.value ∙ sym (append-nil before)) tt c.leave.ensures.seat)
     c.put-put.ensures.unput

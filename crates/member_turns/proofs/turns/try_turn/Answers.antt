@@ -26,12 +26,14 @@ returns-clause-tried g c =
     let lock = c.args.member.now in
     let seat = c.args.member_seat.now in
     let before = c.enter-ring.result.producer.value.notes in
-    let at = entered_at c.member.inside.lock lock c.member_seat.inside.seat seat c.enter-ring.new.seat before c.member.view_is c.member_seat.view_is
+    let at = entered_at c.member.inside.lock lock c.member_seat.inside.seat seat c.enter-ring.new.seat before c.member.view_is
+    c.member_seat.view_is
     c.enter-ring.ensures.goes_on c.enter-ring.ensures.seat in
     IfOk-weaker c.try_put-tried.result _ (IsTryTurn lock seat c.leave.new.seat c.args.offer) (λ tried found. record {
       found = found.0;
       told = found.1.told;
-      turned = turn_done lock seat c.enter-ring.new.seat c.leave.new.seat c.args.offer.frame.cpu before c.try_put-tried.new.self.notes
+      turned = turn_done lock seat c.enter-ring.new.seat c.leave.new.seat c.args.offer.frame.cpu before
+          c.try_put-tried.new.self.notes
           (try_by c.args.offer found.0 ∷ []) c.requires.ready at
           (found.1.adds.notes ∙ ap (λ p. p.notes ++ try_by c.args.offer found.0 ∷ []) c.deref_mut.ensures.value)
           (try_may lock.base seat.number c.args.offer found.0 c.requires.ready.number_is c.requires.cpu) c.leave.ensures.seat;
@@ -42,9 +44,11 @@ returns-clause-err g c =
     let lock = c.args.member.now in
     let seat = c.args.member_seat.now in
     let before = c.enter-ring.result.producer.value.notes in
-    let at = entered_at c.member.inside.lock lock c.member_seat.inside.seat seat c.enter-ring.new.seat before c.member.view_is c.member_seat.view_is
+    let at = entered_at c.member.inside.lock lock c.member_seat.inside.seat seat c.enter-ring.new.seat before c.member.view_is
+    c.member_seat.view_is
     c.enter-ring.ensures.goes_on c.enter-ring.ensures.seat in
     IfErr-weaker c.try_put-tried.result _ (λ _. Turned lock seat c.leave.new.seat []) (λ unput stays.
-    turn_done lock seat c.enter-ring.new.seat c.leave.new.seat c.args.offer.frame.cpu before c.try_put-tried.new.self.notes [] c.requires.ready at
+    turn_done lock seat c.enter-ring.new.seat c.leave.new.seat c.args.offer.frame.cpu before c.try_put-tried.new.self.notes []
+    c.requires.ready at
     (ap (λ r. r.notes) stays.1 ∙ ap (λ p. p.notes) c.deref_mut.ensures.value ∙ sym (append-nil before)) tt c.leave.ensures.seat)
     c.try_put-tried.ensures.unput

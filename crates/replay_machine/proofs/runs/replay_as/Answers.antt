@@ -18,7 +18,8 @@ loop-line-init g c =
     let as_many = c.requires.sources in
     let most = c.requires.setup.few in
     omega (arith, count, as_many, most) in
-    let did = did_first (g.R.ReceiveRing.steps g.K.Setting.shape) c.args.job.now c.args.schedule.now _ c.in_ok-run.run' few c.in_ok-run.ensures c.requires.schedule in
+    let did = did_first (g.R.ReceiveRing.steps g.K.Setting.shape) c.args.job.now c.args.schedule.now _ c.in_ok-run.run' few
+    c.in_ok-run.ensures c.requires.schedule in
     record { run = did.run; timed = did.timed; does = did.does; firsts = did.firsts; counted = did.counted }
 
 pub line-requires-clause-counted : goal.line-requires-clause-counted
@@ -46,12 +47,16 @@ loop-line-preserved g c =
     let lines = c.args.schedule.now in
     let i = c.loop-line.invariant in
     let within : c.loop-line.line-index < length lines = search rules in
-    let before : Did (g.R.ReceiveRing.steps g.K.Setting.shape) c.args.job.now lines c.loop-line.line-index c.in_ok-run.run' c.loop-line.run =
+    let before : Did (g.R.ReceiveRing.steps g.K.Setting.shape) c.args.job.now lines c.loop-line.line-index c.in_ok-run.run'
+    c.loop-line.run =
     record { run = i.run; timed = i.timed; does = i.does; firsts = i.firsts; counted = i.counted } in
-    let done : LineDone (g.R.ReceiveRing.steps g.K.Setting.shape) c.args.job.now (get_or lines c.loop-line.line-index (Feed 0)) c.loop-line.run c.line.new.self =
-    subst (λ (ls : List Line). LineDone (g.R.ReceiveRing.steps g.K.Setting.shape) c.args.job.now (get_or ls c.loop-line.line-index (Feed 0)) c.loop-line.run c.line.new.self)
+    let done : LineDone (g.R.ReceiveRing.steps g.K.Setting.shape) c.args.job.now (get_or lines c.loop-line.line-index (Feed 0))
+    c.loop-line.run c.line.new.self =
+    subst (λ (ls : List Line). LineDone (g.R.ReceiveRing.steps g.K.Setting.shape) c.args.job.now
+    (get_or ls c.loop-line.line-index (Feed 0)) c.loop-line.run c.line.new.self)
     c.as_slice-line-items.ensures c.in_ok-line.ensures in
-    let did = did_more (g.R.ReceiveRing.steps g.K.Setting.shape) c.args.job.now lines c.loop-line.line-index c.in_ok-run.run' c.loop-line.run c.line.new.self within before done in
+    let did = did_more (g.R.ReceiveRing.steps g.K.Setting.shape) c.args.job.now lines c.loop-line.line-index c.in_ok-run.run'
+    c.loop-line.run c.line.new.self within before done in
     record { run = did.run; timed = did.timed; does = did.does; firsts = did.firsts; counted = did.counted }
 
 pub returns : goal.returns
@@ -59,11 +64,14 @@ returns g c =
     let lines = c.args.schedule.now in
     let i = c.loop-line.invariant in
     let past : length lines ≤ c.loop-line.line-index = search rules in
-    let before : Did (g.R.ReceiveRing.steps g.K.Setting.shape) c.args.job.now lines c.loop-line.line-index c.in_ok-run.run' c.loop-line.run =
+    let before : Did (g.R.ReceiveRing.steps g.K.Setting.shape) c.args.job.now lines c.loop-line.line-index c.in_ok-run.run'
+    c.loop-line.run =
     record { run = i.run; timed = i.timed; does = i.does; firsts = i.firsts; counted = i.counted } in
     record {
-      ran = told (g.R.ReceiveRing.steps g.K.Setting.shape) c.args.job.now lines _ c.in_ok-run.run' c.loop-line.run c.feed_rest.new.self c.loop-line.line-index c.in_ok-run.ensures before past
+      ran = told (g.R.ReceiveRing.steps g.K.Setting.shape) c.args.job.now lines _ c.in_ok-run.run' c.loop-line.run
+          c.feed_rest.new.self c.loop-line.line-index c.in_ok-run.ensures before past
           c.in_ok-feed_rest.ensures c.finish.result
           (λ ran. map (option_map {T = g.row.S.Denot} {U = SourceSeen} g.S.Source.seen) ran.sources.items)
-          (λ ran. ran.report) (reported_by g.R.Unit.Layout.text_of g.R.ReceiveRing.reads g.K.Setting.shape g.K.Setting.dumps) c.finish.ensures;
+          (λ ran. ran.report) (reported_by g.R.Unit.Layout.text_of g.R.ReceiveRing.reads g.K.Setting.shape g.K.Setting.dumps)
+          c.finish.ensures;
     }

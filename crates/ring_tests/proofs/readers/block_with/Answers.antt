@@ -19,12 +19,19 @@ returns c =
     let held = c.write_packet.ensures.held 1 [] c.write_header.ensures.opened here in
     let one : needs_of (packet ∷ []) ≡ need_of_packet packet = omega arith in
     let sum : needs_of (packet ∷ []) ≡ need_of o.snap = one ∙ rw kept (omega arith) in
-    let text = c.close_header.ensures.text 1 (packet ∷ []) held (omega arith) (omega arith) (rw (c.first-first.ensures.value, c.need.ensures, sum) refl) refl in
+    let text = c.close_header.ensures.text 1 (packet ∷ []) held (omega arith) (omega arith)
+    (rw (c.first-first.ensures.value, c.need.ensures, sum) refl) refl in
     let same : c.close_header.new.block.shape ≡ shape =
-    ap (λ (b : ShapedBytes). b.shape) c.close_header.ensures.written ∙ ap (λ (b : ShapedBytes). b.shape) c.write_packet.ensures.written
-    ∙ ap (λ (b : ShapedBytes). b.shape) c.write_header.ensures.written ∙ ap (λ (b : ShapedBytes). b.shape) c.in_ok-block.ensures in
+    ap (λ (b : ShapedBytes). b.shape) c.close_header.ensures.written
+    ∙ ap (λ (b : ShapedBytes). b.shape) c.write_packet.ensures.written
+    ∙ ap (λ (b : ShapedBytes). b.shape) c.write_header.ensures.written
+    ∙ ap (λ (b : ShapedBytes). b.shape) c.in_ok-block.ensures in
     let block = c.close_header.new.block in
     record {
       shape_is = same;
-      text = (1, 1, ∣ (packet ∷ [], subst (λ (s : RingRequest). BeginsWith s 1 1 (packet ∷ []) block.bytes) (sym same) text) ∣₁);
+      text = (
+        1,
+        1,
+        ∣ (packet ∷ [], subst (λ (s : RingRequest). BeginsWith s 1 1 (packet ∷ []) block.bytes) (sym same) text) ∣₁,
+      );
     }

@@ -26,7 +26,8 @@ new-requires-2 c =
       checked = c.requires;
       fresh = record {
         places = ap (λ (s : PlainState). s.places) fresh ∙ (ap length c.in_ok-slots.ensures ∙ length-replicate _ _);
-        kind = c.in_ok-end.ensures.kind (numbers_of shape) (rw c.in_ok-slots.ensures (one_kind shape.frame_nr (zero_slot shape)));
+        kind = c.in_ok-end.ensures.kind (numbers_of shape)
+            (rw c.in_ok-slots.ensures (one_kind shape.frame_nr (zero_slot shape)));
         given = ap (λ (s : PlainState). s.given) fresh;
         retired_none = ap (λ (s : PlainState). s.retired) fresh;
         passed = ap (λ (s : PlainState). s.taken) fresh;

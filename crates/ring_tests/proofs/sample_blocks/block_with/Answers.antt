@@ -18,8 +18,10 @@ returns-clause-text c =
     let here : c.first-first.result ≡ end_of shape [] = c.first-first.ensures.value ∙ omega arith in
     let held = c.write_packet.ensures.held 1 [] c.write_header.ensures.opened here in
     let sum : needs_of (packet ∷ []) ≡ need_of o.snap = needs-cons packet [] ∙ rw kept (omega arith) in
-    let text = c.close_header.ensures.text 1 (packet ∷ []) held (omega arith) (omega arith) (rw (c.first-first.ensures.value, c.need.ensures, sum) refl) refl in
+    let text = c.close_header.ensures.text 1 (packet ∷ []) held (omega arith) (omega arith)
+    (rw (c.first-first.ensures.value, c.need.ensures, sum) refl) refl in
     let same : c.close_header.new.block.shape ≡ shape =
-    ap (λ (b : ShapedBytes). b.shape) c.close_header.ensures.written ∙ ap (λ (b : ShapedBytes). b.shape) c.write_packet.ensures.written
+    ap (λ (b : ShapedBytes). b.shape) c.close_header.ensures.written
+    ∙ ap (λ (b : ShapedBytes). b.shape) c.write_packet.ensures.written
     ∙ ap (λ (b : ShapedBytes). b.shape) c.write_header.ensures.written ∙ c.in_ok-block.ensures in
     subst (λ (s : RingRequest). BeginsLawfully s 1 1 c.close_header.new.block.bytes) (sym same) ∣ (packet ∷ [], text) ∣₁

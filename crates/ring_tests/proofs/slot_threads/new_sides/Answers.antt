@@ -26,7 +26,8 @@ new-requires c =
       checked = c.requires;
       fresh = record {
         places = ap (λ (s : Feeding). s.places) fresh ∙ (ap length c.in_ok-slots.ensures ∙ length-replicate _ _);
-        kind = c.in_ok-feeder.ensures.kind (numbers_of shape) (rw c.in_ok-slots.ensures (one_kind shape.frame_nr (zero_slot shape)));
+        kind = c.in_ok-feeder.ensures.kind (numbers_of shape)
+            (rw c.in_ok-slots.ensures (one_kind shape.frame_nr (zero_slot shape)));
         given = ap (λ (s : Feeding). s.given) fresh;
         retired_none = ap (λ (s : Feeding). length s.retired) fresh;
         passed = refl;

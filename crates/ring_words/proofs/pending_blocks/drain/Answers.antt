@@ -23,12 +23,20 @@ loop-at-preserved g c =
     let same_kind = ap (λ (k : Known). k.kind) old.known in
     record {
       table = still_seated _ _ _ _ old.table c.next_pending.ensures.table;
-      known = took.known ∙ ap (λ (k : Known). record k { taken = c.next_pending.new.seat.me.0.taken; visits = c.next_pending.new.seat.me.0.visits }) old.known;
-      taken = rw c.push_reserved.ensures.items (entries_push g.B.Content.bytes g.B.Content.kind g.B.Content.ready _ _ one _ (took.taken ∙ ap (λ l. l ++ entry ∷ []) old.taken));
+      known = took.known
+          ∙ ap (λ (k : Known). record k {
+            taken = c.next_pending.new.seat.me.0.taken;
+            visits = c.next_pending.new.seat.me.0.visits;
+          }) old.known;
+      taken = rw c.push_reserved.ensures.items
+          (entries_push g.B.Content.bytes g.B.Content.kind g.B.Content.ready _ _ one _
+          (took.taken ∙ ap (λ l. l ++ entry ∷ []) old.taken));
       count = count;
       passed = omega arith;
       front = c.next_pending.ensures.front ∙ ap (λ (k : Known). take (c.loop-at.at + 1) k.retired) old.known;
       kinds = rw c.push_reserved.ensures.items (all_push _ _ one old.kinds (c.next_pending.ensures.kind ∙ same_kind));
-      ready = rw c.push_reserved.ensures.items (ready_push g.B.Content.bytes g.B.Content.kind g.B.Content.ready _ _ _ one old.ready passed c.next_pending.ensures.ready);
+      ready = rw c.push_reserved.ensures.items
+          (ready_push g.B.Content.bytes g.B.Content.kind g.B.Content.ready _ _ _ one old.ready passed
+          c.next_pending.ensures.ready);
       room = (let capacity = c.push_reserved.ensures.capacity in omega arith);
     }

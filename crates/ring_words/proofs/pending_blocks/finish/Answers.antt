@@ -18,7 +18,8 @@ join_seat-requires g c =
       ring ∙ is.same,
       no_hand g.B.Content.bytes g.B.Content.kind g.B.Content.ready _ _ _ _ c.walker.invariant.1 hand,
       omega arith,
-      joins g.B.Content.bytes g.B.Content.kind g.B.Content.ready _ _ _ _ _ c.feeder.invariant.1.feeds c.walker.invariant.1.walks,
+      joins g.B.Content.bytes g.B.Content.kind g.B.Content.ready _ _ _ _ _ c.feeder.invariant.1.feeds
+          c.walker.invariant.1.walks,
     )
 
 pub load-requires : goal.load-requires
@@ -30,12 +31,15 @@ load-requires g c =
     rw c.deref-2.ensures (
       c.join_seat.ensures.0 ∙ is.same,
       omega arith,
-      compares g.B.Content.bytes g.B.Content.kind g.B.Content.ready _ _ _ _ _ (ap (λ m. m.0.feeds) both ∙ c.feeder.invariant.1.feeds) (ap (λ m. m.0.walks) both),
+      compares g.B.Content.bytes g.B.Content.kind g.B.Content.ready _ _ _ _ _
+          (ap (λ m. m.0.feeds) both ∙ c.feeder.invariant.1.feeds) (ap (λ m. m.0.walks) both),
     )
 
 pub invariant_of-result : goal.invariant_of-result
 invariant_of-result g c =
     let told = c.in_ok-blocks.ensures in
     let taken : length c.load.new.seat.me.0.taken ≡ c.walker.inside.taken =
-    ap (λ m. length m.0.taken) c.load.ensures.2.same ∙ ap (λ m. length m.0.taken) c.join_seat.ensures.2 ∙ c.walker.invariant.1.count in
-    is_left g.B.Content.bytes g.B.Content.kind g.B.Content.ready c.load.new.seat.me c.drain.new.seat.me _ _ told.same told.all taken told.kind told.ready
+    ap (λ m. length m.0.taken) c.load.ensures.2.same ∙ ap (λ m. length m.0.taken) c.join_seat.ensures.2
+    ∙ c.walker.invariant.1.count in
+    is_left g.B.Content.bytes g.B.Content.kind g.B.Content.ready c.load.new.seat.me c.drain.new.seat.me _ _ told.same told.all
+    taken told.kind told.ready

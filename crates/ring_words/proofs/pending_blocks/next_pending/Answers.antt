@@ -4,7 +4,8 @@ use Rattle.ring_words.proofs.pending_blocks.next_pending.Goals as goal
 
 pub load-word-requires : goal.load-word-requires
 load-word-requires g c =
-    may_drain g.B.Content.bytes g.B.Content.kind g.B.Content.ready _ _ _ _ _ _ _ c.requires.table c.requires.feeds c.requires.walks c.requires.at c.requires.left
+    may_drain g.B.Content.bytes g.B.Content.kind g.B.Content.ready _ _ _ _ _ _ _ c.requires.table c.requires.feeds
+    c.requires.walks c.requires.at c.requires.left
 
 pub exchange-requires : goal.exchange-requires
 exchange-requires g c = (

@@ -15,4 +15,5 @@ split_seat-other-requires g c =
 
 pub returns-clause-kind : goal.returns-clause-kind
 returns-clause-kind g c = λ kind all.
-    ap (λ m. m.0.kind) c.split_seat-other.ensures.2 ∙ ap (λ m. m.0.kind) c.in_ok-table.ensures.known ∙ c.in_ok-table.ensures.kind kind all
+    ap (λ m. m.0.kind) c.split_seat-other.ensures.2 ∙ ap (λ m. m.0.kind) c.in_ok-table.ensures.known
+    ∙ c.in_ok-table.ensures.kind kind all

@@ -7,15 +7,18 @@ use Rattle.setup_text.proofs.ListingFaults.{instructions_of-few}
 use Rattle.setup_text.proofs.filters.read_filter.Goals as goal
 
 pub fault-requires : goal.fault-requires
-fault-requires c = record { few = omega arith; place = omega (arith, refused_place c.in-Err.error c.args.text.now c.in-Err.ensures) }
+fault-requires c =
+    record { few = omega arith; place = omega (arith, refused_place c.in-Err.error c.args.text.now c.in-Err.ensures) }
 
 pub returns-in-Err-clause-right : goal.returns-in-Err-clause-right
 unfolding filter_of
 returns-in-Err-clause-right c = λ want.
-    ap filter_after (refused_text c.in-Err.error _ 0 c.in-Err.ensures (rw c.fault.ensures at want)) ∙ ap Err (sym c.fault.ensures)
+    ap filter_after (refused_text c.in-Err.error _ 0 c.in-Err.ensures (rw c.fault.ensures at want))
+    ∙ ap Err (sym c.fault.ensures)
 
 pub overflow_cast-instructions : goal.overflow_cast-instructions
-overflow_cast-instructions c = omega (arith, instructions_of-few c.args.text.now c.in-Ok.code.items c.in-Ok.ensures, c.len-instructions.ensures)
+overflow_cast-instructions c =
+    omega (arith, instructions_of-few c.args.text.now c.in-Ok.code.items c.in-Ok.ensures, c.len-instructions.ensures)
 
 pub fault-requires-in-Err-check : goal.fault-requires-in-Err-check
 fault-requires-in-Err-check c =
@@ -34,7 +37,8 @@ unfolding filter_of
 returns-in-Err-check-clause-right c = λ want.
     let count : c.len-instructions.result ≡ length c.in-Ok.code.items = omega (arith, c.len-instructions.ensures) in
     ap filter_after c.in-Ok.ensures
-    ∙ ap (told (length c.in-Ok.code.items)) (refused_text c.in-Err-check.error _ c.len-instructions.result c.in-Err-check.ensures
+    ∙ ap (told (length c.in-Ok.code.items))
+    (refused_text c.in-Err-check.error _ c.len-instructions.result c.in-Err-check.ensures
     (rw c.fault-in-Err-check.ensures at want))
     ∙ ap (λ n. Err (filter_fault n c.in-Err-check.error)) (sym count) ∙ ap Err (sym c.fault-in-Err-check.ensures)
 

@@ -22,7 +22,8 @@ pub returns-clause-right : goal.returns-clause-right
 unfolding moments_of
 returns-clause-right c =
     items_of-read Ticks item_in c.args.text.now _ (omega arith)
-    (reads_all (added item_in) [] c.args.text.now c.loop-line.moments c.loop-line.number c.loop-line.rest.now c.loop-line.invariant c.in_default.ensures.line)
+    (reads_all (added item_in) [] c.args.text.now c.loop-line.moments c.loop-line.number c.loop-line.rest.now
+    c.loop-line.invariant c.in_default.ensures.line)
 
 pub returns-in-Err-clause-right : goal.returns-in-Err-clause-right
 unfolding moments_of
@@ -52,7 +53,8 @@ unfolding moments_of
 returns-clause-sound c =
     moments_sound c.args.text.now c.loop-line.moments
     (items_of-read Ticks item_in c.args.text.now _ (omega arith)
-    (reads_all (added item_in) [] c.args.text.now c.loop-line.moments c.loop-line.number c.loop-line.rest.now c.loop-line.invariant c.in_default.ensures.line))
+    (reads_all (added item_in) [] c.args.text.now c.loop-line.moments c.loop-line.number c.loop-line.rest.now
+    c.loop-line.invariant c.in_default.ensures.line))
 
 pub returns-in-Err-clause-memory : goal.returns-in-Err-clause-memory
 returns-in-Err-clause-memory c = λ h.

@@ -18,19 +18,22 @@ item_in cpus members lines line = line_in cpus members (clock_of lines) line
 pub returns-then-text-gt-LARGEST_TEXT-clause-right : goal.returns-then-text-gt-LARGEST_TEXT-clause-right
 unfolding schedule_of
 returns-then-text-gt-LARGEST_TEXT-clause-right c = λ h.
-    items_of-large Schedule (item_in c.args.cpus c.args.members) c.args.text.now (omega arith) ∙ ap Err (sym (c.fault.ensures.fault refl))
+    items_of-large Schedule (item_in c.args.cpus c.args.members) c.args.text.now (omega arith)
+    ∙ ap Err (sym (c.fault.ensures.fault refl))
 
 pub returns-clause-right : goal.returns-clause-right
 unfolding schedule_of
 returns-clause-right c =
     items_of-read Schedule (item_in c.args.cpus c.args.members) c.args.text.now _ (omega arith)
-    (reads_all (added (item_in c.args.cpus c.args.members)) [] c.args.text.now c.loop-line.lines c.loop-line.number c.loop-line.rest.now c.loop-line.invariant.reads c.in_default.ensures.line)
+    (reads_all (added (item_in c.args.cpus c.args.members)) [] c.args.text.now c.loop-line.lines c.loop-line.number
+    c.loop-line.rest.now c.loop-line.invariant.reads c.in_default.ensures.line)
 
 pub returns-in-Err-clause-right : goal.returns-in-Err-clause-right
 unfolding schedule_of
 returns-in-Err-clause-right c = λ h.
     items_of-read Schedule (item_in c.args.cpus c.args.members) c.args.text.now _ (omega arith)
-    (reads_fault (added (item_in c.args.cpus c.args.members)) [] c.args.text.now c.loop-line.lines c.in-Err.kind c.loop-line.number c.loop-line.rest.now
+    (reads_fault (added (item_in c.args.cpus c.args.members)) [] c.args.text.now c.loop-line.lines c.in-Err.kind
+    c.loop-line.number c.loop-line.rest.now
     c.in-Some.behind.now c.in-Some.line.now c.loop-line.invariant.reads c.in-Some.ensures.line
     (sym c.is_passed_over.ensures ∙ c.if-not-is_passed_over.true)
     (c.in-Err.ensures.line (ap is_kind_want (sym c.fault-in-Err.ensures.kind) ∙ h)))
@@ -40,13 +43,15 @@ pub loop-line-preserved : goal.loop-line-preserved
 loop-line-preserved c =
     elim c.if-not-is_passed_over.branch [
       | then-not-is_passed_over+in-Ok w ↦ rw (w.lines-is, w.clock-is) (record {
-        reads = reads_more (added (item_in c.args.cpus c.args.members)) [] c.args.text.now c.loop-line.lines _ c.loop-line.number c.loop-line.rest.now
+        reads = reads_more (added (item_in c.args.cpus c.args.members)) [] c.args.text.now c.loop-line.lines _
+            c.loop-line.number c.loop-line.rest.now
             c.in-Some.behind.now c.in-Some.line.now c.loop-line.invariant.reads c.in-Some.ensures.line c.in-Some.ensures.shorter
             (sym c.is_passed_over.ensures ∙ w.if-not-is_passed_over.true) w.in-Ok.ensures.line;
         clock = w.in-Ok.ensures.clock;
       })
       | else-not-is_passed_over w ↦ rw (w.lines-is, w.clock-is) (record {
-        reads = reads_over (added (item_in c.args.cpus c.args.members)) [] c.args.text.now c.loop-line.lines c.loop-line.number c.loop-line.rest.now
+        reads = reads_over (added (item_in c.args.cpus c.args.members)) [] c.args.text.now c.loop-line.lines c.loop-line.number
+            c.loop-line.rest.now
             c.in-Some.behind.now c.in-Some.line.now c.loop-line.invariant.reads c.in-Some.ensures.line c.in-Some.ensures.shorter
             (sym c.is_passed_over.ensures ∙ w.if-not-is_passed_over.false);
         clock = c.loop-line.invariant.clock;
@@ -58,7 +63,8 @@ unfolding schedule_of
 returns-clause-sound c =
     schedule_sound c.args.cpus c.args.members c.args.text.now c.loop-line.lines
     (items_of-read Schedule (item_in c.args.cpus c.args.members) c.args.text.now _ (omega arith)
-    (reads_all (added (item_in c.args.cpus c.args.members)) [] c.args.text.now c.loop-line.lines c.loop-line.number c.loop-line.rest.now
+    (reads_all (added (item_in c.args.cpus c.args.members)) [] c.args.text.now c.loop-line.lines c.loop-line.number
+    c.loop-line.rest.now
     c.loop-line.invariant.reads c.in_default.ensures.line))
 
 pub returns-in-Err-clause-memory : goal.returns-in-Err-clause-memory

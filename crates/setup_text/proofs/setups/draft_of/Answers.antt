@@ -9,13 +9,15 @@ use Rattle.setup_text.proofs.setups.draft_of.Goals.{then-not-is_passed_over+in_d
 pub returns-clause-right : goal.returns-clause-right
 unfolding draft_of
 returns-clause-right c =
-    ap at_line (reads_all line_after nothing_said c.args.text.now c.loop-line.draft c.loop-line.number c.loop-line.rest.now c.loop-line.invariant c.in_default.ensures.line)
+    ap at_line (reads_all line_after nothing_said c.args.text.now c.loop-line.draft c.loop-line.number c.loop-line.rest.now
+    c.loop-line.invariant c.in_default.ensures.line)
 
 pub returns-in-Err-clause-right : goal.returns-in-Err-clause-right
 unfolding draft_of
 returns-in-Err-clause-right c = λ h.
     let none = ap is_want (sym c.at_line.ensures.kind) ∙ h in
-    ap at_line (reads_fault line_after nothing_said c.args.text.now c.loop-line.draft c.in-Err.kind c.loop-line.number c.loop-line.rest.now
+    ap at_line (reads_fault line_after nothing_said c.args.text.now c.loop-line.draft c.in-Err.kind c.loop-line.number
+    c.loop-line.rest.now
     c.in-Some.behind.now c.in-Some.line.now c.loop-line.invariant c.in-Some.ensures.line
     (sym c.is_passed_over.ensures ∙ c.if-not-is_passed_over.true)
     (c.in-Err.ensures none))

@@ -29,19 +29,23 @@ pub returns-in_err-draft-clause-right : goal.returns-in_err-draft-clause-right
 unfolding setup_of
 returns-in_err-draft-clause-right c =
     let p = err_from_is_err_and c.from_residual.result c.from_residual.ensures.1 in
-    rw (p.1, p.2) (λ h. when_small c.args.text.now _ _ (omega arith) ∙ ap (completed c.args.command) (c.in_err-draft.ensures.right h))
+    rw (p.1, p.2) (λ h. when_small c.args.text.now _ _ (omega arith)
+    ∙ ap (completed c.args.command) (c.in_err-draft.ensures.right h))
 
 pub returns-in-Ok-clause-sound : goal.returns-in-Ok-clause-sound
 returns-in-Ok-clause-sound c =
-    (setup_accepted c.args.text.now c.args.command c.in_ok-draft.draft c.in-Ok.setup c.in_ok-draft.ensures.right c.in-Ok.ensures).sound
+    (setup_accepted c.args.text.now c.args.command c.in_ok-draft.draft c.in-Ok.setup c.in_ok-draft.ensures.right
+    c.in-Ok.ensures).sound
 
 pub returns-in-Ok-clause-ring : goal.returns-in-Ok-clause-ring
 returns-in-Ok-clause-ring c =
-    (setup_accepted c.args.text.now c.args.command c.in_ok-draft.draft c.in-Ok.setup c.in_ok-draft.ensures.right c.in-Ok.ensures).ring
+    (setup_accepted c.args.text.now c.args.command c.in_ok-draft.draft c.in-Ok.setup c.in_ok-draft.ensures.right
+    c.in-Ok.ensures).ring
 
 pub returns-in-Ok-clause-made : goal.returns-in-Ok-clause-made
 returns-in-Ok-clause-made c =
-    (setup_accepted c.args.text.now c.args.command c.in_ok-draft.draft c.in-Ok.setup c.in_ok-draft.ensures.right c.in-Ok.ensures).made
+    (setup_accepted c.args.text.now c.args.command c.in_ok-draft.draft c.in-Ok.setup c.in_ok-draft.ensures.right
+    c.in-Ok.ensures).made
 
 pub returns-in-Err-clause-memory : goal.returns-in-Err-clause-memory
 returns-in-Err-clause-memory c = λ h. ap (λ (kind : SetupKind). record { line = 0; kind = kind }) (want_is c.in-Err.kind h)

@@ -18,7 +18,8 @@ returns-clause-written c =
     let kept_data : c.put_bytes.new.bytes ≡ put 66 packet.bytes c.put_zeros-2.new.bytes =
     c.put_bytes.ensures.written ∙ ap (λ (xs : List ℕ). put 66 xs c.put_zeros-2.new.bytes) c.captured.ensures in
     let address = c.put_link_address.ensures.written packet (rw link refl) refl (rw link refl) in
-    slot_put c.args.status packet c.args.bytes.now _ _ _ _ _ fits c.put_header.ensures.written c.put_zeros.ensures address c.put_zeros-2.ensures kept_data
+    slot_put c.args.status packet c.args.bytes.now _ _ _ _ _ fits c.put_header.ensures.written c.put_zeros.ensures address
+    c.put_zeros-2.ensures kept_data
 
 pub returns-clause-typed : goal.returns-clause-typed
 returns-clause-typed c =

@@ -4,4 +4,7 @@ use Rattle.tap_printing.specs.Lines.{arrivals_in}
 use Rattle.tap_printing.proofs.cpu_lines.arrivals_in.Given as goal
 
 abbrev pub invariant-loop-log : goal.invariant-loop-log
-invariant-loop-log l = record { so_far : l.arrivals ≡ arrivals_in (take l.log-index l.logs); small : l.arrivals ≤ 2 ^ 63 * l.log-index }
+invariant-loop-log l = record {
+  so_far : l.arrivals ≡ arrivals_in (take l.log-index l.logs);
+  small : l.arrivals ≤ 2 ^ 63 * l.log-index;
+}

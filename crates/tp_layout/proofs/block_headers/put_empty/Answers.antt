@@ -26,5 +26,6 @@ returns c shape e =
     let p5 = piece p4 16 (little_bytes 4 first) refl (omega (arith, fits, order)) c.put_u32-5.ensures.written in
     let p6 = piece p5 20 (little_bytes 4 first) refl (omega (arith, fits, order)) c.put_u32-6.ensures.written in
     let p7 = piece p6 24 (little_bytes 8 c.args.number) refl (omega (arith, fits, order)) c.put_u64.ensures in
-    let p8 = piece p7 32 (replicate (first - 32) 0) refl (omega (arith, fits, order, length-replicate {A = ℕ} (first - 32) 0)) c.put_zeros.ensures in
+    let p8 = piece p7 32 (replicate (first - 32) 0) refl (omega (arith, fits, order, length-replicate {A = ℕ} (first - 32) 0))
+    c.put_zeros.ensures in
     all p8 (open_header shape c.args.number) (rw (bytes_of-zeros, sym e, zeros_split first order) refl)

@@ -15,7 +15,8 @@ returns-clause-written c packet protocol pkttype addr =
     let fits = c.requires.fits in
     let typed = c.put_bytes-2.ensures.typed in
     let small : (i : ℕ) → slice_index from i % 256 ≡ slice_index from i = λ i. one_byte (slice_index from i) (typed i) in
-    let kind : packet.pkttype % 256 ≡ packet.pkttype = rw pkttype (one_byte c.args.pkttype (omega (arith, c.ranges.pkttype.fits))) in
+    let kind : packet.pkttype % 256 ≡ packet.pkttype =
+    rw pkttype (one_byte c.args.pkttype (omega (arith, c.ranges.pkttype.fits))) in
     let p0 = nothing at c.args.bytes.now (omega (arith, fits)) in
     let p1 = piece p0 at (little_bytes 2 17) (sym (add-zero at)) (omega (arith, fits)) c.put_u16.ensures in
     let p2 = piece p1 (at + 2) (big_bytes 2 c.args.protocol) refl (omega (arith, fits)) c.put_network_u16.ensures in
@@ -25,5 +26,7 @@ returns-clause-written c packet protocol pkttype addr =
     let p6 = piece p5 (at + 12) from refl (omega (arith, fits, c.requires.six)) c.put_bytes-2.ensures.written in
     let n = c.args.protocol in
     let low : n % 256 % 256 ≡ n % 256 = one_byte (n % 256) (omega arith) in
-    all p6 (bytes_of (address_rows packet)) (rw (kind, protocol, pkttype, addr, small 0, small 1, small 2, small 3, small 4, small 5, low)
-    (ap (λ (xs : List ℕ). 17 ∷ 0 ∷ n / 256 % 256 ∷ n % 256 ∷ 1 ∷ 0 ∷ 0 ∷ 0 ∷ 1 ∷ 0 ∷ c.args.pkttype ∷ 6 ∷ xs) (six_bytes from c.requires.six)))
+    all p6 (bytes_of (address_rows packet))
+    (rw (kind, protocol, pkttype, addr, small 0, small 1, small 2, small 3, small 4, small 5, low)
+    (ap (λ (xs : List ℕ). 17 ∷ 0 ∷ n / 256 % 256 ∷ n % 256 ∷ 1 ∷ 0 ∷ 0 ∷ 0 ∷ 1 ∷ 0 ∷ c.args.pkttype ∷ 6 ∷ xs)
+    (six_bytes from c.requires.six)))

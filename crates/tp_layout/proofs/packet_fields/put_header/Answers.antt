@@ -21,14 +21,23 @@ returns-clause-written c =
     let p3 = piece p2 (at + 8) (little_bytes 4 (o.frame.nsec)) refl (omega (arith, fits)) c.put_u32-3.ensures.written in
     let p4 = piece p3 (at + 12) (little_bytes 4 (o.snap)) refl (omega (arith, fits)) c.put_u32-4.ensures.written in
     let p5 = piece p4 (at + 16) (little_bytes 4 (o.frame.wire)) refl (omega (arith, fits)) c.put_u32-5.ensures.written in
-    let p6 = piece p5 (at + 20) (little_bytes 4 (c.vlan_fields-status.result.0)) refl (omega (arith, fits)) c.put_u32-6.ensures.written in
+    let p6 = piece p5 (at + 20) (little_bytes 4 (c.vlan_fields-status.result.0)) refl (omega (arith, fits))
+    c.put_u32-6.ensures.written in
     let p7 = piece p6 (at + 24) (little_bytes 2 (82)) refl (omega (arith, fits)) c.put_u16.ensures in
     let p8 = piece p7 (at + 26) (little_bytes 2 (96)) refl (omega (arith, fits)) c.put_u16-2.ensures in
     let p9 = piece p8 (at + 28) (little_bytes 4 (c.rxhash.result)) refl (omega (arith, fits)) c.put_u32-7.ensures.written in
-    let p10 = piece p9 (at + 32) (little_bytes 4 (c.vlan_fields-status.result.1)) refl (omega (arith, fits)) c.put_u32-8.ensures.written in
-    let p11 = piece p10 (at + 36) (little_bytes 2 (c.vlan_fields-status.result.2)) refl (omega (arith, fits)) c.put_u16-3.ensures in
+    let p10 = piece p9 (at + 32) (little_bytes 4 (c.vlan_fields-status.result.1)) refl (omega (arith, fits))
+    c.put_u32-8.ensures.written in
+    let p11 = piece p10 (at + 36) (little_bytes 2 (c.vlan_fields-status.result.2)) refl (omega (arith, fits))
+    c.put_u16-3.ensures in
     let p12 = piece p11 (at + 38) (little_bytes 2 (0)) refl (omega (arith, fits)) c.put_u16-4.ensures in
-    all p12 (bytes_of (header_rows c.args.next (packet_of c.args.fill o))) (rw (c.vlan_fields-status.ensures.fields, c.rxhash.ensures, kept) refl)
+    all p12 (bytes_of (header_rows c.args.next (packet_of c.args.fill o)))
+    (rw (c.vlan_fields-status.ensures.fields, c.rxhash.ensures, kept) refl)
 
 pub returns-clause-typed : goal.returns-clause-typed
-returns-clause-typed c = record { sec = c.put_u32-2.ensures.typed; wire = c.put_u32-5.ensures.typed; rxhash = rw (sym c.rxhash.ensures) c.put_u32-7.ensures.typed; tci = c.vlan_fields-status.ensures.typed }
+returns-clause-typed c = record {
+  sec = c.put_u32-2.ensures.typed;
+  wire = c.put_u32-5.ensures.typed;
+  rxhash = rw (sym c.rxhash.ensures) c.put_u32-7.ensures.typed;
+  tci = c.vlan_fields-status.ensures.typed;
+}

@@ -41,7 +41,9 @@ loop-left-preserved c =
     }
 
 pub returns-clause-joined : goal.returns-clause-joined
-returns-clause-joined c = copied_end c.loop-left.data.items c.loop-left.rest.now _ c.loop-left.left c.loop-left-test.false c.loop-left.invariant.joined
+returns-clause-joined c =
+    copied_end c.loop-left.data.items c.loop-left.rest.now _ c.loop-left.left c.loop-left-test.false
+    c.loop-left.invariant.joined
 
 pub returns-clause-small : goal.returns-clause-small
 returns-clause-small c =

@@ -22,15 +22,20 @@ write_data-requires-clause-zeros c =
     let after = zeros_after slot (subst IsSlot (sym held) c.requires.slot) in
     let slot_size = c.split_at_mut-slot.ensures.front_len in
     let data_size = c.split_at_mut-header.ensures.back_len in
-    let left : length slot - (48 + number_at 4 12 slot) ≡ length c.split_at_mut-header.result.1.now - number_at 4 12 slot = omega (arith, slot_size, data_size) in
-    rw (c.u32_at-earlier.ensures, c.split_at_mut-header.ensures.back) (after.1 ∙ ap (λ (n : ℕ). replicate {A = ℕ} n 0) (left ∙ ap (λ (bytes : List ℕ). length bytes - number_at 4 12 slot) c.split_at_mut-header.ensures.back))
+    let left : length slot - (48 + number_at 4 12 slot) ≡ length c.split_at_mut-header.result.1.now - number_at 4 12 slot =
+    omega (arith, slot_size, data_size) in
+    rw (c.u32_at-earlier.ensures, c.split_at_mut-header.ensures.back)
+    (after.1 ∙ ap (λ (n : ℕ). replicate {A = ℕ} n 0)
+    (left ∙ ap (λ (bytes : List ℕ). length bytes - number_at 4 12 slot) c.split_at_mut-header.ensures.back))
 
 pub returns : goal.returns
 unfolding slot_text header_text
 returns c =
     let after : c.split_at_mut-slot.result.1.now ≡ drop (c.args.from + c.args.size) c.args.bytes.now =
-    c.split_at_mut-slot.ensures.back ∙ ap (drop c.args.size) c.split_at_mut-rest.ensures.back ∙ drop-drop c.args.size c.args.from c.args.bytes.now in
+    c.split_at_mut-slot.ensures.back ∙ ap (drop c.args.size) c.split_at_mut-rest.ensures.back
+    ∙ drop-drop c.args.size c.args.from c.args.bytes.now in
     let slot_size = c.split_at_mut-slot.ensures.front_len in
     let data_size = c.split_at_mut-header.ensures.back_len in
-    let rest : length c.split_at_mut-header.result.1.now - length c.args.given.now ≡ c.args.size - (48 + length c.args.given.now) = omega (arith, slot_size, data_size) in
+    let rest : length c.split_at_mut-header.result.1.now - length c.args.given.now
+    ≡ c.args.size - (48 + length c.args.given.now) = omega (arith, slot_size, data_size) in
     rw (c.split_at_mut-rest.ensures.front, after, c.write_header.ensures, c.write_data.ensures, rest) refl

@@ -16,7 +16,8 @@ loop-frame-init c = rw (c.in_ok-new.ensures, c.new-2.ensures) (starts c.args.sha
 pub put-requires-clause-placed : goal.put-requires-clause-placed
 put-requires-clause-placed c =
     let items = c.as_slice-frame-items.result.now in
-    let few = few_of c.args.shape c.args.skip_bad (take c.loop-frame.frame-index items) c.loop-frame.run c.loop-frame.invariant in
+    let few = few_of c.args.shape c.args.skip_bad (take c.loop-frame.frame-index items) c.loop-frame.run
+    c.loop-frame.invariant in
     let size = length-take-le c.loop-frame.frame-index items (omega arith) in
     let all = ap length c.as_slice-frame-items.ensures in
     omega (arith, few.0)
@@ -24,7 +25,8 @@ put-requires-clause-placed c =
 pub put-requires-clause-few : goal.put-requires-clause-few
 put-requires-clause-few c =
     let items = c.as_slice-frame-items.result.now in
-    let few = few_of c.args.shape c.args.skip_bad (take c.loop-frame.frame-index items) c.loop-frame.run c.loop-frame.invariant in
+    let few = few_of c.args.shape c.args.skip_bad (take c.loop-frame.frame-index items) c.loop-frame.run
+    c.loop-frame.invariant in
     let size = length-take-le c.loop-frame.frame-index items (omega arith) in
     let all = ap length c.as_slice-frame-items.ensures in
     omega (arith, few.1)
@@ -32,7 +34,8 @@ put-requires-clause-few c =
 pub send-requires : goal.send-requires
 send-requires c =
     let items = c.as_slice-frame-items.result.now in
-    let few = few_of c.args.shape c.args.skip_bad (take c.loop-frame.frame-index items) c.loop-frame.run c.loop-frame.invariant in
+    let few = few_of c.args.shape c.args.skip_bad (take c.loop-frame.frame-index items) c.loop-frame.run
+    c.loop-frame.invariant in
     let size = length-take-le c.loop-frame.frame-index items (omega arith) in
     let all = ap length c.as_slice-frame-items.ensures in
     omega (arith, few.1)
@@ -45,7 +48,8 @@ loop-frame-preserved c =
     take_more items c.loop-frame.frame-index frame (omega arith)
     ∙ ap (λ (last : Frame). take c.loop-frame.frame-index items ++ last ∷ []) (sym c.frame-item.is) in
     rw (more, c.in_ok-put.ensures)
-    (given c.args.shape c.args.skip_bad (take c.loop-frame.frame-index items) c.loop-frame.run frame (some_slots c.args.shape c.requires.transmit) c.loop-frame.invariant)
+    (given c.args.shape c.args.skip_bad (take c.loop-frame.frame-index items) c.loop-frame.run frame
+    (some_slots c.args.shape c.requires.transmit) c.loop-frame.invariant)
 
 pub returns : goal.returns
 returns c =
@@ -55,12 +59,15 @@ returns c =
     let whole : take c.loop-frame.frame-index items ≡ c.args.frames.now =
     ap (λ n. take n items) (omega arith) ∙ take-length items ∙ c.as_slice-frame-items.ensures in
     let carries : Carries shape skip (requests_of (room_of shape) c.args.frames.now) c.loop-frame.run =
-    subst (λ (frames : List Frame). Carries shape skip (requests_of (room_of shape) frames) c.loop-frame.run) whole c.loop-frame.invariant in
+    subst (λ (frames : List Frame). Carries shape skip (requests_of (room_of shape) frames) c.loop-frame.run) whole
+    c.loop-frame.invariant in
     let last : c.send.new.self ≡ sent_once c.loop-frame.run = c.in_ok-send.ensures in
     let comes = ended shape skip (requests_of (room_of shape) c.args.frames.now) c.loop-frame.run carries in
     let same = (send_carries shape skip (requests_of (room_of shape) c.args.frames.now) c.loop-frame.run carries).shape_is in
-    let least : 20 ≤ room_of (sent_once c.loop-frame.run).ring.shape = subst (λ (run : Transmitter). 20 ≤ room_of run.ring.shape) last c.tell.ensures.least in
-    let small : room_of (sent_once c.loop-frame.run).ring.shape + 48 < 2 ^ 32 = subst (λ (run : Transmitter). room_of run.ring.shape + 48 < 2 ^ 32) last c.tell.ensures.small in
+    let least : 20 ≤ room_of (sent_once c.loop-frame.run).ring.shape =
+    subst (λ (run : Transmitter). 20 ≤ room_of run.ring.shape) last c.tell.ensures.least in
+    let small : room_of (sent_once c.loop-frame.run).ring.shape + 48 < 2 ^ 32 =
+    subst (λ (run : Transmitter). room_of run.ring.shape + 48 < 2 ^ 32) last c.tell.ensures.small in
     c.tell.ensures.told
     ∙ ap (λ (run : Transmitter). told_of run c.as_slice.result.now) last
     ∙ ap (told_of (sent_once c.loop-frame.run)) c.as_slice.ensures

@@ -6,4 +6,5 @@ use Rattle.tx_ring.proofs.transmission.transmit_frames.Given as goal
 
 -- the frames so far were given to the run
 abbrev pub invariant-loop-frame : goal.invariant-loop-frame
-invariant-loop-frame l = Carries l.fn.shape l.fn.skip_bad (requests_of (room_of l.fn.shape) (take l.frame-index l.frame-items)) l.run
+invariant-loop-frame l =
+    Carries l.fn.shape l.fn.skip_bad (requests_of (room_of l.fn.shape) (take l.frame-index l.frame-items)) l.run

@@ -17,7 +17,8 @@ loop-other-init c =
     let x = c.in-Some.last in
     let passes = c.pop.new.self.items in
     let items = c.in-Some.ensures.items in
-    let own = all_but (IsPassAt web c.args.count) passes x (subst (AllByRecursion (IsPassAt web c.args.count)) items c.requires.own) in
+    let own = all_but (IsPassAt web c.args.count) passes x
+    (subst (AllByRecursion (IsPassAt web c.args.count)) items c.requires.own) in
     let parts = one_part v x (one_of v.parts) ok.one (ap part_of c.last.view_is) in
     let long : length v.parts ≡ 1 = ap length parts in
     record {
@@ -53,7 +54,8 @@ loop-other-preserved c =
     let x = c.in-Some-pop.other in
     let passes = c.pop-in-loop-other.new.self.items in
     let items = c.in-Some-pop.ensures.items in
-    let own = all_but (IsPassAt web c.args.count) passes x (subst (AllByRecursion (IsPassAt web c.args.count)) items inv.rest) in
+    let own = all_but (IsPassAt web c.args.count) passes x
+    (subst (AllByRecursion (IsPassAt web c.args.count)) items inv.rest) in
     let rule = c.absorb.ensures.rule in
     let had = inv.some in
     let long = ap (λ (u : Log). length u.parts) rule ∙ length-append w.parts v.parts in
@@ -63,7 +65,8 @@ loop-other-preserved c =
       all = ap (λ (u : Log). u.all) rule ∙ inv.all;
       none = ap (λ (u : Log). u.left) rule ∙ inv.none;
       parts = ap (λ (u : Log). parts_of passes ++ u.parts) rule
-          ∙ joined passes c.loop-other.passes.items x w v.parts items (one_part w x (one_of w.parts) ok.one (ap part_of c.other.view_is))
+          ∙ joined passes c.loop-other.passes.items x w v.parts items
+          (one_part w x (one_of w.parts) ok.one (ap part_of c.other.view_is))
           ∙ inv.parts;
       rest = own.0;
     }

@@ -12,7 +12,8 @@ another-pass-requires-clause-rule c =
     let left = c.args.passes - n in
     let some : 0 < left = omega arith in
     forks _ v (fresh n) (fresh_parts (n + 1) (left - 1))
-    (same_all v c.args.passes (fresh n ∷ fresh_parts (n + 1) (left - 1)) (log_first v c.args.passes n left c.loop.invariant.rest some))
+    (same_all v c.args.passes (fresh n ∷ fresh_parts (n + 1) (left - 1))
+    (log_first v c.args.passes n left c.loop.invariant.rest some))
 
 pub invariant_of-push : goal.invariant_of-push
 invariant_of-push c =
@@ -41,7 +42,8 @@ loop-preserved c =
           ∙ ap (λ (k : ℕ). log c.args.passes (fresh_parts (n + 1) k) []) less;
       made = c.in_ok-push.ensures.items
           ∙ ap (λ (p : PassValue). c.loop.made.items ++ p ∷ [])
-          (value_is c.another-pass.result.web id c.another-pass.result.me.view.client c.args.passes n c.another-pass.ensures.queue.2.0.0 first)
+          (value_is c.another-pass.result.web id c.another-pass.result.me.view.client c.args.passes n
+          c.another-pass.ensures.queue.2.0.0 first)
           ∙ ap (λ (made : List PassValue). made ++ fresh_pass id c.args.passes n ∷ []) c.loop.invariant.made
           ∙ passes_more id c.args.passes n (n + 1) next;
     }
@@ -56,6 +58,7 @@ returns c =
     let last : v ≡ log c.args.passes (fresh n ∷ []) [] =
     c.loop.invariant.rest ∙ ap (λ (k : ℕ). log c.args.passes (fresh_parts n k) []) one in
     c.in_ok-push-2.ensures.items
-    ∙ ap (λ (p : PassValue). c.loop.made.items ++ p ∷ []) (value_is c.loop.root.web id v c.args.passes n c.loop.invariant.own.0.0 last)
+    ∙ ap (λ (p : PassValue). c.loop.made.items ++ p ∷ [])
+    (value_is c.loop.root.web id v c.args.passes n c.loop.invariant.own.0.0 last)
     ∙ ap (λ (made : List PassValue). made ++ fresh_pass id c.args.passes n ∷ []) c.loop.invariant.made
     ∙ passes_more id c.args.passes n c.args.passes next

@@ -21,9 +21,11 @@ hand-requires-clause-lawful g c =
     let text = c.from_vec-text.result in
     let same_shape : shape ≡ c.args.self.now.shape = ap (λ (v : HandingValue). v.shape) c.self.view_is in
     let same : text ≡ c.text_of.result.now = search rules in
-    let t = subst (λ (s : RingRequest). (number : ℕ) × (status : ℕ) × BeginsLawfully s number status bytes) (c.requires.readable.shape_is ∙ sym same_shape) c.requires.readable.text in
+    let t = subst (λ (s : RingRequest). (number : ℕ) × (status : ℕ) × BeginsLawfully s number status bytes)
+    (c.requires.readable.shape_is ∙ sym same_shape) c.requires.readable.text in
     copy_lawful c.a_text_is_read_as_it_was_written.ensures shape bytes text c.a_shape_is_sound.ensures.sound.small
-    (copied_text shape c.args.block.now.shape bytes text c.text_of.result.now (c.requires.readable.shape_is ∙ sym same_shape) same c.text_of.ensures) t
+    (copied_text shape c.args.block.now.shape bytes text c.text_of.result.now (c.requires.readable.shape_is ∙ sym same_shape)
+    same c.text_of.ensures) t
 
 pub invariant_of-self : goal.invariant_of-self
 invariant_of-self g c =
@@ -40,9 +42,11 @@ returns-in-Ok-clause-read g c =
     let same_shape : shape ≡ c.args.self.now.shape = ap (λ (v : HandingValue). v.shape) c.self.view_is in
     let same_pass : old ≡ c.args.self.now.pass.handed = ap (λ (v : HandingValue). v.pass.handed) c.self.view_is in
     let same : text ≡ c.text_of.result.now = search rules in
-    let t = subst (λ (s : RingRequest). (number : ℕ) × (status : ℕ) × BeginsLawfully s number status bytes) (c.requires.readable.shape_is ∙ sym same_shape) c.requires.readable.text in
+    let t = subst (λ (s : RingRequest). (number : ℕ) × (status : ℕ) × BeginsLawfully s number status bytes)
+    (c.requires.readable.shape_is ∙ sym same_shape) c.requires.readable.text in
     let says = copy_says c.a_text_is_read_as_it_was_written.ensures shape bytes text c.a_shape_is_sound.ensures.sound.small
-    (copied_text shape c.args.block.now.shape bytes text c.text_of.result.now (c.requires.readable.shape_is ∙ sym same_shape) same c.text_of.ensures) t in
+    (copied_text shape c.args.block.now.shape bytes text c.text_of.result.now (c.requires.readable.shape_is ∙ sym same_shape)
+    same c.text_of.ensures) t in
     ap (λ (p : PassValue). works_taken p.handed) c.in-Ok.ensures.handed
     ∙ map-append work_taken old (work ∷ [])
     ∙ ap (λ (taken : Taken). works_taken old ++ taken ∷ []) says

@@ -19,7 +19,8 @@ returns g c =
     record {
       shape_is = cc;
       text_is = rw packets (c.write.ensures.held g.text.number old holds.text_is place);
-      closing_is = rw (time, count, place, c.need.ensures) (sym (closing_push shape g.text.offers offer holds.writable c.requires.1.0));
+      closing_is = rw (time, count, place, c.need.ensures)
+          (sym (closing_push shape g.text.offers offer holds.writable c.requires.1.0));
       writable = writable_push g.text.offers offer holds.writable c.requires.1.0;
       end_is = omega arith;
       fits = omega arith;

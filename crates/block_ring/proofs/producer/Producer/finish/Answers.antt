@@ -21,5 +21,6 @@ returns-clause-texts g c =
     let machine = c.self.inside.machine in
     let shape = ap (λ (p : Producing g.row.E.Denot). p.shape) c.self.view_is in
     let feed = g.E.FeederEnd.feed c.finish-end.result.0 in
-    let texts = subst (λ s. RepresentsTexts machine.shape s.done feed) (sym (state_of-push (size_of machine.shape) machine.notes.items Finished)) c.finish-end.ensures.texts in
+    let texts = subst (λ s. RepresentsTexts machine.shape s.done feed)
+    (sym (state_of-push (size_of machine.shape) machine.notes.items Finished)) c.finish-end.ensures.texts in
     rw (← shape, c.from_vec.ensures, c.push_reserved.ensures.items, c.finish-end.ensures.notes) texts

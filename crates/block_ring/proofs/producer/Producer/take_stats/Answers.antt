@@ -20,14 +20,16 @@ invariant_of-self g c =
     let new = c.take_stats-stats.new.self in
     let s = state_of (size_of machine.shape) machine.notes.items in
     let end = keeps_end _ _ (ap g.E.FeederEnd.feed c.take_stats-stats.ensures.end) in
-    let numbers = numbers_after machine.notes.items Counted NotAsked _ _ c.self.invariant.numbers (ap (λ e. (g.E.FeederEnd.feed e).found) c.take_stats-stats.ensures.end) refl in
+    let numbers = numbers_after machine.notes.items Counted NotAsked _ _ c.self.invariant.numbers
+    (ap (λ e. (g.E.FeederEnd.feed e).found) c.take_stats-stats.ensures.end) refl in
     let step : Stepped g.E.FeederEnd.feed s Counted machine new =
     record { at = c.take_stats-stats.ensures.at; may_follow = tt; end = end; shape = c.take_stats-stats.ensures.same.0 } in
     let spare = ap (λ (p : Producing g.row.E.Denot). p.spare) c.self.view_is in
     kept_on g.E.FeederEnd.feed machine new machine.notes.items Counted _ _ c.self.invariant step
     tt (omega (arith, end.holds, c.self.invariant.looks)) numbers c.push_reserved.new.self c.push_reserved.new.self.items
     (rw (c.push_reserved.ensures.items, c.take_stats-stats.ensures.same.1))
-    (rw (c.push_reserved.ensures.capacity, c.take_stats-stats.ensures.same.1) (omega (arith, spare, c.in_ok-reserve.ensures.ok)))
+    (rw (c.push_reserved.ensures.capacity, c.take_stats-stats.ensures.same.1)
+    (omega (arith, spare, c.in_ok-reserve.ensures.ok)))
     c.take_stats-stats.ensures.few
 
 pub returns-clause-taken : goal.returns-clause-taken
@@ -37,7 +39,8 @@ returns-clause-taken g c =
     let new = c.take_stats-stats.new.self in
     let s = state_of (size_of machine.shape) machine.notes.items in
     let end = keeps_end _ _ (ap g.E.FeederEnd.feed c.take_stats-stats.ensures.end) in
-    let numbers = numbers_after machine.notes.items Counted NotAsked _ _ c.self.invariant.numbers (ap (λ e. (g.E.FeederEnd.feed e).found) c.take_stats-stats.ensures.end) refl in
+    let numbers = numbers_after machine.notes.items Counted NotAsked _ _ c.self.invariant.numbers
+    (ap (λ e. (g.E.FeederEnd.feed e).found) c.take_stats-stats.ensures.end) refl in
     let step : Stepped g.E.FeederEnd.feed s Counted machine new =
     record { at = c.take_stats-stats.ensures.at; may_follow = tt; end = end; shape = c.take_stats-stats.ensures.same.0 } in
     let pushed : c.push_reserved.new.self.items ≡ machine.notes.items ++ Counted ∷ [] =
@@ -47,8 +50,10 @@ returns-clause-taken g c =
     let less = spare_less machine.notes.items c.push_reserved.new.self.items Counted room room_after pushed
     (c.push_reserved.ensures.capacity ∙ ap (λ v. vec_capacity v) c.take_stats-stats.ensures.same.1) in
     let adds = added g.E.FeederEnd.feed machine new machine.notes.items Counted room 0 c.self.invariant step
-    tt (omega (arith, end.holds, c.self.invariant.looks)) numbers (room - length machine.notes.items - 1) (room_after - length c.push_reserved.new.self.items - 1)
+    tt (omega (arith, end.holds, c.self.invariant.looks)) numbers (room - length machine.notes.items - 1)
+    (room_after - length c.push_reserved.new.self.items - 1)
     c.push_reserved.new.self.items less pushed in (
-      adds_given g.E.FeederEnd.feed c.args.self.now _ c.reserve.new.self _ c.self.view_is c.reserve.ensures.stays c.reserve.ensures.more Counted adds,
+      adds_given g.E.FeederEnd.feed c.args.self.now _ c.reserve.new.self _ c.self.view_is c.reserve.ensures.stays
+          c.reserve.ensures.more Counted adds,
       c.take_stats-stats.ensures.stats ∙ ap (λ (p : Producing g.row.E.Denot). stats_of (state p)) same,
     )

@@ -6,7 +6,8 @@ use Rattle.tp_layout.specs.Requests.{size_of}
 use Rattle.block_ring.specs.Machines.{Stepped}
 use Rattle.block_ring.specs.Producers.{Producing, Ticks, state}
 use Rattle.block_ring.proofs.Notings.{numbers_after}
-use Rattle.block_ring.proofs.Steps.{added, clock_tick, few_after, kept_on, looks_more, spare_less, tick_looked, tick_number, ticks_given}
+use Rattle.block_ring.proofs.Steps.{added, clock_tick, few_after, kept_on, looks_more, spare_less, tick_looked, tick_number}
+use Rattle.block_ring.proofs.Steps.{ticks_given}
 use Rattle.block_ring.proofs.producer.Producer.tick.Goals as goal
 
 pub tick-found-requires : goal.tick-found-requires
@@ -35,14 +36,22 @@ invariant_of-self g c =
     let found = c.tick-found.result in
     let s = state_of (size_of machine.shape) machine.notes.items in
     let step : Stepped g.E.FeederEnd.feed s (Ticked c.args.ms found) machine c.tick-found.new.self =
-    record { at = c.tick-found.ensures.at; may_follow = c.tick-found.ensures.may_follow; end = c.tick-found.ensures.end; shape = c.tick-found.ensures.same.0 } in
-    let looks = looks_more machine.notes.items (Ticked c.args.ms found) _ _ c.self-2.invariant.looks few c.tick-found.ensures.end.holds
+    record {
+      at = c.tick-found.ensures.at;
+      may_follow = c.tick-found.ensures.may_follow;
+      end = c.tick-found.ensures.end;
+      shape = c.tick-found.ensures.same.0;
+    } in
+    let looks = looks_more machine.notes.items (Ticked c.args.ms found) _ _ c.self-2.invariant.looks few
+    c.tick-found.ensures.end.holds
     (tick_looked c.args.ms found _ _ c.tick-found.ensures.looked) in
-    let numbers = numbers_after machine.notes.items (Ticked c.args.ms found) found _ _ c.self-2.invariant.numbers c.tick-found.ensures.number (tick_number c.args.ms found) in
+    let numbers = numbers_after machine.notes.items (Ticked c.args.ms found) found _ _ c.self-2.invariant.numbers
+    c.tick-found.ensures.number (tick_number c.args.ms found) in
     let spare = ap (λ (p : Producing g.row.E.Denot). p.spare) c.self-2.view_is in
     let clock = clock_tick (size_of machine.shape) s c.args.ms found in
     let clock_after = c.tick-found.ensures.at.clock_is in
-    kept_on g.E.FeederEnd.feed machine c.tick-found.new.self machine.notes.items (Ticked c.args.ms found) _ _ c.self-2.invariant step
+    kept_on g.E.FeederEnd.feed machine c.tick-found.new.self machine.notes.items (Ticked c.args.ms found) _ _
+    c.self-2.invariant step
     tt looks numbers c.push_reserved.new.self c.push_reserved.new.self.items
     (rw (c.push_reserved.ensures.items, c.tick-found.ensures.same.1))
     (rw (c.push_reserved.ensures.capacity, c.tick-found.ensures.same.1) (omega (arith, spare, c.in_ok-reserve.ensures.ok)))
@@ -59,10 +68,17 @@ returns-clause-ticked g c =
     let s = state_of (size_of machine.shape) machine.notes.items in
     let note = Ticked c.args.ms found in
     let step : Stepped g.E.FeederEnd.feed s note machine c.tick-found.new.self =
-    record { at = c.tick-found.ensures.at; may_follow = c.tick-found.ensures.may_follow; end = c.tick-found.ensures.end; shape = c.tick-found.ensures.same.0 } in
-    let looks = looks_more machine.notes.items (Ticked c.args.ms found) _ _ c.self-2.invariant.looks few c.tick-found.ensures.end.holds
+    record {
+      at = c.tick-found.ensures.at;
+      may_follow = c.tick-found.ensures.may_follow;
+      end = c.tick-found.ensures.end;
+      shape = c.tick-found.ensures.same.0;
+    } in
+    let looks = looks_more machine.notes.items (Ticked c.args.ms found) _ _ c.self-2.invariant.looks few
+    c.tick-found.ensures.end.holds
     (tick_looked c.args.ms found _ _ c.tick-found.ensures.looked) in
-    let numbers = numbers_after machine.notes.items (Ticked c.args.ms found) found _ _ c.self-2.invariant.numbers c.tick-found.ensures.number (tick_number c.args.ms found) in
+    let numbers = numbers_after machine.notes.items (Ticked c.args.ms found) found _ _ c.self-2.invariant.numbers
+    c.tick-found.ensures.number (tick_number c.args.ms found) in
     let pushed : c.push_reserved.new.self.items ≡ machine.notes.items ++ note ∷ [] =
     rw (c.push_reserved.ensures.items, c.tick-found.ensures.same.1) in
     let room = vec_capacity machine.notes in
@@ -80,6 +96,7 @@ returns-clause-ticked g c =
       exact = c.tick-found.ensures.exact;
     } in (
       found,
-      ticks_given g.E.FeederEnd.feed c.args.self.now _ c.reserve.new.self _ c.self-2.view_is c.reserve.ensures.stays c.reserve.ensures.more
+      ticks_given g.E.FeederEnd.feed c.args.self.now _ c.reserve.new.self _ c.self-2.view_is c.reserve.ensures.stays
+          c.reserve.ensures.more
           c.args.ms found ticks,
     )

@@ -10,7 +10,8 @@ loop-answer-init c = goes_first _ _ _ (same_accepted _ _ c.self.invariant c.as_s
 
 pub perform-requires : goal.perform-requires
 perform-requires c =
-    (accepted_at _ _ _ (same_accepted _ _ c.self.invariant c.as_slice-code.ensures.value) c.loop-answer.invariant.inside).fits.runnable
+    (accepted_at _ _ _ (same_accepted _ _ c.self.invariant c.as_slice-code.ensures.value)
+    c.loop-answer.invariant.inside).fits.runnable
 
 pub returns-in-Answer : goal.returns-in-Answer
 returns-in-Answer c =
@@ -29,7 +30,8 @@ pub overflow_add-at : goal.overflow_add-at
 overflow_add-at c =
     let code = same_accepted _ _ c.self.invariant c.as_slice-code.ensures.value in
     let inside : c.loop-answer.at + c.in-Go.further < length c.as_slice-code.result.now =
-    (goes_further _ _ _ _ _ _ _ c.loop-answer.invariant (accepted_at _ _ _ code c.loop-answer.invariant.inside) c.in-Go.ensures.further c.in-Go.ensures.next).inside in
+    (goes_further _ _ _ _ _ _ _ c.loop-answer.invariant (accepted_at _ _ _ code c.loop-answer.invariant.inside)
+    c.in-Go.ensures.further c.in-Go.ensures.next).inside in
     let few : length c.as_slice-code.result.now ≤ 4096 = accepted_small _ code in
     omega arith
 

@@ -4,7 +4,11 @@ use Rattle.cpu_feed.proofs.Piecewise.{reads_none, reads_on}
 use Rattle.cpu_feed.proofs.feed.CpuFeed.fill.Goals as goal
 
 pub reading-init : goal.reading-init
-reading-init g c = record { read = reads_none c.args.self.now; waits = λ waits. refl; failed = λ before failed. absurd (before failed) }
+reading-init g c = record {
+  read = reads_none c.args.self.now;
+  waits = λ waits. refl;
+  failed = λ before failed. absurd (before failed);
+}
 
 pub reading-preserved : goal.reading-preserved
 reading-preserved g c = record {

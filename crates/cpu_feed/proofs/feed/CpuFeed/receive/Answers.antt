@@ -9,6 +9,8 @@ use Rattle.cpu_feed.proofs.feed.CpuFeed.receive.Goals as goal
 
 pub returns-clause-lawful : goal.returns-clause-lawful
 returns-clause-lawful g c =
-    subst (λ (cpu : Feeding). OnOk c.receive.result ((lens : Lens) (frames : List Frame) → AgreesAt c.args.arrival.cpu lens (lens_of c.args.rules.now)
-    → IsPathTo (rules_by cpu.path.shape lens) frames c.args.arrival cpu.path → IsPath (rules_by cpu.path.shape lens) frames c.receive.new.self))
+    subst (λ (cpu : Feeding). OnOk c.receive.result
+    ((lens : Lens) (frames : List Frame) → AgreesAt c.args.arrival.cpu lens (lens_of c.args.rules.now)
+    → IsPathTo (rules_by cpu.path.shape lens) frames c.args.arrival cpu.path
+    → IsPath (rules_by cpu.path.shape lens) frames c.receive.new.self))
     c.self.view_is c.receive.ensures.lawful

@@ -13,7 +13,8 @@ add_to_each-requires c = record {
 
 pub returns-clause-users : goal.returns-clause-users
 returns-clause-users c =
-    let users = grown_users c.args.self.now.members.items c.push.new.self.items c.in_ok-member.member (c.args.cpus + 1) c.args.self.now.users.items
+    let users = grown_users c.args.self.now.members.items c.push.new.self.items c.in_ok-member.member (c.args.cpus + 1)
+    c.args.self.now.users.items
     c.add_to_each.new.lists.items c.in_ok-member.member_seats.items c.requires.users c.in_ok-member.ensures.member_seats in
     search (rules, users, c.in_ok-push.ensures.items)
 
@@ -25,6 +26,7 @@ returns-clause-opened c =
       first = c.in_ok-member.ensures.first;
       fresh = c.in_ok-member.ensures.walker;
     } in
-    let more = zip_more (IsOpened c.args.shape.now c.args.cpus) _ _ _ _ c.in_ok-member.member c.in_ok-member.end c.in_ok-push.ensures.items
+    let more = zip_more (IsOpened c.args.shape.now c.args.cpus) _ _ _ _ c.in_ok-member.member c.in_ok-member.end
+    c.in_ok-push.ensures.items
     c.in_ok-push-2.ensures.items c.requires.opened opened in
     search (rules, more)

@@ -36,7 +36,8 @@ returns-clause-same g c =
     c.index-members-at.is c.index_mut-member_seat.ensures.value in
     let ready = subst (λ (seat : Seat). IsReady c.index-members-at.result c.args.offer.frame.cpu seat)
     (sym c.index_mut-member_seat.ensures.value)
-    (subst (λ (lock : Lock). IsReady lock c.args.offer.frame.cpu (get_or group.member_seats.now.items c.args.member c.index_mut-member_seat.result.now))
+    (subst (λ (lock : Lock). IsReady lock c.args.offer.frame.cpu
+    (get_or group.member_seats.now.items c.args.member c.index_mut-member_seat.result.now))
     (sym c.index-members-at.is) (c.requires.takes.ready c.index-members-at.result c.index_mut-member_seat.result.now)) in
     of_both c.try_turn.result _ _ c.try_turn.ensures.tried c.try_turn.ensures.err
     (λ answer turn. takes (try_by c.args.offer turn.found ∷ []) turn.turned c.args.offer.frame.cpu ready)

@@ -5,4 +5,5 @@ use Rattle.fanout_group.proofs.judgements.ArrivalRules.judge.Goals as goal
 
 pub returns-clause-judged : goal.returns-clause-judged
 returns-clause-judged c = λ group agree.
-    judged_alike c.args.arrival group (lens_of c.args.self.now) agree c.args.self.now.room c.args.ticket _ _ (search rules) (search rules)
+    judged_alike c.args.arrival group (lens_of c.args.self.now) agree c.args.self.now.room c.args.ticket _ _ (search rules)
+    (search rules)

@@ -16,16 +16,20 @@ returns-clause-received g c =
     let now : Path = c.args.self.now in
     let mode_is = c.mode.ensures ∙ ap (λ (path : Path). path.shape.mode) c.self.view_is in
     is_received g.G.Desk.made g.G.Group.drew c.args.rules.now c.args.arrival _ _ now _ _ _
-    (is_admitted g.G.Desk.made g.G.Group.drew c.args.rules.now c.args.arrival _ _ now.shape _ _ _ _ mode_is c.draw-ticket.ensures.ticket
+    (is_admitted g.G.Desk.made g.G.Group.drew c.args.rules.now c.args.arrival _ _ now.shape _ _ _ _ mode_is
+    c.draw-ticket.ensures.ticket
     c.draw-ticket.ensures.drawn c.judge-entry.ensures.entry c.judge-entry.ensures.judged)
     _ c.offer_to.new.present c.offer_to.new.entry
-    (subst (λ (path : Path). AreTriesOf IsRoute g.G.Desk.made path.shape c.judge-entry.result.entry.ticket c.args.rules.now.queue path.present
-    c.judge-entry.result.offer c.offer_to.new.entry.tries c.draw-ticket.new.group c.offer_to.new.group) c.self.view_is c.in_ok-offer_to.ensures.tried)
+    (subst (λ (path : Path). AreTriesOf IsRoute g.G.Desk.made path.shape c.judge-entry.result.entry.ticket
+    c.args.rules.now.queue path.present
+    c.judge-entry.result.offer c.offer_to.new.entry.tries c.draw-ticket.new.group c.offer_to.new.group) c.self.view_is
+    c.in_ok-offer_to.ensures.tried)
     c.offer_to.ensures.entry (search rules) (search rules)
 
 pub returns-clause-lawful : goal.returns-clause-lawful
 returns-clause-lawful g c = λ lens frames agrees.
-    stays_lawful g.G.Desk.made g.G.Group.drew c.args.rules.now c.args.arrival c.args.self.now _ _ _ (returns-clause-received g c) lens agrees frames
+    stays_lawful g.G.Desk.made g.G.Group.drew c.args.rules.now c.args.arrival c.args.self.now _ _ _
+    (returns-clause-received g c) lens agrees frames
 
 pub returns-in_err-offer_to-clause-given_up : goal.returns-in_err-offer_to-clause-given_up
 returns-in_err-offer_to-clause-given_up g c =
@@ -33,11 +37,14 @@ returns-in_err-offer_to-clause-given_up g c =
     let mode_is = c.mode.ensures ∙ ap (λ (path : Path). path.shape.mode) c.self.view_is in
     after_err c.from_residual-in_err-offer_to.result _
     (is_given_up g.G.Desk.made g.G.Group.drew c.args.rules.now c.args.arrival _ _ now _ _ _
-    (is_admitted g.G.Desk.made g.G.Group.drew c.args.rules.now c.args.arrival _ _ now.shape _ _ _ _ mode_is c.draw-ticket.ensures.ticket
+    (is_admitted g.G.Desk.made g.G.Group.drew c.args.rules.now c.args.arrival _ _ now.shape _ _ _ _ mode_is
+    c.draw-ticket.ensures.ticket
     c.draw-ticket.ensures.drawn c.judge-entry.ensures.entry c.judge-entry.ensures.judged)
     c.offer_to.new.entry.tries
-    (subst (λ (path : Path). AreTriesOf IsBegun g.G.Desk.made path.shape c.judge-entry.result.entry.ticket c.args.rules.now.queue path.present
-    c.judge-entry.result.offer c.offer_to.new.entry.tries c.draw-ticket.new.group c.offer_to.new.group) c.self.view_is c.in_err-offer_to.ensures.begun))
+    (subst (λ (path : Path). AreTriesOf IsBegun g.G.Desk.made path.shape c.judge-entry.result.entry.ticket
+    c.args.rules.now.queue path.present
+    c.judge-entry.result.offer c.offer_to.new.entry.tries c.draw-ticket.new.group c.offer_to.new.group) c.self.view_is
+    c.in_err-offer_to.ensures.begun))
 
 pub returns-in_err-reserve-clause-given_up : goal.returns-in_err-reserve-clause-given_up
 returns-in_err-reserve-clause-given_up g c =
@@ -45,7 +52,9 @@ returns-in_err-reserve-clause-given_up g c =
     let mode_is = c.mode.ensures ∙ ap (λ (path : Path). path.shape.mode) c.self.view_is in
     after_err c.from_residual.result _
     (is_given_up g.G.Desk.made g.G.Group.drew c.args.rules.now c.args.arrival _ _ now _ _ _
-    (is_admitted g.G.Desk.made g.G.Group.drew c.args.rules.now c.args.arrival _ _ now.shape _ _ _ _ mode_is c.draw-ticket.ensures.ticket
+    (is_admitted g.G.Desk.made g.G.Group.drew c.args.rules.now c.args.arrival _ _ now.shape _ _ _ _ mode_is
+    c.draw-ticket.ensures.ticket
     c.draw-ticket.ensures.drawn c.judge-entry.ensures.entry c.judge-entry.ensures.judged)
-    [] (none_begun g.G.Desk.made g.met.G.Desk.none_made now.shape c.judge-entry.result.entry.ticket c.args.rules.now.queue now.present
+    [] (none_begun g.G.Desk.made g.met.G.Desk.none_made now.shape c.judge-entry.result.entry.ticket
+    c.args.rules.now.queue now.present
     c.judge-entry.result.offer c.draw-ticket.new.group))

@@ -12,14 +12,20 @@ with-extent-requires c = kept_most c.self.inside.fragments.items c.self.inside.e
 
 pub add_to-requires : goal.add_to-requires
 add_to-requires c =
-    let fits : list_any (conflicts c.args.fragment) c.self.inside.fragments.items ≡ false = ap (λ (g : Group). list_any (conflicts c.args.fragment) g.fragments) c.self.view_is ∙ c.requires.fits in
-    record { kept = rw c.with-extent.ensures (kept_push c.self.inside.fragments.items c.args.fragment c.self.inside.extent c.self.invariant.0 c.requires.taken fits) }
+    let fits : list_any (conflicts c.args.fragment) c.self.inside.fragments.items ≡ false =
+    ap (λ (g : Group). list_any (conflicts c.args.fragment) g.fragments) c.self.view_is ∙ c.requires.fits in
+    record {
+      kept = rw c.with-extent.ensures
+          (kept_push c.self.inside.fragments.items c.args.fragment c.self.inside.extent c.self.invariant.0
+          c.requires.taken fits);
+    }
 
 pub invariant_of-self-2 : goal.invariant_of-self-2
 invariant_of-self-2 c =
     let frames = c.self.inside.fragments.items in
     let fragment = c.args.fragment in
-    let fits : list_any (conflicts fragment) frames ≡ false = ap (λ (g : Group). list_any (conflicts fragment) g.fragments) c.self.view_is ∙ c.requires.fits in
+    let fits : list_any (conflicts fragment) frames ≡ false =
+    ap (λ (g : Group). list_any (conflicts fragment) g.fragments) c.self.view_is ∙ c.requires.fits in
     rw (c.in_ok-whole.ensures.added, c.with-extent.ensures) (
       kept_push frames fragment c.self.inside.extent c.self.invariant.0 c.requires.taken fits,
       marked_more c.self.inside.marks frames fragment c.self.invariant.1,

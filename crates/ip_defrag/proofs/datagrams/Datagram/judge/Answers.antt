@@ -9,7 +9,8 @@ use Rattle.ip_defrag.proofs.datagrams.Datagram.judge.Goals as goal
 
 pub returns-then-from-self-clause-judged : goal.returns-then-from-self-clause-judged
 returns-then-from-self-clause-judged c =
-    let after : c.self.inside.extent.reach ≤ from_of c.args.new.now = omega (arith, c.from.ensures.place, c.if-from-self.true) in
+    let after : c.self.inside.extent.reach ≤ from_of c.args.new.now =
+    omega (arith, c.from.ensures.place, c.if-from-self.true) in
     let some : from_of c.args.new.now < to_of c.args.new.now = omega (arith, c.from.ensures.place, c.from.ensures.some) in
     c.apart.ensures ∙ ap (λ (b : Bool). cond b Conflict Fits) c.is_some.ensures
     ∙ sym (after_all c.args.new.now c.self.inside.fragments.items c.self.inside.extent c.self.invariant.0 some after)

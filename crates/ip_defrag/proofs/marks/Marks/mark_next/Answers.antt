@@ -18,9 +18,12 @@ returns-clause-marked c =
     let next = c.index-fragments-self.result in
     let some : from_of next < to_of next = omega (arith, c.from.ensures.place, c.from.ensures.some) in
     let len = ap length (sym c.deref_mut.ensures.value) ∙ c.deref_mut.ensures.len in
-    let made = c.mark.ensures ∙ ap (marked (c.from.result / 8) c.units_to-last.result (c.args.self.now.count + 1)) c.deref_mut.ensures.value in
+    let made = c.mark.ensures ∙ ap (marked (c.from.result / 8) c.units_to-last.result (c.args.self.now.count + 1))
+    c.deref_mut.ensures.value in
     record {
       few = omega (arith, c.requires.some);
-      are = marked_next c.args.self.now c.widen.new.marks.items c.mark.new.marks c.args.fragments.now next c.from.result c.to.result c.units_to-last.result c.widen.new.marks.len
-          c.requires.marked c.requires.held c.requires.some c.index-fragments-self.is some c.from.ensures.place c.to.ensures.place c.units_to-last.ensures c.in_ok-widen.ensures.wide len made;
+      are = marked_next c.args.self.now c.widen.new.marks.items c.mark.new.marks c.args.fragments.now next c.from.result
+          c.to.result c.units_to-last.result c.widen.new.marks.len
+          c.requires.marked c.requires.held c.requires.some c.index-fragments-self.is some c.from.ensures.place
+          c.to.ensures.place c.units_to-last.ensures c.in_ok-widen.ensures.wide len made;
     }

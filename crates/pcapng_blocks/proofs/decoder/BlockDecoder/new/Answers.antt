@@ -17,4 +17,5 @@ invariant_of-result c = record {
 }
 
 pub returns : goal.returns
-returns c = represents_new c.args.cpu c.new.result.items (spot c.new-2.result.items) c.new.ensures.items (ap spot c.new-2.ensures.items)
+returns c = represents_new c.args.cpu c.new.result.items (spot c.new-2.result.items) c.new.ensures.items
+    (ap spot c.new-2.ensures.items)

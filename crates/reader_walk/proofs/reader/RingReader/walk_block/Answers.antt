@@ -9,7 +9,8 @@ invariant_of-self g c =
     let bytes = g.B.Content.bytes unit in
     let taken = g.B.Layout.taken_in own bytes in
     let reader = c.self.inside in
-    let adds : Adds taken (kept_if reader.dumps (g.B.Layout.text_of own taken)) reader.copies c.add.new.self c.add.result = record {
+    let adds : Adds taken (kept_if reader.dumps (g.B.Layout.text_of own taken)) reader.copies c.add.new.self
+    c.add.result = record {
       marks = c.add.ensures.marks;
       walked = c.add.ensures.walked;
       dump = c.add.ensures.dump;
@@ -17,7 +18,8 @@ invariant_of-self g c =
       same_walked = c.add.ensures.same_walked;
       same_dump = c.add.ensures.same_dump;
     } in (
-      sound_after g.B.Layout.text_of g.B.Layout.taken_in own reader.shape reader.dumps _ bytes reader.copies c.add.new.self _ c.add.result
+      sound_after g.B.Layout.text_of g.B.Layout.taken_in own reader.shape reader.dumps _ bytes reader.copies c.add.new.self
+          _ c.add.result
           c.requires.readable.shape_is c.self.view_is c.self.invariant.0 adds,
       c.self.invariant.1,
     )
@@ -29,7 +31,8 @@ returns-clause-read g c =
     let bytes = g.B.Content.bytes unit in
     let taken = g.B.Layout.taken_in own bytes in
     let reader = c.self.inside in
-    let adds : Adds taken (kept_if reader.dumps (g.B.Layout.text_of own taken)) reader.copies c.add.new.self c.add.result = record {
+    let adds : Adds taken (kept_if reader.dumps (g.B.Layout.text_of own taken)) reader.copies c.add.new.self
+    c.add.result = record {
       marks = c.add.ensures.marks;
       walked = c.add.ensures.walked;
       dump = c.add.ensures.dump;
@@ -37,7 +40,8 @@ returns-clause-read g c =
       same_walked = c.add.ensures.same_walked;
       same_dump = c.add.ensures.same_dump;
     } in
-    ok_after g.B.Layout.text_of g.B.Layout.taken_in own reader.shape reader.dumps _ bytes reader.copies c.add.new.self _ c.add.result
+    ok_after g.B.Layout.text_of g.B.Layout.taken_in own reader.shape reader.dumps _ bytes reader.copies c.add.new.self
+    _ c.add.result
     c.requires.readable.shape_is c.self.view_is c.self.invariant.0 adds
 
 pub returns-clause-err : goal.returns-clause-err
@@ -47,7 +51,8 @@ returns-clause-err g c =
     let bytes = g.B.Content.bytes unit in
     let taken = g.B.Layout.taken_in own bytes in
     let reader = c.self.inside in
-    let adds : Adds taken (kept_if reader.dumps (g.B.Layout.text_of own taken)) reader.copies c.add.new.self c.add.result = record {
+    let adds : Adds taken (kept_if reader.dumps (g.B.Layout.text_of own taken)) reader.copies c.add.new.self
+    c.add.result = record {
       marks = c.add.ensures.marks;
       walked = c.add.ensures.walked;
       dump = c.add.ensures.dump;
@@ -55,5 +60,6 @@ returns-clause-err g c =
       same_walked = c.add.ensures.same_walked;
       same_dump = c.add.ensures.same_dump;
     } in
-    err_after g.B.Layout.text_of g.B.Layout.taken_in own reader.shape reader.dumps _ bytes reader.copies c.add.new.self _ c.add.result
+    err_after g.B.Layout.text_of g.B.Layout.taken_in own reader.shape reader.dumps _ bytes reader.copies c.add.new.self
+    _ c.add.result
     c.requires.readable.shape_is c.self.view_is c.self.invariant.0 adds

@@ -20,4 +20,5 @@ new-requires-2 c =
     let same = subst (λ (blocks : List ShapedBytes). AllByRecursion (λ block. numbers_of block.shape ≡ numbers_of shape) blocks)
     (sym c.in_ok-blocks.ensures) (one_kind shape shape.block_nr) in
     fresh_end shape _ _ c.in_ok-ring.ring c.in_ok-ring.ensures.fresh (c.in_ok-ring.ensures.kind (numbers_of shape) same)
-    (ap (λ (blocks : List ShapedBytes). length blocks) c.in_ok-blocks.ensures ∙ length-replicate shape.block_nr (zero_block shape))
+    (ap (λ (blocks : List ShapedBytes). length blocks) c.in_ok-blocks.ensures
+    ∙ length-replicate shape.block_nr (zero_block shape))

@@ -3,4 +3,5 @@ use Rattle.receive_ring.proofs.SlotCalls.{added}
 use Rattle.receive_ring.proofs.slot_rings.SlotProducerPlainRingSlotReceiveRing.take_stats.Goals as goal
 
 pub returns-clause-ok : goal.returns-clause-ok
-returns-clause-ok c = added c.a_slot_is_read_as_it_was_written.ensures c.args.self.now c.take_stats.new.self Counted c.in_ok-take_stats.ensures.taken
+returns-clause-ok c = added c.a_slot_is_read_as_it_was_written.ensures c.args.self.now c.take_stats.new.self Counted
+    c.in_ok-take_stats.ensures.taken

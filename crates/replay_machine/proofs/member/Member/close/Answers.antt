@@ -8,12 +8,23 @@ use Rattle.replay_machine.proofs.ReadBlocks.{all_read, few_read, free_hand, next
 use Rattle.replay_machine.proofs.member.Member.close.Goals as goal
 
 pub close-requires : goal.close-requires
-close-requires g c = record { may = may_be g.R.ReceiveRing.may g.R.Unit.Layout.taken_in g.R.ReceiveRing.reads g.R.ReceiveRing.steps g.K.Setting.shape g.K.Setting.dumps (record { ring = g.R.ReceiveRing.seen c.self.inside.ring; reader = c.self.inside.reader; stuck = c.self.inside.stuck }) c.self.invariant }
+close-requires g c =
+    record {
+      may = may_be g.R.ReceiveRing.may g.R.Unit.Layout.taken_in g.R.ReceiveRing.reads g.R.ReceiveRing.steps
+          g.K.Setting.shape g.K.Setting.dumps
+          (record { ring = g.R.ReceiveRing.seen c.self.inside.ring; reader = c.self.inside.reader; stuck = c.self.inside.stuck })
+          c.self.invariant;
+    }
 
 pub waiting-init : goal.waiting-init
 waiting-init g c =
-    closing_read g.R.ReceiveRing.may g.R.Unit.Layout.taken_in g.R.ReceiveRing.reads g.R.ReceiveRing.steps g.K.Setting.shape g.K.Setting.dumps g.met.R.ReceiveRing.reads_grow
-    (record { ring = g.R.ReceiveRing.seen c.self.inside.ring; reader = c.self.inside.reader; stuck = c.self.inside.stuck }) c.args.self
+    closing_read g.R.ReceiveRing.may g.R.Unit.Layout.taken_in g.R.ReceiveRing.reads g.R.ReceiveRing.steps g.K.Setting.shape
+    g.K.Setting.dumps g.met.R.ReceiveRing.reads_grow
+    (record {
+      ring = g.R.ReceiveRing.seen c.self.inside.ring;
+      reader = c.self.inside.reader;
+      stuck = c.self.inside.stuck;
+    }) c.args.self
     _ _ c.self.invariant c.if-self.false c.self.view_is c.in_ok-waiting.ensures
 
 pub step-requires-clause-kind : goal.step-requires-clause-kind
@@ -22,36 +33,47 @@ step-requires-clause-kind g c =
 
 pub step-requires-clause-hand : goal.step-requires-clause-hand
 step-requires-clause-hand g c =
-    free_hand g.R.Unit.Layout.taken_in g.K.Setting.shape g.K.Setting.dumps (g.R.ReceiveRing.reads g.K.Setting.shape (noted c.args.self Finished).notes)
+    free_hand g.R.Unit.Layout.taken_in g.K.Setting.shape g.K.Setting.dumps
+    (g.R.ReceiveRing.reads g.K.Setting.shape (noted c.args.self Finished).notes)
     c.waiting.waiting c.waiting.reader c.waiting.invariant
 
 pub step-requires-clause-few : goal.step-requires-clause-few
 step-requires-clause-few g c =
-    few_read g.R.Unit.Layout.taken_in g.K.Setting.shape g.K.Setting.dumps (g.R.ReceiveRing.reads g.K.Setting.shape (noted c.args.self Finished).notes)
+    few_read g.R.Unit.Layout.taken_in g.K.Setting.shape g.K.Setting.dumps
+    (g.R.ReceiveRing.reads g.K.Setting.shape (noted c.args.self Finished).notes)
     c.waiting.waiting c.waiting.reader c.waiting.invariant
-    (few_closed g.R.ReceiveRing.may g.R.Unit.Layout.taken_in g.R.ReceiveRing.reads g.R.ReceiveRing.steps g.K.Setting.shape g.K.Setting.dumps g.met.R.ReceiveRing.reads_few
-    (record { ring = g.R.ReceiveRing.seen c.self.inside.ring; reader = c.self.inside.reader; stuck = c.self.inside.stuck }) c.args.self c.self.invariant c.self.view_is)
+    (few_closed g.R.ReceiveRing.may g.R.Unit.Layout.taken_in g.R.ReceiveRing.reads g.R.ReceiveRing.steps g.K.Setting.shape
+    g.K.Setting.dumps g.met.R.ReceiveRing.reads_few
+    (record { ring = g.R.ReceiveRing.seen c.self.inside.ring; reader = c.self.inside.reader; stuck = c.self.inside.stuck })
+    c.args.self c.self.invariant c.self.view_is)
 
 pub waiting-smaller : goal.waiting-smaller
 waiting-smaller g c =
-    let one = next_read g.R.Unit.Layout.taken_in g.K.Setting.shape g.K.Setting.dumps (g.R.ReceiveRing.reads g.K.Setting.shape (noted c.args.self Finished).notes)
-    c.waiting.waiting c.step.new.end c.waiting.reader c.step.new.self c.waiting.invariant (c.in_ok-step.ensures.read c.if-branch.true) c.in_ok-step.ensures.hand in
+    let one = next_read g.R.Unit.Layout.taken_in g.K.Setting.shape g.K.Setting.dumps
+    (g.R.ReceiveRing.reads g.K.Setting.shape (noted c.args.self Finished).notes)
+    c.waiting.waiting c.step.new.end c.waiting.reader c.step.new.self c.waiting.invariant
+    (c.in_ok-step.ensures.read c.if-branch.true) c.in_ok-step.ensures.hand in
     one.fewer
 
 pub waiting-preserved : goal.waiting-preserved
 waiting-preserved g c =
-    let one = next_read g.R.Unit.Layout.taken_in g.K.Setting.shape g.K.Setting.dumps (g.R.ReceiveRing.reads g.K.Setting.shape (noted c.args.self Finished).notes)
-    c.waiting.waiting c.step.new.end c.waiting.reader c.step.new.self c.waiting.invariant (c.in_ok-step.ensures.read c.if-branch.true) c.in_ok-step.ensures.hand in
+    let one = next_read g.R.Unit.Layout.taken_in g.K.Setting.shape g.K.Setting.dumps
+    (g.R.ReceiveRing.reads g.K.Setting.shape (noted c.args.self Finished).notes)
+    c.waiting.waiting c.step.new.end c.waiting.reader c.step.new.self c.waiting.invariant
+    (c.in_ok-step.ensures.read c.if-branch.true) c.in_ok-step.ensures.hand in
     one.has
 
 pub returns : goal.returns
 returns g c =
-    let none = none_read g.R.Unit.Layout.taken_in g.K.Setting.shape g.K.Setting.dumps (g.R.ReceiveRing.reads g.K.Setting.shape (noted c.args.self Finished).notes)
+    let none = none_read g.R.Unit.Layout.taken_in g.K.Setting.shape g.K.Setting.dumps
+    (g.R.ReceiveRing.reads g.K.Setting.shape (noted c.args.self Finished).notes)
     c.waiting.waiting c.step.new.end c.waiting.reader c.step.new.self c.waiting.invariant
     (c.in_ok-step.ensures.stays c.if-branch.false) (c.in_ok-step.ensures.same c.if-branch.false)
     (c.in_ok-step.ensures.waiting c.if-branch.false (length c.waiting.waiting.shown) refl) in
-    closed_report g.R.Unit.Layout.text_of g.R.ReceiveRing.reads g.K.Setting.shape g.K.Setting.dumps _ _ c.step.new.self c.outputs-outputs.result c.args.self
+    closed_report g.R.Unit.Layout.text_of g.R.ReceiveRing.reads g.K.Setting.shape g.K.Setting.dumps _ _ c.step.new.self
+    c.outputs-outputs.result c.args.self
     c.in_ok-waiting.ensures.notes_are (ap (λ (ring : Ring). ring.notes) c.self.view_is) none.has.shape_is none.has.asked_is
-    (all_read g.R.Unit.Layout.taken_in g.K.Setting.shape g.K.Setting.dumps (g.R.ReceiveRing.reads g.K.Setting.shape (noted c.args.self Finished).notes)
+    (all_read g.R.Unit.Layout.taken_in g.K.Setting.shape g.K.Setting.dumps
+    (g.R.ReceiveRing.reads g.K.Setting.shape (noted c.args.self Finished).notes)
     c.waiting.waiting c.step.new.end c.step.new.self none)
     c.outputs-outputs.ensures

@@ -6,7 +6,8 @@ use Rattle.replay_machine.proofs.member.Member.close.Given as goal
 
 abbrev pub invariant-waiting : goal.invariant-waiting
 invariant-waiting g l =
-    HasRead g.R.Unit.Layout.taken_in g.K.Setting.shape g.K.Setting.dumps (g.R.ReceiveRing.reads g.K.Setting.shape (noted l.fn.self Finished).notes) l.waiting l.reader
+    HasRead g.R.Unit.Layout.taken_in g.K.Setting.shape g.K.Setting.dumps
+    (g.R.ReceiveRing.reads g.K.Setting.shape (noted l.fn.self Finished).notes) l.waiting l.reader
 
 abbrev pub decreases-waiting : goal.decreases-waiting
 decreases-waiting g l = length l.waiting.shown

@@ -10,7 +10,8 @@ abbrev pub invariant-feeding : goal.invariant-feeding
 invariant-feeding g l = record {
   run : IsRun (g.R.ReceiveRing.steps g.K.Setting.shape) l.job l.self;
   does : (all : List (List Frame)) → AreAllOf all l.self.cpus → AreAllOf all l.initial.self.cpus
-      × (fed_whole (g.R.ReceiveRing.steps g.K.Setting.shape) l.job l.cpu (whole all l.self) ≡ fed_whole (g.R.ReceiveRing.steps g.K.Setting.shape) l.job l.cpu (whole all l.initial.self));
+      × (fed_whole (g.R.ReceiveRing.steps g.K.Setting.shape) l.job l.cpu (whole all l.self)
+      ≡ fed_whole (g.R.ReceiveRing.steps g.K.Setting.shape) l.job l.cpu (whole all l.initial.self));
   firsts : firsts_of l.self ≡ firsts_of l.initial.self;
   cpus : (one : Feeding) × (l.self.cpus ≡ slice_set l.initial.self.cpus l.cpu one);
   counted : (lines : ℕ) → IsCounted lines l.initial.self → IsCounted lines l.self;

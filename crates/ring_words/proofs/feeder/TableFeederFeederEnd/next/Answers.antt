@@ -7,7 +7,8 @@ pub load-word-requires : goal.load-word-requires
 load-word-requires g c =
     let hand = rw (← c.self.view_is) at c.requires.hand in
     let room = rw (← c.self.view_is) at c.requires.room in
-    rw c.deref.ensures (may_look g.B.Content.bytes g.B.Content.kind g.B.Content.ready _ _ _ _ _ _ _ _ c.self.invariant.0 c.self.invariant.1 hand room)
+    rw c.deref.ensures (may_look g.B.Content.bytes g.B.Content.kind g.B.Content.ready _ _ _ _ _ _ _ _ c.self.invariant.0
+    c.self.invariant.1 hand room)
 
 pub exchange-requires : goal.exchange-requires
 exchange-requires g c =
@@ -24,5 +25,6 @@ invariant_of-self-2 g c =
     let hand = rw (← c.self.view_is) at c.requires.hand in
     let room = rw (← c.self.view_is) at c.requires.room in (
       still_seated _ _ _ _ c.self.invariant.0 (c.exchange.ensures.0 ∙ c.load-word.ensures.0),
-      keeps_free g.B.Content.bytes g.B.Content.kind g.B.Content.ready _ _ _ _ _ _ _ _ c.self.invariant.1 hand room found c.exchange.ensures.3,
+      keeps_free g.B.Content.bytes g.B.Content.kind g.B.Content.ready _ _ _ _ _ _ _ _ c.self.invariant.1 hand room found
+          c.exchange.ensures.3,
     )

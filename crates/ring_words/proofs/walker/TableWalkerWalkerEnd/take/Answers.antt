@@ -7,7 +7,8 @@ pub load-word-requires : goal.load-word-requires
 load-word-requires g c =
     let none_out = rw (← c.self.view_is) at c.requires in
     let hand : c.self.inside.taken ≤ c.self.inside.released = grind (arith, nat_tests, none_out) in
-    rw c.deref.ensures (may_fetch g.B.Content.bytes g.B.Content.kind g.B.Content.ready _ _ _ _ _ _ _ _ c.self.invariant.0 c.self.invariant.1 hand)
+    rw c.deref.ensures (may_fetch g.B.Content.bytes g.B.Content.kind g.B.Content.ready _ _ _ _ _ _ _ _ c.self.invariant.0
+    c.self.invariant.1 hand)
 
 pub exchange-requires : goal.exchange-requires
 exchange-requires g c =

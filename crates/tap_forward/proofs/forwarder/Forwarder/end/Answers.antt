@@ -16,6 +16,8 @@ give_all-requires-clause-counted c =
 
 pub returns : goal.returns
 returns c =
-    ended c.self.inside c.args.self c.give_all.new.self c.send.new.self c.walked.result.now c.give_all.new.given c.outputs.result c.self.invariant
-    c.self.view_is c.walked.ensures c.in_ok-give_all.ensures.all c.give_all.ensures.given c.send.ensures.given c.give_all.ensures.shape
+    ended c.self.inside c.args.self c.give_all.new.self c.send.new.self c.walked.result.now c.give_all.new.given
+    c.outputs.result c.self.invariant
+    c.self.view_is c.walked.ensures c.in_ok-give_all.ensures.all c.give_all.ensures.given c.send.ensures.given
+    c.give_all.ensures.shape
     c.send.ensures.shape c.in_ok-send.ensures.emptied c.outputs.ensures

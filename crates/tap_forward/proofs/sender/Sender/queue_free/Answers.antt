@@ -8,5 +8,6 @@ returns-clause-given c = λ given packet frame was.
     let ring = c.args.self.now.ring in
     let bytes = c.args.frame.now in
     queues c.args.self.now _ given packet bytes frame
-    (c.queue.ensures.placed ∙ placed ring bytes tt (free_ok ring bytes c.requires.going.going c.requires.fits c.requires.free c.requires.going.some))
+    (c.queue.ensures.placed ∙ placed ring bytes tt
+    (free_ok ring bytes c.requires.going.going c.requires.fits c.requires.free c.requires.going.some))
     refl refl c.requires.whole c.requires.fits was

@@ -10,7 +10,8 @@ returns-in-Ok-clause-given c = λ given packet frame was.
     let ring = c.args.self.now.ring in
     let bytes = c.args.frame.now in
     let ok = sym c.in-Ok.ensures.answer in
-    queues c.args.self.now _ given packet bytes frame (c.queue.ensures.placed ∙ placed ring bytes _ ok) refl refl c.requires.whole
+    queues c.args.self.now _ given packet bytes frame (c.queue.ensures.placed ∙ placed ring bytes _ ok) refl refl
+    c.requires.whole
     (fits_ok ring bytes _ c.requires.going.going ok) was
 
 pub returns-in-Err-TooLong-clause-given : goal.returns-in-Err-TooLong-clause-given
@@ -19,4 +20,6 @@ returns-in-Err-TooLong-clause-given c = λ given packet frame was.
     let bytes = c.args.frame.now in
     let err : place_answer ring bytes ≡ Err TooLong = sym (rw c.in-Err-TooLong.field-0-is at c.in-Err-TooLong.ensures.answer) in
     skips c.args.self.now _ given packet (c.queue.ensures.placed ∙ refused ring bytes TooLong err) refl refl
-    (is_long (room_of ring.shape) packet (subst (λ (b : List ℕ). room_of ring.shape < length b) (sym frame) (too_long ring bytes c.requires.going.going err))) was
+    (is_long (room_of ring.shape) packet
+    (subst (λ (b : List ℕ). room_of ring.shape < length b) (sym frame) (too_long ring bytes c.requires.going.going err)))
+    was

@@ -4,7 +4,8 @@ use Rattle.tap_forward.proofs.sender.Sender.send.Goals as goal
 
 pub unreachable-requires : goal.unreachable-requires
 unreachable-requires c =
-    none_bad_at c.args.self.now.ring c.in-Err-BadSlot.field-0 c.in-Err-BadSlot.field-0-0 c.requires c.in-Err-BadSlot.field-0-is c.in-Err-BadSlot.ensures.answer
+    none_bad_at c.args.self.now.ring c.in-Err-BadSlot.field-0 c.in-Err-BadSlot.field-0-0 c.requires c.in-Err-BadSlot.field-0-is
+    c.in-Err-BadSlot.ensures.answer
 
 pub returns-in-Ok-clause-given : goal.returns-in-Ok-clause-given
 returns-in-Ok-clause-given c = λ given was.

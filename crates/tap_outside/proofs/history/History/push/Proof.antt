@@ -14,7 +14,8 @@ use contract.Lifetimes.{AllOutlive}
 use contract.Monad.{Fun}
 use contract.Running.{tables, tables_of}
 use types.Logic.{Logic}
-use types.Kit.{‵, ◌⊛◌, ◌$◌, ◌∵◌, !, qed, by, move, keep, drop, use1, split, join, fsplit, fsplit3, fjoin, fjoin3, feq_i, suffices, frame, done}
+use types.Kit.{‵, ◌⊛◌, ◌$◌, ◌∵◌, !, qed, by, move, keep, drop, use1, split, join, fsplit, fsplit3, fjoin, fjoin3, feq_i}
+use types.Kit.{suffices, frame, done}
 use types.Run.{unit_lit, of_opd, returns, enter}
 use types.SemTy.{Body}
 use types.ByLocal.{alloc_all, pass_all, free_all, look_at, sets}
@@ -30,7 +31,8 @@ use denote.Triple.Clauses.{Ended}
 use denote.Triple.Entry.{on_entry}
 use denote.Triple.Spec.{Meets, triple_of}
 use denote.Triple.Table.{entered}
-use denote.Triple.Walked.{says, Stays, stay_ref, stay_none_ref, walk_of, AllGo, Goes-ref, Goes-none_ref, Walks, ends_at, walked, walk_Meets}
+use denote.Triple.Walked.{says, Stays, stay_ref, stay_none_ref, walk_of, AllGo, Goes-ref, Goes-none_ref, Walks, ends_at, walked}
+use denote.Triple.Walked.{walk_Meets}
 use Rattle.tap_outside.specs.contracts.history.History as History
 use Rattle.tap_outside.specs.contracts.history.History.push as F
 use Rattle.tap_outside.specs.contracts.history.History.push.Key.{name as #self}
@@ -62,7 +64,9 @@ module _ (T : RattleType) where
   abbrev stayed : Stays ended.signature.params ended.kept
   stayed = (stay_ref (0 ∷ []) tt (plain (λ _. S)), (stay_none_ref (1 ∷ []) tt (plain (λ _. R)) yes, tt))
 
-  module _ {M : Type 1} {𝓤 : Ura M} (𝓛 : Logic 𝓤) (at_mem : Memory → SProp 𝓤) (run : Routine → Fun 𝓤) (κ κ' κ'' : Lft) (q q' q'' : Share) (b o : ℕ) (γ : GName) (h : S.Denot) (k : Bor More) (lives : AllOutlive ended.signature.lifetimes ended.signature.outlives (κ, (κ', (κ'', tt)))) where
+  module _ {M : Type 1} {𝓤 : Ura M} (𝓛 : Logic 𝓤) (at_mem : Memory → SProp 𝓤) (run : Routine → Fun 𝓤) (κ κ' κ'' : Lft)
+      (q q' q'' : Share) (b o : ℕ) (γ : GName) (h : S.Denot) (k : Bor More)
+      (lives : AllOutlive ended.signature.lifetimes ended.signature.outlives (κ, (κ', (κ'', tt)))) where
     open 𝓛 use {H, A}
 
     abbrev x : Arg
@@ -78,19 +82,30 @@ module _ (T : RattleType) where
     rest = owns (ShrRef (named 1) κ' R ∷ []) x.1 at.1
 
     abbrev Post : Val → SProp 𝓤
-    Post = (walk_of 𝓛 ended stayed (F.clauses T 𝓛 at_mem run)).post (((κ, (κ', (κ'', tt))), (q, (q', (q'', tt))), lives, x, at), tt)
+    Post = (walk_of 𝓛 ended stayed (F.clauses T 𝓛 at_mem run)).post
+        (((κ, (κ', (κ'', tt))), (q, (q', (q'', tt))), lives, x, at), tt)
 
-    exits : ent 𝓤 (sep 𝓤 (A.obs γ (S.coded.code h')) (sep 𝓤 (A.bor κ (Body (mem S) b o γ)) (sep 𝓤 (A.lft κ q) (sep 𝓤 (types.Logic.sem 𝓛 rest) (sep 𝓤 (A.lft κ' q') (sep 𝓤 (A.lft κ'' q'') (emp 𝓤))))))) (Post vunit)
+    exits : ent 𝓤
+        (sep 𝓤 (A.obs γ (S.coded.code h'))
+        (sep 𝓤 (A.bor κ (Body (mem S) b o γ))
+        (sep 𝓤 (A.lft κ q) (sep 𝓤 (types.Logic.sem 𝓛 rest) (sep 𝓤 (A.lft κ' q') (sep 𝓤 (A.lft κ'' q'') (emp 𝓤)))))))
+        (Post vunit)
     exits =
-        qed 𝓛 (‵ (fobs γ (S.coded.code h')) ∷ ‵ (fbor κ (Body (mem S) b o γ)) ∷ ‵ (flft κ q) ∷ ‵ rest ∷ (‵ (flft κ' q') ⊛ (‵ (flft κ'' q'') ⊛ ‵ ftrue)) ∷ []) ∵
-        suffices ! _ (ends_at 𝓛 ended stayed (F.clauses T 𝓛 at_mem run) (((κ, (κ', (κ'', tt))), (q, (q', (q'', tt))), lives, x, at), tt) vunit tt (h', (tt, tt)) (tt, (tt, tt))) $ says ! refl $ move ! (2 ∷ 4 ∷ []) $ join ! $
+        qed 𝓛 (‵ (fobs γ (S.coded.code h')) ∷ ‵ (fbor κ (Body (mem S) b o γ)) ∷ ‵ (flft κ q) ∷ ‵ rest
+        ∷ (‵ (flft κ' q') ⊛ (‵ (flft κ'' q'') ⊛ ‵ ftrue)) ∷ []) ∵
+        suffices ! _ (ends_at 𝓛 ended stayed (F.clauses T 𝓛 at_mem run)
+        (((κ, (κ', (κ'', tt))), (q, (q', (q'', tt))), lives, x, at), tt) vunit tt (h', (tt, tt)) (tt, (tt, tt))) $ says !
+        refl $ move ! (2 ∷ 4 ∷ []) $ join ! $
         frame ! $ feq_i ! (List Val) (vptr b o ∷ []) (vptr b o ∷ []) refl $ fjoin3 ! $ fjoin ! $
         feq_i ! (List Val) (vunit ∷ []) (vunit ∷ []) refl $ move ! (1 ∷ 0 ∷ []) $ done !
 
     module _ (C : Calls 𝓤 H) (Λ : Loops 𝓤 H) where
-      walk : ent 𝓤 (on_entry 𝓛 ended.signature (κ, (κ', (κ'', tt))) (q, (q', (q'', tt))) x at) (WpFn 𝓤 H C Λ function (vptr b o ∷ vptr k.ref_ptr.0 k.ref_ptr.1 ∷ []) Post)
+      walk : ent 𝓤 (on_entry 𝓛 ended.signature (κ, (κ', (κ'', tt))) (q, (q', (q'', tt))) x at)
+          (WpFn 𝓤 H C Λ function (vptr b o ∷ vptr k.ref_ptr.0 k.ref_ptr.1 ∷ []) Post)
       walk =
-          qed 𝓛 ((‵ (flft κ q) ⊛ (‵ (flft κ' q') ⊛ (‵ (flft κ'' q'') ⊛ ‵ ftrue))) ∷ ‵ (owns (MutRef (named 0) κ S ∷ ShrRef (named 1) κ' R ∷ []) x at) ∷ []) ∵ split ! $ move ! (2 ∷ []) $ fsplit ! $ fsplit3 ! $ drop ! $ move ! (0 ∷ 1 ∷ 3 ∷ []) $
+          qed 𝓛 ((‵ (flft κ q) ⊛ (‵ (flft κ' q') ⊛ (‵ (flft κ'' q'') ⊛ ‵ ftrue)))
+          ∷ ‵ (owns (MutRef (named 0) κ S ∷ ShrRef (named 1) κ' R ∷ []) x at) ∷ []) ∵ split ! $ move ! (2 ∷ []) $ fsplit !
+          $ fsplit3 ! $ drop ! $ move ! (0 ∷ 1 ∷ 3 ∷ []) $
           enter ! C Λ function (vptr b o ∷ vptr k.ref_ptr.0 k.ref_ptr.1 ∷ []) _ $
           alloc_all ! (λ l. pass_all ! refl ((tt, tt), ((tt, tt), tt)) $
           move ! (0 ∷ 1 ∷ 2 ∷ []) $ opens ! tt S {h = h} b o (λ vs.
@@ -103,14 +118,18 @@ module _ (T : RattleType) where
     open 𝓛 use {H}
 
     walks : (C : Calls 𝓤 H) (Λ : Loops 𝓤 H) → Walks 𝓛 ended stayed (WpFn 𝓤 H C Λ function) (F.clauses T 𝓛 at_mem run)
-    walks C Λ = walked 𝓛 ended stayed (F.clauses T 𝓛 at_mem run) (WpFn 𝓤 H C Λ function) (λ κs. (mut_vals, (shr_vals, tt))) (λ κs. (mut_Tells (named 0) κs.0 S, (shr_Tells (named 1) κs.1.0 R, tt)))
-        (λ κs qs bounds a g are. via 𝓤 _ (fst∗ 𝓤 _ ((F.clauses T 𝓛 at_mem run κs a).requires g)) (walk 𝓛 at_mem run κs.0 κs.1.0 κs.1.1.0 qs.0 qs.1.0 qs.1.1.0 a.0.ref_ptr.0 a.0.ref_ptr.1 a.0.ghost_name a.0.now a.1.0 bounds C Λ))
+    walks C Λ = walked 𝓛 ended stayed (F.clauses T 𝓛 at_mem run) (WpFn 𝓤 H C Λ function) (λ κs. (mut_vals, (shr_vals, tt)))
+        (λ κs. (mut_Tells (named 0) κs.0 S, (shr_Tells (named 1) κs.1.0 R, tt)))
+        (λ κs qs bounds a g are. via 𝓤 _ (fst∗ 𝓤 _ ((F.clauses T 𝓛 at_mem run κs a).requires g))
+        (walk 𝓛 at_mem run κs.0 κs.1.0 κs.1.1.0 qs.0 qs.1.0 qs.1.1.0 a.0.ref_ptr.0 a.0.ref_ptr.1 a.0.ghost_name a.0.now
+        a.1.0 bounds C Λ))
 
     goes : AllGo 𝓛 3 ended.signature.params ended.kept stayed
     goes = (Goes-ref 𝓛 3 0 tt (plain (λ _. S)), (Goes-none_ref 𝓛 3 (1 ∷ []) tt (plain (λ _. R)) yes, tt))
 
     meets : (𝓣 : Tables 𝓤 H) → Meets 𝓛 ended.signature (WpFn 𝓤 H 𝓣.C 𝓣.Λ function) (F.spec T 𝓛 at_mem run)
-    meets 𝓣 = walk_Meets 𝓛 ended stayed goes (F.clauses T 𝓛 at_mem run) (WpFn 𝓤 H 𝓣.C 𝓣.Λ function) (WpFn-mono 𝓤 H 𝓛.laws 𝓣 function) (walks 𝓣.C 𝓣.Λ)
+    meets 𝓣 = walk_Meets 𝓛 ended stayed goes (F.clauses T 𝓛 at_mem run) (WpFn 𝓤 H 𝓣.C 𝓣.Λ function)
+        (WpFn-mono 𝓤 H 𝓛.laws 𝓣 function) (walks 𝓣.C 𝓣.Λ)
 
 pub push_spec : {M : Type 1} → stated.statement M
 unfolding tables_of

@@ -24,7 +24,8 @@ pub overflow_cast-count : goal.overflow_cast-count
 overflow_cast-count c =
     let l = c.loop-packet in
     let next = next_part c.args.piece.now l.from _ _ (seen c.in-Some.packet) l.invariant.joined c.in-Some.ensures.steps in
-    let within : l.from + length c.in-Some.packet.bytes.now ≤ length c.args.piece.now = part_within _ _ _ l.from l.invariant.within next in
+    let within : l.from + length c.in-Some.packet.bytes.now ≤ length c.args.piece.now =
+    part_within _ _ _ l.from l.invariant.within next in
     omega (arith, within, c.requires.small)
 
 pub part-requires : goal.part-requires
@@ -43,7 +44,8 @@ pub overflow_add-from : goal.overflow_add-from
 overflow_add-from c =
     let l = c.loop-packet in
     let next = next_part c.args.piece.now l.from _ _ (seen c.in-Some.packet) l.invariant.joined c.in-Some.ensures.steps in
-    let within : l.from + length c.in-Some.packet.bytes.now ≤ length c.args.piece.now = part_within _ _ _ l.from l.invariant.within next in
+    let within : l.from + length c.in-Some.packet.bytes.now ≤ length c.args.piece.now =
+    part_within _ _ _ l.from l.invariant.within next in
     omega (arith, within, c.requires.small)
 
 pub push_reserved-requires : goal.push_reserved-requires
@@ -54,9 +56,17 @@ loop-packet-preserved c =
     let l = c.loop-packet in
     let next = next_part c.args.piece.now l.from _ _ (seen c.in-Some.packet) l.invariant.joined c.in-Some.ensures.steps in
     record {
-      copies = rw (c.push_reserved.ensures.items, c.with_bytes.ensures) (one_more l.into.items _ _ _ (seen c.in-Some.packet) l.invariant.copies c.in-Some.ensures.steps);
-      front = rw c.push_reserved.ensures.items (front_kept c.reserve.new.self.items l.into.items c.with_bytes.result l.invariant.front);
-      room = omega (arith, ap length c.in-Some.ensures.steps, l.invariant.room, c.push_reserved.ensures.len, c.push_reserved.ensures.capacity);
+      copies = rw (c.push_reserved.ensures.items, c.with_bytes.ensures)
+          (one_more l.into.items _ _ _ (seen c.in-Some.packet) l.invariant.copies c.in-Some.ensures.steps);
+      front = rw c.push_reserved.ensures.items
+          (front_kept c.reserve.new.self.items l.into.items c.with_bytes.result l.invariant.front);
+      room = omega (
+        arith,
+        ap length c.in-Some.ensures.steps,
+        l.invariant.room,
+        c.push_reserved.ensures.len,
+        c.push_reserved.ensures.capacity,
+      );
       within = part_within _ _ _ l.from l.invariant.within next;
       joined = part_rest _ _ _ l.from next;
     }

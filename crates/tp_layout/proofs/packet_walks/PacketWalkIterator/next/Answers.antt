@@ -8,7 +8,8 @@ returns-then-self-eq0-clause-steps c =
     (none, none)
 
 pub packet_at-packet-requires : goal.packet_at-packet-requires
-packet_at-packet-requires c = (first_passes c.self.inside.left c.self.inside.rest.now (positive _ c.if-self-eq0.false) c.self.invariant).snap
+packet_at-packet-requires c =
+    (first_passes c.self.inside.left c.self.inside.rest.now (positive _ c.if-self-eq0.false) c.self.invariant).snap
 
 pub u32_at-requires : goal.u32_at-requires
 u32_at-requires c =

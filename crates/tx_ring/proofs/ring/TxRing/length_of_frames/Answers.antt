@@ -11,8 +11,10 @@ overflow_add-length c =
     let inside = c.self.inside in
     let ring = c.args.self.now in
     let room = room_of ring.shape in
-    let short = requests_short inside.shape inside.skip_bad inside.slots inside.placed inside.taken inside.stopped ring c.self.view_is c.a_shape_is_sound.ensures.sound c.self.invariant.order c.self.invariant.few in
-    let more = counted_good room c.loop-place.place ring.requests c.loop-place.length (length (frames_in room ring.requests)) (sym c.in-Some.ensures.good) c.loop-place.invariant in
+    let short = requests_short inside.shape inside.skip_bad inside.slots inside.placed inside.taken inside.stopped ring
+    c.self.view_is c.a_shape_is_sound.ensures.sound c.self.invariant.order c.self.invariant.few in
+    let more = counted_good room c.loop-place.place ring.requests c.loop-place.length (length (frames_in room ring.requests))
+    (sym c.in-Some.ensures.good) c.loop-place.invariant in
     let frame = ap length c.in-Some.ensures.value in
     omega (arith, short, more, frame)
 
@@ -24,7 +26,8 @@ loop-place-preserved c =
     elim c.match-good_frame.branch [
       | in-Some w ↦
           let good : is_good room (request_at c.loop-place.place ring.requests) ≡ true = sym w.in-Some.ensures.good in
-          rw (w.length-is, w.in-Some.ensures.value) (counted_good room c.loop-place.place ring.requests c.loop-place.length all good c.loop-place.invariant)
+          rw (w.length-is, w.in-Some.ensures.value)
+          (counted_good room c.loop-place.place ring.requests c.loop-place.length all good c.loop-place.invariant)
       | in_default w ↦
           let bad : is_good room (request_at c.loop-place.place ring.requests) ≡ false = sym w.in_default.ensures.good in
           rw w.length-is (counted_bad room c.loop-place.place ring.requests c.loop-place.length all bad c.loop-place.invariant)
@@ -33,12 +36,15 @@ loop-place-preserved c =
 pub returns-clause-value : goal.returns-clause-value
 returns-clause-value c =
     let ring = c.args.self.now in
-    counted_all (room_of ring.shape) c.loop-place.place ring.requests c.loop-place.length _ (omega (arith, c.requested-place-end.ensures)) c.loop-place.invariant
+    counted_all (room_of ring.shape) c.loop-place.place ring.requests c.loop-place.length _
+    (omega (arith, c.requested-place-end.ensures)) c.loop-place.invariant
 
 pub returns-clause-short : goal.returns-clause-short
 returns-clause-short c =
     let inside = c.self.inside in
     let ring = c.args.self.now in
-    let whole = counted_all (room_of ring.shape) c.loop-place.place ring.requests c.loop-place.length _ (omega (arith, c.requested-place-end.ensures)) c.loop-place.invariant in
+    let whole = counted_all (room_of ring.shape) c.loop-place.place ring.requests c.loop-place.length _
+    (omega (arith, c.requested-place-end.ensures)) c.loop-place.invariant in
     rw whole
-    (requests_short inside.shape inside.skip_bad inside.slots inside.placed inside.taken inside.stopped ring c.self.view_is c.a_shape_is_sound.ensures.sound c.self.invariant.order c.self.invariant.few)
+    (requests_short inside.shape inside.skip_bad inside.slots inside.placed inside.taken inside.stopped ring c.self.view_is
+    c.a_shape_is_sound.ensures.sound c.self.invariant.order c.self.invariant.few)

@@ -18,11 +18,14 @@ loop-place-preserved c =
           (gathered_good room c.loop-place.place ring.requests c.loop-place.bytes.items all good c.loop-place.invariant)
       | in_default w ↦
           let bad : is_good room (request_at c.loop-place.place ring.requests) ≡ false = sym w.in_default.ensures.good in
-          rw w.bytes-is (gathered_bad room c.loop-place.place ring.requests c.loop-place.bytes.items all bad c.loop-place.invariant)
+          rw w.bytes-is (gathered_bad room c.loop-place.place ring.requests c.loop-place.bytes.items all bad
+          c.loop-place.invariant)
     ]
 
 pub returns-clause-short : goal.returns-clause-short
 returns-clause-short c =
     let ring = c.args.self.now in
-    let whole = gathered_all (room_of ring.shape) c.loop-place.place ring.requests c.loop-place.bytes.items _ (omega (arith, c.requested-place-end.ensures)) c.loop-place.invariant in
-    short_if_ok c.new.result c.loop-place.bytes.items c.new.ensures (rw whole (omega (arith, c.length_of_frames.ensures.value, c.length_of_frames.ensures.short)))
+    let whole = gathered_all (room_of ring.shape) c.loop-place.place ring.requests c.loop-place.bytes.items _
+    (omega (arith, c.requested-place-end.ensures)) c.loop-place.invariant in
+    short_if_ok c.new.result c.loop-place.bytes.items c.new.ensures
+    (rw whole (omega (arith, c.length_of_frames.ensures.value, c.length_of_frames.ensures.short)))

@@ -7,4 +7,5 @@ use Rattle.tx_ring.proofs.slots.Slots.asked.Goals as goal
 pub returns : goal.returns
 unfolding number_at
 returns c =
-    c.field.ensures.value ∙ ap (λ (slot : SlotState). slot.request.length) (told (slot_at c.args.self.now c.args.at) c.field.ensures.sound)
+    c.field.ensures.value ∙ ap (λ (slot : SlotState). slot.request.length)
+    (told (slot_at c.args.self.now c.args.at) c.field.ensures.sound)

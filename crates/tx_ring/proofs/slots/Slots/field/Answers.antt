@@ -9,7 +9,8 @@ pub overflow_mul-at : goal.overflow_mul-at
 overflow_mul-at c =
     let inside = c.self.inside in
     let few = c.self.invariant.few in
-    let fits = places_fit inside.shape.frame_size inside.shape.frame_nr inside.written c.args.at (vec_capacity inside.bytes) inside.bytes.items c.self.invariant (omega (arith, few)) in
+    let fits = places_fit inside.shape.frame_size inside.shape.frame_nr inside.written c.args.at (vec_capacity inside.bytes)
+    inside.bytes.items c.self.invariant (omega (arith, few)) in
     rw c.frame_size-size.ensures.value (omega (arith, fits.3))
 
 pub piece_of-requires : goal.piece_of-requires
@@ -23,11 +24,15 @@ pub returns-then-at-self-clause-value : goal.returns-then-at-self-clause-value
 returns-then-at-self-clause-value c =
     let inside = c.self.inside in
     let size = c.frame_size-size.ensures.value in
-    let there : c.piece_of.result.now ≡ take inside.shape.frame_size (drop (c.args.at * inside.shape.frame_size) inside.bytes.items) =
+    let there : c.piece_of.result.now ≡ take inside.shape.frame_size
+    (drop (c.args.at * inside.shape.frame_size) inside.bytes.items) =
     c.piece_of.ensures ∙ ap (λ (n : ℕ). take n (drop (c.args.at * n) c.as_slice.result.now)) size
-    ∙ ap (λ (bytes : List ℕ). take inside.shape.frame_size (drop (c.args.at * inside.shape.frame_size) bytes)) c.as_slice.ensures.value in
+    ∙ ap (λ (bytes : List ℕ). take inside.shape.frame_size (drop (c.args.at * inside.shape.frame_size) bytes))
+    c.as_slice.ensures.value in
     c.u32_at.ensures
-    ∙ ap (number_at 4 c.args.place) (there ∙ shown inside.shape.frame_size inside.shape.frame_nr inside.written c.args.at (vec_capacity inside.bytes) inside.bytes.items c.self.invariant (omega arith))
+    ∙ ap (number_at 4 c.args.place)
+    (there ∙ shown inside.shape.frame_size inside.shape.frame_nr inside.written c.args.at (vec_capacity inside.bytes)
+    inside.bytes.items c.self.invariant (omega arith))
     ∙ ap (λ (slots : List SlotState). number_at 4 c.args.place (slot_text (slot_at slots c.args.at))) c.self.view_is
 
 pub returns-then-at-self-clause-sound : goal.returns-then-at-self-clause-sound
@@ -35,19 +40,24 @@ returns-then-at-self-clause-sound c =
     let inside = c.self.inside in
     let kept = c.self.invariant in
     let few = kept.few in
-    let sound = each_sound inside.shape.frame_size inside.shape.frame_nr inside.written c.args.at (vec_capacity inside.bytes) inside.bytes.items c.self.invariant (omega (arith, few)) in
+    let sound = each_sound inside.shape.frame_size inside.shape.frame_nr inside.written c.args.at (vec_capacity inside.bytes)
+    inside.bytes.items c.self.invariant (omega (arith, few)) in
     subst (λ (slots : List SlotState). IsSound (slot_at slots c.args.at)) c.self.view_is sound
 
 pub returns-else-at-self-clause-value : goal.returns-else-at-self-clause-value
 returns-else-at-self-clause-value c =
     let inside = c.self.inside in
-    let less = less_of inside.shape.frame_size inside.shape.frame_nr inside.written c.args.at inside.bytes.items c.args.self.now c.self.invariant.few c.self.view_is c.requires.within in
-    unwritten_number inside.shape.frame_size inside.shape.frame_nr inside.written c.args.at (vec_capacity inside.bytes) c.args.place inside.bytes.items c.self.invariant (omega arith) less c.requires.header
+    let less = less_of inside.shape.frame_size inside.shape.frame_nr inside.written c.args.at inside.bytes.items c.args.self.now
+    c.self.invariant.few c.self.view_is c.requires.within in
+    unwritten_number inside.shape.frame_size inside.shape.frame_nr inside.written c.args.at (vec_capacity inside.bytes)
+    c.args.place inside.bytes.items c.self.invariant (omega arith) less c.requires.header
     ∙ ap (λ (slots : List SlotState). number_at 4 c.args.place (slot_text (slot_at slots c.args.at))) c.self.view_is
 
 pub returns-else-at-self-clause-sound : goal.returns-else-at-self-clause-sound
 returns-else-at-self-clause-sound c =
     let inside = c.self.inside in
-    let less = less_of inside.shape.frame_size inside.shape.frame_nr inside.written c.args.at inside.bytes.items c.args.self.now c.self.invariant.few c.self.view_is c.requires.within in
+    let less = less_of inside.shape.frame_size inside.shape.frame_nr inside.written c.args.at inside.bytes.items c.args.self.now
+    c.self.invariant.few c.self.view_is c.requires.within in
     subst (λ (slots : List SlotState). IsSound (slot_at slots c.args.at)) c.self.view_is
-    (each_sound inside.shape.frame_size inside.shape.frame_nr inside.written c.args.at (vec_capacity inside.bytes) inside.bytes.items c.self.invariant less)
+    (each_sound inside.shape.frame_size inside.shape.frame_nr inside.written c.args.at (vec_capacity inside.bytes)
+    inside.bytes.items c.self.invariant less)

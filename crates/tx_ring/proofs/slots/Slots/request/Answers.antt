@@ -8,58 +8,72 @@ pub overflow_add-at : goal.overflow_add-at
 overflow_add-at c =
     let inside = c.self.inside in
     let kept = c.self.invariant in
-    let less = less_of inside.shape.frame_size inside.shape.frame_nr inside.written c.args.at inside.bytes.items c.args.self.now kept.few c.self.view_is c.requires.within in
-    let fits = places_fit inside.shape.frame_size inside.shape.frame_nr inside.written c.args.at (vec_capacity inside.bytes) inside.bytes.items kept less in
+    let less = less_of inside.shape.frame_size inside.shape.frame_nr inside.written c.args.at inside.bytes.items c.args.self.now
+    kept.few c.self.view_is c.requires.within in
+    let fits = places_fit inside.shape.frame_size inside.shape.frame_nr inside.written c.args.at (vec_capacity inside.bytes)
+    inside.bytes.items kept less in
     omega (arith, fits.0)
 
 pub write_zeros-self-inside-requires-clause-small : goal.write_zeros-self-inside-requires-clause-small
 write_zeros-self-inside-requires-clause-small c =
     let inside = c.self.inside in
     let kept = c.self.invariant in
-    let less = less_of inside.shape.frame_size inside.shape.frame_nr inside.written c.args.at inside.bytes.items c.args.self.now kept.few c.self.view_is c.requires.within in
-    let fits = places_fit inside.shape.frame_size inside.shape.frame_nr inside.written c.args.at (vec_capacity inside.bytes) inside.bytes.items kept less in
+    let less = less_of inside.shape.frame_size inside.shape.frame_nr inside.written c.args.at inside.bytes.items c.args.self.now
+    kept.few c.self.view_is c.requires.within in
+    let fits = places_fit inside.shape.frame_size inside.shape.frame_nr inside.written c.args.at (vec_capacity inside.bytes)
+    inside.bytes.items kept less in
     rw c.frame_size-size.ensures.value fits.1
 
 pub write_zeros-self-inside-requires-clause-room : goal.write_zeros-self-inside-requires-clause-room
 write_zeros-self-inside-requires-clause-room c =
     let inside = c.self.inside in
     let kept = c.self.invariant in
-    let less = less_of inside.shape.frame_size inside.shape.frame_nr inside.written c.args.at inside.bytes.items c.args.self.now kept.few c.self.view_is c.requires.within in
-    let fits = places_fit inside.shape.frame_size inside.shape.frame_nr inside.written c.args.at (vec_capacity inside.bytes) inside.bytes.items kept less in
+    let less = less_of inside.shape.frame_size inside.shape.frame_nr inside.written c.args.at inside.bytes.items c.args.self.now
+    kept.few c.self.view_is c.requires.within in
+    let fits = places_fit inside.shape.frame_size inside.shape.frame_nr inside.written c.args.at (vec_capacity inside.bytes)
+    inside.bytes.items kept less in
     rw c.frame_size-size.ensures.value fits.2
 
 pub write_slot-requires-clause-fits : goal.write_slot-requires-clause-fits
 write_slot-requires-clause-fits c =
     let inside = c.self.inside in
     let kept = c.self.invariant in
-    let less = less_of inside.shape.frame_size inside.shape.frame_nr inside.written c.args.at inside.bytes.items c.args.self.now kept.few c.self.view_is c.requires.within in
+    let less = less_of inside.shape.frame_size inside.shape.frame_nr inside.written c.args.at inside.bytes.items c.args.self.now
+    kept.few c.self.view_is c.requires.within in
     let sizes = ap (λ (slots : List SlotState). (slot_at slots c.args.at).size) c.self.view_is in
-    let each = each_size inside.shape.frame_size inside.shape.frame_nr inside.written c.args.at (vec_capacity inside.bytes) inside.bytes.items kept less in
+    let each = each_size inside.shape.frame_size inside.shape.frame_nr inside.written c.args.at (vec_capacity inside.bytes)
+    inside.bytes.items kept less in
     omega (arith, sizes, each, c.requires.fits, c.frame_size-size.ensures.value)
 
 pub write_slot-requires-clause-slot : goal.write_slot-requires-clause-slot
 write_slot-requires-clause-slot c =
     let inside = c.self.inside in
     let kept = c.self.invariant in
-    let less = less_of inside.shape.frame_size inside.shape.frame_nr inside.written c.args.at inside.bytes.items c.args.self.now kept.few c.self.view_is c.requires.within in
+    let less = less_of inside.shape.frame_size inside.shape.frame_nr inside.written c.args.at inside.bytes.items c.args.self.now
+    kept.few c.self.view_is c.requires.within in
     let size = inside.shape.frame_size in
     let zeros = c.write_zeros-self-inside in
     let old : zeros.new.bytes.items ≡ inside.bytes.items ++ replicate (zeros.result * size - length inside.bytes.items) 0 =
-    zeros.ensures.items ∙ ap (λ (n : ℕ). inside.bytes.items ++ replicate (zeros.result * n - length inside.bytes.items) 0) c.frame_size-size.ensures.value in
+    zeros.ensures.items ∙ ap (λ (n : ℕ). inside.bytes.items ++ replicate (zeros.result * n - length inside.bytes.items) 0)
+    c.frame_size-size.ensures.value in
     let few = zeros.ensures.few inside.shape.frame_nr kept.few (omega (arith, less)) in
-    let before = as_before size inside.shape.frame_nr inside.written zeros.result c.args.at (vec_capacity inside.bytes) (vec_capacity zeros.new.bytes)
-    inside.bytes.items zeros.new.bytes.items kept (omega (arith, zeros.ensures.least)) zeros.ensures.more few zeros.ensures.room old in
+    let before = as_before size inside.shape.frame_nr inside.written zeros.result c.args.at (vec_capacity inside.bytes)
+    (vec_capacity zeros.new.bytes)
+    inside.bytes.items zeros.new.bytes.items kept (omega (arith, zeros.ensures.least)) zeros.ensures.more few
+    zeros.ensures.room old in
     rw (c.as_mut_slice.ensures.value, c.frame_size-size.ensures.value) before.0
 
 pub invariant_of-self : goal.invariant_of-self
 invariant_of-self c =
     let inside = c.self.inside in
     let kept = c.self.invariant in
-    let less = less_of inside.shape.frame_size inside.shape.frame_nr inside.written c.args.at inside.bytes.items c.args.self.now kept.few c.self.view_is c.requires.within in
+    let less = less_of inside.shape.frame_size inside.shape.frame_nr inside.written c.args.at inside.bytes.items c.args.self.now
+    kept.few c.self.view_is c.requires.within in
     let size = inside.shape.frame_size in
     let zeros = c.write_zeros-self-inside in
     let old : zeros.new.bytes.items ≡ inside.bytes.items ++ replicate (zeros.result * size - length inside.bytes.items) 0 =
-    zeros.ensures.items ∙ ap (λ (n : ℕ). inside.bytes.items ++ replicate (zeros.result * n - length inside.bytes.items) 0) c.frame_size-size.ensures.value in
+    zeros.ensures.items ∙ ap (λ (n : ℕ). inside.bytes.items ++ replicate (zeros.result * n - length inside.bytes.items) 0)
+    c.frame_size-size.ensures.value in
     let few = zeros.ensures.few inside.shape.frame_nr kept.few (omega (arith, less)) in
     let slot : SlotState = record {
       size = size;
@@ -69,13 +83,24 @@ invariant_of-self c =
     let sizes : (slot_at c.args.self.now c.args.at).size ≡ size =
     ap (λ (slots : List SlotState). (slot_at slots c.args.at).size) (sym c.self.view_is)
     ∙ each_size size inside.shape.frame_nr inside.written c.args.at (vec_capacity inside.bytes) inside.bytes.items kept less in
-    let sound : IsSound slot = record { status = omega arith; next_offset = omega arith; asked = omega arith; given = omega (arith, c.requires.fits, sizes, c.frame_size-size.ensures.value); fits = omega (arith, c.requires.fits, sizes) } in
+    let sound : IsSound slot =
+    record {
+      status = omega arith;
+      next_offset = omega arith;
+      asked = omega arith;
+      given = omega (arith, c.requires.fits, sizes, c.frame_size-size.ensures.value);
+      fits =
+          omega (arith, c.requires.fits, sizes);
+    } in
     let new : c.write_slot.new.bytes ≡ put_slot (c.args.at * size) size zeros.new.bytes.items (slot_text slot) =
     c.write_slot.ensures
-    ∙ ap (λ (n : ℕ). put_slot (c.args.at * n) n c.as_mut_slice.result.now (slot_text (record { size = n; status = 1; request = slot.request }))) c.frame_size-size.ensures.value
+    ∙ ap (λ (n : ℕ). put_slot (c.args.at * n) n c.as_mut_slice.result.now
+    (slot_text (record { size = n; status = 1; request = slot.request }))) c.frame_size-size.ensures.value
     ∙ ap (λ (bytes : List ℕ). put_slot (c.args.at * size) size bytes (slot_text slot)) c.as_mut_slice.ensures.value in
-    let both = requested size inside.shape.frame_nr inside.written zeros.result c.args.at (vec_capacity inside.bytes) (vec_capacity zeros.new.bytes) zeros.new.bytes.len
-    inside.bytes.items zeros.new.bytes.items c.write_slot.new.bytes slot kept (omega (arith, zeros.ensures.least)) zeros.ensures.more few zeros.ensures.room sound refl old
+    let both = requested size inside.shape.frame_nr inside.written zeros.result c.args.at (vec_capacity inside.bytes)
+    (vec_capacity zeros.new.bytes) zeros.new.bytes.len
+    inside.bytes.items zeros.new.bytes.items c.write_slot.new.bytes slot kept (omega (arith, zeros.ensures.least))
+    zeros.ensures.more few zeros.ensures.room sound refl old
     (ap length (sym c.as_mut_slice.ensures.value) ∙ c.as_mut_slice.ensures.len) new in
     both.0
 
@@ -83,11 +108,13 @@ pub returns : goal.returns
 returns c =
     let inside = c.self.inside in
     let kept = c.self.invariant in
-    let less = less_of inside.shape.frame_size inside.shape.frame_nr inside.written c.args.at inside.bytes.items c.args.self.now kept.few c.self.view_is c.requires.within in
+    let less = less_of inside.shape.frame_size inside.shape.frame_nr inside.written c.args.at inside.bytes.items c.args.self.now
+    kept.few c.self.view_is c.requires.within in
     let size = inside.shape.frame_size in
     let zeros = c.write_zeros-self-inside in
     let old : zeros.new.bytes.items ≡ inside.bytes.items ++ replicate (zeros.result * size - length inside.bytes.items) 0 =
-    zeros.ensures.items ∙ ap (λ (n : ℕ). inside.bytes.items ++ replicate (zeros.result * n - length inside.bytes.items) 0) c.frame_size-size.ensures.value in
+    zeros.ensures.items ∙ ap (λ (n : ℕ). inside.bytes.items ++ replicate (zeros.result * n - length inside.bytes.items) 0)
+    c.frame_size-size.ensures.value in
     let few = zeros.ensures.few inside.shape.frame_nr kept.few (omega (arith, less)) in
     let slot : SlotState = record {
       size = size;
@@ -97,13 +124,24 @@ returns c =
     let sizes : (slot_at c.args.self.now c.args.at).size ≡ size =
     ap (λ (slots : List SlotState). (slot_at slots c.args.at).size) (sym c.self.view_is)
     ∙ each_size size inside.shape.frame_nr inside.written c.args.at (vec_capacity inside.bytes) inside.bytes.items kept less in
-    let sound : IsSound slot = record { status = omega arith; next_offset = omega arith; asked = omega arith; given = omega (arith, c.requires.fits, sizes, c.frame_size-size.ensures.value); fits = omega (arith, c.requires.fits, sizes) } in
+    let sound : IsSound slot =
+    record {
+      status = omega arith;
+      next_offset = omega arith;
+      asked = omega arith;
+      given = omega (arith, c.requires.fits, sizes, c.frame_size-size.ensures.value);
+      fits =
+          omega (arith, c.requires.fits, sizes);
+    } in
     let new : c.write_slot.new.bytes ≡ put_slot (c.args.at * size) size zeros.new.bytes.items (slot_text slot) =
     c.write_slot.ensures
-    ∙ ap (λ (n : ℕ). put_slot (c.args.at * n) n c.as_mut_slice.result.now (slot_text (record { size = n; status = 1; request = slot.request }))) c.frame_size-size.ensures.value
+    ∙ ap (λ (n : ℕ). put_slot (c.args.at * n) n c.as_mut_slice.result.now
+    (slot_text (record { size = n; status = 1; request = slot.request }))) c.frame_size-size.ensures.value
     ∙ ap (λ (bytes : List ℕ). put_slot (c.args.at * size) size bytes (slot_text slot)) c.as_mut_slice.ensures.value in
-    let both = requested size inside.shape.frame_nr inside.written zeros.result c.args.at (vec_capacity inside.bytes) (vec_capacity zeros.new.bytes) zeros.new.bytes.len
-    inside.bytes.items zeros.new.bytes.items c.write_slot.new.bytes slot kept (omega (arith, zeros.ensures.least)) zeros.ensures.more few zeros.ensures.room sound refl old
+    let both = requested size inside.shape.frame_nr inside.written zeros.result c.args.at (vec_capacity inside.bytes)
+    (vec_capacity zeros.new.bytes) zeros.new.bytes.len
+    inside.bytes.items zeros.new.bytes.items c.write_slot.new.bytes slot kept (omega (arith, zeros.ensures.least))
+    zeros.ensures.more few zeros.ensures.room sound refl old
     (ap length (sym c.as_mut_slice.ensures.value) ∙ c.as_mut_slice.ensures.len) new in
     both.1
     ∙ ap (λ (slots : List SlotState). set slots c.args.at slot) c.self.view_is

@@ -7,4 +7,5 @@ use Rattle.tx_ring.proofs.slots.Slots.status.Goals as goal
 pub returns : goal.returns
 unfolding number_at
 returns c =
-    c.field.ensures.value ∙ ap (λ (slot : SlotState). slot.status) (told (slot_at c.args.self.now c.args.at) c.field.ensures.sound)
+    c.field.ensures.value ∙ ap (λ (slot : SlotState). slot.status)
+    (told (slot_at c.args.self.now c.args.at) c.field.ensures.sound)

@@ -13,7 +13,8 @@ returns-clause-at g c =
     let offer = c.args.offer.now in
     let machine = c.args.self.now in
     let written = c.write_slot-status in
-    filled_at g.E.FeederEnd.feed g.state machine offer c.retire.new.self written.new.slot.bytes written.result written.new.room at
+    filled_at g.E.FeederEnd.feed g.state machine offer c.retire.new.self written.new.slot.bytes written.result
+    written.new.room at
     (written.ensures.status ∙ ap (λ (n : ℕ). status_of_slot (nat_lt 0 n) offer.frame.tag) at.dropped_is)
     c.retire.ensures.retired
     (subst (λ s. SlotBegins s written.result (slot_packet_of offer) written.new.slot.bytes)

@@ -16,5 +16,6 @@ returns-clause-texts g c =
     let machine = c.self.inside.machine in
     let shape = ap (λ (p : SlotProducing g.row.E.Denot). p.shape) c.self.view_is in
     let feed = g.E.FeederEnd.feed machine.end in
-    let texts = subst (λ s. RepresentsSlots machine.shape s.done feed) (sym (slot_state_push c.self.inside.machine.notes.items Finished)) c.self.invariant.at.texts in
+    let texts = subst (λ s. RepresentsSlots machine.shape s.done feed)
+    (sym (slot_state_push c.self.inside.machine.notes.items Finished)) c.self.invariant.at.texts in
     rw (← shape, c.from_vec.ensures, c.push_reserved.ensures.items) texts

@@ -24,7 +24,10 @@ try_put-found-requires g c κs within =
         at_reserved g.E.FeederEnd.feed machine reserved r c.self.invariant.at,
         (
           few_before reserved.notes.items (rw r.items few),
-          (c.in-Ok.ensures.room, (subst (λ (s : RingRequest). 66 + c.args.offer.snap ≤ s.frame_size) (sym shape) fits, c.requires.sound)),
+          (
+            c.in-Ok.ensures.room,
+            (subst (λ (s : RingRequest). 66 + c.args.offer.snap ≤ s.frame_size) (sym shape) fits, c.requires.sound),
+          ),
         ),
       ),
     )
@@ -32,12 +35,14 @@ try_put-found-requires g c κs within =
 pub noted_try-note-requires : goal.noted_try-note-requires
 noted_try-note-requires g c =
     let bounds = slot_bounds c.self.inside.machine.shape c.self.invariant.at.checked in
-    let fits = subst (λ s. 66 + c.args.offer.snap ≤ s.frame_size) (sym (ap (λ (p : SlotProducing g.row.E.Denot). p.shape) c.self.view_is)) c.requires.fits in
+    let fits = subst (λ s. 66 + c.args.offer.snap ≤ s.frame_size)
+    (sym (ap (λ (p : SlotProducing g.row.E.Denot). p.shape) c.self.view_is)) c.requires.fits in
     omega (arith, bounds.small, fits)
 
 pub invariant_of-self : goal.invariant_of-self
 invariant_of-self g c =
-    keeps_reserved g.E.FeederEnd.feed c.self.inside.machine c.reserve.new.self c.reserve.ensures.reserved _ _ c.reserve.ensures.spare c.self.invariant
+    keeps_reserved g.E.FeederEnd.feed c.self.inside.machine c.reserve.new.self c.reserve.ensures.reserved _ _
+    c.reserve.ensures.spare c.self.invariant
 
 pub invariant_of-self-2 : goal.invariant_of-self-2
 invariant_of-self-2 g c =
@@ -51,10 +56,21 @@ invariant_of-self-2 g c =
     let count = ap (λ (p : SlotProducing g.row.E.Denot). length p.notes) c.self.view_is in
     let few : length notes < 2 ^ 39 = omega (arith, c.requires.few, count) in
     let from : Stepped feed (slot_state_of reserved.notes.items) note reserved new =
-    record { at = c.try_put-found.ensures.at; may_follow = c.try_put-found.ensures.may_follow; end = c.try_put-found.ensures.end; shape = c.try_put-found.ensures.same.0 } in
+    record {
+      at = c.try_put-found.ensures.at;
+      may_follow = c.try_put-found.ensures.may_follow;
+      end = c.try_put-found.ensures.end;
+      shape = c.try_put-found.ensures.same.0;
+    } in
     let step = step_reserved feed machine reserved c.reserve.ensures.reserved note new from in
-    kept_on feed machine new notes note _ c.self.invariant step c.push_reserved.new.self c.push_reserved.new.self.items _ (slot_goes_try c.args.offer found)
-    (rw (c.push_reserved.ensures.items, c.try_put-found.ensures.same.1, c.reserve.ensures.reserved.items, c.noted_try-note.ensures.note) refl)
+    kept_on feed machine new notes note _ c.self.invariant step c.push_reserved.new.self c.push_reserved.new.self.items _
+    (slot_goes_try c.args.offer found)
+    (rw (
+      c.push_reserved.ensures.items,
+      c.try_put-found.ensures.same.1,
+      c.reserve.ensures.reserved.items,
+      c.noted_try-note.ensures.note,
+    ) refl)
     (rw (c.push_reserved.ensures.capacity, c.try_put-found.ensures.same.1) (omega (arith, c.in-Ok.ensures.notes)))
     few
 
@@ -69,7 +85,12 @@ returns-clause-tried g c =
     let note = try_by c.args.offer found in
     let new = c.try_put-found.new.self in
     let from : Stepped feed (slot_state_of reserved.notes.items) note reserved new =
-    record { at = c.try_put-found.ensures.at; may_follow = c.try_put-found.ensures.may_follow; end = c.try_put-found.ensures.end; shape = c.try_put-found.ensures.same.0 } in
+    record {
+      at = c.try_put-found.ensures.at;
+      may_follow = c.try_put-found.ensures.may_follow;
+      end = c.try_put-found.ensures.end;
+      shape = c.try_put-found.ensures.same.0;
+    } in
     let step = step_reserved feed machine reserved r note new from in
     let pushed : c.push_reserved.new.self.items ≡ notes ++ note ∷ [] =
     rw (c.push_reserved.ensures.items, c.try_put-found.ensures.same.1, r.items, c.noted_try-note.ensures.note) refl in
