@@ -8,9 +8,9 @@ use Rattle.atomic_table.specs.declared.shared.Seat.{Seat}
 use Rattle.turn_lock.specs.declared.knowledge.Knows.{Knows}
 use Rattle.turn_lock.specs.declared.knowledge.Place.{Place}
 use Rattle.turn_lock.specs.declared.knowledge.Stage.{Stage}
-use Rattle.turn_lock.specs.declared.knowledge.Stage.TheVariants.{Idle, Waits, Inside}
+use Rattle.turn_lock.specs.declared.knowledge.Stage.TheVariants.{Idle, Inside}
 use Rattle.turn_lock.specs.Histories.{IsTurn, Adds}
-use Rattle.turn_lock.specs.SeatKnowledge.{fresh_place, seated, with_ticket, with_last, drew, entered, left}
+use Rattle.turn_lock.specs.SeatKnowledge.{fresh_place, seated, with_ticket, with_last, entered, left}
 use Rattle.turn_lock.specs.Seats.{LockValue, SeatValue, place_of, fresh_seat, outside}
 use Rattle.turn_lock.specs.SeatsInside.{number_in, last_in, drawn_in, turn_in, seat_value, Holds, IsSeat}
 use Rattle.turn_lock.specs.Steps.{Left}
@@ -22,14 +22,12 @@ module _ {E V : Type 0} where
   pub idle_of : (stage : Stage) (seen : List E) (carried : List (ℕ × Option V)) → Holds stage carried
       → turn_in stage seen ≡ None → (stage ≡ Idle) × (carried ≡ [])
   idle_of Idle seen carried holds none_is = (refl, holds)
-  idle_of Waits seen carried holds none_is = absurd holds
   idle_of Inside seen carried holds none_is = absurd (cc)
 
   -- a seat that is in its turn is inside
   pub inside_of : (stage : Stage) (seen before : List E) (carried : List (ℕ × Option V)) → Holds stage carried
       → turn_in stage seen ≡ Some before → (stage ≡ Inside) × (seen ≡ before) × (carried ≡ (0, None) ∷ [])
   inside_of Idle seen before carried holds some_is = absurd (cc)
-  inside_of Waits seen before carried holds some_is = absurd holds
   inside_of Inside seen before carried holds some_is = (refl, ap (λ (o : Option (List E)). unwrap_or o before) some_is, holds)
 
 module _ {V : Type 0} where
@@ -82,19 +80,17 @@ module _ {V E B : Type 0} (stored : V → List E) where
     holds = subst (λ (m : Me (Option V) (Knows E B)). Holds m.0.stage m.1) (sym me) refl;
   }
 
-  -- what a seat knows when it has drawn a ticket, waited and taken the value out
-  pub entered_me : (old drawn taken last : Me (Option V) (Knows E B)) (x y : V) (ticket : ℕ)
-      → drawn ≡ (drew old.0 ticket, old.1) → old.1 ≡ [] → taken ≡ (entered drawn.0 (stored x), (0, Some x) ∷ drawn.1)
-      → last ≡ (taken.0, (0, None) ∷ rest taken.1) → x ≡ y
-      → last ≡ (entered (drew old.0 ticket) (stored y), (0, None) ∷ [])
-  entered_me old drawn taken last x y ticket draws_it empty takes_it gives_it same =
+  -- what a seat knows when it has drawn its ticket and the value is taken out of its slot
+  pub entered_me : (old taken last : Me (Option V) (Knows E B)) (x y : V) (ticket : ℕ) → old.1 ≡ []
+      → taken ≡ (entered old.0 ticket (stored x), (0, Some x) ∷ old.1) → last ≡ (taken.0, (0, None) ∷ rest taken.1) → x ≡ y
+      → last ≡ (entered old.0 ticket (stored y), (0, None) ∷ [])
+  entered_me old taken last x y ticket empty takes_it gives_it same =
       gives_it ∙ ap (λ (m : Me (Option V) (Knows E B)). (m.0, (0, None) ∷ rest m.1)) takes_it
-      ∙ ap (λ (m : Me (Option V) (Knows E B)). (entered m.0 (stored x), (0, None) ∷ m.1)) draws_it
-      ∙ ap (λ (z : List (ℕ × Option V)). (entered (drew old.0 ticket) (stored x), (0, None) ∷ z)) empty
-      ∙ ap (λ (z : V). (entered (drew old.0 ticket) (stored z), (0, None) ∷ [])) same
+      ∙ ap (λ (z : List (ℕ × Option V)). (entered old.0 ticket (stored x), (0, None) ∷ z)) empty
+      ∙ ap (λ (z : V). (entered old.0 ticket (stored z), (0, None) ∷ [])) same
 
   pub entered_seat : (old new : Seat (Option V) (Knows E B)) (ticket before : ℕ) (entries : List E) → IsSeat old before
-      → ticket < 2 ^ 38 → new.me ≡ (entered (drew old.me.0 ticket) entries, (0, None) ∷ []) → IsSeat new ticket
+      → ticket < 2 ^ 38 → new.me ≡ (entered old.me.0 ticket entries, (0, None) ∷ []) → IsSeat new ticket
   entered_seat old new ticket before entries ok small me = record {
     represented = record (ok.represented) { drawn = ok.represented.drawn + 1 };
     one = ap (λ (m : Me (Option V) (Knows E B)). m.0.places) me ∙ ap with_ticket ok.one;

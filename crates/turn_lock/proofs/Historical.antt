@@ -1,23 +1,35 @@
 -- The rule that the table keeps is the turn history.
-use Rattle.std.proofs.Common.{◌≡◌, ℕ, Bool, List, sym, ap, ◌∙◌, subst, ⊎_elim, inl, inr, arith, Option}
+use Rattle.std.proofs.Common.{◌≡◌, ℕ, ◌+◌, ◌≤◌, Bool, List, length, sym, ap, ◌∙◌, subst, ⊎_elim, inl, inr, arith, Option}
 use mathlib.Core.Option.{some, some-injective}
+use mathlib.Core.Logic.{dite}
+use native.Mathlib.Decide.{dec_le}
 use lib.ListN.{get_elem?}
 use Rattle.atomic_table.specs.Table.{State}
 use Rattle.turn_lock.specs.declared.knowledge.Knows.{Knows}
+use Rattle.turn_lock.specs.declared.knowledge.Stage.TheVariants.{Inside}
 use Rattle.turn_lock.specs.History.{IsHistory}
 use Rattle.turn_lock.specs.Turns.{Turns}
-use Rattle.turn_lock.proofs.Histories.{tickets_below, history_goes_on, one_holder}
+use Rattle.turn_lock.proofs.Histories.{busy_inside, tickets_below, history_goes_on, one_holder}
 use Rattle.turn_lock.proofs.TicketLooks.{inside_with}
 
-module _ {V E B : Type 0} (stored : V → List E) (base : V → B) (may_add : B → ℕ → E → Bool) where
-  pub historical : (b : B) (f : List E) (n : ℕ) (s : State (Option V) (Knows E B)) → Turns stored base may_add b f n s
+module _ {V E B : Type 0} (stored : V → List E) (base : V → B) (may_add : B → ℕ → E → Bool) (b : B) (f : List E) (n : ℕ) where
+  -- a ticket that isn't served to its end is served, since its seat is inside
+  one_at_most : (s : State (Option V) (Knows E B)) (r : Turns stored base may_add b f n s) → length r.owners ≤ length r.added + 1
+  one_at_most s r = dite (dec_le (length r.owners) (length r.added + 1)) (λ few. few)
+      (λ many. let had = r.waited (length r.added + 1) (omega arith) (omega (arith, many)) in
+      let inside : had.1.stage ≡ Inside = busy_inside had.1.stage had.3 in let served =
+      (inside_with stored base may_add b f n s r had.0 had.1 had.2 inside).1 in let ticket = had.4 in
+      absurd (omega (arith, served, ticket)))
+
+  pub historical : (s : State (Option V) (Knows E B)) → Turns stored base may_add b f n s
       → IsHistory stored base may_add b f n s
-  historical b f n s r = record {
+  historical s r = record {
     owners = r.owners;
     added = r.added;
     drawn = r.tickets;
     served = r.served;
     behind = r.behind;
+    one_at_most = one_at_most s r;
     few = tickets_below stored base may_add b f n s r;
     owned = λ i number mine. let made = r.owned i number mine in let within = r.within in omega (arith, made, within);
     sum = r.sum;

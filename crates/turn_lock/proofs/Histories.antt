@@ -1,5 +1,5 @@
 -- What the turn history says of one seat, and how a seat's place in it moves on.
-use Rattle.std.proofs.Common.{◌≡◌, ℕ, ◌+◌, ◌*◌, ◌≤◌, ◌≢◌, ◌^◌, eqb, eq-eqb, ne_eqb, cond, Bool, List, [], ◌∷◌, ◌++◌, length}
+use Rattle.std.proofs.Common.{◌≡◌, ℕ, zero, suc, ◌+◌, ◌*◌, ◌<◌, ◌≤◌, ◌≢◌, ◌^◌, eqb, eq-eqb, ne_eqb, cond, Bool, List, [], ◌∷◌, ◌++◌, length}
 use Rattle.std.proofs.Common.{take, drop, set, get_or, sym, refl, ap, ◌∙◌, subst, arith, append_assoc, length-append, Option}
 use mathlib.Core.Option.{some, some-injective}
 use lib.ListN.{get_elem?}
@@ -28,15 +28,20 @@ idle_not_busy stage idle busy = subst IsBusy idle busy
 pub inside_busy : (stage : Stage) → stage ≡ Inside → IsBusy stage
 inside_busy stage inside = subst IsBusy (sym inside) tt
 
+pub busy_inside : (stage : Stage) → IsBusy stage → stage ≡ Inside
+busy_inside Idle busy = absurd busy
+busy_inside Inside busy = refl
+
 module _ {A : Type 0} where
   pub two_same : (xs : List A) (k : ℕ) (a b : A) → get_elem? xs k ≡ some a → get_elem? xs k ≡ some b → a ≡ b
   two_same xs k a b at to = some-injective a b (sym at ∙ to)
 
--- the words after a change of one of the two
-pub words_again : (words : List ℕ) → length words ≡ 2 → set words 1 (get_or words 1 0) ≡ words
-words_again [] two = absurd (omega arith)
-words_again (a ∷ []) two = absurd (omega arith)
-words_again (a ∷ b ∷ words) two = refl
+-- the words with one written as it was
+pub words_again : (words : List ℕ) (k word : ℕ) → k < length words → word ≡ get_or words k 0 → set words k word ≡ words
+words_again [] k word below same = absurd (omega (arith, below))
+words_again (a ∷ words) zero word below same = ap (λ (z : ℕ). z ∷ words) same
+words_again (a ∷ words) (suc k) word below same =
+    ap (λ (z : List ℕ). a ∷ z) (words_again words k word (omega (arith, below)) same)
 
 module _ {A : Type 0} where
   -- a list of one item, after that one has changed

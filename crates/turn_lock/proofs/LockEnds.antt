@@ -11,7 +11,7 @@ use Rattle.atomic_table.proofs.Lists.{at_map}
 use Rattle.turn_lock.specs.declared.knowledge.Knows.{Knows}
 use Rattle.turn_lock.specs.declared.knowledge.Place.{Place}
 use Rattle.turn_lock.specs.declared.knowledge.Stage.{Stage}
-use Rattle.turn_lock.specs.declared.knowledge.Stage.TheVariants.{Idle, Waits, Inside}
+use Rattle.turn_lock.specs.declared.knowledge.Stage.TheVariants.{Idle, Inside}
 use Rattle.turn_lock.specs.Histories.{times, all_added, GoesOn}
 use Rattle.turn_lock.specs.SeatKnowledge.{IsBusy, parts_of, drawn_of, total, all_drawn}
 use Rattle.turn_lock.specs.Seats.{SeatValue, entered_by, place_of}
@@ -98,7 +98,6 @@ module _ {E B : Type 0} (owners : List ℕ) (added : List (List E)) (history : L
   -- a seat that isn't idle represents a seat of the lock
   busy_has : (stage : Stage) → StageOk owners added history v stage → IsBusy stage → (place : Place E) × (v.places ≡ place ∷ [])
   busy_has Idle ok busy = absurd busy
-  busy_has Waits ok busy = (ok.0.0, ok.0.1)
   busy_has Inside ok busy = (ok.0.0, ok.0.1)
 
 module _ {V E B : Type 0} (stored : V → List E) (base : V → B) (may_add : B → ℕ → E → Bool) (b : B) (f : List E) (n : ℕ) where

@@ -11,7 +11,7 @@ use Rattle.atomic_table.proofs.Lists.{at_set, set_here, set_else, at_longer}
 use Rattle.turn_lock.specs.declared.knowledge.Knows.{Knows}
 use Rattle.turn_lock.specs.declared.knowledge.Place.{Place}
 use Rattle.turn_lock.specs.declared.knowledge.Stage.{Stage}
-use Rattle.turn_lock.specs.declared.knowledge.Stage.TheVariants.{Idle, Waits, Inside}
+use Rattle.turn_lock.specs.declared.knowledge.Stage.TheVariants.{Idle, Inside}
 use Rattle.turn_lock.specs.Histories.{all_added}
 use Rattle.turn_lock.specs.SeatKnowledge.{IsBusy, parts_of, drawn_of, fresh_place, opening, maker, newcomer}
 use Rattle.turn_lock.specs.Turns.{StageOk, PlaceOk, Turns}
@@ -73,8 +73,7 @@ module _ {E B : Type 0} where
 module _ {E B : Type 0} (owners : List ℕ) (added : List (List E)) (history : List E) (v : Knows E B) where
   -- making a seat changes no ticket
   pub stage_makes : (stage : Stage) → StageOk owners added history v stage → StageOk owners added history (maker v) stage
-  stage_makes Idle ok = tt
-  stage_makes Waits ok = ok
+  stage_makes Idle ok = ok
   stage_makes Inside ok = ok
 
 module _ {V E B : Type 0} (stored : V → List E) (base : V → B) (may_add : B → ℕ → E → Bool) (b : B) (f : List E) (n : ℕ) where
@@ -107,7 +106,7 @@ module _ {V E B : Type 0} (stored : V → List E) (base : V → B) (may_add : B 
     each_apart = apart_more [] (opening b f n) (λ j v at. absurd (some-ne-none v (sym at)))
         (apart_one ((opening b f n).places) (fresh_place 0 f) refl);
     each_stage = λ j v at. subst (λ (z : Knows E B). StageOk [] [] (f ++ []) z z.stage)
-        (only_item (opening b f n ∷ []) (opening b f n) v j refl at) tt;
+        (only_item (opening b f n ∷ []) (opening b f n) v j refl at) (le_refl 0);
     each_maker = λ j v at spare. ⊎_elim (λ nothing. absurd (some-ne-none v (sym nothing)))
         (λ last. subst (λ (z : Knows E B). 0 < z.spare → (j ≡ 0) × (z.next ≡ 1) × (1 + z.spare ≡ n)) last.1
         (λ more. (last.0, refl, omega (arith, some_seat))) spare)
@@ -175,7 +174,8 @@ module _ {V E B : Type 0} (stored : V → List E) (base : V → B) (may_add : B 
             (stage_makes r.owners r.added (f ++ all_added r.added) v v.stage (r.each_stage id v at)))
             (λ other. r.each_stage j t other.1)
             (at_set s.views id j w t among))
-            (λ last. subst (λ (z : Knows E B). StageOk r.owners r.added (f ++ all_added r.added) z z.stage) last.1 tt)
+            (λ last. subst (λ (z : Knows E B). StageOk r.owners r.added (f ++ all_added r.added) z z.stage) last.1
+            (let g : 0 ≤ length r.added = omega arith in g))
             (at_more views u t j to);
         each_maker = λ j t to spare. ⊎_elim
             (λ among. ⊎_elim

@@ -1,5 +1,5 @@
 -- A seat takes in another: the turn history stays.
-use Rattle.std.proofs.Common.{◌≡◌, ℕ, ◌+◌, ◌<◌, ◌≢◌, eqb, cond, Bool, List, [], ◌++◌, set, sym, refl, ap, ◌∙◌, subst, ⊎_elim}
+use Rattle.std.proofs.Common.{◌≡◌, ℕ, ◌+◌, ◌<◌, ◌≤◌, ◌≢◌, eqb, cond, Bool, List, [], ◌++◌, length, set, sym, refl, ap, ◌∙◌, subst, ⊎_elim}
 use Rattle.std.proofs.Common.{inl, inr, le_refl, arith, length-append}
 use mathlib.Core.Option.{some, some-injective, some-ne-none}
 use lib.ListN.{get_elem?}
@@ -15,6 +15,7 @@ use Rattle.turn_lock.specs.Turns.{StageOk, PlaceOk, Turns}
 use Rattle.turn_lock.proofs.Totals.{total_set, at_both, drawn_join}
 use Rattle.turn_lock.proofs.PlacesApart.{apart_none, apart_join, apart_set}
 use Rattle.turn_lock.proofs.Histories.{chosen, passed, idle_not_busy, inside_busy, place_moves, place_lies}
+use Rattle.turn_lock.proofs.TicketLooks.{idle_with}
 
 module _ {V E B : Type 0} (stored : V → List E) (base : V → B) (may_add : B → ℕ → E → Bool) (b : B) (f : List E) (n : ℕ) where
   -- an idle seat takes in another
@@ -89,10 +90,12 @@ module _ {V E B : Type 0} (stored : V → List E) (base : V → B) (may_add : B 
             (sym (r.each_place other k w q old here).lies ∙ ap r.seat_of same ∙ (r.each_place id l v u at there).lies))))
             (apart_none [] refl);
         each_stage = λ j t here. ⊎_elim
-            (λ same. subst (λ (z : Knows E B). StageOk r.owners r.added (f ++ all_added r.added) z z.stage) same.1 tt)
+            (λ same. subst (λ (z : Knows E B). StageOk r.owners r.added (f ++ all_added r.added) z z.stage) same.1
+            (let g : 0 ≤ length r.added = omega arith in g))
             (λ among. ⊎_elim
             (λ same. subst (λ (z : Knows E B). StageOk r.owners r.added (f ++ all_added r.added) z z.stage) same.1
-            (subst (λ (z : Stage). StageOk r.owners r.added (f ++ all_added r.added) both z) (sym idle) tt))
+            (subst (λ (z : Stage). StageOk r.owners r.added (f ++ all_added r.added) both z) (sym idle)
+            (idle_with stored base may_add b f n s r id v at idle)))
             (λ else. r.each_stage j t else.1)
             (at_set s.views id j both t among.1))
             (at_set mid other j spent t here);

@@ -10,7 +10,7 @@ use Rattle.atomic_table.proofs.Lists.{at_set, set_else}
 use Rattle.turn_lock.specs.declared.knowledge.Knows.{Knows}
 use Rattle.turn_lock.specs.declared.knowledge.Place.{Place}
 use Rattle.turn_lock.specs.declared.knowledge.Stage.{Stage}
-use Rattle.turn_lock.specs.declared.knowledge.Stage.TheVariants.{Idle, Waits, Inside}
+use Rattle.turn_lock.specs.declared.knowledge.Stage.TheVariants.{Idle, Inside}
 use Rattle.turn_lock.specs.Histories.{all_added, IsTurn, Adds}
 use Rattle.turn_lock.specs.SeatKnowledge.{parts_of, drawn_of, all_drawn, with_last, left}
 use Rattle.turn_lock.specs.Turns.{StageOk, PlaceOk, Turns}
@@ -74,13 +74,7 @@ module _ {E B : Type 0} (owners : List ℕ) (added : List (List E)) (history lat
   -- what another seat knows of its ticket
   pub stage_waits : get_elem? owners (length added) ≡ some owner → ((p : Place E) → v.places ≡ p ∷ [] → owner ≢ p.number)
       → (stage : Stage) → StageOk owners added history v stage → StageOk owners (added ++ entries ∷ []) later v stage
-  stage_waits whose other Idle ok = tt
-  stage_waits whose other Waits ok = let long = length-append added (entries ∷ []) in let p = ok.0.0 in (
-    (p, ok.0.1, ok.0.2),
-    ⊎_elim (λ same. absurd
-        (other p ok.0.1 (two_same owners v.ticket owner p.number (subst (λ (z : ℕ). get_elem? owners z ≡ some owner) same whose)
-        ok.0.2))) (λ after. omega (arith, after, long)) (eq-or-lt_of_le ok.1),
-  )
+  stage_waits whose other Idle ok = let long = length-append added (entries ∷ []) in omega (arith, ok, long)
   stage_waits whose other Inside ok = let p = ok.0.0 in
       absurd
       (other p ok.0.1 (two_same owners v.ticket owner p.number
@@ -166,7 +160,8 @@ module _ {V E B : Type 0} (stored : V → List E) (base : V → B) (may_add : B 
             (at_set s.views id j w u to);
         each_apart = apart_set s.views id w r.each_apart (apart_one w.places p' places);
         each_stage = λ j u to. ⊎_elim
-            (λ same_seat. subst (λ (z : Knows E B). StageOk r.owners more (f ++ all_added more) z z.stage) same_seat.1 tt)
+            (λ same_seat. subst (λ (z : Knows E B). StageOk r.owners more (f ++ all_added more) z z.stage) same_seat.1
+            (let g : v.ticket ≤ length more = omega (arith, served, long) in g))
             (λ other. stage_waits r.owners r.added (f ++ all_added r.added) (f ++ all_added more) u p.number entries whose
             (λ q only. number_else j 0 u q other.0 other.1 (ap (λ (z : List (Place E)). get_elem? z 0) only)) u.stage
             (r.each_stage j u other.1))

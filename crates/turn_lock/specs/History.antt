@@ -1,5 +1,5 @@
 -- The turn history, in a lock's own words: tickets, turns that have ended, and what each seat left.
-use Rattle.std.specs.Prelude.{◌≡◌, ◌⊎◌, ℕ, suc, ◌<◌, ◌≤◌, ◌^◌, Bool, List, [], ◌∷◌, ◌++◌, length}
+use Rattle.std.specs.Prelude.{◌≡◌, ◌⊎◌, ℕ, suc, ◌+◌, ◌<◌, ◌≤◌, ◌^◌, Bool, List, [], ◌∷◌, ◌++◌, length}
 use Rattle.std.specs.Prelude.{take, slice_index, Option, Some}
 use mathlib.Core.Option.{some, none}
 use mathlib.Core.Option as maybe
@@ -56,6 +56,8 @@ module _ {V E B : Type 0} (stored : V → List E) (base : V → B) (may_add : B 
     pub drawn : slice_index table.words 0 ≡ length owners
     pub served : slice_index table.words 1 ≡ length added
     pub behind : length added ≤ length owners
+    -- at most one ticket isn't served to its end
+    pub one_at_most : length owners ≤ length added + 1
     pub few : length owners ≤ 2 ^ 37
     -- each ticket belongs to one of the seats, which together have them all, and each has few
     pub owned : (i number : ℕ) → get_elem? owners i ≡ some number → number < n

@@ -3,12 +3,11 @@ use Rattle.std.specs.Prelude.{ℕ, ◌+◌, ◌-◌, List, [], ◌∷◌, ◌++�
 use Rattle.turn_lock.specs.declared.knowledge.Knows.{Knows}
 use Rattle.turn_lock.specs.declared.knowledge.Place.{Place}
 use Rattle.turn_lock.specs.declared.knowledge.Stage.{Stage}
-use Rattle.turn_lock.specs.declared.knowledge.Stage.TheVariants.{Idle, Waits, Inside}
+use Rattle.turn_lock.specs.declared.knowledge.Stage.TheVariants.{Idle, Inside}
 
 -- it has a ticket that isn't served to its end
 abbrev pub IsBusy : Stage → Type 0
 IsBusy Idle = ⊥
-IsBusy Waits = Unit {0}
 IsBusy Inside = Unit {0}
 
 module _ {E : Type 0} where
@@ -70,13 +69,18 @@ module _ {E B : Type 0} where
   abbrev pub newcomer : Knows E B → Knows E B
   newcomer v = seated v.base v.first v.next 0 0
 
-  -- it has drawn the ticket
-  abbrev pub drew : Knows E B → ℕ → Knows E B
-  drew v ticket = record v { places = with_ticket v.places; stage = Waits; ticket = ticket }
+  -- it has found that this ticket is served
+  abbrev pub looked : Knows E B → ℕ → Knows E B
+  looked v served = record v { ticket = served }
 
-  -- its turn has begun with this list stored
-  abbrev pub entered : Knows E B → List E → Knows E B
-  entered v entries = record v { stage = Inside; seen = entries }
+  -- it has drawn the ticket, and its turn has begun with this list stored
+  abbrev pub entered : Knows E B → ℕ → List E → Knows E B
+  entered v ticket entries = record v {
+    places = with_ticket v.places;
+    stage = Inside;
+    ticket = ticket;
+    seen = entries;
+  }
 
   -- its turn has ended with this list stored
   abbrev pub left : Knows E B → List E → Knows E B

@@ -5,7 +5,7 @@ use Rattle.atomic_table.specs.declared.shared.Seat.{Seat}
 use Rattle.turn_lock.specs.declared.knowledge.Knows.{Knows}
 use Rattle.turn_lock.specs.declared.knowledge.Place.{Place}
 use Rattle.turn_lock.specs.declared.knowledge.Stage.{Stage}
-use Rattle.turn_lock.specs.declared.knowledge.Stage.TheVariants.{Idle, Waits, Inside}
+use Rattle.turn_lock.specs.declared.knowledge.Stage.TheVariants.{Idle, Inside}
 use Rattle.turn_lock.specs.declared.knowledge.Opening.{Opening}
 use Rattle.turn_lock.specs.Seats.{LockValue, SeatValue}
 
@@ -25,14 +25,12 @@ module _ {E : Type 0} where
   -- in its turn, the list that was stored when that began
   abbrev pub turn_in : Stage → List E → Option (List E)
   turn_in Idle seen = None
-  turn_in Waits seen = None
   turn_in Inside seen = Some seen
 
 module _ {V : Type 0} where
   -- between two calls a seat is idle and holds nothing, or it is inside and holds the emptied slot
   abbrev pub Holds : Stage → List (ℕ × Option V) → Type 0
   Holds Idle carried = carried ≡ []
-  Holds Waits carried = ⊥
   Holds Inside carried = carried ≡ (0, None) ∷ []
 
 module _ {V E B : Type 0} where

@@ -9,7 +9,7 @@ use Rattle.atomic_table.specs.Table.{State}
 use Rattle.turn_lock.specs.declared.knowledge.Knows.{Knows}
 use Rattle.turn_lock.specs.declared.knowledge.Place.{Place}
 use Rattle.turn_lock.specs.declared.knowledge.Stage.{Stage}
-use Rattle.turn_lock.specs.declared.knowledge.Stage.TheVariants.{Idle, Waits, Inside}
+use Rattle.turn_lock.specs.declared.knowledge.Stage.TheVariants.{Idle, Inside}
 use Rattle.turn_lock.specs.Histories.{times, all_added, IsTurn}
 use Rattle.turn_lock.specs.SeatKnowledge.{IsBusy, parts_of, drawn_of, total}
 
@@ -20,10 +20,10 @@ module _ {E B : Type 0} (owners : List ℕ) (added : List (List E)) (history : L
   HasTicket =
       (place : Place E) × (v.places ≡ place ∷ []) × (get_elem? owners v.ticket ≡ some place.number)
 
-  -- a ticket that waits isn't served to its end, and one that is inside is being served
+  -- a seat that is idle has found a ticket that was served once, or is; one that is inside has the
+  -- ticket that is served
   abbrev pub StageOk : Stage → Type 0
-  StageOk Idle = Unit {0}
-  StageOk Waits = HasTicket × (length added ≤ v.ticket)
+  StageOk Idle = v.ticket ≤ length added
   StageOk Inside = HasTicket × (v.ticket ≡ length added) × (v.seen ≡ history)
 
 module _ {E : Type 0} where

@@ -4,10 +4,8 @@ use std::snapshot::Snapshot;
 
 /// Where a seat is.
 pub enum Stage {
-    /// It has no ticket.
+    /// It has no ticket that isn't served to its end.
     Idle,
-    /// It has drawn a ticket that isn't served yet.
-    Waits,
     /// Its ticket is served: it has the value.
     Inside,
 }
@@ -36,7 +34,7 @@ pub struct Knows<E, B> {
     pub next: u64,
     /// Where it is.
     pub stage: Stage,
-    /// Its ticket, unless it is idle.
+    /// Its ticket while it is inside; otherwise a ticket that was served once, or is.
     pub ticket: u64,
     /// The list that was stored when its turn began, while it is inside.
     pub seen: LinkedList<E>,

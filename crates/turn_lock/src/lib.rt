@@ -1,6 +1,6 @@
-//! A lock whose users take turns: each draws a ticket, waits until it is served, and has the value
-//! until it leaves. The value holds what the turns added to it in the order of the tickets, each
-//! turn's once.
+//! A lock whose users take turns: each waits until no other is in its turn, draws the next ticket,
+//! and has the value until it leaves. The value holds what the turns added to it in the order of the
+//! tickets, each turn's once.
 #![tactic(auto)]
 
 mod backoff;

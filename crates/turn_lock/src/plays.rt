@@ -26,18 +26,18 @@ impl<E, B> Split<Knows<E, B>> for Makes {
     ghost right = { newcomer };
 }
 
-/// A ticket is drawn.
-pub struct Draws;
-
-impl<V: Kept> Play<Option<V>, Knows<V::Entry, V::Base>> for Draws {
-    ghost then = { Drew };
-}
-
-/// A look at the ticket that is served, which takes the value where it is the seat's own.
+/// A look at the ticket that is served.
 pub struct Looks;
 
 impl<V: Kept> Play<Option<V>, Knows<V::Entry, V::Base>> for Looks {
-    ghost then = { Looked V.stored V.base V.may_add };
+    ghost then = { Looked };
+}
+
+/// The next ticket is drawn and the value is taken, where the number of tickets is the expected one.
+pub struct Draws;
+
+impl<V: Kept> Play<Option<V>, Knows<V::Entry, V::Base>> for Draws {
+    ghost then = { Drew V.stored V.base V.may_add };
 }
 
 /// The next ticket is served, and the value is back.

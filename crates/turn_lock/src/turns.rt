@@ -1,9 +1,10 @@
 //! A turn: a seat enters, has the value, and leaves.
-ghost use Rattle.std.specs.Prelude.{◌≡◌, ◌+◌, ◌<◌, ◌≤◌, ◌^◌, [], ◌∷◌, length, Some, None};
-ghost use Rattle.turn_lock.specs.declared.knowledge.Stage.TheVariants.{Waits};
+ghost use Rattle.std.specs.Prelude.{◌≡◌, ◌+◌, ◌<◌, ◌≤◌, ◌^◌, [], ◌∷◌, length, None, MatchOption};
+ghost use Rattle.std.specs.Prelude.{IfSome};
+ghost use Rattle.turn_lock.specs.declared.knowledge.Stage.TheVariants.{Idle};
 ghost use Rattle.turn_lock.specs.Histories.{GoesOn};
 ghost use Rattle.turn_lock.specs.Seats.{AddsIn, IsSeatOf, inside, outside};
-ghost use Rattle.turn_lock.specs.Steps.{HasValue};
+ghost use Rattle.turn_lock.specs.Steps.{HasLooked, HasValue, MayDraw};
 
 use crate::backoff::Backoff;
 use crate::knowledge::{Knows, Opening};
@@ -18,42 +19,50 @@ const TICKETS: usize = 0;
 /// The word with the ticket that is served.
 const SERVED: usize = 1;
 
-/// Waits until no seat is in its turn or waits for one. The thread has no ticket meanwhile, so
-/// nobody waits for it, however long the system suspends it.
-fn wait_free<V: Kept, R: Wait>(
-    rt: &R,
+/// One poll: where all tickets are served to their end, tries to draw the next one and to take the
+/// value, in one step. Between the look and the try another seat may draw that ticket; then this
+/// one has none. It returns the ticket, where it has drawn it.
+fn poll<V: Kept>(
     shared: &Shared<Option<V>, Knows<V::Entry, V::Base>, Opening<V>, ByTurns>,
-)
-    requires table { 1 < shared.now.table_id.words }
+    seat: &mut Seat<Option<V>, Knows<V::Entry, V::Base>>,
+) -> Option<u64>
+    requires table { (seat.old.table_id ≡ shared.now.table_id) × (1 < shared.now.table_id.words) }
+    requires stage { seat.old.me.0.stage ≡ Idle }
+    requires few { MayDraw seat.old.me.0.places }
+    ensures table { seat.new.table_id ≡ seat.old.table_id }
+    ensures turn { MatchOption result (HasLooked seat.old.me seat.new.me)
+        (λ ticket. HasValue V.stored V.base V.may_add seat.old.me ticket seat.new.me) }
+    ensures small { IfSome result (λ ticket. ticket < 2 ^ 38) }
 {
-    let mut backoff = Backoff::new();
-    for _ in rt.forever() {
-        let served = shared.peek(SERVED);
-        if shared.peek(TICKETS) == served {
-            return;
-        }
-        backoff.wait(rt);
+    let served = shared.load::<Looks>(seat, SERVED);
+    if shared.peek(TICKETS) != served {
+        return None;
     }
-    unreachable!()
+    let found = shared.compare_exchange::<Draws>(seat, TICKETS, served, served + 1);
+    if found != served {
+        return None;
+    }
+    Some(served)
 }
 
-/// Looks until the ticket is served, and then takes the value out.
+/// Polls until the seat has a ticket and the value. It has no ticket meanwhile, so nobody waits for
+/// it, however long the system suspends its thread. It returns the ticket.
 fn wait_turn<V: Kept, R: Wait>(
     rt: &R,
     shared: &Shared<Option<V>, Knows<V::Entry, V::Base>, Opening<V>, ByTurns>,
     seat: &mut Seat<Option<V>, Knows<V::Entry, V::Base>>,
-    ticket: u64,
-)
+) -> u64
     requires table { (seat.old.table_id ≡ shared.now.table_id) × (1 < shared.now.table_id.words) }
-    requires stage { seat.old.me.0.stage ≡ Waits }
-    requires ticket { seat.old.me.0.ticket ≡ ticket }
+    requires stage { seat.old.me.0.stage ≡ Idle }
+    requires few { MayDraw seat.old.me.0.places }
     ensures table { seat.new.table_id ≡ seat.old.table_id }
-    ensures value { HasValue V.stored V.base V.may_add seat.old.me seat.new.me }
+    ensures value { HasValue V.stored V.base V.may_add seat.old.me result seat.new.me }
+    ensures small { result < 2 ^ 38 }
 {
     let mut backoff = Backoff::new();
     for _ in rt.forever() {
-        if shared.load::<Looks>(seat, SERVED) == ticket {
-            return;
+        if let Some(ticket) = poll::<V>(shared, seat) {
+            return ticket;
         }
         backoff.wait(rt);
     }
@@ -75,10 +84,8 @@ impl<V: Kept> TurnLock<V> {
         ensures seat { seat.new ≡ inside seat.old (V.stored result) }
     {
         let shared = &self.table.shared;
-        wait_free::<V, R>(rt, shared);
-        let ticket = shared.fetch_add::<Draws>(&mut seat.seat, TICKETS, 1);
+        let ticket = wait_turn::<V, R>(rt, shared, &mut seat.seat);
         seat.ticket = ticket;
-        wait_turn::<V, R>(rt, shared, &mut seat.seat, ticket);
         shared.exchange(&mut seat.seat, 0, None).unwrap()
     }
 
