@@ -9,7 +9,7 @@ use Rattle.turn_lock.specs.declared.knowledge.Place.{Place}
 use Rattle.turn_lock.specs.declared.knowledge.Stage.{Stage}
 use Rattle.turn_lock.specs.declared.knowledge.Stage.TheVariants.{Idle, Inside}
 use Rattle.turn_lock.specs.Histories.{all_added, IsTurn, GoesOn}
-use Rattle.turn_lock.specs.SeatKnowledge.{IsBusy, parts_of, drawn_of, total, all_drawn}
+use Rattle.turn_lock.specs.SeatKnowledge.{parts_of, drawn_of, total, all_drawn}
 use Rattle.turn_lock.specs.Turns.{HasTicket, PlaceOk, Turns}
 use Rattle.turn_lock.proofs.Totals.{total_times, few_drawn, at_below, item_at}
 use Rattle.turn_lock.proofs.Lists.{added_split, added_few, turn_few, others_turns, drop_item}
@@ -21,16 +21,9 @@ chosen m n a b same = ap (λ (z : Bool). cond z a b) (eq-eqb m n same)
 pub passed : (m n a b : ℕ) → m ≢ n → cond (eqb m n) a b ≡ b
 passed m n a b other = ap (λ (z : Bool). cond z a b) (ne_eqb m n other)
 
--- an idle seat isn't busy
-pub idle_not_busy : (stage : Stage) → stage ≡ Idle → IsBusy stage → ⊥
-idle_not_busy stage idle busy = subst IsBusy idle busy
-
-pub inside_busy : (stage : Stage) → stage ≡ Inside → IsBusy stage
-inside_busy stage inside = subst IsBusy (sym inside) tt
-
-pub busy_inside : (stage : Stage) → IsBusy stage → stage ≡ Inside
-busy_inside Idle busy = absurd busy
-busy_inside Inside busy = refl
+-- an idle seat isn't inside
+pub idle_not_inside : (stage : Stage) → stage ≡ Idle → stage ≡ Inside → ⊥
+idle_not_inside stage idle inside = let never : Idle ≡ Inside = sym idle ∙ inside in absurd (cc)
 
 module _ {A : Type 0} where
   pub two_same : (xs : List A) (k : ℕ) (a b : A) → get_elem? xs k ≡ some a → get_elem? xs k ≡ some b → a ≡ b
@@ -51,11 +44,10 @@ module _ {A : Type 0} where
   set_only (x ∷ y ∷ xs) a one = absurd (omega arith)
 
 module _ {E B : Type 0} {b : B} {f : List E} {owners : List ℕ} {added : List (List E)} {seat_of : ℕ → ℕ} {made j : ℕ} where
-  -- a place whose seat of the table has moved on, and hasn't let a ticket go
+  -- a place whose seat of the table has moved on
   pub place_moves : {v w : Knows E B} {p : Place E} → PlaceOk b f owners added seat_of made j v p → w.base ≡ v.base
-      → w.first ≡ v.first → (IsBusy v.stage → IsBusy w.stage × (w.ticket ≡ v.ticket))
-      → PlaceOk b f owners added seat_of made j w p
-  place_moves ok base first busy = record {
+      → w.first ≡ v.first → PlaceOk b f owners added seat_of made j w p
+  place_moves ok base first = record {
     base_is = base ∙ ok.base_is;
     first_is = first ∙ ok.first_is;
     lies = ok.lies;
@@ -67,7 +59,6 @@ module _ {E B : Type 0} {b : B} {f : List E} {owners : List ℕ} {added : List (
     last_is = ok.last_is;
     latest = ok.latest;
     others = ok.others;
-    pending = λ i late mine. let had = ok.pending i late mine in let still = busy had.0 in (still.0, still.1 ∙ had.1);
   }
 
   -- a place whose seat has another number in the table
@@ -85,7 +76,6 @@ module _ {E B : Type 0} {b : B} {f : List E} {owners : List ℕ} {added : List (
     last_is = ok.last_is;
     latest = ok.latest;
     others = ok.others;
-    pending = ok.pending;
   }
 
 module _ {V E B : Type 0} (stored : V → List E) (base : V → B) (may_add : B → ℕ → E → Bool) (b : B) (f : List E) (n : ℕ)

@@ -1,6 +1,6 @@
 -- A lock is closed: one seat represents all, so no turn is left, and the value is back in its slot.
 use Rattle.std.proofs.Common.{◌≡◌, ℕ, zero, suc, ◌+◌, ◌≢◌, ◌==◌, if◌then◌else◌, Bool, List, [], ◌∷◌, ◌++◌, map, length, sym}
-use Rattle.std.proofs.Common.{refl, ap, ◌∙◌, subst, ⊎_elim, eq-or-lt_of_le, arith, Option, Some}
+use Rattle.std.proofs.Common.{refl, ap, ◌∙◌, subst, ⊎_elim, arith, Option, Some}
 use Rattle.std.specs.List.{AllByRecursion}
 use mathlib.Core.Option.{some, none, some-injective, some-ne-none}
 use mathlib.Core.Logic.{dite}
@@ -10,15 +10,15 @@ use Rattle.atomic_table.specs.Table.{State, Final, Seen}
 use Rattle.atomic_table.proofs.Lists.{at_map}
 use Rattle.turn_lock.specs.declared.knowledge.Knows.{Knows}
 use Rattle.turn_lock.specs.declared.knowledge.Place.{Place}
-use Rattle.turn_lock.specs.declared.knowledge.Stage.{Stage}
 use Rattle.turn_lock.specs.declared.knowledge.Stage.TheVariants.{Idle, Inside}
 use Rattle.turn_lock.specs.Histories.{times, all_added, GoesOn}
-use Rattle.turn_lock.specs.SeatKnowledge.{IsBusy, parts_of, drawn_of, total, all_drawn}
+use Rattle.turn_lock.specs.SeatKnowledge.{parts_of, drawn_of, total, all_drawn}
 use Rattle.turn_lock.specs.Seats.{SeatValue, entered_by, place_of}
 use Rattle.turn_lock.specs.Endings.{turns_of, added_in, IsTurnOf, HasTurns, Ends}
-use Rattle.turn_lock.specs.Turns.{StageOk, Turns}
+use Rattle.turn_lock.specs.Turns.{Turns}
 use Rattle.turn_lock.proofs.Totals.{total_both}
-use Rattle.turn_lock.proofs.Histories.{idle_not_busy, inside_busy, history_goes_on}
+use Rattle.turn_lock.proofs.Histories.{idle_not_inside, history_goes_on}
+use Rattle.turn_lock.proofs.TicketLooks.{inside_with}
 
 module _ {E : Type 0} where
   -- each ticket with its seat's number and what its turn added
@@ -94,12 +94,6 @@ module _ {E B : Type 0} where
   length_seats [] = refl
   length_seats (seat ∷ seats) = ap suc (length_seats seats)
 
-module _ {E B : Type 0} (owners : List ℕ) (added : List (List E)) (history : List E) (v : Knows E B) where
-  -- a seat that isn't idle represents a seat of the lock
-  busy_has : (stage : Stage) → StageOk owners added history v stage → IsBusy stage → (place : Place E) × (v.places ≡ place ∷ [])
-  busy_has Idle ok busy = absurd busy
-  busy_has Inside ok busy = (ok.0.0, ok.0.1)
-
 module _ {V E B : Type 0} (stored : V → List E) (base : V → B) (may_add : B → ℕ → E → Bool) (b : B) (f : List E) (n : ℕ) where
   -- where one idle seat represents all, no seat has a ticket
   nobody : (s : State (Option V) (Knows E B)) (r : Turns stored base may_add b f n s) (id : ℕ) (v : Knows E B)
@@ -108,14 +102,14 @@ module _ {V E B : Type 0} (stored : V → List E) (base : V → B) (may_add : B 
   nobody s r id v at idle all j u to other = let both = total_both parts_of s.views j id u v other to at in let shares =
       r.shares in nothing_in u.places (omega (arith, both, shares, all))
 
-  not_busy : (s : State (Option V) (Knows E B)) (r : Turns stored base may_add b f n s) (id : ℕ) (v : Knows E B)
+  not_inside : (s : State (Option V) (Knows E B)) (r : Turns stored base may_add b f n s) (id : ℕ) (v : Knows E B)
       → get_elem? s.views id ≡ some v → v.stage ≡ Idle → length v.places ≡ n
-      → (j : ℕ) (u : Knows E B) → get_elem? s.views j ≡ some u → IsBusy u.stage → ⊥
-  not_busy s r id v at idle all j u to busy = dite (ℕ_discrete j id)
-      (λ same. idle_not_busy u.stage
+      → (j : ℕ) (u : Knows E B) → get_elem? s.views j ≡ some u → u.stage ≡ Inside → ⊥
+  not_inside s r id v at idle all j u to inside = dite (ℕ_discrete j id)
+      (λ same. idle_not_inside u.stage
       (ap (λ (z : Knows E B). z.stage)
-      (some-injective u v (sym to ∙ ap (λ (z : ℕ). get_elem? s.views z) same ∙ at)) ∙ idle) busy)
-      (λ other. let has = busy_has r.owners r.added (f ++ all_added r.added) u u.stage (r.each_stage j u to) busy in
+      (some-injective u v (sym to ∙ ap (λ (z : ℕ). get_elem? s.views z) same ∙ at)) ∙ idle) inside)
+      (λ other. let has = (inside_with stored base may_add b f n s r j u to inside).0 in
       let none_there = nobody s r id v at idle all j u to other in let long : length u.places ≡ 1 = ap length has.1 in
       let short : length u.places ≡ 0 = ap length none_there in omega (arith, long, short))
 
@@ -128,13 +122,11 @@ module _ {V E B : Type 0} (stored : V → List E) (base : V → B) (may_add : B 
   ends words slots id v seats are idle all final =
       let s = final.0 in let r = final.1.0 in let at = final.1.1 in let long : length v.places ≡ n =
       ap length are ∙ length_seats seats ∙ all in
-      let even : length r.added ≡ length r.owners =
-      ⊎_elim (λ same. same) (λ less. let had = r.waited (length r.added) (omega arith) less in
-      absurd (not_busy s r id v at idle long had.0 had.1 had.2 had.3)) (eq-or-lt_of_le r.behind) in
       let home : (x : V) × (s.homes ≡ some (Some x) ∷ []) × (stored x ≡ f ++ all_added r.added) × (base x ≡ b)
+      × (length r.owners ≡ length r.added)
       = ⊎_elim (λ here. here)
-      (λ out. absurd (not_busy s r id v at idle long out.1.0 out.1.1 out.1.2 (inside_busy out.1.1.stage out.1.3)))
-      r.value_is in
+      (λ out. let has = out.2 in absurd (not_inside s r id v at idle long has.0 has.1 has.2 has.3)) r.value_is in
+      let even : length r.added ≡ length r.owners = sym home.4 in
       let x : V = home.0 in let turns = turns_from r.owners r.added in (
         x,
         final.4 0 (Some x) (ap (λ (z : List (mathlib.Core.Option.Option (Option V))). get_elem? z 0) home.1),

@@ -13,7 +13,7 @@ use Rattle.turn_lock.specs.declared.knowledge.Place.{Place}
 use Rattle.turn_lock.specs.declared.knowledge.Stage.{Stage}
 use Rattle.turn_lock.specs.declared.knowledge.Stage.TheVariants.{Idle, Inside}
 use Rattle.turn_lock.specs.Histories.{all_added}
-use Rattle.turn_lock.specs.SeatKnowledge.{IsBusy, parts_of, drawn_of, fresh_place, opening, maker, newcomer}
+use Rattle.turn_lock.specs.SeatKnowledge.{parts_of, drawn_of, fresh_place, opening, maker, newcomer}
 use Rattle.turn_lock.specs.Turns.{StageOk, PlaceOk, Turns}
 use Rattle.turn_lock.proofs.Totals.{total_set, total_more, at_below, at_more, only_item}
 use Rattle.turn_lock.proofs.Lists.{times_none}
@@ -37,38 +37,30 @@ module _ {E B : Type 0} {b : B} {f : List E} {owners : List ℕ} {added : List (
     last_is = first ∙ sym (append-nil f);
     latest = λ i is. absurd (omega (arith, is));
     others = λ i from below. never i;
-    pending = λ i late mine. absurd (never i mine);
   }
 
 module _ {E B : Type 0} where
-  -- a seat with this stage and ticket is at the place
-  pub record Still (views : List (Knows E B)) (j : ℕ) (stage : Stage) (ticket : ℕ) : Type 0 where
+  -- a seat with this stage is at the place
+  pub record Still (views : List (Knows E B)) (j : ℕ) (stage : Stage) : Type 0 where
     pub seat : Knows E B
     pub there : get_elem? views j ≡ some seat
     pub stage_is : seat.stage ≡ stage
-    pub ticket_is : seat.ticket ≡ ticket
 
   -- each seat is where it was, when the first one has made the next one
   pub still_there : (views : List (Knows E B)) (id : ℕ) (v u : Knows E B) → get_elem? views id ≡ some v
-      → (j : ℕ) (t : Knows E B) → get_elem? views j ≡ some t → Still (set views id (maker v) ++ u ∷ []) j t.stage t.ticket
+      → (j : ℕ) (t : Knows E B) → get_elem? views j ≡ some t → Still (set views id (maker v) ++ u ∷ []) j t.stage
   still_there views id v u at j t to = let w = maker v in let later : List (Knows E B) = set views id w in let below =
       at_below views id v at in dite (ℕ_discrete j id)
       (λ same. let is_v : v ≡ t = some-injective v t (sym at ∙ ap (λ (z : ℕ). get_elem? views z) (sym same) ∙ to) in record {
         seat = w;
         there = at_longer later (u ∷ []) j w (ap (λ (z : ℕ). get_elem? later z) same ∙ set_here views id w below);
         stage_is = ap (λ (z : Knows E B). z.stage) is_v;
-        ticket_is = ap (λ (z : Knows E B). z.ticket) is_v;
       })
       (λ other. record {
         seat = t;
         there = at_longer later (u ∷ []) j t (set_else views id j w other ∙ to);
         stage_is = refl;
-        ticket_is = refl;
       })
-
-  still_inside : (views : List (Knows E B)) (j : ℕ) (stage : Stage) (ticket : ℕ) (had : Still views j stage ticket)
-      → stage ≡ Inside → had.seat.stage ≡ Inside
-  still_inside views j stage ticket had inside = had.stage_is ∙ inside
 
 module _ {E B : Type 0} (owners : List ℕ) (added : List (List E)) (history : List E) (v : Knows E B) where
   -- making a seat changes no ticket
@@ -86,7 +78,6 @@ module _ {V E B : Type 0} (stored : V → List E) (base : V → B) (may_add : B 
     seat_of = λ _. 0;
     made = 1;
     words_are = refl;
-    homes_are = refl;
     tickets = refl;
     served = refl;
     behind = le_refl 0;
@@ -96,7 +87,6 @@ module _ {V E B : Type 0} (stored : V → List E) (base : V → B) (may_add : B 
     sum = refl;
     owned = λ i number mine. absurd (some-ne-none number (sym mine));
     each_turn = λ i number entries mine turn. absurd (some-ne-none number (sym mine));
-    waited = λ i late under. absurd (omega (arith, under));
     each_place = λ j k v p at here. ⊎_elim (λ nothing. absurd (some-ne-none v (sym nothing)))
         (λ last. subst (λ (z : Knows E B). get_elem? z.places k ≡ some p → PlaceOk b f [] [] (λ _. 0) 1 j z p) last.1
         (λ is. let w = opening b f n in let fresh = only_item w.places (fresh_place 0 f) p k refl is in
@@ -111,7 +101,7 @@ module _ {V E B : Type 0} (stored : V → List E) (base : V → B) (may_add : B 
         (λ last. subst (λ (z : Knows E B). 0 < z.spare → (j ≡ 0) × (z.next ≡ 1) × (1 + z.spare ≡ n)) last.1
         (λ more. (last.0, refl, omega (arith, some_seat))) spare)
         (at_more [] (opening b f n) v j at);
-    value_is = inl (x, refl, stored_is ∙ sym (append-nil f), base_is);
+    value_is = inl (x, refl, stored_is ∙ sym (append-nil f), base_is, refl);
   }
 
   -- the first seat makes the next one
@@ -137,7 +127,6 @@ module _ {V E B : Type 0} (stored : V → List E) (base : V → B) (may_add : B 
         seat_of = seats;
         made = made + 1;
         words_are = r.words_are;
-        homes_are = r.homes_are;
         tickets = r.tickets;
         served = r.served;
         behind = r.behind;
@@ -149,14 +138,12 @@ module _ {V E B : Type 0} (stored : V → List E) (base : V → B) (may_add : B 
             omega (arith, sums, more, old);
         owned = λ i number mine. let under = r.owned i number mine in omega (arith, under);
         each_turn = r.each_turn;
-        waited = λ i late under. let had = r.waited i late under in let now = still had.0 had.1 had.2 in
-            (had.0, now.seat, now.there, subst IsBusy (sym now.stage_is) had.3, now.ticket_is ∙ had.4);
         each_place = λ j k t q to here. ⊎_elim
             (λ among. ⊎_elim
             (λ same. subst (λ (z : Knows E B). get_elem? z.places k ≡ some q
             → PlaceOk b f r.owners r.added seats (made + 1) j z q) same.1
             (λ mine. subst (λ (z : ℕ). PlaceOk b f r.owners r.added seats (made + 1) z w q) (sym same.0)
-            (place_moves (old_place id k v q at mine) refl refl (λ busy. (busy, refl)))) here)
+            (place_moves (old_place id k v q at mine) refl refl)) here)
             (λ other. old_place j k t q other.1 here)
             (at_set s.views id j w t among))
             (λ last. subst (λ (z : Knows E B). get_elem? z.places k ≡ some q
@@ -192,10 +179,11 @@ module _ {V E B : Type 0} (stored : V → List E) (base : V → B) (may_add : B 
             (at_more views u t j to);
         value_is =
             ⊎_elim (λ home. inl home)
-            (λ out. let now = still out.1.0 out.1.1 out.1.2 in
+            (λ out. let has = out.2 in let now = still has.0 has.1 has.2 in
             inr (
               out.0,
-              (out.1.0, now.seat, now.there, still_inside (views ++ u ∷ []) out.1.0 out.1.1.stage out.1.1.ticket now out.1.3),
+              out.1,
+              (has.0, now.seat, now.there, now.stage_is ∙ has.3),
             ))
             r.value_is;
       }

@@ -8,13 +8,13 @@ use Rattle.atomic_table.proofs.Lists.{at_set, set_else}
 use Rattle.turn_lock.specs.declared.knowledge.Knows.{Knows}
 use Rattle.turn_lock.specs.declared.knowledge.Place.{Place}
 use Rattle.turn_lock.specs.declared.knowledge.Stage.{Stage}
-use Rattle.turn_lock.specs.declared.knowledge.Stage.TheVariants.{Idle}
+use Rattle.turn_lock.specs.declared.knowledge.Stage.TheVariants.{Idle, Inside}
 use Rattle.turn_lock.specs.Histories.{all_added}
-use Rattle.turn_lock.specs.SeatKnowledge.{IsBusy, parts_of, drawn_of, total, joined, spent}
+use Rattle.turn_lock.specs.SeatKnowledge.{parts_of, drawn_of, total, joined, spent}
 use Rattle.turn_lock.specs.Turns.{StageOk, PlaceOk, Turns}
 use Rattle.turn_lock.proofs.Totals.{total_set, at_both, drawn_join}
 use Rattle.turn_lock.proofs.PlacesApart.{apart_none, apart_join, apart_set}
-use Rattle.turn_lock.proofs.Histories.{chosen, passed, idle_not_busy, inside_busy, place_moves, place_lies}
+use Rattle.turn_lock.proofs.Histories.{chosen, passed, idle_not_inside, place_moves, place_lies}
 use Rattle.turn_lock.proofs.TicketLooks.{idle_with}
 
 module _ {V E B : Type 0} (stored : V → List E) (base : V → B) (may_add : B → ℕ → E → Bool) (b : B) (f : List E) (n : ℕ) where
@@ -26,28 +26,27 @@ module _ {V E B : Type 0} (stored : V → List E) (base : V → B) (may_add : B 
       let both = joined v w in let old : get_elem? s.views other ≡ some w = sym (set_else s.views id other both apart) ∙ to in
       let mid : List (Knows E B) = set s.views id both in
       let first = r.each_place id 0 v p at one in let seats : ℕ → ℕ = λ m. cond (eqb (r.seat_of m) other) id (r.seat_of m) in
-      let still : (j : ℕ) (t : Knows E B) → get_elem? s.views j ≡ some t → IsBusy t.stage
+      let still : (j : ℕ) (t : Knows E B) → get_elem? s.views j ≡ some t → t.stage ≡ Inside
       → get_elem? (set mid other spent) j ≡ some t
-      = λ j t here busy. let not_id : j ≢ id =
-      λ e. idle_not_busy t.stage
+      = λ j t here inside. let not_id : j ≢ id =
+      λ e. idle_not_inside t.stage
       (ap (λ (z : Knows E B). z.stage) (some-injective t v (sym here ∙ ap (λ (z : ℕ). get_elem? s.views z) e ∙ at))
-      ∙ idle) busy in
+      ∙ idle) inside in
       let not_other : j ≢ other =
-      λ e. idle_not_busy t.stage
+      λ e. idle_not_inside t.stage
       (ap (λ (z : Knows E B). z.stage) (some-injective t w (sym here ∙ ap (λ (z : ℕ). get_elem? s.views z) e ∙ old))
-      ∙ also_idle) busy in
+      ∙ also_idle) inside in
       set_else mid other j spent not_other ∙ (set_else s.views id j both not_id ∙ here) in
       let mine : (k : ℕ) (q : Place E) → get_elem? v.places k ≡ some q → PlaceOk b f r.owners r.added seats r.made id both q
       = λ k q here. let was = r.each_place id k v q at here in
       place_moves
       (place_lies seats r.made id was
       (passed (r.seat_of q.number) other id (r.seat_of q.number) (λ e. apart (sym e ∙ was.lies)) ∙ was.lies)
-      (le_refl r.made)) refl refl (λ busy. absurd (idle_not_busy v.stage idle busy)) in
+      (le_refl r.made)) refl refl in
       let yours : (k : ℕ) (q : Place E) → get_elem? w.places k ≡ some q → PlaceOk b f r.owners r.added seats r.made id both q
       = λ k q here. let was = r.each_place other k w q old here in
       place_moves (place_lies seats r.made id was (chosen (r.seat_of q.number) other id (r.seat_of q.number) was.lies)
-      (le_refl r.made)) (first.base_is ∙ sym was.base_is) (first.first_is ∙ sym was.first_is)
-      (λ busy. absurd (idle_not_busy w.stage also_idle busy)) in
+      (le_refl r.made)) (first.base_is ∙ sym was.base_is) (first.first_is ∙ sym was.first_is) in
       let sums : (g : Knows E B → ℕ) → g both ≡ g v + g w → g spent ≡ 0 → total g (set mid other spent) ≡ total g s.views
       = λ g added empty. let a = total_set g s.views id v both at in let c = total_set g mid other w spent to in
       omega (arith, a, c, added, empty) in record {
@@ -56,7 +55,6 @@ module _ {V E B : Type 0} (stored : V → List E) (base : V → B) (may_add : B 
         seat_of = seats;
         made = r.made;
         words_are = r.words_are;
-        homes_are = r.homes_are;
         tickets = r.tickets;
         served = r.served;
         behind = r.behind;
@@ -66,7 +64,6 @@ module _ {V E B : Type 0} (stored : V → List E) (base : V → B) (may_add : B 
         sum = sums drawn_of (let all = drawn_join w.places v.places in omega (arith, all)) refl ∙ r.sum;
         owned = r.owned;
         each_turn = r.each_turn;
-        waited = λ i late under. let had = r.waited i late under in (had.0, had.1, still had.0 had.1 had.2 had.3, had.3, had.4);
         each_place = λ j k t q here there. ⊎_elim
             (λ same. let nothing : get_elem? [] k
             ≡ some q = subst (λ (z : Knows E B). get_elem? z.places k ≡ some q) (sym same.1) there in
@@ -111,6 +108,6 @@ module _ {V E B : Type 0} (stored : V → List E) (base : V → B) (may_add : B 
             (at_set mid other j spent t here);
         value_is =
             ⊎_elim (λ home. inl home)
-            (λ out. inr (out.0, (out.1.0, out.1.1, still out.1.0 out.1.1 out.1.2 (inside_busy out.1.1.stage out.1.3), out.1.3)))
+            (λ out. let has = out.2 in inr (out.0, out.1, (has.0, has.1, still has.0 has.1 has.2 has.3, has.3)))
             r.value_is;
       }

@@ -22,8 +22,8 @@ use Rattle.turn_lock.specs.Steps.{MayDraw, Drew}
 use Rattle.turn_lock.proofs.Totals.{total_set, at_below, at_more, only_item}
 use Rattle.turn_lock.proofs.Lists.{times_more, times_same, times_else}
 use Rattle.turn_lock.proofs.PlacesApart.{apart_one, apart_set}
-use Rattle.turn_lock.proofs.Histories.{idle_not_busy, words_again, history_few, history_goes_on}
-use Rattle.turn_lock.proofs.TicketLooks.{idle_with, inside_with}
+use Rattle.turn_lock.proofs.Histories.{words_again, history_few, history_goes_on}
+use Rattle.turn_lock.proofs.TicketLooks.{idle_with}
 
 module _ {E B : Type 0} {b : B} {f : List E} {owners : List ℕ} {added : List (List E)} {seat_of : ℕ → ℕ} {made j : ℕ}
     {v : Knows E B} where
@@ -45,14 +45,13 @@ module _ {E B : Type 0} {b : B} {f : List E} {owners : List ℕ} {added : List (
     others = λ i from below mine. ⊎_elim (ok.others i from below)
         (λ last. let at : i ≡ length owners = last.0 in omega (arith, at, below, behind))
         (at_more owners number p.number i mine);
-    pending = λ i late mine. ⊎_elim (ok.pending i late) (λ last. absurd (other last.1)) (at_more owners number p.number i mine);
   }
 
   -- the place of the seat that draws it
-  pub place_draws : {p : Place E} (entries : List E) → length added ≤ length owners → v.stage ≡ Idle → p.drawn < 2 ^ 32
+  pub place_draws : {p : Place E} (entries : List E) → length added ≤ length owners → p.drawn < 2 ^ 32
       → PlaceOk b f owners added seat_of made j v p
       → PlaceOk b f (owners ++ p.number ∷ []) added seat_of made j (entered v (length owners) entries) (record p { drawn = p.drawn + 1 })
-  place_draws {p} entries behind idle few ok = record {
+  place_draws {p} entries behind few ok = record {
     base_is = ok.base_is;
     first_is = ok.first_is;
     lies = ok.lies;
@@ -67,8 +66,6 @@ module _ {E B : Type 0} {b : B} {f : List E} {owners : List ℕ} {added : List (
     others = λ i from below mine. ⊎_elim (ok.others i from below)
         (λ last. let at : i ≡ length owners = last.0 in omega (arith, at, below, behind))
         (at_more owners p.number p.number i mine);
-    pending = λ i late mine. ⊎_elim (λ old. absurd (idle_not_busy v.stage idle (ok.pending i late old).0))
-        (λ last. (tt, sym last.0)) (at_more owners p.number p.number i mine);
   }
 
 module _ {E B : Type 0} (owners : List ℕ) (added : List (List E)) (history : List E) (v : Knows E B) where
@@ -101,7 +98,6 @@ module _ {V E B : Type 0} (stored : V → List E) (base : V → B) (may_add : B 
         seat_of = r.seat_of;
         made = r.made;
         words_are = length-set s.words 0 word ∙ two;
-        homes_are = ap length out;
         tickets = get_or-set_same s.words 0 word 0 (omega (arith, two)) ∙ is ∙ sym long;
         served = get_or-set_other s.words 0 1 word 0 (λ e. omega arith) ∙ r.served;
         behind = omega (arith, behind, long);
@@ -117,14 +113,13 @@ module _ {V E B : Type 0} (stored : V → List E) (base : V → B) (may_add : B 
         each_turn = λ i number entries mine turn. ⊎_elim (λ old. r.each_turn i number entries old turn)
             (λ last. let here = last.0 in let sooner = at_below r.added i entries turn in
             absurd (omega (arith, here, sooner, behind))) (at_more r.owners p.number number i mine);
-        waited = λ i late under. (id, w, here, tt, let g : length r.owners ≡ i = omega (arith, late, under, long, even) in g);
         each_place = λ j k u q to here. ⊎_elim
             (λ same. let drawn = only_item w.places (record p { drawn = p.drawn + 1 }) q k places
             (subst (λ (z : Knows E B). get_elem? z.places k ≡ some q) (sym same.1) here) in
             subst (λ (z : Place E). PlaceOk b f more r.added r.seat_of r.made j u z) drawn
             (subst (λ (z : Knows E B). PlaceOk b f more r.added r.seat_of r.made j z (record p { drawn = p.drawn + 1 })) same.1
             (subst (λ (z : ℕ). PlaceOk b f more r.added r.seat_of r.made z w (record p { drawn = p.drawn + 1 })) (sym same.0)
-            (place_draws (stored x) behind idle few ok))))
+            (place_draws (stored x) behind few ok))))
             (λ other. let old = r.each_place j k u q other.1 here in
             place_else p.number behind (λ e. other.0 (sym old.lies ∙ ap r.seat_of (sym e) ∙ ok.lies)) old)
             (at_set s.views id j w u to);
@@ -139,17 +134,15 @@ module _ {V E B : Type 0} (stored : V → List E) (base : V → B) (may_add : B 
             (λ some_spare. let had = r.each_maker id v at some_spare in (same.0 ∙ had.0, had.1, had.2)) spare)
             (λ other. r.each_maker j u other.1 spare)
             (at_set s.views id j w u to);
-        value_is = inr (out, (id, w, here, refl));
+        value_is = inr (out, (let g : length more ≡ length r.added + 1 = omega (arith, long, even) in g), (id, w, here, refl));
       }
 
   -- where all tickets are served to their end, the value is in its slot
   value_at_home : (s : State (Option V) (Knows E B)) (r : Turns stored base may_add b f n s)
       → length r.added ≡ length r.owners
       → (x : V) × (s.homes ≡ some (Some x) ∷ []) × (stored x ≡ f ++ all_added r.added) × (base x ≡ b)
-  value_at_home s r even = ⊎_elim (λ home. home)
-      (λ out. let has = inside_with stored base may_add b f n s r out.1.0 out.1.1 out.1.2 out.1.3 in
-      let sooner = at_below r.owners out.1.1.ticket has.0.0.number has.0.2 in let served = has.1 in
-      absurd (omega (arith, sooner, served, even)))
+  value_at_home s r even = ⊎_elim (λ home. (home.0, home.1, home.2, home.3))
+      (λ out. let one = out.1 in absurd (omega (arith, one, even)))
       r.value_is
 
   -- a seat that is idle may draw the ticket that it has found served, and take the value

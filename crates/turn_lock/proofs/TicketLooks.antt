@@ -9,12 +9,12 @@ use Rattle.turn_lock.specs.declared.knowledge.Knows.{Knows}
 use Rattle.turn_lock.specs.declared.knowledge.Stage.{Stage}
 use Rattle.turn_lock.specs.declared.knowledge.Stage.TheVariants.{Idle, Inside}
 use Rattle.turn_lock.specs.Histories.{all_added}
-use Rattle.turn_lock.specs.SeatKnowledge.{IsBusy, parts_of, drawn_of, looked}
+use Rattle.turn_lock.specs.SeatKnowledge.{parts_of, drawn_of, looked}
 use Rattle.turn_lock.specs.Turns.{HasTicket, StageOk, PlaceOk, Turns}
 use Rattle.turn_lock.specs.Steps.{Looked}
 use Rattle.turn_lock.proofs.Totals.{total_set}
 use Rattle.turn_lock.proofs.PlacesApart.{apart_set}
-use Rattle.turn_lock.proofs.Histories.{idle_not_busy, inside_busy, words_again, place_moves, tickets_below}
+use Rattle.turn_lock.proofs.Histories.{idle_not_inside, words_again, place_moves, tickets_below}
 
 module _ {V E B : Type 0} (stored : V → List E) (base : V → B) (may_add : B → ℕ → E → Bool) (b : B) (f : List E) (n : ℕ) where
   -- what a seat that is idle has found served
@@ -30,25 +30,24 @@ module _ {V E B : Type 0} (stored : V → List E) (base : V → B) (may_add : B 
   inside_with s r id v at inside =
       subst (λ (z : Stage). StageOk r.owners r.added (f ++ all_added r.added) v z) inside (r.each_stage id v at)
 
-  -- a seat that is busy is another than one that is idle
-  pub busy_else : (s : State (Option V) (Knows E B)) (id : ℕ) (v w : Knows E B) → get_elem? s.views id ≡ some v → v.stage ≡ Idle
-      → (j : ℕ) (u : Knows E B) → get_elem? s.views j ≡ some u → IsBusy u.stage → get_elem? (set s.views id w) j ≡ some u
-  busy_else s id v w at idle j u to busy = set_else s.views id j w
-      (λ e. idle_not_busy u.stage
-      (ap (λ (z : Knows E B). z.stage) (some-injective u v (sym to ∙ ap (λ (z : ℕ). get_elem? s.views z) e ∙ at)) ∙ idle) busy)
+  -- a seat that is inside is another than one that is idle
+  pub inside_else : (s : State (Option V) (Knows E B)) (id : ℕ) (v w : Knows E B) → get_elem? s.views id ≡ some v → v.stage ≡ Idle
+      → (j : ℕ) (u : Knows E B) → get_elem? s.views j ≡ some u → u.stage ≡ Inside → get_elem? (set s.views id w) j ≡ some u
+  inside_else s id v w at idle j u to inside = set_else s.views id j w
+      (λ e. idle_not_inside u.stage
+      (ap (λ (z : Knows E B). z.stage) (some-injective u v (sym to ∙ ap (λ (z : ℕ). get_elem? s.views z) e ∙ at)) ∙ idle) inside)
       ∙ to
 
   -- the history after the look
   after_look : (s : State (Option V) (Knows E B)) (r : Turns stored base may_add b f n s) (id : ℕ) (v : Knows E B) (served : ℕ)
       → get_elem? s.views id ≡ some v → v.stage ≡ Idle → served ≤ length r.added
       → Turns stored base may_add b f n record { words = s.words; homes = s.homes; views = set s.views id (looked v served) }
-  after_look s r id v served at idle sooner = let w = looked v served in let else = busy_else s id v w at idle in record {
+  after_look s r id v served at idle sooner = let w = looked v served in record {
     owners = r.owners;
     added = r.added;
     seat_of = r.seat_of;
     made = r.made;
     words_are = r.words_are;
-    homes_are = r.homes_are;
     tickets = r.tickets;
     served = r.served;
     behind = r.behind;
@@ -58,12 +57,11 @@ module _ {V E B : Type 0} (stored : V → List E) (base : V → B) (may_add : B 
     sum = let all = total_set drawn_of s.views id v w at in let old = r.sum in omega (arith, all, old);
     owned = r.owned;
     each_turn = r.each_turn;
-    waited = λ i late under. let had = r.waited i late under in (had.0, had.1, else had.0 had.1 had.2 had.3, had.3, had.4);
     each_place = λ j k u q to there. ⊎_elim
         (λ same. subst (λ (z : Knows E B). get_elem? z.places k ≡ some q
         → PlaceOk b f r.owners r.added r.seat_of r.made j z q) same.1
         (λ mine_there. subst (λ (z : ℕ). PlaceOk b f r.owners r.added r.seat_of r.made z w q) (sym same.0)
-        (place_moves (r.each_place id k v q at mine_there) refl refl (λ busy. absurd (idle_not_busy v.stage idle busy)))) there)
+        (place_moves (r.each_place id k v q at mine_there) refl refl)) there)
         (λ other. r.each_place j k u q other.1 there)
         (at_set s.views id j w u to);
     each_apart = apart_set s.views id w r.each_apart (r.each_apart id v at);
@@ -79,7 +77,7 @@ module _ {V E B : Type 0} (stored : V → List E) (base : V → B) (may_add : B 
         (at_set s.views id j w u to);
     value_is =
         ⊎_elim (λ home. inl home)
-        (λ out. inr (out.0, (out.1.0, out.1.1, else out.1.0 out.1.1 out.1.2 (inside_busy out.1.1.stage out.1.3), out.1.3)))
+        (λ out. let has = out.2 in inr (out.0, out.1, (has.0, has.1, inside_else s id v w at idle has.0 has.1 has.2 has.3, has.3)))
         r.value_is;
   }
 

@@ -3,10 +3,10 @@ use Rattle.std.proofs.Common.{◌≡◌, ℕ, ◌+◌, ◌<◌, ◌≤◌, ◌�
 use Rattle.std.proofs.Common.{inl, eq-or-lt_of_le, arith, append_assoc, length-append, length-set, get_or-set_same}
 use Rattle.std.proofs.Common.{get_or-set_other, Option, Some, unwrap_or}
 use Rattle.std.proofs.Math.Seq.{take-length}
-use mathlib.Core.Option.{some, none, some-injective}
+use mathlib.Core.Option.{some, none}
 use lib.ListN.{get_elem?}
 use Rattle.atomic_table.specs.Table.{State, Me, step, gives, rest, stepped, Allows}
-use Rattle.atomic_table.proofs.Lists.{at_set, set_else}
+use Rattle.atomic_table.proofs.Lists.{at_set}
 use Rattle.turn_lock.specs.declared.knowledge.Knows.{Knows}
 use Rattle.turn_lock.specs.declared.knowledge.Place.{Place}
 use Rattle.turn_lock.specs.declared.knowledge.Stage.{Stage}
@@ -43,14 +43,13 @@ module _ {E B : Type 0} {b : B} {f : List E} {owners : List ℕ} {added : List (
         (two_same owners i owner p.number (subst (λ (z : ℕ). get_elem? owners z ≡ some owner) (sym last) whose) mine))
         (λ sooner. ok.others i from sooner mine)
         (eq-or-lt_of_le (let g : i ≤ length added = omega (arith, below, long) in g));
-    pending = λ i late mine. ok.pending i (omega (arith, late, long)) mine;
   }
 
   -- the place of the seat whose turn it is
   pub place_leaves : {p : Place E} (entries stored : List E) → get_elem? owners (length added) ≡ some p.number
-      → v.ticket ≡ length added → stored ≡ (f ++ all_added added) ++ entries → PlaceOk b f owners added seat_of made j v p
+      → stored ≡ (f ++ all_added added) ++ entries → PlaceOk b f owners added seat_of made j v p
       → PlaceOk b f owners (added ++ entries ∷ []) seat_of made j (left v stored) (record p { last = stored })
-  place_leaves {p} entries stored whose served is ok = let more : List (List E) = added ++ entries ∷ [] in
+  place_leaves {p} entries stored whose is ok = let more : List (List E) = added ++ entries ∷ [] in
       let long : length more ≡ length added + 1 = length-append added (entries ∷ []) ∙ (omega arith) in record {
         base_is = ok.base_is;
         first_is = ok.first_is;
@@ -65,8 +64,6 @@ module _ {E B : Type 0} {b : B} {f : List E} {owners : List ℕ} {added : List (
         latest = λ i at. let here : length added ≡ i = omega (arith, at, long) in
             subst (λ (z : ℕ). get_elem? owners z ≡ some p.number) here whose;
         others = λ i from below mine. absurd (omega (arith, from, below));
-        pending = λ i late mine. let old = ok.pending i (omega (arith, late, long)) mine in let t : ℕ = v.ticket in let at : t ≡ i =
-            old.1 in let is_served : t ≡ length added = served in absurd (omega (arith, at, is_served, late, long));
       }
 
 module _ {E B : Type 0} (owners : List ℕ) (added : List (List E)) (history later : List E) (v : Knows E B) (owner : ℕ)
@@ -124,7 +121,6 @@ module _ {V E B : Type 0} (stored : V → List E) (base : V → B) (may_add : B 
         seat_of = r.seat_of;
         made = r.made;
         words_are = length-set s.words 1 word ∙ two;
-        homes_are = length-set s.homes 0 (some (Some x)) ∙ r.homes_are;
         tickets = get_or-set_other s.words 1 0 word 0 (λ e. omega arith) ∙ r.tickets;
         served = get_or-set_same s.words 1 word 0 (omega (arith, two)) ∙ next ∙ ap (λ (z : ℕ). z + 1) served ∙ sym long;
         behind = omega (arith, drawn, long);
@@ -142,19 +138,13 @@ module _ {V E B : Type 0} (stored : V → List E) (base : V → B) (may_add : B 
             subst (λ (z : List E). IsTurn (may_add b) number z) last.1
             (subst (λ (z : ℕ). IsTurn (may_add b) z entries) who turn))
             (at_more r.added entries es i turns);
-        waited = λ i late under. let had = r.waited i (omega (arith, late, long)) under in
-            let other : had.0 ≢ id = λ e. let one_view : had.1 ≡ v =
-            some-injective had.1 v (sym had.2 ∙ ap (λ (z : ℕ). get_elem? s.views z) e ∙ at) in
-            let is_i : length r.added ≡ i = sym served ∙ ap (λ (z : Knows E B). z.ticket) (sym one_view) ∙ had.4 in
-            omega (arith, is_i, late, long) in
-            (had.0, had.1, set_else s.views id had.0 w other ∙ had.2, had.3, had.4);
         each_place = λ j k u q to here. ⊎_elim
             (λ same_seat. let is_q = only_item w.places p' q k places
             (subst (λ (z : Knows E B). get_elem? z.places k ≡ some q) (sym same_seat.1) here) in
             subst (λ (z : Place E). PlaceOk b f r.owners more r.seat_of r.made j u z) is_q
             (subst (λ (z : Knows E B). PlaceOk b f r.owners more r.seat_of r.made j z p') same_seat.1
             (subst (λ (z : ℕ). PlaceOk b f r.owners more r.seat_of r.made z w p') (sym same_seat.0)
-            (place_leaves entries (stored x) whose served all ok))))
+            (place_leaves entries (stored x) whose all ok))))
             (λ other. place_waits p.number entries whose (number_else j k u q other.0 other.1 here)
             (r.each_place j k u q other.1 here))
             (at_set s.views id j w u to);
@@ -172,7 +162,13 @@ module _ {V E B : Type 0} (stored : V → List E) (base : V → B) (may_add : B 
             (same_seat.0 ∙ had.0, had.1, had.2)) spare)
             (λ other. r.each_maker j u other.1 spare)
             (at_set s.views id j w u to);
-        value_is = inl (x, set_only s.homes (some (Some x)) r.homes_are, later, base_is);
+        value_is = inl (
+          x,
+          set_only s.homes (some (Some x)) (⊎_elim (λ home. ap length home.1) (λ out. ap length out.0) r.value_is),
+          later,
+          base_is,
+          ⊎_elim (λ home. let even = home.4 in absurd (omega (arith, even, drawn))) (λ out. out.1 ∙ sym long) r.value_is,
+        );
       }
 
   -- a seat that is inside may end its turn

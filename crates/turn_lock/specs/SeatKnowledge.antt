@@ -2,13 +2,7 @@
 use Rattle.std.specs.Prelude.{ℕ, ◌+◌, ◌-◌, List, [], ◌∷◌, ◌++◌, length, Option, Some, None}
 use Rattle.turn_lock.specs.declared.knowledge.Knows.{Knows}
 use Rattle.turn_lock.specs.declared.knowledge.Place.{Place}
-use Rattle.turn_lock.specs.declared.knowledge.Stage.{Stage}
 use Rattle.turn_lock.specs.declared.knowledge.Stage.TheVariants.{Idle, Inside}
-
--- it has a ticket that isn't served to its end
-abbrev pub IsBusy : Stage → Type 0
-IsBusy Idle = ⊥
-IsBusy Inside = Unit {0}
 
 module _ {E : Type 0} where
   -- a seat that hasn't had a turn

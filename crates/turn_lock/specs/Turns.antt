@@ -11,7 +11,7 @@ use Rattle.turn_lock.specs.declared.knowledge.Place.{Place}
 use Rattle.turn_lock.specs.declared.knowledge.Stage.{Stage}
 use Rattle.turn_lock.specs.declared.knowledge.Stage.TheVariants.{Idle, Inside}
 use Rattle.turn_lock.specs.Histories.{times, all_added, IsTurn}
-use Rattle.turn_lock.specs.SeatKnowledge.{IsBusy, parts_of, drawn_of, total}
+use Rattle.turn_lock.specs.SeatKnowledge.{parts_of, drawn_of, total}
 
 module _ {E B : Type 0} (owners : List ℕ) (added : List (List E)) (history : List E)
     (v : Knows E B) where
@@ -32,8 +32,8 @@ module _ {E : Type 0} where
   AreApart places = (k l : ℕ) (p q : Place E) → get_elem? places k ≡ some p →
       get_elem? places l ≡ some q → p.number ≡ q.number → k ≡ l
 
--- A seat of the lock, of which the seat j of the table knows v: it has few tickets, at most one of
--- which isn't served to its end, and `last` has what the turns added up to its latest one
+-- A seat of the lock, of which the seat j of the table knows v: it has few tickets, and `last` has
+-- what the turns added up to its latest one
 pub record PlaceOk {E B : Type 0} (base : B) (first : List E) (owners : List ℕ)
     (added : List (List E)) (seat_of : ℕ → ℕ) (made j : ℕ) (v : Knows E B) (place : Place E)
     : Type 0 where
@@ -49,15 +49,16 @@ pub record PlaceOk {E B : Type 0} (base : B) (first : List E) (owners : List ℕ
   pub latest : (i : ℕ) → since ≡ suc i → get_elem? owners i ≡ some place.number
   pub others : (i : ℕ) → since ≤ i → i < length added →
       ¬ (get_elem? owners i ≡ some place.number)
-  pub pending : (i : ℕ) → length added ≤ i → get_elem? owners i ≡ some place.number →
-      IsBusy v.stage × (v.ticket ≡ i)
 
 module _ {V E B : Type 0} (stored : V → List E) (base : V → B) where
-  -- the value is in its slot and has the history stored, or a seat that is inside has it
-  abbrev pub ValueOk : B → List E → List (maybe.Option (Option V)) → List (Knows E B) → Type 0
-  ValueOk b history homes views =
-      ((x : V) × (homes ≡ some (Some x) ∷ []) × (stored x ≡ history) × (base x ≡ b))
-      ⊎ ((homes ≡ none ∷ [])
+  -- all tickets drawn are served to their end, and the value is in its slot and has the history
+  -- stored; or all but one are, and a seat that is inside has the value
+  abbrev pub ValueOk : B → List E → ℕ → ℕ → List (maybe.Option (Option V)) → List (Knows E B)
+      → Type 0
+  ValueOk b history drawn ended homes views =
+      ((x : V) × (homes ≡ some (Some x) ∷ []) × (stored x ≡ history) × (base x ≡ b)
+      × (drawn ≡ ended))
+      ⊎ ((homes ≡ none ∷ []) × (drawn ≡ ended + 1)
       × ((j : ℕ) × (v : Knows E B) × (get_elem? views j ≡ some v) × (v.stage ≡ Inside)))
 
 module _ {V E B : Type 0} (stored : V → List E) (base : V → B) (may_add : B → ℕ → E → Bool) where
@@ -68,7 +69,6 @@ module _ {V E B : Type 0} (stored : V → List E) (base : V → B) (may_add : B 
     pub seat_of : ℕ → ℕ
     pub made : ℕ
     pub words_are : length s.words ≡ 2
-    pub homes_are : length s.homes ≡ 1
     pub tickets : slice_index s.words 0 ≡ length owners
     pub served : slice_index s.words 1 ≡ length added
     pub behind : length added ≤ length owners
@@ -79,8 +79,6 @@ module _ {V E B : Type 0} (stored : V → List E) (base : V → B) (may_add : B 
     pub owned : (i number : ℕ) → get_elem? owners i ≡ some number → number < made
     pub each_turn : (i number : ℕ) (entries : List E) → get_elem? owners i ≡ some number →
         get_elem? added i ≡ some entries → IsTurn (may_add b) number entries
-    pub waited : (i : ℕ) → length added ≤ i → i < length owners →
-        (j : ℕ) × (v : Knows E B) × (get_elem? s.views j ≡ some v) × IsBusy v.stage × (v.ticket ≡ i)
     pub each_place : (j k : ℕ) (v : Knows E B) (place : Place E) → get_elem? s.views j ≡ some v →
         get_elem? v.places k ≡ some place → PlaceOk b f owners added seat_of made j v place
     pub each_apart : (j : ℕ) (v : Knows E B) → get_elem? s.views j ≡ some v → AreApart v.places
@@ -88,4 +86,5 @@ module _ {V E B : Type 0} (stored : V → List E) (base : V → B) (may_add : B 
         StageOk owners added (f ++ all_added added) v v.stage
     pub each_maker : (j : ℕ) (v : Knows E B) → get_elem? s.views j ≡ some v → 0 < v.spare →
         (j ≡ 0) × (v.next ≡ made) × (made + v.spare ≡ n)
-    pub value_is : ValueOk stored base b (f ++ all_added added) s.homes s.views
+    pub value_is : ValueOk stored base b (f ++ all_added added) (length owners) (length added)
+        s.homes s.views
