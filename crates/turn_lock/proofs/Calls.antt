@@ -30,19 +30,6 @@ module _ {E V : Type 0} where
   inside_of Idle seen before carried holds some_is = absurd (cc)
   inside_of Inside seen before carried holds some_is = (refl, ap (λ (o : Option (List E)). unwrap_or o before) some_is, holds)
 
-module _ {V : Type 0} where
-  -- the value in the slot that was taken last
-  value_in : List (ℕ × Option V) → V → V
-  value_in [] x = x
-  value_in (c ∷ cs) x = unwrap_or c.1 x
-
-  -- the value that was taken is the one that was read
-  pub same_value : (cs ds bs : List (ℕ × Option V)) (r : Option V) (x y : V) → cs ≡ (0, Some x) ∷ ds → cs ≡ (0, r) ∷ bs
-      → r ≡ Some y → x ≡ y
-  unfolding value_in
-  same_value cs ds bs r x y one other is =
-      ap (λ (z : List (ℕ × Option V)). value_in z x) (sym one ∙ other) ∙ ap (λ (z : Option V). unwrap_or z x) is
-
 module _ {E : Type 0} where
   pub number_last : (entries : List E) (places : List (Place E)) → number_in (with_last entries places) ≡ number_in places
   number_last entries [] = refl

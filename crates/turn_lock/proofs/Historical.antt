@@ -7,7 +7,7 @@ use Rattle.turn_lock.specs.declared.knowledge.Knows.{Knows}
 use Rattle.turn_lock.specs.declared.knowledge.Place.{Place}
 use Rattle.turn_lock.specs.History.{IsHistory}
 use Rattle.turn_lock.specs.Turns.{Turns}
-use Rattle.turn_lock.proofs.Totals.{at_below}
+use Rattle.turn_lock.proofs.Totals.{at_below, past_end}
 use Rattle.turn_lock.proofs.Histories.{two_same, tickets_below, history_goes_on, one_holder}
 use Rattle.turn_lock.proofs.TicketLooks.{inside_with}
 
@@ -58,7 +58,7 @@ module _ {V E B : Type 0} (stored : V → List E) (base : V → B) (may_add : B 
         (ok.drawn_is, ok.few);
     each_turn = r.each_turn;
     each_waits = λ i j v p represents. waits s r i j represents.0 v p represents.1.0 represents.1.1;
-    value_is = ⊎_elim (λ home. inl (home.0, home.1, home.2, home.3))
+    value_is = ⊎_elim (λ home. inl (home.0, home.1, home.2, home.3, past_end r.owners (length r.added) (let even = home.4 in omega (arith, even))))
         (λ out. let j : ℕ = out.2.0 in let v = out.2.1 in
         let has = inside_with stored base may_add b f n s r j v out.2.2 out.2.3 in let p = has.0.0 in
         inr (

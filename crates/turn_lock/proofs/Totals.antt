@@ -1,7 +1,7 @@
 -- Sums over the views of all seats, and lists read by place.
 use Rattle.std.proofs.Common.{◌≡◌, ℕ, zero, suc, ◌+◌, ◌*◌, ◌<◌, ◌≤◌, ◌^◌, ◌≢◌, ◌⊎◌, inl, inr, List, [], ◌∷◌, ◌++◌, length, set}
 use Rattle.std.proofs.Common.{sym, refl, ap, subst, arith}
-use mathlib.Core.Option.{some, some-injective, some-ne-none}
+use mathlib.Core.Option.{some, none, some-injective, some-ne-none}
 use lib.ListN.{get_elem?}
 use Rattle.turn_lock.specs.declared.knowledge.Knows.{Knows}
 use Rattle.turn_lock.specs.declared.knowledge.Place.{Place}
@@ -74,6 +74,12 @@ module _ {A : Type 0} where
   at_below [] k a at = absurd (some-ne-none a (sym at))
   at_below (x ∷ xs) zero a at = omega arith
   at_below (x ∷ xs) (suc k) a at = let rest = at_below xs k a at in omega (arith, rest)
+
+  -- there is no item at the length or above
+  pub past_end : (xs : List A) (k : ℕ) → length xs ≤ k → get_elem? xs k ≡ none
+  past_end [] k above = refl
+  past_end (x ∷ xs) zero above = absurd (omega (arith, above))
+  past_end (x ∷ xs) (suc k) above = past_end xs k (omega (arith, above))
 
   -- an item at a place below the length
   pub item_at : (xs : List A) (k : ℕ) → k < length xs → (a : A) × (get_elem? xs k ≡ some a)

@@ -1,5 +1,5 @@
 -- A turn ends: the turn history stays, with what the turn added.
-use Rattle.std.proofs.Common.{◌≡◌, ℕ, ◌+◌, ◌<◌, ◌≤◌, ◌≢◌, Bool, List, [], ◌∷◌, ◌++◌, length, set, sym, ap, ◌∙◌, subst, ⊎_elim}
+use Rattle.std.proofs.Common.{◌≡◌, ℕ, ◌+◌, ◌<◌, ◌≤◌, ◌≢◌, Bool, List, [], ◌∷◌, ◌++◌, length, set, refl, sym, ap, ◌∙◌, subst, ⊎_elim}
 use Rattle.std.proofs.Common.{inl, eq-or-lt_of_le, arith, append_assoc, length-append, length-set, get_or-set_same}
 use Rattle.std.proofs.Common.{get_or-set_other, Option, Some, unwrap_or}
 use Rattle.std.proofs.Math.Seq.{take-length}
@@ -83,9 +83,12 @@ module _ {V : Type 0} where
   value_in [] x = x
   value_in (c ∷ cs) x = unwrap_or c.1 x
 
-  same_value : (cs : List (ℕ × Option V)) (x y : V) → cs ≡ (0, Some x) ∷ [] → cs ≡ (0, Some y) ∷ [] → x ≡ y
+  -- the value that was taken is the one that was read
+  pub same_value : (cs ds bs : List (ℕ × Option V)) (r : Option V) (x y : V) → cs ≡ (0, Some x) ∷ ds → cs ≡ (0, r) ∷ bs
+      → r ≡ Some y → x ≡ y
   unfolding value_in
-  same_value cs x y one other = ap (λ (z : List (ℕ × Option V)). value_in z x) (sym one ∙ other)
+  same_value cs ds bs r x y one other is =
+      ap (λ (z : List (ℕ × Option V)). value_in z x) (sym one ∙ other) ∙ ap (λ (z : Option V). unwrap_or z x) is
 
 module _ {V E B : Type 0} (stored : V → List E) (base : V → B) (may_add : B → ℕ → E → Bool) (b : B) (f : List E) (n : ℕ) where
   -- the history after the turn
@@ -188,5 +191,5 @@ module _ {V E B : Type 0} (stored : V → List E) (base : V → B) (may_add : B 
             (stepped s 1 word id z (left me.0 (stored x)) gives)) (sym has)
             (after_turn s r id me.0 p x adds.0 word at one inside base_is adds.1
             (subst (λ (z : B). IsTurn (may_add z) p.number adds.0) base_is adds.2) next),
-        (λ y also k. (left me.0 (stored (same_value me.1 x y has also k)), rest (has k))),
+        (λ y also k. (left me.0 (stored (same_value me.1 [] [] (Some y) x y has also refl k)), rest (has k))),
       )

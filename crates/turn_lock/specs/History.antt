@@ -37,11 +37,12 @@ module _ {E B : Type 0} where
   IsInside views j v = (get_elem? views j ≡ some v) × (v.stage ≡ Inside)
 
 module _ {V E B : Type 0} (stored : V → List E) (base : V → B) where
-  -- the value is in its slot with the history stored and the first value's base, or the seat of the
-  -- ticket that is served has it, whose number is the owner
+  -- the value is in its slot with the history stored and the first value's base, and nobody has
+  -- the ticket that is served; or the seat of that ticket, whose number is the owner, has the value
   abbrev pub HasPlace : B → List E → maybe.Option ℕ → State (Option V) (Knows E B) → Type 0
   HasPlace b history owner table =
-      ((x : V) × (table.homes ≡ some (Some x) ∷ []) × (stored x ≡ history) × (base x ≡ b))
+      ((x : V) × (table.homes ≡ some (Some x) ∷ []) × (stored x ≡ history) × (base x ≡ b)
+      × (owner ≡ none))
       ⊎ ((table.homes ≡ none ∷ []) × ((j : ℕ) × (v : Knows E B) × (place : Place E)
       × IsInside table.views j v × (v.places ≡ place ∷ []) × (owner ≡ some place.number)))
 

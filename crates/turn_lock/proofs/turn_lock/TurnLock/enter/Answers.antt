@@ -1,7 +1,8 @@
 use Rattle.std.proofs.Common.{rules, ap, ◌∙◌, ◌<◌, ◌^◌, sym, subst, ◌∷◌, Some, ℕ}
 use Rattle.atomic_table.specs.Table.{rest}
 use Rattle.turn_lock.specs.SeatsInside.{drawn_in}
-use Rattle.turn_lock.proofs.Calls.{idle_of, same_value, entered_me, entered_seat}
+use Rattle.turn_lock.proofs.Calls.{idle_of, entered_me, entered_seat}
+use Rattle.turn_lock.proofs.TurnEnds.{same_value}
 use Rattle.turn_lock.proofs.turn_lock.TurnLock.enter.Goals as goal
 
 pub wait_turn-ticket-requires : goal.wait_turn-ticket-requires
