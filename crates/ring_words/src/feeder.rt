@@ -96,6 +96,8 @@ impl<B: Content + Drop> FeederEnd<B> for TableFeeder<B> {
         self.table
             .shared
             .store::<FeederStores>(&mut self.seat, place, word);
+        // The reader may sleep on this word.
+        self.table.shared.wake_one(place);
     }
 
     ghost use Rattle.std.proofs.Common.{arith};

@@ -8,9 +8,10 @@
 //! mark. From this store on the block is the feeder's again.
 //!
 //! A look is one load of one word. Where it finds a word of the other side nothing changes, and the
-//! end may look again: nobody waits here. So a word is stored only by the side that has the block,
-//! and a block is touched by one side only. The feeder may have two blocks in hand, since it opens
-//! the next one before it retires the one before; the reader has one.
+//! end may look again; the reader may also sleep on that word, and the feeder wakes it once it has
+//! stored another. So a word is stored only by the side that has the block, and a block is touched
+//! by one side only. The feeder may have two blocks in hand, since it opens the next one before it
+//! retires the one before; the reader has one.
 //!
 //! When both threads are done, `finish` joins the two ends, and takes out the blocks that were
 //! retired and not taken.

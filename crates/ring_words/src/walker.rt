@@ -6,7 +6,8 @@ ghost use Rattle.ring_words.specs.Rings.{IsMark};
 use crate::handover::{RingSeat, RingTable, WalkerLooks, WalkerStores};
 use crate::{Content, WalkerEnd};
 use std::marker::Model;
-use std::sync::Arc;
+use std::sync::{Arc, Wait};
+use std::time::Duration;
 
 /// The end of a ring between two threads that takes retired blocks and releases them. Contracts see
 /// which ring it belongs to, the list of the blocks that it took, whether it has the last of them
@@ -45,6 +46,22 @@ impl<B: Content + Drop> Model for TableWalker<B> {
     ghost invariant = { λ end.
         IsSeated (arc_value end.table).shared.table_id end.seat.table_id end.places
         × KeepsWalk end.seat.me end.places end.taken end.released };
+}
+
+impl<B: Content + Drop> TableWalker<B> {
+    /// Sleeps until the feeder retires the next block, and for no longer than `most`: what a reader
+    /// does after a `take` that found none. It returns at once where that block is retired, also
+    /// between its look at the word and its sleep, since the word of a retired block is odd. It may
+    /// return for no reason. No clause says that it sleeps or that it is woken.
+    pub fn wait_for_block<R: Wait>(&self, rt: &R, most: Duration) {
+        let place = (self.taken % self.places) as usize;
+        let word = self.table.shared.peek(place);
+        if word % 2 == 1 {
+            return;
+        }
+        let mark = (word % (1 << 32)) as u32;
+        self.table.shared.park_timeout(rt, place, mark, most);
+    }
 }
 
 impl<B: Content + Drop> WalkerEnd<B> for TableWalker<B> {
