@@ -17,7 +17,8 @@ use Rattle.ring_words.specs.Plays.{Compares, Drains, Holder}
 use Rattle.ring_words.specs.declared.knowledge.Known.{Known}
 use Rattle.ring_words.proofs.Entries.{at_new, entry_at, length-snoc, set-read, within}
 use Rattle.ring_words.proofs.PastLooks.{seen_new, start_zero}
-use Rattle.ring_words.proofs.WalkerMoves.{Goes, Ring, front_next, next_block, taken_one, takes_block}
+use Rattle.ring_words.proofs.UnchangedPlaces.{Goes, Ring, owned_looks}
+use Rattle.ring_words.proofs.WalkerMoves.{front_next, next_block, taken_one, takes_block}
 
 all_at : {X : Type 0} (P : X → Type 0) (l : List X) (i : ℕ) (x : X) → AllByRecursion P l → get_elem? l i ≡ some x → P x
 all_at P [] i x all at = absurd (some-ne-none x (sym at))
@@ -123,42 +124,16 @@ module _ {B : Type 0} (bytes kind_of : B → List ℕ) (ready : B → ℕ → �
         };
         walks = record { known = left_to_walk v; there = at_last views' (left_to_walk v) (length s.views) long; does = walks };
         seen = r.seen;
-        owned = record {
-          some_places = r.owned.some_places;
-          as_many = r.owned.as_many;
-          released = r.owned.released;
-          taken = r.owned.taken;
-          retired = r.owned.retired;
-          two_in_hand = r.owned.two_in_hand;
-          one_round = r.owned.one_round;
-          few = r.owned.few;
-          placed = r.owned.placed;
-        };
+        owned = owned_looks bytes kind_of ready kind s c _ c.looks c.visits r.owned;
         knows = λ j u is.
             let Good : ℕ → Known → Type 0 = λ i k. Knows kind r.feeder (length s.views) c i k in
             ⊎_elim (λ t. subst (λ k. Good j k) t.1 (record {
               feed = λ f. absurd (never f);
-              walk = λ _. record {
-                seat = t.0 ∙ long;
-                same_kind = walk.same_kind;
-                count = walk.count;
-                front = walk.front;
-                released = walk.released;
-                marks = walk.marks;
-                visits = walk.visits;
-                freed_at = walk.freed_at;
-              };
+              walk = λ _. let seat = t.0 ∙ long in assumption;
               hand = λ _ _. first;
             }))
             (λ old_at. ⊎_elim (λ t. subst (λ k. Good j k) t.1 (record {
-              feed = λ _. record {
-                seat = t.0 ∙ feed.seat;
-                same_kind = feed.same_kind;
-                given = feed.given;
-                retired = feed.retired;
-                looks = feed.looks;
-                shown_at = feed.shown_at;
-              };
+              feed = λ _. let seat = t.0 ∙ feed.seat in assumption;
               walk = λ w. absurd (never w);
               hand = λ w. absurd (never w);
             }))
@@ -194,17 +169,7 @@ module _ {B : Type 0} (bytes kind_of : B → List ℕ) (ready : B → ℕ → �
         feeds = record { known = both; there = there; does = feeds };
         walks = record { known = both; there = there; does = refl };
         seen = r.seen;
-        owned = record {
-          some_places = r.owned.some_places;
-          as_many = r.owned.as_many;
-          released = r.owned.released;
-          taken = r.owned.taken;
-          retired = r.owned.retired;
-          two_in_hand = r.owned.two_in_hand;
-          one_round = r.owned.one_round;
-          few = r.owned.few;
-          placed = r.owned.placed;
-        };
+        owned = owned_looks bytes kind_of ready kind s c _ c.looks c.visits r.owned;
         knows = λ j u is.
             let Good : ℕ → Known → Type 0 = λ i k. Knows kind r.feeder r.feeder c i k in
             ⊎_elim (λ t. subst (λ k. Good j k) t.1 (record {
@@ -215,25 +180,8 @@ module _ {B : Type 0} (bytes kind_of : B → List ℕ) (ready : B → ℕ → �
             (λ t.
             let elsewhere = t.0 in
             ⊎_elim (λ here. subst (λ k. Good j k) here.1 (record {
-              feed = λ _. record {
-                seat = here.0 ∙ feed.seat;
-                same_kind = feed.same_kind;
-                given = feed.given;
-                retired = feed.retired;
-                looks = feed.looks;
-                shown_at = feed.shown_at;
-              };
-              walk = λ _. record {
-                seat = here.0 ∙ feed.seat;
-                same_kind = feed.same_kind;
-                count = walk.count;
-                front = walk.front;
-                released = walk.released;
-                marks = walk.marks;
-                visits = walk.visits;
-                freed_at =
-                    walk.freed_at;
-              };
+              feed = λ _. let seat = here.0 ∙ feed.seat in assumption;
+              walk = λ _. let seat = here.0 ∙ feed.seat in let same_kind = feed.same_kind in assumption;
               hand = λ _ f. absurd (true≢false (sym feeds ∙ f));
             }))
             (λ there.
@@ -306,10 +254,7 @@ module _ {B : Type 0} (bytes kind_of : B → List ℕ) (ready : B → ℕ → �
       → Allows (Ring bytes kind_of ready kind) n id me (length me.0.taken % n) (λ word. word)
       (Drains bytes kind_of ready (step n (length me.0.taken % n) 0 0 none) me)
   drains n id me feeds walks left s r wide at small =
-      let k : ℕ = length me.0.taken in
-      subst (λ m. Goes bytes kind_of ready kind s (k % m) id me (slice_index s.words (k % m))
-      (Drains bytes kind_of ready (step m (k % m) 0 0 none) me (slice_index s.words (k % m)))) wide
-      (drains_at s r id me at feeds walks left)
+      rw (← wide) (drains_at s r id me at feeds walks left)
 
 -- the reader's seat knows the prefix of the log, and the feeder's seat knows the log
 pub takes_front : {B : Type 0} (bytes kind_of : B → List ℕ) (ready : B → ℕ → ℕ → Type 0) (kind : List ℕ)

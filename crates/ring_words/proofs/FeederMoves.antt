@@ -3,31 +3,24 @@ use Rattle.std.proofs.Common.{◌≡◌, ℕ, ◌+◌, ◌*◌, ◌/◌, ◌%◌
 use Rattle.std.proofs.Common.{slice_set, refl, sym, ap, ◌∙◌, subst, mod-lt, lt_of_not-le, arith, length-set, get_or-set_same}
 use Rattle.std.proofs.Common.{get_or-set_other, Option, Some}
 use mathlib.Core.Option.{some, none}
-use mathlib.Core.Logic.{dite}
-use native.Mathlib.Decide.{dec_le, ℕ_discrete}
+use native.Mathlib.Decide.{dec_le}
 use native.Mathlib.Nat.{add-mod_right}
 use lib.ListN.{get_elem?}
-use Rattle.atomic_table.specs.Table.{State, Act, keeps, takes, gives, Allows, Valid, step, stepped, carried_after, rest}
-use Rattle.atomic_table.proofs.Lists.{set_here, set_else}
+use Rattle.atomic_table.specs.Table.{State, keeps, takes, gives, Allows, step}
+use Rattle.atomic_table.proofs.Lists.{set_here}
 use Rattle.ring_words.specs.Rings.{Entry, IsMark, IsStatus}
 use Rattle.ring_words.specs.FoundWords.{from_start}
 use Rattle.ring_words.specs.Tables.{Course, IsRing}
 use Rattle.ring_words.specs.Plays.{Holder, Looks, Stores}
 use Rattle.ring_words.specs.declared.knowledge.Known.{Known}
 use Rattle.ring_words.proofs.Words.{number_of_word, odd_word, status_of_word}
-use Rattle.ring_words.proofs.Rounds.{elsewhere}
 use Rattle.ring_words.proofs.Entries.{at_end, at_front, entry_at, length-snoc, set-read, take-longer, within}
-use Rattle.ring_words.proofs.UnchangedPlaces.{others_feed, still_sits, untouched}
+use Rattle.ring_words.proofs.UnchangedPlaces.{Goes, feeder_moves, owned_looks, owned_moves}
 use Rattle.ring_words.proofs.PastLooks.{seen_free, seen_held, seen_shown}
 
 module _ {B : Type 0} (bytes kind_of : B → List ℕ) (ready : B → ℕ → ℕ → Type 0) (kind : List ℕ) where
   abbrev Ring : State (Option B) Known → Type 0
   Ring = IsRing bytes kind_of ready kind
-
-  -- what has to be shown of a step at a state
-  abbrev Goes : State (Option B) Known → ℕ → ℕ → Holder B → ℕ → (Holder B → Type 0) → Type 0
-  Goes s place id me word told = (now : Known) × (act : Act (Option B)) × Valid s.homes me.1 act
-      × Ring (stepped s place word id me.1 now act) × told (now, carried_after me.1 act)
 
   -- what the feeder knows once it was given one more block
   abbrev given_one : Known → ℕ → Known
@@ -48,85 +41,43 @@ module _ {B : Type 0} (bytes kind_of : B → List ℕ) (ready : B → ℕ → �
         views = slice_set s.views id (given_one v word);
       }
   gives_block s r id v word at feeds hand few free even mark =
-      let n = length s.homes in
+      let n : ℕ = length s.homes in
       let c = r.course in
       let o = r.owned in
-      let know = r.knows id v at in
-      let feed = know.feed feeds in
-      let c' : Course = record c { log = c.log; given = v.given + 1; looks = c.looks ++ word ∷ [] } in
+      let feed = (r.knows id v at).feed feeds in
+      let c' : Course = record c { given = v.given + 1; looks = c.looks ++ word ∷ [] } in
+      let place : ℕ = v.given % n in
       let some = o.some_places in
       let given : v.given ≡ c.given = feed.given in
       let retired : length v.retired ≡ length c.log = ap length feed.retired in
       let order = o.retired in
       let front = o.taken in
-      let wide : length (slice_set s.homes (v.given % n) none) ≡ n = length-set s.homes (v.given % n) none in
-      let homes' = slice_set s.homes (v.given % n) none in
+      let first = o.released in
+      let wide : length (slice_set s.homes place none) ≡ n = length-set s.homes place none in
+      let old = o.placed v.given (omega arith) free in
+      feeder_moves bytes kind_of ready kind s r id v s.words (slice_set s.homes place none) v.retired c.log (v.given + 1) _ _ _
+      _ at feeds feed.retired (ap (λ l. l ++ word ∷ []) feed.looks) feed.shown_at refl
+      (owned_moves bytes kind_of ready kind s c c' s.words _ none v.given place o refl refl (λ _ _. refl) (omega arith) free
+      (omega arith, omega arith, omega arith, omega arith, omega arith, few)
       record {
-        course = c';
-        feeder = r.feeder;
-        walker = r.walker;
-        feeds = still_sits (λ (k : Known). k.feeds) s.views id r.feeder v (given_one v word) at refl r.feeds;
-        walks = still_sits (λ (k : Known). k.walks) s.views id r.walker v (given_one v word) at refl r.walks;
-        seen = rw wide (seen_free n c r.seen word v.given given even mark);
-        owned = record {
-          some_places = rw wide o.some_places;
-          as_many = o.as_many ∙ sym wide;
-          released = o.released;
-          taken = o.taken;
-          retired = omega arith;
-          two_in_hand = omega arith;
-          one_round = rw wide (omega arith);
-          few = few;
-          placed = rw wide (λ j from below.
-              let old = o.placed j from below in
-              dite (ℕ_discrete j v.given)
-              (λ e. record {
-                written = λ entry is. let w = within c.log j entry is in absurd (omega arith);
-                reading = λ h. absurd (omega arith);
-                waiting = λ entry is h. let w = within c.log j entry is in absurd (omega arith);
-                marked = old.marked;
-                stored = old.stored;
-                filling = λ _ _. rw e (set_here s.homes (v.given % n) none (mod-lt v.given (omega arith)));
-                free = λ h. absurd (omega arith);
-              })
-              (λ ne. untouched bytes kind_of ready kind c c' s.words s.words s.homes homes' n j old refl
-              (set_else s.homes (v.given % n) (j % n) none (elsewhere j v.given n ne (omega arith) (omega arith)))
-              record {
-                log = λ entry is. is;
-                retired = λ h. h;
-                before_taken = λ h. h;
-                from_taken = λ h. h;
-                before_given = λ h. omega arith;
-                from_given = λ h. omega arith;
-                stored = λ _ h. h;
-              }));
-        };
-        knows = others_feed kind r.feeder r.walker c c.log (v.given + 1) (c.looks ++ word ∷ []) c.shown_at s.views id
-            (given_one v word) r.knows feed.seat refl
-            record {
-              feed = λ _. record {
-                seat = feed.seat;
-                same_kind = feed.same_kind;
-                given = refl;
-                retired = feed.retired;
-                looks = ap (λ l. l ++ word ∷ []) feed.looks;
-                shown_at = feed.shown_at;
-              };
-              walk = λ walks.
-                  let w = know.walk walks in
-                  record {
-                    seat = w.seat;
-                    same_kind = w.same_kind;
-                    count = w.count;
-                    front = w.front;
-                    released = w.released;
-                    marks = w.marks;
-                    visits = w.visits;
-                    freed_at = w.freed_at;
-                  };
-              hand = know.hand;
-            };
+        written = λ entry is. let w = within c.log v.given entry is in absurd (omega arith);
+        reading = λ h. absurd (omega arith);
+        waiting = λ entry is h. let w = within c.log v.given entry is in absurd (omega arith);
+        marked = old.marked;
+        stored = old.stored;
+        filling = λ _ _. set_here s.homes place none (mod-lt v.given (omega arith));
+        free = λ h. absurd (omega arith);
       }
+      (λ j ne. record {
+        from = λ h. h;
+        below = λ h. h;
+        log = λ entry is. is;
+        retired = λ h. h;
+        taken = (λ h. h, λ h. h);
+        given = (λ h. omega arith, λ h. omega arith);
+        stored = λ _ h. h;
+      }))
+      (rw wide (seen_free n c r.seen word v.given given even mark))
 
   -- only the looks of the feeder's seat change, where the block one round before isn't released
   only_looks : (s : State (Option B) Known) (r : Ring s) (id : ℕ) (v : Known) (word : ℕ) (entry : Entry)
@@ -136,69 +87,18 @@ module _ {B : Type 0} (bytes kind_of : B → List ℕ) (ready : B → ℕ → �
       → Ring record { words = s.words; homes = s.homes; views = slice_set s.views id (looked v word) }
   only_looks s r id v word entry at feeds full first is odd =
       let c = r.course in
-      let know = r.knows id v at in
-      let feed = know.feed feeds in
-      record {
-        course = record c { looks = c.looks ++ word ∷ [] };
-        feeder = r.feeder;
-        walker = r.walker;
-        feeds = still_sits (λ (k : Known). k.feeds) s.views id r.feeder v (looked v word) at refl r.feeds;
-        walks = still_sits (λ (k : Known). k.walks) s.views id r.walker v (looked v word) at refl r.walks;
-        seen = seen_held (length s.homes) c r.seen word entry (sym feed.given ∙ full) first is odd;
-        owned = record {
-          some_places = r.owned.some_places;
-          as_many = r.owned.as_many;
-          released = r.owned.released;
-          taken = r.owned.taken;
-          retired = r.owned.retired;
-          two_in_hand = r.owned.two_in_hand;
-          one_round = r.owned.one_round;
-          few = r.owned.few;
-          placed = λ j from below.
-              untouched bytes kind_of ready kind c (record c { looks = c.looks ++ word ∷ [] }) s.words s.words s.homes s.homes
-              (length s.homes) j (r.owned.placed j from below) refl refl
-              record {
-                log = λ one is. is;
-                retired = λ h. h;
-                before_taken = λ h. h;
-                from_taken = λ h. h;
-                before_given = λ h. h;
-                from_given = λ h. h;
-                stored = λ _ h. h;
-              };
-        };
-        knows = others_feed kind r.feeder r.walker c c.log c.given (c.looks ++ word ∷ []) c.shown_at s.views id (looked v word)
-            r.knows feed.seat refl
-            record {
-              feed = λ _. record {
-                seat = feed.seat;
-                same_kind = feed.same_kind;
-                given = feed.given;
-                retired = feed.retired;
-                looks = ap (λ l. l ++ word ∷ []) feed.looks;
-                shown_at = feed.shown_at;
-              };
-              walk = λ walks.
-                  let w = know.walk walks in
-                  record {
-                    seat = w.seat;
-                    same_kind = w.same_kind;
-                    count = w.count;
-                    front = w.front;
-                    released = w.released;
-                    marks = w.marks;
-                    visits = w.visits;
-                    freed_at = w.freed_at;
-                  };
-              hand = know.hand;
-            };
-      }
+      let feed = (r.knows id v at).feed feeds in
+      feeder_moves bytes kind_of ready kind s r id v s.words s.homes v.retired c.log v.given _ _ _ _ at feeds feed.retired
+      (ap (λ l. l ++ word ∷ []) feed.looks) feed.shown_at refl
+      (rw feed.given (owned_looks bytes kind_of ready kind s c _ (c.looks ++ word ∷ []) c.visits r.owned))
+      (rw feed.given (seen_held (length s.homes) c r.seen word entry (sym feed.given ∙ full) first is odd))
 
   looks_by : (s : State (Option B) Known) (r : Ring s) (id : ℕ) (me : Holder B) → get_elem? s.views id ≡ some me.0
       → me.0.feeds ≡ true
       → me.0.given ≤ length me.0.retired + 1 → me.0.given + 1 < 2 ^ 40 → Dec (r.course.released + length s.homes ≤ me.0.given)
       → let place : ℕ = me.0.given % length s.homes in let word : ℕ = slice_index s.words place in
-      Goes s place id me word (Looks bytes kind_of ready (step (length s.homes) place 0 0 none) me word)
+      Goes bytes kind_of ready kind s place id me word
+      (Looks bytes kind_of ready (step (length s.homes) place 0 0 none) me word)
   looks_by s r id me at feeds hand few (no here) =
       let n = length s.homes in
       let v : Known = me.0 in
@@ -270,9 +170,7 @@ module _ {B : Type 0} (bytes kind_of : B → List ℕ) (ready : B → ℕ → �
   pub looks : (n id : ℕ) (me : Holder B) → me.0.feeds ≡ true → me.0.given ≤ length me.0.retired + 1 → me.0.given + 1 < 2 ^ 40
       → Allows Ring n id me (me.0.given % n) (λ word. word) (Looks bytes kind_of ready (step n (me.0.given % n) 0 0 none) me)
   looks n id me feeds hand few s r wide at small =
-      subst (λ m. Goes s (me.0.given % m) id me (slice_index s.words (me.0.given % m))
-      (Looks bytes kind_of ready (step m (me.0.given % m) 0 0 none) me (slice_index s.words (me.0.given % m)))) wide
-      (looks_by s r id me at feeds hand few (dec_le (r.course.released + length s.homes) me.0.given))
+      rw (← wide) (looks_by s r id me at feeds hand few (dec_le (r.course.released + length s.homes) me.0.given))
 
   -- what the feeder knows once it has retired a block
   abbrev retired_one : Known → Entry → ℕ → Known
@@ -289,133 +187,75 @@ module _ {B : Type 0} (bytes kind_of : B → List ℕ) (ready : B → ℕ → �
         views = slice_set s.views id (retired_one v (bytes block, status) (length r.course.visits));
       }
   stores_block s r id v block status at feeds hand odd is_kind is_ready =
-      let n = length s.homes in
+      let n : ℕ = length s.homes in
       let c = r.course in
       let o = r.owned in
-      let know = r.knows id v at in
-      let feed = know.feed feeds in
+      let feed = (r.knows id v at).feed feeds in
       let entry : Entry = (bytes block, status) in
       let log : List Entry = c.log ++ entry ∷ [] in
       let shown_at : List ℕ = c.shown_at ++ length c.visits ∷ [] in
-      let c' : Course = record c { log = log; given = c.given; shown_at = shown_at } in
-      let place : ℕ = length v.retired % n in
-      let word : ℕ = (length v.retired + 1) * 256 + status in
+      let c' : Course = record c { log = log; given = v.given; shown_at = shown_at } in
+      let k : ℕ = length v.retired in
+      let place : ℕ = k % n in
+      let word : ℕ = (k + 1) * 256 + status in
       let some_places = o.some_places in
       let given : v.given ≡ c.given = feed.given in
-      let count : length v.retired ≡ length c.log = ap length feed.retired in
+      let count : k ≡ length c.log = ap length feed.retired in
       let long : length log ≡ length c.log + 1 = length-snoc c.log entry in
       let front = o.taken in
       let round = o.one_round in
       let two = o.two_in_hand in
       let first = o.released in
+      let few = o.few in
       let words' : List ℕ = slice_set s.words place word in
       let homes' = slice_set s.homes place (some (Some block)) in
       let wide : length homes' ≡ n = length-set s.homes place (some (Some block)) in
-      let wide_words : length words' ≡ length s.words = length-set s.words place word in
       let as_many = o.as_many in
-      let near : place < n = mod-lt (length v.retired) (omega arith) in
+      let near : place < n = mod-lt k (omega arith) in
+      let last : (one : Entry) → get_elem? log k ≡ some one → entry ≡ one =
+      λ one is. at_end c.log entry one (subst (λ i. get_elem? log i ≡ some one) count is) in
+      feeder_moves bytes kind_of ready kind s r id v words' homes' _ log v.given _ _ _ shown_at at feeds
+      (ap (λ l. l ++ entry ∷ []) feed.retired) feed.looks (ap (λ l. l ++ length c.visits ∷ []) feed.shown_at)
+      (take-longer c.log entry c.taken front)
+      (owned_moves bytes kind_of ready kind s c c' words' _ (some (Some block)) k place o refl (length-set s.words place word)
+      (λ i apart. get_or-set_other s.words place i word 0 apart) (omega arith) (omega arith)
+      (omega arith, omega arith, omega arith, omega arith, omega arith, omega arith)
       record {
-        course = c';
-        feeder = r.feeder;
-        walker = r.walker;
-        feeds = still_sits (λ (k : Known). k.feeds) s.views id r.feeder v (retired_one v entry (length c.visits))
-            at refl r.feeds;
-        walks = still_sits (λ (k : Known). k.walks) s.views id r.walker v (retired_one v entry (length c.visits))
-            at refl r.walks;
-        seen = rw wide (seen_shown n c r.seen entry);
-        owned = record {
-          some_places = rw wide some_places;
-          as_many = omega arith;
-          released = o.released;
-          taken = omega arith;
-          retired = omega arith;
-          two_in_hand = omega arith;
-          one_round = rw wide round;
-          few = o.few;
-          placed = rw wide (λ j from below.
-              let old = o.placed j from below in
-              dite (ℕ_discrete j (length v.retired))
-              (λ e.
-              let here : slice_index words' (j % n) ≡ word = rw e (get_or-set_same s.words place word 0 (omega arith)) in
-              let home : get_elem? homes' (j % n) ≡ some (some (Some block)) =
-              rw e (set_here s.homes place (some (Some block)) near) in
-              let last : j ≡ length c.log = omega arith in
-              record {
-                written = λ one is.
-                    let same : entry ≡ one = at_end c.log entry one (subst (λ k. get_elem? log k ≡ some one) last is) in
-                    subst (λ z. (slice_index words' (j % n) ≡ (j + 1) * 256 + z.1) × IsStatus z.1) same
-                    (here ∙ ap (λ k. (k + 1) * 256 + status) (sym e), odd);
-                reading = λ h. absurd (omega arith);
-                waiting = λ one is h.
-                    let same : entry ≡ one = at_end c.log entry one (subst (λ k. get_elem? log k ≡ some one) last is) in
-                    record {
-                      block = block;
-                      at_place = record { home = home; same_kind = is_kind ∙ feed.same_kind };
-                      content = ap (λ z. z.0) same;
-                      is_ready =
-                          subst (λ z. ready block (j + 1) z.1) same (subst (λ k. ready block (k + 1) status) (sym e) is_ready);
-                    };
-                marked = λ h. absurd (omega arith);
-                stored = λ h. absurd (omega arith);
-                filling = λ h. absurd (omega arith);
-                free = λ h. absurd (omega arith);
-              })
-              (λ ne.
-              let apart = elsewhere j (length v.retired) n ne (omega arith) (omega arith) in
-              untouched bytes kind_of ready kind c c' s.words words' s.homes homes' n j old
-              (get_or-set_other s.words place (j % n) word 0 (λ e. apart e))
-              (set_else s.homes place (j % n) (some (Some block)) apart)
-              record {
-                log = λ one is. at_front c.log entry one j (λ e. ne (e ∙ sym count)) is;
-                retired = λ h. omega arith;
-                before_taken = λ h. h;
-                from_taken = λ h. h;
-                before_given = λ h. h;
-                from_given = λ h. h;
-                stored = λ _ h. h;
-              }));
+        written = λ one is.
+            subst (λ z. (slice_index words' place ≡ (k + 1) * 256 + z.1) × IsStatus z.1) (last one is)
+            (get_or-set_same s.words place word 0 (omega arith), odd);
+        reading = λ h. absurd (omega arith);
+        waiting = λ one is h. record {
+          block = block;
+          at_place = record { home = set_here s.homes place (some (Some block)) near; same_kind = is_kind ∙ feed.same_kind };
+          content = ap (λ z. z.0) (last one is);
+          is_ready = subst (λ z. ready block (k + 1) z.1) (last one is) is_ready;
         };
-        knows = others_feed kind r.feeder r.walker c log c.given c.looks shown_at s.views id
-            (retired_one v entry (length c.visits)) r.knows feed.seat (take-longer c.log entry c.taken front)
-            record {
-              feed = λ _. record {
-                seat = feed.seat;
-                same_kind = feed.same_kind;
-                given = feed.given;
-                retired = ap (λ l. l ++ entry ∷ []) feed.retired;
-                looks = feed.looks;
-                shown_at = ap (λ l. l ++ length c.visits ∷ []) feed.shown_at;
-              };
-              walk = λ walks.
-                  let w = know.walk walks in
-                  record {
-                    seat = w.seat;
-                    same_kind = w.same_kind;
-                    count = w.count;
-                    front = w.front ∙ sym (take-longer c.log entry c.taken front);
-                    released = w.released;
-                    marks = w.marks;
-                    visits = w.visits;
-                    freed_at = w.freed_at;
-                  };
-              hand = know.hand;
-            };
+        marked = λ h. absurd (omega arith);
+        stored = λ h. absurd (omega arith);
+        filling = λ h. absurd (omega arith);
+        free = λ h. absurd (omega arith);
       }
+      (λ j ne. record {
+        from = λ h. h;
+        below = λ h. h;
+        log = λ one is. at_front c.log entry one j (λ e. ne (e ∙ sym count)) is;
+        retired = λ h. omega arith;
+        taken = (λ h. h, λ h. h);
+        given = (λ h. omega arith, λ h. omega arith);
+        stored = λ _ h. h;
+      }))
+      (rw (wide, given) (seen_shown n c r.seen entry))
 
-  stores_by : (n id : ℕ) (v : Known) (others : List (ℕ × Option B)) (block : B) (status : ℕ)
-      (s : State (Option B) Known) (r : Ring s)
-      → get_elem? s.views id ≡ some v → v.feeds ≡ true
-      → length v.retired < v.given → IsStatus status → kind_of block ≡ v.kind → ready block (length v.retired + 1) status
-      → length s.homes ≡ n
+  -- the feeder stores number and status after the block that it has put back
+  pub stores : (n id : ℕ) (v : Known) (others : List (ℕ × Option B)) (block : B) (status : ℕ) → v.feeds ≡ true
+      → length v.retired < v.given
+      → IsStatus status → kind_of block ≡ v.kind → ready block (length v.retired + 1) status
       → let place : ℕ = length v.retired % n in let word : ℕ = (length v.retired + 1) * 256 + status in let me : Holder B =
       (v, (place, Some block) ∷ others) in
-      Goes s place id me word (Stores bytes kind_of ready (step n place word 0 none) me word)
-  stores_by n id v others block status s r at feeds hand odd is_kind is_ready wide =
-      let word : ℕ = (length v.retired + 1) * 256 + status in
-      subst (λ m.
-      let place : ℕ = length v.retired % m in
-      let me : Holder B = (v, (place, Some block) ∷ others) in
-      Goes s place id me word (Stores bytes kind_of ready (step m place word 0 none) me word)) wide (
+      Allows Ring n id me place (λ _. word) (λ _. Stores bytes kind_of ready (step n place word 0 none) me word)
+  stores n id v others block status feeds hand odd is_kind is_ready s r wide at small =
+      rw (← wide) (
         retired_one v (bytes block, status) (length r.course.visits),
         gives,
         tt,
@@ -427,19 +267,3 @@ module _ {B : Type 0} (bytes kind_of : B → List ℕ) (ready : B → ℕ → �
               (sym (status_of_word (length v.retired + 1) status odd));
         },
       )
-
-  -- the feeder stores number and status after the block that it has put back
-  pub stores : (n id : ℕ) (me : Holder B) (block : B) (status word : ℕ) → me.0.feeds ≡ true → length me.0.retired < me.0.given
-      → IsStatus status
-      → kind_of block ≡ me.0.kind → ready block (length me.0.retired + 1) status
-      → me.1 ≡ (length me.0.retired % n, Some block) ∷ rest me.1
-      → word ≡ (length me.0.retired + 1) * 256 + status
-      → Allows Ring n id me (length me.0.retired % n) (λ _. word)
-      (λ _. Stores bytes kind_of ready (step n (length me.0.retired % n) word 0 none) me word)
-  stores n id me block status word feeds hand odd is_kind is_ready out is s r wide at small =
-      let place : ℕ = length me.0.retired % n in
-      subst (λ slots. Goes s place id (me.0, slots) word
-      (Stores bytes kind_of ready (step n place word 0 none) (me.0, slots) word)) (sym out)
-      (subst (λ x. let mine : Holder B = (me.0, (place, Some block) ∷ rest me.1) in
-      Goes s place id mine x (Stores bytes kind_of ready (step n place x 0 none) mine x)) (sym is)
-      (stores_by n id me.0 (rest me.1) block status s r at feeds hand odd is_kind is_ready wide))

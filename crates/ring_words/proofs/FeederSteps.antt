@@ -1,6 +1,6 @@
 -- What the calls of the feeder's end have to show of the table, and what its fields keep.
 use Rattle.std.proofs.Common.{◌≡◌, ℕ, ◌+◌, ◌-◌, ◌*◌, ◌%◌, ◌^◌, ◌<◌, ◌≤◌, List, [], ◌∷◌, ◌++◌, length, Option, Some, None, sym}
-use Rattle.std.proofs.Common.{ap, ◌∙◌, subst, mod-lt, refl, arith}
+use Rattle.std.proofs.Common.{ap, ◌∙◌, mod-lt, refl, arith}
 use mathlib.Core.Option.{none}
 use Rattle.atomic_table.specs.Seated.{TableId}
 use Rattle.atomic_table.specs.Table.{Allows, rest, step, turned}
@@ -97,20 +97,11 @@ module _ {B : Type 0} (bytes kind_of : B → List ℕ) (ready : B → ℕ → �
       let words = is.words in
       let near : retired % places < places = mod-lt retired (omega arith) in
       let count = keeps.count in
-      let retired_count = keeps.retired_count in
-      let mine : Holder B = before_store me places given retired block in
-      let place : retired % places ≡ length me.0.retired % places = ap (λ k. k % places) (sym retired_count) in
-      let word : (retired + 1) * 256 + status ≡ (length me.0.retired + 1) * 256 + status =
-      ap (λ k. (k + 1) * 256 + status) (sym retired_count) in
-      let front : mine.1 ≡ (length me.0.retired % places, Some block) ∷ rest mine.1 =
-      ap (λ k. (k, Some block) ∷ rest mine.1) place in
-      let allowed = stores bytes kind_of ready kind places id mine block status ((retired + 1) * 256 + status) keeps.feeds
-      (omega arith) odd is_kind is_ready front word in (
+      let retired_count = keeps.retired_count in (
         is.same,
         omega arith,
-        rw (is.slots, out_is) (subst (λ k. let w : ℕ = (retired + 1) * 256 + status in
-            Allows (IsRing bytes kind_of ready kind) places id mine k (λ _. w)
-            (λ _. Stores bytes kind_of ready (step places k w 0 none) mine w)) (sym place) allowed),
+        rw (is.slots, out_is, ← keeps.retired_count) (stores bytes kind_of ready kind places id me.0 _ block status keeps.feeds
+            (omega arith) odd is_kind is_ready),
       )
 
   -- the fields after a block was retired

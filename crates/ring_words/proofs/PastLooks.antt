@@ -1,6 +1,6 @@
 -- What looks found stays true through each step.
-use Rattle.std.proofs.Common.{◌≡◌, ℕ, zero, suc, ◌+◌, ◌*◌, ◌%◌, ◌<◌, ◌≤◌, List, [], ◌∷◌, ◌++◌, length, take, replicate, refl}
-use Rattle.std.proofs.Common.{sym, ap, ◌∙◌, subst, ⊎_elim, append_assoc, arith}
+use Rattle.std.proofs.Common.{◌≡◌, ℕ, zero, suc, ◌+◌, ◌-◌, ◌*◌, ◌%◌, ◌<◌, ◌≤◌, List, [], ◌∷◌, ◌++◌, length, take, replicate}
+use Rattle.std.proofs.Common.{refl, sym, ap, ◌∙◌, subst, ⊎_elim, append_assoc, arith}
 use mathlib.Core.Option.{some, some-injective, some-ne-none}
 use lib.ListN.{get_elem?}
 use Rattle.std.proofs.Math.ListN.{length-replicate}
@@ -84,26 +84,36 @@ start_made (suc places) all top below zero at is = subst (λ k. k ≤ top) (some
 start_made (suc places) all top below (suc index) at is = start_made places all top below index at is
 
 module _ (places : ℕ) (c : Course) (seen : IsSeen places c) where
+  -- one more look of the feeder, with which this many blocks are given
+  one_look : (word given : ℕ) → even_count c.looks + (1 - word % 2) ≡ given
+      → IsLook places c.log c.marks c.freed_at (length c.looks) (even_count c.looks) word
+      → IsSeen places (record c { given = given; looks = c.looks ++ word ∷ [] })
+  one_look word given count look =
+      let looks = look_more (IsLook places c.log c.marks c.freed_at) even_count c.looks word seen.looks look in
+      let counted = even_count_push c.looks word ∙ count in
+      let freed_made = made_later c.freed_at c.looks word seen.freed_made in
+      assumption
+
+  -- one more of the reader, with which this many blocks are taken
+  one_visit : (word taken : ℕ) → odd_count c.visits + word % 2 ≡ taken
+      → IsVisit places c.log c.marks c.shown_at (length c.visits) (odd_count c.visits) word
+      → IsSeen places (record c { taken = taken; visits = c.visits ++ word ∷ [] })
+  one_visit word taken count visit =
+      let visits = look_more (IsVisit places c.log c.marks c.shown_at) odd_count c.visits word seen.visits visit in
+      let counted = odd_count_push c.visits word ∙ count in
+      let shown_made = made_later c.shown_at c.visits word seen.shown_made in
+      assumption
+
   -- the feeder was given a block
   pub seen_free : (word given : ℕ) → given ≡ c.given → word % 2 ≡ 0 → get_elem? (from_start places c.marks) given ≡ some word
       → IsSeen places (record c { given = given + 1; looks = c.looks ++ word ∷ [] })
   seen_free word given same even at_place =
       let rank : even_count c.looks ≡ given = seen.given ∙ sym same in
-      record {
-        looks = look_more (IsLook places c.log c.marks c.freed_at) even_count c.looks word seen.looks (record {
-          mark = λ _. ap (λ k. get_elem? (from_start places c.marks) k) rank ∙ at_place;
-          free = λ _ at is. start_made places c.freed_at (length c.looks) seen.freed_made (even_count c.looks) at is;
-          number = λ odd. absurd (omega arith);
-          held = λ odd. absurd (omega arith);
-        });
-        given = even_count_push c.looks word ∙ omega arith;
-        visits = seen.visits;
-        taken = seen.taken;
-        marks = seen.marks;
-        freed = seen.freed;
-        freed_made = made_later c.freed_at c.looks word seen.freed_made;
-        shown = seen.shown;
-        shown_made = seen.shown_made;
+      one_look word (given + 1) (omega arith) record {
+        mark = λ _. ap (λ k. get_elem? (from_start places c.marks) k) rank ∙ at_place;
+        free = λ _ at is. start_made places c.freed_at (length c.looks) seen.freed_made (even_count c.looks) at is;
+        number = λ odd. absurd (omega arith);
+        held = λ odd. absurd (omega arith);
       }
 
   -- the feeder found the block one round before, which wasn't released
@@ -113,24 +123,14 @@ module _ (places : ℕ) (c : Course) (seen : IsSeen places c) where
   seen_held word entry full at is odd =
       let rank = seen.given in
       let freed = seen.freed in
-      record {
-        looks = look_more (IsLook places c.log c.marks c.freed_at) even_count c.looks word seen.looks (record {
-          mark = λ even. absurd (omega arith);
-          free = λ even. absurd (omega arith);
-          number = λ _. (c.released, omega arith, record { entry = entry; at = at; is = is });
-          held = λ _ when at_place.
-              let below = within (from_start places c.freed_at) (even_count c.looks) when at_place in
-              let long = length-start places c.freed_at in
-              absurd (omega arith);
-        });
-        given = even_count_push c.looks word ∙ omega arith;
-        visits = seen.visits;
-        taken = seen.taken;
-        marks = seen.marks;
-        freed = seen.freed;
-        freed_made = made_later c.freed_at c.looks word seen.freed_made;
-        shown = seen.shown;
-        shown_made = seen.shown_made;
+      one_look word c.given (omega arith) record {
+        mark = λ even. absurd (omega arith);
+        free = λ even. absurd (omega arith);
+        number = λ _. (c.released, omega arith, record { entry = entry; at = at; is = is });
+        held = λ _ when at_place.
+            let below = within (from_start places c.freed_at) (even_count c.looks) when at_place in
+            let long = length-start places c.freed_at in
+            absurd (omega arith);
       }
 
   -- the reader took a block
@@ -139,25 +139,11 @@ module _ (places : ℕ) (c : Course) (seen : IsSeen places c) where
       → IsSeen places (record c { taken = taken + 1; visits = c.visits ++ word ∷ [] })
   seen_taken word taken entry same at is odd =
       let rank : odd_count c.visits ≡ taken = seen.taken ∙ sym same in
-      record {
-        looks = seen.looks;
-        given = seen.given;
-        visits = look_more (IsVisit places c.log c.marks c.shown_at) odd_count c.visits word seen.visits (record {
-          number = λ _. record {
-            entry = entry;
-            at = ap (λ k. get_elem? c.log k) rank ∙ at;
-            is = is ∙ ap (λ k. (k + 1) * 256 + entry.1) (sym rank);
-          };
-          shown = λ _ when at_place. seen.shown_made (odd_count c.visits) when at_place;
-          mark = λ even. absurd (omega arith);
-          none = λ even. absurd (omega arith);
-        });
-        taken = odd_count_push c.visits word ∙ omega arith;
-        marks = seen.marks;
-        freed = seen.freed;
-        freed_made = seen.freed_made;
-        shown = seen.shown;
-        shown_made = made_later c.shown_at c.visits word seen.shown_made;
+      one_visit word (taken + 1) (omega arith) record {
+        number = λ _. rw rank (record { entry = entry; at = at; is = is });
+        shown = λ _ when at_place. seen.shown_made (odd_count c.visits) when at_place;
+        mark = λ even. absurd (omega arith);
+        none = λ even. absurd (omega arith);
       }
 
   -- the reader found that the next block wasn't retired
@@ -167,21 +153,11 @@ module _ (places : ℕ) (c : Course) (seen : IsSeen places c) where
   seen_none word taken same all at_place even =
       let rank : odd_count c.visits ≡ taken = seen.taken ∙ sym same in
       let shown = seen.shown in
-      record {
-        looks = seen.looks;
-        given = seen.given;
-        visits = look_more (IsVisit places c.log c.marks c.shown_at) odd_count c.visits word seen.visits (record {
-          number = λ odd. absurd (omega arith);
-          shown = λ odd. absurd (omega arith);
-          mark = λ _. ap (λ k. get_elem? (from_start places c.marks) k) rank ∙ at_place;
-          none = λ _ when is. let below = within c.shown_at (odd_count c.visits) when is in absurd (omega arith);
-        });
-        taken = odd_count_push c.visits word ∙ omega (arith, seen.taken);
-        marks = seen.marks;
-        freed = seen.freed;
-        freed_made = seen.freed_made;
-        shown = seen.shown;
-        shown_made = made_later c.shown_at c.visits word seen.shown_made;
+      one_visit word c.taken (omega arith) record {
+        number = λ odd. absurd (omega arith);
+        shown = λ odd. absurd (omega arith);
+        mark = λ _. ap (λ k. get_elem? (from_start places c.marks) k) rank ∙ at_place;
+        none = λ _ when is. let below = within c.shown_at (odd_count c.visits) when is in absurd (omega arith);
       }
 
   -- a block was retired

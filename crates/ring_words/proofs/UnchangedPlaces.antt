@@ -1,54 +1,40 @@
--- What no step changes about a block's place, and what the other seats know.
-use Rattle.std.proofs.Common.{◌≡◌, ℕ, ◌%◌, ◌<◌, ◌≤◌, Bool, List, length, take, set, slice_index, sym, ap, ◌∙◌, subst, ⊎_elim}
+-- What a step leaves as it was: the other blocks' places, what the other seats know, and which
+-- seats the ends have.
+use Rattle.std.proofs.Common.{◌≡◌, ◌≢◌, ℕ, ◌+◌, ◌%◌, ◌^◌, ◌<◌, ◌≤◌, Bool, true, false, List, length, take, set}
+use Rattle.std.proofs.Common.{slice_index, slice_set, sym, ap, ◌∙◌, subst, ⊎_elim, refl, arith, length-set, Option}
 use mathlib.Core.Logic.{dite}
 use mathlib.Core.Option.{some, some-injective}
 use native.Mathlib.Decide.{ℕ_discrete}
 use lib.ListN.{get_elem?}
+use Rattle.atomic_table.specs.Table.{State, Act, Valid, stepped, carried_after}
 use Rattle.atomic_table.proofs.Lists.{at_set, set_else, set_here}
 use Rattle.ring_words.proofs.Entries.{within}
+use Rattle.ring_words.proofs.Rounds.{elsewhere}
 use Rattle.ring_words.specs.Rings.{Entry}
 use Rattle.ring_words.specs.FoundWords.{from_start}
-use Rattle.ring_words.specs.Tables.{Course, Home, IsPlaced, Knows, Sits}
+use Rattle.ring_words.specs.Plays.{Holder}
+use Rattle.ring_words.specs.Tables.{Course, Home, IsOwnedBy, IsPlaced, IsRing, IsSeen, Knows, Sits}
 use Rattle.ring_words.specs.declared.knowledge.Known.{Known}
 
--- a block and its word are unchanged, and so is its part of the course
+-- an index is of the new round only if it was of the old one, and its part of the course is
+-- unchanged
 pub record SameAt (places : ℕ) (old new : Course) (index : ℕ) : Type 0 where
+  pub from : new.released ≤ index → old.released ≤ index
+  pub below : index < new.released + places → index < old.released + places
   pub log : (entry : Entry) → get_elem? new.log index ≡ some entry → get_elem? old.log index ≡ some entry
   pub retired : length new.log ≤ index → length old.log ≤ index
-  pub before_taken : index < new.taken → index < old.taken
-  pub from_taken : new.taken ≤ index → old.taken ≤ index
-  pub before_given : index < new.given → index < old.given
-  pub from_given : new.given ≤ index → old.given ≤ index
+  pub taken : (index < new.taken → index < old.taken) × (new.taken ≤ index → old.taken ≤ index)
+  pub given : (index < new.given → index < old.given) × (new.given ≤ index → old.given ≤ index)
   pub stored : (word : ℕ) → get_elem? (from_start places old.marks) index ≡ some word
       → get_elem? (from_start places new.marks) index ≡ some word
 
-module _ {B : Type 0} (bytes kind_of : B → List ℕ) (ready : B → ℕ → ℕ → Type 0) (kind : List ℕ) where
-  pub untouched : (old new : Course) (words words' : List ℕ) (homes homes' : List (Home B)) (n index : ℕ)
-      → IsPlaced bytes kind_of ready kind old words homes n index
-      → slice_index words' (index % n) ≡ slice_index words (index % n)
-      → get_elem? homes' (index % n) ≡ get_elem? homes (index % n)
-      → SameAt n old new index → IsPlaced bytes kind_of ready kind new words' homes' n index
-  untouched old new words words' homes homes' n index placed word home same = record {
-    written = λ entry at. rw word (placed.written entry (same.log entry at));
-    reading = λ below. home ∙ placed.reading (same.before_taken below);
-    waiting = λ entry at from.
-        let waits = placed.waiting entry (same.log entry at) (same.from_taken from) in
-        record {
-          block = waits.block;
-          at_place = record { home = home ∙ waits.at_place.home; same_kind = waits.at_place.same_kind };
-          content = waits.content;
-          is_ready = waits.is_ready;
-        };
-    marked = λ from. rw word (placed.marked (same.retired from));
-    stored = λ from. rw word (same.stored (slice_index words (index % n)) (placed.stored (same.retired from)));
-    filling = λ from below. home ∙ placed.filling (same.retired from) (same.before_given below);
-    free = λ from.
-        let free = placed.free (same.from_given from) in
-        (free.0, record { home = home ∙ free.1.home; same_kind = free.1.same_kind });
-  }
+-- how the counts of a course are ordered
+abbrev pub InOrder : Course → ℕ → Type 0
+InOrder c places = (c.released ≤ c.taken) × (c.taken ≤ length c.log) × (length c.log ≤ c.given)
+    × (c.given ≤ length c.log + 2) × (c.given ≤ c.released + places) × (c.given < 2 ^ 40)
 
 -- a seat that is an end's stays one, whichever seat makes a step that leaves what the test asks
-pub still_sits : (test : Known → Bool) (views : List Known) (id seat : ℕ) (v now : Known) → get_elem? views id ≡ some v
+still_sits : (test : Known → Bool) (views : List Known) (id seat : ℕ) (v now : Known) → get_elem? views id ≡ some v
     → test now ≡ test v
     → Sits test views seat → Sits test (set views id now) seat
 still_sits test views id seat v now at same sits =
@@ -60,70 +46,172 @@ still_sits test views id seat v now at same sits =
     })
     (λ ne. record { known = sits.known; there = set_else views id seat now ne ∙ sits.there; does = sits.does })
 
-module _ (kind : List ℕ) (feeder walker : ℕ) where
-  -- after a step of the feeder's seat, if the prefix that was taken is the same
-  pub others_feed : (course : Course) (log : List Entry) (given : ℕ) (looks shown_at : List ℕ) (views : List Known)
-      (id : ℕ) (now : Known)
-      → ((j : ℕ) (v : Known) → get_elem? views j ≡ some v → Knows kind feeder walker course j v)
-      → id ≡ feeder → take course.taken log ≡ take course.taken course.log
-      → Knows kind feeder walker (record course { log = log; given = given; looks = looks; shown_at = shown_at }) id now
-      → (j : ℕ) (v : Known) → get_elem? (set views id now) j ≡ some v
-      → Knows kind feeder walker (record course { log = log; given = given; looks = looks; shown_at = shown_at }) j v
-  others_feed course log given looks shown_at views id now all is front mine j v at =
-      let course' : Course = record course { log = log; given = given; looks = looks; shown_at = shown_at } in
-      ⊎_elim (λ t. subst (λ u. Knows kind feeder walker course' j u) t.1
-      (subst (λ k. Knows kind feeder walker course' k now) (sym t.0) mine))
-      (λ t.
-      let ne = t.0 in
-      let old = all j v t.1 in
-      record {
-        feed = λ feeds. absurd (ne ((old.feed feeds).seat ∙ sym is));
-        walk = λ walks.
-            let w = old.walk walks in
-            record {
-              seat = w.seat;
-              same_kind = w.same_kind;
-              count = w.count;
-              front = w.front ∙ sym front;
-              released = w.released;
-              marks = w.marks;
-              visits = w.visits;
-              freed_at = w.freed_at;
-            };
-        hand = old.hand;
-      })
-      (at_set views id j now v at)
+module _ {B : Type 0} (bytes kind_of : B → List ℕ) (ready : B → ℕ → ℕ → Type 0) (kind : List ℕ) where
+  abbrev pub Ring : State (Option B) Known → Type 0
+  Ring = IsRing bytes kind_of ready kind
 
-  -- after a step of the reader's seat
-  pub others_walk : (course : Course) (taken released : ℕ) (marks visits freed_at : List ℕ) (views : List Known)
-      (id : ℕ) (now : Known)
-      → ((j : ℕ) (v : Known) → get_elem? views j ≡ some v → Knows kind feeder walker course j v)
-      → id ≡ walker
-      → Knows kind feeder walker
-      (record course { taken = taken; released = released; marks = marks; visits = visits; freed_at = freed_at }) id now
-      → (j : ℕ) (v : Known) → get_elem? (set views id now) j ≡ some v
-      → Knows kind feeder walker
-      (record course { taken = taken; released = released; marks = marks; visits = visits; freed_at = freed_at }) j v
-  others_walk course taken released marks visits freed_at views id now all is mine j v at =
-      let course' : Course =
-      record course { taken = taken; released = released; marks = marks; visits = visits; freed_at = freed_at } in
-      ⊎_elim (λ t. subst (λ u. Knows kind feeder walker course' j u) t.1
-      (subst (λ k. Knows kind feeder walker course' k now) (sym t.0) mine))
-      (λ t.
-      let ne = t.0 in
-      let old = all j v t.1 in
+  -- what has to be shown of a step at a state
+  abbrev pub Goes : State (Option B) Known → ℕ → ℕ → Holder B → ℕ → (Holder B → Type 0) → Type 0
+  Goes s place id me word told = (now : Known) × (act : Act (Option B)) × Valid s.homes me.1 act
+      × Ring (stepped s place word id me.1 now act) × told (now, carried_after me.1 act)
+
+  abbrev Placed : Course → List ℕ → List (Home B) → ℕ → ℕ → Type 0
+  Placed = IsPlaced bytes kind_of ready kind
+
+  abbrev Owned : Course → State (Option B) Known → Type 0
+  Owned = IsOwnedBy bytes kind_of ready kind
+
+  untouched : (old new : Course) (words words' : List ℕ) (homes homes' : List (Home B)) (n index : ℕ)
+      → Placed old words homes n index → slice_index words' (index % n) ≡ slice_index words (index % n)
+      → get_elem? homes' (index % n) ≡ get_elem? homes (index % n)
+      → SameAt n old new index → Placed new words' homes' n index
+  untouched old new words words' homes homes' n index placed word home same = record {
+    written = λ entry at. rw word (placed.written entry (same.log entry at));
+    reading = λ below. home ∙ placed.reading (same.taken.0 below);
+    waiting = λ entry at from.
+        let waits = placed.waiting entry (same.log entry at) (same.taken.1 from) in
+        let there = home ∙ waits.at_place.home in
+        record {
+          block = waits.block;
+          at_place = assumption there;
+          content = waits.content;
+          is_ready = waits.is_ready;
+        };
+    marked = λ from. rw word (placed.marked (same.retired from));
+    stored = λ from. rw word (same.stored (slice_index words (index % n)) (placed.stored (same.retired from)));
+    filling = λ from below. home ∙ placed.filling (same.retired from) (same.given.0 below);
+    free = λ from.
+        let free = placed.free (same.given.1 from) in
+        (free.0, record { home = home ∙ free.1.home; same_kind = free.1.same_kind });
+  }
+
+  -- who owns which block after a step that changes the place of one index
+  pub owned_moves : (s : State (Option B) Known) (c c' : Course) (words : List ℕ) (views : List Known) (home : Home B)
+      (k place : ℕ) → Owned c s → k % length s.homes ≡ place → length words ≡ length s.words
+      → ((i : ℕ) → i ≢ place → slice_index words i ≡ slice_index s.words i)
+      → c'.released ≤ k → k < c'.released + length s.homes → InOrder c' (length s.homes)
+      → Placed c' words (slice_set s.homes place home) (length s.homes) k
+      → ((j : ℕ) → j ≢ k → SameAt (length s.homes) c c' j)
+      → Owned c' record { words = words; homes = slice_set s.homes place home; views = views }
+  owned_moves s c c' words views home k place o here wide_words others from below order placed same =
+      let n : ℕ = length s.homes in
+      let homes' : List (Home B) = slice_set s.homes place home in
+      let wide : length homes' ≡ n = length-set s.homes place home in
+      let as_many = o.as_many in
       record {
-        feed = λ feeds.
-            let f = old.feed feeds in
+        some_places = rw wide o.some_places;
+        as_many = omega arith;
+        released = order.0;
+        taken = order.1;
+        retired = order.2;
+        two_in_hand = order.3;
+        one_round = rw wide order.4;
+        few = order.5;
+        placed = rw wide (λ j from' below'.
+            dite (ℕ_discrete j k) (λ e. subst (Placed c' words homes' n) (sym e) placed)
+            (λ ne.
+            let is = same j ne in
+            let apart : j % n ≢ place = λ e. elsewhere j k n ne (omega arith) (omega arith) (e ∙ sym here) in
+            untouched c c' s.words words s.homes homes' n j (o.placed j (is.from from') (is.below below'))
+            (others (j % n) apart) (set_else s.homes place (j % n) home apart) is));
+      }
+
+  -- and after one that changes views and looks alone
+  pub owned_looks : (s : State (Option B) Known) (c : Course) (views : List Known) (looks visits : List ℕ) → Owned c s
+      → Owned (record c { looks = looks; visits = visits }) record { words = s.words; homes = s.homes; views = views }
+  owned_looks s c views looks visits o = record {
+    some_places = o.some_places;
+    as_many = o.as_many;
+    released = o.released;
+    taken = o.taken;
+    retired = o.retired;
+    two_in_hand = o.two_in_hand;
+    one_round = o.one_round;
+    few = o.few;
+    placed = λ j from below. let old = o.placed j from below in assumption old;
+  }
+
+  -- a step of the feeder's seat, if the prefix that was taken is the same
+  pub feeder_moves : (s : State (Option B) Known) (r : Ring s) (id : ℕ) (v : Known) (words : List ℕ) (homes : List (Home B))
+      (log' log : List Entry) (given : ℕ) (looks' looks shown' shown : List ℕ)
+      → get_elem? s.views id ≡ some v → v.feeds ≡ true → log' ≡ log → looks' ≡ looks → shown' ≡ shown
+      → take r.course.taken log ≡ take r.course.taken r.course.log
+      → let c' : Course = record r.course { log = log; given = given; looks = looks; shown_at = shown } in
+      let now : Known = record v { given = given; retired = log'; looks = looks'; shown_at = shown' } in
+      let s' : State (Option B) Known = record { words = words; homes = homes; views = slice_set s.views id now } in
+      Owned c' s' → IsSeen (length homes) c' → Ring s'
+  feeder_moves s r id v words homes log' log given looks' looks shown' shown at feeds log_is looks_is shown_is front
+      owned seen =
+      let now : Known = record v { given = given; retired = log'; looks = looks'; shown_at = shown' } in
+      let c' : Course = record r.course { log = log; given = given; looks = looks; shown_at = shown } in
+      let know = r.knows id v at in
+      let feed = know.feed feeds in
+      record {
+        course = c';
+        feeder = r.feeder;
+        walker = r.walker;
+        owned = owned;
+        seen = seen;
+        feeds = still_sits (λ (k : Known). k.feeds) s.views id r.feeder v now at refl r.feeds;
+        walks = still_sits (λ (k : Known). k.walks) s.views id r.walker v now at refl r.walks;
+        knows = λ j u is.
+            ⊎_elim (λ t. subst (λ k. Knows kind r.feeder r.walker c' j k) t.1 (record {
+              feed = λ _. let seat = t.0 ∙ feed.seat in assumption;
+              walk = λ walks.
+                  let w = know.walk walks in
+                  let seat = t.0 ∙ w.seat in
+                  let front = w.front ∙ sym front in
+                  assumption;
+              hand = know.hand;
+            }))
+            (λ t.
+            let old = r.knows j u t.1 in
             record {
-              seat = f.seat;
-              same_kind = f.same_kind;
-              given = f.given;
-              retired = f.retired;
-              looks = f.looks;
-              shown_at = f.shown_at;
-            };
-        walk = λ walks. absurd (ne ((old.walk walks).seat ∙ sym is));
-        hand = λ walks feeds. absurd (ne ((old.walk walks).seat ∙ sym is));
-      })
-      (at_set views id j now v at)
+              feed = λ feeds. absurd (t.0 ((old.feed feeds).seat ∙ sym feed.seat));
+              walk = λ walks. let w = old.walk walks in let front = w.front ∙ sym front in assumption;
+              hand = old.hand;
+            })
+            (at_set s.views id j now u is);
+      }
+
+  -- a step of the reader's seat
+  pub walker_moves : (s : State (Option B) Known) (r : Ring s) (id : ℕ) (v : Known) (words : List ℕ) (homes : List (Home B))
+      (taken : List Entry) (count released : ℕ) (marks' marks visits' visits freed' freed : List ℕ)
+      → get_elem? s.views id ≡ some v → v.walks ≡ true → length taken ≡ count → taken ≡ take count r.course.log
+      → length marks' ≡ released → marks' ≡ marks → visits' ≡ visits → freed' ≡ freed
+      → (v.feeds ≡ false → count ≤ released + 1)
+      → let c' : Course =
+      record r.course { taken = count; released = released; marks = marks; visits = visits; freed_at = freed } in
+      let now : Known = record v { taken = taken; marks = marks'; visits = visits'; freed_at = freed' } in
+      let s' : State (Option B) Known = record { words = words; homes = homes; views = slice_set s.views id now } in
+      Owned c' s' → IsSeen (length homes) c' → Ring s'
+  walker_moves s r id v words homes taken count released marks' marks visits' visits freed' freed at walks count_is front
+      released_is marks_are visits_are freed_is hand owned seen =
+      let now : Known = record v { taken = taken; marks = marks'; visits = visits'; freed_at = freed' } in
+      let c' : Course =
+      record r.course { taken = count; released = released; marks = marks; visits = visits; freed_at = freed } in
+      let know = r.knows id v at in
+      let walk = know.walk walks in
+      record {
+        course = c';
+        feeder = r.feeder;
+        walker = r.walker;
+        owned = owned;
+        seen = seen;
+        feeds = still_sits (λ (k : Known). k.feeds) s.views id r.feeder v now at refl r.feeds;
+        walks = still_sits (λ (k : Known). k.walks) s.views id r.walker v now at refl r.walks;
+        knows = λ j u is.
+            ⊎_elim (λ t. subst (λ k. Knows kind r.feeder r.walker c' j k) t.1 (record {
+              feed = λ feeds. let f = know.feed feeds in let seat = t.0 ∙ f.seat in assumption;
+              walk = λ _. let seat = t.0 ∙ walk.seat in assumption;
+              hand = λ _. hand;
+            }))
+            (λ t.
+            let old = r.knows j u t.1 in
+            record {
+              feed = λ feeds. let f = old.feed feeds in assumption;
+              walk = λ walks. absurd (t.0 ((old.walk walks).seat ∙ sym walk.seat));
+              hand = λ walks _. absurd (t.0 ((old.walk walks).seat ∙ sym walk.seat));
+            })
+            (at_set s.views id j now u is);
+      }

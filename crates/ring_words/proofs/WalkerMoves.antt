@@ -1,33 +1,26 @@
 -- The rule of a ring holds after each step of the reader's end.
 use Rattle.std.proofs.Common.{◌≡◌, ℕ, suc, ◌+◌, ◌*◌, ◌/◌, ◌%◌, ◌<◌, ◌≤◌, true, false, List, [], ◌∷◌, ◌++◌, length, take}
-use Rattle.std.proofs.Common.{slice_index, slice_set, refl, sym, ap, ap₂, ◌∙◌, subst, mod-lt, lt_of_not-le, arith, length-set}
+use Rattle.std.proofs.Common.{slice_index, slice_set, refl, sym, ap, ap₂, ◌∙◌, mod-lt, lt_of_not-le, arith, length-set}
 use Rattle.std.proofs.Common.{get_or-set_same, get_or-set_other, add-one, Option, Some}
-use mathlib.Core.Logic.{dite}
 use mathlib.Core.Option.{some, none}
-use native.Mathlib.Decide.{dec_le, ℕ_discrete}
+use native.Mathlib.Decide.{dec_le}
 use native.Mathlib.Nat.{add-mod_right}
 use lib.ListN.{get_elem?}
-use Rattle.atomic_table.specs.Table.{State, Act, keeps, takes, gives, Allows, Valid, step, stepped, carried_after, rest}
-use Rattle.atomic_table.proofs.Lists.{set_here, set_else}
+use Rattle.atomic_table.specs.Table.{State, keeps, takes, gives, Allows, step}
+use Rattle.atomic_table.proofs.Lists.{set_here}
 use Rattle.ring_words.specs.Rings.{Entry, IsMark}
 use Rattle.ring_words.specs.FoundWords.{from_start}
 use Rattle.ring_words.specs.Tables.{Course, IsRing}
 use Rattle.ring_words.specs.Plays.{Fetches, FoundNext, Frees, Holder}
 use Rattle.ring_words.specs.declared.knowledge.Known.{Known}
 use Rattle.ring_words.proofs.Words.{number_of_word, odd_word, status_of_word}
-use Rattle.ring_words.proofs.Rounds.{elsewhere}
 use Rattle.ring_words.proofs.Entries.{entry_at, length-snoc, set-read, take-next, within}
-use Rattle.ring_words.proofs.UnchangedPlaces.{others_walk, still_sits, untouched}
+use Rattle.ring_words.proofs.UnchangedPlaces.{Goes, owned_looks, owned_moves, walker_moves}
 use Rattle.ring_words.proofs.PastLooks.{seen_freed, seen_none, seen_taken, start_last, start_longer}
 
 module _ {B : Type 0} (bytes kind_of : B → List ℕ) (ready : B → ℕ → ℕ → Type 0) (kind : List ℕ) where
-  abbrev pub Ring : State (Option B) Known → Type 0
+  abbrev Ring : State (Option B) Known → Type 0
   Ring = IsRing bytes kind_of ready kind
-
-  -- what has to be shown of a step at a state
-  abbrev pub Goes : State (Option B) Known → ℕ → ℕ → Holder B → ℕ → (Holder B → Type 0) → Type 0
-  Goes s place id me word told = (now : Known) × (act : Act (Option B)) × Valid s.homes me.1 act
-      × Ring (stepped s place word id me.1 now act) × told (now, carried_after me.1 act)
 
   -- what the reader knows once it has taken a block
   abbrev pub taken_one : Known → Entry → ℕ → Known
@@ -56,88 +49,48 @@ module _ {B : Type 0} (bytes kind_of : B → List ℕ) (ready : B → ℕ → �
         views = slice_set s.views id (taken_one v entry word);
       }
   takes_block s r id v word entry at walks hand next is odd =
-      let n = length s.homes in
+      let n : ℕ = length s.homes in
       let c = r.course in
       let o = r.owned in
-      let know = r.knows id v at in
-      let walk = know.walk walks in
-      let c' : Course = record c { taken = length v.taken + 1; released = c.released; visits = c.visits ++ word ∷ [] } in
+      let walk = (r.knows id v at).walk walks in
+      let k : ℕ = length v.taken in
+      let c' : Course = record c { taken = k + 1; visits = c.visits ++ word ∷ [] } in
       let some_places = o.some_places in
-      let count : length v.taken ≡ c.taken = walk.count in
+      let count : k ≡ c.taken = walk.count in
       let below_log = within c.log c.taken entry next in
       let first = o.released in
       let retired = o.retired in
+      let two = o.two_in_hand in
       let round = o.one_round in
-      let place : ℕ = length v.taken % n in
-      let homes' = slice_set s.homes place none in
-      let wide : length homes' ≡ n = length-set s.homes place none in
+      let few = o.few in
+      let released = walk.released in
+      let place : ℕ = k % n in
+      let wide : length (slice_set s.homes place none) ≡ n = length-set s.homes place none in
+      let old = o.placed k (omega arith) (omega arith) in
+      walker_moves bytes kind_of ready kind s r id v s.words (slice_set s.homes place none) _ (k + 1) c.released _ c.marks _ _ _
+      c.freed_at at walks (length-snoc v.taken entry) (front_next c v.taken entry count walk.front next) released walk.marks
+      (ap (λ l. l ++ word ∷ []) walk.visits) walk.freed_at (λ feeds. let h = hand feeds in omega arith)
+      (owned_moves bytes kind_of ready kind s c c' s.words _ none k place o refl refl (λ _ _. refl) (omega arith) (omega arith)
+      (omega arith, omega arith, omega arith, omega arith, omega arith, omega arith)
       record {
-        course = c';
-        feeder = r.feeder;
-        walker = r.walker;
-        feeds = still_sits (λ (k : Known). k.feeds) s.views id r.feeder v (taken_one v entry word) at refl r.feeds;
-        walks = still_sits (λ (k : Known). k.walks) s.views id r.walker v (taken_one v entry word) at refl r.walks;
-        seen = rw wide (seen_taken n c r.seen word (length v.taken) entry count
-            (ap (λ k. get_elem? c.log k) count ∙ next) is odd);
-        owned = record {
-          some_places = rw wide some_places;
-          as_many = o.as_many ∙ sym wide;
-          released = omega arith;
-          taken = omega arith;
-          retired = retired;
-          two_in_hand = o.two_in_hand;
-          one_round = rw wide round;
-          few = o.few;
-          placed = rw wide (λ j from below.
-              let old = o.placed j from below in
-              dite (ℕ_discrete j (length v.taken))
-              (λ e. record {
-                written = old.written;
-                reading = λ _. rw e (set_here s.homes place none (mod-lt (length v.taken) (omega arith)));
-                waiting = λ one is h. absurd (omega arith);
-                marked = old.marked;
-                stored = old.stored;
-                filling = λ h. absurd (omega arith);
-                free = λ h. absurd (omega arith);
-              })
-              (λ ne. untouched bytes kind_of ready kind c c' s.words s.words s.homes homes' n j old refl
-              (set_else s.homes place (j % n) none (elsewhere j (length v.taken) n ne (omega arith) (omega arith)))
-              record {
-                log = λ one is. is;
-                retired = λ h. h;
-                before_taken = λ h. omega arith;
-                from_taken = λ h. omega arith;
-                before_given = λ h. h;
-                from_given = λ h. h;
-                stored = λ _ h. h;
-              }));
-        };
-        knows = others_walk kind r.feeder r.walker c (length v.taken + 1) c.released c.marks (c.visits ++ word ∷ []) c.freed_at
-            s.views id (taken_one v entry word) r.knows walk.seat
-            record {
-              feed = λ feeds.
-                  let f = know.feed feeds in
-                  record {
-                    seat = f.seat;
-                    same_kind = f.same_kind;
-                    given = f.given;
-                    retired = f.retired;
-                    looks = f.looks;
-                    shown_at = f.shown_at;
-                  };
-              walk = λ _. record {
-                seat = walk.seat;
-                same_kind = walk.same_kind;
-                count = length-snoc v.taken entry;
-                front = front_next c v.taken entry count walk.front next;
-                released = walk.released;
-                marks = walk.marks;
-                visits = ap (λ l. l ++ word ∷ []) walk.visits;
-                freed_at = walk.freed_at;
-              };
-              hand = λ _ feeds. let h = hand feeds in let same = walk.released in omega arith;
-            };
+        written = old.written;
+        reading = λ _. set_here s.homes place none (mod-lt k (omega arith));
+        waiting = λ one is h. absurd (omega arith);
+        marked = old.marked;
+        stored = old.stored;
+        filling = λ h. absurd (omega arith);
+        free = λ h. absurd (omega arith);
       }
+      (λ j ne. record {
+        from = λ h. h;
+        below = λ h. h;
+        log = λ one is. is;
+        retired = λ h. h;
+        taken = (λ h. omega arith, λ h. omega arith);
+        given = (λ h. h, λ h. h);
+        stored = λ _ h. h;
+      }))
+      (rw wide (seen_taken n c r.seen word k entry count (ap (λ i. get_elem? c.log i) count ∙ next) is odd))
 
   -- only the looks of the reader's seat change, where the next block isn't retired
   only_visits : (s : State (Option B) Known) (r : Ring s) (id : ℕ) (v : Known) (word : ℕ) → get_elem? s.views id ≡ some v
@@ -149,61 +102,10 @@ module _ {B : Type 0} (bytes kind_of : B → List ℕ) (ready : B → ℕ → �
       let c = r.course in
       let know = r.knows id v at in
       let walk = know.walk walks in
-      record {
-        course = record c { visits = c.visits ++ word ∷ [] };
-        feeder = r.feeder;
-        walker = r.walker;
-        feeds = still_sits (λ (k : Known). k.feeds) s.views id r.feeder v (visited v word) at refl r.feeds;
-        walks = still_sits (λ (k : Known). k.walks) s.views id r.walker v (visited v word) at refl r.walks;
-        seen = seen_none (length s.homes) c r.seen word (length v.taken) walk.count all mark even;
-        owned = record {
-          some_places = r.owned.some_places;
-          as_many = r.owned.as_many;
-          released = r.owned.released;
-          taken = r.owned.taken;
-          retired = r.owned.retired;
-          two_in_hand = r.owned.two_in_hand;
-          one_round = r.owned.one_round;
-          few = r.owned.few;
-          placed = λ j from below.
-              untouched bytes kind_of ready kind c (record c { visits = c.visits ++ word ∷ [] }) s.words s.words s.homes s.homes
-              (length s.homes) j (r.owned.placed j from below) refl refl
-              record {
-                log = λ one is. is;
-                retired = λ h. h;
-                before_taken = λ h. h;
-                from_taken = λ h. h;
-                before_given = λ h. h;
-                from_given = λ h. h;
-                stored = λ _ h. h;
-              };
-        };
-        knows = others_walk kind r.feeder r.walker c c.taken c.released c.marks (c.visits ++ word ∷ []) c.freed_at s.views id
-            (visited v word) r.knows walk.seat
-            record {
-              feed = λ feeds.
-                  let f = know.feed feeds in
-                  record {
-                    seat = f.seat;
-                    same_kind = f.same_kind;
-                    given = f.given;
-                    retired = f.retired;
-                    looks = f.looks;
-                    shown_at = f.shown_at;
-                  };
-              walk = λ _. record {
-                seat = walk.seat;
-                same_kind = walk.same_kind;
-                count = walk.count;
-                front = walk.front;
-                released = walk.released;
-                marks = walk.marks;
-                visits = ap (λ l. l ++ word ∷ []) walk.visits;
-                freed_at = walk.freed_at;
-              };
-              hand = know.hand;
-            };
-      }
+      walker_moves bytes kind_of ready kind s r id v s.words s.homes _ c.taken c.released _ c.marks _ _ _ c.freed_at at walks
+      walk.count walk.front walk.released walk.marks (ap (λ l. l ++ word ∷ []) walk.visits) walk.freed_at (know.hand walks)
+      (owned_looks bytes kind_of ready kind s c _ c.looks (c.visits ++ word ∷ []) r.owned)
+      (seen_none (length s.homes) c r.seen word (length v.taken) walk.count all mark even)
 
   -- a block that was retired and not taken: what the look at its word shows, and what remains of it
   pub record Next (s : State (Option B) Known) (r : Ring s) (id : ℕ) (me : Holder B) : Type 0 where
@@ -267,7 +169,8 @@ module _ {B : Type 0} (bytes kind_of : B → List ℕ) (ready : B → ℕ → �
       → me.0.walks ≡ true
       → length me.0.taken ≤ length me.0.marks → Dec (length r.course.log ≤ r.course.taken)
       → let place : ℕ = length me.0.taken % length s.homes in let word : ℕ = slice_index s.words place in
-      Goes s place id me word (Fetches bytes kind_of ready (step (length s.homes) place 0 0 none) me word)
+      Goes bytes kind_of ready kind s place id me word
+      (Fetches bytes kind_of ready (step (length s.homes) place 0 0 none) me word)
   fetches_by s r id me at walks hand (no here) =
       let place : ℕ = length me.0.taken % length s.homes in
       let word : ℕ = slice_index s.words place in
@@ -311,10 +214,7 @@ module _ {B : Type 0} (bytes kind_of : B → List ℕ) (ready : B → ℕ → �
       → Allows Ring n id me (length me.0.taken % n) (λ word. word)
       (Fetches bytes kind_of ready (step n (length me.0.taken % n) 0 0 none) me)
   fetches n id me walks hand s r wide at small =
-      let k : ℕ = length me.0.taken in
-      subst (λ m. Goes s (k % m) id me (slice_index s.words (k % m))
-      (Fetches bytes kind_of ready (step m (k % m) 0 0 none) me (slice_index s.words (k % m)))) wide
-      (fetches_by s r id me at walks hand (dec_le (length r.course.log) r.course.taken))
+      rw (← wide) (fetches_by s r id me at walks hand (dec_le (length r.course.log) r.course.taken))
 
   -- what the reader knows once it has released a block
   abbrev released_one : Known → ℕ → ℕ → Known
@@ -331,137 +231,71 @@ module _ {B : Type 0} (bytes kind_of : B → List ℕ) (ready : B → ℕ → �
         views = slice_set s.views id (released_one v mark (length r.course.looks));
       }
   frees_block s r id v block mark at walks hand even is_kind =
-      let n = length s.homes in
+      let n : ℕ = length s.homes in
       let c = r.course in
       let o = r.owned in
       let know = r.knows id v at in
       let walk = know.walk walks in
       let t : ℕ = length v.marks in
-      let now : Known = released_one v mark (length c.looks) in
       let marks : List ℕ = c.marks ++ mark ∷ [] in
       let freed_at : List ℕ = c.freed_at ++ length c.looks ∷ [] in
-      let c' : Course = record c { taken = c.taken; released = t + 1; marks = marks; freed_at = freed_at } in
+      let c' : Course = record c { released = t + 1; marks = marks; freed_at = freed_at } in
       let place : ℕ = t % n in
       let count : length v.taken ≡ c.taken = walk.count in
       let same : t ≡ c.released = walk.released in
       let some_places = o.some_places in
       let front = o.taken in
       let retired = o.retired in
+      let two = o.two_in_hand in
       let round = o.one_round in
+      let few = o.few in
       let words' : List ℕ = slice_set s.words place mark in
       let homes' = slice_set s.homes place (some (Some block)) in
       let wide : length homes' ≡ n = length-set s.homes place (some (Some block)) in
-      let wide_words : length words' ≡ length s.words = length-set s.words place mark in
       let as_many = o.as_many in
       let near : place < n = mod-lt t (omega arith) in
+      let turn : (t + n) % n ≡ place = add-mod_right t n in
+      let long = r.seen.marks in
+      let here : slice_index words' ((t + n) % n) ≡ mark = rw turn (get_or-set_same s.words place mark 0 (omega arith)) in
+      walker_moves bytes kind_of ready kind s r id v words' homes' v.taken c.taken (t + 1) _ marks _ _ _ freed_at at walks
+      count walk.front (length-snoc v.marks mark) (ap (λ l. l ++ mark ∷ []) walk.marks) walk.visits
+      (ap (λ l. l ++ length c.looks ∷ []) walk.freed_at) (λ feeds. let h = know.hand walks feeds in omega arith)
+      (owned_moves bytes kind_of ready kind s c c' words' _ (some (Some block)) (t + n) place o turn
+      (length-set s.words place mark) (λ i apart. get_or-set_other s.words place i mark 0 apart) (omega arith) (omega arith)
+      (omega arith, omega arith, omega arith, omega arith, omega arith, omega arith)
       record {
-        course = c';
-        feeder = r.feeder;
-        walker = r.walker;
-        feeds = still_sits (λ (k : Known). k.feeds) s.views id r.feeder v now at refl r.feeds;
-        walks = still_sits (λ (k : Known). k.walks) s.views id r.walker v now at refl r.walks;
-        seen = rw wide (seen_freed n c r.seen mark t same);
-        owned = record {
-          some_places = rw wide some_places;
-          as_many = omega arith;
-          released = omega arith;
-          taken = front;
-          retired = retired;
-          two_in_hand = o.two_in_hand;
-          one_round = rw wide (omega arith);
-          few = o.few;
-          placed = rw wide (λ j from below.
-              dite (ℕ_discrete j (t + n))
-              (λ e.
-              let turn : j % n ≡ place = ap (λ k. k % n) e ∙ add-mod_right t n in
-              record {
-                written = λ one is. let w = within c.log j one is in absurd (omega arith);
-                reading = λ h. absurd (omega arith);
-                waiting = λ one is h. let w = within c.log j one is in absurd (omega arith);
-                marked = λ _.
-                    let here : slice_index words' (j % n) ≡ mark =
-                    rw turn (get_or-set_same s.words place mark 0 (omega arith)) in
-                    rw here even;
-                stored = λ _.
-                    let here : slice_index words' (j % n) ≡ mark =
-                    rw turn (get_or-set_same s.words place mark 0 (omega arith)) in
-                    let long = r.seen.marks in
-                    rw here (start_last n c.marks mark j (omega arith));
-                filling = λ h below'. absurd (omega arith);
-                free = λ _. (
-                  block,
-                  record {
-                    home = rw turn (set_here s.homes place (some (Some block)) near);
-                    same_kind = is_kind ∙ walk.same_kind;
-                  },
-                );
-              })
-              (λ ne.
-              let old = o.placed j (omega arith) (omega arith) in
-              let apart = elsewhere j t n (λ e. omega arith) (omega arith) (omega arith) in
-              untouched bytes kind_of ready kind c c' s.words words' s.homes homes' n j old
-              (get_or-set_other s.words place (j % n) mark 0 (λ e. apart e))
-              (set_else s.homes place (j % n) (some (Some block)) apart)
-              record {
-                log = λ one is. is;
-                retired = λ h. h;
-                before_taken = λ h. h;
-                from_taken = λ h. h;
-                before_given = λ h. h;
-                from_given = λ h. h;
-                stored = λ word h. start_longer n c.marks mark j word h;
-              }));
-        };
-        knows = others_walk kind r.feeder r.walker c c.taken (t + 1) marks c.visits freed_at s.views id now r.knows walk.seat
-            record {
-              feed = λ feeds.
-                  let f = know.feed feeds in
-                  record {
-                    seat = f.seat;
-                    same_kind = f.same_kind;
-                    given = f.given;
-                    retired = f.retired;
-                    looks = f.looks;
-                    shown_at = f.shown_at;
-                  };
-              walk = λ _. record {
-                seat = walk.seat;
-                same_kind = walk.same_kind;
-                count = walk.count;
-                front = walk.front;
-                released = length-snoc v.marks mark;
-                marks = ap (λ l. l ++ mark ∷ []) walk.marks;
-                visits = walk.visits;
-                freed_at = ap (λ l. l ++ length c.looks ∷ []) walk.freed_at;
-              };
-              hand = λ walks' feeds. let h = know.hand walks' feeds in omega arith;
-            };
+        written = λ one is. let w = within c.log (t + n) one is in absurd (omega arith);
+        reading = λ h. absurd (omega arith);
+        waiting = λ one is h. let w = within c.log (t + n) one is in absurd (omega arith);
+        marked = λ _. rw here even;
+        stored = λ _. rw here (start_last n c.marks mark (t + n) (omega arith));
+        filling = λ h below. absurd (omega arith);
+        free = λ _. (
+          block,
+          record { home = rw turn (set_here s.homes place (some (Some block)) near); same_kind = is_kind ∙ walk.same_kind },
+        );
       }
+      (λ j ne. record {
+        from = λ h. omega arith;
+        below = λ h. omega arith;
+        log = λ one is. is;
+        retired = λ h. h;
+        taken = (λ h. h, λ h. h);
+        given = (λ h. h, λ h. h);
+        stored = λ word h. start_longer n c.marks mark j word h;
+      }))
+      (rw wide (seen_freed n c r.seen mark t same))
 
-  frees_by : (n id : ℕ) (v : Known) (others : List (ℕ × Option B)) (block : B) (mark : ℕ)
-      (s : State (Option B) Known) (r : Ring s)
-      → get_elem? s.views id ≡ some v → v.walks ≡ true → length v.marks < length v.taken → IsMark mark → kind_of block ≡ v.kind
-      → length s.homes ≡ n
+  -- the reader stores the mark after the block that it has put back
+  pub frees : (n id : ℕ) (v : Known) (others : List (ℕ × Option B)) (block : B) (mark : ℕ) → v.walks ≡ true
+      → length v.marks < length v.taken → IsMark mark → kind_of block ≡ v.kind
       → let place : ℕ = length v.marks % n in let me : Holder B = (v, (place, Some block) ∷ others) in
-      Goes s place id me mark (Frees bytes kind_of ready me mark)
-  frees_by n id v others block mark s r at walks hand even is_kind wide =
-      subst (λ m.
-      let place : ℕ = length v.marks % m in
-      let me : Holder B = (v, (place, Some block) ∷ others) in
-      Goes s place id me mark (Frees bytes kind_of ready me mark)) wide (
+      Allows Ring n id me place (λ _. mark) (λ _. Frees bytes kind_of ready me mark)
+  frees n id v others block mark walks hand even is_kind s r wide at small =
+      rw (← wide) (
         released_one v mark (length r.course.looks),
         gives,
         tt,
         frees_block s r id v block mark at walks hand even is_kind,
         record { hand = refl; at = length r.course.looks; known = refl },
       )
-
-  -- the reader stores the mark after the block that it has put back
-  pub frees : (n id : ℕ) (me : Holder B) (block : B) (mark : ℕ) → me.0.walks ≡ true
-      → length me.0.marks < length me.0.taken → IsMark mark
-      → kind_of block ≡ me.0.kind → me.1 ≡ (length me.0.marks % n, Some block) ∷ rest me.1
-      → Allows Ring n id me (length me.0.marks % n) (λ _. mark) (λ _. Frees bytes kind_of ready me mark)
-  frees n id me block mark walks hand even is_kind out s r wide at small =
-      let place : ℕ = length me.0.marks % n in
-      subst (λ slots. Goes s place id (me.0, slots) mark (Frees bytes kind_of ready (me.0, slots) mark)) (sym out)
-      (frees_by n id me.0 (rest me.1) block mark s r at walks hand even is_kind wide)

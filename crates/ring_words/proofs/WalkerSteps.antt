@@ -1,5 +1,5 @@
 -- What the calls of the reader's end have to show of the table, and what its fields keep.
-use Rattle.std.proofs.Common.{◌≡◌, ℕ, ◌-◌, ◌%◌, ◌<◌, ◌≤◌, List, [], ◌∷◌, length, Option, Some, None, sym, ap, ◌∙◌, subst}
+use Rattle.std.proofs.Common.{◌≡◌, ℕ, ◌-◌, ◌%◌, ◌<◌, ◌≤◌, List, [], ◌∷◌, Option, Some, None, ap, ◌∙◌}
 use Rattle.std.proofs.Common.{mod-lt, add-zero, arith}
 use mathlib.Core.Option.{none}
 use Rattle.atomic_table.specs.Seated.{TableId}
@@ -74,14 +74,9 @@ module _ {B : Type 0} (bytes kind_of : B → List ℕ) (ready : B → ℕ → �
       let words = is.words in
       let near : released % places < places = mod-lt released (omega arith) in
       let count = keeps.count in
-      let free = keeps.released_count in
-      let mine : Holder B = before_free me places released block in
-      let place : released % places ≡ length me.0.marks % places = ap (λ k. k % places) (sym free) in
-      let front : mine.1 ≡ (length me.0.marks % places, Some block) ∷ rest mine.1 = ap (λ k. (k, Some block) ∷ []) place in
-      let allowed = frees bytes kind_of ready kind places id mine block mark keeps.walks (omega arith) even is_kind front in (
+      let free = keeps.released_count in (
         is.same,
         omega arith,
-        rw (is.slots, out_is)
-            (subst (λ k. Allows (IsRing bytes kind_of ready kind) places id mine k (λ _. mark)
-            (λ _. Frees bytes kind_of ready mine mark)) (sym place) allowed),
+        rw (is.slots, out_is, ← keeps.released_count) (frees bytes kind_of ready kind places id me.0 [] block mark keeps.walks
+            (omega arith) even is_kind),
       )
