@@ -6,7 +6,7 @@ use Rattle.std.proofs.Common.{length-set, Option, Some}
 use mathlib.Core.Option.{some, none, some-ne-none}
 use lib.ListN.{get_elem?}
 use Rattle.std.specs.List.{AllByRecursion}
-use Rattle.std.proofs.lemmas.List.{length-map}
+use Rattle.std.proofs.lemmas.List.{get_or-replicate, length-map, set-get_or}
 use Rattle.std.proofs.Math.ListN.{length-replicate}
 use Rattle.atomic_table.specs.Table.{State, keeps, takes, Allows, Joins, Splits, opening, step}
 use Rattle.atomic_table.proofs.Lists.{at_last, at_longer, at_map, at_set, set_again, set_else, set_here}
@@ -15,20 +15,15 @@ use Rattle.ring_words.specs.Rings.{Entry}
 use Rattle.ring_words.specs.Tables.{Course, IsRing, IsSeen, Knows, LooksHold, TakesFront, course_of}
 use Rattle.ring_words.specs.Plays.{Compares, Drains, Holder}
 use Rattle.ring_words.specs.declared.knowledge.Known.{Known}
-use Rattle.ring_words.proofs.Entries.{at_new, entry_at, length-snoc, set-read, within}
+use Rattle.ring_words.proofs.Entries.{at_new, entry_at, length-snoc, within}
 use Rattle.ring_words.proofs.PastLooks.{seen_new, start_zero}
-use Rattle.ring_words.proofs.UnchangedPlaces.{Goes, Ring, owned_looks}
+use Rattle.ring_words.proofs.UnchangedPlaces.{Ring, owned_looks}
 use Rattle.ring_words.proofs.WalkerMoves.{front_next, next_block, taken_one, takes_block}
 
 all_at : {X : Type 0} (P : X → Type 0) (l : List X) (i : ℕ) (x : X) → AllByRecursion P l → get_elem? l i ≡ some x → P x
 all_at P [] i x all at = absurd (some-ne-none x (sym at))
 all_at P (y ∷ l) zero x all at = subst P (mathlib.Core.Option.some-injective y x at) all.0
 all_at P (y ∷ l) (suc i) x all at = all_at P l i x all.1 at
-
-zeros : (count i : ℕ) → slice_index (replicate count 0) i ≡ 0
-zeros zero i = refl
-zeros (suc count) zero = refl
-zeros (suc count) (suc i) = zeros count i
 
 -- a list that is the prefix of a log is the prefix of a list that is the log
 fronts : {n : ℕ} (now : List Entry) (retired log : List Entry) {longer : List Entry} → now ≡ longer → length longer ≡ n
@@ -38,6 +33,20 @@ fronts now retired log is long same front =
 
 never : false ≡ true → ⊥
 never e = true≢false (sym e)
+
+-- the reader's seat knows the prefix of the log, and the feeder's seat knows the log
+pub takes_front : {B : Type 0} (bytes kind_of : B → List ℕ) (ready : B → ℕ → ℕ → Type 0) (kind : List ℕ)
+    (s : State (Option B) Known) → IsRing bytes kind_of ready kind s → TakesFront s.views
+takes_front bytes kind_of ready kind s r feeder walker fed walked feeder_at walker_at feeds walks =
+    let c = r.course in
+    let feed = (r.knows feeder fed feeder_at).feed feeds in
+    let walk = (r.knows walker walked walker_at).walk walks in
+    let count = walk.count in
+    let retired : length fed.retired ≡ length c.log = ap length feed.retired in
+    record {
+      count = omega arith;
+      front = walk.front ∙ ap (λ k. take k c.log) (sym count) ∙ ap (take (length walked.taken)) (sym feed.retired);
+    }
 
 module _ {B : Type 0} (bytes kind_of : B → List ℕ) (ready : B → ℕ → ℕ → Type 0) (kind : List ℕ) where
   -- a new ring: each block is free at its place
@@ -63,38 +72,31 @@ module _ {B : Type 0} (bytes kind_of : B → List ℕ) (ready : B → ℕ → �
           two_in_hand = omega arith;
           one_round = omega arith;
           few = omega arith;
-          placed = λ j from below. record {
-            written = λ one is. absurd (some-ne-none one (sym is));
-            reading = λ h. absurd (omega arith);
-            waiting = λ one is. absurd (some-ne-none one (sym is));
-            marked = λ _. rw (zeros (length blocks) (j % length homes)) (record { even = refl; small = omega arith });
-            stored = λ _. rw (zeros (length blocks) (j % length homes)) (start_zero (length homes) j [] (omega arith));
-            filling = λ _ h. absurd (omega arith);
-            free = λ _.
-                let near : j % length homes < length homes = mod-lt j (omega arith) in
-                let entry = entry_at blocks (j % length homes) (omega arith) in (
-                  entry.0,
-                  record {
-                    home = at_map some (map Some blocks) (j % length homes) (Some entry.0)
-                        (at_map Some blocks (j % length homes) entry.0 entry.1);
-                    same_kind = all_at (λ block. kind_of block ≡ kind) blocks (j % length homes) entry.0 kinds entry.1;
-                  },
-                );
-          };
+          placed = λ j from below.
+              let near : j % length homes < length homes = mod-lt j (omega arith) in
+              let zero = get_or-replicate {A = ℕ} (length blocks) (j % length homes) 0 0 (omega arith) in
+              record {
+                written = λ one is. absurd (some-ne-none one (sym is));
+                reading = λ h. absurd (omega arith);
+                waiting = λ one is. absurd (some-ne-none one (sym is));
+                marked = λ _. rw zero (record { even = refl; small = omega arith });
+                stored = λ _. rw zero (start_zero (length homes) j [] (omega arith));
+                filling = λ _ h. absurd (omega arith);
+                free = λ _.
+                    let entry = entry_at blocks (j % length homes) (omega arith) in (
+                      entry.0,
+                      record {
+                        home = at_map some (map Some blocks) (j % length homes) (Some entry.0)
+                            (at_map Some blocks (j % length homes) entry.0 entry.1);
+                        same_kind = all_at (λ block. kind_of block ≡ kind) blocks (j % length homes) entry.0 kinds entry.1;
+                      },
+                    );
+              };
         };
         knows = λ id known at.
             ⊎_elim (λ t. subst (λ u. Knows kind 0 0 course id u) t.1 (record {
-              feed = λ _. record { seat = t.0; same_kind = refl; given = refl; retired = refl; looks = refl; shown_at = refl };
-              walk = λ _. record {
-                seat = t.0;
-                same_kind = refl;
-                count = refl;
-                front = refl;
-                released = refl;
-                marks = refl;
-                visits = refl;
-                freed_at = refl;
-              };
+              feed = λ _. let seat = t.0 in assumption;
+              walk = λ _. let seat = t.0 in assumption;
               hand = λ _ _. omega arith;
             }))
             (λ t. absurd (some-ne-none known (sym t)))
@@ -199,31 +201,19 @@ module _ {B : Type 0} (bytes kind_of : B → List ℕ) (ready : B → ℕ → �
   pub compares : (n id : ℕ) (me : Holder B) (place : ℕ) → me.0.feeds ≡ true → me.0.walks ≡ true
       → Allows (Ring bytes kind_of ready kind) n id me place (λ word. word) (λ _. Compares bytes kind_of ready me)
   compares n id me place feeds walks s r wide at small =
-      let c = r.course in
-      let know = r.knows id me.0 at in
-      let feed = know.feed feeds in
-      let walk = know.walk walks in
-      let taken = r.owned.taken in
-      let count = walk.count in
-      let retired : length me.0.retired ≡ length c.log = ap length feed.retired in (
+      let is = takes_front bytes kind_of ready kind s r id id me.0 me.0 at at feeds walks in (
         me.0,
         keeps,
         tt,
-        rw (set-read s.words place, set_again s.views id me.0 at) r,
-        record {
-          same = refl;
-          count = omega arith;
-          front = walk.front ∙ ap (λ k. take k c.log) (sym count) ∙ ap (take (length me.0.taken)) (sym feed.retired);
-        },
+        rw (set-get_or s.words place 0, set_again s.views id me.0 at) r,
+        record { same = refl; count = is.count; front = is.front },
       )
 
-  drains_at : (s : State (Option B) Known) (r : Ring bytes kind_of ready kind s) (id : ℕ) (me : Holder B)
-      → get_elem? s.views id ≡ some me.0
-      → me.0.feeds ≡ true → me.0.walks ≡ true → length me.0.taken < length me.0.retired
-      → let place : ℕ = length me.0.taken % length s.homes in let word : ℕ = slice_index s.words place in
-      Goes bytes kind_of ready kind s place id me word
-      (Drains bytes kind_of ready (step (length s.homes) place 0 0 none) me word)
-  drains_at s r id me at feeds walks left =
+  -- both ends in one seat take the next block that was retired
+  pub drains : (n id : ℕ) (me : Holder B) → me.0.feeds ≡ true → me.0.walks ≡ true → length me.0.taken < length me.0.retired
+      → Allows (Ring bytes kind_of ready kind) n id me (length me.0.taken % n) (λ word. word)
+      (Drains bytes kind_of ready (step n (length me.0.taken % n) 0 0 none) me)
+  drains n id me feeds walks left s r wide at small =
       let v : Known = me.0 in
       let c = r.course in
       let know = r.knows id v at in
@@ -233,11 +223,12 @@ module _ {B : Type 0} (bytes kind_of : B → List ℕ) (ready : B → ℕ → �
       let retired : length v.retired ≡ length c.log = ap length feed.retired in
       let place : ℕ = length v.taken % length s.homes in
       let word : ℕ = slice_index s.words place in
-      let next = next_block bytes kind_of ready kind s r id me at walks (omega arith) in (
+      let next = next_block bytes kind_of ready kind s r id me at walks (omega arith) in
+      rw (← wide) (
         taken_one bytes kind_of ready kind v (bytes next.block, word % 256) word,
         takes place (Some next.block),
         next.home,
-        rw (set-read s.words place, next.is)
+        rw (set-get_or s.words place 0, next.is)
             (takes_block bytes kind_of ready kind s r id v word next.entry at walks (λ f. absurd (true≢false (sym feeds ∙ f)))
             next.at next.written next.odd),
         record {
@@ -248,28 +239,6 @@ module _ {B : Type 0} (bytes kind_of : B → List ℕ) (ready : B → ℕ → �
               (front_next bytes kind_of ready kind c v.taken next.entry count walk.front next.at);
         },
       )
-
-  -- both ends in one seat take the next block that was retired
-  pub drains : (n id : ℕ) (me : Holder B) → me.0.feeds ≡ true → me.0.walks ≡ true → length me.0.taken < length me.0.retired
-      → Allows (Ring bytes kind_of ready kind) n id me (length me.0.taken % n) (λ word. word)
-      (Drains bytes kind_of ready (step n (length me.0.taken % n) 0 0 none) me)
-  drains n id me feeds walks left s r wide at small =
-      rw (← wide) (drains_at s r id me at feeds walks left)
-
--- the reader's seat knows the prefix of the log, and the feeder's seat knows the log
-pub takes_front : {B : Type 0} (bytes kind_of : B → List ℕ) (ready : B → ℕ → ℕ → Type 0) (kind : List ℕ)
-    (s : State (Option B) Known) → IsRing bytes kind_of ready kind s → TakesFront s.views
-takes_front bytes kind_of ready kind s r feeder walker fed walked feeder_at walker_at feeds walks =
-    let c = r.course in
-    let feed = (r.knows feeder fed feeder_at).feed feeds in
-    let walk = (r.knows walker walked walker_at).walk walks in
-    let taken = r.owned.taken in
-    let count = walk.count in
-    let retired : length fed.retired ≡ length c.log = ap length feed.retired in
-    record {
-      count = omega arith;
-      front = walk.front ∙ ap (λ k. take k c.log) (sym count) ∙ ap (take (length walked.taken)) (sym feed.retired);
-    }
 
 -- the course is what both ends know of it
 pub looks_hold : {B : Type 0} (bytes kind_of : B → List ℕ) (ready : B → ℕ → ℕ → Type 0) (kind : List ℕ)

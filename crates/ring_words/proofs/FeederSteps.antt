@@ -21,8 +21,6 @@ module _ {B : Type 0} (bytes kind_of : B → List ℕ) (ready : B → ℕ → �
       × Allows (IsRing bytes kind_of ready kind) table.slots id me (given % places) (λ word. word)
       (Looks bytes kind_of ready (step table.slots (given % places) 0 0 none) me)
   may_look kind table seat id me places given retired is keeps hand few =
-      let some = is.some_places in
-      let words = is.words in
       let near : given % places < places = mod-lt given (omega arith) in
       let count = keeps.count in (
         is.same,
@@ -45,7 +43,6 @@ module _ {B : Type 0} (bytes kind_of : B → List ℕ) (ready : B → ℕ → �
   keeps_free places slots given retired me me' me'' word keeps hand few found is =
       let count = keeps.count in
       let order = keeps.order in
-      let some = keeps.retired_count in
       let mine : KeepsFeed {B = B} (
         record me.0 { given = me.0.given + 1; looks = me.0.looks ++ word ∷ [] },
         (given % places, None) ∷ me.1,
@@ -93,10 +90,7 @@ module _ {B : Type 0} (bytes kind_of : B → List ℕ) (ready : B → ℕ → �
       × Allows (IsRing bytes kind_of ready kind) table.slots id out (retired % places) (λ _. word)
       (λ _. Stores bytes kind_of ready (step table.slots (retired % places) word 0 none) out word)
   may_store kind table seat id me out block places given retired status is keeps hand odd is_kind is_ready out_is =
-      let some = is.some_places in
-      let words = is.words in
       let near : retired % places < places = mod-lt retired (omega arith) in
-      let count = keeps.count in
       let retired_count = keeps.retired_count in (
         is.same,
         omega arith,
@@ -113,7 +107,6 @@ module _ {B : Type 0} (bytes kind_of : B → List ℕ) (ready : B → ℕ → �
   keeps_stored places slots given retired word me out block me' keeps hand out_is stored =
       let entry : Entry = (bytes block, word % 256) in
       let order = keeps.order in
-      let two = keeps.two_in_hand in
       let count = keeps.retired_count in
       let mine : KeepsFeed {B = B} (
         record me.0 { retired = me.0.retired ++ entry ∷ []; shown_at = me.0.shown_at ++ stored.at ∷ [] },

@@ -40,24 +40,12 @@ module _ {B : Type 0} (bytes kind_of : B → List ℕ) (ready : B → ℕ → �
       word more seen'.looks in
       let rank : even_count fed.looks ≡ fed.given = ap even_count feed.looks ∙ r.seen.given ∙ sym feed.given in
       let found : IsLook n c.log c.marks c.freed_at (length c.looks) fed.given word =
-      subst (λ l. IsLook n c.log c.marks c.freed_at (length l) fed.given word) feed.looks
-      (subst (λ k. IsLook n c.log c.marks c.freed_at (length fed.looks) k word) rank
-      (subst (λ l. IsLook n c.log c.marks l (length fed.looks) (even_count fed.looks) word) walk.freed_at
-      (subst (λ l. IsLook n c.log l walked.freed_at (length fed.looks) (even_count fed.looks) word) walk.marks
-      (subst (λ l. IsLook n l walked.marks walked.freed_at (length fed.looks) (even_count fed.looks) word) (same ∙ feed.retired)
-      (subst (λ k. IsLook k fed'.retired walked.marks walked.freed_at (length fed.looks) (even_count fed.looks) word)
-      wide look))))) in
-      let given = feed.given in
-      let first = o.released in
-      let taken = o.taken in
-      let retired = o.retired in
-      let round = o.one_round in
+      rw (← feed.looks, ← rank, ← walk.freed_at, ← walk.marks, ← feed.retired, ← same, ← wide) look in
       dite (ℕ_discrete (word % 2) 0)
       (λ even.
       let at_place = found.mark even in
       let below = within (from_start n c.marks) fed.given word at_place in
       let long = length-start n c.marks in
-      let marks = r.seen.marks in
       let placed = o.placed fed.given (omega arith) (omega arith) in
       some-injective word (slice_index s.words (fed.given % n)) (sym at_place ∙ placed.stored (omega arith)))
       (λ ne.
@@ -65,7 +53,6 @@ module _ {B : Type 0} (bytes kind_of : B → List ℕ) (ready : B → ℕ → �
       let was = found.number odd in
       let back : was.0 + n ≡ fed.given = was.1 in
       let long = length-start n c.freed_at in
-      let freed = r.seen.freed in
       dite (dec_le (length (from_start n c.freed_at)) fed.given)
       (λ full.
       let placed = o.placed was.0 (omega arith) (omega arith) in
@@ -93,25 +80,13 @@ module _ {B : Type 0} (bytes kind_of : B → List ℕ) (ready : B → ℕ → �
       walked'.visits word more seen'.visits in
       let rank : odd_count walked.visits ≡ k = ap odd_count walk.visits ∙ r.seen.taken ∙ sym walk.count in
       let found : IsVisit n c.log c.marks c.shown_at (length c.visits) k word =
-      subst (λ l. IsVisit n c.log c.marks c.shown_at (length l) k word) walk.visits
-      (subst (λ m. IsVisit n c.log c.marks c.shown_at (length walked.visits) m word) rank
-      (subst (λ l. IsVisit n c.log c.marks l (length walked.visits) (odd_count walked.visits) word) feed.shown_at
-      (subst (λ l. IsVisit n c.log l fed.shown_at (length walked.visits) (odd_count walked.visits) word) (same ∙ walk.marks)
-      (subst (λ l. IsVisit n l walked'.marks fed.shown_at (length walked.visits) (odd_count walked.visits) word) feed.retired
-      (subst (λ m. IsVisit m fed.retired walked'.marks fed.shown_at (length walked.visits) (odd_count walked.visits) word)
-      wide visit))))) in
+      rw (← walk.visits, ← rank, ← feed.shown_at, ← walk.marks, ← same, ← feed.retired, ← wide) visit in
       let count : k ≡ c.taken = walk.count in
-      let first = o.released in
-      let taken = o.taken in
-      let retired = o.retired in
-      let round = o.one_round in
       dite (ℕ_discrete (word % 2) 0)
       (λ even.
       let at_place = found.mark even in
       let below = within (from_start n c.marks) k word at_place in
       let long = length-start n c.marks in
-      let marks = r.seen.marks in
-      let shown = r.seen.shown in
       dite (dec_le (length c.log) k)
       (λ all.
       let placed = o.placed k (omega arith) (omega arith) in

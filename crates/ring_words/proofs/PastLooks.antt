@@ -5,13 +5,13 @@ use mathlib.Core.Option.{some, some-injective, some-ne-none}
 use lib.ListN.{get_elem?}
 use Rattle.std.proofs.Math.ListN.{length-replicate}
 use Rattle.std.proofs.Math.Seq.{take-append_seam}
-use Rattle.std.proofs.lemmas.List.{length-append}
+use Rattle.std.proofs.lemmas.List.{length-append, take-append-le}
 use Rattle.atomic_table.proofs.Lists.{at_last, at_longer}
 use Rattle.ring_words.specs.Rings.{Entry}
 use Rattle.ring_words.specs.FoundWords.{IsLook, IsVisit, WasRetired, from_start}
 use Rattle.ring_words.specs.TableEnds.{even_count, odd_count}
 use Rattle.ring_words.specs.Tables.{Course, IsSeen}
-use Rattle.ring_words.proofs.Entries.{at_new, length-snoc, take-longer, within}
+use Rattle.ring_words.proofs.Entries.{at_new, length-snoc, within}
 use Rattle.ring_words.proofs.Hands.{even_count_push, odd_count_push}
 
 -- one more at the end of what is known from the start on
@@ -63,7 +63,7 @@ look_more P rank looks word all new i w at =
     (subst (λ x. P (length looks) (rank looks) x) t.1 new)))
     (λ t.
     let below = within looks i w t in
-    subst (λ l. P i (rank l) w) (sym (take-longer looks word i (omega arith))) (all i w t))
+    subst (λ l. P i (rank l) w) (sym (take-append-le i looks (word ∷ []) (omega arith))) (all i w t))
     (at_new looks word w i at)
 
 -- a bound on all numbers of a list holds with one more number, or when the bound rises
@@ -121,8 +121,6 @@ module _ (places : ℕ) (c : Course) (seen : IsSeen places c) where
       → word ≡ (c.released + 1) * 256 + entry.1 → word % 2 ≡ 1
       → IsSeen places (record c { looks = c.looks ++ word ∷ [] })
   seen_held word entry full at is odd =
-      let rank = seen.given in
-      let freed = seen.freed in
       one_look word c.given (omega arith) record {
         mark = λ even. absurd (omega arith);
         free = λ even. absurd (omega arith);

@@ -1,5 +1,5 @@
 -- What the calls that finish a ring have to show of its table, and lists of pending blocks.
-use Rattle.std.proofs.Common.{◌≡◌, ℕ, zero, suc, ◌+◌, ◌-◌, ◌%◌, ◌<◌, ◌≤◌, true, List, [], ◌∷◌, ◌++◌, length, take, drop, get_or}
+use Rattle.std.proofs.Common.{◌≡◌, ℕ, zero, suc, ◌+◌, ◌-◌, ◌%◌, ◌<◌, ◌≤◌, true, List, [], ◌∷◌, ◌++◌, length, drop, get_or}
 use Rattle.std.proofs.Common.{slice_get, Option, Some, None, sym, ap, ◌∙◌, subst, mod-lt, refl, append_assoc, arith}
 use mathlib.Core.Option.{none}
 use Rattle.std.specs.List.{AllByRecursion}
@@ -24,8 +24,6 @@ module _ {B : Type 0} (bytes kind_of : B → List ℕ) (ready : B → ℕ → �
       × Allows (IsRing bytes kind_of ready kind) table.slots id me (at % places) (λ word. word)
       (Drains bytes kind_of ready (step table.slots (at % places) 0 0 none) me)
   may_drain kind table seat id me places at is feeds walks count left =
-      let some = is.some_places in
-      let words = is.words in
       let near : at % places < places = mod-lt at (omega arith) in (
         is.same,
         omega arith,
@@ -99,10 +97,3 @@ pub slice_get-past : {X : Type 0} (l : List X) (at : ℕ) → length l ≤ at �
 slice_get-past [] at h = refl
 slice_get-past (x ∷ l) zero h = absurd (omega arith)
 slice_get-past (x ∷ l) (suc at) h = slice_get-past l at (omega arith)
-
--- the whole of a list is its longest prefix
-pub take-whole : {X : Type 0} (l : List X) (n : ℕ) → length l ≡ n → take n l ≡ l
-take-whole [] zero e = refl
-take-whole [] (suc n) e = refl
-take-whole (x ∷ l) zero e = absurd (omega arith)
-take-whole (x ∷ l) (suc n) e = ap (λ t. x ∷ t) (take-whole l n (omega arith))

@@ -61,30 +61,6 @@ module _ {B : Type 0} (bytes kind_of : B → List ℕ) (ready : B → ℕ → �
   abbrev Owned : Course → State (Option B) Known → Type 0
   Owned = IsOwnedBy bytes kind_of ready kind
 
-  untouched : (old new : Course) (words words' : List ℕ) (homes homes' : List (Home B)) (n index : ℕ)
-      → Placed old words homes n index → slice_index words' (index % n) ≡ slice_index words (index % n)
-      → get_elem? homes' (index % n) ≡ get_elem? homes (index % n)
-      → SameAt n old new index → Placed new words' homes' n index
-  untouched old new words words' homes homes' n index placed word home same = record {
-    written = λ entry at. rw word (placed.written entry (same.log entry at));
-    reading = λ below. home ∙ placed.reading (same.taken.0 below);
-    waiting = λ entry at from.
-        let waits = placed.waiting entry (same.log entry at) (same.taken.1 from) in
-        let there = home ∙ waits.at_place.home in
-        record {
-          block = waits.block;
-          at_place = assumption there;
-          content = waits.content;
-          is_ready = waits.is_ready;
-        };
-    marked = λ from. rw word (placed.marked (same.retired from));
-    stored = λ from. rw word (same.stored (slice_index words (index % n)) (placed.stored (same.retired from)));
-    filling = λ from below. home ∙ placed.filling (same.retired from) (same.given.0 below);
-    free = λ from.
-        let free = placed.free (same.given.1 from) in
-        (free.0, record { home = home ∙ free.1.home; same_kind = free.1.same_kind });
-  }
-
   -- who owns which block after a step that changes the place of one index
   pub owned_moves : (s : State (Option B) Known) (c c' : Course) (words : List ℕ) (views : List Known) (home : Home B)
       (k place : ℕ) → Owned c s → k % length s.homes ≡ place → length words ≡ length s.words
@@ -112,8 +88,28 @@ module _ {B : Type 0} (bytes kind_of : B → List ℕ) (ready : B → ℕ → �
             (λ ne.
             let is = same j ne in
             let apart : j % n ≢ place = λ e. elsewhere j k n ne (omega arith) (omega arith) (e ∙ sym here) in
-            untouched c c' s.words words s.homes homes' n j (o.placed j (is.from from') (is.below below'))
-            (others (j % n) apart) (set_else s.homes place (j % n) home apart) is));
+            let old = o.placed j (is.from from') (is.below below') in
+            let word = others (j % n) apart in
+            let there = set_else s.homes place (j % n) home apart in
+            record {
+              written = λ entry at. rw word (old.written entry (is.log entry at));
+              reading = λ less. there ∙ old.reading (is.taken.0 less);
+              waiting = λ entry at more.
+                  let waits = old.waiting entry (is.log entry at) (is.taken.1 more) in
+                  let home = there ∙ waits.at_place.home in
+                  record {
+                    block = waits.block;
+                    at_place = assumption home;
+                    content = waits.content;
+                    is_ready = waits.is_ready;
+                  };
+              marked = λ more. rw word (old.marked (is.retired more));
+              stored = λ more. rw word (is.stored (slice_index s.words (j % n)) (old.stored (is.retired more)));
+              filling = λ more less. there ∙ old.filling (is.retired more) (is.given.0 less);
+              free = λ more.
+                  let free = old.free (is.given.1 more) in
+                  (free.0, record { home = there ∙ free.1.home; same_kind = free.1.same_kind });
+            }));
       }
 
   -- and after one that changes views and looks alone
@@ -133,16 +129,16 @@ module _ {B : Type 0} (bytes kind_of : B → List ℕ) (ready : B → ℕ → �
 
   -- a step of the feeder's seat, if the prefix that was taken is the same
   pub feeder_moves : (s : State (Option B) Known) (r : Ring s) (id : ℕ) (v : Known) (words : List ℕ) (homes : List (Home B))
-      (log' log : List Entry) (given : ℕ) (looks' looks shown' shown : List ℕ)
-      → get_elem? s.views id ≡ some v → v.feeds ≡ true → log' ≡ log → looks' ≡ looks → shown' ≡ shown
+      (log' log : List Entry) (given' given : ℕ) (looks' looks shown' shown : List ℕ)
+      → get_elem? s.views id ≡ some v → v.feeds ≡ true → log' ≡ log → given' ≡ given → looks' ≡ looks → shown' ≡ shown
       → take r.course.taken log ≡ take r.course.taken r.course.log
       → let c' : Course = record r.course { log = log; given = given; looks = looks; shown_at = shown } in
-      let now : Known = record v { given = given; retired = log'; looks = looks'; shown_at = shown' } in
+      let now : Known = record v { given = given'; retired = log'; looks = looks'; shown_at = shown' } in
       let s' : State (Option B) Known = record { words = words; homes = homes; views = slice_set s.views id now } in
       Owned c' s' → IsSeen (length homes) c' → Ring s'
-  feeder_moves s r id v words homes log' log given looks' looks shown' shown at feeds log_is looks_is shown_is front
-      owned seen =
-      let now : Known = record v { given = given; retired = log'; looks = looks'; shown_at = shown' } in
+  feeder_moves s r id v words homes log' log given' given looks' looks shown' shown at feeds log_is given_is looks_is shown_is
+      front owned seen =
+      let now : Known = record v { given = given'; retired = log'; looks = looks'; shown_at = shown' } in
       let c' : Course = record r.course { log = log; given = given; looks = looks; shown_at = shown } in
       let know = r.knows id v at in
       let feed = know.feed feeds in

@@ -6,15 +6,15 @@ use mathlib.Core.Option.{some, none}
 use native.Mathlib.Decide.{dec_le}
 use native.Mathlib.Nat.{add-mod_right}
 use lib.ListN.{get_elem?}
+use Rattle.std.proofs.lemmas.List.{set-get_or}
 use Rattle.atomic_table.specs.Table.{State, keeps, takes, gives, Allows, step}
 use Rattle.atomic_table.proofs.Lists.{set_here}
 use Rattle.ring_words.specs.Rings.{Entry, IsMark}
-use Rattle.ring_words.specs.FoundWords.{from_start}
 use Rattle.ring_words.specs.Tables.{Course, IsRing}
 use Rattle.ring_words.specs.Plays.{Fetches, FoundNext, Frees, Holder}
 use Rattle.ring_words.specs.declared.knowledge.Known.{Known}
 use Rattle.ring_words.proofs.Words.{number_of_word, odd_word, status_of_word}
-use Rattle.ring_words.proofs.Entries.{entry_at, length-snoc, set-read, take-next, within}
+use Rattle.ring_words.proofs.Entries.{entry_at, length-snoc, take-next, within}
 use Rattle.ring_words.proofs.UnchangedPlaces.{Goes, owned_looks, owned_moves, walker_moves}
 use Rattle.ring_words.proofs.PastLooks.{seen_freed, seen_none, seen_taken, start_last, start_longer}
 
@@ -25,10 +25,6 @@ module _ {B : Type 0} (bytes kind_of : B → List ℕ) (ready : B → ℕ → �
   -- what the reader knows once it has taken a block
   abbrev pub taken_one : Known → Entry → ℕ → Known
   taken_one v entry word = record v { taken = v.taken ++ entry ∷ []; visits = v.visits ++ word ∷ [] }
-
-  -- what it knows after another look
-  abbrev visited : Known → ℕ → Known
-  visited v word = record v { visits = v.visits ++ word ∷ [] }
 
   -- the prefix that was taken, with the next entry
   pub front_next : (c : Course) (taken : List Entry) (entry : Entry) → length taken ≡ c.taken → taken ≡ take c.taken c.log
@@ -55,14 +51,9 @@ module _ {B : Type 0} (bytes kind_of : B → List ℕ) (ready : B → ℕ → �
       let walk = (r.knows id v at).walk walks in
       let k : ℕ = length v.taken in
       let c' : Course = record c { taken = k + 1; visits = c.visits ++ word ∷ [] } in
-      let some_places = o.some_places in
       let count : k ≡ c.taken = walk.count in
       let below_log = within c.log c.taken entry next in
-      let first = o.released in
       let retired = o.retired in
-      let two = o.two_in_hand in
-      let round = o.one_round in
-      let few = o.few in
       let released = walk.released in
       let place : ℕ = k % n in
       let wide : length (slice_set s.homes place none) ≡ n = length-set s.homes place none in
@@ -81,31 +72,10 @@ module _ {B : Type 0} (bytes kind_of : B → List ℕ) (ready : B → ℕ → �
         filling = λ h. absurd (omega arith);
         free = λ h. absurd (omega arith);
       }
-      (λ j ne. record {
-        from = λ h. h;
-        below = λ h. h;
-        log = λ one is. is;
-        retired = λ h. h;
-        taken = (λ h. omega arith, λ h. omega arith);
-        given = (λ h. h, λ h. h);
-        stored = λ _ h. h;
-      }))
+      (λ j ne.
+      let taken : (j < k + 1 → j < c.taken) × (k + 1 ≤ j → c.taken ≤ j) = (λ h. omega arith, λ h. omega arith) in
+      assumption))
       (rw wide (seen_taken n c r.seen word k entry count (ap (λ i. get_elem? c.log i) count ∙ next) is odd))
-
-  -- only the looks of the reader's seat change, where the next block isn't retired
-  only_visits : (s : State (Option B) Known) (r : Ring s) (id : ℕ) (v : Known) (word : ℕ) → get_elem? s.views id ≡ some v
-      → v.walks ≡ true
-      → length r.course.log ≤ length v.taken → get_elem? (from_start (length s.homes) r.course.marks) (length v.taken)
-      ≡ some word → word % 2 ≡ 0
-      → Ring record { words = s.words; homes = s.homes; views = slice_set s.views id (visited v word) }
-  only_visits s r id v word at walks all mark even =
-      let c = r.course in
-      let know = r.knows id v at in
-      let walk = know.walk walks in
-      walker_moves bytes kind_of ready kind s r id v s.words s.homes _ c.taken c.released _ c.marks _ _ _ c.freed_at at walks
-      walk.count walk.front walk.released walk.marks (ap (λ l. l ++ word ∷ []) walk.visits) walk.freed_at (know.hand walks)
-      (owned_looks bytes kind_of ready kind s c _ c.looks (c.visits ++ word ∷ []) r.owned)
-      (seen_none (length s.homes) c r.seen word (length v.taken) walk.count all mark even)
 
   -- a block that was retired and not taken: what the look at its word shows, and what remains of it
   pub record Next (s : State (Option B) Known) (r : Ring s) (id : ℕ) (me : Holder B) : Type 0 where
@@ -136,9 +106,6 @@ module _ {B : Type 0} (bytes kind_of : B → List ℕ) (ready : B → ℕ → �
       let word : ℕ = slice_index s.words place in
       let entry = entry_at c.log c.taken before in
       let next : get_elem? c.log k ≡ some entry.0 = ap (λ i. get_elem? c.log i) count ∙ entry.1 in
-      let first = o.released in
-      let retired = o.retired in
-      let round = o.one_round in
       let few = o.few in
       let placed = o.placed k (omega arith) (omega arith) in
       let written = placed.written entry.0 next in
@@ -179,32 +146,31 @@ module _ {B : Type 0} (bytes kind_of : B → List ℕ) (ready : B → ℕ → �
         taken_one me.0 (bytes next.block, word % 256) word,
         takes place (Some next.block),
         next.home,
-        rw (set-read s.words place, next.is)
+        rw (set-get_or s.words place 0, next.is)
             (takes_block s r id me.0 word next.entry at walks (λ _. hand) next.at next.written odd),
         record { some = λ _. next.found; none = λ even. absurd (omega arith) },
       )
   fetches_by s r id me at walks hand (yes all) =
-      let n = length s.homes in
+      let n : ℕ = length s.homes in
       let v : Known = me.0 in
       let c = r.course in
-      let o = r.owned in
-      let walk = (r.knows id v at).walk walks in
-      let count : length v.taken ≡ c.taken = walk.count in
-      let released : length v.marks ≡ c.released = walk.released in
-      let first = o.released in
-      let some_places = o.some_places in
+      let know = r.knows id v at in
+      let walk = know.walk walks in
       let place : ℕ = length v.taken % n in
       let word : ℕ = slice_index s.words place in
-      let placed = o.placed (length v.taken) (omega arith) (omega arith) in
+      let placed = r.owned.placed (length v.taken) (omega arith) (omega arith) in
       let later : length c.log ≤ length v.taken = omega arith in
-      let mark : IsMark word = placed.marked later in
-      let even = mark.even in (
-        visited v word,
+      let mark : IsMark word = placed.marked later in (
+        record v { visits = v.visits ++ word ∷ [] },
         keeps,
         tt,
-        rw (set-read s.words place) (only_visits s r id v word at walks later (placed.stored later) even),
+        rw (set-get_or s.words place 0)
+            (walker_moves bytes kind_of ready kind s r id v s.words s.homes _ c.taken c.released _ c.marks _ _ _ c.freed_at
+            at walks walk.count walk.front walk.released walk.marks (ap (λ l. l ++ word ∷ []) walk.visits) walk.freed_at
+            (know.hand walks) (owned_looks bytes kind_of ready kind s c _ c.looks (c.visits ++ word ∷ []) r.owned)
+            (seen_none n c r.seen word (length v.taken) walk.count later (placed.stored later) mark.even)),
         record {
-          some = λ odd. absurd (omega arith);
+          some = λ odd. let even = mark.even in absurd (omega arith);
           none = λ _. record { hand = refl; mark = mark; known = refl };
         },
       )
@@ -220,17 +186,12 @@ module _ {B : Type 0} (bytes kind_of : B → List ℕ) (ready : B → ℕ → �
   abbrev released_one : Known → ℕ → ℕ → Known
   released_one v mark looks = record v { marks = v.marks ++ mark ∷ []; freed_at = v.freed_at ++ looks ∷ [] }
 
-  -- a block is released, and is at its place
-  frees_block : (s : State (Option B) Known) (r : Ring s) (id : ℕ) (v : Known) (block : B) (mark : ℕ)
-      → get_elem? s.views id ≡ some v → v.walks ≡ true
+  -- the reader stores the mark after the block that it has put back
+  pub frees : (n id : ℕ) (v : Known) (others : List (ℕ × Option B)) (block : B) (mark : ℕ) → v.walks ≡ true
       → length v.marks < length v.taken → IsMark mark → kind_of block ≡ v.kind
-      → let place : ℕ = length v.marks % length s.homes in
-      Ring record {
-        words = slice_set s.words place mark;
-        homes = slice_set s.homes place (some (Some block));
-        views = slice_set s.views id (released_one v mark (length r.course.looks));
-      }
-  frees_block s r id v block mark at walks hand even is_kind =
+      → let place : ℕ = length v.marks % n in let me : Holder B = (v, (place, Some block) ∷ others) in
+      Allows Ring n id me place (λ _. mark) (λ _. Frees bytes kind_of ready me mark)
+  frees places id v others block mark walks hand even is_kind s r is at small =
       let n : ℕ = length s.homes in
       let c = r.course in
       let o = r.owned in
@@ -243,59 +204,44 @@ module _ {B : Type 0} (bytes kind_of : B → List ℕ) (ready : B → ℕ → �
       let place : ℕ = t % n in
       let count : length v.taken ≡ c.taken = walk.count in
       let same : t ≡ c.released = walk.released in
-      let some_places = o.some_places in
-      let front = o.taken in
       let retired = o.retired in
-      let two = o.two_in_hand in
-      let round = o.one_round in
-      let few = o.few in
       let words' : List ℕ = slice_set s.words place mark in
       let homes' = slice_set s.homes place (some (Some block)) in
       let wide : length homes' ≡ n = length-set s.homes place (some (Some block)) in
-      let as_many = o.as_many in
-      let near : place < n = mod-lt t (omega arith) in
+      let home = set_here s.homes place (some (Some block)) (mod-lt t (omega arith)) in
       let turn : (t + n) % n ≡ place = add-mod_right t n in
-      let long = r.seen.marks in
       let here : slice_index words' ((t + n) % n) ≡ mark = rw turn (get_or-set_same s.words place mark 0 (omega arith)) in
-      walker_moves bytes kind_of ready kind s r id v words' homes' v.taken c.taken (t + 1) _ marks _ _ _ freed_at at walks
-      count walk.front (length-snoc v.marks mark) (ap (λ l. l ++ mark ∷ []) walk.marks) walk.visits
-      (ap (λ l. l ++ length c.looks ∷ []) walk.freed_at) (λ feeds. let h = know.hand walks feeds in omega arith)
-      (owned_moves bytes kind_of ready kind s c c' words' _ (some (Some block)) (t + n) place o turn
-      (length-set s.words place mark) (λ i apart. get_or-set_other s.words place i mark 0 apart) (omega arith) (omega arith)
-      (omega arith, omega arith, omega arith, omega arith, omega arith, omega arith)
-      record {
-        written = λ one is. let w = within c.log (t + n) one is in absurd (omega arith);
-        reading = λ h. absurd (omega arith);
-        waiting = λ one is h. let w = within c.log (t + n) one is in absurd (omega arith);
-        marked = λ _. rw here even;
-        stored = λ _. rw here (start_last n c.marks mark (t + n) (omega arith));
-        filling = λ h below. absurd (omega arith);
-        free = λ _. (
-          block,
-          record { home = rw turn (set_here s.homes place (some (Some block)) near); same_kind = is_kind ∙ walk.same_kind },
-        );
-      }
-      (λ j ne. record {
-        from = λ h. omega arith;
-        below = λ h. omega arith;
-        log = λ one is. is;
-        retired = λ h. h;
-        taken = (λ h. h, λ h. h);
-        given = (λ h. h, λ h. h);
-        stored = λ word h. start_longer n c.marks mark j word h;
-      }))
-      (rw wide (seen_freed n c r.seen mark t same))
-
-  -- the reader stores the mark after the block that it has put back
-  pub frees : (n id : ℕ) (v : Known) (others : List (ℕ × Option B)) (block : B) (mark : ℕ) → v.walks ≡ true
-      → length v.marks < length v.taken → IsMark mark → kind_of block ≡ v.kind
-      → let place : ℕ = length v.marks % n in let me : Holder B = (v, (place, Some block) ∷ others) in
-      Allows Ring n id me place (λ _. mark) (λ _. Frees bytes kind_of ready me mark)
-  frees n id v others block mark walks hand even is_kind s r wide at small =
-      rw (← wide) (
-        released_one v mark (length r.course.looks),
+      rw (← is) (
+        released_one v mark (length c.looks),
         gives,
         tt,
-        frees_block s r id v block mark at walks hand even is_kind,
-        record { hand = refl; at = length r.course.looks; known = refl },
+        walker_moves bytes kind_of ready kind s r id v words' homes' v.taken c.taken (t + 1) _ marks _ _ _ freed_at at walks
+            count walk.front (length-snoc v.marks mark) (ap (λ l. l ++ mark ∷ []) walk.marks) walk.visits
+            (ap (λ l. l ++ length c.looks ∷ []) walk.freed_at) (λ feeds. let h = know.hand walks feeds in omega arith)
+            (owned_moves bytes kind_of ready kind s c c' words' _ (some (Some block)) (t + n) place o turn
+            (length-set s.words place mark) (λ i apart. get_or-set_other s.words place i mark 0 apart)
+            (omega arith) (omega arith) (omega arith, omega arith, omega arith, omega arith, omega arith, omega arith)
+            record {
+              written = λ one is. let w = within c.log (t + n) one is in absurd (omega arith);
+              reading = λ h. absurd (omega arith);
+              waiting = λ one is h. let w = within c.log (t + n) one is in absurd (omega arith);
+              marked = λ _. rw here even;
+              stored = λ _. rw here (start_last n c.marks mark (t + n) (omega arith));
+              filling = λ h below. absurd (omega arith);
+              free = λ _. (
+                block,
+                record { home = rw turn home; same_kind = is_kind ∙ walk.same_kind },
+              );
+            }
+            (λ j ne. record {
+              from = λ h. omega arith;
+              below = λ h. omega arith;
+              log = λ one is. is;
+              retired = λ h. h;
+              taken = assumption;
+              given = assumption;
+              stored = λ word h. start_longer n c.marks mark j word h;
+            }))
+            (rw wide (seen_freed n c r.seen mark t same)),
+        record { hand = refl; at = length c.looks; known = refl },
       )

@@ -20,10 +20,7 @@ module _ {B : Type 0} (bytes kind_of : B → List ℕ) (ready : B → ℕ → �
       × Allows (IsRing bytes kind_of ready kind) table.slots id me (taken % places) (λ word. word)
       (Fetches bytes kind_of ready (step table.slots (taken % places) 0 0 none) me)
   may_fetch kind table seat id me places taken released is keeps hand =
-      let some = is.some_places in
-      let words = is.words in
       let near : taken % places < places = mod-lt taken (omega arith) in
-      let count = keeps.count in
       let free = keeps.released_count in (
         is.same,
         omega arith,
@@ -46,7 +43,6 @@ module _ {B : Type 0} (bytes kind_of : B → List ℕ) (ready : B → ℕ → �
   pub has_hand : (places taken released : ℕ) (me : Holder B) → KeepsWalk me places taken released → released < taken
       → me.1 ≡ (released % places, None) ∷ []
   has_hand places taken released me keeps hand =
-      let one = keeps.one_in_hand in
       let count : taken - released ≡ 1 = omega arith in
       keeps.out ∙ ap (slots_of places released) count ∙ ap (λ k. (k % places, None) ∷ []) (add-zero released)
 
@@ -70,10 +66,7 @@ module _ {B : Type 0} (bytes kind_of : B → List ℕ) (ready : B → ℕ → �
       × Allows (IsRing bytes kind_of ready kind) table.slots id out (released % places) (λ _. mark)
       (λ _. Frees bytes kind_of ready out mark)
   may_free kind table seat id me out block places taken released mark is keeps hand even is_kind out_is =
-      let some = is.some_places in
-      let words = is.words in
       let near : released % places < places = mod-lt released (omega arith) in
-      let count = keeps.count in
       let free = keeps.released_count in (
         is.same,
         omega arith,
