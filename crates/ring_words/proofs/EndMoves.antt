@@ -1,6 +1,6 @@
 -- The rule holds of a new ring; it still holds when its ends are split and joined, and after the
 -- steps of both in one seat.
-use Rattle.std.proofs.Common.{◌≡◌, ℕ, zero, suc, ◌+◌, ◌%◌, ◌<◌, ◌≤◌, true, false, true≢false, List, [], ◌∷◌, ◌++◌, map, length}
+use Rattle.std.proofs.Common.{◌≡◌, ℕ, zero, suc, ◌+◌, ◌%◌, ◌<◌, ◌≤◌, true, List, [], ◌∷◌, map, length}
 use Rattle.std.proofs.Common.{take, replicate, slice_index, slice_set, refl, sym, ap, ◌∙◌, subst, ⊎_elim, mod-lt, arith}
 use Rattle.std.proofs.Common.{length-set, Option, Some}
 use mathlib.Core.Option.{some, none, some-ne-none}
@@ -11,41 +11,30 @@ use Rattle.std.proofs.Math.ListN.{length-replicate}
 use Rattle.atomic_table.specs.Table.{State, keeps, takes, Allows, Joins, Splits, opening, step}
 use Rattle.atomic_table.proofs.Lists.{at_last, at_longer, at_map, at_set, set_again, set_else, set_here}
 use Rattle.ring_words.specs.Knowledge.{all_known, left_to_feed, left_to_walk, nothing_known, together}
-use Rattle.ring_words.specs.Rings.{Entry}
 use Rattle.ring_words.specs.Tables.{Course, IsRing, IsSeen, Knows, LooksHold, TakesFront, course_of}
 use Rattle.ring_words.specs.Plays.{Compares, Drains, Holder}
 use Rattle.ring_words.specs.declared.knowledge.Known.{Known}
-use Rattle.ring_words.proofs.Entries.{at_new, entry_at, length-snoc, within}
+use Rattle.ring_words.proofs.Entries.{at_new, entry_at, within}
 use Rattle.ring_words.proofs.PastLooks.{seen_new, start_zero}
 use Rattle.ring_words.proofs.UnchangedPlaces.{Ring, owned_looks}
-use Rattle.ring_words.proofs.WalkerMoves.{front_next, next_block, taken_one, takes_block}
+use Rattle.ring_words.proofs.WalkerMoves.{next_block, taken_one, takes_block}
 
 all_at : {X : Type 0} (P : X → Type 0) (l : List X) (i : ℕ) (x : X) → AllByRecursion P l → get_elem? l i ≡ some x → P x
 all_at P [] i x all at = absurd (some-ne-none x (sym at))
 all_at P (y ∷ l) zero x all at = subst P (mathlib.Core.Option.some-injective y x at) all.0
 all_at P (y ∷ l) (suc i) x all at = all_at P l i x all.1 at
 
--- a list that is the prefix of a log is the prefix of a list that is the log
-fronts : {n : ℕ} (now : List Entry) (retired log : List Entry) {longer : List Entry} → now ≡ longer → length longer ≡ n
-    → retired ≡ log → longer ≡ take n log → now ≡ take (length now) retired
-fronts now retired log is long same front =
-    is ∙ front ∙ ap (λ k. take k log) (sym long ∙ sym (ap length is)) ∙ ap (take (length now)) (sym same)
-
-never : false ≡ true → ⊥
-never e = true≢false (sym e)
-
 -- the reader's seat knows the prefix of the log, and the feeder's seat knows the log
 pub takes_front : {B : Type 0} (bytes kind_of : B → List ℕ) (ready : B → ℕ → ℕ → Type 0) (kind : List ℕ)
     (s : State (Option B) Known) → IsRing bytes kind_of ready kind s → TakesFront s.views
 takes_front bytes kind_of ready kind s r feeder walker fed walked feeder_at walker_at feeds walks =
-    let c = r.course in
     let feed = (r.knows feeder fed feeder_at).feed feeds in
     let walk = (r.knows walker walked walker_at).walk walks in
     let count = walk.count in
-    let retired : length fed.retired ≡ length c.log = ap length feed.retired in
+    let retired : length fed.retired ≡ length r.course.log = ap length feed.retired in
     record {
       count = omega arith;
-      front = walk.front ∙ ap (λ k. take k c.log) (sym count) ∙ ap (take (length walked.taken)) (sym feed.retired);
+      front = walk.front ∙ ap (λ k. take k r.course.log) (sym count) ∙ ap (take (length walked.taken)) (sym feed.retired);
     }
 
 module _ {B : Type 0} (bytes kind_of : B → List ℕ) (ready : B → ℕ → ℕ → Type 0) (kind : List ℕ) where
@@ -130,22 +119,21 @@ module _ {B : Type 0} (bytes kind_of : B → List ℕ) (ready : B → ℕ → �
         knows = λ j u is.
             let Good : ℕ → Known → Type 0 = λ i k. Knows kind r.feeder (length s.views) c i k in
             ⊎_elim (λ t. subst (λ k. Good j k) t.1 (record {
-              feed = λ f. absurd (never f);
+              feed = λ f. cc;
               walk = λ _. let seat = t.0 ∙ long in assumption;
               hand = λ _ _. first;
             }))
             (λ old_at. ⊎_elim (λ t. subst (λ k. Good j k) t.1 (record {
               feed = λ _. let seat = t.0 ∙ feed.seat in assumption;
-              walk = λ w. absurd (never w);
-              hand = λ w. absurd (never w);
+              walk = λ w. cc;
+              hand = λ w. cc;
             }))
             (λ t.
-            let ne = t.0 in
             let old = r.knows j u t.1 in
             record {
               feed = old.feed;
-              walk = λ w. absurd (ne ((old.walk w).seat ∙ sym walk.seat));
-              hand = λ w _. absurd (ne ((old.walk w).seat ∙ sym walk.seat));
+              walk = λ w. absurd (t.0 ((old.walk w).seat ∙ sym walk.seat));
+              hand = λ w _. absurd (t.0 ((old.walk w).seat ∙ sym walk.seat));
             })
             (at_set s.views id j (left_to_feed v) u old_at))
             (at_new views' (left_to_walk v) u j is);
@@ -175,23 +163,22 @@ module _ {B : Type 0} (bytes kind_of : B → List ℕ) (ready : B → ℕ → �
         knows = λ j u is.
             let Good : ℕ → Known → Type 0 = λ i k. Knows kind r.feeder r.feeder c i k in
             ⊎_elim (λ t. subst (λ k. Good j k) t.1 (record {
-              feed = λ f. absurd (never f);
-              walk = λ f. absurd (never f);
-              hand = λ f. absurd (never f);
+              feed = λ f. cc;
+              walk = λ f. cc;
+              hand = λ f. cc;
             }))
             (λ t.
-            let elsewhere = t.0 in
             ⊎_elim (λ here. subst (λ k. Good j k) here.1 (record {
               feed = λ _. let seat = here.0 ∙ feed.seat in assumption;
               walk = λ _. let seat = here.0 ∙ feed.seat in let same_kind = feed.same_kind in assumption;
-              hand = λ _ f. absurd (true≢false (sym feeds ∙ f));
+              hand = λ _ f. cc;
             }))
             (λ there.
             let old = r.knows j u there.1 in
             record {
               feed = old.feed;
-              walk = λ f. absurd (elsewhere ((old.walk f).seat ∙ sym walk.seat));
-              hand = λ f _. absurd (elsewhere ((old.walk f).seat ∙ sym walk.seat));
+              walk = λ f. absurd (t.0 ((old.walk f).seat ∙ sym walk.seat));
+              hand = λ f _. absurd (t.0 ((old.walk f).seat ∙ sym walk.seat));
             })
             (at_set s.views id j both u t.1))
             (at_set (slice_set s.views id both) other j nothing_known u is);
@@ -215,28 +202,24 @@ module _ {B : Type 0} (bytes kind_of : B → List ℕ) (ready : B → ℕ → �
       (Drains bytes kind_of ready (step n (length me.0.taken % n) 0 0 none) me)
   drains n id me feeds walks left s r wide at small =
       let v : Known = me.0 in
-      let c = r.course in
       let know = r.knows id v at in
       let feed = know.feed feeds in
       let walk = know.walk walks in
-      let count = walk.count in
-      let retired : length v.retired ≡ length c.log = ap length feed.retired in
+      let retired : length v.retired ≡ length r.course.log = ap length feed.retired in
       let place : ℕ = length v.taken % length s.homes in
       let word : ℕ = slice_index s.words place in
       let next = next_block bytes kind_of ready kind s r id me at walks (omega arith) in
+      let now : Known = taken_one bytes kind_of ready kind v next.entry word in
+      let there = set_here s.views id now (within s.views id v at) in
+      let r' = takes_block bytes kind_of ready kind s r id v word next.entry at walks (λ f. cc) next.at next.written next.odd in
       rw (← wide) (
         taken_one bytes kind_of ready kind v (bytes next.block, word % 256) word,
         takes place (Some next.block),
         next.home,
-        rw (set-get_or s.words place 0, next.is)
-            (takes_block bytes kind_of ready kind s r id v word next.entry at walks (λ f. absurd (true≢false (sym feeds ∙ f)))
-            next.at next.written next.odd),
+        rw (set-get_or s.words place 0, next.is) r',
         record {
           next = next.found;
-          front = fronts (taken_one bytes kind_of ready kind v (bytes next.block, word % 256) word).taken v.retired c.log
-              (ap (λ one. v.taken ++ one ∷ []) next.is)
-              (length-snoc v.taken next.entry) feed.retired
-              (front_next bytes kind_of ready kind c v.taken next.entry count walk.front next.at);
+          front = rw next.is (takes_front bytes kind_of ready kind _ r' id id now now there there feeds walks).front;
         },
       )
 

@@ -1,5 +1,5 @@
 -- The rule of a ring holds after each step of the feeder's end.
-use Rattle.std.proofs.Common.{◌≡◌, ℕ, ◌+◌, ◌*◌, ◌/◌, ◌%◌, ◌^◌, ◌<◌, ◌≤◌, true, List, [], ◌∷◌, ◌++◌, length, slice_index}
+use Rattle.std.proofs.Common.{◌≡◌, ℕ, ◌+◌, ◌*◌, ◌%◌, ◌^◌, ◌<◌, ◌≤◌, true, List, [], ◌∷◌, ◌++◌, length, slice_index}
 use Rattle.std.proofs.Common.{slice_set, refl, sym, ap, ◌∙◌, subst, mod-lt, lt_of_not-le, arith, length-set, get_or-set_same}
 use Rattle.std.proofs.Common.{get_or-set_other, ⊎_elim, Option, Some}
 use mathlib.Core.Option.{some, none}
@@ -13,7 +13,6 @@ use Rattle.ring_words.specs.Rings.{Entry, IsMark, IsStatus}
 use Rattle.ring_words.specs.Tables.{Course, IsRing}
 use Rattle.ring_words.specs.Plays.{Holder, Looks, Stores}
 use Rattle.ring_words.specs.declared.knowledge.Known.{Known}
-use Rattle.ring_words.proofs.Words.{number_of_word, odd_word, status_of_word}
 use Rattle.ring_words.proofs.Entries.{at_new, entry_at, length-snoc, within}
 use Rattle.ring_words.proofs.UnchangedPlaces.{Goes, feeder_moves, owned_looks, owned_moves}
 use Rattle.ring_words.proofs.PastLooks.{seen_free, seen_held, seen_shown}
@@ -88,24 +87,22 @@ module _ {B : Type 0} (bytes kind_of : B → List ℕ) (ready : B → ℕ → �
       let place : ℕ = v.given % n in
       let word : ℕ = slice_index s.words place in
       let c = r.course in
-      let o = r.owned in
       let feed = (r.knows id v at).feed feeds in
       let retired : length v.retired ≡ length c.log = ap length feed.retired in
       let last : v.given ≡ c.released + n = omega arith in
       let entry = entry_at c.log c.released (omega arith) in
-      let written = (o.placed c.released (omega arith) (omega arith)).written entry.0 entry.1 in
+      let written = (r.owned.placed c.released (omega arith) (omega arith)).written entry.0 entry.1 in
       let same : place ≡ c.released % n = ap (λ k. k % n) last ∙ add-mod_right c.released n in
       let is : word ≡ (c.released + 1) * 256 + entry.0.1 = ap (λ k. slice_index s.words k) same ∙ written.0 in
-      let number : word / 256 ≡ c.released + 1 = ap (λ k. k / 256) is ∙ number_of_word (c.released + 1) entry.0.1 written.1 in
-      let status : word % 256 ≡ entry.0.1 = ap (λ k. k % 256) is ∙ status_of_word (c.released + 1) entry.0.1 written.1 in
-      let odd : word % 2 ≡ 1 = ap (λ k. k % 2) is ∙ odd_word (c.released + 1) entry.0.1 written.1 in (
+      let status : word % 256 ≡ entry.0.1 = omega arith in
+      let odd : word % 2 ≡ 1 = omega arith in (
         record v { looks = v.looks ++ word ∷ [] },
         keeps,
         tt,
         rw (set-get_or s.words place 0)
             (feeder_moves bytes kind_of ready kind s r id v s.words s.homes v.retired c.log v.given _ _ _ _ _ at feeds
             feed.retired feed.given (ap (λ l. l ++ word ∷ []) feed.looks) feed.shown_at refl
-            (owned_looks bytes kind_of ready kind s c _ (c.looks ++ word ∷ []) c.visits o)
+            (owned_looks bytes kind_of ready kind s c _ (c.looks ++ word ∷ []) c.visits r.owned)
             (seen_held n c r.seen word entry.0 (sym feed.given ∙ last) entry.1 is odd)),
         record {
           free = λ even. absurd (omega arith);
@@ -139,7 +136,6 @@ module _ {B : Type 0} (bytes kind_of : B → List ℕ) (ready : B → ℕ → �
   stores places id v others block status feeds hand odd is_kind is_ready s r same at small =
       let n : ℕ = length s.homes in
       let c = r.course in
-      let o = r.owned in
       let feed = (r.knows id v at).feed feeds in
       let entry : Entry = (bytes block, status) in
       let log : List Entry = c.log ++ entry ∷ [] in
@@ -163,8 +159,8 @@ module _ {B : Type 0} (bytes kind_of : B → List ℕ) (ready : B → ℕ → �
         tt,
         feeder_moves bytes kind_of ready kind s r id v words' homes' _ log v.given c.given _ _ _ shown_at at feeds
             (ap (λ l. l ++ entry ∷ []) feed.retired) given feed.looks (ap (λ l. l ++ length c.visits ∷ []) feed.shown_at)
-            (take-append-le c.taken c.log (entry ∷ []) o.taken)
-            (owned_moves bytes kind_of ready kind s c c' words' _ (some (Some block)) k place o refl
+            (take-append-le c.taken c.log (entry ∷ []) r.owned.taken)
+            (owned_moves bytes kind_of ready kind s c c' words' _ (some (Some block)) k place r.owned refl
             (length-set s.words place word) (λ i apart. get_or-set_other s.words place i word 0 apart)
             (omega arith) (omega arith) (omega arith, omega arith, omega arith, omega arith, omega arith, omega arith)
             record {
@@ -196,7 +192,8 @@ module _ {B : Type 0} (bytes kind_of : B → List ℕ) (ready : B → ℕ → �
         record {
           hand = refl;
           at = length c.visits;
-          known = ap (λ k. retired_one v (bytes block, k) (length c.visits))
-              (sym (status_of_word (length v.retired + 1) status odd));
+          known =
+              let same : status ≡ word % 256 = omega arith in
+              ap (λ i. retired_one v (bytes block, i) (length c.visits)) same;
         },
       )

@@ -1,5 +1,5 @@
 -- What the calls of the feeder's end have to show of the table, and what its fields keep.
-use Rattle.std.proofs.Common.{◌≡◌, ℕ, ◌+◌, ◌-◌, ◌*◌, ◌%◌, ◌^◌, ◌<◌, ◌≤◌, List, [], ◌∷◌, ◌++◌, length, Option, Some, None, sym}
+use Rattle.std.proofs.Common.{◌≡◌, ℕ, ◌+◌, ◌-◌, ◌*◌, ◌%◌, ◌^◌, ◌<◌, ◌≤◌, List, [], ◌∷◌, ◌++◌, length, Some, None, sym}
 use Rattle.std.proofs.Common.{ap, ◌∙◌, mod-lt, refl, arith}
 use mathlib.Core.Option.{none}
 use Rattle.atomic_table.specs.Seated.{TableId}
@@ -10,7 +10,7 @@ use Rattle.ring_words.specs.TableEnds.{IsSeated, KeepsFeed, slots_of}
 use Rattle.ring_words.specs.Tables.{IsRing}
 use Rattle.ring_words.proofs.Entries.{length-snoc}
 use Rattle.ring_words.proofs.FeederMoves.{looks, stores}
-use Rattle.ring_words.proofs.Hands.{front_of, oldest, one_more}
+use Rattle.ring_words.proofs.Hands.{oldest, one_more}
 
 module _ {B : Type 0} (bytes kind_of : B → List ℕ) (ready : B → ℕ → ℕ → Type 0) where
   -- the load of `next`
@@ -27,12 +27,6 @@ module _ {B : Type 0} (bytes kind_of : B → List ℕ) (ready : B → ℕ → �
         omega arith,
         rw (is.slots, ← keeps.count) (looks bytes kind_of ready kind places id me keeps.feeds (omega arith) (omega arith)),
       )
-
-  -- the slot of a free block is out
-  pub has_free : (slots place : ℕ) (me me' : Holder B) (word : ℕ)
-      → FoundFree bytes kind_of ready (step slots place 0 0 none) me word me'
-      → (x : Option B) × (me'.1 ≡ (place, x) ∷ rest me'.1)
-  has_free slots place me me' word found = (Some found.block, front_of me'.1 (place, Some found.block) me.1 found.hand)
 
   -- the fields after a free block was taken out
   pub keeps_free : (places slots given retired : ℕ) (me me' me'' : Holder B) (word : ℕ) → KeepsFeed me places given retired

@@ -29,21 +29,11 @@ module _ {B : Type 0} where
       let place : first + (last - first) ≡ last = omega arith in
       ap (slots_of places first) count ∙ ap (λ k. (k % places, None) ∷ slots_of places first (last - first)) place
 
-  one_out : (places first : ℕ) → turned (slots_of {B = B} places first 1) ≡ (first % places, None) ∷ []
-  one_out places first = ap (λ k. (k % places, None) ∷ []) (add-zero first)
-
-  two_out : (places first : ℕ) → turned (slots_of {B = B} places first 2) ≡ (first % places, None)
-      ∷ slots_of places (first + 1) 1
-  two_out places first =
-      let later : first + 1 ≡ first + 1 + 0 = omega arith in
-      ap (λ k. (k % places, None) ∷ ((first + 1) % places, None) ∷ []) (add-zero first)
-      ∙ ap (λ k. (first % places, None) ∷ (k % places, None) ∷ []) later
-
   oldest_of : (places first count : ℕ) → 0 < count → count ≤ 2
       → turned (slots_of {B = B} places first count) ≡ (first % places, None) ∷ slots_of places (first + 1) (count - 1)
   oldest_of places first zero some few = absurd (omega arith)
-  oldest_of places first (suc zero) some few = one_out places first
-  oldest_of places first (suc (suc zero)) some few = two_out places first
+  oldest_of places first (suc zero) some few = simp add-zero
+  oldest_of places first (suc (suc zero)) some few = simp add-zero
   oldest_of places first (suc (suc (suc n))) some few = absurd (omega arith)
 
   -- of one or two blocks that are out, the older comes forward

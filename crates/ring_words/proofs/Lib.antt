@@ -1,6 +1,5 @@
 mod Queues
 mod Openings
-mod Words
 mod Rounds
 mod Entries
 mod UnchangedPlaces

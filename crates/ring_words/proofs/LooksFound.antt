@@ -32,7 +32,6 @@ module _ {B : Type 0} (bytes kind_of : B → List ℕ) (ready : B → ℕ → �
   looks_are_true s s' r r' wide feeder walker fed fed' walked word at at' walker_at walker_at' feeds feeds' walks same more =
       let n = length s.homes in
       let c = r.course in
-      let o = r.owned in
       let feed = (r.knows feeder fed at).feed feeds in
       let walk = (r.knows walker walked walker_at).walk walks in
       let seen' = looks_hold bytes kind_of ready kind s' r' feeder walker fed' walked at' walker_at' feeds' walks in
@@ -46,7 +45,7 @@ module _ {B : Type 0} (bytes kind_of : B → List ℕ) (ready : B → ℕ → �
       let at_place = found.mark even in
       let below = within (from_start n c.marks) fed.given word at_place in
       let long = length-start n c.marks in
-      let placed = o.placed fed.given (omega arith) (omega arith) in
+      let placed = r.owned.placed fed.given (omega arith) (omega arith) in
       some-injective word (slice_index s.words (fed.given % n)) (sym at_place ∙ placed.stored (omega arith)))
       (λ ne.
       let odd : word % 2 ≡ 1 = omega arith in
@@ -55,7 +54,7 @@ module _ {B : Type 0} (bytes kind_of : B → List ℕ) (ready : B → ℕ → �
       let long = length-start n c.freed_at in
       dite (dec_le (length (from_start n c.freed_at)) fed.given)
       (λ full.
-      let placed = o.placed was.0 (omega arith) (omega arith) in
+      let placed = r.owned.placed was.0 (omega arith) (omega arith) in
       was.2.is ∙ sym (placed.written was.2.entry was.2.at).0
       ∙ ap (λ k. slice_index s.words k) (sym (add-mod_right was.0 n) ∙ ap (λ k. k % n) back))
       (λ free.
@@ -71,7 +70,6 @@ module _ {B : Type 0} (bytes kind_of : B → List ℕ) (ready : B → ℕ → �
       walks' same more =
       let n = length s.homes in
       let c = r.course in
-      let o = r.owned in
       let feed = (r.knows feeder fed at).feed feeds in
       let walk = (r.knows walker walked walker_at).walk walks in
       let k : ℕ = length walked.taken in
@@ -81,7 +79,6 @@ module _ {B : Type 0} (bytes kind_of : B → List ℕ) (ready : B → ℕ → �
       let rank : odd_count walked.visits ≡ k = ap odd_count walk.visits ∙ r.seen.taken ∙ sym walk.count in
       let found : IsVisit n c.log c.marks c.shown_at (length c.visits) k word =
       rw (← walk.visits, ← rank, ← feed.shown_at, ← walk.marks, ← same, ← feed.retired, ← wide) visit in
-      let count : k ≡ c.taken = walk.count in
       dite (ℕ_discrete (word % 2) 0)
       (λ even.
       let at_place = found.mark even in
@@ -89,7 +86,7 @@ module _ {B : Type 0} (bytes kind_of : B → List ℕ) (ready : B → ℕ → �
       let long = length-start n c.marks in
       dite (dec_le (length c.log) k)
       (λ all.
-      let placed = o.placed k (omega arith) (omega arith) in
+      let placed = r.owned.placed k (omega arith) (omega arith) in
       some-injective word (slice_index s.words (k % n)) (sym at_place ∙ placed.stored all))
       (λ there.
       let less : k < length c.log = lt_of_not-le there in
@@ -101,5 +98,5 @@ module _ {B : Type 0} (bytes kind_of : B → List ℕ) (ready : B → ℕ → �
       let odd : word % 2 ≡ 1 = omega arith in
       let was = found.number odd in
       let there = within c.log k was.entry was.at in
-      let placed = o.placed k (omega arith) (omega arith) in
+      let placed = r.owned.placed k (omega arith) (omega arith) in
       was.is ∙ sym (placed.written was.entry was.at).0)

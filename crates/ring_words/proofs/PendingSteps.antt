@@ -1,6 +1,6 @@
 -- What the calls that finish a ring have to show of its table, and lists of pending blocks.
 use Rattle.std.proofs.Common.{◌≡◌, ℕ, zero, suc, ◌+◌, ◌-◌, ◌%◌, ◌<◌, ◌≤◌, true, List, [], ◌∷◌, ◌++◌, length, drop, get_or}
-use Rattle.std.proofs.Common.{slice_get, Option, Some, None, sym, ap, ◌∙◌, subst, mod-lt, refl, append_assoc, arith}
+use Rattle.std.proofs.Common.{slice_get, None, sym, ap, ◌∙◌, subst, mod-lt, refl, append_assoc, arith}
 use mathlib.Core.Option.{none}
 use Rattle.std.specs.List.{AllByRecursion}
 use Rattle.std.proofs.lemmas.List.{length-append, length-map, map-append}
@@ -13,7 +13,6 @@ use Rattle.ring_words.specs.TableEnds.{IsSeated}
 use Rattle.ring_words.specs.Tables.{IsRing}
 use Rattle.ring_words.specs.declared.knowledge.Known.{Known}
 use Rattle.ring_words.proofs.EndMoves.{drains}
-use Rattle.ring_words.proofs.Hands.{front_of}
 
 module _ {B : Type 0} (bytes kind_of : B → List ℕ) (ready : B → ℕ → ℕ → Type 0) where
   -- the load that takes the next pending block out
@@ -29,13 +28,6 @@ module _ {B : Type 0} (bytes kind_of : B → List ℕ) (ready : B → ℕ → �
         omega arith,
         rw (is.slots, ← count) (drains bytes kind_of ready kind places id me feeds walks (omega arith)),
       )
-
-  -- the slot of that block is out
-  pub has_pending : (slots place : ℕ) (me me' : Holder B) (word : ℕ)
-      → Drains bytes kind_of ready (step slots place 0 0 none) me word me'
-      → (x : Option B) × (me'.1 ≡ (place, x) ∷ rest me'.1)
-  has_pending slots place me me' word drained =
-      (Some drained.next.block, front_of me'.1 (place, Some drained.next.block) me.1 drained.next.hand)
 
   -- one more pending block may be retired
   pub ready_push : (passed last : ℕ) (blocks : List (B × ℕ)) (one : B × ℕ) → AreReadyAfter ready passed blocks

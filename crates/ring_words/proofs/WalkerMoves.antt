@@ -1,5 +1,5 @@
 -- The rule of a ring holds after each step of the reader's end.
-use Rattle.std.proofs.Common.{◌≡◌, ℕ, suc, ◌+◌, ◌*◌, ◌/◌, ◌%◌, ◌<◌, ◌≤◌, true, false, List, [], ◌∷◌, ◌++◌, length, take}
+use Rattle.std.proofs.Common.{◌≡◌, ℕ, suc, ◌+◌, ◌*◌, ◌%◌, ◌<◌, ◌≤◌, true, false, List, [], ◌∷◌, ◌++◌, length, take}
 use Rattle.std.proofs.Common.{slice_index, slice_set, refl, sym, ap, ap₂, ◌∙◌, mod-lt, lt_of_not-le, arith, length-set}
 use Rattle.std.proofs.Common.{get_or-set_same, get_or-set_other, add-one, Option, Some}
 use mathlib.Core.Option.{some, none}
@@ -13,7 +13,6 @@ use Rattle.ring_words.specs.Rings.{Entry, IsMark}
 use Rattle.ring_words.specs.Tables.{Course, IsRing}
 use Rattle.ring_words.specs.Plays.{Fetches, FoundNext, Frees, Holder}
 use Rattle.ring_words.specs.declared.knowledge.Known.{Known}
-use Rattle.ring_words.proofs.Words.{number_of_word, odd_word, status_of_word}
 use Rattle.ring_words.proofs.Entries.{entry_at, length-snoc, take-next, within}
 use Rattle.ring_words.proofs.UnchangedPlaces.{Goes, owned_looks, owned_moves, walker_moves}
 use Rattle.ring_words.proofs.PastLooks.{seen_freed, seen_none, seen_taken, start_last, start_longer}
@@ -53,7 +52,6 @@ module _ {B : Type 0} (bytes kind_of : B → List ℕ) (ready : B → ℕ → �
       let c' : Course = record c { taken = k + 1; visits = c.visits ++ word ∷ [] } in
       let count : k ≡ c.taken = walk.count in
       let below_log = within c.log c.taken entry next in
-      let retired = o.retired in
       let released = walk.released in
       let place : ℕ = k % n in
       let wide : length (slice_set s.homes place none) ≡ n = length-set s.homes place none in
@@ -98,7 +96,6 @@ module _ {B : Type 0} (bytes kind_of : B → List ℕ) (ready : B → ℕ → �
       let n = length s.homes in
       let v : Known = me.0 in
       let c = r.course in
-      let o = r.owned in
       let walk = (r.knows id v at).walk walks in
       let k : ℕ = length v.taken in
       let count : k ≡ c.taken = walk.count in
@@ -106,18 +103,17 @@ module _ {B : Type 0} (bytes kind_of : B → List ℕ) (ready : B → ℕ → �
       let word : ℕ = slice_index s.words place in
       let entry = entry_at c.log c.taken before in
       let next : get_elem? c.log k ≡ some entry.0 = ap (λ i. get_elem? c.log i) count ∙ entry.1 in
-      let few = o.few in
-      let placed = o.placed k (omega arith) (omega arith) in
+      let few = r.owned.few in
+      let placed = r.owned.placed k (omega arith) (omega arith) in
       let written = placed.written entry.0 next in
       let waits = placed.waiting entry.0 next (omega arith) in
-      let number : word / 256 ≡ k + 1 = ap (λ w. w / 256) written.0 ∙ number_of_word (k + 1) entry.0.1 written.1 in
-      let status : word % 256 ≡ entry.0.1 = ap (λ w. w % 256) written.0 ∙ status_of_word (k + 1) entry.0.1 written.1 in
+      let status : word % 256 ≡ entry.0.1 = omega arith in
       record {
         entry = entry.0;
         at = entry.1;
         block = waits.block;
         home = waits.at_place.home;
-        odd = ap (λ w. w % 2) written.0 ∙ odd_word (k + 1) entry.0.1 written.1;
+        odd = omega arith;
         written = written.0;
         is = ap₂ (λ content state. (content, state)) waits.content status;
         found = record {
@@ -125,7 +121,7 @@ module _ {B : Type 0} (bytes kind_of : B → List ℕ) (ready : B → ℕ → �
           hand = refl;
           same_kind = waits.at_place.same_kind ∙ sym walk.same_kind;
           status = rw status written.1;
-          number = number;
+          number = omega arith;
           few = omega arith;
           is_ready = rw status waits.is_ready;
           known = refl;
@@ -194,7 +190,6 @@ module _ {B : Type 0} (bytes kind_of : B → List ℕ) (ready : B → ℕ → �
   frees places id v others block mark walks hand even is_kind s r is at small =
       let n : ℕ = length s.homes in
       let c = r.course in
-      let o = r.owned in
       let know = r.knows id v at in
       let walk = know.walk walks in
       let t : ℕ = length v.marks in
@@ -204,7 +199,7 @@ module _ {B : Type 0} (bytes kind_of : B → List ℕ) (ready : B → ℕ → �
       let place : ℕ = t % n in
       let count : length v.taken ≡ c.taken = walk.count in
       let same : t ≡ c.released = walk.released in
-      let retired = o.retired in
+      let retired = r.owned.retired in
       let words' : List ℕ = slice_set s.words place mark in
       let homes' = slice_set s.homes place (some (Some block)) in
       let wide : length homes' ≡ n = length-set s.homes place (some (Some block)) in
@@ -218,7 +213,7 @@ module _ {B : Type 0} (bytes kind_of : B → List ℕ) (ready : B → ℕ → �
         walker_moves bytes kind_of ready kind s r id v words' homes' v.taken c.taken (t + 1) _ marks _ _ _ freed_at at walks
             count walk.front (length-snoc v.marks mark) (ap (λ l. l ++ mark ∷ []) walk.marks) walk.visits
             (ap (λ l. l ++ length c.looks ∷ []) walk.freed_at) (λ feeds. let h = know.hand walks feeds in omega arith)
-            (owned_moves bytes kind_of ready kind s c c' words' _ (some (Some block)) (t + n) place o turn
+            (owned_moves bytes kind_of ready kind s c c' words' _ (some (Some block)) (t + n) place r.owned turn
             (length-set s.words place mark) (λ i apart. get_or-set_other s.words place i mark 0 apart)
             (omega arith) (omega arith) (omega arith, omega arith, omega arith, omega arith, omega arith, omega arith)
             record {

@@ -1,14 +1,13 @@
 -- What the calls of the reader's end have to show of the table, and what its fields keep.
-use Rattle.std.proofs.Common.{◌≡◌, ℕ, ◌-◌, ◌%◌, ◌<◌, ◌≤◌, List, [], ◌∷◌, Option, Some, None, ap, ◌∙◌}
+use Rattle.std.proofs.Common.{◌≡◌, ℕ, ◌-◌, ◌%◌, ◌<◌, ◌≤◌, List, [], ◌∷◌, Some, None, ap, ◌∙◌}
 use Rattle.std.proofs.Common.{mod-lt, add-zero, arith}
 use mathlib.Core.Option.{none}
 use Rattle.atomic_table.specs.Seated.{TableId}
 use Rattle.atomic_table.specs.Table.{Allows, rest, step}
-use Rattle.ring_words.specs.Plays.{Fetches, FoundNext, Frees, Holder}
+use Rattle.ring_words.specs.Plays.{Fetches, Frees, Holder}
 use Rattle.ring_words.specs.Rings.{IsMark}
 use Rattle.ring_words.specs.TableEnds.{IsSeated, KeepsWalk, slots_of}
 use Rattle.ring_words.specs.Tables.{IsRing}
-use Rattle.ring_words.proofs.Hands.{front_of}
 use Rattle.ring_words.proofs.WalkerMoves.{fetches, frees}
 
 module _ {B : Type 0} (bytes kind_of : B → List ℕ) (ready : B → ℕ → ℕ → Type 0) where
@@ -26,12 +25,6 @@ module _ {B : Type 0} (bytes kind_of : B → List ℕ) (ready : B → ℕ → �
         omega arith,
         rw (is.slots, ← keeps.count) (fetches bytes kind_of ready kind places id me keeps.walks (omega arith)),
       )
-
-  -- the slot of a retired block is out
-  pub has_next : (slots place : ℕ) (me me' : Holder B) (word : ℕ)
-      → FoundNext bytes kind_of ready (step slots place 0 0 none) me word me'
-      → (x : Option B) × (me'.1 ≡ (place, x) ∷ rest me'.1)
-  has_next slots place me me' word found = (Some found.block, front_of me'.1 (place, Some found.block) me.1 found.hand)
 
   -- no slot is out where no block is in hand
   pub no_hand : (places taken released : ℕ) (me : Holder B) → KeepsWalk me places taken released → taken ≤ released → me.1 ≡ []

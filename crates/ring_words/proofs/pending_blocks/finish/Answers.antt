@@ -7,15 +7,12 @@ use Rattle.ring_words.proofs.pending_blocks.finish.Goals as goal
 
 pub join_seat-requires : goal.join_seat-requires
 join_seat-requires g c =
-    let is = c.feeder.invariant.0 in
-    let words = is.words in
-    let some = is.some_places in
     let ring = rw (← c.walker.view_is, ← c.feeder.view_is) at c.requires.ring in
     let none_out = rw (← c.walker.view_is) at c.requires.hand in
     let hand : c.walker.inside.taken ≤ c.walker.inside.released = grind (arith, nat_tests, none_out) in
     rw c.deref.ensures (
-      is.same,
-      ring ∙ is.same,
+      c.feeder.invariant.0.same,
+      ring ∙ c.feeder.invariant.0.same,
       no_hand g.B.Content.bytes g.B.Content.kind g.B.Content.ready _ _ _ _ c.walker.invariant.1 hand,
       omega arith,
       joins g.B.Content.bytes g.B.Content.kind g.B.Content.ready _ _ _ _ _ c.feeder.invariant.1.feeds
@@ -24,15 +21,11 @@ join_seat-requires g c =
 
 pub load-requires : goal.load-requires
 load-requires g c =
-    let is = c.feeder.invariant.0 in
-    let words = is.words in
-    let some = is.some_places in
-    let both = c.join_seat.ensures.2 in
     rw c.deref-2.ensures (
-      c.join_seat.ensures.0 ∙ is.same,
+      c.join_seat.ensures.0 ∙ c.feeder.invariant.0.same,
       omega arith,
       compares g.B.Content.bytes g.B.Content.kind g.B.Content.ready _ _ _ _ _
-          (ap (λ m. m.0.feeds) both ∙ c.feeder.invariant.1.feeds) (ap (λ m. m.0.walks) both),
+          (ap (λ m. m.0.feeds) c.join_seat.ensures.2 ∙ c.feeder.invariant.1.feeds) (ap (λ m. m.0.walks) c.join_seat.ensures.2),
     )
 
 pub invariant_of-result : goal.invariant_of-result

@@ -1,6 +1,6 @@
-use Rattle.std.proofs.Common.{◌∙◌, arith, sym, ap}
-use Rattle.ring_words.proofs.FeederSteps.{has_free, keeps_free, may_look}
-use Rattle.ring_words.proofs.Hands.{still_seated}
+use Rattle.std.proofs.Common.{◌∙◌, arith, sym, ap, Some}
+use Rattle.ring_words.proofs.FeederSteps.{keeps_free, may_look}
+use Rattle.ring_words.proofs.Hands.{front_of, still_seated}
 use Rattle.ring_words.proofs.feeder.TableFeederFeederEnd.next.Goals as goal
 
 pub load-word-requires : goal.load-word-requires
@@ -15,7 +15,7 @@ exchange-requires g c =
     let odd = c.if-word-eq1.false in
     let found = c.load-word.ensures.2.free (omega arith) in (
       c.load-word.ensures.0 ∙ c.self.invariant.0.same ∙ ap (λ t. t.shared.table_id) (sym c.deref-2.ensures),
-      has_free g.B.Content.bytes g.B.Content.kind g.B.Content.ready _ _ _ _ _ found,
+      (Some found.block, front_of _ _ _ found.hand),
     )
 
 pub invariant_of-self-2 : goal.invariant_of-self-2

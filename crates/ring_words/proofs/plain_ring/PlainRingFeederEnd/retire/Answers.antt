@@ -5,7 +5,6 @@ use Rattle.ring_words.proofs.plain_ring.PlainRingFeederEnd.retire.Goals as goal
 
 pub invariant_of-self : goal.invariant_of-self
 invariant_of-self g c =
-    let waiting = c.self.invariant.0.owned.waiting in
     let count = length-entries g.B.Content.bytes c.self.inside.filled.items in
     let last : (c.self.inside.taken + 1) + length c.self.inside.filled.items ≡ c.self.inside.retired + 1 = omega arith in
     let is_ready =

@@ -5,7 +5,6 @@ use Rattle.ring_words.proofs.plain_ring.PlainRingWalkerEnd.take.Goals as goal
 
 pub returns-in-Some-clause-took : goal.returns-in-Some-clause-took
 returns-in-Some-clause-took g c =
-    let hand = c.self.invariant.0.owned.one_in_hand in
     rw (← c.self.view_is) (record {
       first = (c.in-Some.field-0.status, ap (entries_of g.B.Content.bytes) c.in-Some.ensures.items);
       taken = refl;

@@ -1,6 +1,7 @@
-use Rattle.std.proofs.Common.{◌∙◌, ◌≤◌, arith, sym, ap}
+use Rattle.std.proofs.Common.{◌∙◌, ◌≤◌, arith, sym, ap, Some}
 use Rattle.std.proofs.lemmas.Bool.Decides.{nat_tests}
-use Rattle.ring_words.proofs.WalkerSteps.{has_next, may_fetch}
+use Rattle.ring_words.proofs.Hands.{front_of}
+use Rattle.ring_words.proofs.WalkerSteps.{may_fetch}
 use Rattle.ring_words.proofs.walker.TableWalkerWalkerEnd.take.Goals as goal
 
 pub load-word-requires : goal.load-word-requires
@@ -15,5 +16,5 @@ exchange-requires g c =
     let even = c.if-word-eq0.false in
     let found = c.load-word.ensures.2.some (omega arith) in (
       c.load-word.ensures.0 ∙ c.self.invariant.0.same ∙ ap (λ t. t.shared.table_id) (sym c.deref-2.ensures),
-      has_next g.B.Content.bytes g.B.Content.kind g.B.Content.ready _ _ _ _ _ found,
+      (Some found.block, front_of _ _ _ found.hand),
     )
