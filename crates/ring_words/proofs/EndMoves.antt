@@ -30,11 +30,10 @@ pub takes_front : {B : Type 0} (bytes kind_of : B → List ℕ) (ready : B → �
 takes_front bytes kind_of ready kind s r feeder walker fed walked feeder_at walker_at feeds walks =
     let feed = (r.knows feeder fed feeder_at).feed feeds in
     let walk = (r.knows walker walked walker_at).walk walks in
-    let count = walk.count in
     let retired : length fed.retired ≡ length r.course.log = ap length feed.retired in
     record {
       count = omega arith;
-      front = walk.front ∙ ap (λ k. take k r.course.log) (sym count) ∙ ap (take (length walked.taken)) (sym feed.retired);
+      front = walk.front ∙ ap (λ k. take k r.course.log) (sym walk.count) ∙ ap (take (length walked.taken)) (sym feed.retired);
     }
 
 module _ {B : Type 0} (bytes kind_of : B → List ℕ) (ready : B → ℕ → ℕ → Type 0) (kind : List ℕ) where

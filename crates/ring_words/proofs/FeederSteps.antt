@@ -1,5 +1,5 @@
 -- What the calls of the feeder's end have to show of the table, and what its fields keep.
-use Rattle.std.proofs.Common.{◌≡◌, ℕ, ◌+◌, ◌-◌, ◌*◌, ◌%◌, ◌^◌, ◌<◌, ◌≤◌, List, [], ◌∷◌, ◌++◌, length, Some, None, sym}
+use Rattle.std.proofs.Common.{◌≡◌, ℕ, ◌+◌, ◌-◌, ◌*◌, ◌%◌, ◌^◌, ◌<◌, ◌≤◌, List, ◌∷◌, length, Some, None, sym}
 use Rattle.std.proofs.Common.{ap, ◌∙◌, mod-lt, refl, arith}
 use mathlib.Core.Option.{none}
 use Rattle.atomic_table.specs.Seated.{TableId}
@@ -21,8 +21,7 @@ module _ {B : Type 0} (bytes kind_of : B → List ℕ) (ready : B → ℕ → �
       × Allows (IsRing bytes kind_of ready kind) table.slots id me (given % places) (λ word. word)
       (Looks bytes kind_of ready (step table.slots (given % places) 0 0 none) me)
   may_look kind table seat id me places given retired is keeps hand few =
-      let near : given % places < places = mod-lt given (omega arith) in
-      let count = keeps.count in (
+      let near : given % places < places = mod-lt given (omega arith) in (
         is.same,
         omega arith,
         rw (is.slots, ← keeps.count) (looks bytes kind_of ready kind places id me keeps.feeds (omega arith) (omega arith)),
@@ -35,12 +34,7 @@ module _ {B : Type 0} (bytes kind_of : B → List ℕ) (ready : B → ℕ → �
       → me'' ≡ (me'.0, (given % places, None) ∷ rest me'.1)
       → KeepsFeed me'' places (given + 1) retired
   keeps_free places slots given retired me me' me'' word keeps hand few found is =
-      let count = keeps.count in
-      let order = keeps.order in
-      let mine : KeepsFeed {B = B} (
-        record me.0 { given = me.0.given + 1; looks = me.0.looks ++ word ∷ [] },
-        (given % places, None) ∷ me.1,
-      ) places (given + 1) retired = record {
+      rw (is, found.known, found.hand) (record {
         feeds = keeps.feeds;
         count = omega arith;
         first = λ none. absurd (omega arith);
@@ -49,8 +43,7 @@ module _ {B : Type 0} (bytes kind_of : B → List ℕ) (ready : B → ℕ → �
         two_in_hand = omega arith;
         few = few;
         out = ap (λ l. (given % places, None) ∷ l) keeps.out ∙ sym (one_more places retired given keeps.order);
-      } in
-      rw (is, found.known, found.hand) mine
+      })
 
   -- the slot of the older block in hand comes forward
   pub has_oldest : (places given retired : ℕ) (me me' : Holder B) → KeepsFeed me places given retired → retired < given
@@ -84,8 +77,7 @@ module _ {B : Type 0} (bytes kind_of : B → List ℕ) (ready : B → ℕ → �
       × Allows (IsRing bytes kind_of ready kind) table.slots id out (retired % places) (λ _. word)
       (λ _. Stores bytes kind_of ready (step table.slots (retired % places) word 0 none) out word)
   may_store kind table seat id me out block places given retired status is keeps hand odd is_kind is_ready out_is =
-      let near : retired % places < places = mod-lt retired (omega arith) in
-      let retired_count = keeps.retired_count in (
+      let near : retired % places < places = mod-lt retired (omega arith) in (
         is.same,
         omega arith,
         rw (is.slots, out_is, ← keeps.retired_count) (stores bytes kind_of ready kind places id me.0 _ block status keeps.feeds
@@ -100,19 +92,13 @@ module _ {B : Type 0} (bytes kind_of : B → List ℕ) (ready : B → ℕ → �
       → KeepsFeed me' places given (retired + 1)
   keeps_stored places slots given retired word me out block me' keeps hand out_is stored =
       let entry : Entry = (bytes block, word % 256) in
-      let order = keeps.order in
-      let count = keeps.retired_count in
-      let mine : KeepsFeed {B = B} (
-        record me.0 { retired = me.0.retired ++ entry ∷ []; shown_at = me.0.shown_at ++ stored.at ∷ [] },
-        slots_of places (retired + 1) (given - (retired + 1)),
-      ) places given (retired + 1) = record {
+      rw (stored.known, stored.hand, out_is) (record {
         feeds = keeps.feeds;
         count = keeps.count;
         first = keeps.first;
-        retired_count = length-snoc me.0.retired entry ∙ ap (λ k. k + 1) count;
+        retired_count = length-snoc me.0.retired entry ∙ ap (λ k. k + 1) keeps.retired_count;
         order = omega arith;
         two_in_hand = omega arith;
         few = keeps.few;
         out = refl;
-      } in
-      rw (stored.known, stored.hand, out_is) mine
+      })

@@ -150,7 +150,6 @@ module _ (places : ℕ) (c : Course) (seen : IsSeen places c) where
       → IsSeen places (record c { visits = c.visits ++ word ∷ [] })
   seen_none word taken same all at_place even =
       let rank : odd_count c.visits ≡ taken = seen.taken ∙ sym same in
-      let shown = seen.shown in
       one_visit word c.taken (omega arith) record {
         number = λ odd. absurd (omega arith);
         shown = λ odd. absurd (omega arith);
@@ -162,7 +161,6 @@ module _ (places : ℕ) (c : Course) (seen : IsSeen places c) where
   pub seen_shown : (entry : Entry)
       → IsSeen places (record c { log = c.log ++ entry ∷ []; shown_at = c.shown_at ++ length c.visits ∷ [] })
   seen_shown entry =
-      let shown = seen.shown in
       record {
         looks = λ i word at.
             let look = seen.looks i word at in
@@ -205,8 +203,6 @@ module _ (places : ℕ) (c : Course) (seen : IsSeen places c) where
         freed_at = c.freed_at ++ length c.looks ∷ [];
       })
   seen_freed mark released same =
-      let marks = seen.marks in
-      let freed = seen.freed in
       let long_marks = length-start places c.marks in
       record {
         looks = λ i word at.

@@ -73,7 +73,6 @@ module _ {B : Type 0} (bytes kind_of : B → List ℕ) (ready : B → ℕ → �
       let n : ℕ = length s.homes in
       let homes' : List (Home B) = slice_set s.homes place home in
       let wide : length homes' ≡ n = length-set s.homes place home in
-      let as_many = o.as_many in
       record {
         some_places = rw wide o.some_places;
         as_many = omega arith;
@@ -138,7 +137,6 @@ module _ {B : Type 0} (bytes kind_of : B → List ℕ) (ready : B → ℕ → �
       Owned c' s' → IsSeen (length homes) c' → Ring s'
   feeder_moves s r id v words homes log' log given' given looks' looks shown' shown at feeds log_is given_is looks_is shown_is
       front owned seen =
-      let now : Known = record v { given = given'; retired = log'; looks = looks'; shown_at = shown' } in
       let c' : Course = record r.course { log = log; given = given; looks = looks; shown_at = shown } in
       let know = r.knows id v at in
       let feed = know.feed feeds in
@@ -148,8 +146,8 @@ module _ {B : Type 0} (bytes kind_of : B → List ℕ) (ready : B → ℕ → �
         walker = r.walker;
         owned = owned;
         seen = seen;
-        feeds = still_sits (λ (k : Known). k.feeds) s.views id r.feeder v now at refl r.feeds;
-        walks = still_sits (λ (k : Known). k.walks) s.views id r.walker v now at refl r.walks;
+        feeds = still_sits (λ (k : Known). k.feeds) s.views id r.feeder v _ at refl r.feeds;
+        walks = still_sits (λ (k : Known). k.walks) s.views id r.walker v _ at refl r.walks;
         knows = λ j u is.
             ⊎_elim (λ t. subst (λ k. Knows kind r.feeder r.walker c' j k) t.1 (record {
               feed = λ _. let seat = t.0 ∙ feed.seat in assumption;
@@ -167,7 +165,7 @@ module _ {B : Type 0} (bytes kind_of : B → List ℕ) (ready : B → ℕ → �
               walk = λ walks. let w = old.walk walks in let front = w.front ∙ sym front in assumption;
               hand = old.hand;
             })
-            (at_set s.views id j now u is);
+            (at_set s.views id j _ u is);
       }
 
   -- a step of the reader's seat
@@ -183,7 +181,6 @@ module _ {B : Type 0} (bytes kind_of : B → List ℕ) (ready : B → ℕ → �
       Owned c' s' → IsSeen (length homes) c' → Ring s'
   walker_moves s r id v words homes taken count released marks' marks visits' visits freed' freed at walks count_is front
       released_is marks_are visits_are freed_is hand owned seen =
-      let now : Known = record v { taken = taken; marks = marks'; visits = visits'; freed_at = freed' } in
       let c' : Course =
       record r.course { taken = count; released = released; marks = marks; visits = visits; freed_at = freed } in
       let know = r.knows id v at in
@@ -194,8 +191,8 @@ module _ {B : Type 0} (bytes kind_of : B → List ℕ) (ready : B → ℕ → �
         walker = r.walker;
         owned = owned;
         seen = seen;
-        feeds = still_sits (λ (k : Known). k.feeds) s.views id r.feeder v now at refl r.feeds;
-        walks = still_sits (λ (k : Known). k.walks) s.views id r.walker v now at refl r.walks;
+        feeds = still_sits (λ (k : Known). k.feeds) s.views id r.feeder v _ at refl r.feeds;
+        walks = still_sits (λ (k : Known). k.walks) s.views id r.walker v _ at refl r.walks;
         knows = λ j u is.
             ⊎_elim (λ t. subst (λ k. Knows kind r.feeder r.walker c' j k) t.1 (record {
               feed = λ feeds. let f = know.feed feeds in let seat = t.0 ∙ f.seat in assumption;
@@ -209,5 +206,5 @@ module _ {B : Type 0} (bytes kind_of : B → List ℕ) (ready : B → ℕ → �
               walk = λ walks. absurd (t.0 ((old.walk walks).seat ∙ sym walk.seat));
               hand = λ walks _. absurd (t.0 ((old.walk walks).seat ∙ sym walk.seat));
             })
-            (at_set s.views id j now u is);
+            (at_set s.views id j _ u is);
       }

@@ -52,13 +52,12 @@ module _ {B : Type 0} (bytes kind_of : B → List ℕ) (ready : B → ℕ → �
       let c' : Course = record c { taken = k + 1; visits = c.visits ++ word ∷ [] } in
       let count : k ≡ c.taken = walk.count in
       let below_log = within c.log c.taken entry next in
-      let released = walk.released in
       let place : ℕ = k % n in
       let wide : length (slice_set s.homes place none) ≡ n = length-set s.homes place none in
       let old = o.placed k (omega arith) (omega arith) in
       walker_moves bytes kind_of ready kind s r id v s.words (slice_set s.homes place none) _ (k + 1) c.released _ c.marks _ _ _
-      c.freed_at at walks (length-snoc v.taken entry) (front_next c v.taken entry count walk.front next) released walk.marks
-      (ap (λ l. l ++ word ∷ []) walk.visits) walk.freed_at (λ feeds. let h = hand feeds in omega arith)
+      c.freed_at at walks (length-snoc v.taken entry) (front_next c v.taken entry count walk.front next) walk.released
+      walk.marks (ap (λ l. l ++ word ∷ []) walk.visits) walk.freed_at (λ feeds. let h = hand feeds in omega arith)
       (owned_moves bytes kind_of ready kind s c c' s.words _ none k place o refl refl (λ _ _. refl) (omega arith) (omega arith)
       (omega arith, omega arith, omega arith, omega arith, omega arith, omega arith)
       record {
@@ -103,7 +102,6 @@ module _ {B : Type 0} (bytes kind_of : B → List ℕ) (ready : B → ℕ → �
       let word : ℕ = slice_index s.words place in
       let entry = entry_at c.log c.taken before in
       let next : get_elem? c.log k ≡ some entry.0 = ap (λ i. get_elem? c.log i) count ∙ entry.1 in
-      let few = r.owned.few in
       let placed = r.owned.placed k (omega arith) (omega arith) in
       let written = placed.written entry.0 next in
       let waits = placed.waiting entry.0 next (omega arith) in
@@ -137,13 +135,12 @@ module _ {B : Type 0} (bytes kind_of : B → List ℕ) (ready : B → ℕ → �
   fetches_by s r id me at walks hand (no here) =
       let place : ℕ = length me.0.taken % length s.homes in
       let word : ℕ = slice_index s.words place in
-      let next = next_block s r id me at walks (lt_of_not-le here) in
-      let odd = next.odd in (
+      let next = next_block s r id me at walks (lt_of_not-le here) in (
         taken_one me.0 (bytes next.block, word % 256) word,
         takes place (Some next.block),
         next.home,
         rw (set-get_or s.words place 0, next.is)
-            (takes_block s r id me.0 word next.entry at walks (λ _. hand) next.at next.written odd),
+            (takes_block s r id me.0 word next.entry at walks (λ _. hand) next.at next.written next.odd),
         record { some = λ _. next.found; none = λ even. absurd (omega arith) },
       )
   fetches_by s r id me at walks hand (yes all) =
@@ -199,7 +196,6 @@ module _ {B : Type 0} (bytes kind_of : B → List ℕ) (ready : B → ℕ → �
       let place : ℕ = t % n in
       let count : length v.taken ≡ c.taken = walk.count in
       let same : t ≡ c.released = walk.released in
-      let retired = r.owned.retired in
       let words' : List ℕ = slice_set s.words place mark in
       let homes' = slice_set s.homes place (some (Some block)) in
       let wide : length homes' ≡ n = length-set s.homes place (some (Some block)) in

@@ -19,8 +19,7 @@ module _ {B : Type 0} (bytes kind_of : B → List ℕ) (ready : B → ℕ → �
       × Allows (IsRing bytes kind_of ready kind) table.slots id me (taken % places) (λ word. word)
       (Fetches bytes kind_of ready (step table.slots (taken % places) 0 0 none) me)
   may_fetch kind table seat id me places taken released is keeps hand =
-      let near : taken % places < places = mod-lt taken (omega arith) in
-      let free = keeps.released_count in (
+      let near : taken % places < places = mod-lt taken (omega arith) in (
         is.same,
         omega arith,
         rw (is.slots, ← keeps.count) (fetches bytes kind_of ready kind places id me keeps.walks (omega arith)),
@@ -59,8 +58,7 @@ module _ {B : Type 0} (bytes kind_of : B → List ℕ) (ready : B → ℕ → �
       × Allows (IsRing bytes kind_of ready kind) table.slots id out (released % places) (λ _. mark)
       (λ _. Frees bytes kind_of ready out mark)
   may_free kind table seat id me out block places taken released mark is keeps hand even is_kind out_is =
-      let near : released % places < places = mod-lt released (omega arith) in
-      let free = keeps.released_count in (
+      let near : released % places < places = mod-lt released (omega arith) in (
         is.same,
         omega arith,
         rw (is.slots, out_is, ← keeps.released_count) (frees bytes kind_of ready kind places id me.0 [] block mark keeps.walks

@@ -17,8 +17,6 @@ loop-at-preserved g c =
     ap length took.taken ∙ length-snoc c.loop-at.seat.me.0.taken entry ∙ ap (λ k. k + 1) old.count in
     let pushed : length c.push_reserved.new.self.items ≡ length c.loop-at.blocks.items + 1 =
     ap length c.push_reserved.ensures.items ∙ length-snoc c.loop-at.blocks.items one in
-    let passed = old.passed in
-    let room = old.room in
     let test = c.loop-at-test.true in
     let same_kind = ap (λ (k : Known). k.kind) old.known in
     record {
@@ -36,7 +34,7 @@ loop-at-preserved g c =
       front = c.next_pending.ensures.front ∙ ap (λ (k : Known). take (c.loop-at.at + 1) k.retired) old.known;
       kinds = rw c.push_reserved.ensures.items (all_push _ _ one old.kinds (c.next_pending.ensures.kind ∙ same_kind));
       ready = rw c.push_reserved.ensures.items
-          (ready_push g.B.Content.bytes g.B.Content.kind g.B.Content.ready _ _ _ one old.ready passed
+          (ready_push g.B.Content.bytes g.B.Content.kind g.B.Content.ready _ _ _ one old.ready old.passed
           c.next_pending.ensures.ready);
       room = (let capacity = c.push_reserved.ensures.capacity in omega arith);
     }

@@ -5,8 +5,7 @@ use Rattle.ring_words.proofs.tables.table_ring.Goals as goal
 pub split_seat-other-requires : goal.split_seat-other-requires
 split_seat-other-requires g c =
     let known = c.in_ok-table.ensures.known in
-    let words = c.in_ok-table.ensures.words in
-    let some = c.requires.some in (
+    let words = c.in_ok-table.ensures.words in (
       c.in_ok-table.ensures.seat,
       omega arith,
       splits g.B.Content.bytes g.B.Content.kind g.B.Content.ready _ _ _

@@ -6,8 +6,8 @@ use Rattle.ring_words.proofs.feeder.TableFeederFeederEnd.retire.Goals as goal
 pub exchange-requires : goal.exchange-requires
 exchange-requires g c =
     let keeps = c.self.invariant.1 in
-    let hand : c.self.inside.retired < c.self.inside.given =
-    (let h = rw (← c.self.view_is) at c.requires.hand in let count = keeps.retired_count in omega arith) in
+    let h = rw (← c.self.view_is) at c.requires.hand in
+    let hand : c.self.inside.retired < c.self.inside.given = omega arith in
     let oldest = has_oldest g.B.Content.bytes g.B.Content.kind g.B.Content.ready _ _ _ _ _ keeps hand c.turn.ensures.2 in (
       c.turn.ensures.0 ∙ c.self.invariant.0.same ∙ ap (λ t. t.shared.table_id) (sym c.deref.ensures),
       (None, front_of _ _ _ oldest),
@@ -16,8 +16,8 @@ exchange-requires g c =
 pub store-requires : goal.store-requires
 store-requires g c =
     let keeps = c.self.invariant.1 in
-    let hand : c.self.inside.retired < c.self.inside.given =
-    (let h = rw (← c.self.view_is) at c.requires.hand in let count = keeps.retired_count in omega arith) in
+    let h = rw (← c.self.view_is) at c.requires.hand in
+    let hand : c.self.inside.retired < c.self.inside.given = omega arith in
     let is_kind = rw (← c.self.view_is) at c.requires.kind in
     let is_ready = rw (← c.self.view_is) at c.requires.ready in
     let out = is_before_store g.B.Content.bytes g.B.Content.kind g.B.Content.ready _ _ _ _ _ _ _ keeps hand c.turn.ensures.2
@@ -29,8 +29,8 @@ store-requires g c =
 pub invariant_of-self : goal.invariant_of-self
 invariant_of-self g c =
     let keeps = c.self.invariant.1 in
-    let hand : c.self.inside.retired < c.self.inside.given =
-    (let h = rw (← c.self.view_is) at c.requires.hand in let count = keeps.retired_count in omega arith) in
+    let h = rw (← c.self.view_is) at c.requires.hand in
+    let hand : c.self.inside.retired < c.self.inside.given = omega arith in
     let out = is_before_store g.B.Content.bytes g.B.Content.kind g.B.Content.ready _ _ _ _ _ _ _ keeps hand c.turn.ensures.2
     c.exchange.ensures.3 in (
       still_seated _ _ _ _ c.self.invariant.0 (c.store.ensures.0 ∙ c.exchange.ensures.0 ∙ c.turn.ensures.0),
