@@ -5,8 +5,9 @@ use crate::cases::{Case, has_number};
 use crate::files::push_line;
 use crate::lines::{call_number, number};
 use frame_view::{Memory, MomentList};
+use history::History;
 use std::str;
-use tap_outside::{Failed, History, MemStore, OutError, Sink, Source, Store};
+use tap_outside::{Failed, MemStore, OutError, Sink, Source, Store};
 
 /// A source of a store's file.
 #[derive(Drop)]

@@ -2,5 +2,4 @@ pub mod Consumed
 pub mod Fronts
 pub mod Kept
 mod FileLists
-mod Walks
 mod Writes

@@ -4,8 +4,7 @@ ghost use Rattle.std.specs.Io.{ReadsAtMost};
 ghost use Rattle.tap_outside.specs.Seen.{meant_store, unread_file};
 ghost use Rattle.tap_outside.specs.Records.{given_by};
 
-use crate::history::History;
-use crate::{Failed, OutError, Source, Store};
+use crate::{Failed, History, OutError, Source, Store};
 use std::fs::OpenFile;
 use std::io::{ErrorKind, Read, Write};
 use std::marker::Model;

@@ -6,7 +6,6 @@
 mod causes;
 mod command_words;
 mod disk_files;
-mod history;
 mod memory_files;
 mod memory_sink;
 mod memory_source;

@@ -11,9 +11,8 @@ ghost use Rattle.tap_outside.specs.Stores.{after_failed_save, after_faulty_close
 ghost use Rattle.tap_outside.specs.Stores.{after_save, contents_of, file_of, file_with};
 ghost use Rattle.tap_outside.specs.Stores.{fresh_store, seen_store, source_of};
 
-use crate::history::History;
 use crate::memory_files::{MemFile, file_named, put_file};
-use crate::{MemSource, OutError, Store};
+use crate::{History, MemSource, OutError, Store};
 use frame_view::{Memory, MomentList};
 use std::alloc::Global;
 use std::marker::Model;

@@ -8,9 +8,8 @@ ghost use Rattle.tap_outside.specs.Seen.{OnlySaves, meant_store, unread_source};
 ghost use Rattle.tap_outside.specs.Sources.{seen_sure_source, unread_sure_source};
 ghost use Rattle.tap_outside.specs.Stores.{seen_sure_store};
 
-use crate::history::History;
 use crate::memory_store::SAVED_PIECE;
-use crate::{Failed, MemStore, OutError, Source, Store};
+use crate::{Failed, History, MemStore, OutError, Source, Store};
 use frame_view::{ByteList, Memory, MomentList};
 use std::alloc::Global;
 use std::marker::Model;

@@ -22,22 +22,35 @@ impl<T> Model for History<T> {
 unsafe impl<T: Send> Send for History<T> {}
 
 impl<T> History<T> {
-    /// The empty history.
-    pub fn new() -> History<T>
-        ensures { result.items ≡ [] }
+    /// The history of the items that the caller's proof names, from these two values. It reads
+    /// neither.
+    pub fn of<A, B>(_one: &A, _other: &B) -> History<T>
+        ghost chosen: { List T }
+        ensures { result.items ≡ chosen }
     {
         History { of: PhantomData }
     }
 
+    /// The empty history.
+    pub fn new() -> History<T>
+        ensures { result.items ≡ [] }
+    {
+        History::of(&(), &())
+    }
+
     /// Puts an item at its end.
-    pub fn push(&mut self, _item: &T)
-        ensures { self.new.items ≡ self.old.items ++ _item.now ∷ [] }
-    {}
+    pub fn push(&mut self, item: &T)
+        ensures { self.new.items ≡ self.old.items ++ item.now ∷ [] }
+    {
+        *self = History::of(self, item);
+    }
 
     /// Puts items at its end, in their order.
-    pub fn extend(&mut self, _items: &[T])
-        ensures { self.new.items ≡ self.old.items ++ _items.now }
-    {}
+    pub fn extend(&mut self, items: &[T])
+        ensures { self.new.items ≡ self.old.items ++ items.now }
+    {
+        *self = History::of(self, &items);
+    }
 }
 
 impl<T> fmt::Debug for History<T> {

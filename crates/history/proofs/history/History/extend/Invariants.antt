@@ -1,0 +1,6 @@
+-- The items, and the new ones.
+use Rattle.std.proofs.Common.{◌++◌}
+use Rattle.history.proofs.history.History.extend.Given as goal
+
+abbrev pub ghost-of : goal.ghost-of
+ghost-of g a = a._one.now.items ++ a._other.now.now

@@ -1,0 +1,6 @@
+//! A list of what happened, which only contracts read.
+#![tactic(auto)]
+
+mod history;
+
+pub use history::History;
