@@ -5,6 +5,7 @@ use Rattle.std.proofs.Crossing.{crosses}
 use Rattle.atomic_table.proofs.shared.Seat.TheSendSync as seat
 use Rattle.atomic_table.proofs.shared.Shared.TheSendSync as shared
 use Rattle.atomic_table.proofs.send_lease.SendLease.TheSendSync as lease
+use Rattle.history.proofs.history.History.TheSendSync as history
 use Rattle.capture_file.specs.contracts.decoder.Decoder as Decoder
 use Rattle.capture_reading.specs.contracts.buffer.Buffer as Buffer
 use Rattle.cpu_feed.specs.contracts.feed.CpuFeed as CpuFeed
@@ -14,7 +15,6 @@ use Rattle.frame_view.specs.contracts.frames.Frame as Frame
 use Rattle.ip_defrag.specs.contracts.datagrams.Datagram as Datagram
 use Rattle.ip_defrag.specs.contracts.defrag.Defrag as Defrag
 use Rattle.ip_defrag.specs.contracts.fragments.Fragment as Fragment
-use Rattle.ip_defrag.specs.contracts.trace.Trace as DefragTrace
 use Rattle.member_turns.specs.contracts.member.MemberSeat as MemberSeat
 use Rattle.member_turns.specs.contracts.member_ring.MemberRing as MemberRing
 use Rattle.ring_model.specs.contracts.notes.Note as Note
@@ -47,11 +47,8 @@ fragment_send = search (sendable, crosses, frame_send) depth 40
 datagram_send : IsSend Datagram.the_row
 datagram_send = search (sendable, crosses, fragment_send) depth 40
 
-defrag_trace_send : IsSend DefragTrace.the_row
-defrag_trace_send = search (sendable, crosses) depth 40
-
 defrag_send : IsSend Defrag.the_row
-defrag_send = search (sendable, crosses, datagram_send, defrag_trace_send) depth 60 fits 20000
+defrag_send = search (sendable, crosses, datagram_send, frame_send, history.the_send) depth 60 fits 20000
 
 pub path_send : IsSend ReceivePath.the_row
 path_send = search (sendable, crosses, defrag_send) depth 60 fits 20000

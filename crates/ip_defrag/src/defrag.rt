@@ -6,9 +6,9 @@ ghost use Rattle.ip_defrag.specs.Fragments.{takes_part};
 use crate::datagrams::Datagram;
 use crate::fragments::Fragment;
 use crate::passes::pass;
-use crate::trace::Trace;
 use crate::{NoPush, Step};
 use frame_view::Frame;
+use history::History;
 use std::alloc::Global;
 use std::marker::Model;
 
@@ -23,7 +23,7 @@ pub struct Defrag {
     /// The number of those fragments.
     pending: u32,
     /// The same fragments as one list.
-    trace: Trace,
+    trace: History<Frame>,
 }
 
 impl Model for Defrag {
@@ -34,9 +34,10 @@ impl Model for Defrag {
 
     ghost use Rattle.ip_defrag.specs.Grouped.{AreGroups};
 
-    ghost view = { λ defrag. defrag.trace.held };
+    ghost view = { λ defrag. defrag.trace.items };
 
-    ghost invariant = { λ defrag. AreGroups defrag.datagrams.items defrag.trace.held defrag.pending };
+    ghost invariant = { λ defrag.
+        AreGroups defrag.datagrams.items defrag.trace.items defrag.pending };
 }
 
 impl Defrag {
@@ -49,7 +50,7 @@ impl Defrag {
             alloc,
             datagrams: Vec::new(alloc),
             pending: 0,
-            trace: Trace::new(),
+            trace: History::new(),
         }
     }
 
@@ -78,7 +79,7 @@ impl Defrag {
                 });
             }
         };
-        let trace = self.trace.after(fragment.frame());
+        let trace = History::of(&self.trace, fragment.frame());
         let step = pass(
             self.alloc,
             &self.trace,

@@ -12,7 +12,6 @@ mod passes;
 mod reassembly;
 mod rules;
 mod steps;
-mod trace;
 mod wholes;
 
 pub use defrag::Defrag;

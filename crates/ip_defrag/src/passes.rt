@@ -13,9 +13,9 @@ use crate::datagrams::Datagram;
 use crate::fragments::Fragment;
 use crate::names::Name;
 use crate::rules::Judgement;
-use crate::trace::Trace;
 use crate::{NoPush, Step};
 use frame_view::Frame;
+use history::History;
 use std::alloc::Global;
 
 /// The most datagrams that are held.
@@ -146,21 +146,21 @@ fn hold(
 /// frames these are. After `NoPush` nothing has changed, and the fragment's frame is handed back.
 pub(crate) fn pass(
     alloc: Global,
-    trace: &Trace,
+    trace: &History<Frame>,
     datagrams: &mut Vec<Datagram>,
     count: &mut u32,
     fragment: Fragment,
 ) -> Result<Step, NoPush>
     requires taken { takes_part fragment ≡ true }
-    requires held { datagrams.old.items ≡ groups trace.now.held }
+    requires held { datagrams.old.items ≡ groups trace.now.items }
     requires few { length datagrams.old.items ≤ 64 }
-    requires counted { IsCount count.old trace.now.held }
-    ensures held { OnOk result (datagrams.new.items ≡ groups (pass trace.now.held fragment).held) }
+    requires counted { IsCount count.old trace.now.items }
+    ensures held { OnOk result (datagrams.new.items ≡ groups (pass trace.now.items fragment).held) }
     ensures few { length datagrams.new.items ≤ 64 }
-    ensures counted { OnOk result (IsCount count.new (pass trace.now.held fragment).held) }
-    ensures whole { IfOk result (λ it. it.whole ≡ (pass trace.now.held fragment).whole) }
+    ensures counted { OnOk result (IsCount count.new (pass trace.now.items fragment).held) }
+    ensures whole { IfOk result (λ it. it.whole ≡ (pass trace.now.items fragment).whole) }
     ensures discarded { IfOk result (λ it.
-        it.discarded ≡ (pass trace.now.held fragment).discarded) }
+        it.discarded ≡ (pass trace.now.items fragment).discarded) }
     ensures unchanged { OnErr result (datagrams.new.items ≡ datagrams.old.items) }
     ensures same_count { OnErr result (count.new ≡ count.old) }
     ensures handed_back { IfErr result (λ no. no.frame ≡ fragment) }
@@ -178,14 +178,14 @@ pub(crate) fn pass(
 /// Joins a fragment to its datagram, or opens one.
 fn pass_by(
     alloc: Global,
-    trace: &Trace,
+    trace: &History<Frame>,
     datagrams: &mut Vec<Datagram>,
     fragment: Fragment,
 ) -> Result<Answer, NoPush>
     requires taken { takes_part fragment ≡ true }
-    requires held { datagrams.old.items ≡ groups trace.now.held }
+    requires held { datagrams.old.items ≡ groups trace.now.items }
     requires few { length datagrams.old.items ≤ 64 }
-    ensures agrees { IfOk result (λ it. Passes trace.now.held fragment datagrams.new.items it) }
+    ensures agrees { IfOk result (λ it. Passes trace.now.items fragment datagrams.new.items it) }
     ensures few { length datagrams.new.items ≤ 64 }
     ensures unchanged { OnErr result (datagrams.new.items ≡ datagrams.old.items) }
     ensures handed_back { IfErr result (λ no. no.frame ≡ fragment) }

@@ -23,7 +23,7 @@ returns-in_ok-joined-in-Some-clause-agrees c =
     c.in-Some.at).left =
     c.drop_stale.ensures.fresh ∙ ap (λ (f : Frame). filter (is_fresh f.sec) c.join.new.datagrams.items) c.frame.ensures
     ∙ ap (filter (is_fresh c.args.fragment.sec)) (c.in_ok-joined-in-Some.ensures.is.left_is d) in
-    joins_by c.args.trace.now.held c.args.fragment c.args.datagrams.now.items _ c.in-Some.at _ _ d c.requires.taken
+    joins_by c.args.trace.now.items c.args.fragment c.args.datagrams.now.items _ c.in-Some.at _ _ d c.requires.taken
     c.requires.held (place ∙ c.in-Some.is) left (c.in_ok-joined-in-Some.ensures.is.whole_is d)
     (c.in_ok-joined-in-Some.ensures.is.used_is d)
 
@@ -43,7 +43,7 @@ pub returns-in_ok-open-in-None-clause-agrees : goal.returns-in_ok-open-in-None-c
 returns-in_ok-open-in-None-clause-agrees c =
     let place = placed _ (name_of c.args.fragment) _ c.args.fragment.sec _ c.args.datagrams.now.items _ c.name.ensures
     (ap (λ (f : Frame). f.sec) c.frame.ensures) c.deref.ensures.value c.place_of.ensures in
-    opens_by c.args.trace.now.held c.args.fragment c.args.datagrams.now.items c.open.new.datagrams.items c.requires.taken
+    opens_by c.args.trace.now.items c.args.fragment c.args.datagrams.now.items c.open.new.datagrams.items c.requires.taken
     c.requires.held (place ∙ c.in-None.is) c.in_ok-open-in-None.ensures.left
 
 pub returns-in_ok-open-in-None-clause-few : goal.returns-in_ok-open-in-None-clause-few
